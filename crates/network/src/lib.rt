@@ -1,0 +1,13 @@
+//! The messages of the protocol, those in flight by their numbers, and the parts that they are delivered to.
+//! docs/PROTOCOL.md tells which message says what.
+#![tactic(auto)]
+
+pub mod message;
+pub mod numbers;
+pub mod part;
+pub mod words;
+
+pub use message::{Body, Message, Node, TimedLine};
+pub use numbers::{LineNo, MsgNo};
+pub use part::{Part, PartError, Reaction};
+pub use words::Words;

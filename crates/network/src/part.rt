@@ -1,0 +1,53 @@
+//! The parts that messages are delivered to: cores, banks and DRAMs.
+ghost use Rattle.std.specs.Prelude.{◌≡◌, Bool, IsTrue, IfOk, OnErr, Option, None, Some};
+
+use crate::message::{Message, Node};
+
+/// What a part did with a message.
+#[derive(Clone, Copy, Debug, PartialEq, Eq)]
+pub enum Reaction {
+    /// The message is consumed, and this one is sent in answer, if any.
+    Done(Option<Message>),
+    /// The message is consumed and has no effect.
+    Dropped,
+    /// The message stays in flight, and nothing changes.
+    Held,
+    /// The message stays in flight, and this one is sent on its behalf.
+    HeldAfter(Message),
+}
+
+/// Why a part changed nothing.
+#[derive(Clone, Copy, Debug, PartialEq, Eq)]
+pub enum PartError {
+    /// 1: a sum of times does not fit 64 bits.
+    Exhausted,
+    /// 2: a growth was refused.
+    NoMemory,
+}
+
+/// A part that messages are delivered to.
+pub trait Part {
+    ghost use Rattle.network.specs.declared.message.Message.{Message};
+    ghost use Rattle.network.specs.declared.part.Reaction.{Reaction};
+    ghost use Rattle.network.specs.Sent.{sent_by};
+
+    /// Whether the part's table has a case for the message.
+    ghost has_case: { Self → Message → Bool };
+
+    /// The part's table: what it does with a message and what it is afterwards, or `None` where a sum does not fit.
+    ghost table: { Self → Message → Option (Reaction × Self) };
+
+    /// The node that `deliver` would send a message to, and whether the delivered one stays in flight then; `None`
+    /// where nothing would be sent.
+    fn sends(&self, message: &Message) -> Option<(Node, bool)>
+        requires { IsTrue (has_case self.now message.now) }
+        ensures { result ≡ sent_by (table self.now message.now) };
+
+    /// Hands the part a message. An error leaves the part as it was; Exhausted goes before NoMemory.
+    fn deliver(&mut self, message: &Message) -> Result<Reaction, PartError>
+        requires { IsTrue (has_case self.old message.now) }
+        ensures done { IfOk result (λ reaction. table self.old message.now ≡ Some (reaction, self.new)) }
+        ensures refused { OnErr result (self.new ≡ self.old) }
+        ensures exhausted { result ≡ Err PartError.Exhausted → table self.old message.now ≡ None }
+        ensures fits { table self.old message.now ≡ None → result ≡ Err PartError.Exhausted };
+}

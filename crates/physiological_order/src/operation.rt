@@ -1,0 +1,30 @@
+//! Operations on memory words, and the records that completed ones leave.
+
+use crate::word_addr::WordAddr;
+
+/// An operation of a core on one word.
+#[derive(Clone, Copy, Debug, PartialEq, Eq)]
+pub enum Op {
+    /// Receives the word's value.
+    Load(WordAddr),
+    /// Sets the word to the value.
+    Store(WordAddr, u64),
+    /// Receives the word's value and sets the word to the given one, in one step.
+    Swap(WordAddr, u64),
+}
+
+/// What a completed operation leaves.
+#[derive(Clone, Copy, Debug, PartialEq, Eq)]
+pub struct Record {
+    /// The number of the core.
+    pub core: u32,
+    /// The operation's place in the core's program order, counted from 0.
+    pub place: u32,
+    pub op: Op,
+    /// The value received: `None` for a store alone.
+    pub received: Option<u64>,
+    /// The timestamp.
+    pub ts: u64,
+    /// The completion number: operations are numbered from 0 as they complete.
+    pub number: u64,
+}

@@ -1,0 +1,11 @@
+pub mod Arranged
+pub mod History
+pub mod Kept
+pub mod Latest
+pub mod Numbered
+pub mod Replayed
+pub mod Sorted
+pub mod Unique
+pub mod Verdicts
+pub mod Walked
+pub mod WordBound

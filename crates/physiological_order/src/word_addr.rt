@@ -34,6 +34,14 @@ impl WordAddr {
         }
     }
 
+    /// The word of a number below 2^61, counted from address 0.
+    pub fn at(word: u64) -> WordAddr
+        requires { word < 2 ^ 61 }
+        ensures { result ≡ word }
+    {
+        WordAddr { word }
+    }
+
     /// The number of the word, counted from address 0.
     pub fn word(self) -> u64
         ensures number { result ≡ self }

@@ -1,0 +1,228 @@
+//! Each call on histories that are worked out by hand.
+use crate::{Memory, Op, Record, Verdict, WordAddr, arrange, check, replay, stale_hits};
+use std::alloc::{AllocError, Global};
+use std::process::Abort;
+use std::test::Fail;
+
+fn word(number: u64) -> WordAddr {
+    WordAddr::at(number % 64)
+}
+
+/// A record: its core and place, its operation and what it received, its time and its number.
+fn record(core: u32, place: u32, op: Op, received: Option<u64>, ts: u64, number: u64) -> Record {
+    Record {
+        core,
+        place,
+        op,
+        received,
+        ts,
+        number,
+    }
+}
+
+fn load(number: u64) -> Op {
+    Op::Load(word(number))
+}
+
+fn store(number: u64, value: u64) -> Op {
+    Op::Store(word(number), value)
+}
+
+/// The verdict over a memory of zeros.
+fn verdict(alloc: Global, issued: &[Vec<Op>], records: &[Record]) -> Result<Verdict, AllocError> {
+    check(alloc, &Memory::new(alloc), issued, records)
+}
+
+/// A store of 1 to word 0, then a load of it, by one core.
+fn store_then_load(alloc: Global) -> Result<Vec<Vec<Op>>, AllocError> {
+    let one = vec![in alloc; store(0, 1), load(0)]?;
+    let mut issued = Vec::new(alloc);
+    issued.push(one)?;
+    Ok(issued)
+}
+
+fn same<R: Abort>(rt: &R, got: Verdict, wanted: Verdict) {
+    assert_eq!(rt; got, wanted);
+}
+
+#[test]
+fn word_addresses(rt: HostRuntime) -> Result<(), Fail> {
+    assert_eq!(rt; WordAddr::new(4), None);
+    let addr = WordAddr::new(24).ok_or("24 is a multiple of 8")?;
+    assert_eq!(rt; addr.word(), 3);
+    assert_eq!(rt; addr.byte(), 24);
+    assert_eq!(rt; addr, WordAddr::at(3));
+    Ok(())
+}
+
+#[test]
+fn a_memory_keeps_what_is_set(rt: HostRuntime) -> Result<(), Fail> {
+    let mut memory = Memory::new(rt.alloc());
+    assert_eq!(rt; memory.get(word(5)), 0);
+    memory.set(word(9), 90)?;
+    memory.set(word(5), 50)?;
+    memory.set(word(9), 91)?;
+    assert_eq!(rt; memory.perform(load(9))?, Some(91));
+    assert_eq!(rt; memory.perform(store(2, 20))?, None);
+    assert_eq!(rt; memory.perform(Op::Swap(word(5), 51))?, Some(50));
+    let copy = memory.try_clone()?;
+    let words = copy.words()?;
+    assert_eq!(rt;
+        words.as_slice(),
+        [(word(2), 20), (word(5), 51), (word(9), 91)].as_slice()
+    );
+    Ok(())
+}
+
+#[test]
+fn a_replay_receives_old_values(rt: HostRuntime) -> Result<(), Fail> {
+    let mut opening = Memory::new(rt.alloc());
+    opening.set(word(0), 9)?;
+    let operations = [load(0), Op::Swap(word(0), 4), store(1, 7), load(0), load(1)];
+    let (received, end) = replay(rt.alloc(), &opening, &operations)?;
+    assert_eq!(rt;
+        received.as_slice(),
+        [Some(9), Some(9), None, Some(4), Some(7)].as_slice()
+    );
+    assert_eq!(rt; end.get(word(0)), 4);
+    assert_eq!(rt; end.get(word(1)), 7);
+    assert_eq!(rt; opening.get(word(0)), 9);
+    Ok(())
+}
+
+#[test]
+fn records_are_arranged_by_time_then_number(rt: HostRuntime) -> Result<(), Fail> {
+    let late = record(0, 1, load(0), Some(1), 11, 1);
+    let tie = record(1, 0, load(1), Some(0), 11, 0);
+    let early = record(0, 0, store(0, 1), None, 3, 2);
+    let arranged = arrange(rt.alloc(), &[late, tie, early])?;
+    assert_eq!(rt; arranged.as_slice(), [early, tie, late].as_slice());
+    assert_eq!(rt; arrange(rt.alloc(), &[])?.as_slice(), [].as_slice());
+    Ok(())
+}
+
+#[test]
+fn a_history_is_legal_in_any_order_of_its_records(rt: HostRuntime) -> Result<(), Fail> {
+    let issued = store_then_load(rt.alloc())?;
+    let first = record(0, 0, store(0, 1), None, 1, 0);
+    let second = record(0, 1, load(0), Some(1), 1, 1);
+    same(
+        &rt,
+        verdict(rt.alloc(), &issued, &[first, second])?,
+        Verdict::Legal,
+    );
+    same(
+        &rt,
+        verdict(rt.alloc(), &issued, &[second, first])?,
+        Verdict::Legal,
+    );
+    same(&rt, verdict(rt.alloc(), &[], &[])?, Verdict::Legal);
+    Ok(())
+}
+
+#[test]
+fn a_number_that_is_missing_comes_first(rt: HostRuntime) -> Result<(), Fail> {
+    let issued = store_then_load(rt.alloc())?;
+    let first = record(0, 0, store(0, 1), None, 1, 0);
+    let skipped = record(0, 1, load(0), Some(1), 1, 2);
+    same(
+        &rt,
+        verdict(rt.alloc(), &issued, &[first, skipped])?,
+        Verdict::BadNumber(1),
+    );
+    same(
+        &rt,
+        verdict(rt.alloc(), &issued, &[first, first])?,
+        Verdict::BadNumber(1),
+    );
+    let wrong = record(7, 3, load(0), Some(8), 1, 4);
+    same(
+        &rt,
+        verdict(rt.alloc(), &issued, &[wrong])?,
+        Verdict::BadNumber(0),
+    );
+    Ok(())
+}
+
+#[test]
+fn program_order_goes_before_values(rt: HostRuntime) -> Result<(), Fail> {
+    let issued = store_then_load(rt.alloc())?;
+    let swapped = [
+        record(0, 1, store(0, 1), None, 1, 0),
+        record(0, 0, load(0), Some(1), 1, 1),
+    ];
+    same(
+        &rt,
+        verdict(rt.alloc(), &issued, &swapped)?,
+        Verdict::OutOfProgramOrder(0),
+    );
+    let turned = [
+        record(0, 0, store(0, 1), None, 2, 0),
+        record(0, 1, load(0), Some(1), 1, 1),
+    ];
+    same(
+        &rt,
+        verdict(rt.alloc(), &issued, &turned)?,
+        Verdict::OutOfProgramOrder(1),
+    );
+    let stale = [
+        record(0, 0, store(0, 1), None, 1, 0),
+        record(0, 1, load(0), Some(0), 1, 1),
+    ];
+    same(
+        &rt,
+        verdict(rt.alloc(), &issued, &stale)?,
+        Verdict::WrongValue(1),
+    );
+    let nobody = [record(1, 0, load(0), Some(0), 0, 0)];
+    same(
+        &rt,
+        verdict(rt.alloc(), &issued, &nobody)?,
+        Verdict::OutOfProgramOrder(0),
+    );
+    let other = [record(0, 0, store(0, 2), None, 1, 0)];
+    same(
+        &rt,
+        verdict(rt.alloc(), &issued, &other)?,
+        Verdict::OutOfProgramOrder(0),
+    );
+    Ok(())
+}
+
+/// Core 1 loads a word, core 0 stores 1 to it at time 11, and core 1 loads it once more at time 0; core 2 swaps 5
+/// for the 1 at time 12, and loads at time 12 what it put there.
+fn three_cores() -> [Record; 5] {
+    [
+        record(1, 0, load(0), Some(0), 0, 0),
+        record(0, 0, store(0, 1), None, 11, 1),
+        record(1, 1, load(0), Some(0), 0, 2),
+        record(2, 0, Op::Swap(word(0), 5), Some(1), 12, 3),
+        record(2, 1, load(0), Some(5), 12, 4),
+    ]
+}
+
+#[test]
+fn a_stale_hit_is_legal_and_counted(rt: HostRuntime) -> Result<(), Fail> {
+    let mut issued = Vec::new(rt.alloc());
+    issued.push(vec![in rt.alloc(); store(0, 1)]?)?;
+    issued.push(vec![in rt.alloc(); load(0), load(0)]?)?;
+    issued.push(vec![in rt.alloc(); Op::Swap(word(0), 5), load(0)]?)?;
+    let records = three_cores();
+    same(&rt, verdict(rt.alloc(), &issued, &records)?, Verdict::Legal);
+    assert_eq!(rt; stale_hits(rt.alloc(), &records)?, 1);
+    Ok(())
+}
+
+#[test]
+fn only_later_writes_of_the_word_make_a_load_stale(rt: HostRuntime) -> Result<(), Fail> {
+    let records = [
+        record(0, 0, store(0, 1), None, 5, 0),
+        record(1, 0, load(1), Some(0), 0, 1),
+        record(1, 1, load(0), Some(1), 5, 2),
+        record(1, 2, load(0), Some(0), 4, 3),
+        record(0, 1, store(0, 2), None, 6, 4),
+    ];
+    assert_eq!(rt; stale_hits(rt.alloc(), &records)?, 1);
+    assert_eq!(rt; stale_hits(rt.alloc(), &[])?, 0);
+    Ok(())
+}

@@ -1,0 +1,48 @@
+//! The walk along an arrangement to its first record with a fault.
+ghost use Rattle.std.specs.Prelude.{◌≡◌, ◌↔◌, length, IsTrue, IfOk};
+ghost use Rattle.physiological_order.specs.Order.{flat};
+ghost use Rattle.physiological_order.specs.Faults.{issued_by, WalksTo};
+ghost use Rattle.physiological_order.specs.Walking.{IsNext};
+
+use crate::memory::Memory;
+use crate::operation::{Op, Record};
+use crate::verdict::Verdict;
+use std::alloc::{AllocError, Global};
+
+/// The verdict on records that stand arranged: the first fault along the list, program order before value.
+pub fn walk(
+    alloc: Global,
+    opening: &Memory,
+    issued: &[Vec<Op>],
+    arranged: &[Record],
+) -> Result<Verdict, AllocError>
+    ensures { IfOk result (WalksTo (flat opening.now) (issued_by issued.now) arranged.now) }
+{
+    let mut memory = opening.try_clone()?;
+    let mut places = vec![in alloc; 0u64; issued.len()]?;
+    for record in arranged {
+        if !is_next(issued, &places, record) {
+            return Ok(Verdict::OutOfProgramOrder(record.number));
+        }
+        places[record.core as usize] = u64::from(record.place) + 1;
+        if memory.perform(record.op)? != record.received {
+            return Ok(Verdict::WrongValue(record.number));
+        }
+    }
+    Ok(Verdict::Legal)
+}
+
+/// Whether the record is the next of its core's issued list, where this many of each core's were before.
+fn is_next(issued: &[Vec<Op>], places: &[u64], record: &Record) -> bool
+    requires { length places.now ≡ length issued.now }
+    ensures { IsTrue result ↔ IsNext issued.now places.now record.now }
+{
+    let Some(operations) = issued.get(record.core as usize) else {
+        return false;
+    };
+    let is_place = places[record.core as usize] == u64::from(record.place);
+    match operations.get(record.place as usize) {
+        Some(operation) => is_place && *operation == record.op,
+        None => false,
+    }
+}

@@ -1,13 +1,13 @@
 -- What is kept of records stays so when one more completes.
 use Rattle.std.proofs.Common.{◌≡◌, ℕ, ◌+◌, ◌<◌, ◌≤◌, List, [], ◌∷◌, ◌++◌, length, Some, sym, subst, arith, ⊎_elim, length-append}
-use Rattle.std.specs.Prelude.{count_by, slice_get, ◌==◌}
+use Rattle.std.specs.Prelude.{slice_get}
 use Rattle.std.specs.List.{AllByRecursion as Each}
 use Rattle.std.specs.List.Sorted.{IsPermutation}
 use Rattle.std.proofs.lemmas.List.Sorted.{IsPermutation-refl}
 use Rattle.std.proofs.lemmas.Bool.{cases_eq}
 use Rattle.physiological_order.specs.declared.operation.Op.{Op}
 use Rattle.physiological_order.specs.declared.operation.Record.{Record}
-use Rattle.physiological_order.specs.Order.{Memory, flat_received, Follows, of_core, Arrangement, Legal}
+use Rattle.physiological_order.specs.Order.{Memory, Follows, of_core, Arrangement, Legal}
 use Rattle.physiological_order.specs.Completion.{placed, arranged, Ascends, Receives, Kept, Fits}
 use Rattle.physiological_order.proofs.History.{Sorted, each_weaker, Receives-placed, replay-from_Receives}
 use Rattle.physiological_order.proofs.Arranged.{arranged-push, each_arranged, each_push, IsPermutation-push_placed, Ascends-placed, Sorted-from_Ascends, Rises-from_Ascends, of_core-placed_other, of_core-placed_own, Follows-push, Follows-issued, counts-push, length_arranged}

@@ -4,6 +4,7 @@ pub mod Kept
 pub mod Latest
 pub mod Numbered
 pub mod Replayed
+pub mod Rising
 pub mod Sorted
 pub mod Unique
 pub mod Verdicts

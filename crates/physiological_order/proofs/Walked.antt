@@ -1,5 +1,5 @@
 -- A walk one record further.
-use Rattle.std.proofs.Common.{◌≡◌, ℕ, ◌+◌, ◌<◌, ◌≤◌, Bool, true, false, cond, eqb, List, [], ◌∷◌, ◌++◌, length, map, get_or, set, take, drop, suc, Some, refl, sym, ap, ap₂, subst, ◌∙◌, arith, ⊎_elim, length-append, get_or-set_same, get_or-set_other, drop-cons}
+use Rattle.std.proofs.Common.{◌≡◌, ℕ, ◌+◌, ◌<◌, ◌≤◌, true, false, eqb, List, [], ◌∷◌, ◌++◌, length, map, get_or, set, take, drop, suc, Some, refl, sym, ap, ap₂, subst, ◌∙◌, arith, ⊎_elim, length-append, get_or-set_same, get_or-set_other, drop-cons}
 use Rattle.std.specs.Prelude.{slice_get, Option, None, not}
 use Rattle.std.specs.Option.{option_eq}
 use Rattle.std.proofs.lemmas.Bool.{cond-true, cond-false, eq-eqb, ne_eqb, cases_eq, cases_lt}

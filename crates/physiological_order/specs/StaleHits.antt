@@ -1,5 +1,5 @@
 -- Loads that received a value older than the newest one completed.
-use Rattle.std.specs.Prelude.{ℕ, ◌<◌, ◌==◌, nat_lt, ◌&&◌, Bool, true, false, List, [], ◌∷◌, count_by}
+use Rattle.std.specs.Prelude.{ℕ, ◌<◌, ◌==◌, nat_lt, ◌&&◌, Bool, false, List, [], ◌∷◌, count_by}
 use Rattle.std.specs.List.{list_any}
 use Rattle.physiological_order.specs.declared.operation.Op.{Op}
 use Rattle.physiological_order.specs.declared.operation.Op.TheVariants.{Load, Store, Swap}

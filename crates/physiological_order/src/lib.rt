@@ -19,7 +19,7 @@ pub use checking::check;
 pub use memory::Memory;
 pub use operation::{Op, Record};
 pub use replaying::replay;
-pub use stale::stale_hits;
+pub use stale::{rises_by_number, stale_hits};
 pub use verdict::Verdict;
 pub use word_addr::WordAddr;
 

@@ -1,5 +1,5 @@
 //! Loads that received a value older than the newest one completed.
-ghost use Rattle.std.specs.Prelude.{◌≡◌, ℕ, OnOk, OnErr, IfOk, option_map};
+ghost use Rattle.std.specs.Prelude.{◌≡◌, ◌↔◌, IsTrue, OnOk, IfOk};
 ghost use Rattle.std.specs.FinMap as finite;
 ghost use Rattle.physiological_order.specs.StaleHits.{RisesByNumber, stale_count};
 ghost use Rattle.physiological_order.specs.LatestWrites.{later_than, raised, stale_by, latest_after};
@@ -7,6 +7,13 @@ ghost use Rattle.physiological_order.specs.LatestWrites.{later_than, raised, sta
 use crate::operation::{Op, Record};
 use number_map::NumberMap;
 use std::alloc::{AllocError, Global};
+
+/// Whether each record's number is below the next one's, as `stale_hits` asks.
+pub fn rises_by_number(records: &[Record]) -> bool
+    ensures { IsTrue result ↔ RisesByNumber records.now }
+{
+    records.is_sorted_by(|record, next| record.number < next.number)
+}
 
 /// The number of loads for which a store or swap of the same word has a smaller number and a greater time. The
 /// records stand by rising number.

@@ -1,5 +1,7 @@
 //! Each call on histories that are worked out by hand.
-use crate::{Memory, Op, Record, Verdict, WordAddr, arrange, check, replay, stale_hits};
+use crate::{
+    Memory, Op, Record, Verdict, WordAddr, arrange, check, replay, rises_by_number, stale_hits,
+};
 use std::alloc::{AllocError, Global};
 use std::process::Abort;
 use std::test::Fail;
@@ -90,14 +92,23 @@ fn a_replay_receives_old_values(rt: HostRuntime) -> Result<(), Fail> {
     Ok(())
 }
 
+fn late() -> Record {
+    record(0, 1, load(0), Some(1), 11, 1)
+}
+
+fn tied() -> Record {
+    record(1, 0, load(1), Some(0), 11, 0)
+}
+
+fn early() -> Record {
+    record(0, 0, store(0, 1), None, 3, 2)
+}
+
 #[test]
 fn records_are_arranged_by_time_then_number(rt: HostRuntime) -> Result<(), Fail> {
-    let late = record(0, 1, load(0), Some(1), 11, 1);
-    let tie = record(1, 0, load(1), Some(0), 11, 0);
-    let early = record(0, 0, store(0, 1), None, 3, 2);
-    let arranged = arrange(rt.alloc(), &[late, tie, early])?;
-    assert_eq!(rt; arranged.as_slice(), [early, tie, late].as_slice());
-    assert_eq!(rt; arrange(rt.alloc(), &[])?.as_slice(), [].as_slice());
+    let arranged = arrange(rt.alloc(), &[late(), tied(), early()])?;
+    assert_eq!(rt; arranged.as_slice(), [early(), tied(), late()].as_slice());
+    assert!(rt; arrange(rt.alloc(), &[])?.is_empty());
     Ok(())
 }
 
@@ -209,6 +220,7 @@ fn a_stale_hit_is_legal_and_counted(rt: HostRuntime) -> Result<(), Fail> {
     issued.push(vec![in rt.alloc(); Op::Swap(word(0), 5), load(0)]?)?;
     let records = three_cores();
     same(&rt, verdict(rt.alloc(), &issued, &records)?, Verdict::Legal);
+    assert!(rt; rises_by_number(&records));
     assert_eq!(rt; stale_hits(rt.alloc(), &records)?, 1);
     Ok(())
 }
@@ -222,7 +234,9 @@ fn only_later_writes_of_the_word_make_a_load_stale(rt: HostRuntime) -> Result<()
         record(1, 2, load(0), Some(0), 4, 3),
         record(0, 1, store(0, 2), None, 6, 4),
     ];
+    assert!(rt; rises_by_number(&records));
     assert_eq!(rt; stale_hits(rt.alloc(), &records)?, 1);
     assert_eq!(rt; stale_hits(rt.alloc(), &[])?, 0);
+    assert!(rt; !rises_by_number(&[late(), late()]));
     Ok(())
 }

@@ -1,4 +1,4 @@
-use Rattle.std.proofs.Common.{◌≡◌, ◌∙◌, ◌<◌, ◌^◌, ℕ, List, length, get_or, sym, subst, ap, arith}
+use Rattle.std.proofs.Common.{◌∙◌, ◌<◌, ◌^◌, ℕ, List, length, get_or, sym, subst, arith}
 use Rattle.physiological_order.proofs.WordBound.{bounded_at}
 use Rattle.physiological_order.proofs.memory.Memory.words.Goals as goal
 

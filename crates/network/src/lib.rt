@@ -2,11 +2,14 @@
 //! docs/PROTOCOL.md tells which message says what.
 #![tactic(auto)]
 
+pub mod in_flight;
 pub mod message;
 pub mod numbers;
 pub mod part;
+mod slots;
 pub mod words;
 
+pub use in_flight::{InFlight, SendError};
 pub use message::{Body, Message, Node, TimedLine};
 pub use numbers::{LineNo, MsgNo};
 pub use part::{Part, PartError, Reaction};

@@ -1,0 +1,69 @@
+-- What sending and taking do to the slots, and to what is still there.
+use Rattle.std.proofs.Common.{◌≡◌, ℕ, zero, suc, ◌+◌, ◌<◌, ◌≤◌, ◌++◌, List, [], ◌∷◌, length, filter, Bool, true, false, is_some, Option, Some, None, refl, sym, ap, ◌∙◌, subst, nat_eq, cond, IfSome, option_copied, Bor, arith}
+use Rattle.std.specs.Prelude.{slice_get, slice_set, IsTrue}
+use Rattle.std.proofs.lemmas.Bool.Decides.{nat_tests}
+use Rattle.network.specs.declared.message.Message.{Message}
+use Rattle.network.specs.Numbered.{IsRising, at_number, without_number, number_at, still_there, given}
+use Rattle.network.specs.Routes.{has_ends, AllHaveEnds}
+use Rattle.network.proofs.Rising.{at_number-below}
+
+module _ {X : Type 0} where
+  given-append : (n : ℕ) (o : Option X) (xs ys : List (ℕ × X)) → given n o (xs ++ ys) ≡ given n o xs ++ ys
+  given-append n None xs ys = refl
+  given-append n (Some x) xs ys = refl
+
+  -- what is sent last is there last
+  pub still_there-append : (n : ℕ) (x : X) (xs : List (ℕ × Option X)) → still_there (xs ++ (n, Some x) ∷ []) ≡ still_there xs ++ (n, x) ∷ []
+  still_there-append n x [] = refl
+  still_there-append n x (y ∷ ys) = ap (given y.0 y.1) (still_there-append n x ys) ∙ given-append y.0 y.1 (still_there ys) ((n, x) ∷ [])
+
+  -- the next number makes the numbers go on rising
+  pub IsRising-append : (low high : ℕ) (x : X) (xs : List (ℕ × X)) → IsRising low xs high → IsRising low (xs ++ (high, x) ∷ []) (high + 1)
+  IsRising-append low high x [] rising = (rising, omega arith)
+  IsRising-append low high x (y ∷ ys) rising = (rising.0, IsRising-append (y.0 + 1) high x ys rising.1)
+
+  pub IsRising-higher : (low high top : ℕ) (xs : List (ℕ × X)) → IsRising low xs high → high ≤ top → IsRising low xs top
+  IsRising-higher low high top [] rising h = omega arith
+  IsRising-higher low high top (y ∷ ys) rising h = (rising.0, IsRising-higher (y.0 + 1) high top ys rising.1 h)
+
+  pub IsRising-lower : (low least high : ℕ) (xs : List (ℕ × X)) → IsRising low xs high → least ≤ low → IsRising least xs high
+  IsRising-lower low least high [] rising h = omega arith
+  IsRising-lower low least high (y ∷ ys) rising h = (omega (arith, rising.0), rising.1)
+
+  -- what stands beside the numbers doesn't matter to their rising
+  pub IsRising-set : (low high k n : ℕ) (o x : X) (xs : List (ℕ × X)) → slice_get xs k ≡ Some (n, o) → IsRising low xs high → IsRising low (slice_set xs k (n, x)) high
+  IsRising-set low high k n o x [] here rising = cc
+  IsRising-set low high zero n o x (y ∷ ys) here rising = let same : y ≡ (n, o) = cc in let number = ap (λ (z : ℕ × X). z.0) same in (omega (arith, rising.0, number), rw (← number) rising.1)
+  IsRising-set low high (suc k) n o x (y ∷ ys) here rising = (rising.0, IsRising-set (y.0 + 1) high k n o x ys here rising.1)
+
+  -- without what isn't there, a list is as it was
+  pub without_number-none : (n : ℕ) (xs : List (ℕ × X)) → at_number n xs ≡ None → without_number n xs ≡ xs
+  without_number-none n [] none = refl
+  without_number-none n (y ∷ ys) none = grind (arith, nat_tests, without_number-none n ys)
+
+  -- without what is there, it has one less
+  pub length-without_number : (n : ℕ) (x : X) (xs : List (ℕ × X)) → at_number n xs ≡ Some x → length (without_number n xs) + 1 ≡ length xs
+  length-without_number n x [] some = cc
+  length-without_number n x (y ∷ ys) some = grind (arith, nat_tests, length-without_number n x ys)
+
+-- what is found has the ends of its kind
+pub AllHaveEnds-at_number : (cores banks n : ℕ) (m : Message) (xs : List (ℕ × Message)) → AllHaveEnds cores banks xs → at_number n xs ≡ Some m → IsTrue (has_ends cores banks m)
+AllHaveEnds-at_number cores banks n m [] all some = cc
+AllHaveEnds-at_number cores banks n m (x ∷ xs) all some = elim (nat_eq x.0 n) as (λ b. cond b (Some x.1) (at_number n xs) ≡ Some m → IsTrue (has_ends cores banks m)) [ true ↦ λ here. let is : x.1 ≡ m = cc in subst (λ y. IsTrue (has_ends cores banks y)) is all.0 | false ↦ λ later. AllHaveEnds-at_number cores banks n m xs all.1 later ] some
+
+pub AllHaveEnds-append : (cores banks n : ℕ) (m : Message) (xs : List (ℕ × Message)) → AllHaveEnds cores banks xs → IsTrue (has_ends cores banks m) → AllHaveEnds cores banks (xs ++ (n, m) ∷ [])
+AllHaveEnds-append cores banks n m [] all here = (here, tt)
+AllHaveEnds-append cores banks n m (x ∷ xs) all here = (all.0, AllHaveEnds-append cores banks n m xs all.1 here)
+
+pub AllHaveEnds-without_number : (cores banks n : ℕ) (xs : List (ℕ × Message)) → AllHaveEnds cores banks xs → AllHaveEnds cores banks (without_number n xs)
+AllHaveEnds-without_number cores banks n [] all = tt
+AllHaveEnds-without_number cores banks n (x ∷ xs) all = elim (nat_eq x.0 n) as (λ b. AllHaveEnds cores banks (cond b xs (x ∷ without_number n xs))) [ true ↦ all.1 | false ↦ (all.0, AllHaveEnds-without_number cores banks n xs all.1) ]
+
+-- the same of what is found, or not, by a reference
+pub ends_if_found : (cores banks n : ℕ) (r : Option Message) (xs : List (ℕ × Message)) → AllHaveEnds cores banks xs → r ≡ at_number n xs → IfSome r (λ m. IsTrue (has_ends cores banks m))
+ends_if_found cores banks n None xs all is = tt
+ends_if_found cores banks n (Some m) xs all is = AllHaveEnds-at_number cores banks n m xs all (sym is)
+
+pub ends_if_seen : (cores banks n : ℕ) (r : Option (Bor Message)) (xs : List (ℕ × Message)) → AllHaveEnds cores banks xs → option_copied r ≡ at_number n xs → IfSome r (λ m. IsTrue (has_ends cores banks m.now))
+ends_if_seen cores banks n None xs all is = tt
+ends_if_seen cores banks n (Some m) xs all is = AllHaveEnds-at_number cores banks n m.now xs all (sym is)

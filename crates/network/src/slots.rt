@@ -1,0 +1,53 @@
+//! Slots of numbered messages in the order of sending, some of which are empty.
+ghost use Rattle.std.specs.Prelude.{◌≡◌, ◌+◌, ◌-◌, ◌<◌, ◌≤◌, ◌^◌, ℕ, Option, None, Some, IfSome, IfNone, option_copied, length, slice_get, slice_set, vec_capacity, vec_len};
+ghost use Rattle.network.specs.Numbered.{IsRising, at_number, number_at, still_there};
+
+use crate::message::Message;
+
+/// The number of a message, and the message until it is taken.
+pub(crate) type Slot = (u64, Option<Message>);
+
+/// The first index whose slot's number is not below `number`, found by halving.
+pub(crate) fn first_from(slots: &[Slot], number: u64) -> usize
+    requires { IsRising 0 slots.now (2 ^ 64) }
+    ensures within { result ≤ length slots.now }
+    ensures before { (k : ℕ) → k < result → number_at slots.now k < number }
+    ensures after { (k : ℕ) → result ≤ k → k < length slots.now → number ≤ number_at slots.now k }
+{
+    let mut low = 0;
+    let mut high = slots.len();
+    while low < high {
+        let middle = low + (high - low) / 2;
+        if slots[middle].0 < number {
+            low = middle + 1;
+        } else {
+            high = middle;
+        }
+    }
+    low
+}
+
+/// The index of the slot with the number, or `None` where there is none.
+pub(crate) fn slot_of(slots: &[Slot], number: u64) -> Option<usize>
+    requires { IsRising 0 slots.now (2 ^ 64) }
+    ensures found { IfSome result (λ at. slice_get slots.now at ≡ Some (number, at_number number (still_there slots.now))) }
+    ensures absent { IfNone result (at_number number (still_there slots.now) ≡ None) }
+{
+    let at = first_from(slots, number);
+    if at >= slots.len() {
+        return None;
+    }
+    if slots[at].0 != number {
+        return None;
+    }
+    Some(at)
+}
+
+/// The message with the number, or `None` where there is none.
+pub(crate) fn message_of(slots: &[Slot], number: u64) -> Option<&Message>
+    requires { IsRising 0 slots.now (2 ^ 64) }
+    ensures { option_copied result ≡ at_number number (still_there slots.now) }
+{
+    let at = slot_of(slots, number)?;
+    slots[at].1.as_ref()
+}

@@ -7,6 +7,7 @@ pub mod message;
 pub mod numbers;
 pub mod part;
 mod slots;
+mod wanted;
 pub mod words;
 
 pub use in_flight::{InFlight, SendError};

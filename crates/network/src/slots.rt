@@ -1,8 +1,12 @@
 //! Slots of numbered messages in the order of sending, some of which are empty.
 ghost use Rattle.std.specs.Prelude.{◌≡◌, ◌+◌, ◌-◌, ◌<◌, ◌≤◌, ◌^◌, ℕ, Option, None, Some, IfSome, IfNone, option_copied, length, slice_get, slice_set, vec_capacity, vec_len};
+ghost use Rattle.std.specs.Prelude.{option_map};
+ghost use Rattle.network.specs.Asked.{is_wanted};
+ghost use Rattle.network.specs.Rights.{first_message, count_messages, kept_if, with_message};
 ghost use Rattle.network.specs.Numbered.{IsRising, at_number, number_at, still_there};
 
 use crate::message::Message;
+use crate::wanted::Wanted;
 
 /// The number of a message, and the message until it is taken.
 pub(crate) type Slot = (u64, Option<Message>);
@@ -50,4 +54,37 @@ pub(crate) fn message_of(slots: &[Slot], number: u64) -> Option<&Message>
 {
     let at = slot_of(slots, number)?;
     slots[at].1.as_ref()
+}
+
+/// The slot's message, if it is still there and is one that is looked for.
+fn wanted_in<'a>(slot: &'a Slot, wanted: &Wanted) -> Option<&'a Message>
+    ensures { option_copied result ≡ kept_if (is_wanted wanted.now) slot.now.1 }
+{
+    let message = slot.1.as_ref()?;
+    if wanted.fits(message) { Some(message) } else { None }
+}
+
+/// The first message that is looked for, with its number, or `None` where there is none.
+pub(crate) fn first_wanted<'a>(slots: &'a [Slot], wanted: &Wanted) -> Option<(u64, &'a Message)>
+    ensures { option_map with_message result ≡ first_message (is_wanted wanted.now) (still_there slots.now) }
+{
+    for slot in slots {
+        if let Some(message) = wanted_in(slot, wanted) {
+            return Some((slot.0, message));
+        }
+    }
+    None
+}
+
+/// How many messages are looked for.
+pub(crate) fn count_wanted(slots: &[Slot], wanted: &Wanted) -> usize
+    ensures { result ≡ count_messages (is_wanted wanted.now) (still_there slots.now) }
+{
+    let mut count = 0;
+    for slot in slots {
+        if wanted_in(slot, wanted).is_some() {
+            count += 1;
+        }
+    }
+    count
 }

@@ -88,3 +88,10 @@ module _ {X : Type 0} where
     where
       differs : (k : ℕ) → k < length xs → number_at xs k ≡ n → ⊥
       differs k within same = elim (three k at) as (λ _. ⊥) [ inl less ↦ omega (arith, before k less) | inr rest ↦ elim rest as (λ _. ⊥) [ inl is ↦ other (rw (← is) within) (rw (← is) same) | inr more ↦ let rise = number_at-rises xs 0 high at k rising more within in let first = after at (omega arith) (omega arith) in omega (arith, rise, first) ] ]
+
+module _ {X : Type 0} where
+  -- the number at an index is that of the element there
+  pub number_at-slice_get : (xs : List (ℕ × X)) (k n : ℕ) (x : X) → slice_get xs k ≡ Some (n, x) → number_at xs k ≡ n
+  number_at-slice_get [] k n x here = cc
+  number_at-slice_get (y ∷ ys) zero n x here = let same : y ≡ (n, x) = cc in ap (λ (z : ℕ × X). z.0) same
+  number_at-slice_get (y ∷ ys) (suc k) n x here = number_at-slice_get ys k n x here

@@ -2,10 +2,11 @@
 use Rattle.std.proofs.Common.{◌≡◌, ℕ, zero, suc, ◌+◌, ◌<◌, ◌≤◌, ◌++◌, List, [], ◌∷◌, length, filter, Bool, true, false, is_some, Option, Some, None, refl, sym, ap, ◌∙◌, subst, nat_eq, cond, IfSome, option_copied, Bor, arith}
 use Rattle.std.specs.Prelude.{slice_get, slice_set, IsTrue}
 use Rattle.std.proofs.lemmas.Bool.Decides.{nat_tests}
+use Rattle.std.proofs.lemmas.Option.{slice_get_within}
 use Rattle.network.specs.declared.message.Message.{Message}
 use Rattle.network.specs.Numbered.{IsRising, at_number, without_number, number_at, still_there, given}
 use Rattle.network.specs.Routes.{has_ends, AllHaveEnds}
-use Rattle.network.proofs.Rising.{at_number-below}
+use Rattle.network.proofs.Rising.{at_number-below, number_at-within, number_at-slice_get}
 
 module _ {X : Type 0} where
   given-append : (n : ℕ) (o : Option X) (xs ys : List (ℕ × X)) → given n o (xs ++ ys) ≡ given n o xs ++ ys
@@ -45,6 +46,43 @@ module _ {X : Type 0} where
   pub length-without_number : (n : ℕ) (x : X) (xs : List (ℕ × X)) → at_number n xs ≡ Some x → length (without_number n xs) + 1 ≡ length xs
   length-without_number n x [] some = cc
   length-without_number n x (y ∷ ys) some = grind (arith, nat_tests, length-without_number n x ys)
+
+  without_number-given_same : (n m : ℕ) (o : Option X) (xs : List (ℕ × X)) → m ≡ n → at_number n xs ≡ None → without_number n (given m o xs) ≡ xs
+  without_number-given_same n m None xs same none = without_number-none n xs none
+  without_number-given_same n m (Some x) xs same none = grind (arith, nat_tests, same)
+
+  without_number-given_other : (n m : ℕ) (o : Option X) (xs : List (ℕ × X)) → (m ≡ n → ⊥) → without_number n (given m o xs) ≡ given m o (without_number n xs)
+  without_number-given_other n m None xs other = refl
+  without_number-given_other n m (Some x) xs other = grind (arith, nat_tests, other)
+
+  without_empty : (n : ℕ) (o : Option X) (xs : List (ℕ × Option X)) → still_there (filter (λ x. is_some x.1) xs) ≡ still_there xs → still_there (filter (λ x. is_some x.1) ((n, o) ∷ xs)) ≡ given n o (still_there xs)
+  without_empty n None xs same = same
+  without_empty n (Some x) xs same = ap (given n (Some x)) same
+
+  -- an emptied slot takes what has its number away
+  pub still_there-set : (n low high k : ℕ) (o : Option X) (xs : List (ℕ × Option X)) → slice_get xs k ≡ Some (n, o) → IsRising low xs high → still_there (slice_set xs k (n, None)) ≡ without_number n (still_there xs)
+  still_there-set n low high k o [] here rising = cc
+  still_there-set n low high zero o (y ∷ ys) here rising =
+      let same : y ≡ (n, o) = cc in
+      let number = ap (λ (z : ℕ × Option X). z.0) same in
+      let others = at_number-below n (y.0 + 1) high ys rising.1 (omega (arith, number)) in
+      sym (without_number-given_same n y.0 y.1 (still_there ys) number others)
+  still_there-set n low high (suc k) o (y ∷ ys) here rising =
+      let rest = still_there-set n (y.0 + 1) high k o ys here rising.1 in
+      let above = number_at-within ys (y.0 + 1) high k rising.1 (slice_get_within ys k (n, o) here) in
+      let is = number_at-slice_get ys k n o here in
+      ap (given y.0 y.1) rest ∙ sym (without_number-given_other n y.0 y.1 (still_there ys) (λ e. omega (arith, above.0, is)))
+
+  -- slots that are empty leave no trace
+  pub still_there-filter : (xs : List (ℕ × Option X)) → still_there (filter (λ x. is_some x.1) xs) ≡ still_there xs
+  still_there-filter [] = refl
+  still_there-filter (x ∷ xs) = without_empty x.0 x.1 xs (still_there-filter xs)
+
+  pub IsRising-filter : (low high : ℕ) (test : ℕ × X → Bool) (xs : List (ℕ × X)) → IsRising low xs high → IsRising low (filter test xs) high
+  IsRising-filter low high test [] rising = rising
+  IsRising-filter low high test (x ∷ xs) rising =
+      let rest = IsRising-filter (x.0 + 1) high test xs rising.1 in
+      elim (test x) as (λ b. IsRising low (cond b (x ∷ filter test xs) (filter test xs)) high) [ true ↦ (rising.0, rest) | false ↦ IsRising-lower (x.0 + 1) low high (filter test xs) rest (omega (arith, rising.0)) ]
 
 -- what is found has the ends of its kind
 pub AllHaveEnds-at_number : (cores banks n : ℕ) (m : Message) (xs : List (ℕ × Message)) → AllHaveEnds cores banks xs → at_number n xs ≡ Some m → IsTrue (has_ends cores banks m)

@@ -3,7 +3,7 @@ ghost use Rattle.std.specs.Prelude.{◌≡◌, ◌+◌, ◌-◌, ◌<◌, ◌≤
 ghost use Rattle.std.specs.Prelude.{option_map};
 ghost use Rattle.network.specs.Asked.{is_wanted};
 ghost use Rattle.network.specs.Rights.{first_message, count_messages, kept_if, with_message};
-ghost use Rattle.network.specs.Numbered.{IsRising, at_number, number_at, still_there};
+ghost use Rattle.network.specs.Numbered.{IsRising, at_number, number_at, still_there, without_number};
 
 use crate::message::Message;
 use crate::wanted::Wanted;
@@ -87,4 +87,30 @@ pub(crate) fn count_wanted(slots: &[Slot], wanted: &Wanted) -> usize
         }
     }
     count
+}
+
+/// Takes the message out of the slot at an index, which stays empty.
+pub(crate) fn empty_slot(slots: &mut Vec<Slot>, at: usize, number: u64) -> Option<Message>
+    requires rising { IsRising 0 slots.old.items (2 ^ 64) }
+    requires here { slice_get slots.old.items at ≡ Some (number, at_number number (still_there slots.old.items)) }
+    ensures value { result ≡ at_number number (still_there slots.old.items) }
+    ensures after { still_there slots.new.items ≡ without_number number (still_there slots.old.items) }
+    ensures rising { (high : ℕ) → IsRising 0 slots.old.items high → IsRising 0 slots.new.items high }
+    ensures len { vec_len slots.new ≡ vec_len slots.old }
+    ensures capacity { vec_capacity slots.new ≡ vec_capacity slots.old }
+{
+    let message = slots[at].1;
+    slots[at] = (number, None);
+    message
+}
+
+/// Drops the empty slots where they are more than the others.
+pub(crate) fn drop_empty(slots: &mut Vec<Slot>, count: usize)
+    ensures same { still_there slots.new.items ≡ still_there slots.old.items }
+    ensures rising { (high : ℕ) → IsRising 0 slots.old.items high → IsRising 0 slots.new.items high }
+    ensures room { vec_capacity slots.old - vec_len slots.old ≤ vec_capacity slots.new - vec_len slots.new }
+{
+    if slots.len() / 2 > count {
+        slots.retain(|slot| slot.1.is_some());
+    }
 }

@@ -2,11 +2,16 @@
 ghost use Rattle.std.specs.Prelude.{◌≡◌, ◌+◌, ◌<◌, ◌≤◌, ◌^◌, ◌++◌, ◌∷◌, [], false, IsTrue, IfOk, IfErr, IfSome, OnOk, OnErr, IsOk, Option, None, Some, option_copied, option_map, find, map};
 ghost use Rattle.network.specs.Numbered.{at_number, without_number};
 ghost use Rattle.network.specs.Routes.{has_ends};
+ghost use Rattle.network.specs.Rights.{count_messages, first_message, is_between, is_right_of, is_store_of};
 ghost use Rattle.network.specs.Flight.{has_number, has_place};
 
-use crate::message::Message;
-use crate::numbers::MsgNo;
-use crate::slots::{Slot, message_of};
+use crate::message::{Message, Node};
+use crate::numbers::{LineNo, MsgNo};
+use crate::slots::{
+    Slot, count_wanted, drop_empty, first_wanted, message_of, numbers_of, reserve_slot,
+    take_message,
+};
+use crate::wanted::Wanted;
 use std::alloc::{AllocError, Global};
 use std::marker::Model;
 
@@ -39,9 +44,7 @@ impl Model for InFlight {
 
     ghost Value = { Flight };
 
-    ghost view = {
-        λ a. record { cores = a.cores; banks = a.banks; capacity = a.capacity; next = a.next; messages = still_there a.slots.items; room = vec_capacity a.slots - vec_len a.slots }
-    };
+    ghost view = { λ a. record { cores = a.cores; banks = a.banks; capacity = a.capacity; next = a.next; messages = still_there a.slots.items; room = vec_capacity a.slots - vec_len a.slots } };
 
     ghost invariant = { λ a. IsKept a.cores a.banks a.capacity a.next a.count a.slots.items };
 }
@@ -87,5 +90,96 @@ impl InFlight {
         ensures ends { IfSome result (λ message. IsTrue (has_ends self.now.cores self.now.banks message.now)) }
     {
         message_of(&self.slots, number.0)
+    }
+
+    /// Makes room for one more message, so that the next `send` is not refused for memory.
+    pub fn reserve(&mut self) -> Result<(), AllocError>
+        ensures after { self.new ≡ record self.old { room = self.new.room } }
+        ensures ok { OnOk result (0 < self.new.room) }
+        ensures room { self.old.room ≤ self.new.room }
+        ensures refused { OnErr result (self.new ≡ self.old) }
+        ensures had { 0 < self.old.room → IsOk result }
+    {
+        reserve_slot(&mut self.slots)
+    }
+
+    /// Sends a message, which has the ends of its kind: it gets the next number. Else the message is given back, and
+    /// nothing changes: Full goes before NoMemory.
+    pub fn send(&mut self, message: Message) -> Result<MsgNo, (SendError, Message)>
+        requires { IsTrue (has_ends self.old.cores self.old.banks message) }
+        ensures number { IfOk result (λ number. number ≡ self.old.next) }
+        ensures after { OnOk result (self.new ≡ record self.old { next = self.old.next + 1; messages = self.old.messages ++ (self.old.next, message) ∷ []; room = self.new.room }) }
+        ensures room { OnOk result (self.old.room ≤ self.new.room + 1) }
+        ensures refused { OnErr result (self.new ≡ self.old) }
+        ensures returned { IfErr result (λ refusal. refusal.1 ≡ message) }
+        ensures full { has_place self.old ≡ false → result ≡ Err (SendError.Full, message) }
+        ensures not_full { IfErr result (λ refusal. refusal.0 ≡ SendError.Full → has_place self.old ≡ false) }
+        ensures had { 0 < self.old.room → IfErr result (λ refusal. refusal.0 ≡ SendError.Full) }
+    {
+        if self.count >= self.capacity {
+            return Err((SendError::Full, message));
+        }
+        if self.next == u64::MAX {
+            return Err((SendError::Full, message));
+        }
+        if reserve_slot(&mut self.slots).is_err() {
+            return Err((SendError::NoMemory, message));
+        }
+        let number = self.next;
+        self.slots.push_reserved((number, Some(message)));
+        self.next = number + 1;
+        self.count += 1;
+        Ok(MsgNo(number))
+    }
+
+    /// Takes the message with this number, if it is in flight. This takes no memory, and keeps the room.
+    pub fn take(&mut self, number: MsgNo) -> Option<Message>
+        ensures value { result ≡ at_number number self.old.messages }
+        ensures after { self.new ≡ record self.old { messages = without_number number self.old.messages; room = self.new.room } }
+        ensures room { self.old.room ≤ self.new.room }
+        ensures ends { IfSome result (λ message. IsTrue (has_ends self.old.cores self.old.banks message)) }
+    {
+        let message = take_message(&mut self.slots, number.0)?;
+        self.count -= 1;
+        drop_empty(&mut self.slots, self.count as usize);
+        Some(message)
+    }
+
+    /// The number of the first message, in the order of sending, from the one node to the other.
+    pub fn oldest(&self, from: Node, to: Node) -> Option<MsgNo>
+        ensures { result ≡ option_map (λ x. x.0) (first_message (is_between from to) self.now.messages) }
+    {
+        let (number, _) = first_wanted(&self.slots, &Wanted::Between(from, to))?;
+        Some(MsgNo(number))
+    }
+
+    /// The numbers of the messages in flight, rising.
+    pub fn numbers(&self) -> Result<Vec<MsgNo>, AllocError>
+        ensures { IfOk result (λ numbers. numbers.items ≡ map (λ x. x.0) self.now.messages) }
+    {
+        numbers_of(*self.slots.allocator(), &self.slots)
+    }
+
+    /// How many messages carry the line's right.
+    pub fn rights(&self, line: LineNo) -> usize
+        ensures { result ≡ count_messages (is_right_of line) self.now.messages }
+    {
+        count_wanted(&self.slots, &Wanted::RightOf(line))
+    }
+
+    /// The first message, in the order of sending, that carries the line's right.
+    pub fn right_of(&self, line: LineNo) -> Option<&Message>
+        ensures { option_copied result ≡ option_map (λ x. x.1) (first_message (is_right_of line) self.now.messages) }
+    {
+        let (_, message) = first_wanted(&self.slots, &Wanted::RightOf(line))?;
+        Some(message)
+    }
+
+    /// The first message, in the order of sending, that stores the line's words in DRAM.
+    pub fn store_of(&self, line: LineNo) -> Option<&Message>
+        ensures { option_copied result ≡ option_map (λ x. x.1) (first_message (is_store_of line) self.now.messages) }
+    {
+        let (_, message) = first_wanted(&self.slots, &Wanted::StoreOf(line))?;
+        Some(message)
     }
 }

@@ -1,12 +1,14 @@
 //! Slots of numbered messages in the order of sending, some of which are empty.
 ghost use Rattle.std.specs.Prelude.{◌≡◌, ◌+◌, ◌-◌, ◌<◌, ◌≤◌, ◌^◌, ℕ, Option, None, Some, IfSome, IfNone, option_copied, length, slice_get, slice_set, vec_capacity, vec_len};
-ghost use Rattle.std.specs.Prelude.{option_map};
+ghost use Rattle.std.specs.Prelude.{option_map, map, IfOk, OnOk, OnErr, IsOk, ◌++◌};
 ghost use Rattle.network.specs.Asked.{is_wanted};
 ghost use Rattle.network.specs.Rights.{first_message, count_messages, kept_if, with_message};
 ghost use Rattle.network.specs.Numbered.{IsRising, at_number, number_at, still_there, without_number};
 
 use crate::message::Message;
+use crate::numbers::MsgNo;
 use crate::wanted::Wanted;
+use std::alloc::{AllocError, Global};
 
 /// The number of a message, and the message until it is taken.
 pub(crate) type Slot = (u64, Option<Message>);
@@ -61,7 +63,11 @@ fn wanted_in<'a>(slot: &'a Slot, wanted: &Wanted) -> Option<&'a Message>
     ensures { option_copied result ≡ kept_if (is_wanted wanted.now) slot.now.1 }
 {
     let message = slot.1.as_ref()?;
-    if wanted.fits(message) { Some(message) } else { None }
+    if wanted.fits(message) {
+        Some(message)
+    } else {
+        None
+    }
 }
 
 /// The first message that is looked for, with its number, or `None` where there is none.
@@ -113,4 +119,41 @@ pub(crate) fn drop_empty(slots: &mut Vec<Slot>, count: usize)
     if slots.len() / 2 > count {
         slots.retain(|slot| slot.1.is_some());
     }
+}
+
+/// Takes the message with the number, if it is there.
+pub(crate) fn take_message(slots: &mut Vec<Slot>, number: u64) -> Option<Message>
+    requires { IsRising 0 slots.old.items (2 ^ 64) }
+    ensures value { result ≡ at_number number (still_there slots.old.items) }
+    ensures after { still_there slots.new.items ≡ without_number number (still_there slots.old.items) }
+    ensures rising { (high : ℕ) → IsRising 0 slots.old.items high → IsRising 0 slots.new.items high }
+    ensures len { vec_len slots.new ≡ vec_len slots.old }
+    ensures capacity { vec_capacity slots.new ≡ vec_capacity slots.old }
+{
+    let at = slot_of(slots, number)?;
+    empty_slot(slots, at, number)
+}
+
+/// Makes room for one more slot.
+pub(crate) fn reserve_slot(slots: &mut Vec<Slot>) -> Result<(), AllocError>
+    ensures items { slots.new.items ≡ slots.old.items }
+    ensures ok { OnOk result (vec_len slots.new < vec_capacity slots.new) }
+    ensures room { vec_capacity slots.old - vec_len slots.old ≤ vec_capacity slots.new - vec_len slots.new }
+    ensures same { OnErr result (vec_capacity slots.new - vec_len slots.new ≡ vec_capacity slots.old - vec_len slots.old) }
+    ensures had { 0 < vec_capacity slots.old - vec_len slots.old → IsOk result }
+{
+    slots.reserve(1)
+}
+
+/// The numbers of the slots that have their message, in their order.
+pub(crate) fn numbers_of(alloc: Global, slots: &[Slot]) -> Result<Vec<MsgNo>, AllocError>
+    ensures { IfOk result (λ numbers. numbers.items ≡ map (λ x. x.0) (still_there slots.now)) }
+{
+    let mut numbers = Vec::new(alloc);
+    for slot in slots {
+        if slot.1.is_some() {
+            numbers.push(MsgNo(slot.0))?;
+        }
+    }
+    Ok(numbers)
 }

@@ -51,7 +51,8 @@ impl Wanted {
         match *self {
             Wanted::Between(from, to) => message.from.is_same(from) && message.to.is_same(to),
             Wanted::RightOf(line) => message.line.0 == line.0 && message.body.carries_right(),
-            Wanted::StoreOf(line) => message.line.0 == line.0 && matches!(message.body, Body::DramSt(_)),
+            Wanted::StoreOf(line) => message.line.0 == line.0
+                && matches!(message.body, Body::DramSt(_)),
         }
     }
 }

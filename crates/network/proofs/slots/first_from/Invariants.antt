@@ -7,7 +7,7 @@ invariant-loop-low l = record {
   order : l.low ≤ l.high;
   within : l.high ≤ length l.slots;
   before : (k : ℕ) → k < l.low → number_at l.slots k < l.number;
-  after : (k : ℕ) → l.high ≤ k → k < length l.slots → l.number ≤ number_at l.slots k
+  after : (k : ℕ) → l.high ≤ k → k < length l.slots → l.number ≤ number_at l.slots k;
 }
 
 abbrev pub decreases-loop-low : goal.decreases-loop-low

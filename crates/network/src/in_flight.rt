@@ -183,3 +183,55 @@ impl InFlight {
         Some(message)
     }
 }
+
+#[cfg(test)]
+mod tests {
+    use super::*;
+    use crate::message::Body;
+    use crate::words::Words;
+    use std::test::Fail;
+
+    fn message(from: Node, to: Node, body: Body) -> Message
+        ensures { result ≡ record { from = from; to = to; line = 7; body = body } }
+    {
+        Message {
+            from,
+            to,
+            line: LineNo(7),
+            body,
+        }
+    }
+
+    // Three places: sends until there is none, takes one, sends again.
+    #[test]
+    fn keeps_messages_by_number(rt: HostRuntime) -> Result<(), Fail> {
+        let core = Node::Core(1);
+        let bank = Node::Bank(0);
+        let grant = message(bank, core, Body::UpgradeRep { rts: 11 });
+        let store = message(bank, Node::Dram(0), Body::DramSt(Words::zeros()));
+        let request = message(core, bank, Body::ExReq { version: None });
+        let mut flight = InFlight::new(rt.alloc(), 2, 1, 3);
+        assert!(rt; flight.reserve().is_ok());
+        assert_eq!(rt; flight.send(request), Ok(MsgNo(0)));
+        assert_eq!(rt; flight.send(grant), Ok(MsgNo(1)));
+        assert_eq!(rt; flight.send(store), Ok(MsgNo(2)));
+        assert!(rt; flight.has_number() && !flight.has_place());
+        assert_eq!(rt; flight.send(request), Err((SendError::Full, request)));
+        assert_eq!(rt; flight.rights(LineNo(7)), 1);
+        assert_eq!(rt; flight.right_of(LineNo(7)), Some(&grant));
+        assert_eq!(rt; flight.store_of(LineNo(7)), Some(&store));
+        assert_eq!(rt; flight.take(MsgNo(1)), Some(grant));
+        assert_eq!(rt; flight.take(MsgNo(1)), None);
+        assert_eq!(rt; flight.look(MsgNo(1)), None);
+        assert_eq!(rt; flight.look(MsgNo(2)), Some(&store));
+        assert_eq!(rt; flight.send(request), Ok(MsgNo(3)));
+        assert_eq!(rt; flight.oldest(core, bank), Some(MsgNo(0)));
+        assert_eq!(rt; flight.oldest(bank, core), None);
+        let numbers = flight.numbers()?;
+        assert_eq!(rt;
+            numbers.as_slice(),
+            [MsgNo(0), MsgNo(2), MsgNo(3)].as_slice()
+        );
+        Ok(())
+    }
+}

@@ -1,9 +1,9 @@
 -- What is true of the slots stays true.
-use Rattle.std.proofs.Common.{◌≡◌, ℕ, ◌+◌, ◌-◌, ◌<◌, ◌≤◌, ◌^◌, ◌++◌, List, [], ◌∷◌, length, length-append, Option, Some, None, IsTrue, sym, ap, subst, ◌∙◌, arith}
+use Rattle.std.proofs.Common.{◌≡◌, ℕ, ◌+◌, ◌-◌, ◌<◌, ◌^◌, ◌++◌, List, [], ◌∷◌, length-append, Option, Some, None, IsTrue, ap, ◌∙◌, arith}
 use Rattle.network.specs.declared.message.Message.{Message}
 use Rattle.network.specs.Flight.{IsKept}
 use Rattle.network.specs.Numbered.{IsRising, at_number, without_number, still_there}
-use Rattle.network.specs.Routes.{has_ends, AllHaveEnds}
+use Rattle.network.specs.Routes.{has_ends}
 use Rattle.network.proofs.Sending.{still_there-append, IsRising-append, without_number-none, length-without_number, AllHaveEnds-append, AllHaveEnds-without_number}
 
 pub IsKept-send : (cores banks capacity next count : ℕ) (m : Message) (old new : List (ℕ × Option Message)) → IsKept cores banks capacity next count old → new ≡ old ++ (next, Some m) ∷ [] → count < capacity → next + 1 < 2 ^ 64 → IsTrue (has_ends cores banks m) → IsKept cores banks capacity (next + 1) (count + 1) new

@@ -1,8 +1,8 @@
 -- Lists by rising number: what two places say of one another, and what has a number.
-use Rattle.std.proofs.Common.{◌≡◌, ℕ, zero, suc, ◌+◌, ◌<◌, ◌≤◌, ◌++◌, List, [], ◌∷◌, length, get_or, Option, Some, None, refl, sym, ap, ◌∙◌, inl, inr, ◌⊎◌, arith}
+use Rattle.std.proofs.Common.{◌≡◌, ℕ, zero, suc, ◌+◌, ◌<◌, ◌≤◌, List, [], ◌∷◌, length, get_or, Option, Some, None, refl, sym, ap, ◌∙◌, inl, inr, ◌⊎◌, arith}
 use Rattle.std.specs.Prelude.{slice_get}
 use Rattle.std.proofs.lemmas.Bool.Decides.{nat_tests}
-use Rattle.network.specs.Numbered.{IsRising, at_number, without_number, number_at, still_there, given}
+use Rattle.network.specs.Numbered.{IsRising, at_number, number_at, still_there, given}
 
 module _ {X : Type 0} where
   -- an element's number is the number at its index

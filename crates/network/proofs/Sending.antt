@@ -1,10 +1,10 @@
 -- What sending and taking do to the slots, and to what is still there.
-use Rattle.std.proofs.Common.{◌≡◌, ℕ, zero, suc, ◌+◌, ◌<◌, ◌≤◌, ◌++◌, List, [], ◌∷◌, length, filter, Bool, true, false, is_some, Option, Some, None, refl, sym, ap, ◌∙◌, subst, nat_eq, cond, IfSome, option_copied, Bor, arith}
+use Rattle.std.proofs.Common.{◌≡◌, ℕ, zero, suc, ◌+◌, ◌≤◌, ◌++◌, List, [], ◌∷◌, length, filter, Bool, true, false, is_some, Option, Some, None, refl, sym, ap, ◌∙◌, subst, nat_eq, cond, IfSome, option_copied, Bor, arith}
 use Rattle.std.specs.Prelude.{slice_get, slice_set, IsTrue}
 use Rattle.std.proofs.lemmas.Bool.Decides.{nat_tests}
 use Rattle.std.proofs.lemmas.Option.{slice_get_within}
 use Rattle.network.specs.declared.message.Message.{Message}
-use Rattle.network.specs.Numbered.{IsRising, at_number, without_number, number_at, still_there, given}
+use Rattle.network.specs.Numbered.{IsRising, at_number, without_number, still_there, given}
 use Rattle.network.specs.Routes.{has_ends, AllHaveEnds}
 use Rattle.network.proofs.Rising.{at_number-below, number_at-within, number_at-slice_get}
 
@@ -30,6 +30,15 @@ module _ {X : Type 0} where
   pub IsRising-lower : (low least high : ℕ) (xs : List (ℕ × X)) → IsRising low xs high → least ≤ low → IsRising least xs high
   IsRising-lower low least high [] rising h = omega arith
   IsRising-lower low least high (y ∷ ys) rising h = (omega (arith, rising.0), rising.1)
+
+  IsRising-given : (low high n : ℕ) (o : Option X) (xs : List (ℕ × X)) → low ≤ n → IsRising (n + 1) xs high → IsRising low (given n o xs) high
+  IsRising-given low high n None xs h rising = IsRising-lower (n + 1) low high xs rising (omega arith)
+  IsRising-given low high n (Some x) xs h rising = (h, rising)
+
+  -- the numbers of what is still there rise as those of the slots do
+  pub IsRising-still_there : (low high : ℕ) (xs : List (ℕ × Option X)) → IsRising low xs high → IsRising low (still_there xs) high
+  IsRising-still_there low high [] rising = rising
+  IsRising-still_there low high (y ∷ ys) rising = IsRising-given low high y.0 y.1 (still_there ys) rising.0 (IsRising-still_there (y.0 + 1) high ys rising.1)
 
   -- what stands beside the numbers doesn't matter to their rising
   pub IsRising-set : (low high k n : ℕ) (o x : X) (xs : List (ℕ × X)) → slice_get xs k ≡ Some (n, o) → IsRising low xs high → IsRising low (slice_set xs k (n, x)) high

@@ -1,6 +1,6 @@
 //! The messages in flight, by number.
-ghost use Rattle.std.specs.Prelude.{◌≡◌, ◌+◌, ◌<◌, ◌≤◌, ◌^◌, ◌++◌, ◌∷◌, [], false, IsTrue, IfOk, IfErr, IfSome, OnOk, OnErr, IsOk, Option, None, Some, option_copied, option_map, find, map};
-ghost use Rattle.network.specs.Numbered.{at_number, without_number};
+ghost use Rattle.std.specs.Prelude.{◌≡◌, ◌+◌, ◌<◌, ◌≤◌, ◌^◌, ◌++◌, ◌∷◌, [], false, IsTrue, IfOk, IfErr, IfSome, OnOk, OnErr, IsOk, Option, None, Some, option_copied, option_map, length, map};
+ghost use Rattle.network.specs.Numbered.{IsRising, at_number, without_number};
 ghost use Rattle.network.specs.Routes.{has_ends};
 ghost use Rattle.network.specs.Rights.{count_messages, first_message, is_between, is_right_of, is_store_of};
 ghost use Rattle.network.specs.Flight.{has_number, has_place};
@@ -77,9 +77,10 @@ impl InFlight {
         self.next < u64::MAX
     }
 
-    /// Whether there is a place for one more message.
+    /// Whether there is a place for one more message. Never are more in flight than may be.
     pub fn has_place(&self) -> bool
-        ensures { result ≡ has_place self.now }
+        ensures value { result ≡ has_place self.now }
+        ensures bound { length self.now.messages ≤ self.now.capacity }
     {
         self.count < self.capacity && self.next < u64::MAX
     }
@@ -155,7 +156,8 @@ impl InFlight {
 
     /// The numbers of the messages in flight, rising.
     pub fn numbers(&self) -> Result<Vec<MsgNo>, AllocError>
-        ensures { IfOk result (λ numbers. numbers.items ≡ map (λ x. x.0) self.now.messages) }
+        ensures numbers { IfOk result (λ numbers. numbers.items ≡ map (λ x. x.0) self.now.messages) }
+        ensures rising { IsRising 0 self.now.messages self.now.next }
     {
         numbers_of(*self.slots.allocator(), &self.slots)
     }

@@ -1,4 +1,4 @@
-use Rattle.std.proofs.Common.{◌≡◌, ◌^◌}
+use Rattle.std.proofs.Common.{◌^◌}
 use Rattle.network.proofs.Sending.{still_there-set, IsRising-set}
 use Rattle.network.proofs.slots.empty_slot.Goals as goal
 

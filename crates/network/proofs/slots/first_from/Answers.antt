@@ -1,5 +1,4 @@
-use Rattle.std.proofs.Common.{◌≡◌, ◌+◌, ◌-◌, ◌/◌, ◌<◌, ◌≤◌, arith, length}
-use Rattle.network.specs.Numbered.{number_at}
+use Rattle.std.proofs.Common.{arith}
 use Rattle.network.proofs.Rising.{passes_middle, stops_middle}
 use Rattle.network.proofs.slots.first_from.Goals as goal
 

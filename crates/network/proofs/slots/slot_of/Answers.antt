@@ -1,5 +1,4 @@
-use Rattle.std.proofs.Common.{◌≡◌, ◌^◌, ◌<◌, ◌∙◌, ℕ, ap, sym, arith, length}
-use Rattle.network.specs.Numbered.{number_at}
+use Rattle.std.proofs.Common.{◌^◌, ◌∙◌, sym, arith}
 use Rattle.network.proofs.Rising.{at_number-absent, slice_get-at_number, number_at-get_or}
 use Rattle.network.proofs.slots.slot_of.Goals as goal
 

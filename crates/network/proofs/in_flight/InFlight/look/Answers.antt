@@ -1,5 +1,4 @@
-use Rattle.std.proofs.Common.{◌≡◌, ◌^◌, ◌∙◌, ap, arith}
-use Rattle.network.specs.Numbered.{at_number}
+use Rattle.std.proofs.Common.{◌^◌, arith}
 use Rattle.network.proofs.Sending.{IsRising-higher, ends_if_seen}
 use Rattle.network.proofs.in_flight.InFlight.look.Goals as goal
 

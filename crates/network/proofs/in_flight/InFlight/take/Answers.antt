@@ -1,4 +1,4 @@
-use Rattle.std.proofs.Common.{◌≡◌, ◌^◌, sym, ◌∙◌, ap, arith}
+use Rattle.std.proofs.Common.{◌^◌, sym, ◌∙◌, arith}
 use Rattle.network.proofs.Keeping.{IsKept-none, IsKept-take}
 use Rattle.network.proofs.Sending.{IsRising-higher, AllHaveEnds-at_number}
 use Rattle.network.proofs.in_flight.InFlight.take.Goals as goal

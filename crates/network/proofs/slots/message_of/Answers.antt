@@ -1,2 +1,0 @@
-use Rattle.std.proofs.Common.{◌≡◌}
-use Rattle.network.proofs.slots.message_of.Goals as goal

@@ -1,0 +1,4 @@
+pub mod FlightLaws
+pub mod Keeping
+pub mod Rising
+pub mod Sending

@@ -2,11 +2,17 @@
 //! docs/PROTOCOL.md tells which message says what.
 #![tactic(auto)]
 
+pub mod ends;
+pub mod in_flight;
 pub mod message;
 pub mod numbers;
 pub mod part;
+mod slots;
+mod wanted;
 pub mod words;
 
+pub use ends::has_ends;
+pub use in_flight::{InFlight, SendError};
 pub use message::{Body, Message, Node, TimedLine};
 pub use numbers::{LineNo, MsgNo};
 pub use part::{Part, PartError, Reaction};

@@ -42,7 +42,8 @@ impl Words {
     /// Sets the word at an index below 8.
     pub fn set(&mut self, index: usize, value: u64)
         requires { index < 8 }
-        ensures { self.new ≡ slice_set self.old index value }
+        ensures after { self.new ≡ slice_set self.old index value }
+        ensures eight { length self.new ≡ 8 }
     {
         self.values[index] = value;
     }

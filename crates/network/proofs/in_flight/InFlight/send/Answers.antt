@@ -1,0 +1,16 @@
+use Rattle.std.proofs.Common.{◌≡◌, ◌++◌, ◌∷◌, [], Some, refl, ap, ◌∙◌, arith}
+use Rattle.network.proofs.Keeping.{IsKept-send}
+use Rattle.network.proofs.Sending.{still_there-append}
+use Rattle.network.specs.Numbered.{still_there}
+use Rattle.network.proofs.in_flight.InFlight.send.Goals as goal
+
+pub invariant_of-self-2 : goal.invariant_of-self-2
+invariant_of-self-2 c =
+    let pushed : c.push_reserved.new.self.items ≡ c.self.inside.slots.items ++ (c.self.inside.next, Some c.args.message) ∷ [] = rw (← c.reserve_slot.ensures.items) c.push_reserved.ensures.items in
+    IsKept-send c.self.inside.cores c.self.inside.banks c.self.inside.capacity c.self.inside.next c.self.inside.count c.args.message c.self.inside.slots.items c.push_reserved.new.self.items c.self.invariant pushed (omega arith) (omega arith) (rw (← c.self.view_is) at c.requires)
+
+pub returns-clause-after : goal.returns-clause-after
+returns-clause-after c =
+    let pushed : c.push_reserved.new.self.items ≡ c.self.inside.slots.items ++ (c.self.inside.next, Some c.args.message) ∷ [] = rw (← c.reserve_slot.ensures.items) c.push_reserved.ensures.items in
+    let there : still_there c.push_reserved.new.self.items ≡ still_there c.self.inside.slots.items ++ (c.self.inside.next, c.args.message) ∷ [] = ap still_there pushed ∙ still_there-append c.self.inside.next c.args.message c.self.inside.slots.items in
+    rw (← c.self.view_is) (rw there refl)

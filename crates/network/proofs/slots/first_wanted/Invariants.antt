@@ -1,0 +1,8 @@
+use Rattle.std.proofs.Common.{◌≡◌, drop}
+use Rattle.network.specs.Asked.{is_wanted}
+use Rattle.network.specs.Numbered.{still_there}
+use Rattle.network.specs.Rights.{first_message}
+use Rattle.network.proofs.slots.first_wanted.Given as goal
+
+abbrev pub invariant-loop-slot : goal.invariant-loop-slot
+invariant-loop-slot l = first_message (is_wanted l.wanted) (still_there (drop l.slot-index l.slots)) ≡ first_message (is_wanted l.wanted) (still_there l.slots)

@@ -1,0 +1,239 @@
+//! The messages in flight, by number.
+ghost use Rattle.std.specs.Prelude.{◌≡◌, ◌+◌, ◌<◌, ◌≤◌, ◌^◌, ◌++◌, ◌∷◌, [], false, IsTrue, IfOk, IfErr, IfSome, OnOk, OnErr, IsOk, Option, None, Some, option_copied, option_map, length, map};
+ghost use Rattle.network.specs.Numbered.{IsRising, at_number, without_number};
+ghost use Rattle.network.specs.Routes.{has_ends};
+ghost use Rattle.network.specs.Rights.{count_messages, first_message, is_between, is_right_of, is_store_of};
+ghost use Rattle.network.specs.Flight.{has_number, has_place};
+
+use crate::message::{Message, Node};
+use crate::numbers::{LineNo, MsgNo};
+use crate::slots::{
+    Slot, count_wanted, drop_empty, first_wanted, message_of, numbers_of, reserve_slot,
+    take_message,
+};
+use crate::wanted::Wanted;
+use std::alloc::{AllocError, Global};
+use std::marker::Model;
+
+/// Why a message was not sent.
+#[derive(Clone, Copy, Debug, PartialEq, Eq)]
+pub enum SendError {
+    /// 1: as many messages as may be are in flight, or the numbers are used up.
+    Full,
+    /// 2: a growth was refused.
+    NoMemory,
+}
+
+/// The messages in flight, each with the number that it got when it was sent. Contracts see the list of both by rising
+/// number, the number that the next one gets, and how many can be sent before memory is asked for.
+#[derive(Drop)]
+pub struct InFlight {
+    cores: u32,
+    banks: u32,
+    capacity: u32,
+    next: u64,
+    // how many slots still have their message
+    count: u32,
+    slots: Vec<Slot>,
+}
+
+impl Model for InFlight {
+    ghost use Rattle.std.specs.Prelude.{◌-◌, vec_capacity, vec_len};
+    ghost use Rattle.network.specs.Flight.{Flight, IsKept};
+    ghost use Rattle.network.specs.Numbered.{still_there};
+
+    ghost Value = { Flight };
+
+    ghost view = { λ a. record { cores = a.cores; banks = a.banks; capacity = a.capacity; next = a.next; messages = still_there a.slots.items; room = vec_capacity a.slots - vec_len a.slots } };
+
+    ghost invariant = { λ a. IsKept a.cores a.banks a.capacity a.next a.count a.slots.items };
+}
+
+impl InFlight {
+    /// No message in flight, of a machine with 1 to 64 cores and 1 to 8 banks, with room for 1 to 65,536 messages.
+    pub fn new(alloc: Global, cores: u32, banks: u32, capacity: u32) -> InFlight
+        requires some_cores { 1 ≤ cores }
+        requires cores_fit { cores ≤ 64 }
+        requires some_banks { 1 ≤ banks }
+        requires banks_fit { banks ≤ 8 }
+        requires some_capacity { 1 ≤ capacity }
+        requires capacity_fits { capacity ≤ 65536 }
+        ensures { result ≡ record { cores = cores; banks = banks; capacity = capacity; next = 0; messages = []; room = result.room } }
+    {
+        InFlight {
+            cores,
+            banks,
+            capacity,
+            next: 0,
+            count: 0,
+            slots: Vec::new(alloc),
+        }
+    }
+
+    /// Whether the numbers are not used up: the last one, 2^64 - 1, is given to no message.
+    pub fn has_number(&self) -> bool
+        ensures { result ≡ has_number self.now }
+    {
+        self.next < u64::MAX
+    }
+
+    /// Whether there is a place for one more message. Never are more in flight than may be.
+    pub fn has_place(&self) -> bool
+        ensures value { result ≡ has_place self.now }
+        ensures bound { length self.now.messages ≤ self.now.capacity }
+    {
+        self.count < self.capacity && self.next < u64::MAX
+    }
+
+    /// The message with this number, if it is in flight.
+    pub fn look(&self, number: MsgNo) -> Option<&Message>
+        ensures value { option_copied result ≡ at_number number self.now.messages }
+        ensures ends { IfSome result (λ message. IsTrue (has_ends self.now.cores self.now.banks message.now)) }
+    {
+        message_of(&self.slots, number.0)
+    }
+
+    /// Makes room for one more message, so that the next `send` is not refused for memory.
+    pub fn reserve(&mut self) -> Result<(), AllocError>
+        ensures after { self.new ≡ record self.old { room = self.new.room } }
+        ensures ok { OnOk result (0 < self.new.room) }
+        ensures room { self.old.room ≤ self.new.room }
+        ensures refused { OnErr result (self.new ≡ self.old) }
+        ensures had { 0 < self.old.room → IsOk result }
+    {
+        reserve_slot(&mut self.slots)
+    }
+
+    /// Sends a message, which has the ends of its kind: it gets the next number. Else the message is given back, and
+    /// nothing changes: Full goes before NoMemory.
+    pub fn send(&mut self, message: Message) -> Result<MsgNo, (SendError, Message)>
+        requires { IsTrue (has_ends self.old.cores self.old.banks message) }
+        ensures number { IfOk result (λ number. number ≡ self.old.next) }
+        ensures after { OnOk result (self.new ≡ record self.old { next = self.old.next + 1; messages = self.old.messages ++ (self.old.next, message) ∷ []; room = self.new.room }) }
+        ensures room { OnOk result (self.old.room ≤ self.new.room + 1) }
+        ensures refused { OnErr result (self.new ≡ self.old) }
+        ensures returned { IfErr result (λ refusal. refusal.1 ≡ message) }
+        ensures full { has_place self.old ≡ false → result ≡ Err (SendError.Full, message) }
+        ensures not_full { IfErr result (λ refusal. refusal.0 ≡ SendError.Full → has_place self.old ≡ false) }
+        ensures had { 0 < self.old.room → IfErr result (λ refusal. refusal.0 ≡ SendError.Full) }
+    {
+        if self.count >= self.capacity {
+            return Err((SendError::Full, message));
+        }
+        if self.next == u64::MAX {
+            return Err((SendError::Full, message));
+        }
+        if reserve_slot(&mut self.slots).is_err() {
+            return Err((SendError::NoMemory, message));
+        }
+        let number = self.next;
+        self.slots.push_reserved((number, Some(message)));
+        self.next = number + 1;
+        self.count += 1;
+        Ok(MsgNo(number))
+    }
+
+    /// Takes the message with this number, if it is in flight. This takes no memory, and keeps the room.
+    pub fn take(&mut self, number: MsgNo) -> Option<Message>
+        ensures value { result ≡ at_number number self.old.messages }
+        ensures after { self.new ≡ record self.old { messages = without_number number self.old.messages; room = self.new.room } }
+        ensures room { self.old.room ≤ self.new.room }
+        ensures ends { IfSome result (λ message. IsTrue (has_ends self.old.cores self.old.banks message)) }
+    {
+        let message = take_message(&mut self.slots, number.0)?;
+        self.count -= 1;
+        drop_empty(&mut self.slots, self.count as usize);
+        Some(message)
+    }
+
+    /// The number of the first message, in the order of sending, from the one node to the other.
+    pub fn oldest(&self, from: Node, to: Node) -> Option<MsgNo>
+        ensures { result ≡ option_map (λ x. x.0) (first_message (is_between from to) self.now.messages) }
+    {
+        let (number, _) = first_wanted(&self.slots, &Wanted::Between(from, to))?;
+        Some(MsgNo(number))
+    }
+
+    /// The numbers of the messages in flight, rising.
+    pub fn numbers(&self) -> Result<Vec<MsgNo>, AllocError>
+        ensures numbers { IfOk result (λ numbers. numbers.items ≡ map (λ x. x.0) self.now.messages) }
+        ensures rising { IsRising 0 self.now.messages self.now.next }
+    {
+        numbers_of(*self.slots.allocator(), &self.slots)
+    }
+
+    /// How many messages carry the line's right.
+    pub fn rights(&self, line: LineNo) -> usize
+        ensures { result ≡ count_messages (is_right_of line) self.now.messages }
+    {
+        count_wanted(&self.slots, &Wanted::RightOf(line))
+    }
+
+    /// The first message, in the order of sending, that carries the line's right.
+    pub fn right_of(&self, line: LineNo) -> Option<&Message>
+        ensures { option_copied result ≡ option_map (λ x. x.1) (first_message (is_right_of line) self.now.messages) }
+    {
+        let (_, message) = first_wanted(&self.slots, &Wanted::RightOf(line))?;
+        Some(message)
+    }
+
+    /// The first message, in the order of sending, that stores the line's words in DRAM.
+    pub fn store_of(&self, line: LineNo) -> Option<&Message>
+        ensures { option_copied result ≡ option_map (λ x. x.1) (first_message (is_store_of line) self.now.messages) }
+    {
+        let (_, message) = first_wanted(&self.slots, &Wanted::StoreOf(line))?;
+        Some(message)
+    }
+}
+
+#[cfg(test)]
+mod tests {
+    use super::*;
+    use crate::message::Body;
+    use crate::words::Words;
+    use std::test::Fail;
+
+    fn message(from: Node, to: Node, body: Body) -> Message
+        ensures { result ≡ record { from = from; to = to; line = 7; body = body } }
+    {
+        Message {
+            from,
+            to,
+            line: LineNo(7),
+            body,
+        }
+    }
+
+    // Three places: sends until there is none, takes one, sends again.
+    #[test]
+    fn keeps_messages_by_number(rt: HostRuntime) -> Result<(), Fail> {
+        let core = Node::Core(1);
+        let bank = Node::Bank(0);
+        let grant = message(bank, core, Body::UpgradeRep { rts: 11 });
+        let store = message(bank, Node::Dram(0), Body::DramSt(Words::zeros()));
+        let request = message(core, bank, Body::ExReq { version: None });
+        let mut flight = InFlight::new(rt.alloc(), 2, 1, 3);
+        assert!(rt; flight.reserve().is_ok());
+        assert_eq!(rt; flight.send(request), Ok(MsgNo(0)));
+        assert_eq!(rt; flight.send(grant), Ok(MsgNo(1)));
+        assert_eq!(rt; flight.send(store), Ok(MsgNo(2)));
+        assert!(rt; flight.has_number() && !flight.has_place());
+        assert_eq!(rt; flight.send(request), Err((SendError::Full, request)));
+        assert_eq!(rt; flight.rights(LineNo(7)), 1);
+        assert_eq!(rt; flight.right_of(LineNo(7)), Some(&grant));
+        assert_eq!(rt; flight.store_of(LineNo(7)), Some(&store));
+        assert_eq!(rt; flight.take(MsgNo(1)), Some(grant));
+        assert_eq!(rt; flight.take(MsgNo(1)), None);
+        assert_eq!(rt; flight.look(MsgNo(1)), None);
+        assert_eq!(rt; flight.look(MsgNo(2)), Some(&store));
+        assert_eq!(rt; flight.send(request), Ok(MsgNo(3)));
+        assert_eq!(rt; flight.oldest(core, bank), Some(MsgNo(0)));
+        assert_eq!(rt; flight.oldest(bank, core), None);
+        let numbers = flight.numbers()?;
+        assert_eq!(rt;
+            numbers.as_slice(),
+            [MsgNo(0), MsgNo(2), MsgNo(3)].as_slice()
+        );
+        Ok(())
+    }
+}

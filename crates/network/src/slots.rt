@@ -1,0 +1,158 @@
+//! Slots of numbered messages in the order of sending, some of which are empty.
+ghost use Rattle.std.specs.Prelude.{◌≡◌, ◌-◌, ◌<◌, ◌≤◌, ◌^◌, ℕ, None, Some, IfSome, IfNone, IfOk, OnOk, OnErr, IsOk, option_copied, option_map, length, map, slice_get, vec_capacity, vec_len};
+ghost use Rattle.network.specs.Asked.{is_wanted};
+ghost use Rattle.network.specs.Rights.{first_message, count_messages, kept_if, with_message};
+ghost use Rattle.network.specs.Numbered.{IsRising, at_number, number_at, still_there, without_number};
+
+use crate::message::Message;
+use crate::numbers::MsgNo;
+use crate::wanted::Wanted;
+use std::alloc::{AllocError, Global};
+
+/// The number of a message, and the message until it is taken.
+pub(crate) type Slot = (u64, Option<Message>);
+
+/// The first index whose slot's number is not below `number`, found by halving.
+pub(crate) fn first_from(slots: &[Slot], number: u64) -> usize
+    requires { IsRising 0 slots.now (2 ^ 64) }
+    ensures within { result ≤ length slots.now }
+    ensures before { (k : ℕ) → k < result → number_at slots.now k < number }
+    ensures after { (k : ℕ) → result ≤ k → k < length slots.now → number ≤ number_at slots.now k }
+{
+    let mut low = 0;
+    let mut high = slots.len();
+    while low < high {
+        let middle = low + (high - low) / 2;
+        if slots[middle].0 < number {
+            low = middle + 1;
+        } else {
+            high = middle;
+        }
+    }
+    low
+}
+
+/// The index of the slot with the number, or `None` where there is none.
+pub(crate) fn slot_of(slots: &[Slot], number: u64) -> Option<usize>
+    requires { IsRising 0 slots.now (2 ^ 64) }
+    ensures found { IfSome result (λ at. slice_get slots.now at ≡ Some (number, at_number number (still_there slots.now))) }
+    ensures absent { IfNone result (at_number number (still_there slots.now) ≡ None) }
+{
+    let at = first_from(slots, number);
+    if at >= slots.len() {
+        return None;
+    }
+    if slots[at].0 != number {
+        return None;
+    }
+    Some(at)
+}
+
+/// The message with the number, or `None` where there is none.
+pub(crate) fn message_of(slots: &[Slot], number: u64) -> Option<&Message>
+    requires { IsRising 0 slots.now (2 ^ 64) }
+    ensures { option_copied result ≡ at_number number (still_there slots.now) }
+{
+    let at = slot_of(slots, number)?;
+    slots[at].1.as_ref()
+}
+
+/// The slot's message, if it is still there and is one that is looked for.
+fn wanted_in<'a>(slot: &'a Slot, wanted: &Wanted) -> Option<&'a Message>
+    ensures { option_copied result ≡ kept_if (is_wanted wanted.now) slot.now.1 }
+{
+    let message = slot.1.as_ref()?;
+    if wanted.fits(message) {
+        Some(message)
+    } else {
+        None
+    }
+}
+
+/// The first message that is looked for, with its number, or `None` where there is none.
+pub(crate) fn first_wanted<'a>(slots: &'a [Slot], wanted: &Wanted) -> Option<(u64, &'a Message)>
+    ensures { option_map with_message result ≡ first_message (is_wanted wanted.now) (still_there slots.now) }
+{
+    for slot in slots {
+        if let Some(message) = wanted_in(slot, wanted) {
+            return Some((slot.0, message));
+        }
+    }
+    None
+}
+
+/// How many messages are looked for.
+pub(crate) fn count_wanted(slots: &[Slot], wanted: &Wanted) -> usize
+    ensures { result ≡ count_messages (is_wanted wanted.now) (still_there slots.now) }
+{
+    let mut count = 0;
+    for slot in slots {
+        if wanted_in(slot, wanted).is_some() {
+            count += 1;
+        }
+    }
+    count
+}
+
+/// Takes the message out of the slot at an index, which stays empty.
+pub(crate) fn empty_slot(slots: &mut Vec<Slot>, at: usize, number: u64) -> Option<Message>
+    requires rising { IsRising 0 slots.old.items (2 ^ 64) }
+    requires here { slice_get slots.old.items at ≡ Some (number, at_number number (still_there slots.old.items)) }
+    ensures value { result ≡ at_number number (still_there slots.old.items) }
+    ensures after { still_there slots.new.items ≡ without_number number (still_there slots.old.items) }
+    ensures rising { (high : ℕ) → IsRising 0 slots.old.items high → IsRising 0 slots.new.items high }
+    ensures len { vec_len slots.new ≡ vec_len slots.old }
+    ensures capacity { vec_capacity slots.new ≡ vec_capacity slots.old }
+{
+    let message = slots[at].1;
+    slots[at] = (number, None);
+    message
+}
+
+/// Drops the empty slots where they are more than the others.
+pub(crate) fn drop_empty(slots: &mut Vec<Slot>, count: usize)
+    ensures same { still_there slots.new.items ≡ still_there slots.old.items }
+    ensures rising { (high : ℕ) → IsRising 0 slots.old.items high → IsRising 0 slots.new.items high }
+    ensures room { vec_capacity slots.old - vec_len slots.old ≤ vec_capacity slots.new - vec_len slots.new }
+{
+    if slots.len() / 2 > count {
+        slots.retain(|slot| slot.1.is_some());
+    }
+}
+
+/// Takes the message with the number, if it is there.
+pub(crate) fn take_message(slots: &mut Vec<Slot>, number: u64) -> Option<Message>
+    requires { IsRising 0 slots.old.items (2 ^ 64) }
+    ensures value { result ≡ at_number number (still_there slots.old.items) }
+    ensures after { still_there slots.new.items ≡ without_number number (still_there slots.old.items) }
+    ensures rising { (high : ℕ) → IsRising 0 slots.old.items high → IsRising 0 slots.new.items high }
+    ensures len { vec_len slots.new ≡ vec_len slots.old }
+    ensures capacity { vec_capacity slots.new ≡ vec_capacity slots.old }
+{
+    let at = slot_of(slots, number)?;
+    empty_slot(slots, at, number)
+}
+
+/// Makes room for one more slot.
+pub(crate) fn reserve_slot(slots: &mut Vec<Slot>) -> Result<(), AllocError>
+    ensures items { slots.new.items ≡ slots.old.items }
+    ensures ok { OnOk result (vec_len slots.new < vec_capacity slots.new) }
+    ensures room { vec_capacity slots.old - vec_len slots.old ≤ vec_capacity slots.new - vec_len slots.new }
+    ensures same { OnErr result (vec_capacity slots.new - vec_len slots.new ≡ vec_capacity slots.old - vec_len slots.old) }
+    ensures had { 0 < vec_capacity slots.old - vec_len slots.old → IsOk result }
+{
+    slots.reserve(1)
+}
+
+/// The numbers of the slots that have their message, in their order.
+pub(crate) fn numbers_of(alloc: Global, slots: &[Slot]) -> Result<Vec<MsgNo>, AllocError>
+    ensures { IfOk result (λ numbers. numbers.items ≡ map (λ x. x.0) (still_there slots.now)) }
+{
+    let mut numbers = Vec::new(alloc);
+    for slot in slots {
+        if slot.1.is_some() {
+            numbers.push(MsgNo(slot.0))?;
+        }
+    }
+    Ok(numbers)
+}

@@ -1,0 +1,11 @@
+use Rattle.std.proofs.Common.{rules, ◌≡◌, ◌<◌, eqb, length, position, List, [], ◌∷◌, ◌++◌, Option, Some, None, slice_index_or, slice_set, sym, ap, ◌∙◌, arith}
+use Rattle.std.specs.Vec.{vec_len, vec_capacity}
+use Rattle.line_sets.specs.Order.{find, is_there, put_in_place, put_last, without, IsDistinct}
+use Rattle.line_sets.proofs.Places.{place, missing-find, missing-without, first-length, first-find, first-put_in_place, first-without, first-put_last}
+use Rattle.line_sets.proofs.entries.find_entry.Goals as goal
+
+pub returns-in-Some : goal.returns-in-Some
+returns-in-Some g c = let h = place c.args.entries.now c.args.line (Some c.in-Some.at) c.in-Some.ensures in sym (first-find c.args.entries.now c.args.line c.in-Some.at c.index-entries-at.result h)
+
+pub returns-in-None : goal.returns-in-None
+returns-in-None g c = sym (missing-find c.args.entries.now c.args.line (place c.args.entries.now c.args.line None c.in-None.ensures))

@@ -2,3 +2,6 @@
 #![tactic(auto)]
 
 mod entries;
+pub mod sets;
+
+pub use sets::LineSets;

@@ -50,12 +50,12 @@ ready-put {X} ways vs i v w line x all h is place e cap =
     let old : IsReady ways v = ready_of ways vs i v h is all in
     let at : set_at (entries_of vs) i ≡ v.items = entries_at vs i v below ∙ sym (ap (λ (u : Vec (ℕ × X)). u.items) is) in
     let fits : length (put_last v.items line x) ≤ ways =
-        ⊎_elim
-        (λ (there : is_there (set_at (entries_of vs) i) line ≡ true).
-        let here : is_there v.items line ≡ true = rw (← at) there in omega (arith, length-put_last_there v.items line x here, old.within))
-        (λ (room : ltb (length (set_at (entries_of vs) i)) ways ≡ true).
-        let lt : length v.items < ways = rw (← at) (ltb-true _ _ room) in omega (arith, length-put_last_le v.items line x))
-        (or_cases _ _ place) in
+    ⊎_elim
+    (λ (there : is_there (set_at (entries_of vs) i) line ≡ true).
+    let here : is_there v.items line ≡ true = rw (← at) there in omega (arith, length-put_last_there v.items line x here, old.within))
+    (λ (room : ltb (length (set_at (entries_of vs) i)) ways ≡ true).
+    let lt : length v.items < ways = rw (← at) (ltb-true _ _ room) in omega (arith, length-put_last_le v.items line x))
+    (or_cases _ _ place) in
     ready_set ways vs i w all (record {
       within = rw e fits;
       room = omega (arith, old.room, cap);
@@ -79,22 +79,3 @@ ready-drop_line {X} ways vs i v w line all h is e cap =
       room = omega (arith, old.room, cap);
       distinct = rw e (IsDistinct-without v.items line old.distinct);
     })
-
--- sets that are made one by one
-pub ready_push : {X : Type 0} (ways : ℕ) (vs : List (Vec (ℕ × X))) (v : Vec (ℕ × X)) → AllReady ways vs → v.items ≡ [] → vec_capacity v ≡ ways → AllReady ways (vs ++ v ∷ [])
-ready_push ways [] v all none cap = (record { within = rw none (omega arith); room = omega (arith, cap); distinct = rw none tt }, tt)
-ready_push ways (u ∷ vs) v all none cap = (all.0, ready_push ways vs v all.1 none cap)
-
-pub entries_push : {X : Type 0} (vs : List (Vec (ℕ × X))) (v : Vec (ℕ × X)) (n : ℕ) → entries_of vs ≡ replicate n [] → v.items ≡ [] → entries_of (vs ++ v ∷ []) ≡ replicate (n + 1) []
-entries_push {X} vs v n made none = pushed vs ∙ ap (λ (us : List (List (ℕ × X))). us ++ v.items ∷ []) made ∙ ap (λ (ps : List (ℕ × X)). replicate n [] ++ ps ∷ []) none ∙ more n
-  where
-    pushed : (us : List (Vec (ℕ × X))) → entries_of (us ++ v ∷ []) ≡ entries_of us ++ v.items ∷ []
-    pushed [] = refl
-    pushed (u ∷ us) = ap (λ (ps : List (List (ℕ × X))). u.items ∷ ps) (pushed us)
-
-    more_suc : (k : ℕ) → replicate k [] ++ [] ∷ [] ≡ replicate {A = List (ℕ × X)} (suc k) []
-    more_suc zero = refl
-    more_suc (suc k) = ap (λ (ps : List (List (ℕ × X))). [] ∷ ps) (more_suc k)
-
-    more : (k : ℕ) → replicate k [] ++ [] ∷ [] ≡ replicate {A = List (ℕ × X)} (k + 1) []
-    more k = rw add-one (more_suc k)

@@ -1,6 +1,6 @@
 -- One set: what is kept of each of its lines, in order of use, from the least recently used line to the most recently
 -- used one.
-use Rattle.std.specs.Prelude.{◌≡◌, ℕ, ◌==◌, Bool, false, List, [], ◌∷◌, ◌++◌, is_some, Option, Some, None, if◌then◌else◌}
+use Rattle.std.specs.Prelude.{◌≡◌, ℕ, ◌==◌, Bool, false, List, [], ◌∷◌, ◌++◌, map, filter, is_some, Option, Some, None, if◌then◌else◌}
 
 -- what is kept of a line
 abbrev pub find : {X : Type 0} → List (ℕ × X) → ℕ → Option X
@@ -30,7 +30,6 @@ abbrev pub IsDistinct : {X : Type 0} → List (ℕ × X) → Type 0
 IsDistinct [] = Unit {0}
 IsDistinct (p ∷ ps) = (is_there ps p.0 ≡ false) × IsDistinct ps
 
--- the lines, of values that a test passes
+-- the lines, in order of use, of values that a test passes
 abbrev pub listed : {X : Type 0} → (X → Bool) → List (ℕ × X) → List ℕ
-listed passes [] = []
-listed passes (p ∷ ps) = if passes p.1 then p.0 ∷ listed passes ps else listed passes ps
+listed passes ps = map (λ p. p.0) (filter (λ p. passes p.1) ps)

@@ -1,5 +1,6 @@
 -- A table of sets, each with as many ways. Which set a line belongs to is said by whoever uses the table.
 use Rattle.std.specs.Prelude.{◌≡◌, ℕ, ◌≤◌, nat_lt, Bool, ◌||◌, List, [], ◌++◌, ◌∷◌, length, replicate, Option, slice_index_or, slice_set}
+use Rattle.std.specs.List.{flat_map}
 use Rattle.line_sets.specs.Order.{find, without, put_last, put_in_place, is_there, listed}
 
 -- the sets by number, each in order of use
@@ -41,5 +42,4 @@ has_place table i line = is_there (set_at table.sets i) line || has_room table i
 
 -- the lines of all sets, set by set, of values that a test passes
 abbrev pub all_listed : {X : Type 0} → (X → Bool) → List (List (ℕ × X)) → List ℕ
-all_listed passes [] = []
-all_listed passes (set ∷ sets) = listed passes set ++ all_listed passes sets
+all_listed passes sets = flat_map (listed passes) sets

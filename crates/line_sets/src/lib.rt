@@ -2,6 +2,8 @@
 #![tactic(auto)]
 
 mod entries;
+pub mod listed;
 pub mod sets;
 
+pub use listed::Listed;
 pub use sets::LineSets;

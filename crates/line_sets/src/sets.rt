@@ -1,10 +1,12 @@
 //! A table of sets of lines in order of use, whose memory is all taken when it is made.
-ghost use Rattle.std.specs.Prelude.{◌≡◌, ◌<◌, ◌≤◌, IfOk, IsTrue, length};
+ghost use Rattle.std.specs.Prelude.{◌≡◌, ◌<◌, ◌≤◌, IfOk, IsPermutation, IsSorted, IsTrue, length};
 ghost use Rattle.std.specs.Option.{option_copied};
 ghost use Rattle.line_sets.specs.Order.{is_there, IsDistinct};
-ghost use Rattle.line_sets.specs.SetTable.{drop_line, empty_sets, has_place, has_room, look, put, put_within, set_at};
+ghost use Rattle.std.specs.Ordering.{nat_cmp};
+ghost use Rattle.line_sets.specs.SetTable.{all_listed, drop_line, empty_sets, has_place, has_room, look, put, put_within, set_at};
 
 use crate::entries::{find_entry, put_entry_last, remove_entry, replace_entry};
+use crate::listed::{Listed, push_listed};
 use std::alloc::{AllocError, Global};
 use std::marker::Model;
 
@@ -109,5 +111,64 @@ impl<V: Copy> LineSets<V> {
         ensures after { self.new ≡ record self.old { sets = drop_line self.old.sets set line } }
     {
         remove_entry(&mut self.sets[set], line)
+    }
+}
+
+impl<V: Copy + Listed> LineSets<V> {
+    /// The lines of all sets whose values are listed, rising.
+    pub fn lines(&self) -> Result<Vec<u64>, AllocError>
+        ensures lines { IfOk result (λ lines. IsPermutation (all_listed V.is_listed self.now.sets) lines.items) }
+        ensures rising { IfOk result (λ lines. IsSorted nat_cmp lines.items) }
+    {
+        let mut lines = Vec::new(*self.sets.allocator());
+        for entries in &self.sets {
+            push_listed(&mut lines, entries)?;
+        }
+        lines.sort_unstable();
+        Ok(lines)
+    }
+}
+
+#[cfg(test)]
+mod tests {
+    use super::*;
+
+    // A value; odd ones are listed.
+    #[derive(Clone, Copy, Debug, PartialEq, Eq)]
+    struct Mark(u64);
+
+    impl Listed for Mark {
+        ghost use Rattle.std.specs.Prelude.{◌==◌, ◌%◌};
+
+        ghost is_listed = { λ mark. mark.0 % 2 == 1 };
+
+        fn is_listed(&self) -> bool {
+            self.0 % 2 == 1
+        }
+    }
+
+    #[test]
+    fn keeps_the_order_of_use(rt: HostRuntime) -> Result<(), std::test::Fail> {
+        let mut table: LineSets<Mark> = LineSets::new(rt.alloc(), 2, 2)?;
+        assert_eq!(rt; table.sets(), 2);
+        assert_eq!(rt; table.ways(), 2);
+        assert!(rt; table.has_room(1));
+        table.insert(1, 9, Mark(1));
+        assert!(rt; table.has_room(1));
+        table.insert(1, 5, Mark(3));
+        assert!(rt; !table.has_room(1));
+        table.insert(0, 6, Mark(4));
+        assert_eq!(rt; table.contents(1), &[(9, Mark(1)), (5, Mark(3))]);
+        table.insert(1, 9, Mark(7));
+        assert_eq!(rt; table.contents(1), &[(5, Mark(3)), (9, Mark(7))]);
+        table.replace(1, 5, Mark(11));
+        assert_eq!(rt; table.contents(1), &[(5, Mark(11)), (9, Mark(7))]);
+        assert_eq!(rt; table.find(1, 9), Some(&Mark(7)));
+        assert_eq!(rt; table.find(0, 9), None);
+        assert_eq!(rt; table.lines()?.as_slice(), &[5, 9]);
+        assert_eq!(rt; table.remove(1, 5), Some(Mark(11)));
+        assert_eq!(rt; table.remove(1, 5), None);
+        assert_eq!(rt; table.contents(1), &[(9, Mark(7))]);
+        Ok(())
     }
 }

@@ -1,5 +1,5 @@
 -- What the place of a line in its set says of the definitions by recursion.
-use Rattle.std.proofs.Common.{◌≡◌, ℕ, zero, suc, ◌+◌, ◌<◌, Bool, true, false, cond, eqb, List, [], ◌∷◌, ◌++◌, length, get_or, set, take, drop, Option, Some, None, refl, sym, ap, ◌∙◌, arith, position}
+use Rattle.std.proofs.Common.{◌≡◌, ℕ, zero, suc, ◌+◌, ◌<◌, Bool, true, false, cond, eqb, List, [], ◌∷◌, ◌++◌, length, get_or, set, Option, Some, None, refl, sym, ap, ◌∙◌, arith, position}
 use Rattle.std.specs.Option.{is_some}
 use Rattle.std.specs.List.{position_from, remove}
 use Rattle.std.proofs.lemmas.Bool.{cond-true, cond-false, eqb-true}

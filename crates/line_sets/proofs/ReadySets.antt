@@ -1,11 +1,10 @@
 -- What a table of vectors keeps when one of them is changed.
-use Rattle.std.proofs.Common.{◌≡◌, ℕ, zero, suc, ◌+◌, ◌<◌, ◌≤◌, ◌++◌, add-one, ⊎_elim, Bool, true, false, ltb, ◌||◌, List, [], ◌∷◌, length, get_or, set, map, replicate, refl, sym, ap, ◌∙◌, arith, ◌⊎◌, inl, inr}
+use Rattle.std.proofs.Common.{◌≡◌, ℕ, zero, suc, ◌<◌, ◌≤◌, ⊎_elim, true, ltb, List, [], ◌∷◌, length, get_or, set, refl, sym, ap, ◌∙◌, arith}
 use Rattle.std.specs.Prelude.{vec_capacity}
 use Rattle.std.specs.Global.{Vec}
-use Rattle.std.specs.List.{AllByRecursion}
 use Rattle.std.proofs.lemmas.List.{map-set}
 use Rattle.std.proofs.lemmas.Bool.{or_cases, ltb-true}
-use Rattle.line_sets.specs.Order.{is_there, IsDistinct, put_last, put_in_place, without}
+use Rattle.line_sets.specs.Order.{is_there, put_last, put_in_place, without}
 use Rattle.line_sets.specs.SetTable.{Sets, set_at, has_place}
 use Rattle.line_sets.specs.Stored.{IsReady, AllReady, entries_of}
 use Rattle.line_sets.proofs.OrderLaws.{length-put_last_there, length-put_last_le, length-put_in_place, length-without_le, IsDistinct-put_last, IsDistinct-put_in_place, IsDistinct-without}

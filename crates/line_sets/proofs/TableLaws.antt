@@ -1,5 +1,5 @@
 -- Laws of a table of sets: look-ups and lengths after each change.
-use Rattle.std.proofs.Common.{◌≡◌, ◌≢◌, ℕ, ◌<◌, Bool, true, List, [], length, set, get_or, Option, Some, None, sym, ap, ◌∙◌, subst, ⊎_elim, get_or-set_same, get_or-set_other, length-set}
+use Rattle.std.proofs.Common.{◌≡◌, ◌≢◌, ℕ, ◌<◌, true, List, [], length, set, Some, None, sym, ap, ◌∙◌, subst, ⊎_elim, get_or-set_same, get_or-set_other, length-set}
 use Rattle.std.proofs.lemmas.Bool.{cases_eq}
 use Rattle.line_sets.specs.Order.{find, is_there, put_last, put_in_place, without}
 use Rattle.line_sets.specs.SetTable.{set_at, look, put, put_within, drop_line}

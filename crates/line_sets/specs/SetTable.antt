@@ -1,5 +1,5 @@
 -- A table of sets, each with as many ways. Which set a line belongs to is said by whoever uses the table.
-use Rattle.std.specs.Prelude.{◌≡◌, ℕ, ◌≤◌, nat_lt, Bool, ◌||◌, List, [], ◌++◌, ◌∷◌, length, replicate, Option, slice_index_or, slice_set}
+use Rattle.std.specs.Prelude.{ℕ, nat_lt, Bool, ◌||◌, List, [], length, replicate, Option, slice_index_or, slice_set}
 use Rattle.std.specs.List.{flat_map}
 use Rattle.line_sets.specs.Order.{find, without, put_last, put_in_place, is_there, listed}
 

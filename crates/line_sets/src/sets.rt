@@ -158,17 +158,17 @@ mod tests {
         table.insert(1, 5, Mark(3));
         assert!(rt; !table.has_room(1));
         table.insert(0, 6, Mark(4));
-        assert_eq!(rt; table.contents(1), &[(9, Mark(1)), (5, Mark(3))]);
+        assert_eq!(rt; table.contents(1), [(9, Mark(1)), (5, Mark(3))].as_slice());
         table.insert(1, 9, Mark(7));
-        assert_eq!(rt; table.contents(1), &[(5, Mark(3)), (9, Mark(7))]);
+        assert_eq!(rt; table.contents(1), [(5, Mark(3)), (9, Mark(7))].as_slice());
         table.replace(1, 5, Mark(11));
-        assert_eq!(rt; table.contents(1), &[(5, Mark(11)), (9, Mark(7))]);
+        assert_eq!(rt; table.contents(1), [(5, Mark(11)), (9, Mark(7))].as_slice());
         assert_eq!(rt; table.find(1, 9), Some(&Mark(7)));
         assert_eq!(rt; table.find(0, 9), None);
-        assert_eq!(rt; table.lines()?.as_slice(), &[5, 9]);
+        assert_eq!(rt; table.lines()?.as_slice(), [5, 9].as_slice());
         assert_eq!(rt; table.remove(1, 5), Some(Mark(11)));
         assert_eq!(rt; table.remove(1, 5), None);
-        assert_eq!(rt; table.contents(1), &[(9, Mark(7))]);
+        assert_eq!(rt; table.contents(1), [(9, Mark(7))].as_slice());
         Ok(())
     }
 }

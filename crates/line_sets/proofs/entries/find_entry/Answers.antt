@@ -1,7 +1,5 @@
-use Rattle.std.proofs.Common.{rules, ◌≡◌, ◌<◌, eqb, length, position, List, [], ◌∷◌, ◌++◌, Option, Some, None, slice_index_or, slice_set, sym, ap, ◌∙◌, arith}
-use Rattle.std.specs.Vec.{vec_len, vec_capacity}
-use Rattle.line_sets.specs.Order.{find, is_there, put_in_place, put_last, without, IsDistinct}
-use Rattle.line_sets.proofs.Places.{place, missing-find, missing-without, first-length, first-find, first-put_in_place, first-without, first-put_last}
+use Rattle.std.proofs.Common.{Some, None, sym}
+use Rattle.line_sets.proofs.Places.{place, missing-find, first-find}
 use Rattle.line_sets.proofs.entries.find_entry.Goals as goal
 
 pub returns-in-Some : goal.returns-in-Some

@@ -1,7 +1,5 @@
-use Rattle.std.proofs.Common.{rules, ◌≡◌, ◌<◌, length, List, [], ◌∷◌, ◌++◌, Option, Some, None, sym, ap, ◌∙◌, arith, ⊎_elim}
-use Rattle.std.specs.Vec.{vec_len, vec_capacity}
-use Rattle.line_sets.proofs.Places.{IsFirstAt, place, placed, missing-find, missing-without, first-length, first-find, first-put_in_place, first-without, first-put_last, found-removed, removed}
-use Rattle.line_sets.specs.Order.{is_there}
+use Rattle.std.proofs.Common.{Some, None, sym}
+use Rattle.line_sets.proofs.Places.{placed, missing-find, missing-without, found-removed, removed}
 use Rattle.line_sets.proofs.entries.remove_entry.Goals as goal
 
 pub returns-in_default-clause-value : goal.returns-in_default-clause-value

@@ -1,8 +1,7 @@
-use Rattle.std.proofs.Common.{rules, ◌≡◌, ◌<◌, length, List, [], ◌∷◌, ◌++◌, Option, Some, None, sym, ap, ◌∙◌, arith, ⊎_elim}
+use Rattle.std.proofs.Common.{◌≡◌, Some, None, sym, ◌∙◌}
 use Rattle.std.proofs.Common.{false}
 use Rattle.std.proofs.lemmas.Bool.{true≢false}
-use Rattle.std.specs.Vec.{vec_len, vec_capacity}
-use Rattle.line_sets.proofs.Places.{IsFirstAt, place, placed, missing-find, missing-without, first-length, first-find, first-put_in_place, first-without, first-put_last}
+use Rattle.line_sets.proofs.Places.{placed, first-put_in_place}
 use Rattle.line_sets.specs.Order.{is_there}
 use Rattle.line_sets.proofs.entries.replace_entry.Goals as goal
 

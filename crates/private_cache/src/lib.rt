@@ -1,13 +1,8 @@
-// A library with one function.
+//! The private cache of a core: sets of copies of lines in order of use.
 #![tactic(auto)]
 
-ghost use Rattle.std.specs.Prelude.{◌≡◌};
-ghost use Rattle.private_cache.specs.Echo.{echo_of};
+pub mod cache;
+pub mod line_copy;
 
-// The `ensures` clause is the contract: what `echo` returns is `echo_of` of its argument, a definition
-// in `specs/Echo.antt`, which a caller's clause can cite too.
-pub fn echo(x: usize) -> usize
-    ensures { result ≡ echo_of x }
-{
-    x
-}
+pub use cache::{Cache, CacheError, Geometry};
+pub use line_copy::{CopyState, LineCopy};

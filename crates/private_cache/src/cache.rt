@@ -210,9 +210,16 @@ impl Cache {
         ensures rising { IfOk result (λ lines. IsSorted nat_cmp lines.items) }
     {
         let lines = self.table.lines()?;
-        let alloc = *lines.allocator();
-        lines.into_iter().map(|line| LineNo(line)).collect(alloc)
+        line_numbers(lines)
     }
+}
+
+// Numbers as those of lines.
+fn line_numbers(numbers: Vec<u64>) -> Result<Vec<LineNo>, AllocError>
+    ensures { IfOk result (λ lines. lines.items ≡ numbers.items) }
+{
+    let alloc = *numbers.allocator();
+    numbers.into_iter().map(|number| LineNo(number)).collect(alloc)
 }
 
 // Whether a line is the pinned one.

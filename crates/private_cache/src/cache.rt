@@ -89,7 +89,12 @@ impl Cache {
 
     /// Takes in a line that arrives, not written yet and now the most recently used of its set. NoRoom exactly where
     /// there is no place for it.
-    pub fn fill(&mut self, line: LineNo, state: CopyState, timed: TimedLine) -> Result<(), CacheError>
+    pub fn fill(
+        &mut self,
+        line: LineNo,
+        state: CopyState,
+        timed: TimedLine,
+    ) -> Result<(), CacheError>
         ensures { (result, self.new) ≡ filled self.old line state timed (place_for self.old line) }
     {
         if !self.place(line) {
@@ -219,7 +224,10 @@ fn line_numbers(numbers: Vec<u64>) -> Result<Vec<LineNo>, AllocError>
     ensures { IfOk result (λ lines. lines.items ≡ numbers.items) }
 {
     let alloc = *numbers.allocator();
-    numbers.into_iter().map(|number| LineNo(number)).collect(alloc)
+    numbers
+        .into_iter()
+        .map(|number| LineNo(number))
+        .collect(alloc)
 }
 
 // Whether a line is the pinned one.
@@ -229,5 +237,90 @@ fn is_pinned(pinned: Option<LineNo>, line: LineNo) -> bool
     match pinned {
         Some(pinned) => pinned == line,
         None => false,
+    }
+}
+
+#[cfg(test)]
+mod tests {
+    use super::*;
+    use network::Words;
+
+    fn timed(wts: u64, rts: u64) -> TimedLine {
+        TimedLine {
+            wts,
+            rts,
+            words: Words::zeros(),
+        }
+    }
+
+    fn copy(state: CopyState, wts: u64, rts: u64, written: bool) -> LineCopy {
+        LineCopy {
+            state,
+            wts,
+            rts,
+            words: Words::zeros(),
+            written,
+        }
+    }
+
+    const X: LineNo = LineNo(3);
+
+    const Y: LineNo = LineNo(8);
+
+    const Z: LineNo = LineNo(5);
+
+    // One set of two ways, with X and then Y.
+    fn full(alloc: Global) -> Result<Cache, std::test::Fail> {
+        let mut cache = Cache::new(alloc, Geometry { sets: 1, ways: 2 })?;
+        let _x = cache.fill(X, CopyState::Shared, timed(1, 11));
+        let _y = cache.fill(Y, CopyState::Shared, timed(2, 12));
+        Ok(cache)
+    }
+
+    #[test]
+    fn a_full_set(rt: HostRuntime) -> Result<(), std::test::Fail> {
+        let mut cache = full(rt.alloc())?;
+        assert_eq!(rt;
+            cache.fill(Z, CopyState::Shared, timed(4, 4)),
+            Err(CacheError::NoRoom)
+        );
+        assert_eq!(rt; cache.victim(Z), Some(X));
+        assert_eq!(rt; cache.victim(Y), None);
+        assert!(rt; cache.place(Y));
+        assert_eq!(rt; cache.lines()?.as_slice(), [X, Y].as_slice());
+        let owned = copy(CopyState::Exclusive, 21, 21, true);
+        assert_eq!(rt; cache.complete(X, owned), Ok(()));
+        assert_eq!(rt; cache.victim(Z), Some(Y));
+        Ok(())
+    }
+
+    #[test]
+    fn grants(rt: HostRuntime) -> Result<(), std::test::Fail> {
+        let mut cache = full(rt.alloc())?;
+        assert_eq!(rt; cache.renew(X, 30), Ok(()));
+        assert_eq!(rt; cache.find(X), Some(&copy(CopyState::Shared, 1, 30, false)));
+        assert_eq!(rt; cache.upgrade(X, 41), Ok(()));
+        assert_eq!(rt;
+            cache.find(X),
+            Some(&copy(CopyState::Exclusive, 1, 41, false))
+        );
+        assert_eq!(rt; cache.downgrade(X, 50), Ok(()));
+        assert_eq!(rt; cache.find(X), Some(&copy(CopyState::Shared, 1, 50, false)));
+        assert_eq!(rt; cache.victim(Z), Some(X));
+        Ok(())
+    }
+
+    #[test]
+    fn evictions(rt: HostRuntime) -> Result<(), std::test::Fail> {
+        let mut cache = full(rt.alloc())?;
+        assert_eq!(rt; cache.evict(Z, Some(Z)), Err(CacheError::NotHere));
+        assert_eq!(rt; cache.evict(X, Some(X)), Err(CacheError::Pinned));
+        assert_eq!(rt;
+            cache.evict(Y, Some(X)),
+            Ok(copy(CopyState::Shared, 2, 12, false))
+        );
+        assert_eq!(rt; cache.find(Y), None);
+        assert!(rt; cache.place(Z));
+        Ok(())
     }
 }

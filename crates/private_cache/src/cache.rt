@@ -1,5 +1,5 @@
 //! A private cache, whose memory is all taken when it is made.
-ghost use Rattle.std.specs.Prelude.{◌≡◌, ◌≤◌, ◌<◌, length, IfOk, IsPermutation, IsSorted, IsSome, is_some, not, true};
+ghost use Rattle.std.specs.Prelude.{◌≡◌, ◌≤◌, ◌<◌, length, IfOk, IfSome, IsPermutation, IsSorted, IsSome, IsTrue, is_some, not, true};
 ghost use Rattle.std.specs.Ordering.{nat_cmp};
 ghost use Rattle.std.specs.Option.{option_copied};
 ghost use Rattle.line_sets.specs.SetTable.{all_listed, empty_sets};
@@ -39,19 +39,19 @@ pub struct Cache {
 }
 
 impl Model for Cache {
-    ghost use Rattle.std.specs.Prelude.{◌<◌, length};
     ghost use Rattle.line_sets.specs.SetTable.{Sets};
     ghost use Rattle.private_cache.specs.declared.line_copy.LineCopy.{LineCopy};
+    ghost use Rattle.private_cache.specs.OwnSets.{IsSound};
 
     ghost Value = { Sets LineCopy };
 
     ghost view = { λ cache. cache.table };
 
-    ghost invariant = { λ cache. (0 < length cache.table.sets) × (0 < cache.table.ways) };
+    ghost invariant = { λ cache. IsSound cache.table };
 }
 
 impl Cache {
-    ghost use Rattle.private_cache.specs.CopyTable.{changed, completed, copy_of, downgraded, evicted, filled, place_for, renewed, set_of, upgraded, victim_for, with_changed, with_used};
+    ghost use Rattle.private_cache.specs.CopyTable.{changed, completed, copy_of, downgraded, evicted, filled, place_for, renewed, set_of, upgraded, victim_for, with_changed, with_used, without_copy};
 
     /// A cache without copies. All memory is taken here, for all the copies that it can have.
     pub fn new(alloc: Global, geometry: Geometry) -> Result<Cache, AllocError>
@@ -201,6 +201,8 @@ impl Cache {
     pub fn victim(&self, line: LineNo) -> Option<LineNo>
         ensures line { result ≡ victim_for self.now line }
         ensures full { is_some result ≡ not (place_for self.now line) }
+        ensures there { IfSome result (λ victim. IsSome (copy_of self.now victim)) }
+        ensures makes_place { IfSome result (λ victim. IsTrue (place_for (without_copy self.now victim) line)) }
     {
         if self.place(line) {
             return None;

@@ -1,5 +1,5 @@
 -- What a cache keeps when a copy is put, changed or taken out, and that a victim makes a place.
-use Rattle.std.proofs.Common.{◌≡◌, ◌≢◌, ℕ, zero, suc, ◌<◌, ◌≤◌, ◌%◌, Bool, true, false, ltb, ◌||◌, List, [], ◌∷◌, length, replicate, Option, Some, None, refl, sym, ap, ◌∙◌, subst, arith, ⊎_elim, IsTrue}
+use Rattle.std.proofs.Common.{◌≡◌, ◌≢◌, ℕ, zero, suc, ◌<◌, ◌≤◌, ◌%◌, true, false, ltb, List, [], ◌∷◌, length, replicate, Some, None, refl, sym, ap, ◌∙◌, arith, ⊎_elim, IsTrue}
 use Rattle.std.specs.Option.{is_some}
 use Rattle.std.proofs.lemmas.List.{length-replicate}
 use Rattle.std.proofs.lemmas.Bool.{cases_eq, cond-true, eq-eqb, lt-ltb, or_right}
@@ -9,7 +9,7 @@ use Rattle.line_sets.specs.SetTable.{Sets, set_at, look, put, put_within, drop_l
 use Rattle.line_sets.proofs.OrderLaws.{length-without_there}
 use Rattle.line_sets.proofs.TableLaws.{set_at-set_same, look-put_other, look-put_other_set, look-put_within_other, look-put_within_other_set, look-drop_line_other, look-drop_line_other_set, length-put, length-put_within, length-drop_line}
 use Rattle.private_cache.specs.declared.line_copy.LineCopy.{LineCopy}
-use Rattle.private_cache.specs.CopyTable.{set_of, copy_of, place_for, with_used, with_changed, without_copy, first_line}
+use Rattle.private_cache.specs.CopyTable.{set_of, copy_of, place_for, without_copy, first_line}
 use Rattle.private_cache.specs.OwnSets.{InOwnSets, IsSound}
 
 -- a change of one line in its own set
@@ -36,9 +36,9 @@ sound-put cache new set line copy sound is e =
       some_sets = rw len sound.some_sets;
       some_ways = sound.some_ways;
       own_sets = own cache.sets (put cache.sets (set_of cache line) line copy) line len
-        (λ k j ne. look-put_other cache.sets (set_of cache line) line k j copy i ne)
-        (λ k j ne. look-put_other_set cache.sets (set_of cache line) line k j copy ne)
-        sound.own_sets;
+          (λ k j ne. look-put_other cache.sets (set_of cache line) line k j copy i ne)
+          (λ k j ne. look-put_other_set cache.sets (set_of cache line) line k j copy ne)
+          sound.own_sets;
     })
 
 pub sound-put_within : (cache new : Sets LineCopy) (set line : ℕ) (copy : LineCopy) → IsSound cache → set ≡ set_of cache line → new ≡ record cache { sets = put_within cache.sets set line copy } → IsSound new
@@ -49,9 +49,9 @@ sound-put_within cache new set line copy sound is e =
       some_sets = rw len sound.some_sets;
       some_ways = sound.some_ways;
       own_sets = own cache.sets (put_within cache.sets (set_of cache line) line copy) line len
-        (λ k j ne. look-put_within_other cache.sets (set_of cache line) line k j copy i ne)
-        (λ k j ne. look-put_within_other_set cache.sets (set_of cache line) line k j copy ne)
-        sound.own_sets;
+          (λ k j ne. look-put_within_other cache.sets (set_of cache line) line k j copy i ne)
+          (λ k j ne. look-put_within_other_set cache.sets (set_of cache line) line k j copy ne)
+          sound.own_sets;
     })
 
 pub sound-drop_line : (cache new : Sets LineCopy) (set line : ℕ) → IsSound cache → set ≡ set_of cache line → new ≡ record cache { sets = drop_line cache.sets set line } → IsSound new
@@ -62,9 +62,9 @@ sound-drop_line cache new set line sound is e =
       some_sets = rw len sound.some_sets;
       some_ways = sound.some_ways;
       own_sets = own cache.sets (drop_line cache.sets (set_of cache line) line) line len
-        (λ k j ne. look-drop_line_other cache.sets (set_of cache line) line k j i ne)
-        (λ k j ne. look-drop_line_other_set cache.sets (set_of cache line) line k j ne)
-        sound.own_sets;
+          (λ k j ne. look-drop_line_other cache.sets (set_of cache line) line k j i ne)
+          (λ k j ne. look-drop_line_other_set cache.sets (set_of cache line) line k j ne)
+          sound.own_sets;
     })
 
 -- a cache without copies
@@ -102,12 +102,12 @@ victim-place cache line victim sound fits e =
     let len : length (drop_line cache.sets (set_of cache victim) victim) ≡ length cache.sets = length-drop_line cache.sets (set_of cache victim) victim in
     let i : set_of cache line < length cache.sets = below line (length cache.sets) sound.some_sets in
     let at : set_at (drop_line cache.sets (set_of cache victim) victim) (set_of cache line) ≡ without (set_at cache.sets (set_of cache line)) victim =
-        rw same (set_at-set_same cache.sets (set_of cache line) (without (set_at cache.sets (set_of cache line)) victim) i) in
+    rw same (set_at-set_same cache.sets (set_of cache line) (without (set_at cache.sets (set_of cache line)) victim) i) in
     let less : length (without (set_at cache.sets (set_of cache line)) victim) < cache.ways =
-        omega (arith, length-without_there (set_at cache.sets (set_of cache line)) victim there) in
+    omega (arith, length-without_there (set_at cache.sets (set_of cache line)) victim there) in
     or_right (is_there (set_at (drop_line cache.sets (set_of cache victim) victim) (line % length (drop_line cache.sets (set_of cache victim) victim))) line)
-      (ltb (length (set_at (drop_line cache.sets (set_of cache victim) victim) (line % length (drop_line cache.sets (set_of cache victim) victim)))) cache.ways)
-      (rw (len, at) (lt-ltb (length (without (set_at cache.sets (set_of cache line)) victim)) cache.ways less))
+    (ltb (length (set_at (drop_line cache.sets (set_of cache victim) victim) (line % length (drop_line cache.sets (set_of cache victim) victim)))) cache.ways)
+    (rw (len, at) (lt-ltb (length (without (set_at cache.sets (set_of cache line)) victim)) cache.ways less))
 
 -- the first entry of a set
 pub first-line : (ps xs : List (ℕ × LineCopy)) (p : ℕ × LineCopy) → xs ≡ ps → Some p ≡ slice_get xs 0 → first_line ps ≡ Some p.0

@@ -1,0 +1,4 @@
+pub mod Places
+pub mod OrderLaws
+pub mod ReadySets
+pub mod TableLaws

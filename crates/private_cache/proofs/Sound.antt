@@ -1,0 +1,128 @@
+-- What a cache keeps when a copy is put, changed or taken out, and that a victim makes a place.
+use Rattle.std.proofs.Common.{◌≡◌, ◌≢◌, ℕ, zero, suc, ◌<◌, ◌≤◌, ◌%◌, true, false, ltb, List, [], ◌∷◌, length, replicate, Some, None, refl, sym, ap, ◌∙◌, arith, ⊎_elim, IsTrue}
+use Rattle.std.specs.Option.{is_some}
+use Rattle.std.proofs.lemmas.List.{length-replicate}
+use Rattle.std.proofs.lemmas.Bool.{cases_eq, cond-true, eq-eqb, lt-ltb, or_right}
+use Rattle.std.specs.List.{slice_get}
+use Rattle.line_sets.specs.Order.{is_there, find, without}
+use Rattle.line_sets.specs.SetTable.{Sets, set_at, look, put, put_within, drop_line, empty_sets}
+use Rattle.line_sets.proofs.OrderLaws.{length-without_there}
+use Rattle.line_sets.proofs.TableLaws.{set_at-set_same, look-put_other, look-put_other_set, look-put_within_other, look-put_within_other_set, look-drop_line_other, look-drop_line_other_set, length-put, length-put_within, length-drop_line}
+use Rattle.private_cache.specs.declared.line_copy.LineCopy.{LineCopy}
+use Rattle.private_cache.specs.CopyTable.{set_of, copy_of, place_for, without_copy, first_line}
+use Rattle.private_cache.specs.OwnSets.{InOwnSets, IsSound}
+
+-- a change of one line in its own set
+own : (sets new : List (List (ℕ × LineCopy))) (line : ℕ) → length new ≡ length sets → ((k j : ℕ) → j ≢ line → look new k j ≡ look sets k j) → ((k j : ℕ) → k ≢ line % length sets → look new k j ≡ look sets k j) → InOwnSets sets → InOwnSets new
+own sets new line len others other_sets h = λ k j there.
+    let as_before : look new k j ≡ look sets k j → j % length new ≡ k = λ same. rw len (h k j (sym (ap is_some same) ∙ there)) in
+    ⊎_elim
+    (λ (e : j ≡ line).
+    ⊎_elim
+    (λ (s : k ≡ line % length sets). rw (len, e) (sym s))
+    (λ (d : k ≡ line % length sets → ⊥). as_before (other_sets k j d))
+    (cases_eq k (line % length sets)))
+    (λ (d : j ≡ line → ⊥). as_before (others k j d))
+    (cases_eq j line)
+
+below : (line n : ℕ) → 0 < n → line % n < n
+below line n h = omega arith
+
+pub sound-put : (cache new : Sets LineCopy) (set line : ℕ) (copy : LineCopy) → IsSound cache → set ≡ set_of cache line → new ≡ record cache { sets = put cache.sets set line copy } → IsSound new
+sound-put cache new set line copy sound is e =
+    let i : line % length cache.sets < length cache.sets = below line (length cache.sets) sound.some_sets in
+    let len : length (put cache.sets (set_of cache line) line copy) ≡ length cache.sets = length-put cache.sets (set_of cache line) line copy in
+    rw (e, is) (record {
+      some_sets = rw len sound.some_sets;
+      some_ways = sound.some_ways;
+      own_sets = own cache.sets (put cache.sets (set_of cache line) line copy) line len
+          (λ k j ne. look-put_other cache.sets (set_of cache line) line k j copy i ne)
+          (λ k j ne. look-put_other_set cache.sets (set_of cache line) line k j copy ne)
+          sound.own_sets;
+    })
+
+pub sound-put_within : (cache new : Sets LineCopy) (set line : ℕ) (copy : LineCopy) → IsSound cache → set ≡ set_of cache line → new ≡ record cache { sets = put_within cache.sets set line copy } → IsSound new
+sound-put_within cache new set line copy sound is e =
+    let i : line % length cache.sets < length cache.sets = below line (length cache.sets) sound.some_sets in
+    let len : length (put_within cache.sets (set_of cache line) line copy) ≡ length cache.sets = length-put_within cache.sets (set_of cache line) line copy in
+    rw (e, is) (record {
+      some_sets = rw len sound.some_sets;
+      some_ways = sound.some_ways;
+      own_sets = own cache.sets (put_within cache.sets (set_of cache line) line copy) line len
+          (λ k j ne. look-put_within_other cache.sets (set_of cache line) line k j copy i ne)
+          (λ k j ne. look-put_within_other_set cache.sets (set_of cache line) line k j copy ne)
+          sound.own_sets;
+    })
+
+pub sound-drop_line : (cache new : Sets LineCopy) (set line : ℕ) → IsSound cache → set ≡ set_of cache line → new ≡ record cache { sets = drop_line cache.sets set line } → IsSound new
+sound-drop_line cache new set line sound is e =
+    let i : line % length cache.sets < length cache.sets = below line (length cache.sets) sound.some_sets in
+    let len : length (drop_line cache.sets (set_of cache line) line) ≡ length cache.sets = length-drop_line cache.sets (set_of cache line) line in
+    rw (e, is) (record {
+      some_sets = rw len sound.some_sets;
+      some_ways = sound.some_ways;
+      own_sets = own cache.sets (drop_line cache.sets (set_of cache line) line) line len
+          (λ k j ne. look-drop_line_other cache.sets (set_of cache line) line k j i ne)
+          (λ k j ne. look-drop_line_other_set cache.sets (set_of cache line) line k j ne)
+          sound.own_sets;
+    })
+
+-- a cache without copies
+empty_at : (n i : ℕ) → set_at {X = LineCopy} (replicate n []) i ≡ []
+empty_at zero i = refl
+empty_at (suc n) zero = refl
+empty_at (suc n) (suc i) = empty_at n i
+
+pub sound-empty : (new : Sets LineCopy) (sets ways : ℕ) → 0 < sets → 0 < ways → new ≡ empty_sets sets ways → IsSound new
+sound-empty new sets ways s w e =
+    rw e (record {
+      some_sets = rw (length-replicate {A = List (ℕ × LineCopy)} sets []) s;
+      some_ways = w;
+      own_sets = λ k j there. absurd (let z : false ≡ true = sym (ap (λ (ps : List (ℕ × LineCopy)). is_there ps j) (empty_at sets k)) ∙ there in cc);
+    })
+
+-- the first line of a set is there
+first-there : (ps : List (ℕ × LineCopy)) (line : ℕ) → first_line ps ≡ Some line → is_there ps line ≡ true
+first-there [] line e = cc
+first-there (p ∷ ps) line e =
+    let same : p.0 ≡ line = cc in
+    ap is_some (cond-true _ (Some p.1) (find ps line) (eq-eqb p.0 line same))
+
+-- a victim has a copy, and without it there is a place for the line
+pub victim-copy : (cache : Sets LineCopy) (line victim : ℕ) → IsSound cache → first_line (set_at cache.sets (set_of cache line)) ≡ Some victim → (set_of cache victim ≡ set_of cache line) × (is_some (copy_of cache victim) ≡ true)
+victim-copy cache line victim sound e =
+    let there : is_there (set_at cache.sets (set_of cache line)) victim ≡ true = first-there (set_at cache.sets (set_of cache line)) victim e in
+    let same : set_of cache victim ≡ set_of cache line = sound.own_sets (set_of cache line) victim there in
+    (same, rw same there)
+
+pub victim-place : (cache : Sets LineCopy) (line victim : ℕ) → IsSound cache → length (set_at cache.sets (set_of cache line)) ≤ cache.ways → first_line (set_at cache.sets (set_of cache line)) ≡ Some victim → IsTrue (place_for (without_copy cache victim) line)
+victim-place cache line victim sound fits e =
+    let there : is_there (set_at cache.sets (set_of cache line)) victim ≡ true = first-there (set_at cache.sets (set_of cache line)) victim e in
+    let same : set_of cache victim ≡ set_of cache line = sound.own_sets (set_of cache line) victim there in
+    let len : length (drop_line cache.sets (set_of cache victim) victim) ≡ length cache.sets = length-drop_line cache.sets (set_of cache victim) victim in
+    let i : set_of cache line < length cache.sets = below line (length cache.sets) sound.some_sets in
+    let at : set_at (drop_line cache.sets (set_of cache victim) victim) (set_of cache line) ≡ without (set_at cache.sets (set_of cache line)) victim =
+    rw same (set_at-set_same cache.sets (set_of cache line) (without (set_at cache.sets (set_of cache line)) victim) i) in
+    let less : length (without (set_at cache.sets (set_of cache line)) victim) < cache.ways =
+    omega (arith, length-without_there (set_at cache.sets (set_of cache line)) victim there) in
+    or_right (is_there (set_at (drop_line cache.sets (set_of cache victim) victim) (line % length (drop_line cache.sets (set_of cache victim) victim))) line)
+    (ltb (length (set_at (drop_line cache.sets (set_of cache victim) victim) (line % length (drop_line cache.sets (set_of cache victim) victim)))) cache.ways)
+    (rw (len, at) (lt-ltb (length (without (set_at cache.sets (set_of cache line)) victim)) cache.ways less))
+
+-- the first entry of a set
+pub first-line : (ps xs : List (ℕ × LineCopy)) (p : ℕ × LineCopy) → xs ≡ ps → Some p ≡ slice_get xs 0 → first_line ps ≡ Some p.0
+first-line [] xs p e h = let z : Some p ≡ None = h ∙ ap (λ (qs : List (ℕ × LineCopy)). slice_get qs 0) e in cc
+first-line (q ∷ ps) xs p e h = let z : Some p ≡ Some q = h ∙ ap (λ (qs : List (ℕ × LineCopy)). slice_get qs 0) e in cc
+
+-- the first entry of a full set, as the code reads it
+pub record IsVictim (cache : Sets LineCopy) (line victim : ℕ) : Type 0 where
+  pub there : is_some (copy_of cache victim) ≡ true
+  pub makes_place : IsTrue (place_for (without_copy cache victim) line)
+
+pub victim-first : (table cache : Sets LineCopy) (line set : ℕ) (xs : List (ℕ × LineCopy)) (p : ℕ × LineCopy) → table ≡ cache → IsSound table → set ≡ set_of cache line → xs ≡ set_at table.sets set → length xs ≤ table.ways → Some p ≡ slice_get xs 0 → IsVictim cache line p.0
+victim-first table cache line set xs p view sound number lines within read =
+    let sound_cache : IsSound cache = rw (← view) sound in
+    let same : xs ≡ set_at cache.sets (set_of cache line) = rw (← number, ← view) lines in
+    let fits : length (set_at cache.sets (set_of cache line)) ≤ cache.ways = rw (← same, ← view) within in
+    let first : first_line (set_at cache.sets (set_of cache line)) ≡ Some p.0 = first-line (set_at cache.sets (set_of cache line)) xs p same read in
+    record { there = (victim-copy cache line p.0 sound_cache first).1; makes_place = victim-place cache line p.0 sound_cache fits first }

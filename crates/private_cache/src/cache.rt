@@ -1,0 +1,328 @@
+//! A private cache, whose memory is all taken when it is made.
+ghost use Rattle.std.specs.Prelude.{◌≡◌, ◌≤◌, ◌<◌, length, IfOk, IfSome, IsPermutation, IsSorted, IsSome, IsTrue, is_some, not, true};
+ghost use Rattle.std.specs.Ordering.{nat_cmp};
+ghost use Rattle.std.specs.Option.{option_copied};
+ghost use Rattle.line_sets.specs.SetTable.{all_listed, empty_sets};
+ghost use Rattle.private_cache.specs.CopyTable.{is_pinned};
+
+use crate::line_copy::{CopyState, LineCopy};
+use line_sets::LineSets;
+use network::{LineNo, TimedLine};
+use std::alloc::{AllocError, Global};
+use std::marker::Model;
+
+/// The shape of a cache.
+#[derive(Clone, Copy, Debug, PartialEq, Eq)]
+pub struct Geometry {
+    /// The number of sets, 1 to 1,024.
+    pub sets: u32,
+    /// The most copies in a set, 1 to 16.
+    pub ways: u32,
+}
+
+/// Why a cache did nothing.
+#[derive(Clone, Copy, Debug, PartialEq, Eq)]
+pub enum CacheError {
+    /// 1: there is no copy of the line, and its set is full.
+    NoRoom,
+    /// 2: there is no copy of the line.
+    NotHere,
+    /// 3: the line is pinned by the open operation.
+    Pinned,
+}
+
+/// The copies of lines that a core has, by set: a line belongs to the set of its number over the number of sets.
+/// Contracts see the ways and the sets, each from the least recently used copy to the most recently used one.
+#[derive(Drop)]
+pub struct Cache {
+    table: LineSets<LineCopy>,
+}
+
+impl Model for Cache {
+    ghost use Rattle.line_sets.specs.SetTable.{Sets};
+    ghost use Rattle.private_cache.specs.declared.line_copy.LineCopy.{LineCopy};
+    ghost use Rattle.private_cache.specs.OwnSets.{IsSound};
+
+    ghost Value = { Sets LineCopy };
+
+    ghost view = { λ cache. cache.table };
+
+    ghost invariant = { λ cache. IsSound cache.table };
+}
+
+impl Cache {
+    ghost use Rattle.private_cache.specs.CopyTable.{changed, completed, copy_of, downgraded, evicted, filled, place_for, renewed, set_of, upgraded, victim_for, with_changed, with_used, without_copy};
+
+    /// A cache without copies. All memory is taken here, for all the copies that it can have.
+    pub fn new(alloc: Global, geometry: Geometry) -> Result<Cache, AllocError>
+        requires some_sets { 1 ≤ geometry.sets }
+        requires most_sets { geometry.sets ≤ 1024 }
+        requires some_ways { 1 ≤ geometry.ways }
+        requires most_ways { geometry.ways ≤ 16 }
+        ensures { IfOk result (λ cache. cache ≡ empty_sets geometry.sets geometry.ways) }
+    {
+        let table = LineSets::new(alloc, geometry.sets, geometry.ways)?;
+        Ok(Cache { table })
+    }
+
+    // The set that a line belongs to.
+    fn set_of(&self, line: LineNo) -> usize
+        ensures set { result ≡ set_of self.now line }
+        ensures below { result < length self.now.sets }
+    {
+        (line.0 % self.table.sets() as u64) as usize
+    }
+
+    /// The copy of a line.
+    pub fn find(&self, line: LineNo) -> Option<&LineCopy>
+        ensures { option_copied result ≡ copy_of self.now line }
+    {
+        self.table.find(self.set_of(line), line.0)
+    }
+
+    /// Whether there is a copy of the line, or room for one in its set.
+    pub fn place(&self, line: LineNo) -> bool
+        ensures { result ≡ place_for self.now line }
+    {
+        self.find(line).is_some() || self.table.has_room(self.set_of(line))
+    }
+
+    /// Takes in a line that arrives, not written yet and now the most recently used of its set. NoRoom exactly where
+    /// there is no place for it.
+    pub fn fill(
+        &mut self,
+        line: LineNo,
+        state: CopyState,
+        timed: TimedLine,
+    ) -> Result<(), CacheError>
+        ensures { (result, self.new) ≡ filled self.old line state timed (place_for self.old line) }
+    {
+        if !self.place(line) {
+            return Err(CacheError::NoRoom);
+        }
+        let copy = LineCopy {
+            state,
+            wts: timed.wts,
+            rts: timed.rts,
+            words: timed.words,
+            written: false,
+        };
+        let set = self.set_of(line);
+        self.table.insert(set, line.0, copy);
+        Ok(())
+    }
+
+    /// Leases the copy of a line up to a time. NotHere exactly where there is no copy.
+    pub fn renew(&mut self, line: LineNo, rts: u64) -> Result<(), CacheError>
+        ensures { (result, self.new) ≡ changed self.old line (renewed rts) (copy_of self.old line) }
+    {
+        let Some(copy) = self.find(line).copied() else {
+            return Err(CacheError::NotHere);
+        };
+        self.change(line, LineCopy { rts, ..copy });
+        Ok(())
+    }
+
+    /// Makes the copy of a line Exclusive, not written yet, which others may read up to a time. NotHere exactly where
+    /// there is no copy.
+    pub fn upgrade(&mut self, line: LineNo, rts: u64) -> Result<(), CacheError>
+        ensures { (result, self.new) ≡ changed self.old line (upgraded rts) (copy_of self.old line) }
+    {
+        let Some(copy) = self.find(line).copied() else {
+            return Err(CacheError::NotHere);
+        };
+        let upgraded = LineCopy {
+            state: CopyState::Exclusive,
+            rts,
+            written: false,
+            ..copy
+        };
+        self.change(line, upgraded);
+        Ok(())
+    }
+
+    /// Makes the copy of a line Shared, leased up to a time. NotHere exactly where there is no copy.
+    pub fn downgrade(&mut self, line: LineNo, rts: u64) -> Result<(), CacheError>
+        ensures { (result, self.new) ≡ changed self.old line (downgraded rts) (copy_of self.old line) }
+    {
+        let Some(copy) = self.find(line).copied() else {
+            return Err(CacheError::NotHere);
+        };
+        let downgraded = LineCopy {
+            state: CopyState::Shared,
+            rts,
+            written: false,
+            ..copy
+        };
+        self.change(line, downgraded);
+        Ok(())
+    }
+
+    // Changes the copy of a line that is there, and keeps the order of use.
+    fn change(&mut self, line: LineNo, copy: LineCopy)
+        requires { IsSome (copy_of self.old line) }
+        ensures { self.new ≡ with_changed self.old line copy }
+    {
+        let set = self.set_of(line);
+        self.table.replace(set, line.0, copy);
+    }
+
+    /// Leaves this copy of a line after an operation on it, and makes it the most recently used of its set. NotHere
+    /// exactly where there is no copy.
+    pub fn complete(&mut self, line: LineNo, after: LineCopy) -> Result<(), CacheError>
+        ensures { (result, self.new) ≡ completed self.old line after (copy_of self.old line) }
+    {
+        if self.find(line).is_none() {
+            return Err(CacheError::NotHere);
+        }
+        let set = self.set_of(line);
+        self.table.insert(set, line.0, after);
+        Ok(())
+    }
+
+    /// Takes out the copy of a line and gives it. NotHere exactly where there is no copy; else Pinned exactly where the
+    /// line is the pinned one.
+    pub fn evict(&mut self, line: LineNo, pinned: Option<LineNo>) -> Result<LineCopy, CacheError>
+        ensures { (result, self.new) ≡ evicted self.old line pinned (copy_of self.old line) }
+    {
+        let Some(copy) = self.find(line).copied() else {
+            return Err(CacheError::NotHere);
+        };
+        if is_pinned(pinned, line) {
+            return Err(CacheError::Pinned);
+        }
+        let set = self.set_of(line);
+        let _gone = self.table.remove(set, line.0);
+        Ok(copy)
+    }
+
+    /// The copy to evict to make room for a line: the least recently used one of its set, exactly where there is no
+    /// place for the line.
+    pub fn victim(&self, line: LineNo) -> Option<LineNo>
+        ensures line { result ≡ victim_for self.now line }
+        ensures full { is_some result ≡ not (place_for self.now line) }
+        ensures there { IfSome result (λ victim. IsSome (copy_of self.now victim)) }
+        ensures makes_place { IfSome result (λ victim. IsTrue (place_for (without_copy self.now victim) line)) }
+    {
+        if self.place(line) {
+            return None;
+        }
+        let (first, _) = self.table.contents(self.set_of(line)).first()?;
+        Some(LineNo(*first))
+    }
+
+    /// The lines of all copies, rising.
+    pub fn lines(&self) -> Result<Vec<LineNo>, AllocError>
+        ensures lines { IfOk result (λ lines. IsPermutation (all_listed (λ _. true) self.now.sets) lines.items) }
+        ensures rising { IfOk result (λ lines. IsSorted nat_cmp lines.items) }
+    {
+        let lines = self.table.lines()?;
+        line_numbers(lines)
+    }
+}
+
+// Numbers as those of lines.
+fn line_numbers(numbers: Vec<u64>) -> Result<Vec<LineNo>, AllocError>
+    ensures { IfOk result (λ lines. lines.items ≡ numbers.items) }
+{
+    let alloc = *numbers.allocator();
+    numbers
+        .into_iter()
+        .map(|number| LineNo(number))
+        .collect(alloc)
+}
+
+// Whether a line is the pinned one.
+fn is_pinned(pinned: Option<LineNo>, line: LineNo) -> bool
+    ensures { result ≡ is_pinned pinned line }
+{
+    match pinned {
+        Some(pinned) => pinned == line,
+        None => false,
+    }
+}
+
+#[cfg(test)]
+mod tests {
+    use super::*;
+    use network::Words;
+
+    fn timed(wts: u64, rts: u64) -> TimedLine {
+        TimedLine {
+            wts,
+            rts,
+            words: Words::zeros(),
+        }
+    }
+
+    fn copy(state: CopyState, wts: u64, rts: u64, written: bool) -> LineCopy {
+        LineCopy {
+            state,
+            wts,
+            rts,
+            words: Words::zeros(),
+            written,
+        }
+    }
+
+    const X: LineNo = LineNo(3);
+
+    const Y: LineNo = LineNo(8);
+
+    const Z: LineNo = LineNo(5);
+
+    // One set of two ways, with X and then Y.
+    fn full(alloc: Global) -> Result<Cache, std::test::Fail> {
+        let mut cache = Cache::new(alloc, Geometry { sets: 1, ways: 2 })?;
+        let _x = cache.fill(X, CopyState::Shared, timed(1, 11));
+        let _y = cache.fill(Y, CopyState::Shared, timed(2, 12));
+        Ok(cache)
+    }
+
+    #[test]
+    fn a_full_set(rt: HostRuntime) -> Result<(), std::test::Fail> {
+        let mut cache = full(rt.alloc())?;
+        assert_eq!(rt;
+            cache.fill(Z, CopyState::Shared, timed(4, 4)),
+            Err(CacheError::NoRoom)
+        );
+        assert_eq!(rt; cache.victim(Z), Some(X));
+        assert_eq!(rt; cache.victim(Y), None);
+        assert!(rt; cache.place(Y));
+        assert_eq!(rt; cache.lines()?.as_slice(), [X, Y].as_slice());
+        let owned = copy(CopyState::Exclusive, 21, 21, true);
+        assert_eq!(rt; cache.complete(X, owned), Ok(()));
+        assert_eq!(rt; cache.victim(Z), Some(Y));
+        Ok(())
+    }
+
+    #[test]
+    fn grants(rt: HostRuntime) -> Result<(), std::test::Fail> {
+        let mut cache = full(rt.alloc())?;
+        assert_eq!(rt; cache.renew(X, 30), Ok(()));
+        assert_eq!(rt; cache.find(X), Some(&copy(CopyState::Shared, 1, 30, false)));
+        assert_eq!(rt; cache.upgrade(X, 41), Ok(()));
+        assert_eq!(rt;
+            cache.find(X),
+            Some(&copy(CopyState::Exclusive, 1, 41, false))
+        );
+        assert_eq!(rt; cache.downgrade(X, 50), Ok(()));
+        assert_eq!(rt; cache.find(X), Some(&copy(CopyState::Shared, 1, 50, false)));
+        assert_eq!(rt; cache.victim(Z), Some(X));
+        Ok(())
+    }
+
+    #[test]
+    fn evictions(rt: HostRuntime) -> Result<(), std::test::Fail> {
+        let mut cache = full(rt.alloc())?;
+        assert_eq!(rt; cache.evict(Z, Some(Z)), Err(CacheError::NotHere));
+        assert_eq!(rt; cache.evict(X, Some(X)), Err(CacheError::Pinned));
+        assert_eq!(rt;
+            cache.evict(Y, Some(X)),
+            Ok(copy(CopyState::Shared, 2, 12, false))
+        );
+        assert_eq!(rt; cache.find(Y), None);
+        assert!(rt; cache.place(Z));
+        Ok(())
+    }
+}

@@ -1,0 +1,8 @@
+use Rattle.timestamp_manager.proofs.Given.{covers, never}
+use Rattle.timestamp_manager.proofs.laws.shared_leases_cover.Goals as goal
+
+pub returns-clause-covers : goal.returns-clause-covers
+returns-clause-covers c = λ wts rts pts lease version given h. covers _ _ wts rts pts lease given h
+
+pub returns-clause-absent : goal.returns-clause-absent
+returns-clause-absent c = λ wts rts pts lease given h. never _ _ given h

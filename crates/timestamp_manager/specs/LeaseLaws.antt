@@ -1,0 +1,25 @@
+-- What every lease that is given keeps.
+use Rattle.std.specs.Prelude.{◌≡◌, ℕ, ◌+◌, ◌≤◌, Bool, false, Option, Some, None}
+use Rattle.timestamp_manager.specs.Lease.{shared_lease, returned_lease}
+
+-- a line's lease never falls, and covers a whole lease from the last write and from the reader's time
+pub record Covers (wts rts pts lease given : ℕ) : Type 0 where
+  pub before : rts ≤ given
+  pub from_write : wts + lease ≤ given
+  pub from_reader : pts + lease ≤ given
+
+abbrev pub SharedLeaseCovers : Type 0
+SharedLeaseCovers = (wts rts pts lease : ℕ) (version : Option ℕ) (given : ℕ × Bool) → shared_lease wts rts pts version lease ≡ Some given → Covers wts rts pts lease given.0
+
+-- a reader without a copy is always sent the words
+abbrev pub AbsentNeverRenews : Type 0
+AbsentNeverRenews = (wts rts pts lease : ℕ) (given : ℕ × Bool) → shared_lease wts rts pts None lease ≡ Some given → given.1 ≡ false
+
+-- the lease of a line that is given back never falls, and covers a whole lease from the last write and the time asked for
+pub record Reaches (wts rts until lease given : ℕ) : Type 0 where
+  pub before : rts ≤ given
+  pub from_write : wts + lease ≤ given
+  pub asked : until ≤ given
+
+abbrev pub ReturnedLeaseReaches : Type 0
+ReturnedLeaseReaches = (wts rts until lease given : ℕ) → returned_lease wts rts until lease ≡ Some given → Reaches wts rts until lease given

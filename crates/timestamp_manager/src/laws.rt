@@ -1,0 +1,15 @@
+//! Laws of leases. The functions do nothing: their contracts are the laws.
+ghost use Rattle.timestamp_manager.specs.LeaseLaws.{AbsentNeverRenews, ReturnedLeaseReaches, SharedLeaseCovers};
+
+/// A lease never falls, and covers a whole lease from the last write and from the reader's time; a reader without a
+/// copy is never answered by a renewal.
+pub fn shared_leases_cover()
+    ensures covers { SharedLeaseCovers }
+    ensures absent { AbsentNeverRenews }
+{}
+
+/// The lease of a line that is given back never falls, and covers a whole lease from the last write and the time that
+/// was asked for.
+pub fn returned_leases_reach()
+    ensures { ReturnedLeaseReaches }
+{}

@@ -1,0 +1,96 @@
+//! How far a line's lease goes when it is asked for or given back, and what a requester must be sent.
+ghost use Rattle.std.specs.Prelude.{◌≡◌, ◌+◌};
+ghost use Rattle.std.specs.Result.{result_ok};
+ghost use Rattle.timestamp_manager.specs.Lease.{if_fits, is_version, returned_lease, shared_lease};
+
+/// A sum of times does not fit 64 bits.
+#[derive(Clone, Copy, Debug, PartialEq, Eq)]
+pub struct Exhausted;
+
+/// A request to read a line written at `wts` and leased to `rts`, by a reader at time `pts` that has the copy of this
+/// version, or none. Answers the time to which the line is leased then, the latest of `rts`, `wts + lease` and
+/// `pts + lease`, and whether that alone renews the reader's copy, which has the line's version.
+///
+/// Exhausted exactly where `wts + lease` or `pts + lease` does not fit.
+pub fn on_shared(
+    wts: u64,
+    rts: u64,
+    pts: u64,
+    version: Option<u64>,
+    lease: u64,
+) -> Result<(u64, bool), Exhausted>
+    ensures { result_ok result ≡ shared_lease wts rts pts version lease }
+{
+    let from_write = later(wts, lease)?;
+    let from_reader = later(pts, lease)?;
+    let renews = on_exclusive(wts, version);
+    Ok((rts.max(from_write).max(from_reader), renews))
+}
+
+/// A request to own a line written at `wts`, by a core that has the copy of this version, or none: whether the copy
+/// has the line's words, so that the grant alone is sent.
+pub fn on_exclusive(wts: u64, version: Option<u64>) -> bool
+    ensures { result ≡ is_version wts version }
+{
+    match version {
+        Some(version) => version == wts,
+        None => false,
+    }
+}
+
+/// The time to which an owner is asked to lease its line when a reader at time `pts` wants it: `pts + lease`.
+///
+/// Exhausted exactly where the sum does not fit.
+pub fn recall_until(pts: u64, lease: u64) -> Result<u64, Exhausted>
+    ensures { result_ok result ≡ if_fits (pts + lease) }
+{
+    later(pts, lease)
+}
+
+/// An owner gives back a line written at `wts` and leased to `rts`, and is asked to lease it at least to `until`: the
+/// time to which its copy may be read from now on, the latest of `rts`, `wts + lease` and `until`.
+///
+/// Exhausted exactly where `wts + lease` does not fit.
+pub fn downgrade(wts: u64, rts: u64, until: u64, lease: u64) -> Result<u64, Exhausted>
+    ensures { result_ok result ≡ returned_lease wts rts until lease }
+{
+    let from_write = later(wts, lease)?;
+    Ok(rts.max(from_write).max(until))
+}
+
+// The end of a lease that begins at a time.
+fn later(time: u64, lease: u64) -> Result<u64, Exhausted>
+    ensures { result_ok result ≡ if_fits (time + lease) }
+{
+    match time.checked_add(lease) {
+        Some(end) => Ok(end),
+        None => Err(Exhausted),
+    }
+}
+
+#[cfg(test)]
+mod tests {
+    use super::*;
+    use crate::laws::{returned_leases_reach, shared_leases_cover};
+
+    #[test]
+    fn decides_by_hand(rt: HostRuntime) -> Result<(), std::test::Fail> {
+        assert_eq!(rt; on_shared(3, 5, 7, None, 10), Ok((17, false)));
+        assert_eq!(rt; on_shared(3, 40, 7, Some(3), 10), Ok((40, true)));
+        assert_eq!(rt; on_shared(9, 9, 7, Some(3), 10), Ok((19, false)));
+        assert_eq!(rt;
+            on_shared(0, 0, u64::MAX - 10, None, 10),
+            Ok((u64::MAX, false))
+        );
+        assert_eq!(rt; on_shared(0, 0, u64::MAX - 9, None, 10), Err(Exhausted));
+        assert!(rt; on_exclusive(4, Some(4)));
+        assert!(rt; !on_exclusive(0, None));
+        assert_eq!(rt; recall_until(7, 10), Ok(17));
+        assert_eq!(rt; recall_until(u64::MAX, 1), Err(Exhausted));
+        assert_eq!(rt; downgrade(3, 5, 30, 10), Ok(30));
+        assert_eq!(rt; downgrade(u64::MAX, u64::MAX, 3, 1), Err(Exhausted));
+        shared_leases_cover();
+        returned_leases_reach();
+        Ok(())
+    }
+}

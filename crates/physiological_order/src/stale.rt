@@ -32,18 +32,18 @@ pub fn stale_hits(alloc: Global, records: &[Record]) -> Result<u64, AllocError>
 }
 
 /// Whether the record is a load with a later write of its word before it; a write is kept as the latest of its word.
-fn visit(latest: &mut NumberMap<u64>, record: &Record) -> Result<bool, AllocError>
-    ensures stale { IfOk result (λ stale. stale ≡ stale_by latest.old record.now.op record.now.ts) }
-    ensures kept { OnOk result (latest.new ≡ latest_after latest.old record.now.op record.now.ts) }
+fn visit(latest: &mut NumberMap<u64>, visited: &Record) -> Result<bool, AllocError>
+    ensures stale { IfOk result (λ stale. stale ≡ stale_by latest.old visited.now.op visited.now.ts) }
+    ensures kept { OnOk result (latest.new ≡ latest_after latest.old visited.now.op visited.now.ts) }
 {
-    match record.op {
-        Op::Load(addr) => Ok(is_later(latest.get(addr.word()), record.ts)),
+    match visited.op {
+        Op::Load(addr) => Ok(is_later(latest.get(addr.word()), visited.ts)),
         Op::Store(addr, _) => {
-            raise(latest, addr.word(), record.ts)?;
+            raise(latest, addr.word(), visited.ts)?;
             Ok(false)
         }
         Op::Swap(addr, _) => {
-            raise(latest, addr.word(), record.ts)?;
+            raise(latest, addr.word(), visited.ts)?;
             Ok(false)
         }
     }

@@ -33,16 +33,16 @@ pub fn walk(
 }
 
 /// Whether the record is the next of its core's issued list, where this many of each core's were before.
-fn is_next(issued: &[Vec<Op>], places: &[u64], record: &Record) -> bool
+fn is_next(issued: &[Vec<Op>], places: &[u64], candidate: &Record) -> bool
     requires { length places.now ≡ length issued.now }
-    ensures { IsTrue result ↔ IsNext issued.now places.now record.now }
+    ensures { IsTrue result ↔ IsNext issued.now places.now candidate.now }
 {
-    let Some(operations) = issued.get(record.core as usize) else {
+    let Some(operations) = issued.get(candidate.core as usize) else {
         return false;
     };
-    let is_place = places[record.core as usize] == u64::from(record.place);
-    match operations.get(record.place as usize) {
-        Some(operation) => is_place && *operation == record.op,
+    let is_place = places[candidate.core as usize] == u64::from(candidate.place);
+    match operations.get(candidate.place as usize) {
+        Some(operation) => is_place && *operation == candidate.op,
         None => false,
     }
 }

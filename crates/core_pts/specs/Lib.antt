@@ -1,0 +1,2 @@
+pub mod CoreTable
+pub mod OnCopy

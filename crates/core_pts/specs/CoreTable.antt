@@ -10,12 +10,14 @@ use Rattle.network.specs.declared.message.Body.TheVariants.{ShRep, ExRep, RenewR
 use Rattle.network.specs.declared.message.Message.{Message}
 use Rattle.network.specs.declared.part.Reaction.{Reaction}
 use Rattle.network.specs.declared.part.Reaction.TheVariants.{Done, Dropped, Held}
-use Rattle.line_sets.specs.SetTable.{Sets}
+use Rattle.line_sets.specs.SetTable.{Sets, empty_sets}
 use Rattle.private_cache.specs.declared.line_copy.LineCopy.{LineCopy}
 use Rattle.private_cache.specs.declared.line_copy.CopyState.TheVariants.{Shared}
 use Rattle.private_cache.specs.declared.cache.CacheError.{CacheError}
+use Rattle.private_cache.specs.declared.cache.Geometry.{Geometry}
 use Rattle.private_cache.specs.CopyTable.{copy_of, place_for, with_used, with_changed, without_copy, evicted}
 use Rattle.timestamp_manager.specs.Lease.{fits}
+use Rattle.core_pts.specs.declared.config.CoreConfig.{CoreConfig}
 use Rattle.core_pts.specs.declared.attempt.Attempt.{Attempt}
 use Rattle.core_pts.specs.declared.attempt.Attempt.TheVariants.{Completed, NeedShared, NeedExclusive, NoRoom, Waiting, Idle}
 use Rattle.core_pts.specs.declared.attempt.IssueError.{IssueError}
@@ -37,6 +39,21 @@ pub record CoreState : Type 0 where
   pub is_out : Bool
   -- how many operations it was issued
   pub issued : ℕ
+
+-- a core as it opens: an empty cache, no open operation, nothing issued
+abbrev pub opened : CoreConfig → Geometry → CoreState
+opened config geometry = record {
+  number = config.number;
+  banks = config.banks;
+  line_words = config.line_words;
+  lease = config.lease;
+  private_write = config.private_write;
+  pts = config.opening_time;
+  cache = empty_sets geometry.sets geometry.ways;
+  open_op = None;
+  is_out = false;
+  issued = 0;
+}
 
 -- the line of a word, and the word's index in it
 abbrev pub line_of : CoreState → Op → ℕ
@@ -83,14 +100,18 @@ completed_at core op copy (Some ts) = (
   record core { pts = ts; open_op = None; is_out = false; cache = with_used core.cache (line_of core op) (copy_after (index_of core op) ts op copy) },
 )
 
+-- what is answered to an attempt where there is no copy, and where the copy doesn't serve the operation
 abbrev pub attempt_without : CoreState → Op → Attempt
 attempt_without core op = if core.is_out then Waiting else (if place_for core.cache (line_of core op) then need core.pts op None else NoRoom)
+
+abbrev pub attempt_unserved : CoreState → Op → ℕ → Attempt
+attempt_unserved core op version = if core.is_out then Waiting else need core.pts op (Some version)
 
 abbrev pub attempt_on : CoreState → Op → Option LineCopy → Option Attempt × CoreState
 attempt_on core op None = (Some (attempt_without core op), core)
 attempt_on core op (Some copy) =
     if serves op core.pts copy then completed_at core op copy (time_of core.private_write core.pts op copy)
-    else (Some (if core.is_out then Waiting else need core.pts op (Some copy.wts)), core)
+    else (Some (attempt_unserved core op copy.wts), core)
 
 abbrev pub attempt_open : CoreState → Option Op → Option Attempt × CoreState
 attempt_open core None = (Some Idle, core)

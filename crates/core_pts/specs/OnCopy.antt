@@ -44,9 +44,13 @@ received_at index (Swap a v) copy = Some (slice_index copy.words index)
 abbrev pub written_at : ℕ → ℕ → ℕ → LineCopy → LineCopy
 written_at index ts v copy = record copy { wts = ts; rts = ts; words = slice_set copy.words index v; written = true }
 
--- the copy after an operation at a time: an owner's load extends its lease to that time
+-- a copy that was read at a time: an owner's lease goes on to that time
+abbrev pub read_at : ℕ → LineCopy → LineCopy
+read_at ts copy = if is_exclusive copy.state then record copy { rts = max ts copy.rts } else copy
+
+-- the copy after an operation at a time
 abbrev pub copy_after : ℕ → ℕ → Op → LineCopy → LineCopy
-copy_after index ts (Load a) copy = if is_exclusive copy.state then record copy { rts = max ts copy.rts } else copy
+copy_after index ts (Load a) copy = read_at ts copy
 copy_after index ts (Store a v) copy = written_at index ts v copy
 copy_after index ts (Swap a v) copy = written_at index ts v copy
 

@@ -2,6 +2,11 @@
 #![tactic(auto)]
 
 pub mod attempt;
+pub mod config;
+pub mod core_state;
 pub mod laws;
+mod on_copy;
 
 pub use attempt::{Attempt, IssueError};
+pub use config::CoreConfig;
+pub use core_state::Core;

@@ -4,6 +4,7 @@
 pub mod attempt;
 pub mod config;
 pub mod core_state;
+mod deliver;
 pub mod laws;
 mod on_copy;
 

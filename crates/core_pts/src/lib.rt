@@ -7,6 +7,8 @@ pub mod core_state;
 mod deliver;
 pub mod laws;
 mod on_copy;
+#[cfg(test)]
+mod tests;
 
 pub use attempt::{Attempt, IssueError};
 pub use config::CoreConfig;

@@ -119,6 +119,35 @@ fn has_case(core: &Core, message: &Message) -> bool
     }
 }
 
+// The core's calls, of which a test knows no more than it sees.
+fn issue(core: &mut Core, op: Op) -> Result<(), IssueError> {
+    core.issue(op)
+}
+
+fn attempt(core: &mut Core) -> Result<Attempt, Exhausted> {
+    core.attempt()
+}
+
+fn requested(core: &mut Core) {
+    core.requested();
+}
+
+fn advance(core: &mut Core) -> Result<(), Exhausted> {
+    core.advance()
+}
+
+fn evict(core: &mut Core, line: LineNo) -> Result<Option<Message>, CacheError> {
+    core.evict(line)
+}
+
+fn open_op(core: &Core) -> Option<(Op, bool)> {
+    core.open_op()
+}
+
+fn copy_of_x(core: &Core) -> Option<LineCopy> {
+    core.copy(X).copied()
+}
+
 // Hands core 0 a message of bank 0: what it would send, and what it does.
 fn hand<R: Abort>(
     rt: &R,
@@ -157,23 +186,23 @@ fn sent(body: Body) -> (Option<(Node, bool)>, Result<Reaction, PartError>) {
 
 // The core loads x, whose words come leased.
 fn load_shared<R: Abort>(rt: &R, core: &mut Core, wts: u64, rts: u64) {
-    assert_eq!(rt; core.issue(load_x()), Ok(()));
-    core.requested();
+    assert_eq!(rt; issue(core, load_x()), Ok(()));
+    requested(core);
     let body = Body::ShRep(timed(wts, rts, 0));
     assert_eq!(rt; hand(rt, core, X, body), CONSUMED);
     let completed = Attempt::Completed {
         received: Some(0),
         ts: wts,
     };
-    assert_eq!(rt; core.attempt(), Ok(completed));
+    assert_eq!(rt; attempt(core), Ok(completed));
 }
 
 // The core stores a value to x, whose words come owned.
 fn store_owned<R: Abort>(rt: &R, core: &mut Core, wts: u64, ts: u64, value: u64) {
-    assert_eq!(rt; core.issue(store_x(value)), Ok(()));
+    assert_eq!(rt; issue(core, store_x(value)), Ok(()));
     let needed = Attempt::NeedExclusive { version: None };
-    assert_eq!(rt; core.attempt(), Ok(needed));
-    core.requested();
+    assert_eq!(rt; attempt(core), Ok(needed));
+    requested(core);
     let body = Body::ExRep(timed(wts, wts, 0));
     assert_eq!(rt; hand(rt, core, X, body), CONSUMED);
     stored(rt, core, ts);
@@ -182,7 +211,7 @@ fn store_owned<R: Abort>(rt: &R, core: &mut Core, wts: u64, ts: u64, value: u64)
 // The open store completes at this time.
 fn stored<R: Abort>(rt: &R, core: &mut Core, ts: u64) {
     assert_eq!(rt;
-        core.attempt(),
+        attempt(core),
         Ok(Attempt::Completed { received: None, ts })
     );
 }
@@ -190,19 +219,19 @@ fn stored<R: Abort>(rt: &R, core: &mut Core, ts: u64) {
 #[test]
 fn a_load_then_a_store(rt: HostRuntime) -> Result<(), Fail> {
     let mut core = core_of(rt.alloc(), 0, false, 4)?;
-    assert_eq!(rt; core.attempt(), Ok(Attempt::Idle));
-    assert_eq!(rt; core.open_op(), None);
-    assert_eq!(rt; core.issue(load_x()), Ok(()));
-    assert_eq!(rt; core.issue(load_x()), Err(IssueError::Busy));
+    assert_eq!(rt; attempt(&mut core), Ok(Attempt::Idle));
+    assert_eq!(rt; open_op(&core), None);
+    assert_eq!(rt; issue(&mut core, load_x()), Ok(()));
+    assert_eq!(rt; issue(&mut core, load_x()), Err(IssueError::Busy));
     let needed = Attempt::NeedShared {
         pts: 0,
         version: None,
     };
-    assert_eq!(rt; core.attempt(), Ok(needed));
-    assert_eq!(rt; core.open_op(), Some((load_x(), false)));
-    core.requested();
-    assert_eq!(rt; core.open_op(), Some((load_x(), true)));
-    assert_eq!(rt; core.attempt(), Ok(Attempt::Waiting));
+    assert_eq!(rt; attempt(&mut core), Ok(needed));
+    assert_eq!(rt; open_op(&core), Some((load_x(), false)));
+    requested(&mut core);
+    assert_eq!(rt; open_op(&core), Some((load_x(), true)));
+    assert_eq!(rt; attempt(&mut core), Ok(Attempt::Waiting));
     assert_eq!(rt;
         hand(&rt, &mut core, X, Body::ShRep(timed(0, 10, 0))),
         CONSUMED
@@ -211,18 +240,18 @@ fn a_load_then_a_store(rt: HostRuntime) -> Result<(), Fail> {
         received: Some(0),
         ts: 0,
     };
-    assert_eq!(rt; core.attempt(), Ok(completed));
-    assert_eq!(rt; core.issue(store_x(7)), Ok(()));
+    assert_eq!(rt; attempt(&mut core), Ok(completed));
+    assert_eq!(rt; issue(&mut core, store_x(7)), Ok(()));
     let owning = Attempt::NeedExclusive { version: Some(0) };
-    assert_eq!(rt; core.attempt(), Ok(owning));
-    core.requested();
+    assert_eq!(rt; attempt(&mut core), Ok(owning));
+    requested(&mut core);
     assert_eq!(rt;
         hand(&rt, &mut core, X, Body::UpgradeRep { rts: 10 }),
         CONSUMED
     );
     stored(&rt, &mut core, 11);
     let owned = copy(CopyState::Exclusive, 11, 11, 7, true);
-    assert_eq!(rt; core.copy(X), Some(&owned));
+    assert_eq!(rt; copy_of_x(&core), Some(owned));
     assert_eq!(rt; core.pts(), 11);
     assert_eq!(rt; core.issued(), 2);
     Ok(())
@@ -233,35 +262,35 @@ fn a_hit_past_the_lease(rt: HostRuntime) -> Result<(), Fail> {
     let mut core = core_of(rt.alloc(), 0, false, 4)?;
     load_shared(&rt, &mut core, 0, 10);
     for _ in 0..10 {
-        assert_eq!(rt; core.advance(), Ok(()));
+        assert_eq!(rt; advance(&mut core), Ok(()));
     }
-    assert_eq!(rt; core.issue(load_x()), Ok(()));
+    assert_eq!(rt; issue(&mut core, load_x()), Ok(()));
     let hit = Attempt::Completed {
         received: Some(0),
         ts: 10,
     };
-    assert_eq!(rt; core.attempt(), Ok(hit));
-    assert_eq!(rt; core.advance(), Ok(()));
-    assert_eq!(rt; core.issue(load_x()), Ok(()));
+    assert_eq!(rt; attempt(&mut core), Ok(hit));
+    assert_eq!(rt; advance(&mut core), Ok(()));
+    assert_eq!(rt; issue(&mut core, load_x()), Ok(()));
     let needed = Attempt::NeedShared {
         pts: 11,
         version: Some(0),
     };
-    assert_eq!(rt; core.attempt(), Ok(needed));
-    core.requested();
+    assert_eq!(rt; attempt(&mut core), Ok(needed));
+    requested(&mut core);
     assert_eq!(rt;
         hand(&rt, &mut core, X, Body::RenewRep { rts: 21 }),
         CONSUMED
     );
     assert_eq!(rt;
-        core.copy(X),
-        Some(&copy(CopyState::Shared, 0, 21, 0, false))
+        copy_of_x(&core),
+        Some(copy(CopyState::Shared, 0, 21, 0, false))
     );
     let renewed = Attempt::Completed {
         received: Some(0),
         ts: 11,
     };
-    assert_eq!(rt; core.attempt(), Ok(renewed));
+    assert_eq!(rt; attempt(&mut core), Ok(renewed));
     Ok(())
 }
 
@@ -269,7 +298,7 @@ fn a_hit_past_the_lease(rt: HostRuntime) -> Result<(), Fail> {
 fn recalls(rt: HostRuntime) -> Result<(), Fail> {
     let mut core = core_of(rt.alloc(), 10, false, 4)?;
     store_owned(&rt, &mut core, 10, 11, 7);
-    assert_eq!(rt; core.issue(Op::Swap(word(0), 8)), Ok(()));
+    assert_eq!(rt; issue(&mut core, Op::Swap(word(0), 8)), Ok(()));
     let held = (None, Ok(Reaction::Held));
     assert_eq!(rt; hand(&rt, &mut core, X, Body::FlushReq), held);
     assert_eq!(rt; hand(&rt, &mut core, X, Body::WbReq { rts: 21 }), held);
@@ -277,10 +306,10 @@ fn recalls(rt: HostRuntime) -> Result<(), Fail> {
         received: Some(7),
         ts: 12,
     };
-    assert_eq!(rt; core.attempt(), Ok(swapped));
+    assert_eq!(rt; attempt(&mut core), Ok(swapped));
     let flushed = sent(Body::FlushRep(timed(12, 12, 8)));
     assert_eq!(rt; hand(&rt, &mut core, X, Body::FlushReq), flushed);
-    assert_eq!(rt; core.copy(X), None);
+    assert_eq!(rt; copy_of_x(&core), None);
     let dropped = (None, Ok(Reaction::Dropped));
     assert_eq!(rt; hand(&rt, &mut core, X, Body::FlushReq), dropped);
     assert_eq!(rt; hand(&rt, &mut core, X, Body::WbReq { rts: 30 }), dropped);
@@ -294,8 +323,8 @@ fn a_write_back(rt: HostRuntime) -> Result<(), Fail> {
     let returned = sent(Body::WbRep(timed(11, 21, 7)));
     assert_eq!(rt; hand(&rt, &mut core, X, Body::WbReq { rts: 21 }), returned);
     assert_eq!(rt;
-        core.copy(X),
-        Some(&copy(CopyState::Shared, 11, 21, 7, false))
+        copy_of_x(&core),
+        Some(copy(CopyState::Shared, 11, 21, 7, false))
     );
     Ok(())
 }
@@ -303,9 +332,9 @@ fn a_write_back(rt: HostRuntime) -> Result<(), Fail> {
 // Three stores, at these times.
 fn three_stores<R: Abort>(rt: &R, core: &mut Core, times: [u64; 3]) {
     store_owned(rt, core, 0, times[0], 1);
-    assert_eq!(rt; core.issue(store_x(2)), Ok(()));
+    assert_eq!(rt; issue(core, store_x(2)), Ok(()));
     stored(rt, core, times[1]);
-    assert_eq!(rt; core.issue(store_x(3)), Ok(()));
+    assert_eq!(rt; issue(core, store_x(3)), Ok(()));
     stored(rt, core, times[2]);
 }
 
@@ -323,16 +352,16 @@ fn a_full_set(rt: HostRuntime) -> Result<(), Fail> {
     let mut core = core_of(rt.alloc(), 0, false, 1)?;
     load_shared(&rt, &mut core, 0, 10);
     assert_eq!(rt; core.lines()?.as_slice(), [X].as_slice());
-    assert_eq!(rt; core.issue(Op::Load(word(1))), Ok(()));
-    assert_eq!(rt; core.attempt(), Ok(Attempt::NoRoom));
+    assert_eq!(rt; issue(&mut core, Op::Load(word(1))), Ok(()));
+    assert_eq!(rt; attempt(&mut core), Ok(Attempt::NoRoom));
     assert_eq!(rt; core.victim(Y), Some(X));
-    assert_eq!(rt; core.evict(Y), Err(CacheError::NotHere));
-    assert_eq!(rt; core.evict(X), Ok(None));
+    assert_eq!(rt; evict(&mut core, Y), Err(CacheError::NotHere));
+    assert_eq!(rt; evict(&mut core, X), Ok(None));
     let needed = Attempt::NeedShared {
         pts: 0,
         version: None,
     };
-    assert_eq!(rt; core.attempt(), Ok(needed));
+    assert_eq!(rt; attempt(&mut core), Ok(needed));
     Ok(())
 }
 
@@ -340,13 +369,13 @@ fn a_full_set(rt: HostRuntime) -> Result<(), Fail> {
 fn an_eviction_of_an_owned_line(rt: HostRuntime) -> Result<(), Fail> {
     let mut core = core_of(rt.alloc(), 0, false, 1)?;
     store_owned(&rt, &mut core, 0, 1, 7);
-    assert_eq!(rt; core.issue(load_x()), Ok(()));
-    assert_eq!(rt; core.evict(X), Err(CacheError::Pinned));
-    assert!(rt; core.attempt().is_ok());
+    assert_eq!(rt; issue(&mut core, load_x()), Ok(()));
+    assert_eq!(rt; evict(&mut core, X), Err(CacheError::Pinned));
+    assert!(rt; attempt(&mut core).is_ok());
     let message = core.to_bank(X, Body::FlushRep(timed(1, 1, 7)));
     assert_eq!(rt; message.from, Node::Core(0));
     assert_eq!(rt; message.to, Node::Bank(0));
-    assert_eq!(rt; core.evict(X), Ok(Some(message)));
+    assert_eq!(rt; evict(&mut core, X), Ok(Some(message)));
     Ok(())
 }
 
@@ -355,17 +384,17 @@ fn the_last_times(rt: HostRuntime) -> Result<(), Fail> {
     let opening = u64::MAX - 10;
     let mut core = core_of(rt.alloc(), opening, false, 4)?;
     load_shared(&rt, &mut core, opening, u64::MAX);
-    assert_eq!(rt; core.issue(store_x(1)), Ok(()));
-    core.requested();
+    assert_eq!(rt; issue(&mut core, store_x(1)), Ok(()));
+    requested(&mut core);
     let grant = Body::UpgradeRep { rts: u64::MAX };
     assert_eq!(rt; hand(&rt, &mut core, X, grant), CONSUMED);
-    assert_eq!(rt; core.attempt(), Err(Exhausted));
-    assert_eq!(rt; core.open_op(), Some((store_x(1), false)));
+    assert_eq!(rt; attempt(&mut core), Err(Exhausted));
+    assert_eq!(rt; open_op(&core), Some((store_x(1), false)));
     let mut last = core_of(rt.alloc(), u64::MAX - 1, false, 4)?;
     store_owned(&rt, &mut last, u64::MAX - 1, u64::MAX, 1);
     let exhausted = (None, Err(PartError::Exhausted));
     assert_eq!(rt; hand(&rt, &mut last, X, Body::WbReq { rts: 5 }), exhausted);
-    assert_eq!(rt; last.advance(), Err(Exhausted));
+    assert_eq!(rt; advance(&mut last), Err(Exhausted));
     Ok(())
 }
 

@@ -1,5 +1,5 @@
 -- A core as data, and what each event makes of it.
-use Rattle.std.specs.Prelude.{◌≡◌, ℕ, ◌+◌, ◌-◌, ◌/◌, ◌%◌, ◌^◌, ◌==◌, nat_lt, Bool, true, false, ◌&&◌, is_some, List, Option, Some, None, Result, Ok, Err, if◌then◌else◌}
+use Rattle.std.specs.Prelude.{ℕ, ◌+◌, ◌-◌, ◌/◌, ◌%◌, ◌^◌, ◌==◌, nat_lt, Bool, true, false, ◌&&◌, Option, Some, None, Result, Ok, Err, if◌then◌else◌}
 use Rattle.physiological_order.specs.declared.operation.Op.{Op}
 use Rattle.physiological_order.specs.declared.operation.Op.TheVariants.{Load, Store, Swap}
 use Rattle.physiological_order.specs.Order.{address}
@@ -12,7 +12,6 @@ use Rattle.network.specs.declared.part.Reaction.{Reaction}
 use Rattle.network.specs.declared.part.Reaction.TheVariants.{Done, Dropped, Held}
 use Rattle.line_sets.specs.SetTable.{Sets, empty_sets}
 use Rattle.private_cache.specs.declared.line_copy.LineCopy.{LineCopy}
-use Rattle.private_cache.specs.declared.line_copy.CopyState.TheVariants.{Shared}
 use Rattle.private_cache.specs.declared.cache.CacheError.{CacheError}
 use Rattle.private_cache.specs.declared.cache.Geometry.{Geometry}
 use Rattle.private_cache.specs.CopyTable.{copy_of, place_for, with_used, with_changed, without_copy, evicted}

@@ -1,5 +1,5 @@
 -- What an operation and a message do with a core's copy of one line.
-use Rattle.std.specs.Prelude.{◌≡◌, ℕ, ◌+◌, ◌%◌, nat_le, max, Bool, true, false, ◌||◌, ◌&&◌, List, Option, Some, None, if◌then◌else◌, slice_index, slice_set}
+use Rattle.std.specs.Prelude.{ℕ, ◌+◌, nat_le, max, Bool, true, false, ◌||◌, ◌&&◌, Option, Some, None, if◌then◌else◌, slice_index, slice_set}
 use Rattle.physiological_order.specs.declared.operation.Op.{Op}
 use Rattle.physiological_order.specs.declared.operation.Op.TheVariants.{Load, Store, Swap}
 use Rattle.network.specs.declared.message.TimedLine.{TimedLine}
@@ -9,7 +9,7 @@ use Rattle.private_cache.specs.declared.line_copy.LineCopy.{LineCopy}
 use Rattle.private_cache.specs.declared.line_copy.CopyState.{CopyState}
 use Rattle.private_cache.specs.declared.line_copy.CopyState.TheVariants.{Shared, Exclusive}
 use Rattle.private_cache.specs.CopyTable.{arrived, renewed, upgraded, downgraded}
-use Rattle.timestamp_manager.specs.Lease.{fits, if_fits, returned_lease}
+use Rattle.timestamp_manager.specs.Lease.{fits, returned_lease}
 
 abbrev pub is_exclusive : CopyState → Bool
 is_exclusive Shared = false

@@ -119,139 +119,175 @@ fn has_case(core: &Core, message: &Message) -> bool
     }
 }
 
-// The core's calls, of which a test knows no more than it sees.
-fn issue(core: &mut Core, op: Op) -> Result<(), IssueError> {
-    core.issue(op)
+// What core 0 would send at a message of bank 0, and what it does with it.
+#[derive(Clone, Copy, Debug, PartialEq, Eq)]
+struct Outcome {
+    sends: Option<(Node, bool)>,
+    answer: Result<Reaction, PartError>,
 }
 
-fn attempt(core: &mut Core) -> Result<Attempt, Exhausted> {
-    core.attempt()
-}
+const CONSUMED: Outcome = Outcome {
+    sends: None,
+    answer: Ok(Reaction::Done(None)),
+};
 
-fn requested(core: &mut Core) {
-    core.requested();
-}
+const DROPPED: Outcome = Outcome {
+    sends: None,
+    answer: Ok(Reaction::Dropped),
+};
 
-fn advance(core: &mut Core) -> Result<(), Exhausted> {
-    core.advance()
-}
+const HELD: Outcome = Outcome {
+    sends: None,
+    answer: Ok(Reaction::Held),
+};
 
-fn evict(core: &mut Core, line: LineNo) -> Result<Option<Message>, CacheError> {
-    core.evict(line)
-}
+const EXHAUSTED: Outcome = Outcome {
+    sends: None,
+    answer: Err(PartError::Exhausted),
+};
 
-fn open_op(core: &Core) -> Option<(Op, bool)> {
-    core.open_op()
-}
-
-fn copy_of_x(core: &Core) -> Option<LineCopy> {
-    core.copy(X).copied()
-}
-
-// Hands core 0 a message of bank 0: what it would send, and what it does.
-fn hand<R: Abort>(
-    rt: &R,
-    core: &mut Core,
-    line: LineNo,
-    body: Body,
-) -> (Option<(Node, bool)>, Result<Reaction, PartError>) {
-    let message = Message {
-        from: Node::Bank(0),
-        to: Node::Core(0),
-        line,
-        body,
-    };
-    assert!(rt; has_case(core, &message));
-    (core.sends(&message), core.deliver(&message))
-}
-
-const CONSUMED: (Option<(Node, bool)>, Result<Reaction, PartError>) = (
-    None,
-    Ok(Reaction::Done(None)),
-);
-
-// Bank 0 is sent this by core 0, about line x.
-fn sent(body: Body) -> (Option<(Node, bool)>, Result<Reaction, PartError>) {
-    let message = Message {
+// Core 0 sends this to bank 0, about line x.
+fn from_core(body: Body) -> Message {
+    Message {
         from: Node::Core(0),
         to: Node::Bank(0),
         line: X,
         body,
+    }
+}
+
+// Line x goes back by this message.
+fn returned(body: Body) -> Outcome {
+    Outcome {
+        sends: Some((Node::Bank(0), false)),
+        answer: Ok(Reaction::Done(Some(from_core(body)))),
+    }
+}
+
+// Hands core 0 a message of bank 0 about line x.
+fn hand<R: Abort>(rt: &R, core: &mut Core, body: Body) -> Outcome {
+    let message = Message {
+        from: Node::Bank(0),
+        to: Node::Core(0),
+        line: X,
+        body,
     };
-    (
-        Some((Node::Bank(0), false)),
-        Ok(Reaction::Done(Some(message))),
-    )
+    assert!(rt; has_case(core, &message));
+    Outcome {
+        sends: core.sends(&message),
+        answer: core.deliver(&message),
+    }
+}
+
+// What is done with core 0, and what it must answer.
+#[derive(Clone, Copy)]
+enum Step {
+    Issue(Op, Result<(), IssueError>),
+    Attempt(Result<Attempt, Exhausted>),
+    Requested,
+    Hand(Body, Outcome),
+    Advance(Result<(), Exhausted>),
+    Evict(LineNo, Result<Option<Message>, CacheError>),
+    OpenOp(Option<(Op, bool)>),
+    CopyOfX(Option<LineCopy>),
+}
+
+fn make<R: Abort>(rt: &R, core: &mut Core, step: Step) {
+    match step {
+        Step::Issue(op, wanted) => assert_eq!(rt; core.issue(op), wanted),
+        Step::Attempt(wanted) => assert_eq!(rt; core.attempt(), wanted),
+        Step::Requested => core.requested(),
+        Step::Hand(body, wanted) => assert_eq!(rt; hand(rt, core, body), wanted),
+        Step::Advance(wanted) => assert_eq!(rt; core.advance(), wanted),
+        Step::Evict(line, wanted) => assert_eq!(rt; core.evict(line), wanted),
+        Step::OpenOp(wanted) => assert_eq!(rt; core.open_op(), wanted),
+        Step::CopyOfX(wanted) => assert_eq!(rt; core.copy(X).copied(), wanted),
+    }
+}
+
+fn make_all<R: Abort>(rt: &R, core: &mut Core, steps: &[Step]) {
+    for step in steps {
+        make(rt, core, *step);
+    }
+}
+
+fn issued(op: Op) -> Step {
+    Step::Issue(op, Ok(()))
+}
+
+fn answered(attempt: Attempt) -> Step {
+    Step::Attempt(Ok(attempt))
+}
+
+fn needs_read(pts: u64, version: Option<u64>) -> Step {
+    answered(Attempt::NeedShared { pts, version })
+}
+
+fn needs_owning(version: Option<u64>) -> Step {
+    answered(Attempt::NeedExclusive { version })
+}
+
+fn loaded(value: u64, ts: u64) -> Step {
+    answered(Attempt::Completed {
+        received: Some(value),
+        ts,
+    })
+}
+
+fn stored(ts: u64) -> Step {
+    answered(Attempt::Completed { received: None, ts })
+}
+
+fn consumed(body: Body) -> Step {
+    Step::Hand(body, CONSUMED)
 }
 
 // The core loads x, whose words come leased.
 fn load_shared<R: Abort>(rt: &R, core: &mut Core, wts: u64, rts: u64) {
-    assert_eq!(rt; issue(core, load_x()), Ok(()));
-    requested(core);
-    let body = Body::ShRep(timed(wts, rts, 0));
-    assert_eq!(rt; hand(rt, core, X, body), CONSUMED);
-    let completed = Attempt::Completed {
-        received: Some(0),
-        ts: wts,
-    };
-    assert_eq!(rt; attempt(core), Ok(completed));
+    let steps = [
+        issued(load_x()),
+        Step::Requested,
+        consumed(Body::ShRep(timed(wts, rts, 0))),
+        loaded(0, wts),
+    ];
+    make_all(rt, core, &steps);
 }
 
 // The core stores a value to x, whose words come owned.
 fn store_owned<R: Abort>(rt: &R, core: &mut Core, wts: u64, ts: u64, value: u64) {
-    assert_eq!(rt; issue(core, store_x(value)), Ok(()));
-    let needed = Attempt::NeedExclusive { version: None };
-    assert_eq!(rt; attempt(core), Ok(needed));
-    requested(core);
-    let body = Body::ExRep(timed(wts, wts, 0));
-    assert_eq!(rt; hand(rt, core, X, body), CONSUMED);
-    stored(rt, core, ts);
-}
-
-// The open store completes at this time.
-fn stored<R: Abort>(rt: &R, core: &mut Core, ts: u64) {
-    assert_eq!(rt;
-        attempt(core),
-        Ok(Attempt::Completed { received: None, ts })
-    );
+    let steps = [
+        issued(store_x(value)),
+        needs_owning(None),
+        Step::Requested,
+        consumed(Body::ExRep(timed(wts, wts, 0))),
+        stored(ts),
+    ];
+    make_all(rt, core, &steps);
 }
 
 #[test]
 fn a_load_then_a_store(rt: HostRuntime) -> Result<(), Fail> {
     let mut core = core_of(rt.alloc(), 0, false, 4)?;
-    assert_eq!(rt; attempt(&mut core), Ok(Attempt::Idle));
-    assert_eq!(rt; open_op(&core), None);
-    assert_eq!(rt; issue(&mut core, load_x()), Ok(()));
-    assert_eq!(rt; issue(&mut core, load_x()), Err(IssueError::Busy));
-    let needed = Attempt::NeedShared {
-        pts: 0,
-        version: None,
-    };
-    assert_eq!(rt; attempt(&mut core), Ok(needed));
-    assert_eq!(rt; open_op(&core), Some((load_x(), false)));
-    requested(&mut core);
-    assert_eq!(rt; open_op(&core), Some((load_x(), true)));
-    assert_eq!(rt; attempt(&mut core), Ok(Attempt::Waiting));
-    assert_eq!(rt;
-        hand(&rt, &mut core, X, Body::ShRep(timed(0, 10, 0))),
-        CONSUMED
-    );
-    let completed = Attempt::Completed {
-        received: Some(0),
-        ts: 0,
-    };
-    assert_eq!(rt; attempt(&mut core), Ok(completed));
-    assert_eq!(rt; issue(&mut core, store_x(7)), Ok(()));
-    let owning = Attempt::NeedExclusive { version: Some(0) };
-    assert_eq!(rt; attempt(&mut core), Ok(owning));
-    requested(&mut core);
-    assert_eq!(rt;
-        hand(&rt, &mut core, X, Body::UpgradeRep { rts: 10 }),
-        CONSUMED
-    );
-    stored(&rt, &mut core, 11);
-    let owned = copy(CopyState::Exclusive, 11, 11, 7, true);
-    assert_eq!(rt; copy_of_x(&core), Some(owned));
+    let steps = [
+        answered(Attempt::Idle),
+        Step::OpenOp(None),
+        issued(load_x()),
+        Step::Issue(load_x(), Err(IssueError::Busy)),
+        needs_read(0, None),
+        Step::OpenOp(Some((load_x(), false))),
+        Step::Requested,
+        Step::OpenOp(Some((load_x(), true))),
+        answered(Attempt::Waiting),
+        consumed(Body::ShRep(timed(0, 10, 0))),
+        loaded(0, 0),
+        issued(store_x(7)),
+        needs_owning(Some(0)),
+        Step::Requested,
+        consumed(Body::UpgradeRep { rts: 10 }),
+        stored(11),
+        Step::CopyOfX(Some(copy(CopyState::Exclusive, 11, 11, 7, true))),
+    ];
+    make_all(&rt, &mut core, &steps);
     assert_eq!(rt; core.pts(), 11);
     assert_eq!(rt; core.issued(), 2);
     Ok(())
@@ -262,35 +298,20 @@ fn a_hit_past_the_lease(rt: HostRuntime) -> Result<(), Fail> {
     let mut core = core_of(rt.alloc(), 0, false, 4)?;
     load_shared(&rt, &mut core, 0, 10);
     for _ in 0..10 {
-        assert_eq!(rt; advance(&mut core), Ok(()));
+        make(&rt, &mut core, Step::Advance(Ok(())));
     }
-    assert_eq!(rt; issue(&mut core, load_x()), Ok(()));
-    let hit = Attempt::Completed {
-        received: Some(0),
-        ts: 10,
-    };
-    assert_eq!(rt; attempt(&mut core), Ok(hit));
-    assert_eq!(rt; advance(&mut core), Ok(()));
-    assert_eq!(rt; issue(&mut core, load_x()), Ok(()));
-    let needed = Attempt::NeedShared {
-        pts: 11,
-        version: Some(0),
-    };
-    assert_eq!(rt; attempt(&mut core), Ok(needed));
-    requested(&mut core);
-    assert_eq!(rt;
-        hand(&rt, &mut core, X, Body::RenewRep { rts: 21 }),
-        CONSUMED
-    );
-    assert_eq!(rt;
-        copy_of_x(&core),
-        Some(copy(CopyState::Shared, 0, 21, 0, false))
-    );
-    let renewed = Attempt::Completed {
-        received: Some(0),
-        ts: 11,
-    };
-    assert_eq!(rt; attempt(&mut core), Ok(renewed));
+    let steps = [
+        issued(load_x()),
+        loaded(0, 10),
+        Step::Advance(Ok(())),
+        issued(load_x()),
+        needs_read(11, Some(0)),
+        Step::Requested,
+        consumed(Body::RenewRep { rts: 21 }),
+        Step::CopyOfX(Some(copy(CopyState::Shared, 0, 21, 0, false))),
+        loaded(0, 11),
+    ];
+    make_all(&rt, &mut core, &steps);
     Ok(())
 }
 
@@ -298,21 +319,17 @@ fn a_hit_past_the_lease(rt: HostRuntime) -> Result<(), Fail> {
 fn recalls(rt: HostRuntime) -> Result<(), Fail> {
     let mut core = core_of(rt.alloc(), 10, false, 4)?;
     store_owned(&rt, &mut core, 10, 11, 7);
-    assert_eq!(rt; issue(&mut core, Op::Swap(word(0), 8)), Ok(()));
-    let held = (None, Ok(Reaction::Held));
-    assert_eq!(rt; hand(&rt, &mut core, X, Body::FlushReq), held);
-    assert_eq!(rt; hand(&rt, &mut core, X, Body::WbReq { rts: 21 }), held);
-    let swapped = Attempt::Completed {
-        received: Some(7),
-        ts: 12,
-    };
-    assert_eq!(rt; attempt(&mut core), Ok(swapped));
-    let flushed = sent(Body::FlushRep(timed(12, 12, 8)));
-    assert_eq!(rt; hand(&rt, &mut core, X, Body::FlushReq), flushed);
-    assert_eq!(rt; copy_of_x(&core), None);
-    let dropped = (None, Ok(Reaction::Dropped));
-    assert_eq!(rt; hand(&rt, &mut core, X, Body::FlushReq), dropped);
-    assert_eq!(rt; hand(&rt, &mut core, X, Body::WbReq { rts: 30 }), dropped);
+    let steps = [
+        issued(Op::Swap(word(0), 8)),
+        Step::Hand(Body::FlushReq, HELD),
+        Step::Hand(Body::WbReq { rts: 21 }, HELD),
+        loaded(7, 12),
+        Step::Hand(Body::FlushReq, returned(Body::FlushRep(timed(12, 12, 8)))),
+        Step::CopyOfX(None),
+        Step::Hand(Body::FlushReq, DROPPED),
+        Step::Hand(Body::WbReq { rts: 30 }, DROPPED),
+    ];
+    make_all(&rt, &mut core, &steps);
     Ok(())
 }
 
@@ -320,22 +337,25 @@ fn recalls(rt: HostRuntime) -> Result<(), Fail> {
 fn a_write_back(rt: HostRuntime) -> Result<(), Fail> {
     let mut core = core_of(rt.alloc(), 10, false, 4)?;
     store_owned(&rt, &mut core, 10, 11, 7);
-    let returned = sent(Body::WbRep(timed(11, 21, 7)));
-    assert_eq!(rt; hand(&rt, &mut core, X, Body::WbReq { rts: 21 }), returned);
-    assert_eq!(rt;
-        copy_of_x(&core),
-        Some(copy(CopyState::Shared, 11, 21, 7, false))
-    );
+    let back = returned(Body::WbRep(timed(11, 21, 7)));
+    let steps = [
+        Step::Hand(Body::WbReq { rts: 21 }, back),
+        Step::CopyOfX(Some(copy(CopyState::Shared, 11, 21, 7, false))),
+    ];
+    make_all(&rt, &mut core, &steps);
     Ok(())
 }
 
 // Three stores, at these times.
 fn three_stores<R: Abort>(rt: &R, core: &mut Core, times: [u64; 3]) {
     store_owned(rt, core, 0, times[0], 1);
-    assert_eq!(rt; issue(core, store_x(2)), Ok(()));
-    stored(rt, core, times[1]);
-    assert_eq!(rt; issue(core, store_x(3)), Ok(()));
-    stored(rt, core, times[2]);
+    let steps = [
+        issued(store_x(2)),
+        stored(times[1]),
+        issued(store_x(3)),
+        stored(times[2]),
+    ];
+    make_all(rt, core, &steps);
 }
 
 #[test]
@@ -352,16 +372,15 @@ fn a_full_set(rt: HostRuntime) -> Result<(), Fail> {
     let mut core = core_of(rt.alloc(), 0, false, 1)?;
     load_shared(&rt, &mut core, 0, 10);
     assert_eq!(rt; core.lines()?.as_slice(), [X].as_slice());
-    assert_eq!(rt; issue(&mut core, Op::Load(word(1))), Ok(()));
-    assert_eq!(rt; attempt(&mut core), Ok(Attempt::NoRoom));
     assert_eq!(rt; core.victim(Y), Some(X));
-    assert_eq!(rt; evict(&mut core, Y), Err(CacheError::NotHere));
-    assert_eq!(rt; evict(&mut core, X), Ok(None));
-    let needed = Attempt::NeedShared {
-        pts: 0,
-        version: None,
-    };
-    assert_eq!(rt; attempt(&mut core), Ok(needed));
+    let steps = [
+        issued(Op::Load(word(1))),
+        answered(Attempt::NoRoom),
+        Step::Evict(Y, Err(CacheError::NotHere)),
+        Step::Evict(X, Ok(None)),
+        needs_read(0, None),
+    ];
+    make_all(&rt, &mut core, &steps);
     Ok(())
 }
 
@@ -369,32 +388,38 @@ fn a_full_set(rt: HostRuntime) -> Result<(), Fail> {
 fn an_eviction_of_an_owned_line(rt: HostRuntime) -> Result<(), Fail> {
     let mut core = core_of(rt.alloc(), 0, false, 1)?;
     store_owned(&rt, &mut core, 0, 1, 7);
-    assert_eq!(rt; issue(&mut core, load_x()), Ok(()));
-    assert_eq!(rt; evict(&mut core, X), Err(CacheError::Pinned));
-    assert!(rt; attempt(&mut core).is_ok());
-    let message = core.to_bank(X, Body::FlushRep(timed(1, 1, 7)));
-    assert_eq!(rt; message.from, Node::Core(0));
-    assert_eq!(rt; message.to, Node::Bank(0));
-    assert_eq!(rt; evict(&mut core, X), Ok(Some(message)));
+    let steps = [
+        issued(load_x()),
+        Step::Evict(X, Err(CacheError::Pinned)),
+        loaded(7, 1),
+        Step::Evict(X, Ok(Some(from_core(Body::FlushRep(timed(1, 1, 7)))))),
+        Step::CopyOfX(None),
+    ];
+    make_all(&rt, &mut core, &steps);
     Ok(())
 }
 
 #[test]
 fn the_last_times(rt: HostRuntime) -> Result<(), Fail> {
-    let opening = u64::MAX - 10;
+    let opening = 18446744073709551605;
     let mut core = core_of(rt.alloc(), opening, false, 4)?;
     load_shared(&rt, &mut core, opening, u64::MAX);
-    assert_eq!(rt; issue(&mut core, store_x(1)), Ok(()));
-    requested(&mut core);
-    let grant = Body::UpgradeRep { rts: u64::MAX };
-    assert_eq!(rt; hand(&rt, &mut core, X, grant), CONSUMED);
-    assert_eq!(rt; attempt(&mut core), Err(Exhausted));
-    assert_eq!(rt; open_op(&core), Some((store_x(1), false)));
+    let steps = [
+        issued(store_x(1)),
+        Step::Requested,
+        consumed(Body::UpgradeRep { rts: u64::MAX }),
+        Step::Attempt(Err(Exhausted)),
+        Step::OpenOp(Some((store_x(1), false))),
+    ];
+    make_all(&rt, &mut core, &steps);
     let mut last = core_of(rt.alloc(), u64::MAX - 1, false, 4)?;
     store_owned(&rt, &mut last, u64::MAX - 1, u64::MAX, 1);
-    let exhausted = (None, Err(PartError::Exhausted));
-    assert_eq!(rt; hand(&rt, &mut last, X, Body::WbReq { rts: 5 }), exhausted);
-    assert_eq!(rt; advance(&mut last), Err(Exhausted));
+    make(
+        &rt,
+        &mut last,
+        Step::Hand(Body::WbReq { rts: 5 }, EXHAUSTED),
+    );
+    make(&rt, &mut last, Step::Advance(Err(Exhausted)));
     Ok(())
 }
 
@@ -414,7 +439,6 @@ fn long_lines(rt: HostRuntime) -> Result<(), Fail> {
     assert_eq!(rt; message.from, Node::Core(5));
     assert_eq!(rt; message.to, Node::Bank(1));
     assert_eq!(rt; message.line, LineNo(3));
-    assert_eq!(rt; core.pts(), 3);
     completed_on_a_copy();
     writes_come_after_reads();
     time_never_falls();

@@ -148,8 +148,12 @@ after_reaction core line Holds = Some (Held, core)
 after_reaction core line TooLate = None
 after_reaction core line NoCase = Some (Dropped, core)
 
+-- what a message about a line makes of the core
+abbrev pub after_body : CoreState → ℕ → Body → Option (Reaction × CoreState)
+after_body core line body = after_reaction core line (at_core core.lease (is_on (pinned_line core) line) (copy_of core.cache line) body)
+
 abbrev pub core_table : CoreState → Message → Option (Reaction × CoreState)
-core_table core m = after_reaction core m.line (at_core core.lease (is_on (pinned_line core) m.line) (copy_of core.cache m.line) m.body)
+core_table core m = after_body core m.line m.body
 
 -- a reply comes only to a core that waits for it: with a request out for the line of its open operation
 abbrev pub waits_for : CoreState → ℕ → Bool

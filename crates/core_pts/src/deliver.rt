@@ -2,8 +2,8 @@
 ghost use Rattle.std.specs.Prelude.{◌≡◌, ◌≢◌, IfErr, IfOk, IsTrue, None, OnErr, Some};
 ghost use Rattle.network.specs.Sent.{sent_by};
 ghost use Rattle.private_cache.specs.CopyTable.{arrived, copy_of, place_for, renewed, upgraded};
-ghost use Rattle.core_pts.specs.OnCopy.{flushed, with_copy, written_back, Arrives};
-ghost use Rattle.core_pts.specs.CoreTable.{after_reaction, core_has_case, core_table, is_shared_copy};
+ghost use Rattle.core_pts.specs.OnCopy.{with_copy, Arrives};
+ghost use Rattle.core_pts.specs.CoreTable.{after_reaction, after_body, core_has_case, core_table, is_shared_copy};
 
 use crate::core_state::Core;
 use crate::on_copy::{downgraded, is_exclusive, words_of_copy};
@@ -44,8 +44,11 @@ impl Core {
 
     // A line is asked back, of which no copy stays.
     fn flush(&mut self, line: LineNo) -> Reaction
-        ensures { Some (result, self.new) ≡ after_reaction self.old line (flushed (copy_of self.old.cache line)) }
+        ensures { Some (result, self.new) ≡ after_body self.old line Body.FlushReq }
     {
+        if self.is_pinned(line) {
+            return Reaction::Held;
+        }
         let Some(copy) = self.cache.find(line).copied() else {
             return Reaction::Dropped;
         };
@@ -58,11 +61,14 @@ impl Core {
 
     // A line is asked back, of which a copy stays to be read at least up to a time. An error leaves the core as it was.
     fn write_back(&mut self, line: LineNo, until: u64) -> Result<Reaction, PartError>
-        ensures done { IfOk result (λ reaction. after_reaction self.old line (written_back self.old.lease until (copy_of self.old.cache line)) ≡ Some (reaction, self.new)) }
+        ensures done { IfOk result (λ reaction. after_body self.old line (Body.WbReq until) ≡ Some (reaction, self.new)) }
         ensures refused { OnErr result (self.new ≡ self.old) }
         ensures exhausted { IfErr result (λ e. e ≡ PartError.Exhausted) }
-        ensures fits { OnErr result (after_reaction self.old line (written_back self.old.lease until (copy_of self.old.cache line)) ≡ None) }
+        ensures fits { OnErr result (after_body self.old line (Body.WbReq until) ≡ None) }
     {
+        if self.is_pinned(line) {
+            return Ok(Reaction::Held);
+        }
         let Some(copy) = self.cache.find(line).copied() else {
             return Ok(Reaction::Dropped);
         };
@@ -80,8 +86,11 @@ impl Core {
 
     // The node to which a line that is asked back would be sent, if it would be.
     fn sent_at_flush(&self, line: LineNo) -> Option<(Node, bool)>
-        ensures { result ≡ sent_by (after_reaction self.now line (flushed (copy_of self.now.cache line))) }
+        ensures { result ≡ sent_by (after_body self.now line Body.FlushReq) }
     {
+        if self.is_pinned(line) {
+            return None;
+        }
         let copy = self.cache.find(line).copied()?;
         if !is_exclusive(copy.state) {
             return None;
@@ -91,8 +100,11 @@ impl Core {
 
     // The node to which a line would be sent of which a copy stays to be read at least up to a time, if it would be.
     fn sent_at_write_back(&self, line: LineNo, until: u64) -> Option<(Node, bool)>
-        ensures { result ≡ sent_by (after_reaction self.now line (written_back self.now.lease until (copy_of self.now.cache line))) }
+        ensures { result ≡ sent_by (after_body self.now line (Body.WbReq until)) }
     {
+        if self.is_pinned(line) {
+            return None;
+        }
         let copy = self.cache.find(line).copied()?;
         if !is_exclusive(copy.state) {
             return None;
@@ -117,18 +129,8 @@ impl Part for Core {
     {
         let line = message.line;
         match message.body {
-            Body::FlushReq => {
-                if self.is_pinned(line) {
-                    return None;
-                }
-                self.sent_at_flush(line)
-            }
-            Body::WbReq { rts } => {
-                if self.is_pinned(line) {
-                    return None;
-                }
-                self.sent_at_write_back(line, rts)
-            }
+            Body::FlushReq => self.sent_at_flush(line),
+            Body::WbReq { rts } => self.sent_at_write_back(line, rts),
             _ => None,
         }
     }
@@ -148,18 +150,8 @@ impl Part for Core {
             Body::ExRep(timed) => Ok(self.arrive(line, CopyState::Exclusive, timed)),
             Body::RenewRep { rts } => Ok(self.renew(line, rts)),
             Body::UpgradeRep { rts } => Ok(self.upgrade(line, rts)),
-            Body::FlushReq => {
-                if self.is_pinned(line) {
-                    return Ok(Reaction::Held);
-                }
-                Ok(self.flush(line))
-            }
-            Body::WbReq { rts } => {
-                if self.is_pinned(line) {
-                    return Ok(Reaction::Held);
-                }
-                self.write_back(line, rts)
-            }
+            Body::FlushReq => Ok(self.flush(line)),
+            Body::WbReq { rts } => self.write_back(line, rts),
             _ => Ok(Reaction::Dropped),
         }
     }

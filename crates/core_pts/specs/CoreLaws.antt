@@ -48,24 +48,24 @@ SwapReceivesWord =
     (core after : CoreState) (a v : ℕ) (copy : LineCopy) (received : Option ℕ) (ts : ℕ) →
     Completes core (Swap a v) copy received ts after → received ≡ Some (slice_index copy.words (a % core.line_words))
 
--- a time after all that may have read the words before, and not before the core's
+-- a time after the end of a lease, and not before the core's
 pub record IsAfterReaders (pts rts ts : ℕ) : Type 0 where
-  pub readers : rts < ts
+  pub lease : rts < ts
   pub core : pts ≤ ts
 
--- a time at which no other core may read yet, or a later one, and not before the core's
+-- a time not before the end of a lease, nor before the core's
 pub record IsNotBefore (pts rts ts : ℕ) : Type 0 where
-  pub readers : rts ≤ ts
+  pub lease : rts ≤ ts
   pub core : pts ≤ ts
 
--- a store or swap comes after every read of the words that it overwrites
+-- a store or swap comes after all that may have read the words that it overwrites
 abbrev pub WriteAfterReaders : Type 0
 WriteAfterReaders =
     (core after : CoreState) (op : Op) (copy : LineCopy) (received : Option ℕ) (ts : ℕ) →
     Completes core op copy received ts after → is_write op ≡ true → (core.private_write && copy.written) ≡ false →
     IsAfterReaders core.pts copy.rts ts
 
--- under private writes, a store or swap on words that the core wrote itself comes no earlier than those
+-- under private writes, a store or swap on words that the core wrote itself comes not before them
 abbrev pub PrivateWriteNotBefore : Type 0
 PrivateWriteNotBefore =
     (core after : CoreState) (op : Op) (copy : LineCopy) (received : Option ℕ) (ts : ℕ) →

@@ -13,3 +13,7 @@ mod tests;
 pub use attempt::{Attempt, IssueError};
 pub use config::CoreConfig;
 pub use core_state::Core;
+pub use laws::{
+    completed_on_a_copy, nothing_completed_keeps, open_line_stays, time_never_falls,
+    writes_come_after_reads,
+};

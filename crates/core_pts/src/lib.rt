@@ -1,0 +1,19 @@
+//! A core: its clock, its private cache and its open operation. docs/PROTOCOL.md has its table.
+#![tactic(auto)]
+
+pub mod attempt;
+pub mod config;
+pub mod core_state;
+mod deliver;
+pub mod laws;
+mod on_copy;
+#[cfg(test)]
+mod tests;
+
+pub use attempt::{Attempt, IssueError};
+pub use config::CoreConfig;
+pub use core_state::Core;
+pub use laws::{
+    completed_on_a_copy, nothing_completed_keeps, open_line_stays, time_never_falls,
+    writes_come_after_reads,
+};

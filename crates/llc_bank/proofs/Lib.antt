@@ -1,2 +1,4 @@
+pub mod LawProofs
 pub mod Lines
+pub mod Outcomes
 pub mod Sound

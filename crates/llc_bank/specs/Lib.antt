@@ -1,3 +1,4 @@
+pub mod BankLaws
 pub mod BankTable
 pub mod OnEntry
 pub mod OwnSets

@@ -66,6 +66,13 @@ impl Bank {
         })
     }
 
+    /// The bank's number.
+    pub fn number(&self) -> u32
+        ensures { result ≡ self.now.number }
+    {
+        self.number
+    }
+
     // The set that a line belongs to.
     fn set_of(&self, line: LineNo) -> usize
         ensures set { result ≡ set_of self.now line }

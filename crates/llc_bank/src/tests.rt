@@ -1,0 +1,348 @@
+//! One bank alone: messages made by hand, answers worked out by hand.
+ghost use Rattle.std.specs.Prelude.{◌≡◌, ◌≤◌, IsTrue};
+ghost use Rattle.llc_bank.specs.BankTable.{bank_has_case, comes_to_bank};
+
+use crate::bank::Bank;
+use crate::config::BankConfig;
+use crate::entry::{Entry, Evict, EvictError};
+use network::{Body, LineNo, Message, Node, Part, PartError, Reaction, TimedLine, Words};
+use std::alloc::{AllocError, Global};
+use std::test::Fail;
+
+// The bank 0 of one, with a lease of 10.
+fn bank(alloc: Global, sets: u32, ways: u32, opening_time: u64) -> Result<Bank, AllocError>
+    requires some_sets { 1 ≤ sets }
+    requires most_sets { sets ≤ 1024 }
+    requires some_ways { 1 ≤ ways }
+    requires most_ways { ways ≤ 16 }
+{
+    let config = BankConfig {
+        number: 0,
+        banks: 1,
+        sets,
+        ways,
+        lease: 10,
+        opening_time,
+    };
+    Bank::new(alloc, config)
+}
+
+// Whether a kind of message comes to a bank with this entry of its line.
+fn comes(from: Node, entry: Option<Entry>, body: &Body) -> bool
+    ensures { result ≡ comes_to_bank from entry body.now }
+{
+    match body {
+        Body::ShReq { .. } | Body::ExReq { .. } => matches!(from, Node::Core(_)),
+        Body::FlushRep(_) | Body::WbRep(_) => matches!(
+            entry,
+            Some(Entry::Exclusive { .. } | Entry::Recalling { .. })
+        ),
+        Body::DramLdRep(_) => matches!(entry, Some(Entry::Loading)),
+        Body::DramStRep => matches!(entry, Some(Entry::Storing)),
+        _ => false,
+    }
+}
+
+// What a part answers, through its table alone.
+fn by_table<P: Part>(part: &mut P, message: &Message) -> Result<Reaction, PartError>
+    requires { IsTrue (P.has_case part.old message.now) }
+{
+    let _sends = part.sends(message);
+    part.deliver(message)
+}
+
+// Whether a bank's table has a case for a message.
+fn has_case(bank: &Bank, message: &Message) -> bool
+    ensures { result ≡ bank_has_case bank.now message.now }
+{
+    let Node::Bank(number) = message.to else {
+        return false;
+    };
+    if number != bank.number() {
+        return false;
+    }
+    let entry = bank.entry(message.line).copied();
+    comes(message.from, entry, &message.body)
+}
+
+// What a bank answers, where its table has a case.
+fn delivered(bank: &mut Bank, message: &Message) -> Option<Result<Reaction, PartError>> {
+    if !has_case(bank, message) {
+        return None;
+    }
+    Some(by_table(bank, message))
+}
+
+// To what node a bank would send a message, and whether the delivered one would stay.
+fn would_send(bank: &Bank, message: &Message) -> Option<(Node, bool)> {
+    if !has_case(bank, message) {
+        return None;
+    }
+    bank.sends(message)
+}
+
+// A line whose first word is this.
+fn timed(wts: u64, rts: u64, word: u64) -> TimedLine {
+    let mut words = Words::zeros();
+    words.set(0, word);
+    TimedLine { wts, rts, words }
+}
+
+// A message to bank 0.
+fn to_bank(from: Node, line: u64, body: Body) -> Message {
+    Message {
+        from,
+        to: Node::Bank(0),
+        line: LineNo(line),
+        body,
+    }
+}
+
+// A request of a core to read.
+fn read(core: u32, line: u64, pts: u64, version: Option<u64>) -> Message {
+    to_bank(Node::Core(core), line, Body::ShReq { pts, version })
+}
+
+// A request of a core to own.
+fn own(core: u32, line: u64, version: Option<u64>) -> Message {
+    to_bank(Node::Core(core), line, Body::ExReq { version })
+}
+
+// DRAM's answer to a load, with this first word.
+fn loaded(line: u64, word: u64) -> Message {
+    to_bank(
+        Node::Dram(0),
+        line,
+        Body::DramLdRep(timed(0, 0, word).words),
+    )
+}
+
+// What bank 0 sends.
+fn from_bank(to: Node, line: u64, body: Body) -> Message {
+    Message {
+        from: Node::Bank(0),
+        to,
+        line: LineNo(line),
+        body,
+    }
+}
+
+type Delivered = Option<Result<Reaction, PartError>>;
+
+// The request is consumed, and answered to the core.
+fn answers(core: u32, line: u64, body: Body) -> Delivered {
+    Some(Ok(Reaction::Done(Some(from_bank(Node::Core(core), line, body)))))
+}
+
+// The request waits, and this is sent to a core.
+fn asks(core: u32, line: u64, body: Body) -> Delivered {
+    Some(Ok(Reaction::HeldAfter(from_bank(Node::Core(core), line, body))))
+}
+
+// The request waits for a load.
+fn loads(line: u64) -> Delivered {
+    Some(Ok(Reaction::HeldAfter(from_bank(Node::Dram(0), line, Body::DramLd))))
+}
+
+const HELD: Delivered = Some(Ok(Reaction::Held));
+
+const CONSUMED: Delivered = Some(Ok(Reaction::Done(None)));
+
+// Takes a line in from DRAM, with this first word, for a request of core 0.
+fn fill(bank: &mut Bank, line: u64, word: u64) {
+    let _loads = delivered(bank, &read(0, line, 0, None));
+    let _filled = delivered(bank, &loaded(line, word));
+}
+
+#[test]
+fn a_first_read(rt: HostRuntime) -> Result<(), Fail> {
+    let mut bank = bank(rt.alloc(), 4, 2, 0)?;
+    assert_eq!(rt; bank.number(), 0);
+    assert_eq!(rt; bank.entry(LineNo(0)), None);
+    assert_eq!(rt; delivered(&mut bank, &read(0, 0, 0, None)), loads(0));
+    assert_eq!(rt; bank.entry(LineNo(0)), Some(&Entry::Loading));
+    assert_eq!(rt; delivered(&mut bank, &read(0, 0, 0, None)), HELD);
+    assert_eq!(rt; bank.evict(LineNo(0)), Err(EvictError::Busy));
+    assert_eq!(rt; delivered(&mut bank, &loaded(0, 7)), CONSUMED);
+    let clean = Entry::Shared {
+        dirty: false,
+        line: timed(0, 0, 7),
+    };
+    assert_eq!(rt; bank.entry(LineNo(0)), Some(&clean));
+    assert_eq!(rt;
+        delivered(&mut bank, &read(0, 0, 0, None)),
+        answers(0, 0, Body::ShRep(timed(0, 10, 7)))
+    );
+    assert_eq!(rt;
+        delivered(&mut bank, &read(0, 0, 11, Some(0))),
+        answers(0, 0, Body::RenewRep { rts: 21 })
+    );
+    assert_eq!(rt;
+        delivered(&mut bank, &read(1, 0, 0, None)),
+        answers(1, 0, Body::ShRep(timed(0, 21, 7)))
+    );
+    Ok(())
+}
+
+#[test]
+fn an_owner_gives_its_line_back(rt: HostRuntime) -> Result<(), Fail> {
+    let mut bank = bank(rt.alloc(), 4, 2, 0)?;
+    fill(&mut bank, 0, 7);
+    let _read = delivered(&mut bank, &read(0, 0, 0, None));
+    assert_eq!(rt;
+        delivered(&mut bank, &own(0, 0, Some(0))),
+        answers(0, 0, Body::UpgradeRep { rts: 10 })
+    );
+    assert_eq!(rt; bank.entry(LineNo(0)), Some(&Entry::Exclusive { owner: 0 }));
+    assert_eq!(rt; bank.evicts(LineNo(0)), Ok(Some(Node::Core(0))));
+    assert_eq!(rt;
+        delivered(&mut bank, &own(1, 0, None)),
+        asks(0, 0, Body::FlushReq)
+    );
+    assert_eq!(rt; delivered(&mut bank, &own(1, 0, None)), HELD);
+    let back = to_bank(Node::Core(0), 0, Body::FlushRep(timed(2, 2, 9)));
+    assert_eq!(rt; delivered(&mut bank, &back), CONSUMED);
+    let dirty = Entry::Shared {
+        dirty: true,
+        line: timed(2, 2, 9),
+    };
+    assert_eq!(rt; bank.entry(LineNo(0)), Some(&dirty));
+    assert_eq!(rt; delivered(&mut bank, &back), None);
+    assert_eq!(rt;
+        delivered(&mut bank, &own(1, 0, Some(0))),
+        answers(1, 0, Body::ExRep(timed(2, 2, 9)))
+    );
+    assert_eq!(rt;
+        delivered(&mut bank, &read(0, 0, 3, None)),
+        asks(1, 0, Body::WbReq { rts: 13 })
+    );
+    Ok(())
+}
+
+#[test]
+fn a_dirty_line_is_stored(rt: HostRuntime) -> Result<(), Fail> {
+    let mut bank = bank(rt.alloc(), 4, 2, 0)?;
+    fill(&mut bank, 0, 7);
+    let _owned = delivered(&mut bank, &own(0, 0, None));
+    let back = to_bank(Node::Core(0), 0, Body::WbRep(timed(2, 2, 9)));
+    assert_eq!(rt; delivered(&mut bank, &back), CONSUMED);
+    assert_eq!(rt; bank.evicts(LineNo(0)), Ok(Some(Node::Dram(0))));
+    let store = from_bank(Node::Dram(0), 0, Body::DramSt(timed(0, 0, 9).words));
+    assert_eq!(rt; bank.evict(LineNo(0)), Ok(Evict::Stored(store)));
+    assert_eq!(rt; bank.memory_time(), 2);
+    assert_eq!(rt; bank.entry(LineNo(0)), Some(&Entry::Storing));
+    assert_eq!(rt; delivered(&mut bank, &read(1, 0, 0, None)), HELD);
+    assert_eq!(rt; bank.evicts(LineNo(0)), Err(EvictError::Busy));
+    let done = to_bank(Node::Dram(0), 0, Body::DramStRep);
+    assert_eq!(rt; delivered(&mut bank, &done), CONSUMED);
+    assert_eq!(rt; bank.entry(LineNo(0)), None);
+    assert_eq!(rt; delivered(&mut bank, &read(1, 0, 0, None)), loads(0));
+    Ok(())
+}
+
+#[test]
+fn a_clean_line_raises_the_memory_time(rt: HostRuntime) -> Result<(), Fail> {
+    let mut bank = bank(rt.alloc(), 4, 2, 0)?;
+    fill(&mut bank, 0, 7);
+    let _read = delivered(&mut bank, &read(0, 0, 0, None));
+    assert_eq!(rt; bank.evicts(LineNo(0)), Ok(None));
+    assert_eq!(rt; bank.evict(LineNo(0)), Ok(Evict::Clean));
+    assert_eq!(rt; bank.memory_time(), 10);
+    assert_eq!(rt; bank.evict(LineNo(0)), Err(EvictError::NotHere));
+    fill(&mut bank, 0, 7);
+    let clean = Entry::Shared {
+        dirty: false,
+        line: timed(10, 10, 7),
+    };
+    assert_eq!(rt; bank.entry(LineNo(0)), Some(&clean));
+    Ok(())
+}
+
+// One set of two ways.
+#[test]
+fn room_is_made_in_the_order_of_use(rt: HostRuntime) -> Result<(), Fail> {
+    let mut bank = bank(rt.alloc(), 1, 2, 0)?;
+    fill(&mut bank, 0, 7);
+    assert_eq!(rt; bank.make_room(LineNo(2)), None);
+    assert_eq!(rt; delivered(&mut bank, &read(0, 1, 0, None)), loads(1));
+    assert_eq!(rt; delivered(&mut bank, &read(0, 2, 0, None)), HELD);
+    assert_eq!(rt; bank.make_room(LineNo(2)), None);
+    assert_eq!(rt; delivered(&mut bank, &loaded(1, 8)), CONSUMED);
+    assert_eq!(rt; bank.make_room(LineNo(2)), Some(LineNo(0)));
+    assert_eq!(rt; bank.make_room(LineNo(1)), None);
+    let _read = delivered(&mut bank, &read(0, 0, 0, None));
+    assert_eq!(rt; bank.make_room(LineNo(2)), Some(LineNo(1)));
+    let _owned = delivered(&mut bank, &own(0, 1, None));
+    let _read = delivered(&mut bank, &read(0, 0, 0, None));
+    assert_eq!(rt; bank.make_room(LineNo(2)), Some(LineNo(0)));
+    let _owned = delivered(&mut bank, &own(0, 0, None));
+    assert_eq!(rt; bank.make_room(LineNo(2)), Some(LineNo(1)));
+    assert_eq!(rt; bank.lines()?.as_slice(), [LineNo(0), LineNo(1)].as_slice());
+    let recall = from_bank(Node::Core(0), 1, Body::FlushReq);
+    assert_eq!(rt; bank.evict(LineNo(1)), Ok(Evict::Recalled(recall)));
+    assert_eq!(rt; bank.entry(LineNo(1)), Some(&Entry::Recalling { owner: 0 }));
+    assert_eq!(rt; bank.lines()?.as_slice(), [LineNo(0)].as_slice());
+    assert_eq!(rt; bank.make_room(LineNo(2)), None);
+    Ok(())
+}
+
+// Two sets of one way: lines 0 and 2 share a set.
+#[test]
+fn a_second_line_waits_for_room(rt: HostRuntime) -> Result<(), Fail> {
+    let mut bank = bank(rt.alloc(), 2, 1, 0)?;
+    fill(&mut bank, 0, 7);
+    fill(&mut bank, 1, 8);
+    assert_eq!(rt; delivered(&mut bank, &own(0, 2, None)), HELD);
+    assert_eq!(rt; bank.make_room(LineNo(2)), Some(LineNo(0)));
+    assert_eq!(rt; bank.make_room(LineNo(3)), Some(LineNo(1)));
+    assert_eq!(rt; bank.evict(LineNo(0)), Ok(Evict::Clean));
+    assert_eq!(rt; bank.make_room(LineNo(2)), None);
+    assert_eq!(rt; delivered(&mut bank, &own(0, 2, None)), loads(2));
+    Ok(())
+}
+
+// Bank 1 of two, with two sets of one way: it has the odd lines, and lines 1 and 5 share a set.
+#[test]
+fn lines_go_round_the_banks(rt: HostRuntime) -> Result<(), Fail> {
+    let config = BankConfig {
+        number: 1,
+        banks: 2,
+        sets: 2,
+        ways: 1,
+        lease: 10,
+        opening_time: 0,
+    };
+    let mut bank = Bank::new(rt.alloc(), config)?;
+    assert_eq!(rt; bank.number(), 1);
+    let request = |line: u64| Message {
+        to: Node::Bank(1),
+        ..read(0, line, 0, None)
+    };
+    let stays = Some((Node::Dram(1), true));
+    assert_eq!(rt; would_send(&bank, &request(1)), stays);
+    let _loads = delivered(&mut bank, &request(1));
+    assert_eq!(rt; would_send(&bank, &request(3)), stays);
+    assert_eq!(rt; would_send(&bank, &request(5)), None);
+    assert_eq!(rt; delivered(&mut bank, &request(5)), HELD);
+    Ok(())
+}
+
+#[test]
+fn sums_at_the_last_time(rt: HostRuntime) -> Result<(), Fail> {
+    let mut bank = bank(rt.alloc(), 4, 2, 0)?;
+    fill(&mut bank, 0, 7);
+    let last = u64::MAX - 10;
+    assert_eq!(rt;
+        delivered(&mut bank, &read(0, 0, last, None)),
+        answers(0, 0, Body::ShRep(timed(0, u64::MAX, 7)))
+    );
+    let late = Some(Err(PartError::Exhausted));
+    assert_eq!(rt; delivered(&mut bank, &read(0, 0, last + 1, None)), late);
+    let _owned = delivered(&mut bank, &own(0, 0, None));
+    assert_eq!(rt; delivered(&mut bank, &read(1, 0, last + 1, None)), late);
+    assert_eq!(rt;
+        delivered(&mut bank, &read(1, 0, last, None)),
+        asks(0, 0, Body::WbReq { rts: u64::MAX })
+    );
+    Ok(())
+}

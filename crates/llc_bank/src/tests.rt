@@ -154,21 +154,42 @@ fn fill(bank: &mut Bank, line: u64, word: u64) {
     let _filled = delivered(bank, &loaded(line, word));
 }
 
+// What a bank keeps of a line.
+fn kept(bank: &Bank, line: u64) -> Option<Entry> {
+    bank.entry(LineNo(line)).copied()
+}
+
+// An eviction of a line.
+fn evicted(bank: &mut Bank, line: u64) -> Result<Evict, EvictError> {
+    bank.evict(LineNo(line))
+}
+
+// Where an eviction of a line would send a message.
+fn would_evict(bank: &Bank, line: u64) -> Result<Option<Node>, EvictError> {
+    bank.evicts(LineNo(line))
+}
+
+// The line to evict for a line that waits for room.
+fn victim(bank: &Bank, line: u64) -> Option<u64> {
+    let LineNo(victim) = bank.make_room(LineNo(line))?;
+    Some(victim)
+}
+
 #[test]
 fn a_first_read(rt: HostRuntime) -> Result<(), Fail> {
     let mut bank = bank(rt.alloc(), 4, 2, 0)?;
     assert_eq!(rt; bank.number(), 0);
-    assert_eq!(rt; bank.entry(LineNo(0)), None);
+    assert_eq!(rt; kept(&bank, 0), None);
     assert_eq!(rt; delivered(&mut bank, &read(0, 0, 0, None)), loads(0));
-    assert_eq!(rt; bank.entry(LineNo(0)), Some(&Entry::Loading));
+    assert_eq!(rt; kept(&bank, 0), Some(Entry::Loading));
     assert_eq!(rt; delivered(&mut bank, &read(0, 0, 0, None)), HELD);
-    assert_eq!(rt; bank.evict(LineNo(0)), Err(EvictError::Busy));
+    assert_eq!(rt; evicted(&mut bank, 0), Err(EvictError::Busy));
     assert_eq!(rt; delivered(&mut bank, &loaded(0, 7)), CONSUMED);
     let clean = Entry::Shared {
         dirty: false,
         line: timed(0, 0, 7),
     };
-    assert_eq!(rt; bank.entry(LineNo(0)), Some(&clean));
+    assert_eq!(rt; kept(&bank, 0), Some(clean));
     assert_eq!(rt;
         delivered(&mut bank, &read(0, 0, 0, None)),
         answers(0, 0, Body::ShRep(timed(0, 10, 7)))
@@ -193,8 +214,8 @@ fn an_owner_gives_its_line_back(rt: HostRuntime) -> Result<(), Fail> {
         delivered(&mut bank, &own(0, 0, Some(0))),
         answers(0, 0, Body::UpgradeRep { rts: 10 })
     );
-    assert_eq!(rt; bank.entry(LineNo(0)), Some(&Entry::Exclusive { owner: 0 }));
-    assert_eq!(rt; bank.evicts(LineNo(0)), Ok(Some(Node::Core(0))));
+    assert_eq!(rt; kept(&bank, 0), Some(Entry::Exclusive { owner: 0 }));
+    assert_eq!(rt; would_evict(&bank, 0), Ok(Some(Node::Core(0))));
     assert_eq!(rt;
         delivered(&mut bank, &own(1, 0, None)),
         asks(0, 0, Body::FlushReq)
@@ -206,7 +227,7 @@ fn an_owner_gives_its_line_back(rt: HostRuntime) -> Result<(), Fail> {
         dirty: true,
         line: timed(2, 2, 9),
     };
-    assert_eq!(rt; bank.entry(LineNo(0)), Some(&dirty));
+    assert_eq!(rt; kept(&bank, 0), Some(dirty));
     assert_eq!(rt; delivered(&mut bank, &back), None);
     assert_eq!(rt;
         delivered(&mut bank, &own(1, 0, Some(0))),
@@ -226,16 +247,16 @@ fn a_dirty_line_is_stored(rt: HostRuntime) -> Result<(), Fail> {
     let _owned = delivered(&mut bank, &own(0, 0, None));
     let back = to_bank(Node::Core(0), 0, Body::WbRep(timed(2, 2, 9)));
     assert_eq!(rt; delivered(&mut bank, &back), CONSUMED);
-    assert_eq!(rt; bank.evicts(LineNo(0)), Ok(Some(Node::Dram(0))));
+    assert_eq!(rt; would_evict(&bank, 0), Ok(Some(Node::Dram(0))));
     let store = from_bank(Node::Dram(0), 0, Body::DramSt(timed(0, 0, 9).words));
-    assert_eq!(rt; bank.evict(LineNo(0)), Ok(Evict::Stored(store)));
+    assert_eq!(rt; evicted(&mut bank, 0), Ok(Evict::Stored(store)));
     assert_eq!(rt; bank.memory_time(), 2);
-    assert_eq!(rt; bank.entry(LineNo(0)), Some(&Entry::Storing));
+    assert_eq!(rt; kept(&bank, 0), Some(Entry::Storing));
     assert_eq!(rt; delivered(&mut bank, &read(1, 0, 0, None)), HELD);
-    assert_eq!(rt; bank.evicts(LineNo(0)), Err(EvictError::Busy));
+    assert_eq!(rt; would_evict(&bank, 0), Err(EvictError::Busy));
     let done = to_bank(Node::Dram(0), 0, Body::DramStRep);
     assert_eq!(rt; delivered(&mut bank, &done), CONSUMED);
-    assert_eq!(rt; bank.entry(LineNo(0)), None);
+    assert_eq!(rt; kept(&bank, 0), None);
     assert_eq!(rt; delivered(&mut bank, &read(1, 0, 0, None)), loads(0));
     Ok(())
 }
@@ -245,16 +266,16 @@ fn a_clean_line_raises_the_memory_time(rt: HostRuntime) -> Result<(), Fail> {
     let mut bank = bank(rt.alloc(), 4, 2, 0)?;
     fill(&mut bank, 0, 7);
     let _read = delivered(&mut bank, &read(0, 0, 0, None));
-    assert_eq!(rt; bank.evicts(LineNo(0)), Ok(None));
-    assert_eq!(rt; bank.evict(LineNo(0)), Ok(Evict::Clean));
+    assert_eq!(rt; would_evict(&bank, 0), Ok(None));
+    assert_eq!(rt; evicted(&mut bank, 0), Ok(Evict::Clean));
     assert_eq!(rt; bank.memory_time(), 10);
-    assert_eq!(rt; bank.evict(LineNo(0)), Err(EvictError::NotHere));
+    assert_eq!(rt; evicted(&mut bank, 0), Err(EvictError::NotHere));
     fill(&mut bank, 0, 7);
     let clean = Entry::Shared {
         dirty: false,
         line: timed(10, 10, 7),
     };
-    assert_eq!(rt; bank.entry(LineNo(0)), Some(&clean));
+    assert_eq!(rt; kept(&bank, 0), Some(clean));
     Ok(())
 }
 
@@ -263,26 +284,26 @@ fn a_clean_line_raises_the_memory_time(rt: HostRuntime) -> Result<(), Fail> {
 fn room_is_made_in_the_order_of_use(rt: HostRuntime) -> Result<(), Fail> {
     let mut bank = bank(rt.alloc(), 1, 2, 0)?;
     fill(&mut bank, 0, 7);
-    assert_eq!(rt; bank.make_room(LineNo(2)), None);
+    assert_eq!(rt; victim(&bank, 2), None);
     assert_eq!(rt; delivered(&mut bank, &read(0, 1, 0, None)), loads(1));
     assert_eq!(rt; delivered(&mut bank, &read(0, 2, 0, None)), HELD);
-    assert_eq!(rt; bank.make_room(LineNo(2)), None);
+    assert_eq!(rt; victim(&bank, 2), None);
     assert_eq!(rt; delivered(&mut bank, &loaded(1, 8)), CONSUMED);
-    assert_eq!(rt; bank.make_room(LineNo(2)), Some(LineNo(0)));
-    assert_eq!(rt; bank.make_room(LineNo(1)), None);
+    assert_eq!(rt; victim(&bank, 2), Some(0));
+    assert_eq!(rt; victim(&bank, 1), None);
     let _read = delivered(&mut bank, &read(0, 0, 0, None));
-    assert_eq!(rt; bank.make_room(LineNo(2)), Some(LineNo(1)));
+    assert_eq!(rt; victim(&bank, 2), Some(1));
     let _owned = delivered(&mut bank, &own(0, 1, None));
     let _read = delivered(&mut bank, &read(0, 0, 0, None));
-    assert_eq!(rt; bank.make_room(LineNo(2)), Some(LineNo(0)));
+    assert_eq!(rt; victim(&bank, 2), Some(0));
     let _owned = delivered(&mut bank, &own(0, 0, None));
-    assert_eq!(rt; bank.make_room(LineNo(2)), Some(LineNo(1)));
+    assert_eq!(rt; victim(&bank, 2), Some(1));
     assert_eq!(rt; bank.lines()?.as_slice(), [LineNo(0), LineNo(1)].as_slice());
     let recall = from_bank(Node::Core(0), 1, Body::FlushReq);
-    assert_eq!(rt; bank.evict(LineNo(1)), Ok(Evict::Recalled(recall)));
-    assert_eq!(rt; bank.entry(LineNo(1)), Some(&Entry::Recalling { owner: 0 }));
+    assert_eq!(rt; evicted(&mut bank, 1), Ok(Evict::Recalled(recall)));
+    assert_eq!(rt; kept(&bank, 1), Some(Entry::Recalling { owner: 0 }));
     assert_eq!(rt; bank.lines()?.as_slice(), [LineNo(0)].as_slice());
-    assert_eq!(rt; bank.make_room(LineNo(2)), None);
+    assert_eq!(rt; victim(&bank, 2), None);
     Ok(())
 }
 
@@ -293,10 +314,10 @@ fn a_second_line_waits_for_room(rt: HostRuntime) -> Result<(), Fail> {
     fill(&mut bank, 0, 7);
     fill(&mut bank, 1, 8);
     assert_eq!(rt; delivered(&mut bank, &own(0, 2, None)), HELD);
-    assert_eq!(rt; bank.make_room(LineNo(2)), Some(LineNo(0)));
-    assert_eq!(rt; bank.make_room(LineNo(3)), Some(LineNo(1)));
-    assert_eq!(rt; bank.evict(LineNo(0)), Ok(Evict::Clean));
-    assert_eq!(rt; bank.make_room(LineNo(2)), None);
+    assert_eq!(rt; victim(&bank, 2), Some(0));
+    assert_eq!(rt; victim(&bank, 3), Some(1));
+    assert_eq!(rt; evicted(&mut bank, 0), Ok(Evict::Clean));
+    assert_eq!(rt; victim(&bank, 2), None);
     assert_eq!(rt; delivered(&mut bank, &own(0, 2, None)), loads(2));
     Ok(())
 }

@@ -1,5 +1,5 @@
 //! A bank of the shared cache, whose memory is all taken when it is made.
-ghost use Rattle.std.specs.Prelude.{◌≡◌, ◌≢◌, ◌≤◌, ◌<◌, length, IfOk, IsPermutation, IsSorted, IsSome, IsTrue, is_some, Err, None, OnErr, Some};
+ghost use Rattle.std.specs.Prelude.{◌≡◌, ◌≢◌, ◌≤◌, ◌<◌, length, IfOk, IfSome, IsOk, IsPermutation, IsSorted, IsSome, IsTrue, is_some, Err, None, OnErr, Some};
 ghost use Rattle.std.specs.Ordering.{nat_cmp};
 ghost use Rattle.std.specs.Option.{option_copied};
 ghost use Rattle.line_sets.specs.SetTable.{all_listed, has_place, has_room};
@@ -42,6 +42,7 @@ impl Model for Bank {
 
 impl Bank {
     ghost use Rattle.llc_bank.specs.BankTable.{decided, empty_bank, entry_of, evict, evict_sends, from_bank, make_room, set_of, to_dram, with_changed, with_used, without_entry};
+    ghost use Rattle.llc_bank.specs.OwnSets.{IsSound};
 
     /// A bank without entries. All memory is taken here, for all the entries that it can have.
     pub fn new(alloc: Global, config: BankConfig) -> Result<Bank, AllocError>
@@ -83,7 +84,8 @@ impl Bank {
 
     /// What the bank keeps of a line, `None` where it does not have it.
     pub fn entry(&self, line: LineNo) -> Option<&Entry>
-        ensures { option_copied result ≡ entry_of self.now line }
+        ensures value { option_copied result ≡ entry_of self.now line }
+        ensures sound { IsSound self.now.banks self.now.table }
     {
         self.table.find(self.set_of(line), line.0)
     }
@@ -147,7 +149,7 @@ impl Bank {
     {
         decide(
             self.lease,
-            self.mts.now(),
+            self.memory_time(),
             self.table.has_room(self.set_of(message.line)),
             core_of(message.from),
             self.entry(message.line).copied(),
@@ -198,9 +200,19 @@ impl Bank {
 
     /// The line to evict for a request of a line that waits for room: `None` where the bank has the line, where its set
     /// has room, and where a line of the set is being loaded, recalled or stored. Else the least recently used line of
-    /// the set that no core owns, or the least recently used one where cores own them all.
+    /// the set that no core owns, or the least recently used one where cores own them all; its eviction is not refused.
     pub fn make_room(&self, line: LineNo) -> Option<LineNo>
-        ensures { result ≡ make_room self.now line }
+        ensures line { result ≡ make_room self.now line }
+        ensures same_set { IfSome result (λ victim. set_of self.now victim ≡ set_of self.now line) }
+        ensures evicted { IfSome result (λ victim. IsOk (evict self.now victim).0) }
+    {
+        self.line_in_the_way(line)
+    }
+
+    // The line that make_room gives.
+    fn line_in_the_way(&self, line: LineNo) -> Option<LineNo>
+        ensures line { result ≡ make_room self.now line }
+        ensures sound { IsSound self.now.banks self.now.table }
     {
         let set = self.set_of(line);
         if self.entry(line).is_some() || self.table.has_room(set) {

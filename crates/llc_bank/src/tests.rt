@@ -108,6 +108,11 @@ fn own(core: u32, line: u64, version: Option<u64>) -> Message {
     to_bank(Node::Core(core), line, Body::ExReq { version })
 }
 
+// A core gives a line back and keeps no copy.
+fn flushed(core: u32, line: u64, timed: TimedLine) -> Message {
+    to_bank(Node::Core(core), line, Body::FlushRep(timed))
+}
+
 // DRAM's answer to a load, with this first word.
 fn loaded(line: u64, word: u64) -> Message {
     to_bank(
@@ -148,6 +153,18 @@ const HELD: Delivered = Some(Ok(Reaction::Held));
 
 const CONSUMED: Delivered = Some(Ok(Reaction::Done(None)));
 
+const TOO_LATE: Delivered = Some(Err(PartError::Exhausted));
+
+// Delivers the messages in turn: the first one that is not answered as expected.
+fn first_wrong(bank: &mut Bank, steps: &[(Message, Delivered)]) -> Option<Message> {
+    for step in steps {
+        if delivered(bank, &step.0) != step.1 {
+            return Some(step.0);
+        }
+    }
+    None
+}
+
 // Takes a line in from DRAM, with this first word, for a request of core 0.
 fn fill(bank: &mut Bank, line: u64, word: u64) {
     let _loads = delivered(bank, &read(0, line, 0, None));
@@ -175,33 +192,44 @@ fn victim(bank: &Bank, line: u64) -> Option<u64> {
     Some(victim)
 }
 
+// A line that a core gave back.
+fn dirty(line: TimedLine) -> Option<Entry> {
+    Some(Entry::Shared { dirty: true, line })
+}
+
+// A line as it came from DRAM.
+fn clean(line: TimedLine) -> Option<Entry> {
+    Some(Entry::Shared { dirty: false, line })
+}
+
 #[test]
 fn a_first_read(rt: HostRuntime) -> Result<(), Fail> {
     let mut bank = bank(rt.alloc(), 4, 2, 0)?;
     assert_eq!(rt; bank.number(), 0);
     assert_eq!(rt; kept(&bank, 0), None);
-    assert_eq!(rt; delivered(&mut bank, &read(0, 0, 0, None)), loads(0));
-    assert_eq!(rt; kept(&bank, 0), Some(Entry::Loading));
-    assert_eq!(rt; delivered(&mut bank, &read(0, 0, 0, None)), HELD);
-    assert_eq!(rt; evicted(&mut bank, 0), Err(EvictError::Busy));
-    assert_eq!(rt; delivered(&mut bank, &loaded(0, 7)), CONSUMED);
-    let clean = Entry::Shared {
-        dirty: false,
-        line: timed(0, 0, 7),
-    };
-    assert_eq!(rt; kept(&bank, 0), Some(clean));
-    assert_eq!(rt;
-        delivered(&mut bank, &read(0, 0, 0, None)),
-        answers(0, 0, Body::ShRep(timed(0, 10, 7)))
-    );
-    assert_eq!(rt;
-        delivered(&mut bank, &read(0, 0, 11, Some(0))),
-        answers(0, 0, Body::RenewRep { rts: 21 })
-    );
-    assert_eq!(rt;
-        delivered(&mut bank, &read(1, 0, 0, None)),
-        answers(1, 0, Body::ShRep(timed(0, 21, 7)))
-    );
+    let steps = [
+        (read(0, 0, 0, None), loads(0)),
+        (read(0, 0, 0, None), HELD),
+        (loaded(0, 7), CONSUMED),
+    ];
+    assert_eq!(rt; first_wrong(&mut bank, &steps), None);
+    assert_eq!(rt; kept(&bank, 0), clean(timed(0, 0, 7)));
+    let steps = [
+        (
+            read(0, 0, 0, None),
+            answers(0, 0, Body::ShRep(timed(0, 10, 7))),
+        ),
+        (
+            read(0, 0, 11, Some(0)),
+            answers(0, 0, Body::RenewRep { rts: 21 }),
+        ),
+        (
+            read(1, 0, 0, None),
+            answers(1, 0, Body::ShRep(timed(0, 21, 7))),
+        ),
+    ];
+    assert_eq!(rt; first_wrong(&mut bank, &steps), None);
+    assert_eq!(rt; kept(&bank, 0), clean(timed(0, 21, 7)));
     Ok(())
 }
 
@@ -209,34 +237,31 @@ fn a_first_read(rt: HostRuntime) -> Result<(), Fail> {
 fn an_owner_gives_its_line_back(rt: HostRuntime) -> Result<(), Fail> {
     let mut bank = bank(rt.alloc(), 4, 2, 0)?;
     fill(&mut bank, 0, 7);
-    let _read = delivered(&mut bank, &read(0, 0, 0, None));
-    assert_eq!(rt;
-        delivered(&mut bank, &own(0, 0, Some(0))),
-        answers(0, 0, Body::UpgradeRep { rts: 10 })
-    );
-    assert_eq!(rt; kept(&bank, 0), Some(Entry::Exclusive { owner: 0 }));
-    assert_eq!(rt; would_evict(&bank, 0), Ok(Some(Node::Core(0))));
-    assert_eq!(rt;
-        delivered(&mut bank, &own(1, 0, None)),
-        asks(0, 0, Body::FlushReq)
-    );
-    assert_eq!(rt; delivered(&mut bank, &own(1, 0, None)), HELD);
-    let back = to_bank(Node::Core(0), 0, Body::FlushRep(timed(2, 2, 9)));
-    assert_eq!(rt; delivered(&mut bank, &back), CONSUMED);
-    let dirty = Entry::Shared {
-        dirty: true,
-        line: timed(2, 2, 9),
-    };
-    assert_eq!(rt; kept(&bank, 0), Some(dirty));
-    assert_eq!(rt; delivered(&mut bank, &back), None);
-    assert_eq!(rt;
-        delivered(&mut bank, &own(1, 0, Some(0))),
-        answers(1, 0, Body::ExRep(timed(2, 2, 9)))
-    );
-    assert_eq!(rt;
-        delivered(&mut bank, &read(0, 0, 3, None)),
-        asks(1, 0, Body::WbReq { rts: 13 })
-    );
+    let steps = [
+        (
+            read(0, 0, 0, None),
+            answers(0, 0, Body::ShRep(timed(0, 10, 7))),
+        ),
+        (
+            own(0, 0, Some(0)),
+            answers(0, 0, Body::UpgradeRep { rts: 10 }),
+        ),
+        (own(1, 0, None), asks(0, 0, Body::FlushReq)),
+        (own(1, 0, None), HELD),
+        (flushed(0, 0, timed(2, 2, 9)), CONSUMED),
+        (flushed(0, 0, timed(2, 2, 9)), None),
+    ];
+    assert_eq!(rt; first_wrong(&mut bank, &steps), None);
+    assert_eq!(rt; kept(&bank, 0), dirty(timed(2, 2, 9)));
+    let steps = [
+        (
+            own(1, 0, Some(0)),
+            answers(1, 0, Body::ExRep(timed(2, 2, 9))),
+        ),
+        (read(0, 0, 3, None), asks(1, 0, Body::WbReq { rts: 13 })),
+    ];
+    assert_eq!(rt; first_wrong(&mut bank, &steps), None);
+    assert_eq!(rt; kept(&bank, 0), Some(Entry::Recalling { owner: 1 }));
     Ok(())
 }
 
@@ -252,12 +277,14 @@ fn a_dirty_line_is_stored(rt: HostRuntime) -> Result<(), Fail> {
     assert_eq!(rt; evicted(&mut bank, 0), Ok(Evict::Stored(store)));
     assert_eq!(rt; bank.memory_time(), 2);
     assert_eq!(rt; kept(&bank, 0), Some(Entry::Storing));
-    assert_eq!(rt; delivered(&mut bank, &read(1, 0, 0, None)), HELD);
     assert_eq!(rt; would_evict(&bank, 0), Err(EvictError::Busy));
-    let done = to_bank(Node::Dram(0), 0, Body::DramStRep);
-    assert_eq!(rt; delivered(&mut bank, &done), CONSUMED);
-    assert_eq!(rt; kept(&bank, 0), None);
-    assert_eq!(rt; delivered(&mut bank, &read(1, 0, 0, None)), loads(0));
+    let steps = [
+        (read(1, 0, 0, None), HELD),
+        (to_bank(Node::Dram(0), 0, Body::DramStRep), CONSUMED),
+        (read(1, 0, 0, None), loads(0)),
+    ];
+    assert_eq!(rt; first_wrong(&mut bank, &steps), None);
+    assert_eq!(rt; evicted(&mut bank, 0), Err(EvictError::Busy));
     Ok(())
 }
 
@@ -271,11 +298,7 @@ fn a_clean_line_raises_the_memory_time(rt: HostRuntime) -> Result<(), Fail> {
     assert_eq!(rt; bank.memory_time(), 10);
     assert_eq!(rt; evicted(&mut bank, 0), Err(EvictError::NotHere));
     fill(&mut bank, 0, 7);
-    let clean = Entry::Shared {
-        dirty: false,
-        line: timed(10, 10, 7),
-    };
-    assert_eq!(rt; kept(&bank, 0), Some(clean));
+    assert_eq!(rt; kept(&bank, 0), clean(timed(10, 10, 7)));
     Ok(())
 }
 
@@ -285,23 +308,32 @@ fn room_is_made_in_the_order_of_use(rt: HostRuntime) -> Result<(), Fail> {
     let mut bank = bank(rt.alloc(), 1, 2, 0)?;
     fill(&mut bank, 0, 7);
     assert_eq!(rt; victim(&bank, 2), None);
-    assert_eq!(rt; delivered(&mut bank, &read(0, 1, 0, None)), loads(1));
-    assert_eq!(rt; delivered(&mut bank, &read(0, 2, 0, None)), HELD);
+    let steps = [(read(0, 1, 0, None), loads(1)), (read(0, 2, 0, None), HELD)];
+    assert_eq!(rt; first_wrong(&mut bank, &steps), None);
     assert_eq!(rt; victim(&bank, 2), None);
     assert_eq!(rt; delivered(&mut bank, &loaded(1, 8)), CONSUMED);
     assert_eq!(rt; victim(&bank, 2), Some(0));
     assert_eq!(rt; victim(&bank, 1), None);
     let _read = delivered(&mut bank, &read(0, 0, 0, None));
     assert_eq!(rt; victim(&bank, 2), Some(1));
-    let _owned = delivered(&mut bank, &own(0, 1, None));
-    let _read = delivered(&mut bank, &read(0, 0, 0, None));
-    assert_eq!(rt; victim(&bank, 2), Some(0));
+    Ok(())
+}
+
+// One set of two ways: line 0 is owned, line 1 isn't, then both are.
+#[test]
+fn owned_lines_make_room_last(rt: HostRuntime) -> Result<(), Fail> {
+    let mut bank = bank(rt.alloc(), 1, 2, 0)?;
+    fill(&mut bank, 0, 7);
+    fill(&mut bank, 1, 8);
     let _owned = delivered(&mut bank, &own(0, 0, None));
+    let _read = delivered(&mut bank, &read(0, 1, 0, None));
     assert_eq!(rt; victim(&bank, 2), Some(1));
+    let _owned = delivered(&mut bank, &own(0, 1, None));
+    assert_eq!(rt; victim(&bank, 2), Some(0));
     assert_eq!(rt; bank.lines()?.as_slice(), [LineNo(0), LineNo(1)].as_slice());
     let recall = from_bank(Node::Core(0), 1, Body::FlushReq);
+    assert_eq!(rt; would_evict(&bank, 1), Ok(Some(Node::Core(0))));
     assert_eq!(rt; evicted(&mut bank, 1), Ok(Evict::Recalled(recall)));
-    assert_eq!(rt; kept(&bank, 1), Some(Entry::Recalling { owner: 0 }));
     assert_eq!(rt; bank.lines()?.as_slice(), [LineNo(0)].as_slice());
     assert_eq!(rt; victim(&bank, 2), None);
     Ok(())
@@ -317,7 +349,6 @@ fn a_second_line_waits_for_room(rt: HostRuntime) -> Result<(), Fail> {
     assert_eq!(rt; victim(&bank, 2), Some(0));
     assert_eq!(rt; victim(&bank, 3), Some(1));
     assert_eq!(rt; evicted(&mut bank, 0), Ok(Evict::Clean));
-    assert_eq!(rt; victim(&bank, 2), None);
     assert_eq!(rt; delivered(&mut bank, &own(0, 2, None)), loads(2));
     Ok(())
 }
@@ -334,18 +365,21 @@ fn lines_go_round_the_banks(rt: HostRuntime) -> Result<(), Fail> {
         opening_time: 0,
     };
     let mut bank = Bank::new(rt.alloc(), config)?;
-    assert_eq!(rt; bank.number(), 1);
-    let request = |line: u64| Message {
+    let stays = Some((Node::Dram(1), true));
+    assert_eq!(rt; would_send(&bank, &read_at_1(1)), stays);
+    let _loads = delivered(&mut bank, &read_at_1(1));
+    assert_eq!(rt; would_send(&bank, &read_at_1(3)), stays);
+    assert_eq!(rt; would_send(&bank, &read_at_1(5)), None);
+    assert_eq!(rt; delivered(&mut bank, &read_at_1(5)), HELD);
+    Ok(())
+}
+
+// A request to read, at bank 1.
+fn read_at_1(line: u64) -> Message {
+    Message {
         to: Node::Bank(1),
         ..read(0, line, 0, None)
-    };
-    let stays = Some((Node::Dram(1), true));
-    assert_eq!(rt; would_send(&bank, &request(1)), stays);
-    let _loads = delivered(&mut bank, &request(1));
-    assert_eq!(rt; would_send(&bank, &request(3)), stays);
-    assert_eq!(rt; would_send(&bank, &request(5)), None);
-    assert_eq!(rt; delivered(&mut bank, &request(5)), HELD);
-    Ok(())
+    }
 }
 
 #[test]
@@ -353,17 +387,22 @@ fn sums_at_the_last_time(rt: HostRuntime) -> Result<(), Fail> {
     let mut bank = bank(rt.alloc(), 4, 2, 0)?;
     fill(&mut bank, 0, 7);
     let last = u64::MAX - 10;
-    assert_eq!(rt;
-        delivered(&mut bank, &read(0, 0, last, None)),
-        answers(0, 0, Body::ShRep(timed(0, u64::MAX, 7)))
-    );
-    let late = Some(Err(PartError::Exhausted));
-    assert_eq!(rt; delivered(&mut bank, &read(0, 0, last + 1, None)), late);
-    let _owned = delivered(&mut bank, &own(0, 0, None));
-    assert_eq!(rt; delivered(&mut bank, &read(1, 0, last + 1, None)), late);
-    assert_eq!(rt;
-        delivered(&mut bank, &read(1, 0, last, None)),
-        asks(0, 0, Body::WbReq { rts: u64::MAX })
-    );
+    let steps = [
+        (
+            read(0, 0, last, None),
+            answers(0, 0, Body::ShRep(timed(0, u64::MAX, 7))),
+        ),
+        (read(0, 0, last + 1, None), TOO_LATE),
+        (
+            own(0, 0, None),
+            answers(0, 0, Body::ExRep(timed(0, u64::MAX, 7))),
+        ),
+        (read(1, 0, last + 1, None), TOO_LATE),
+        (
+            read(1, 0, last, None),
+            asks(0, 0, Body::WbReq { rts: u64::MAX }),
+        ),
+    ];
+    assert_eq!(rt; first_wrong(&mut bank, &steps), None);
     Ok(())
 }

@@ -1,5 +1,5 @@
 -- The laws of a bank, from what it sends and leaves.
-use Rattle.std.proofs.Common.{◌≡◌, ℕ, ◌+◌, ◌<◌, ◌≤◌, Bool, true, false, not, cond, max, List, length, Option, Some, None, refl, sym, ap, ◌∙◌, arith}
+use Rattle.std.proofs.Common.{◌≡◌, ℕ, ◌<◌, ◌≤◌, Bool, true, false, not, cond, length, Option, Some, None, refl, sym, ap, ◌∙◌, arith}
 use Rattle.network.specs.declared.message.TimedLine.{TimedLine}
 use Rattle.network.specs.declared.message.Body.{Body}
 use Rattle.network.specs.declared.message.Body.TheVariants.{ShReq, ExReq, ShRep, ExRep, RenewRep, UpgradeRep, FlushReq, WbReq, FlushRep, WbRep, DramLd, DramLdRep, DramSt, DramStRep}
@@ -15,7 +15,7 @@ use Rattle.llc_bank.specs.declared.entry.Entry.TheVariants.{Loading, Shared, Exc
 use Rattle.llc_bank.specs.declared.decision.Eviction.{Eviction}
 use Rattle.llc_bank.specs.declared.decision.Eviction.TheVariants.{NotThere, IsBusy, Drops, Stores, AsksBack}
 use Rattle.llc_bank.specs.OnEntry.{at_bank, evicted, leased, read_answer}
-use Rattle.llc_bank.specs.BankTable.{BankState, after_decision, after_eviction, bank_table, core_of, decided, entry_of, evict, set_of, with_changed}
+use Rattle.llc_bank.specs.BankTable.{BankState, after_decision, after_eviction, core_of, decided, entry_of, set_of, with_changed}
 use Rattle.llc_bank.specs.BankLaws.{EvictionsRaiseTime, FillsAtMemoryTime, GrantsUnownedLines, IsLeased, LoadsAbsentLines, ReadersAreLeased, Sends, WordsGoToOtherVersions, carries_line, lease_told, version_in}
 use Rattle.llc_bank.proofs.Outcomes.{Outcome, SentBy, entry-changed, entry-used, outcome-at, same_reaction, sends-by}
 

@@ -1,11 +1,10 @@
 -- The line that makes room stands in the same set, and can be evicted.
-use Rattle.std.proofs.Common.{◌≡◌, ℕ, ◌/◌, ◌%◌, ◌||◌, ◌&&◌, ◌==◌, Bool, true, false, not, cond, List, [], ◌∷◌, length, Option, Some, None, refl, sym, ap, ◌∙◌, IfSome, IsOk}
+use Rattle.std.proofs.Common.{◌≡◌, ℕ, ◌||◌, ◌&&◌, ◌==◌, Bool, true, false, not, cond, List, [], ◌∷◌, Option, Some, None, refl, sym, ap, ◌∙◌, IfSome, IsOk}
 use Rattle.std.specs.Option.{is_some, option_map}
-use Rattle.std.specs.List.{list_all}
 use Rattle.std.specs.List as list
 use Rattle.std.proofs.lemmas.Bool.{cond-true, eq-eqb}
 use Rattle.line_sets.specs.Order.{find, is_there}
-use Rattle.line_sets.specs.SetTable.{Sets, has_room, set_at}
+use Rattle.line_sets.specs.SetTable.{has_room, set_at}
 use Rattle.llc_bank.specs.declared.entry.Entry.{Entry}
 use Rattle.llc_bank.specs.declared.entry.Entry.TheVariants.{Loading, Shared, Exclusive, Recalling, Storing}
 use Rattle.llc_bank.specs.Settled.{is_settled, is_shared}

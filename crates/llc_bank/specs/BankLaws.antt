@@ -9,7 +9,7 @@ use Rattle.network.specs.declared.part.Reaction.TheVariants.{Done, Dropped, Held
 use Rattle.timestamp_manager.specs.Lease.{is_version}
 use Rattle.timestamp_manager.specs.LeaseLaws.{Covers}
 use Rattle.llc_bank.specs.declared.entry.Entry.{Entry}
-use Rattle.llc_bank.specs.declared.entry.Entry.TheVariants.{Loading, Shared, Exclusive, Storing}
+use Rattle.llc_bank.specs.declared.entry.Entry.TheVariants.{Loading, Shared, Exclusive}
 use Rattle.llc_bank.specs.Settled.{is_shared}
 use Rattle.llc_bank.specs.BankTable.{BankState, bank_table, core_of, entry_of, evict}
 

@@ -1,5 +1,5 @@
 -- A bank as data, and what each event makes of it.
-use Rattle.std.specs.Prelude.{◌≡◌, ℕ, ◌/◌, ◌%◌, ◌==◌, max, Bool, true, false, ◌&&◌, ◌||◌, not, is_some, option_map, find, List, length, Option, Some, None, Result, Ok, Err, if◌then◌else◌}
+use Rattle.std.specs.Prelude.{ℕ, ◌/◌, ◌%◌, ◌==◌, max, Bool, true, false, ◌&&◌, ◌||◌, not, is_some, option_map, find, List, length, Option, Some, None, Result, Ok, Err, if◌then◌else◌}
 use Rattle.std.specs.List.{list_all}
 use Rattle.network.specs.declared.message.Node.{Node}
 use Rattle.network.specs.declared.message.Node.TheVariants.{Core, Bank, Dram}
@@ -10,7 +10,7 @@ use Rattle.network.specs.declared.part.Reaction.{Reaction}
 use Rattle.network.specs.declared.part.Reaction.TheVariants.{Done, Dropped, Held, HeldAfter}
 use Rattle.line_sets.specs.SetTable.{Sets, set_at, look, put, put_within, drop_line, empty_sets, has_room}
 use Rattle.llc_bank.specs.declared.entry.Entry.{Entry}
-use Rattle.llc_bank.specs.declared.entry.Entry.TheVariants.{Loading, Shared, Exclusive, Recalling, Storing}
+use Rattle.llc_bank.specs.declared.entry.Entry.TheVariants.{Loading, Exclusive, Recalling, Storing}
 use Rattle.llc_bank.specs.declared.entry.Evict.{Evict}
 use Rattle.llc_bank.specs.declared.entry.Evict.TheVariants.{Clean, Stored, Recalled}
 use Rattle.llc_bank.specs.declared.entry.EvictError.{EvictError}

@@ -1,5 +1,5 @@
 -- What a message and an eviction do with a bank's entry of one line.
-use Rattle.std.specs.Prelude.{ℕ, ◌+◌, max, Bool, true, false, Option, Some, None, if◌then◌else◌, List}
+use Rattle.std.specs.Prelude.{ℕ, ◌+◌, Bool, true, false, Option, Some, None, if◌then◌else◌, List}
 use Rattle.network.specs.declared.message.TimedLine.{TimedLine}
 use Rattle.network.specs.declared.message.Body.{Body}
 use Rattle.network.specs.declared.message.Body.TheVariants.{ShReq, ExReq, ShRep, ExRep, RenewRep, UpgradeRep, FlushReq, WbReq, FlushRep, WbRep, DramLd, DramLdRep, DramSt, DramStRep}

@@ -1,4 +1,3 @@
-use Rattle.std.proofs.Common.{◌≡◌}
 use Rattle.llc_bank.proofs.RoomMade.{in-same-set, can-be-evicted}
 use Rattle.llc_bank.proofs.bank.Bank.make_room.Goals as goal
 

@@ -1,0 +1,5 @@
+pub mod BankLaws
+pub mod BankTable
+pub mod OnEntry
+pub mod OwnSets
+pub mod Settled

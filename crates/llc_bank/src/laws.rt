@@ -1,0 +1,34 @@
+//! Laws of banks. The functions do nothing: their contracts are the laws.
+ghost use Rattle.llc_bank.specs.BankLaws.{EvictionsRaiseTime, FillsAtMemoryTime, GrantsUnownedLines, LoadsAbsentLines, ReadersAreLeased, WordsGoToOtherVersions};
+
+/// A bank grants a line only where no core owns it, and to the requester, who owns it from then on.
+pub fn grants_unowned_lines()
+    ensures { GrantsUnownedLines }
+{}
+
+/// A bank loads a line from DRAM only where it does not have it: never while the line is being stored.
+pub fn loads_absent_lines()
+    ensures { LoadsAbsentLines }
+{}
+
+/// An eviction never lowers the memory time, and raises it to the end of the lease of a line that leaves or is stored.
+pub fn evictions_raise_time()
+    ensures { EvictionsRaiseTime }
+{}
+
+/// A line that comes from DRAM has its words, and both its times are the memory time at which it arrives.
+pub fn fills_at_memory_time()
+    ensures { FillsAtMemoryTime }
+{}
+
+/// The lease that a reader is told never falls, and covers a whole lease from the line's last write and from the
+/// reader's time; the line is leased so far from then on.
+pub fn readers_are_leased()
+    ensures { ReadersAreLeased }
+{}
+
+/// A request of a line that no core owns is answered without words exactly where it names the line's version; one that
+/// names none is always sent them.
+pub fn words_go_to_other_versions()
+    ensures { WordsGoToOtherVersions }
+{}

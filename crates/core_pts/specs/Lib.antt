@@ -1,0 +1,3 @@
+pub mod CoreTable
+pub mod OnCopy
+pub mod SetUp

@@ -1,0 +1,108 @@
+-- What an operation and a message do with a core's copy of one line.
+use Rattle.std.specs.Prelude.{◌≡◌, ℕ, ◌+◌, ◌%◌, nat_le, max, Bool, true, false, ◌||◌, ◌&&◌, List, Option, Some, None, if◌then◌else◌, slice_index, slice_set}
+use Rattle.physiological_order.specs.declared.operation.Op.{Op}
+use Rattle.physiological_order.specs.declared.operation.Op.TheVariants.{Load, Store, Swap}
+use Rattle.network.specs.declared.message.TimedLine.{TimedLine}
+use Rattle.network.specs.declared.message.Body.{Body}
+use Rattle.network.specs.declared.message.Body.TheVariants.{ShReq, ExReq, ShRep, ExRep, RenewRep, UpgradeRep, FlushReq, WbReq, FlushRep, WbRep, DramLd, DramLdRep, DramSt, DramStRep}
+use Rattle.private_cache.specs.declared.line_copy.LineCopy.{LineCopy}
+use Rattle.private_cache.specs.declared.line_copy.CopyState.{CopyState}
+use Rattle.private_cache.specs.declared.line_copy.CopyState.TheVariants.{Shared, Exclusive}
+use Rattle.private_cache.specs.CopyTable.{arrived, renewed, upgraded, downgraded}
+use Rattle.timestamp_manager.specs.Lease.{fits, if_fits, returned_lease}
+
+abbrev pub is_exclusive : CopyState → Bool
+is_exclusive Shared = false
+is_exclusive Exclusive = true
+
+-- whether a copy serves an operation at the core's time: a load on a copy that is owned or leased up to that time, a
+-- store or swap on a copy that is owned
+abbrev pub serves : Op → ℕ → LineCopy → Bool
+serves (Load a) pts copy = is_exclusive copy.state || nat_le pts copy.rts
+serves (Store a v) pts copy = is_exclusive copy.state
+serves (Swap a v) pts copy = is_exclusive copy.state
+
+-- the time of a store or swap: after all that may have read the old words; under private writes a core that wrote the
+-- words itself needs no later time. Nothing where the sum doesn't fit
+abbrev pub write_time : Bool → ℕ → LineCopy → Option ℕ
+write_time private_write pts copy =
+    if private_write && copy.written then Some (max pts copy.rts) else (if fits (copy.rts + 1) then Some (max pts (copy.rts + 1)) else None)
+
+-- the time of an operation that a copy serves
+abbrev pub time_of : Bool → ℕ → Op → LineCopy → Option ℕ
+time_of private_write pts (Load a) copy = Some (max pts copy.wts)
+time_of private_write pts (Store a v) copy = write_time private_write pts copy
+time_of private_write pts (Swap a v) copy = write_time private_write pts copy
+
+-- what an operation receives, where its word stands at this index of the line
+abbrev pub received_at : ℕ → Op → LineCopy → Option ℕ
+received_at index (Load a) copy = Some (slice_index copy.words index)
+received_at index (Store a v) copy = None
+received_at index (Swap a v) copy = Some (slice_index copy.words index)
+
+-- a copy whose word was written at a time
+abbrev pub written_at : ℕ → ℕ → ℕ → LineCopy → LineCopy
+written_at index ts v copy = record copy { wts = ts; rts = ts; words = slice_set copy.words index v; written = true }
+
+-- a copy that was read at a time: an owner's lease goes on to that time
+abbrev pub read_at : ℕ → LineCopy → LineCopy
+read_at ts copy = if is_exclusive copy.state then record copy { rts = max ts copy.rts } else copy
+
+-- the copy after an operation at a time
+abbrev pub copy_after : ℕ → ℕ → Op → LineCopy → LineCopy
+copy_after index ts (Load a) copy = read_at ts copy
+copy_after index ts (Store a v) copy = written_at index ts v copy
+copy_after index ts (Swap a v) copy = written_at index ts v copy
+
+-- what a core does at a message
+pub data CoreReaction : Type 0 where
+  -- a reply brings this copy, which becomes the most recently used; no request is out
+  Arrives : (copy : LineCopy) → CoreReaction
+  -- a reply changes the copy into this one; no request is out
+  Grants : (copy : LineCopy) → CoreReaction
+  -- the line goes back, and this copy stays, if any
+  Returns : (kept : Option LineCopy) (sent : Body) → CoreReaction
+  Drops : CoreReaction
+  Holds : CoreReaction
+  -- a sum of times doesn't fit
+  TooLate : CoreReaction
+  -- the table has no case
+  NoCase : CoreReaction
+
+abbrev pub words_of_copy : LineCopy → TimedLine
+words_of_copy copy = record { wts = copy.wts; rts = copy.rts; words = copy.words }
+
+abbrev pub with_copy : (LineCopy → LineCopy) → Option LineCopy → CoreReaction
+with_copy change None = NoCase
+with_copy change (Some copy) = Grants (change copy)
+
+-- the line is asked back, and no copy stays
+abbrev pub flushed : Option LineCopy → CoreReaction
+flushed None = Drops
+flushed (Some copy) = if is_exclusive copy.state then Returns None (FlushRep (words_of_copy copy)) else Drops
+
+-- the line is asked back, and a copy stays to be read, leased up to this time, if it fits
+abbrev pub returned : LineCopy → Option ℕ → CoreReaction
+returned copy None = TooLate
+returned copy (Some rts) = Returns (Some (downgraded rts copy)) (WbRep (words_of_copy (downgraded rts copy)))
+
+abbrev pub written_back : ℕ → ℕ → Option LineCopy → CoreReaction
+written_back lease until None = Drops
+written_back lease until (Some copy) = if is_exclusive copy.state then returned copy (returned_lease copy.wts copy.rts until lease) else Drops
+
+-- a message at a core, by whether the open operation is on its line, and the copy of the line
+abbrev pub at_core : ℕ → Bool → Option LineCopy → Body → CoreReaction
+at_core lease is_open copy (ShRep line) = Arrives (arrived Shared line)
+at_core lease is_open copy (ExRep line) = Arrives (arrived Exclusive line)
+at_core lease is_open copy (RenewRep rts) = with_copy (renewed rts) copy
+at_core lease is_open copy (UpgradeRep rts) = with_copy (upgraded rts) copy
+at_core lease is_open copy FlushReq = if is_open then Holds else flushed copy
+at_core lease is_open copy (WbReq until) = if is_open then Holds else written_back lease until copy
+at_core lease is_open copy (ShReq pts version) = NoCase
+at_core lease is_open copy (ExReq version) = NoCase
+at_core lease is_open copy (FlushRep line) = NoCase
+at_core lease is_open copy (WbRep line) = NoCase
+at_core lease is_open copy DramLd = NoCase
+at_core lease is_open copy (DramLdRep words) = NoCase
+at_core lease is_open copy (DramSt words) = NoCase
+at_core lease is_open copy DramStRep = NoCase

@@ -1,0 +1,27 @@
+//! What an attempt to complete the open operation answers, and why an operation isn't taken.
+
+/// What an attempt answers.
+#[derive(Clone, Copy, Debug, PartialEq, Eq)]
+pub enum Attempt {
+    /// The operation is completed: what it received, `None` for a store alone, and its time.
+    Completed { received: Option<u64>, ts: u64 },
+    /// A request to read is needed, with the core's time and the version of its copy, if it has one.
+    NeedShared { pts: u64, version: Option<u64> },
+    /// A request to own the line is needed, with the version of the core's copy, if it has one.
+    NeedExclusive { version: Option<u64> },
+    /// A request is needed, but there is no copy of the line and its set is full.
+    NoRoom,
+    /// A request is out.
+    Waiting,
+    /// No operation is open.
+    Idle,
+}
+
+/// Why an operation isn't taken.
+#[derive(Clone, Copy, Debug, PartialEq, Eq)]
+pub enum IssueError {
+    /// 1: an operation is open.
+    Busy,
+    /// 2: the core was issued 4,294,967,295 operations.
+    TooMany,
+}

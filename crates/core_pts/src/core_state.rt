@@ -1,0 +1,306 @@
+//! A core and what it does by itself: it takes an operation, attempts it, raises its time and evicts copies.
+ghost use Rattle.std.specs.Prelude.{◌≡◌, ◌≢◌, ◌⊎◌, ◌<◌, ◌≤◌, ◌%◌, ◌^◌, IfOk, IfSome, IsPermutation, IsSorted, IsSome, IsTrue, is_some, not, true, option_copied, option_map, Some};
+ghost use Rattle.std.specs.Ordering.{nat_cmp};
+ghost use Rattle.std.specs.Result.{result_ok};
+ghost use Rattle.line_sets.specs.SetTable.{all_listed};
+ghost use Rattle.private_cache.specs.CopyTable.{copy_of, place_for, victim_for, without_copy};
+ghost use Rattle.physiological_order.specs.Order.{address};
+ghost use Rattle.core_pts.specs.CoreTable.{advance, attempt, attempt_unserved, attempt_without, completed_at, evict, index_of, is_on, issue, line_of, need, opened, pinned_line, to_bank};
+
+use crate::attempt::{Attempt, IssueError};
+use crate::config::CoreConfig;
+use crate::on_copy::{copy_after, is_exclusive, received_at, serves, time_of, words_of_copy};
+use network::{Body, LineNo, Message, Node};
+use physiological_order::Op;
+use private_cache::{Cache, CacheError, Geometry, LineCopy};
+use std::alloc::{AllocError, Global};
+use std::marker::Model;
+use timestamp_manager::Exhausted;
+
+/// A core: its time, the copies of lines in its private cache, and at most one open operation with at most one request
+/// out. It takes no memory after `new`. Contracts see it as data.
+#[derive(Drop)]
+pub struct Core {
+    config: CoreConfig,
+    pts: u64,
+    pub(crate) cache: Cache,
+    open_op: Option<Op>,
+    pub(crate) is_out: bool,
+    issued: u32,
+}
+
+impl Model for Core {
+    ghost use Rattle.core_pts.specs.CoreTable.{CoreState};
+    ghost use Rattle.core_pts.specs.SetUp.{IsSetUp};
+
+    ghost Value = { CoreState };
+
+    ghost view = { λ a. record { number = a.config.number; banks = a.config.banks; line_words = a.config.line_words; lease = a.config.lease; private_write = a.config.private_write; pts = a.pts; cache = a.cache; open_op = a.open_op; is_out = a.is_out; issued = a.issued } };
+
+    ghost invariant = { λ a. IsSetUp a.config.banks a.config.line_words };
+}
+
+impl Core {
+    /// A core at its opening time, with an empty cache, no open operation and nothing issued. All its memory is taken
+    /// here.
+    pub fn new(alloc: Global, config: CoreConfig, geometry: Geometry) -> Result<Core, AllocError>
+        requires number { config.number < 64 }
+        requires some_banks { 1 ≤ config.banks }
+        requires most_banks { config.banks ≤ 8 }
+        requires words { (config.line_words ≡ 1) ⊎ (config.line_words ≡ 8) }
+        requires some_lease { 1 ≤ config.lease }
+        requires most_lease { config.lease ≤ 2 ^ 32 }
+        requires some_sets { 1 ≤ geometry.sets }
+        requires most_sets { geometry.sets ≤ 1024 }
+        requires some_ways { 1 ≤ geometry.ways }
+        requires most_ways { geometry.ways ≤ 16 }
+        ensures { IfOk result (λ core. core ≡ opened config geometry) }
+    {
+        let cache = Cache::new(alloc, geometry)?;
+        Ok(Core {
+            config,
+            pts: config.opening_time,
+            cache,
+            open_op: None,
+            is_out: false,
+            issued: 0,
+        })
+    }
+
+    /// The core's time.
+    pub fn pts(&self) -> u64
+        ensures { result ≡ self.now.pts }
+    {
+        self.pts
+    }
+
+    /// How many operations the core was issued.
+    pub fn issued(&self) -> u32
+        ensures { result ≡ self.now.issued }
+    {
+        self.issued
+    }
+
+    /// The open operation, and whether its request is out.
+    pub fn open_op(&self) -> Option<(Op, bool)>
+        ensures { result ≡ option_map (λ op. (op, self.now.is_out)) self.now.open_op }
+    {
+        match self.open_op {
+            Some(op) => Some((op, self.is_out)),
+            None => None,
+        }
+    }
+
+    /// The copy of a line.
+    pub fn copy(&self, line: LineNo) -> Option<&LineCopy>
+        ensures { option_copied result ≡ copy_of self.now.cache line }
+    {
+        self.cache.find(line)
+    }
+
+    /// The copy to evict to make room for a line: the least recently used one of its set, exactly where there is no
+    /// place for the line.
+    pub fn victim(&self, line: LineNo) -> Option<LineNo>
+        ensures line { result ≡ victim_for self.now.cache line }
+        ensures full { is_some result ≡ not (place_for self.now.cache line) }
+        ensures there { IfSome result (λ victim. IsSome (copy_of self.now.cache victim)) }
+        ensures makes_place { IfSome result (λ victim. IsTrue (place_for (without_copy self.now.cache victim) line)) }
+    {
+        self.cache.victim(line)
+    }
+
+    /// The lines of all copies, rising.
+    pub fn lines(&self) -> Result<Vec<LineNo>, AllocError>
+        ensures lines { IfOk result (λ lines. IsPermutation (all_listed (λ _. true) self.now.cache.sets) lines.items) }
+        ensures rising { IfOk result (λ lines. IsSorted nat_cmp lines.items) }
+    {
+        self.cache.lines()
+    }
+
+    /// The line of an operation's word.
+    pub fn line_of(&self, op: Op) -> LineNo
+        ensures { result ≡ line_of self.now op }
+    {
+        self.line_of_word(&op)
+    }
+
+    // The line of an operation's word.
+    fn line_of_word(&self, op: &Op) -> LineNo
+        ensures { result ≡ line_of self.now op.now }
+    {
+        LineNo(word_of(op) / self.config.line_words as u64)
+    }
+
+    // The index in its line of an operation's word.
+    fn index_of(&self, op: &Op) -> usize
+        ensures value { result ≡ index_of self.now op.now }
+        ensures bound { result < 8 }
+    {
+        (word_of(op) % self.config.line_words as u64) as usize
+    }
+
+    /// A message of the core about a line to the line's bank, one of the banks that there are.
+    pub fn to_bank(&self, line: LineNo, body: Body) -> Message
+        ensures message { result ≡ to_bank self.now line body }
+        ensures bank { line % self.now.banks < self.now.banks }
+    {
+        let bank = (line.0 % self.config.banks as u64) as u32;
+        Message {
+            from: Node::Core(self.config.number),
+            to: Node::Bank(bank),
+            line,
+            body,
+        }
+    }
+
+    // The line of the open operation.
+    fn pinned_line(&self) -> Option<LineNo>
+        ensures { result ≡ pinned_line self.now }
+    {
+        match self.open_op {
+            Some(op) => Some(self.line_of_word(&op)),
+            None => None,
+        }
+    }
+
+    // Whether the open operation is on a line.
+    pub(crate) fn is_pinned(&self, line: LineNo) -> bool
+        ensures { result ≡ is_on (pinned_line self.now) line }
+    {
+        match self.pinned_line() {
+            Some(pinned) => pinned == line,
+            None => false,
+        }
+    }
+
+    /// Opens an operation. An error leaves the core as it was: Busy exactly where an operation is open, else TooMany
+    /// exactly where the core was issued 4,294,967,295 operations.
+    pub fn issue(&mut self, op: Op) -> Result<(), IssueError>
+        ensures { (result, self.new) ≡ issue self.old op }
+    {
+        if let Some(_) = self.open_op {
+            return Err(IssueError::Busy);
+        }
+        if self.issued >= u32::MAX {
+            return Err(IssueError::TooMany);
+        }
+        self.open_op = Some(op);
+        self.issued += 1;
+        Ok(())
+    }
+
+    /// Attempts to complete the open operation. Each answer but Completed leaves the core as it was. Exhausted, which
+    /// leaves it too, exactly where the operation's time would be a sum that does not fit.
+    pub fn attempt(&mut self) -> Result<Attempt, Exhausted>
+        ensures { (result_ok result, self.new) ≡ attempt self.old }
+    {
+        let Some(op) = self.open_op else {
+            return Ok(Attempt::Idle);
+        };
+        let line = self.line_of_word(&op);
+        let Some(copy) = self.cache.find(line).copied() else {
+            return Ok(self.answer_without(&op, line));
+        };
+        if !serves(&op, self.pts, &copy) {
+            return Ok(self.answer_unserved(&op, copy.wts));
+        }
+        match time_of(self.config.private_write, self.pts, &op, &copy) {
+            Some(ts) => Ok(self.complete(&op, &copy, ts)),
+            None => Err(Exhausted),
+        }
+    }
+
+    // The answer to an attempt without a copy.
+    fn answer_without(&self, op: &Op, line: LineNo) -> Attempt
+        requires { line ≡ line_of self.now op.now }
+        ensures { result ≡ attempt_without self.now op.now }
+    {
+        if self.is_out {
+            return Attempt::Waiting;
+        }
+        if !self.cache.place(line) {
+            return Attempt::NoRoom;
+        }
+        need(self.pts, op, None)
+    }
+
+    // The answer to an attempt on a copy of a version that doesn't serve the operation.
+    fn answer_unserved(&self, op: &Op, version: u64) -> Attempt
+        ensures { result ≡ attempt_unserved self.now op.now version }
+    {
+        if self.is_out {
+            return Attempt::Waiting;
+        }
+        need(self.pts, op, Some(version))
+    }
+
+    // Completes an operation, on the copy of its line, at a time.
+    fn complete(&mut self, op: &Op, copy: &LineCopy, ts: u64) -> Attempt
+        requires { copy_of self.old.cache (line_of self.old op.now) ≡ Some copy.now }
+        ensures { (Some result, self.new) ≡ completed_at self.old op.now copy.now (Some ts) }
+    {
+        let index = self.index_of(op);
+        let line = self.line_of_word(op);
+        let received = received_at(index, op, copy);
+        let _done = self.cache.complete(line, copy_after(index, ts, op, copy));
+        self.pts = ts;
+        self.open_op = None;
+        self.is_out = false;
+        Attempt::Completed { received, ts }
+    }
+
+    /// Marks the request of the open operation out.
+    pub fn requested(&mut self)
+        ensures { self.new ≡ record self.old { is_out = true } }
+    {
+        self.is_out = true;
+    }
+
+    /// Raises the core's time by 1. Exhausted, which leaves the core as it was, exactly where that does not fit.
+    pub fn advance(&mut self) -> Result<(), Exhausted>
+        ensures { (result_ok result, self.new) ≡ advance self.old }
+    {
+        if self.pts == u64::MAX {
+            return Err(Exhausted);
+        }
+        self.pts += 1;
+        Ok(())
+    }
+
+    /// Takes out the copy of a line; a copy that the core owns is sent back by the message that is given. An error
+    /// leaves the core as it was: NotHere exactly where there is no copy, else Pinned exactly where the open operation
+    /// is on the line. NoRoom is never answered.
+    pub fn evict(&mut self, line: LineNo) -> Result<Option<Message>, CacheError>
+        ensures result { (result, self.new) ≡ evict self.old line }
+        ensures never { result ≢ Err CacheError.NoRoom }
+    {
+        let pinned = self.pinned_line();
+        let copy = self.cache.evict(line, pinned)?;
+        if !is_exclusive(copy.state) {
+            return Ok(None);
+        }
+        Ok(Some(self.to_bank(line, Body::FlushRep(words_of_copy(&copy)))))
+    }
+}
+
+// The word of an operation.
+fn word_of(op: &Op) -> u64
+    ensures { result ≡ address op.now }
+{
+    match *op {
+        Op::Load(word) => word.word(),
+        Op::Store(word, _) => word.word(),
+        Op::Swap(word, _) => word.word(),
+    }
+}
+
+// The request that an operation needs, by the version of the copy.
+fn need(pts: u64, op: &Op, version: Option<u64>) -> Attempt
+    ensures { result ≡ need pts op.now version }
+{
+    match *op {
+        Op::Load(_) => Attempt::NeedShared { pts, version },
+        Op::Store(_, _) => Attempt::NeedExclusive { version },
+        Op::Swap(_, _) => Attempt::NeedExclusive { version },
+    }
+}

@@ -1,0 +1,12 @@
+//! A core: its clock, its private cache and its open operation. docs/PROTOCOL.md has its table.
+#![tactic(auto)]
+
+pub mod attempt;
+pub mod config;
+pub mod core_state;
+pub mod laws;
+mod on_copy;
+
+pub use attempt::{Attempt, IssueError};
+pub use config::CoreConfig;
+pub use core_state::Core;

@@ -1,0 +1,2 @@
+pub mod BankTable
+pub mod OnEntry

@@ -1,3 +1,4 @@
+pub mod CoreLaws
 pub mod CoreTable
 pub mod OnCopy
 pub mod SetUp

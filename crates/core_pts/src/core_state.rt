@@ -144,13 +144,27 @@ impl Core {
         ensures message { result ≡ to_bank self.now line body }
         ensures bank { line % self.now.banks < self.now.banks }
     {
-        let bank = (line.0 % self.config.banks as u64) as u32;
         Message {
             from: Node::Core(self.config.number),
-            to: Node::Bank(bank),
+            to: self.bank_of(line),
             line,
             body,
         }
+    }
+
+    // The bank of a line.
+    pub(crate) fn bank_of(&self, line: LineNo) -> Node
+        ensures node { result ≡ Node.Bank (line % self.now.banks) }
+        ensures below { line % self.now.banks < self.now.banks }
+    {
+        Node::Bank((line.0 % self.config.banks as u64) as u32)
+    }
+
+    // How far a lease goes on from a time.
+    pub(crate) fn lease(&self) -> u64
+        ensures { result ≡ self.now.lease }
+    {
+        self.config.lease
     }
 
     // The line of the open operation.

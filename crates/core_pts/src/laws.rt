@@ -1,8 +1,36 @@
-//! Checks that the definitions read; to be replaced.
-ghost use Rattle.std.specs.Prelude.{◌≡◌};
-ghost use Rattle.core_pts.specs.CoreTable.{CoreState, core_table, core_has_case, attempt, advance, evict, issue};
+//! Laws of a core's table. The functions do nothing: their contracts are the laws.
+ghost use Rattle.core_pts.specs.CoreLaws.{CompletesOnCopy, FlushOfOpenLineHeld, LoadReceivesWord, NothingCompletedKeeps, PrivateWriteNotBefore, SharedReadInLease, SwapReceivesWord, TimeNeverFalls, WriteAfterReaders, WriteBackOfOpenLineHeld, WritesOwnedCopy};
 
-pub fn definitions()
-    ensures { (core : CoreState) → core_table core ≡ core_table core }
-{
-}
+/// An attempt completes only the open operation, and only on a copy of its line; a load receives the copy's word, and
+/// so does a swap.
+pub fn completed_on_a_copy()
+    ensures copies { CompletesOnCopy }
+    ensures loads { LoadReceivesWord }
+    ensures swaps { SwapReceivesWord }
+{}
+
+/// A store or swap needs a copy that the core owns, and comes after the end of the copy's lease and not before the
+/// core's time. Under private writes, on a copy that the core wrote, it comes before neither.
+pub fn writes_come_after_reads()
+    ensures owned { WritesOwnedCopy }
+    ensures others { WriteAfterReaders }
+    ensures private { PrivateWriteNotBefore }
+{}
+
+/// A completed operation's time is the core's from then on, and never falls; a copy that the core doesn't own is never
+/// read past its lease.
+pub fn time_never_falls()
+    ensures times { TimeNeverFalls }
+    ensures leases { SharedReadInLease }
+{}
+
+/// A recall of the line of the open operation is held, whatever the copy.
+pub fn open_line_stays()
+    ensures flushes { FlushOfOpenLineHeld }
+    ensures write_backs { WriteBackOfOpenLineHeld }
+{}
+
+/// An attempt that completes nothing changes nothing.
+pub fn nothing_completed_keeps()
+    ensures { NothingCompletedKeeps }
+{}

@@ -4,8 +4,11 @@
 pub mod attempt;
 pub mod config;
 pub mod core_state;
+mod deliver;
 pub mod laws;
 mod on_copy;
+#[cfg(test)]
+mod tests;
 
 pub use attempt::{Attempt, IssueError};
 pub use config::CoreConfig;

@@ -1,5 +1,6 @@
 //! What an operation does with a copy of its line: whether the copy serves it, when, and what is left.
 ghost use Rattle.std.specs.Prelude.{◌≡◌, ◌<◌};
+ghost use Rattle.private_cache.specs.CopyTable.{downgraded};
 ghost use Rattle.core_pts.specs.OnCopy.{copy_after, is_exclusive, read_at, received_at, serves, time_of, words_of_copy, write_time, written_at};
 
 use network::TimedLine;
@@ -112,5 +113,18 @@ pub(crate) fn words_of_copy(copy: &LineCopy) -> TimedLine
         wts: copy.wts,
         rts: copy.rts,
         words: copy.words,
+    }
+}
+
+// A copy that its core gives back and keeps reading up to a time.
+pub(crate) fn downgraded(rts: u64, copy: &LineCopy) -> LineCopy
+    ensures { result ≡ downgraded rts copy.now }
+{
+    LineCopy {
+        state: CopyState::Shared,
+        wts: copy.wts,
+        rts,
+        words: copy.words,
+        written: false,
     }
 }

@@ -1,5 +1,6 @@
 -- A bank as data, and what each event makes of it.
-use Rattle.std.specs.Prelude.{◌≡◌, ℕ, ◌/◌, ◌%◌, ◌==◌, max, Bool, true, false, ◌&&◌, ◌||◌, not, is_some, List, [], ◌∷◌, length, Option, Some, None, Result, Ok, Err, if◌then◌else◌}
+use Rattle.std.specs.Prelude.{◌≡◌, ℕ, ◌/◌, ◌%◌, ◌==◌, max, Bool, true, false, ◌&&◌, ◌||◌, not, is_some, option_map, find, List, length, Option, Some, None, Result, Ok, Err, if◌then◌else◌}
+use Rattle.std.specs.List.{list_all}
 use Rattle.network.specs.declared.message.Node.{Node}
 use Rattle.network.specs.declared.message.Node.TheVariants.{Core, Bank, Dram}
 use Rattle.network.specs.declared.message.Body.{Body}
@@ -7,14 +8,20 @@ use Rattle.network.specs.declared.message.Body.TheVariants.{ShReq, ExReq, FlushR
 use Rattle.network.specs.declared.message.Message.{Message}
 use Rattle.network.specs.declared.part.Reaction.{Reaction}
 use Rattle.network.specs.declared.part.Reaction.TheVariants.{Done, Dropped, Held, HeldAfter}
-use Rattle.line_sets.specs.SetTable.{Sets, set_at, look, put, put_within, drop_line, has_room}
+use Rattle.line_sets.specs.SetTable.{Sets, set_at, look, put, put_within, drop_line, empty_sets, has_room}
 use Rattle.llc_bank.specs.declared.entry.Entry.{Entry}
 use Rattle.llc_bank.specs.declared.entry.Entry.TheVariants.{Loading, Shared, Exclusive, Recalling, Storing}
 use Rattle.llc_bank.specs.declared.entry.Evict.{Evict}
 use Rattle.llc_bank.specs.declared.entry.Evict.TheVariants.{Clean, Stored, Recalled}
 use Rattle.llc_bank.specs.declared.entry.EvictError.{EvictError}
 use Rattle.llc_bank.specs.declared.entry.EvictError.TheVariants.{NotHere, Busy}
-use Rattle.llc_bank.specs.OnEntry.{at_bank, evicted, BankReaction, Waits, Loads, Recalls, Grants, Becomes, TooLate, NoCase, Evicted, NotThere, IsBusy, Leaves, Stores, AsksBack}
+use Rattle.llc_bank.specs.declared.decision.Decision.{Decision}
+use Rattle.llc_bank.specs.declared.decision.Decision.TheVariants.{Waits, Loads, Recalls, Grants, Becomes, Leaves, TooLate, NoCase}
+use Rattle.llc_bank.specs.declared.decision.Eviction.{Eviction}
+use Rattle.llc_bank.specs.declared.decision.Eviction.TheVariants.{NotThere, IsBusy, Drops, Stores, AsksBack}
+use Rattle.llc_bank.specs.declared.config.BankConfig.{BankConfig}
+use Rattle.llc_bank.specs.OnEntry.{at_bank, evicted}
+use Rattle.llc_bank.specs.Settled.{is_settled, is_shared}
 
 pub record BankState : Type 0 where
   -- its number, and the numbers that the machine was set up with
@@ -33,6 +40,7 @@ set_of bank line = (line / bank.banks) % length bank.table.sets
 abbrev pub entry_of : BankState → ℕ → Option Entry
 entry_of bank line = look bank.table.sets (set_of bank line) line
 
+-- the bank with these sets
 abbrev pub with_sets : BankState → List (List (ℕ × Entry)) → BankState
 with_sets bank sets = record bank { table = record (bank.table) { sets = sets } }
 
@@ -44,17 +52,15 @@ with_used bank line entry = with_sets bank (put bank.table.sets (set_of bank lin
 abbrev pub with_changed : BankState → ℕ → Entry → BankState
 with_changed bank line entry = with_sets bank (put_within bank.table.sets (set_of bank line) line entry)
 
+-- the bank doesn't have the line
 abbrev pub without_entry : BankState → ℕ → BankState
 without_entry bank line = with_sets bank (drop_line bank.table.sets (set_of bank line) line)
-
-abbrev pub becomes : BankState → ℕ → Option Entry → BankState
-becomes bank line None = without_entry bank line
-becomes bank line (Some entry) = with_changed bank line entry
 
 -- a message of the bank about a line
 abbrev pub from_bank : BankState → ℕ → Node → Body → Message
 from_bank bank line to body = record { from = Bank bank.number; to = to; line = line; body = body }
 
+-- a message of the bank to the DRAM behind it
 abbrev pub to_dram : BankState → ℕ → Body → Message
 to_dram bank line body = from_bank bank line (Dram bank.number) body
 
@@ -64,40 +70,51 @@ core_of (Core c) = c
 core_of _ = 0
 
 -- what a delivered message makes of the bank; an answer goes back to where the message is from
-abbrev pub after_reaction : BankState → Message → BankReaction → Option (Reaction × BankState)
-after_reaction bank m Waits = Some (Held, bank)
-after_reaction bank m Loads = Some (HeldAfter (to_dram bank m.line DramLd), with_used bank m.line Loading)
-after_reaction bank m (Recalls owner sent) = Some (HeldAfter (from_bank bank m.line (Core owner) sent), with_changed bank m.line (Recalling owner))
-after_reaction bank m (Grants entry sent) = Some (Done (Some (from_bank bank m.line m.from sent)), with_used bank m.line entry)
-after_reaction bank m (Becomes entry) = Some (Done None, becomes bank m.line entry)
-after_reaction bank m TooLate = None
-after_reaction bank m NoCase = Some (Dropped, bank)
+abbrev pub after_decision : BankState → Message → Decision → Option (Reaction × BankState)
+after_decision bank m Waits = Some (Held, bank)
+after_decision bank m Loads = Some (HeldAfter (to_dram bank m.line DramLd), with_used bank m.line Loading)
+after_decision bank m (Recalls owner sent) = Some (HeldAfter (from_bank bank m.line (Core owner) sent), with_changed bank m.line (Recalling owner))
+after_decision bank m (Grants entry sent) = Some (Done (Some (from_bank bank m.line m.from sent)), with_used bank m.line entry)
+after_decision bank m (Becomes entry) = Some (Done None, with_changed bank m.line entry)
+after_decision bank m Leaves = Some (Done None, without_entry bank m.line)
+after_decision bank m TooLate = None
+after_decision bank m NoCase = Some (Dropped, bank)
 
+-- what the bank decides at a message
+abbrev pub decided : BankState → Message → Decision
+decided bank m = at_bank bank.lease bank.mts (has_room bank.table (set_of bank m.line)) (core_of m.from) (entry_of bank m.line) m.body
+
+-- the bank's table
 abbrev pub bank_table : BankState → Message → Option (Reaction × BankState)
-bank_table bank m = after_reaction bank m (at_bank bank.lease bank.mts (has_room bank.table (set_of bank m.line)) (core_of m.from) (entry_of bank m.line) m.body)
+bank_table bank m = after_decision bank m (decided bank m)
 
--- the kinds of message that come to a bank, and when
+-- a core owns the line
 abbrev pub is_owned : Option Entry → Bool
 is_owned (Some (Exclusive owner)) = true
 is_owned (Some (Recalling owner)) = true
 is_owned _ = false
 
+-- the line is being loaded
 abbrev pub is_loading : Option Entry → Bool
 is_loading (Some Loading) = true
 is_loading _ = false
 
+-- the line is being stored
 abbrev pub is_storing : Option Entry → Bool
 is_storing (Some Storing) = true
 is_storing _ = false
 
+-- a core
 abbrev pub is_core : Node → Bool
 is_core (Core c) = true
 is_core _ = false
 
+-- the bank of this number
 abbrev pub is_this_bank : ℕ → Node → Bool
 is_this_bank number (Bank b) = b == number
 is_this_bank number _ = false
 
+-- the kinds of message that come to a bank, and when
 abbrev pub comes_to_bank : Node → Option Entry → Body → Bool
 comes_to_bank from entry (ShReq pts version) = is_core from
 comes_to_bank from entry (ExReq version) = is_core from
@@ -107,39 +124,46 @@ comes_to_bank from entry (DramLdRep words) = is_loading entry
 comes_to_bank from entry DramStRep = is_storing entry
 comes_to_bank from entry _ = false
 
+-- the bank's table has a case for the message
 abbrev pub bank_has_case : BankState → Message → Bool
 bank_has_case bank m = is_this_bank bank.number m.to && comes_to_bank m.from (entry_of bank m.line) m.body
 
+-- a bank without entries, set up so
+abbrev pub empty_bank : BankConfig → BankState
+empty_bank config = record { number = config.number; banks = config.banks; lease = config.lease; mts = config.opening_time; table = empty_sets config.sets config.ways }
+
 -- what an eviction of a line answers, and the bank afterwards
-abbrev pub after_eviction : BankState → ℕ → Evicted → Result Evict EvictError × BankState
+abbrev pub after_eviction : BankState → ℕ → Eviction → Result Evict EvictError × BankState
 after_eviction bank line NotThere = (Err NotHere, bank)
 after_eviction bank line IsBusy = (Err Busy, bank)
-after_eviction bank line (Leaves rts) = (Ok Clean, record (without_entry bank line) { mts = max bank.mts rts })
+after_eviction bank line (Drops rts) = (Ok Clean, record (without_entry bank line) { mts = max bank.mts rts })
 after_eviction bank line (Stores rts words) = (Ok (Stored (to_dram bank line (DramSt words))), record (with_changed bank line Storing) { mts = max bank.mts rts })
 after_eviction bank line (AsksBack owner) = (Ok (Recalled (from_bank bank line (Core owner) FlushReq)), with_changed bank line (Recalling owner))
 
+-- an eviction of a line
 abbrev pub evict : BankState → ℕ → Result Evict EvictError × BankState
 evict bank line = after_eviction bank line (evicted (entry_of bank line))
 
--- an entry that nothing is under way for
-abbrev pub is_settled : Entry → Bool
-is_settled (Shared dirty line) = true
-is_settled (Exclusive owner) = true
-is_settled _ = false
+-- the node that an eviction would send a message to, if any
+abbrev pub sent_to : Evict → Option Node
+sent_to Clean = None
+sent_to (Stored sent) = Some sent.to
+sent_to (Recalled sent) = Some sent.to
 
-abbrev pub is_shared : Entry → Bool
-is_shared (Shared dirty line) = true
-is_shared _ = false
+-- what an eviction would answer, by the node that it would send a message to
+abbrev pub evict_sends : Result Evict EvictError → Result (Option Node) EvictError
+evict_sends (Err error) = Err error
+evict_sends (Ok done) = Ok (sent_to done)
 
+-- nothing is under way for any line of a set
 abbrev pub all_settled : List (ℕ × Entry) → Bool
-all_settled [] = true
-all_settled (e ∷ es) = is_settled e.1 && all_settled es
+all_settled entries = list_all (λ e. is_settled e.1) entries
 
 -- the line of the first entry, the least recently used one, that passes a test
 abbrev pub first_of : (Entry → Bool) → List (ℕ × Entry) → Option ℕ
-first_of test [] = None
-first_of test (e ∷ es) = if test e.1 then Some e.0 else first_of test es
+first_of test entries = option_map (λ e. e.0) (find (λ e. test e.1) entries)
 
+-- the first of two lines, or else the second
 abbrev pub or_else : Option ℕ → Option ℕ → Option ℕ
 or_else None other = other
 or_else (Some line) other = Some line

@@ -1,2 +1,4 @@
 pub mod BankTable
 pub mod OnEntry
+pub mod OwnSets
+pub mod Settled

@@ -5,47 +5,44 @@ use Rattle.network.specs.declared.message.Body.{Body}
 use Rattle.network.specs.declared.message.Body.TheVariants.{ShReq, ExReq, ShRep, ExRep, RenewRep, UpgradeRep, FlushReq, WbReq, FlushRep, WbRep, DramLd, DramLdRep, DramSt, DramStRep}
 use Rattle.llc_bank.specs.declared.entry.Entry.{Entry}
 use Rattle.llc_bank.specs.declared.entry.Entry.TheVariants.{Loading, Shared, Exclusive, Recalling, Storing}
+use Rattle.llc_bank.specs.declared.decision.Decision.{Decision}
+use Rattle.llc_bank.specs.declared.decision.Decision.TheVariants.{Waits, Loads, Recalls, Grants, Becomes, Leaves, TooLate, NoCase}
+use Rattle.llc_bank.specs.declared.decision.Eviction.{Eviction}
+use Rattle.llc_bank.specs.declared.decision.Eviction.TheVariants.{NotThere, IsBusy, Drops, Stores, AsksBack}
 use Rattle.timestamp_manager.specs.Lease.{if_fits, is_version, shared_lease}
 
--- what a bank does at a message
-pub data BankReaction : Type 0 where
-  -- a request waits, and nothing changes
-  Waits : BankReaction
-  -- the line is loaded for a request, which waits
-  Loads : BankReaction
-  -- the owner is asked to give the line back by this message, for a request, which waits
-  Recalls : (owner : ℕ) (sent : Body) → BankReaction
-  -- a request is answered, which makes the entry the most recently used one
-  Grants : (entry : Entry) (sent : Body) → BankReaction
-  -- a message that is no request makes this of the entry; where nothing, the line leaves
-  Becomes : (entry : Option Entry) → BankReaction
-  -- a sum of times doesn't fit
-  TooLate : BankReaction
-  -- the table has no case
-  NoCase : BankReaction
+-- what a reader of a line that is leased so is sent: a renewal where it has the version, the line where it hasn't
+abbrev pub read_answer : (renews : Bool) → TimedLine → Body
+read_answer renews line = if renews then RenewRep line.rts else ShRep line
 
--- a reader of a line is given a lease: a renewal where it has the version, the line where it hasn't
-abbrev pub leased : Bool → TimedLine → Option (ℕ × Bool) → BankReaction
+-- a reader of a line is given a lease
+abbrev pub leased : Bool → TimedLine → Option (ℕ × Bool) → Decision
 leased dirty line None = TooLate
 leased dirty line (Some lease) =
     let longer = record line { rts = lease.0 } in
-    Grants (Shared dirty longer) (if lease.1 then RenewRep lease.0 else ShRep longer)
+    Grants (Shared dirty longer) (read_answer lease.1 longer)
 
 -- the owner is asked to keep a copy leased to this time, if it fits
-abbrev pub asked_back : ℕ → Option ℕ → BankReaction
+abbrev pub asked_back : ℕ → Option ℕ → Decision
 asked_back owner None = TooLate
 asked_back owner (Some until) = Recalls owner (WbReq until)
 
-abbrev pub shared_request : (lease : ℕ) (room : Bool) (pts : ℕ) → Option ℕ → Option Entry → BankReaction
-shared_request lease room pts version None = if room then Loads else Waits
+-- a request of a line that the bank doesn't have
+abbrev pub loaded : (room : Bool) → Decision
+loaded room = if room then Loads else Waits
+
+-- a request to read
+abbrev pub shared_request : (lease : ℕ) (room : Bool) (pts : ℕ) → Option ℕ → Option Entry → Decision
+shared_request lease room pts version None = loaded room
 shared_request lease room pts version (Some Loading) = Waits
 shared_request lease room pts version (Some (Shared dirty line)) = leased dirty line (shared_lease line.wts line.rts pts version lease)
 shared_request lease room pts version (Some (Exclusive owner)) = asked_back owner (if_fits (pts + lease))
 shared_request lease room pts version (Some (Recalling owner)) = Waits
 shared_request lease room pts version (Some Storing) = Waits
 
-abbrev pub exclusive_request : (room : Bool) (core : ℕ) → Option ℕ → Option Entry → BankReaction
-exclusive_request room core version None = if room then Loads else Waits
+-- a request to own
+abbrev pub exclusive_request : (room : Bool) (core : ℕ) → Option ℕ → Option Entry → Decision
+exclusive_request room core version None = loaded room
 exclusive_request room core version (Some Loading) = Waits
 exclusive_request room core version (Some (Shared dirty line)) = Grants (Exclusive core) (if is_version line.wts version then UpgradeRep line.rts else ExRep line)
 exclusive_request room core version (Some (Exclusive owner)) = Recalls owner FlushReq
@@ -53,23 +50,24 @@ exclusive_request room core version (Some (Recalling owner)) = Waits
 exclusive_request room core version (Some Storing) = Waits
 
 -- the owner gives the line back: it is dirty from now on
-abbrev pub given_back : TimedLine → Option Entry → BankReaction
-given_back line (Some (Exclusive owner)) = Becomes (Some (Shared true line))
-given_back line (Some (Recalling owner)) = Becomes (Some (Shared true line))
+abbrev pub given_back : TimedLine → Option Entry → Decision
+given_back line (Some (Exclusive owner)) = Becomes (Shared true line)
+given_back line (Some (Recalling owner)) = Becomes (Shared true line)
 given_back line _ = NoCase
 
 -- the words come from DRAM, and are valid from the memory time on
-abbrev pub filled : ℕ → List ℕ → Option Entry → BankReaction
-filled mts words (Some Loading) = Becomes (Some (Shared false (record { wts = mts; rts = mts; words = words })))
+abbrev pub filled : ℕ → List ℕ → Option Entry → Decision
+filled mts words (Some Loading) = Becomes (Shared false (record { wts = mts; rts = mts; words = words }))
 filled mts words _ = NoCase
 
-abbrev pub stored : Option Entry → BankReaction
-stored (Some Storing) = Becomes None
+-- DRAM has the words: the line leaves
+abbrev pub stored : Option Entry → Decision
+stored (Some Storing) = Leaves
 stored _ = NoCase
 
 -- a message at a bank: the lease, the memory time, whether the line's set has room, the core that a request is from,
 -- the entry of the line, and what the message says
-abbrev pub at_bank : (lease mts : ℕ) (room : Bool) (core : ℕ) → Option Entry → Body → BankReaction
+abbrev pub at_bank : (lease mts : ℕ) (room : Bool) (core : ℕ) → Option Entry → Body → Decision
 at_bank lease mts room core entry (ShReq pts version) = shared_request lease room pts version entry
 at_bank lease mts room core entry (ExReq version) = exclusive_request room core version entry
 at_bank lease mts room core entry (FlushRep line) = given_back line entry
@@ -86,21 +84,19 @@ at_bank lease mts room core entry DramLd = NoCase
 at_bank lease mts room core entry (DramSt words) = NoCase
 
 -- what an eviction of a line does
-pub data Evicted : Type 0 where
-  NotThere : Evicted
-  IsBusy : Evicted
-  -- a clean line leaves, leased up to this time
-  Leaves : (rts : ℕ) → Evicted
-  -- a dirty line goes to DRAM, leased up to this time
-  Stores : (rts : ℕ) (words : List ℕ) → Evicted
-  -- the owner is asked to give the line back
-  AsksBack : (owner : ℕ) → Evicted
-
-abbrev pub evicted : Option Entry → Evicted
+abbrev pub evicted : Option Entry → Eviction
 evicted None = NotThere
 evicted (Some Loading) = IsBusy
-evicted (Some (Shared false line)) = Leaves line.rts
+evicted (Some (Shared false line)) = Drops line.rts
 evicted (Some (Shared true line)) = Stores line.rts line.words
 evicted (Some (Exclusive owner)) = AsksBack owner
 evicted (Some (Recalling owner)) = IsBusy
 evicted (Some Storing) = IsBusy
+
+-- what a decision writes has a place: an entry that is there is changed, and one that is loaded finds room
+abbrev pub finds_place : (there room : Bool) → Decision → Bool
+finds_place there room Loads = room
+finds_place there room (Recalls owner sent) = there
+finds_place there room (Grants entry sent) = there
+finds_place there room (Becomes entry) = there
+finds_place there room _ = true

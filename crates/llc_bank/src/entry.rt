@@ -1,5 +1,6 @@
 //! What a bank keeps of a line, and what an eviction answers.
 
+use line_sets::Listed;
 use network::{Message, TimedLine};
 
 /// What a bank keeps of a line that it has.
@@ -15,6 +16,35 @@ pub enum Entry {
     Recalling { owner: u32 },
     /// The words are on their way to DRAM, and the line leaves when they are stored.
     Storing,
+}
+
+impl Entry {
+    ghost use Rattle.std.specs.Prelude.{◌≡◌};
+    ghost use Rattle.llc_bank.specs.Settled.{is_settled, is_shared};
+
+    /// Whether nothing is under way for the line: it is Shared or Exclusive.
+    pub fn is_settled(&self) -> bool
+        ensures { result ≡ is_settled self.now }
+    {
+        matches!(self, Entry::Shared { .. } | Entry::Exclusive { .. })
+    }
+
+    /// Whether the bank has the line and no core owns it.
+    pub fn is_shared(&self) -> bool
+        ensures { result ≡ is_shared self.now }
+    {
+        matches!(self, Entry::Shared { .. })
+    }
+}
+
+impl Listed for Entry {
+    ghost use Rattle.llc_bank.specs.Settled.{is_settled};
+
+    ghost is_listed = { is_settled };
+
+    fn is_listed(&self) -> bool {
+        self.is_settled()
+    }
 }
 
 /// What an eviction did.

@@ -2,7 +2,12 @@
 //! its table.
 #![tactic(auto)]
 
+pub mod bank;
+mod choice;
+pub mod config;
+pub mod decision;
 pub mod entry;
-pub mod laws;
 
+pub use bank::Bank;
+pub use config::BankConfig;
 pub use entry::{Entry, Evict, EvictError};

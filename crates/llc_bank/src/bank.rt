@@ -1,0 +1,292 @@
+//! A bank of the shared cache, whose memory is all taken when it is made.
+ghost use Rattle.std.specs.Prelude.{◌≡◌, ◌≢◌, ◌≤◌, ◌<◌, length, IfOk, IsPermutation, IsSorted, IsSome, IsTrue, is_some, Err, None, OnErr, Some};
+ghost use Rattle.std.specs.Ordering.{nat_cmp};
+ghost use Rattle.std.specs.Option.{option_copied};
+ghost use Rattle.line_sets.specs.SetTable.{all_listed, has_place, has_room};
+ghost use Rattle.llc_bank.specs.OnEntry.{finds_place};
+ghost use Rattle.llc_bank.specs.Settled.{is_settled};
+ghost use Rattle.llc_bank.specs.BankTable.{core_of};
+
+use crate::choice::{all_settled, choose};
+use crate::config::BankConfig;
+use crate::decision::{Decision, Eviction, decide, decide_eviction};
+use crate::entry::{Entry, Evict, EvictError};
+use dram_mts::MemoryTime;
+use line_sets::LineSets;
+use network::{Body, LineNo, Message, Node, Part, PartError, Reaction};
+use std::alloc::{AllocError, Global};
+use std::marker::Model;
+
+/// The entries of a bank by set, and its memory time. A line belongs to the set of its number over the number of banks,
+/// and that over the number of sets; each set stands from the least recently used entry to the most recently used one.
+/// Contracts see a `BankState`.
+#[derive(Drop)]
+pub struct Bank {
+    number: u32,
+    banks: u32,
+    lease: u64,
+    mts: MemoryTime,
+    table: LineSets<Entry>,
+}
+
+impl Model for Bank {
+    ghost use Rattle.llc_bank.specs.BankTable.{BankState};
+    ghost use Rattle.llc_bank.specs.OwnSets.{IsSound};
+
+    ghost Value = { BankState };
+
+    ghost view = { λ bank. record { number = bank.number; banks = bank.banks; lease = bank.lease; mts = bank.mts; table = bank.table } };
+
+    ghost invariant = { λ bank. IsSound bank.banks bank.table };
+}
+
+impl Bank {
+    ghost use Rattle.llc_bank.specs.BankTable.{decided, empty_bank, entry_of, evict, evict_sends, from_bank, make_room, set_of, to_dram, with_changed, with_used, without_entry};
+
+    /// A bank without entries. All memory is taken here, for all the entries that it can have.
+    pub fn new(alloc: Global, config: BankConfig) -> Result<Bank, AllocError>
+        requires some_banks { 1 ≤ config.banks }
+        requires most_banks { config.banks ≤ 8 }
+        requires number { config.number < config.banks }
+        requires some_sets { 1 ≤ config.sets }
+        requires most_sets { config.sets ≤ 1024 }
+        requires some_ways { 1 ≤ config.ways }
+        requires most_ways { config.ways ≤ 16 }
+        requires some_lease { 1 ≤ config.lease }
+        requires most_lease { config.lease ≤ 4294967296 }
+        ensures { IfOk result (λ bank. bank ≡ empty_bank config) }
+    {
+        let table = LineSets::new(alloc, config.sets, config.ways)?;
+        Ok(Bank {
+            number: config.number,
+            banks: config.banks,
+            lease: config.lease,
+            mts: MemoryTime::new(config.opening_time),
+            table,
+        })
+    }
+
+    // The set that a line belongs to.
+    fn set_of(&self, line: LineNo) -> usize
+        ensures set { result ≡ set_of self.now line }
+        ensures below { result < length self.now.table.sets }
+    {
+        (line.0 / self.banks as u64 % self.table.sets() as u64) as usize
+    }
+
+    /// What the bank keeps of a line, `None` where it does not have it.
+    pub fn entry(&self, line: LineNo) -> Option<&Entry>
+        ensures { option_copied result ≡ entry_of self.now line }
+    {
+        self.table.find(self.set_of(line), line.0)
+    }
+
+    /// The time from which a line that comes from DRAM now would be valid.
+    pub fn memory_time(&self) -> u64
+        ensures { result ≡ self.now.mts }
+    {
+        self.mts.now()
+    }
+
+    // Sets the entry of a line that is there, or has room, and makes it the most recently used of its set.
+    fn use_entry(&mut self, line: LineNo, entry: Entry)
+        requires { IsTrue (has_place self.old.table (set_of self.old line) line) }
+        ensures { self.new ≡ with_used self.old line entry }
+    {
+        let set = self.set_of(line);
+        self.table.insert(set, line.0, entry);
+    }
+
+    // Changes the entry of a line that is there, and keeps the order of use.
+    fn change_entry(&mut self, line: LineNo, entry: Entry)
+        requires { IsSome (entry_of self.old line) }
+        ensures { self.new ≡ with_changed self.old line entry }
+    {
+        let set = self.set_of(line);
+        self.table.replace(set, line.0, entry);
+    }
+
+    // Takes out the entry of a line.
+    fn drop_entry(&mut self, line: LineNo)
+        ensures { self.new ≡ without_entry self.old line }
+    {
+        let set = self.set_of(line);
+        let _entry = self.table.remove(set, line.0);
+    }
+
+    // A message of the bank about a line.
+    fn from_bank(&self, line: LineNo, to: Node, body: Body) -> Message
+        ensures { result ≡ from_bank self.now line to body }
+    {
+        Message {
+            from: Node::Bank(self.number),
+            to,
+            line,
+            body,
+        }
+    }
+
+    // A message of the bank to the DRAM behind it.
+    fn to_dram(&self, line: LineNo, body: Body) -> Message
+        ensures { result ≡ to_dram self.now line body }
+    {
+        self.from_bank(line, Node::Dram(self.number), body)
+    }
+
+    // What the bank does at a message.
+    fn decided(&self, message: &Message) -> Decision
+        ensures decision { result ≡ decided self.now message.now }
+        ensures place { IsTrue (finds_place (is_some (entry_of self.now message.now.line)) (has_room self.now.table (set_of self.now message.now.line)) result) }
+    {
+        decide(
+            self.lease,
+            self.mts.now(),
+            self.table.has_room(self.set_of(message.line)),
+            core_of(message.from),
+            self.entry(message.line).copied(),
+            &message.body,
+        )
+    }
+
+    /// Evicts a line. A Shared line raises the memory time to the time up to which it is leased; a clean one is gone
+    /// then, and a dirty one is sent to DRAM. The owner of an Exclusive line is asked to give it back, and the line
+    /// stays. NotHere exactly where the bank does not have the line; Busy exactly where it is being loaded, recalled or
+    /// stored.
+    pub fn evict(&mut self, line: LineNo) -> Result<Evict, EvictError>
+        ensures { (result, self.new) ≡ evict self.old line }
+    {
+        match decide_eviction(self.entry(line).copied()) {
+            Eviction::NotThere => Err(EvictError::NotHere),
+            Eviction::IsBusy => Err(EvictError::Busy),
+            Eviction::Drops { rts } => {
+                self.drop_entry(line);
+                self.mts.raise(rts);
+                Ok(Evict::Clean)
+            }
+            Eviction::Stores { rts, words } => {
+                self.change_entry(line, Entry::Storing);
+                self.mts.raise(rts);
+                Ok(Evict::Stored(self.to_dram(line, Body::DramSt(words))))
+            }
+            Eviction::AsksBack { owner } => {
+                self.change_entry(line, Entry::Recalling { owner });
+                Ok(Evict::Recalled(self.from_bank(line, Node::Core(owner), Body::FlushReq)))
+            }
+        }
+    }
+
+    /// The node that `evict` would send a message to, if any, without doing it. NotHere and Busy exactly where `evict`
+    /// answers them.
+    pub fn evicts(&self, line: LineNo) -> Result<Option<Node>, EvictError>
+        ensures { result ≡ evict_sends (evict self.now line).0 }
+    {
+        match decide_eviction(self.entry(line).copied()) {
+            Eviction::NotThere => Err(EvictError::NotHere),
+            Eviction::IsBusy => Err(EvictError::Busy),
+            Eviction::Drops { .. } => Ok(None),
+            Eviction::Stores { .. } => Ok(Some(Node::Dram(self.number))),
+            Eviction::AsksBack { owner } => Ok(Some(Node::Core(owner))),
+        }
+    }
+
+    /// The line to evict for a request of a line that waits for room: `None` where the bank has the line, where its set
+    /// has room, and where a line of the set is being loaded, recalled or stored. Else the least recently used line of
+    /// the set that no core owns, or the least recently used one where cores own them all.
+    pub fn make_room(&self, line: LineNo) -> Option<LineNo>
+        ensures { result ≡ make_room self.now line }
+    {
+        let set = self.set_of(line);
+        if self.entry(line).is_some() || self.table.has_room(set) {
+            return None;
+        }
+        let entries = self.table.contents(set);
+        if !all_settled(entries) {
+            return None;
+        }
+        choose(entries)
+    }
+
+    /// The lines that are Shared or Exclusive, rising.
+    pub fn lines(&self) -> Result<Vec<LineNo>, AllocError>
+        ensures lines { IfOk result (λ lines. IsPermutation (all_listed is_settled self.now.table.sets) lines.items) }
+        ensures rising { IfOk result (λ lines. IsSorted nat_cmp lines.items) }
+    {
+        let lines = self.table.lines()?;
+        line_numbers(lines)
+    }
+}
+
+// Numbers as those of lines.
+fn line_numbers(numbers: Vec<u64>) -> Result<Vec<LineNo>, AllocError>
+    ensures { IfOk result (λ lines. lines.items ≡ numbers.items) }
+{
+    let alloc = *numbers.allocator();
+    numbers
+        .into_iter()
+        .map(|number| LineNo(number))
+        .collect(alloc)
+}
+
+// The core that a node is, 0 where it is none.
+fn core_of(node: Node) -> u32
+    ensures { result ≡ core_of node }
+{
+    match node {
+        Node::Core(core) => core,
+        _ => 0,
+    }
+}
+
+impl Part for Bank {
+    ghost use Rattle.network.specs.Sent.{sent_by};
+    ghost use Rattle.llc_bank.specs.BankTable.{bank_has_case, bank_table};
+
+    ghost has_case = { bank_has_case };
+
+    ghost table = { bank_table };
+
+    fn sends(&self, message: &Message) -> Option<(Node, bool)> {
+        match self.decided(message) {
+            Decision::Loads => Some((Node::Dram(self.number), true)),
+            Decision::Recalls { owner, sent: _ } => Some((Node::Core(owner), true)),
+            Decision::Grants { entry: _, sent: _ } => Some((message.from, false)),
+            _ => None,
+        }
+    }
+
+    fn deliver(&mut self, message: &Message) -> Result<Reaction, PartError>
+        requires { IsTrue (bank_has_case self.old message.now) }
+        ensures done { IfOk result (λ reaction. bank_table self.old message.now ≡ Some (reaction, self.new)) }
+        ensures refused { OnErr result (self.new ≡ self.old) }
+        ensures exhausted { result ≡ Err PartError.Exhausted → bank_table self.old message.now ≡ None }
+        ensures fits { bank_table self.old message.now ≡ None → result ≡ Err PartError.Exhausted }
+        ensures memory { result ≢ Err PartError.NoMemory }
+    {
+        let line = message.line;
+        match self.decided(message) {
+            Decision::Waits => Ok(Reaction::Held),
+            Decision::Loads => {
+                self.use_entry(line, Entry::Loading);
+                Ok(Reaction::HeldAfter(self.to_dram(line, Body::DramLd)))
+            }
+            Decision::Recalls { owner, sent } => {
+                self.change_entry(line, Entry::Recalling { owner });
+                Ok(Reaction::HeldAfter(self.from_bank(line, Node::Core(owner), sent)))
+            }
+            Decision::Grants { entry, sent } => {
+                self.use_entry(line, entry);
+                Ok(Reaction::Done(Some(self.from_bank(line, message.from, sent))))
+            }
+            Decision::Becomes(entry) => {
+                self.change_entry(line, entry);
+                Ok(Reaction::Done(None))
+            }
+            Decision::Leaves => {
+                self.drop_entry(line);
+                Ok(Reaction::Done(None))
+            }
+            Decision::TooLate => Err(PartError::Exhausted),
+            Decision::NoCase => Ok(Reaction::Dropped),
+        }
+    }
+}

@@ -1,0 +1,229 @@
+//! What a message and an eviction do with a bank's entry of one line: decisions, which change nothing.
+ghost use Rattle.std.specs.Prelude.{◌≡◌, IsTrue, is_some};
+ghost use Rattle.std.specs.Result.{result_ok};
+ghost use Rattle.llc_bank.specs.OnEntry.{asked_back, at_bank, evicted, exclusive_request, filled, finds_place, given_back, leased, loaded, read_answer, shared_request, stored};
+
+use crate::entry::Entry;
+use network::{Body, TimedLine, Words};
+use timestamp_manager::{Exhausted, on_exclusive, on_shared, recall_until};
+
+/// What a bank does at a message.
+#[derive(Clone, Copy, Debug, PartialEq, Eq)]
+pub(crate) enum Decision {
+    /// A request waits, and nothing changes.
+    Waits,
+    /// The line is loaded for a request, which waits.
+    Loads,
+    /// The owner is asked to give the line back by this message, for a request, which waits.
+    Recalls { owner: u32, sent: Body },
+    /// A request is answered, which makes the entry the most recently used one.
+    Grants { entry: Entry, sent: Body },
+    /// A message that is no request makes this of the entry.
+    Becomes(Entry),
+    /// A message that is no request makes the line leave.
+    Leaves,
+    /// A sum of times does not fit.
+    TooLate,
+    /// The table has no case.
+    NoCase,
+}
+
+/// What a bank does at an eviction.
+#[derive(Clone, Copy, Debug, PartialEq, Eq)]
+pub(crate) enum Eviction {
+    /// The bank does not have the line.
+    NotThere,
+    /// The line is being loaded, recalled or stored.
+    IsBusy,
+    /// A clean line leaves, leased up to this time.
+    Drops { rts: u64 },
+    /// A dirty line goes to DRAM, leased up to this time.
+    Stores { rts: u64, words: Words },
+    /// The owner is asked to give the line back.
+    AsksBack { owner: u32 },
+}
+
+// A request of a line that the bank does not have.
+fn loaded(room: bool) -> Decision
+    ensures { result ≡ loaded room }
+{
+    if room {
+        Decision::Loads
+    } else {
+        Decision::Waits
+    }
+}
+
+// What a reader of a line that is leased so is sent: a renewal where it has the version, the line where it has not.
+fn read_answer(renews: bool, line: &TimedLine) -> Body
+    ensures { result ≡ read_answer renews line.now }
+{
+    if renews {
+        Body::RenewRep { rts: line.rts }
+    } else {
+        Body::ShRep(*line)
+    }
+}
+
+// A reader is given a line that is leased so.
+fn granted_to_read(dirty: bool, renews: bool, line: TimedLine) -> Decision
+    ensures { result ≡ Decision.Grants (Entry.Shared dirty line) (read_answer renews line) }
+{
+    let sent = read_answer(renews, &line);
+    let entry = Entry::Shared { dirty, line };
+    Decision::Grants { entry, sent }
+}
+
+// A reader of a line is given this lease; whether it has the version comes with it.
+fn leased(dirty: bool, line: TimedLine, lease: Result<(u64, bool), Exhausted>) -> Decision
+    ensures { result ≡ leased dirty line (result_ok lease) }
+{
+    let Ok((rts, renews)) = lease else {
+        return Decision::TooLate;
+    };
+    let longer = TimedLine {
+        wts: line.wts,
+        rts,
+        words: line.words,
+    };
+    granted_to_read(dirty, renews, longer)
+}
+
+// The owner is asked to keep a copy leased to this time, if it fits.
+fn asked_back(owner: u32, until: Result<u64, Exhausted>) -> Decision
+    ensures { result ≡ asked_back owner (result_ok until) }
+{
+    match until {
+        Ok(rts) => Decision::Recalls {
+            owner,
+            sent: Body::WbReq { rts },
+        },
+        Err(_) => Decision::TooLate,
+    }
+}
+
+// A request to read.
+fn shared_request(
+    lease: u64,
+    room: bool,
+    pts: u64,
+    version: Option<u64>,
+    entry: Option<Entry>,
+) -> Decision
+    ensures { result ≡ shared_request lease room pts version entry }
+{
+    match entry {
+        None => loaded(room),
+        Some(Entry::Shared { dirty, line }) => leased(
+            dirty,
+            line,
+            on_shared(line.wts, line.rts, pts, version, lease),
+        ),
+        Some(Entry::Exclusive { owner }) => asked_back(owner, recall_until(pts, lease)),
+        Some(Entry::Loading | Entry::Recalling { .. } | Entry::Storing) => Decision::Waits,
+    }
+}
+
+// A request to own, by a core.
+fn exclusive_request(room: bool, core: u32, version: Option<u64>, entry: Option<Entry>) -> Decision
+    ensures { result ≡ exclusive_request room core version entry }
+{
+    match entry {
+        None => loaded(room),
+        Some(Entry::Shared { dirty: _, line }) => {
+            let sent = if on_exclusive(line.wts, version) {
+                Body::UpgradeRep { rts: line.rts }
+            } else {
+                Body::ExRep(line)
+            };
+            Decision::Grants {
+                entry: Entry::Exclusive { owner: core },
+                sent,
+            }
+        }
+        Some(Entry::Exclusive { owner }) => Decision::Recalls {
+            owner,
+            sent: Body::FlushReq,
+        },
+        Some(Entry::Loading | Entry::Recalling { .. } | Entry::Storing) => Decision::Waits,
+    }
+}
+
+// The owner gives the line back.
+fn given_back(line: TimedLine, entry: Option<Entry>) -> Decision
+    ensures { result ≡ given_back line entry }
+{
+    match entry {
+        Some(Entry::Exclusive { .. } | Entry::Recalling { .. }) => Decision::Becomes(Entry::Shared {
+            dirty: true,
+            line,
+        }),
+        _ => Decision::NoCase,
+    }
+}
+
+// The words come from DRAM.
+fn filled(mts: u64, words: Words, entry: Option<Entry>) -> Decision
+    ensures { result ≡ filled mts words entry }
+{
+    match entry {
+        Some(Entry::Loading) => Decision::Becomes(Entry::Shared {
+            dirty: false,
+            line: TimedLine {
+                wts: mts,
+                rts: mts,
+                words,
+            },
+        }),
+        _ => Decision::NoCase,
+    }
+}
+
+// DRAM has the words.
+fn stored(entry: Option<Entry>) -> Decision
+    ensures { result ≡ stored entry }
+{
+    match entry {
+        Some(Entry::Storing) => Decision::Leaves,
+        _ => Decision::NoCase,
+    }
+}
+
+/// What a bank with this lease and memory time does at a message with this body about a line that it has this entry of,
+/// and whose set has room or not. A request comes from `core`.
+pub(crate) fn decide(
+    lease: u64,
+    mts: u64,
+    room: bool,
+    core: u32,
+    entry: Option<Entry>,
+    body: &Body,
+) -> Decision
+    ensures decision { result ≡ at_bank lease mts room core entry body.now }
+    ensures place { IsTrue (finds_place (is_some entry) room result) }
+{
+    match *body {
+        Body::ShReq { pts, version } => shared_request(lease, room, pts, version, entry),
+        Body::ExReq { version } => exclusive_request(room, core, version, entry),
+        Body::FlushRep(line) | Body::WbRep(line) => given_back(line, entry),
+        Body::DramLdRep(words) => filled(mts, words, entry),
+        Body::DramStRep => stored(entry),
+        _ => Decision::NoCase,
+    }
+}
+
+/// What an eviction of a line that a bank has this entry of does.
+pub(crate) fn decide_eviction(entry: Option<Entry>) -> Eviction
+    ensures decision { result ≡ evicted entry }
+{
+    match entry {
+        None => Eviction::NotThere,
+        Some(Entry::Shared { dirty: false, line }) => Eviction::Drops { rts: line.rts },
+        Some(Entry::Shared { dirty: true, line }) => Eviction::Stores {
+            rts: line.rts,
+            words: line.words,
+        },
+        Some(Entry::Exclusive { owner }) => Eviction::AsksBack { owner },
+        Some(Entry::Loading | Entry::Recalling { .. } | Entry::Storing) => Eviction::IsBusy,
+    }
+}

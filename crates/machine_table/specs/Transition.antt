@@ -27,13 +27,13 @@ use Rattle.llc_bank.specs.declared.entry.EvictError.TheVariants as not_evicted
 use Rattle.llc_bank.specs.BankTable as bank_table
 use Rattle.llc_bank.specs.BankTable.{BankState}
 use Rattle.dram_mts.specs.Table.{dram_table, dram_has_case}
-use Rattle.interleaving_core.specs.declared.event.Event.{Event}
-use Rattle.interleaving_core.specs.declared.event.Event.TheVariants.{Issue, Attempt as AttemptOf, Deliver, EvictCache, EvictBank, Advance}
-use Rattle.interleaving_core.specs.declared.event.Answer.{Answer}
-use Rattle.interleaving_core.specs.declared.event.Answer.TheVariants.{Issued, Completed, Requested, Waiting, Idle, Delivered, Dropped as DroppedAnswer, Held as HeldAnswer, Started, Evicted, Recalled, Advanced, Refused}
-use Rattle.interleaving_core.specs.declared.event.Refusal.{Refusal}
-use Rattle.interleaving_core.specs.declared.event.Refusal.TheVariants as refusal
-use Rattle.interleaving_core.specs.Machine.{Machine, has_number, has_place, sent, sent_beside, with_core, with_bank, with_dram}
+use Rattle.machine_table.specs.declared.event.Event.{Event}
+use Rattle.machine_table.specs.declared.event.Event.TheVariants.{Issue, Attempt as AttemptOf, Deliver, EvictCache, EvictBank, Advance}
+use Rattle.machine_table.specs.declared.event.Answer.{Answer}
+use Rattle.machine_table.specs.declared.event.Answer.TheVariants.{Issued, Completed, Requested, Waiting, Idle, Delivered, Dropped as DroppedAnswer, Held as HeldAnswer, Started, Evicted, Recalled, Advanced, Refused}
+use Rattle.machine_table.specs.declared.event.Refusal.{Refusal}
+use Rattle.machine_table.specs.declared.event.Refusal.TheVariants as refusal
+use Rattle.machine_table.specs.Machine.{Machine, has_number, has_place, sent, sent_beside, with_core, with_bank, with_dram}
 
 abbrev pub Outcome : Type 0
 Outcome = Answer × Machine

@@ -1,6 +1,6 @@
 //! How a machine is set up.
 ghost use Rattle.std.specs.Prelude.{◌≡◌};
-ghost use Rattle.interleaving_core.specs.SetUp.{is_good, is_within};
+ghost use Rattle.machine_table.specs.SetUp.{is_good, is_within};
 
 /// How a machine is set up. Times and the lease are in ticks of the cores' clocks.
 #[derive(Clone, Copy, Debug, PartialEq, Eq)]

@@ -1,7 +1,7 @@
 //! Checks that the definitions read; to be replaced.
 ghost use Rattle.std.specs.Prelude.{◌≡◌};
-ghost use Rattle.interleaving_core.specs.Machine.{Machine};
-ghost use Rattle.interleaving_core.specs.Transition.{transition};
+ghost use Rattle.machine_table.specs.Machine.{Machine};
+ghost use Rattle.machine_table.specs.Transition.{transition};
 
 pub fn definitions()
     ensures { (m : Machine) → transition m ≡ transition m }

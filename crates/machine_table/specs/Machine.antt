@@ -9,8 +9,8 @@ use Rattle.network.specs.declared.message.Body.TheVariants.{RenewRep, UpgradeRep
 use Rattle.network.specs.declared.message.Message.{Message}
 use Rattle.core_pts.specs.CoreTable.{CoreState}
 use Rattle.llc_bank.specs.BankTable.{BankState}
-use Rattle.interleaving_core.specs.declared.config.Config.{Config}
-use Rattle.interleaving_core.specs.declared.event.Counts.{Counts}
+use Rattle.machine_table.specs.declared.config.Config.{Config}
+use Rattle.machine_table.specs.declared.event.Counts.{Counts}
 
 pub record Machine : Type 0 where
   pub config : Config

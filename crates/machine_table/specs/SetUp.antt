@@ -1,6 +1,6 @@
 -- Which set-ups a machine takes.
 use Rattle.std.specs.Prelude.{ℕ, ◌==◌, nat_le, Bool, ◌&&◌, ◌||◌}
-use Rattle.interleaving_core.specs.declared.config.Config.{Config}
+use Rattle.machine_table.specs.declared.config.Config.{Config}
 
 -- 1 to the greatest
 abbrev pub is_within : ℕ → ℕ → Bool

@@ -1,3 +1,5 @@
 pub mod Machine
+pub mod Opening
+pub mod Runs
 pub mod SetUp
 pub mod Transition

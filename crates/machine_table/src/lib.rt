@@ -1,5 +1,5 @@
-//! The machine: cores, banks, DRAMs and messages in flight, stepped event by event. docs/PROTOCOL.md has the order of
-//! refusals.
+//! The events of a machine, its answers, and its table: what each event makes of the machine as data. docs/PROTOCOL.md
+//! has the order of refusals.
 #![tactic(auto)]
 
 pub mod config;

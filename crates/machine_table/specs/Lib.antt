@@ -1,3 +1,4 @@
+pub mod Answered
 pub mod Machine
 pub mod Opening
 pub mod Runs

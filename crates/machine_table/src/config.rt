@@ -34,7 +34,9 @@ impl Config {
     pub fn is_good(&self) -> bool
         ensures { result ≡ is_good self.now }
     {
-        let is_shape = within(self.cores, 64) && within(self.banks, 8) && within(self.messages, 65_536);
+        let is_shape = within(self.cores, 64)
+            && within(self.banks, 8)
+            && within(self.messages, 65_536);
         let is_cache = within(self.sets, 1024) && within(self.ways, 16);
         let is_bank = within(self.bank_sets, 1024) && within(self.bank_ways, 16);
         let is_line = self.line_words == 1 || self.line_words == 8;

@@ -50,3 +50,94 @@ fn within(number: u32, most: u32) -> bool
 {
     number >= 1 && number <= most
 }
+
+#[cfg(test)]
+mod tests {
+    use super::*;
+
+    fn smallest() -> Config {
+        Config {
+            cores: 1,
+            banks: 1,
+            sets: 1,
+            ways: 1,
+            bank_sets: 1,
+            bank_ways: 1,
+            line_words: 1,
+            lease: 1,
+            messages: 1,
+            opening_time: 0,
+            private_write: false,
+        }
+    }
+
+    fn greatest() -> Config {
+        Config {
+            cores: 64,
+            banks: 8,
+            sets: 1024,
+            ways: 16,
+            bank_sets: 1024,
+            bank_ways: 16,
+            line_words: 8,
+            lease: 4_294_967_296,
+            messages: 65_536,
+            opening_time: u64::MAX,
+            private_write: true,
+        }
+    }
+
+    #[test]
+    fn ranges_end_where_they_say(rt: HostRuntime) {
+        assert!(rt; smallest().is_good() && greatest().is_good());
+        assert!(rt;
+            !Config {
+                cores: 65,
+                ..greatest()
+            }
+            .is_good()
+        );
+        assert!(rt;
+            !Config {
+                banks: 9,
+                ..greatest()
+            }
+            .is_good()
+        );
+        assert!(rt;
+            !Config {
+                sets: 0,
+                ..smallest()
+            }
+            .is_good()
+        );
+        assert!(rt;
+            !Config {
+                bank_ways: 17,
+                ..greatest()
+            }
+            .is_good()
+        );
+        assert!(rt;
+            !Config {
+                line_words: 2,
+                ..smallest()
+            }
+            .is_good()
+        );
+        assert!(rt;
+            !Config {
+                lease: 0,
+                ..smallest()
+            }
+            .is_good()
+        );
+        assert!(rt;
+            !Config {
+                messages: 65_537,
+                ..greatest()
+            }
+            .is_good()
+        );
+    }
+}

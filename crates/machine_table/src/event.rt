@@ -20,44 +20,27 @@ pub enum Event {
     Advance(u32),
 }
 
-/// Why an event changed nothing (but `Exhausted`, which stops the machine).
+/// Why an event changed nothing (but `Exhausted`, which stops the machine). `refusal as u8` is the refusal's number.
 #[derive(Clone, Copy, Debug, PartialEq, Eq)]
 pub enum Refusal {
-    /// 1: an operation is open; the entry is being loaded, recalled or stored.
-    Busy,
-    /// 2: the core was issued 4,294,967,295 operations.
-    TooMany,
-    /// 3: there is no such core, bank, message in flight, copy or entry.
-    NoSuch,
-    /// 4: a request is needed, there is no copy of the line, and its set is full.
-    NoRoom,
-    /// 5: the open operation is on the line.
-    Pinned,
-    /// 6: there is no place for one more message in flight, or message numbers are used up.
-    NetworkFull,
-    /// 7: a growth was refused.
-    NoMemory,
-    /// 8: a sum of times does not fit 64 bits.
-    Exhausted,
-    /// 9: an earlier event was answered `Exhausted`.
-    Stopped,
-}
-
-impl Refusal {
-    /// The refusal's number, 1 to 9.
-    pub fn number(self) -> u8 {
-        match self {
-            Refusal::Busy => 1,
-            Refusal::TooMany => 2,
-            Refusal::NoSuch => 3,
-            Refusal::NoRoom => 4,
-            Refusal::Pinned => 5,
-            Refusal::NetworkFull => 6,
-            Refusal::NoMemory => 7,
-            Refusal::Exhausted => 8,
-            Refusal::Stopped => 9,
-        }
-    }
+    /// An operation is open; the entry is being loaded, recalled or stored.
+    Busy = 1,
+    /// The core was issued 4,294,967,295 operations.
+    TooMany = 2,
+    /// There is no such core, bank, message in flight, copy or entry.
+    NoSuch = 3,
+    /// A request is needed, there is no copy of the line, and its set is full.
+    NoRoom = 4,
+    /// The open operation is on the line.
+    Pinned = 5,
+    /// There is no place for one more message in flight, or message numbers are used up.
+    NetworkFull = 6,
+    /// A growth was refused.
+    NoMemory = 7,
+    /// A sum of times does not fit 64 bits.
+    Exhausted = 8,
+    /// An earlier event was answered `Exhausted`.
+    Stopped = 9,
 }
 
 /// What an event is answered.

@@ -1,0 +1,6 @@
+pub mod Answered
+pub mod Machine
+pub mod Opening
+pub mod Runs
+pub mod SetUp
+pub mod Transition

@@ -1,0 +1,61 @@
+-- The machine as it opens.
+use Rattle.std.specs.Prelude.{ℕ, zero, suc, ◌+◌, ◌/◌, ◌%◌, ◌==◌, false, List, [], ◌∷◌, replicate, if◌then◌else◌, slice_set}
+use Rattle.std.specs.Ordering.{nat_cmp}
+use Rattle.std.specs.FinMap.{FinMap, empty, insert, entries}
+use Rattle.private_cache.specs.declared.cache.Geometry.{Geometry}
+use Rattle.core_pts.specs.declared.config.CoreConfig.{CoreConfig}
+use Rattle.core_pts.specs.CoreTable.{CoreState, opened}
+use Rattle.llc_bank.specs.declared.config.BankConfig.{BankConfig}
+use Rattle.llc_bank.specs.BankTable.{BankState, empty_bank}
+use Rattle.dram_mts.specs.Lines.{words_of}
+use Rattle.machine_table.specs.declared.config.Config.{Config}
+use Rattle.machine_table.specs.Machine.{Machine}
+
+-- the set-up of the core and of the bank of a number
+abbrev pub core_config : Config → ℕ → CoreConfig
+core_config c number = record { number = number; banks = c.banks; line_words = c.line_words; lease = c.lease; private_write = c.private_write; opening_time = c.opening_time }
+
+abbrev pub geometry : Config → Geometry
+geometry c = record { sets = c.sets; ways = c.ways }
+
+abbrev pub bank_config : Config → ℕ → BankConfig
+bank_config c number = record { number = number; banks = c.banks; sets = c.bank_sets; ways = c.bank_ways; lease = c.lease; opening_time = c.opening_time }
+
+-- n cores from this number on, and n banks
+abbrev pub cores_from : Config → ℕ → ℕ → List CoreState
+cores_from c number zero = []
+cores_from c number (suc n) = opened (core_config c number) (geometry c) ∷ cores_from c (number + 1) n
+
+abbrev pub banks_from : Config → ℕ → ℕ → List BankState
+banks_from c number zero = []
+banks_from c number (suc n) = empty_bank (bank_config c number) ∷ banks_from c (number + 1) n
+
+-- the lines of a DRAM with one word set
+abbrev pub with_word : FinMap nat_cmp (List ℕ) → ℕ → ℕ → ℕ → FinMap nat_cmp (List ℕ)
+with_word lines line index v = insert lines line (slice_set (words_of lines line) index v)
+
+-- the words of a bank's lines, set in its DRAM from the last one to the first
+abbrev pub dram_of : Config → ℕ → List (ℕ × ℕ) → FinMap nat_cmp (List ℕ)
+dram_of c bank [] = empty
+dram_of c bank (word ∷ words) =
+    if (word.0 / c.line_words) % c.banks == bank then with_word (dram_of c bank words) (word.0 / c.line_words) (word.0 % c.line_words) word.1
+    else dram_of c bank words
+
+abbrev pub drams_from : Config → List (ℕ × ℕ) → ℕ → ℕ → List (FinMap nat_cmp (List ℕ))
+drams_from c words number zero = []
+drams_from c words number (suc n) = dram_of c number words ∷ drams_from c words (number + 1) n
+
+abbrev pub at_start : Config → FinMap nat_cmp ℕ → Machine
+at_start c opening = record {
+  config = c;
+  opening = opening;
+  cores = cores_from c 0 c.cores;
+  banks = banks_from c 0 c.banks;
+  drams = drams_from c (entries opening) 0 c.banks;
+  messages = [];
+  next = 0;
+  issued = replicate c.cores [];
+  records = [];
+  counts = record { renewals = 0; upgrades = 0; flushes = 0; write_backs = 0 };
+  is_stopped = false;
+}

@@ -1,0 +1,143 @@
+//! How a machine is set up.
+ghost use Rattle.std.specs.Prelude.{◌≡◌};
+ghost use Rattle.machine_table.specs.SetUp.{is_good, is_within};
+
+/// How a machine is set up. Times and the lease are in ticks of the cores' clocks.
+#[derive(Clone, Copy, Debug, PartialEq, Eq)]
+pub struct Config {
+    /// 1 to 64.
+    pub cores: u32,
+    /// 1 to 8.
+    pub banks: u32,
+    /// The sets of a private cache, 1 to 1,024.
+    pub sets: u32,
+    /// The ways of each of them, 1 to 16.
+    pub ways: u32,
+    /// The sets of a bank, 1 to 1,024.
+    pub bank_sets: u32,
+    /// The ways of each of them, 1 to 16.
+    pub bank_ways: u32,
+    /// The words of a line: 1 or 8.
+    pub line_words: u32,
+    /// How long a line is leased, 1 to 4,294,967,296.
+    pub lease: u64,
+    /// The most messages in flight, 1 to 65,536.
+    pub messages: u32,
+    /// The time at which every core and every bank opens.
+    pub opening_time: u64,
+    /// Whether a core that wrote a line it owns may write it again without a later time.
+    pub private_write: bool,
+}
+
+impl Config {
+    /// Whether every value is in its range.
+    pub fn is_good(&self) -> bool
+        ensures { result ≡ is_good self.now }
+    {
+        let is_shape = within(self.cores, 64)
+            && within(self.banks, 8)
+            && within(self.messages, 65_536);
+        let is_cache = within(self.sets, 1024) && within(self.ways, 16);
+        let is_bank = within(self.bank_sets, 1024) && within(self.bank_ways, 16);
+        let is_line = self.line_words == 1 || self.line_words == 8;
+        is_shape && is_cache && is_bank && is_line && self.lease >= 1 && self.lease <= 4_294_967_296
+    }
+}
+
+/// Whether a number is 1 to the greatest.
+fn within(number: u32, most: u32) -> bool
+    ensures { result ≡ is_within number most }
+{
+    number >= 1 && number <= most
+}
+
+#[cfg(test)]
+mod tests {
+    use super::*;
+
+    fn smallest() -> Config {
+        Config {
+            cores: 1,
+            banks: 1,
+            sets: 1,
+            ways: 1,
+            bank_sets: 1,
+            bank_ways: 1,
+            line_words: 1,
+            lease: 1,
+            messages: 1,
+            opening_time: 0,
+            private_write: false,
+        }
+    }
+
+    fn greatest() -> Config {
+        Config {
+            cores: 64,
+            banks: 8,
+            sets: 1024,
+            ways: 16,
+            bank_sets: 1024,
+            bank_ways: 16,
+            line_words: 8,
+            lease: 4_294_967_296,
+            messages: 65_536,
+            opening_time: u64::MAX,
+            private_write: true,
+        }
+    }
+
+    #[test]
+    fn ranges_end_where_they_say(rt: HostRuntime) {
+        assert!(rt; smallest().is_good() && greatest().is_good());
+        assert!(rt;
+            !Config {
+                cores: 65,
+                ..greatest()
+            }
+            .is_good()
+        );
+        assert!(rt;
+            !Config {
+                banks: 9,
+                ..greatest()
+            }
+            .is_good()
+        );
+        assert!(rt;
+            !Config {
+                sets: 0,
+                ..smallest()
+            }
+            .is_good()
+        );
+        assert!(rt;
+            !Config {
+                bank_ways: 17,
+                ..greatest()
+            }
+            .is_good()
+        );
+        assert!(rt;
+            !Config {
+                line_words: 2,
+                ..smallest()
+            }
+            .is_good()
+        );
+        assert!(rt;
+            !Config {
+                lease: 0,
+                ..smallest()
+            }
+            .is_good()
+        );
+        assert!(rt;
+            !Config {
+                messages: 65_537,
+                ..greatest()
+            }
+            .is_good()
+        );
+    }
+}

@@ -1,0 +1,10 @@
+//! The events of a machine, its answers, and its table: what each event makes of the machine as data. docs/PROTOCOL.md
+//! has the order of refusals.
+#![tactic(auto)]
+
+pub mod config;
+pub mod event;
+pub mod laws;
+
+pub use config::Config;
+pub use event::{Answer, Counts, Event, Refusal};

@@ -1,0 +1,5 @@
+pub mod Pieces
+pub mod Lines
+pub mod Fronts
+pub mod Titles
+pub mod Places

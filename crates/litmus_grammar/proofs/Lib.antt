@@ -3,3 +3,4 @@ pub mod Lines
 pub mod Fronts
 pub mod Titles
 pub mod Places
+pub mod Repeats

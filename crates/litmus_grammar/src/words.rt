@@ -7,6 +7,9 @@ ghost use Rattle.litmus_grammar.specs.Spelling.{is_digit, is_number, number_of, 
 /// Above every number that a place takes.
 pub const TOO_LARGE: u32 = 1 << 31;
 
+/// How many bytes a text may have.
+pub const MOST_BYTES: usize = 65536;
+
 /// How many locations a text may name.
 pub const MOST_LOCATIONS: usize = 64;
 

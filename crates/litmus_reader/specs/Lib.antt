@@ -1,2 +1,5 @@
 pub mod Names
 pub mod ReadingItems
+pub mod ReadingBlock
+pub mod Mnemonics
+pub mod ReadingForms

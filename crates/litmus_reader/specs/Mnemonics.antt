@@ -1,0 +1,28 @@
+-- The words of instructions.
+use Rattle.std.specs.Prelude.{ℕ, ◌==◌, ◌&&◌, ◌||◌, Bool, true, false, if◌then◌else◌, List, [], ◌∷◌, Option, Some, None, codes}
+use Rattle.std.specs.Str.{bytes_eq}
+use Rattle.litmus_reader.specs.declared.syntax.Width.{Width}
+use Rattle.litmus_reader.specs.declared.syntax.Width.TheVariants.{Single, Double}
+use Rattle.litmus_reader.specs.declared.forms.Mnemonic.{Mnemonic}
+use Rattle.litmus_reader.specs.declared.forms.Mnemonic.TheVariants.{Load, Store, Swap, Li, Ori, Fence}
+
+-- what a mnemonic names: a suffix .aq or .rl has no effect
+abbrev pub mnemonic_of : List ℕ → Option Mnemonic
+mnemonic_of w =
+    if bytes_eq w (codes "lw") then Some (Load Single)
+    else if bytes_eq w (codes "ld") then Some (Load Double)
+    else if bytes_eq w (codes "sw") then Some (Store Single)
+    else if bytes_eq w (codes "sd") then Some (Store Double)
+    else if bytes_eq w (codes "amoswap.w") || bytes_eq w (codes "amoswap.w.aq") || bytes_eq w (codes "amoswap.w.rl") then Some (Swap Single)
+    else if bytes_eq w (codes "amoswap.d") || bytes_eq w (codes "amoswap.d.aq") || bytes_eq w (codes "amoswap.d.rl") then Some (Swap Double)
+    else if bytes_eq w (codes "li") then Some Li
+    else if bytes_eq w (codes "ori") then Some Ori
+    else if bytes_eq w (codes "fence") then Some Fence
+    else None
+
+abbrev pub is_zero : List ℕ → Bool
+is_zero w = bytes_eq w (codes "0")
+
+-- the sets that a fence names
+abbrev pub is_fence_set : List ℕ → Bool
+is_fence_set w = bytes_eq w (codes "r") || bytes_eq w (codes "w") || bytes_eq w (codes "rw")

@@ -3,3 +3,6 @@ pub mod ReadingItems
 pub mod ReadingBlock
 pub mod Mnemonics
 pub mod ReadingForms
+pub mod Verdicts
+pub mod ReadingRows
+pub mod ReadingTable

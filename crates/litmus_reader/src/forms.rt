@@ -1,9 +1,10 @@
 //! Instructions as they are written.
 
 ghost use Rattle.std.specs.Prelude.{◌≡◌};
+ghost use Rattle.std.specs.Str.{bytes_eq};
 ghost use Rattle.litmus_grammar.specs.Reading.{Gives};
 ghost use Rattle.litmus_grammar.specs.Pieces.{pieces_of};
-ghost use Rattle.litmus_reader.specs.Mnemonics.{mnemonic_of, is_zero, is_fence_set};
+ghost use Rattle.litmus_reader.specs.Mnemonics.{mnemonic_of, swap_width, is_zero, is_fence_set};
 ghost use Rattle.litmus_reader.specs.ReadingForms.{register_at, based_at, offset_at, swapped_at, number_word_at, set_at, fence_at, li_at, ori_at, operands_at, form_at};
 
 use crate::syntax::Width;
@@ -33,21 +34,54 @@ pub enum Form {
     Fence,
 }
 
+/// Whether two words are the same.
+pub fn is(word: &[u8], wanted: &[u8]) -> bool
+    ensures { result ≡ bytes_eq word.now wanted.now }
+{
+    word == wanted
+}
+
+/// The width of a swap; a suffix has no effect.
+fn swap_width(word: &[u8]) -> Option<Width>
+    ensures { result ≡ swap_width word.now }
+{
+    if is(word, b"amoswap.w") || is(word, b"amoswap.w.aq") || is(word, b"amoswap.w.rl") {
+        return Some(Width::Single);
+    }
+    if is(word, b"amoswap.d") || is(word, b"amoswap.d.aq") || is(word, b"amoswap.d.rl") {
+        return Some(Width::Double);
+    }
+    None
+}
+
 /// What a mnemonic names.
 pub fn mnemonic_named(word: &[u8]) -> Option<Mnemonic>
     ensures { result ≡ mnemonic_of word.now }
 {
-    match word {
-        b"lw" => Some(Mnemonic::Load(Width::Single)),
-        b"ld" => Some(Mnemonic::Load(Width::Double)),
-        b"sw" => Some(Mnemonic::Store(Width::Single)),
-        b"sd" => Some(Mnemonic::Store(Width::Double)),
-        b"amoswap.w" | b"amoswap.w.aq" | b"amoswap.w.rl" => Some(Mnemonic::Swap(Width::Single)),
-        b"amoswap.d" | b"amoswap.d.aq" | b"amoswap.d.rl" => Some(Mnemonic::Swap(Width::Double)),
-        b"li" => Some(Mnemonic::Li),
-        b"ori" => Some(Mnemonic::Ori),
-        b"fence" => Some(Mnemonic::Fence),
-        _ => None,
+    if is(word, b"lw") {
+        return Some(Mnemonic::Load(Width::Single));
+    }
+    if is(word, b"ld") {
+        return Some(Mnemonic::Load(Width::Double));
+    }
+    if is(word, b"sw") {
+        return Some(Mnemonic::Store(Width::Single));
+    }
+    if is(word, b"sd") {
+        return Some(Mnemonic::Store(Width::Double));
+    }
+    if is(word, b"li") {
+        return Some(Mnemonic::Li);
+    }
+    if is(word, b"ori") {
+        return Some(Mnemonic::Ori);
+    }
+    if is(word, b"fence") {
+        return Some(Mnemonic::Fence);
+    }
+    match swap_width(word) {
+        Some(width) => Some(Mnemonic::Swap(width)),
+        None => None,
     }
 }
 

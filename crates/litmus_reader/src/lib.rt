@@ -2,8 +2,11 @@
 #![tactic(auto)]
 
 mod blocks;
+mod cells;
 mod forms;
 mod items;
+mod judging;
 mod syntax;
+mod table;
 
 pub use syntax::{Cell, Expr, Instruction, Item, Name, Quantifier, Setting, Width};

@@ -6,3 +6,7 @@ pub mod ReadingForms
 pub mod Verdicts
 pub mod ReadingRows
 pub mod ReadingTable
+pub mod Trees
+pub mod TreeViews
+pub mod ReadingAtoms
+pub mod ReadingCondition

@@ -1,11 +1,13 @@
 //! Reads the text of a litmus test, and gives what a run of it needs.
 #![tactic(auto)]
 
+mod atoms;
 mod blocks;
 mod cells;
 mod forms;
 mod items;
 mod judging;
+mod parsing;
 mod syntax;
 mod table;
 

@@ -10,3 +10,5 @@ pub mod Trees
 pub mod TreeViews
 pub mod ReadingAtoms
 pub mod ReadingCondition
+pub mod ReadingHeader
+pub mod Reachable

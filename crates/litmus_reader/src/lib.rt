@@ -5,9 +5,11 @@ mod atoms;
 mod blocks;
 mod cells;
 mod forms;
+mod headers;
 mod items;
 mod judging;
 mod parsing;
+mod reach;
 mod syntax;
 mod table;
 

@@ -1,6 +1,6 @@
 //! The locations of a text, in the order in which they were first named.
 
-ghost use Rattle.std.specs.Prelude.{◌≡◌, ◌++◌, [], ◌∷◌, ◌≤◌, length, OnOk, OnErr, not};
+ghost use Rattle.std.specs.Prelude.{◌≡◌, ◌++◌, [], ◌∷◌, ◌≤◌, ◌<◌, length, OnOk, OnErr, not};
 ghost use Rattle.std.specs.List.{prefix_len};
 ghost use Rattle.std.specs.Str.{bytes_eq};
 ghost use Rattle.litmus_grammar.specs.Naming.{place_of};
@@ -17,11 +17,13 @@ pub struct Locations {
 }
 
 impl Model for Locations {
-    ghost use Rattle.std.specs.Prelude.{ℕ, List, map};
+    ghost use Rattle.std.specs.Prelude.{ℕ, List, map, ◌≤◌, length};
 
     ghost Value = { List (List ℕ) };
 
     ghost view = { λ l. map (λ name. name.items) l.names.items };
+
+    ghost invariant = { λ l. length l.names.items ≤ 64 };
 }
 
 fn place_among(names: &[Vec<u8>], name: &[u8]) -> usize
@@ -44,9 +46,10 @@ impl Locations {
         }
     }
 
-    /// How many there are.
+    /// How many there are, at most 64.
     pub fn len(&self) -> usize
-        ensures { result ≡ length self.now }
+        ensures count { result ≡ length self.now }
+        ensures few { result ≤ 64 }
     {
         self.names.len()
     }
@@ -60,6 +63,7 @@ impl Locations {
 
     /// Adds a name at the end.
     pub fn push(&mut self, name: &[u8]) -> Result<(), AllocError>
+        requires { length self.old < 64 }
         ensures pushed { OnOk result (self.new ≡ self.old ++ name.now ∷ []) }
         ensures refused { OnErr result (self.new ≡ self.old) }
     {

@@ -1,5 +1,5 @@
 -- Names of registers and locations, and what the initial block sets.
-use Rattle.std.specs.Prelude.{ℕ, ◌==◌, ◌&&◌, Bool, false, List}
+use Rattle.std.specs.Prelude.{ℕ, ◌==◌, ◌&&◌, Bool, true, false, if◌then◌else◌, List, [], ◌∷◌, Option, Some, None}
 use Rattle.litmus_reader.specs.declared.syntax.Name.{Name}
 use Rattle.litmus_reader.specs.declared.syntax.Name.TheVariants.{Register, Location}
 use Rattle.litmus_reader.specs.declared.syntax.Setting.{Setting}
@@ -16,10 +16,15 @@ same_name (Location l) (Location m) = l == m
 same_name (Register s q) (Location m) = false
 same_name (Location l) (Register t r) = false
 
-abbrev pub sets_register : ℕ → ℕ → Name → Setting → Bool
-sets_register thread register name (Address l) = same_name name (Register thread register)
-sets_register thread register name (Number n) = false
+abbrev pub address_in : Setting → Option ℕ
+address_in (Address l) = Some l
+address_in (Number n) = None
 
--- the item sets the thread's register to a location
-abbrev pub sets_address : ℕ → ℕ → Item → Bool
-sets_address thread register item = sets_register thread register item.name item.setting
+-- the location to which the first item that sets the thread's register sets it
+unfoldable pub address_of : ℕ → ℕ → List Item → Option ℕ
+address_of thread register [] = None
+address_of thread register (item ∷ items) = if same_name item.name (Register thread register) then address_in item.setting else address_of thread register items
+
+abbrev pub is_there : {A : Type 0} → Option A → Bool
+is_there None = false
+is_there (Some x) = true

@@ -1,12 +1,11 @@
 -- Reading the atoms of a condition, with the first fault.
 use Rattle.std.specs.Prelude.{◌≡◌, ℕ, ◌+◌, ◌==◌, ◌&&◌, nat_le, Bool, true, false, if◌then◌else◌, List, [], ◌∷◌, Option, Some, None, Result, Ok, Err}
-use Rattle.std.specs.List.{list_any}
 use Rattle.litmus_grammar.specs.Pieces.{Piece, Word, Sign, LineEnd}
 use Rattle.litmus_grammar.specs.Spelling.{small_of, register_of}
 use Rattle.litmus_grammar.specs.declared.errors.Kind.TheVariants.{TooLarge, AddressAsValue, BadCondition}
 use Rattle.litmus_grammar.specs.declared.errors.LitmusError.{LitmusError}
 use Rattle.litmus_grammar.specs.Reading.{◌>>=◌, Read, fails, found, word_at, expect_at}
-use Rattle.litmus_reader.specs.Names.{Names, sets_address}
+use Rattle.litmus_reader.specs.Names.{Names, address_of, is_there}
 use Rattle.litmus_reader.specs.ReadingItems.{location_at, number_at}
 use Rattle.litmus_reader.specs.Trees.{Tree, Is}
 use Rattle.litmus_reader.specs.declared.syntax.Item.{Item}
@@ -38,7 +37,7 @@ register_name_at items threads thread line pieces =
       w ← word_at BadCondition colon.0 colon.1
       found BadCondition (register_of w.0) w.1 (λ register.
         if register == 0 then fails BadCondition w.1
-        else if list_any (sets_address thread register) items then fails AddressAsValue w.1
+        else if is_there (address_of thread register items) then fails AddressAsValue w.1
         else Ok (Register thread register, w.1, w.2)))
 
 unfoldable pub location_name_at : List ℕ → Names → ℕ → List Piece → Read (Name × Names)

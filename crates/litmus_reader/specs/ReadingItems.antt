@@ -21,7 +21,7 @@ location_at kind word line names =
     if is_location word
       then (if nat_lt (place_of word names) (length names) then Ok (place_of word names, names)
         else if nat_le 64 (length names) then fails TooLarge line
-        else Ok (place_of word names, names ++ word ∷ []))
+        else Ok (length names, names ++ word ∷ []))
       else fails kind line
 
 -- a number that fits

@@ -6,6 +6,7 @@ use Rattle.litmus_grammar.specs.Spelling.{small_of}
 use Rattle.litmus_grammar.specs.declared.errors.Kind.TheVariants.{TooLarge, BadTable}
 use Rattle.litmus_grammar.specs.declared.errors.LitmusError.{LitmusError}
 use Rattle.litmus_grammar.specs.Reading.{◌>>=◌, Read, fails, here_at, word_here_at, start_at, end_line_at, repeat_at}
+use Rattle.litmus_reader.specs.Names.{is_there}
 use Rattle.litmus_reader.specs.ReadingRows.{row_at}
 use Rattle.litmus_reader.specs.declared.syntax.Width.{Width}
 use Rattle.litmus_reader.specs.declared.syntax.Item.{Item}
@@ -62,10 +63,6 @@ quantifier_of w =
     else if bytes_eq w (codes "~exists") then Some NotExists
     else if bytes_eq w (codes "forall") then Some Forall
     else None
-
-abbrev pub is_there : {A : Type 0} → Option A → Bool
-is_there None = false
-is_there (Some x) = true
 
 unfoldable pub quantifier_next : List Piece → Bool
 quantifier_next [] = false

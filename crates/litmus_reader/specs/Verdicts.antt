@@ -1,10 +1,9 @@
 -- What an instruction may say: its numbers, its width, its registers.
 use Rattle.std.specs.Prelude.{◌≡◌, ℕ, nat_lt, Bool, true, false, if◌then◌else◌, List, Option, Some, None, Result, Ok, Err}
-use Rattle.std.specs.List.{list_any}
 use Rattle.litmus_grammar.specs.declared.errors.Kind.TheVariants.{MixedWidth, ValueRange, AddressAsValue, ValueAsAddress}
 use Rattle.litmus_grammar.specs.declared.errors.LitmusError.{LitmusError}
 use Rattle.litmus_grammar.specs.Reading.{◌>>=◌, fails}
-use Rattle.litmus_reader.specs.Names.{sets_address}
+use Rattle.litmus_reader.specs.Names.{address_of, is_there}
 use Rattle.litmus_reader.specs.declared.syntax.Width.{Width}
 use Rattle.litmus_reader.specs.declared.syntax.Width.TheVariants.{Single, Double}
 use Rattle.litmus_reader.specs.declared.syntax.Item.{Item}
@@ -26,29 +25,33 @@ kept_at (Some first) own line = if same_width first own then Ok (Some first) els
 
 -- an address register holds no value
 unfoldable pub value_register_at : List Item → ℕ → ℕ → ℕ → Result ℕ LitmusError
-value_register_at items thread register line = if list_any (sets_address thread register) items then fails AddressAsValue line else Ok register
+value_register_at items thread register line = if is_there (address_of thread register items) then fails AddressAsValue line else Ok register
 
--- only an address register holds an address
-unfoldable pub base_register_at : List Item → ℕ → ℕ → ℕ → Result ℕ LitmusError
-base_register_at items thread register line = if list_any (sets_address thread register) items then Ok register else fails ValueAsAddress line
+abbrev pub or_no_address : Option ℕ → ℕ → Result ℕ LitmusError
+or_no_address (Some location) line = Ok location
+or_no_address None line = fails ValueAsAddress line
+
+-- the location that an address register holds
+unfoldable pub base_at : List Item → ℕ → ℕ → ℕ → Result ℕ LitmusError
+base_at items thread register line = or_no_address (address_of thread register items) line
 
 -- first the number, then the width, then the registers from the left
 unfoldable pub judged_at : List Item → ℕ → Option Width → Form → ℕ → Result (Instruction × Option Width) LitmusError
 judged_at items thread width (form.Load own target base) line = do
   w ← kept_at width own line
   d ← value_register_at items thread target line
-  b ← base_register_at items thread base line
+  b ← base_at items thread base line
   Ok (Load d b, w)
 judged_at items thread width (form.Store own source base) line = do
   w ← kept_at width own line
   s ← value_register_at items thread source line
-  b ← base_register_at items thread base line
+  b ← base_at items thread base line
   Ok (Store s b, w)
 judged_at items thread width (form.Swap own target source base) line = do
   w ← kept_at width own line
   d ← value_register_at items thread target line
   s ← value_register_at items thread source line
-  b ← base_register_at items thread base line
+  b ← base_at items thread base line
   Ok (Swap d s b, w)
 judged_at items thread width (form.Li target value) line =
     if nat_lt value 2147483648 then (value_register_at items thread target line >>= λ d. Ok (Set d value, width)) else fails ValueRange line

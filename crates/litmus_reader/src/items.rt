@@ -4,7 +4,7 @@ ghost use Rattle.std.specs.Prelude.{◌≡◌, IfOk, ◌<◌, length};
 ghost use Rattle.std.specs.List.{list_any};
 ghost use Rattle.litmus_grammar.specs.Reading.{Gives};
 ghost use Rattle.litmus_grammar.specs.Pieces.{pieces_of};
-ghost use Rattle.litmus_reader.specs.Names.{same_name, sets_address};
+ghost use Rattle.litmus_reader.specs.Names.{same_name, address_of, is_there};
 ghost use Rattle.litmus_reader.specs.ReadingItems.{location_at, number_at, setting_at, register_item_at, location_item_at, item_at};
 
 use crate::syntax::{Item, Name, Setting};
@@ -31,22 +31,30 @@ pub fn is_set(items: &[Item], name: Name) -> bool
     items.iter().any(|item| same_name(item.name, name))
 }
 
-fn sets_address(item: Item, thread: u8, register: u8) -> bool
-    ensures { result ≡ sets_address thread register item }
+/// The location to which the first of the items that set the thread's register sets it, if it
+/// sets it to one.
+#[tactic(auto, unfolding(crate::specs::Names::address_of))]
+pub fn address_of(items: &[Item], thread: u8, register: u8) -> Option<u8>
+    ensures { result ≡ address_of thread register items.now }
 {
-    match item.setting {
-        Setting::Address(_) => same_name(item.name, Name::Register(thread, register)),
-        Setting::Number(_) => false,
+    let mut left = items;
+    while let Some((item, rest)) = left.split_first() {
+        if same_name(item.name, Name::Register(thread, register)) {
+            return match item.setting {
+                Setting::Address(location) => Some(location),
+                Setting::Number(_) => None,
+            };
+        }
+        left = rest;
     }
+    None
 }
 
-/// Whether one of the items sets the thread's register to a location.
+/// Whether the items set the thread's register to a location.
 pub fn is_address(items: &[Item], thread: u8, register: u8) -> bool
-    ensures { result ≡ list_any (sets_address thread register) items.now }
+    ensures { result ≡ is_there (address_of thread register items.now) }
 {
-    items
-        .iter()
-        .any(|item| sets_address(*item, thread, register))
+    address_of(items, thread, register).is_some()
 }
 
 /// The number of the location that a word names, which is new where it was not named before.
@@ -56,7 +64,7 @@ pub fn location(
     word: &[u8],
     at: Cursor<'_>,
     kind: Kind,
-) -> Result<usize, ReadError>
+) -> Result<u8, ReadError>
     ensures { Gives (λ number. (number, locations.new)) result (location_at kind word.now at.entry.line locations.old) }
 {
     if !is_location(word) {
@@ -64,13 +72,14 @@ pub fn location(
     }
     let place = locations.place(word);
     if place < locations.len() {
-        return Ok(place);
+        return Ok(place as u8);
     }
-    if locations.len() >= MOST_LOCATIONS {
+    let number = locations.len();
+    if number >= MOST_LOCATIONS {
         return Err(at.fault(Kind::TooLarge));
     }
     locations.push(word)?;
-    Ok(place)
+    Ok(number as u8)
 }
 
 /// A number that fits a place where values stand.

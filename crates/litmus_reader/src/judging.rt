@@ -2,10 +2,10 @@
 
 ghost use Rattle.std.specs.Prelude.{◌≡◌};
 ghost use Rattle.litmus_grammar.specs.Reading.{Gives};
-ghost use Rattle.litmus_reader.specs.Verdicts.{same_width, kept_at, value_register_at, base_register_at, judged_at};
+ghost use Rattle.litmus_reader.specs.Verdicts.{same_width, kept_at, value_register_at, base_at, judged_at};
 
 use crate::forms::Form;
-use crate::items::is_address;
+use crate::items::{address_of, is_address};
 use crate::syntax::{Instruction, Item, Width};
 use litmus_grammar::{Cursor, Kind, ReadError, TOO_LARGE};
 
@@ -51,20 +51,20 @@ fn value_register(
     Ok(register)
 }
 
-/// The register, if it is an address register.
-#[tactic(auto, unfolding(crate::specs::Verdicts::base_register_at))]
-fn base_register(
+/// The location that an address register holds.
+#[tactic(auto, unfolding(crate::specs::Verdicts::base_at))]
+fn base_location(
     items: &[Item],
     thread: u8,
     register: u8,
     at: Cursor<'_>,
 ) -> Result<u8, ReadError>
-    ensures { Gives (λ r. r) result (base_register_at items.now thread register at.entry.line) }
+    ensures { Gives (λ r. r) result (base_at items.now thread register at.entry.line) }
 {
-    if !is_address(items, thread, register) {
-        return Err(at.fault(Kind::ValueAsAddress));
+    match address_of(items, thread, register) {
+        Some(location) => Ok(location),
+        None => Err(at.fault(Kind::ValueAsAddress)),
     }
-    Ok(register)
 }
 
 /// The instruction that a thread's form stands for, and the width of the text behind it: the
@@ -83,25 +83,25 @@ pub fn judge(
         Form::Load(own, target, base) => {
             let width = kept(width, own, at)?;
             let target = value_register(items, thread, target, at)?;
-            let base = base_register(items, thread, base, at)?;
-            Ok((Instruction::Load { target, base }, width))
+            let location = base_location(items, thread, base, at)?;
+            Ok((Instruction::Load { target, location }, width))
         }
         Form::Store(own, source, base) => {
             let width = kept(width, own, at)?;
             let source = value_register(items, thread, source, at)?;
-            let base = base_register(items, thread, base, at)?;
-            Ok((Instruction::Store { source, base }, width))
+            let location = base_location(items, thread, base, at)?;
+            Ok((Instruction::Store { source, location }, width))
         }
         Form::Swap(own, target, source, base) => {
             let width = kept(width, own, at)?;
             let target = value_register(items, thread, target, at)?;
             let source = value_register(items, thread, source, at)?;
-            let base = base_register(items, thread, base, at)?;
+            let location = base_location(items, thread, base, at)?;
             Ok((
                 Instruction::Swap {
                     target,
                     source,
-                    base,
+                    location,
                 },
                 width,
             ))

@@ -6,7 +6,7 @@ pub enum Name {
     /// The thread, 0 to 15, and the register, 0 to 31.
     Register(u8, u8),
     /// The location's number, 0 to 63, in the order in which locations are first named.
-    Location(usize),
+    Location(u8),
 }
 
 /// What the initial block sets a name to.
@@ -15,7 +15,7 @@ pub enum Setting {
     /// A value of at most 2147483647.
     Number(u32),
     /// The address of the location of this number.
-    Address(usize),
+    Address(u8),
 }
 
 /// An item of the initial block, and the line in which it begins.
@@ -35,15 +35,19 @@ pub enum Width {
     Double,
 }
 
-/// An instruction, with its registers by number.
+/// An instruction, with its registers by number, and the location that its address register holds.
 #[derive(Clone, Copy, Debug, PartialEq, Eq)]
 pub enum Instruction {
-    /// The target gets the value at the address register.
-    Load { target: u8, base: u8 },
-    /// The source's value is stored at the address register.
-    Store { source: u8, base: u8 },
-    /// The source's value is stored, and the target gets the old value.
-    Swap { target: u8, source: u8, base: u8 },
+    /// The target gets the location's value.
+    Load { target: u8, location: u8 },
+    /// The location gets the source's value.
+    Store { source: u8, location: u8 },
+    /// The location gets the source's value, and the target the location's old value.
+    Swap {
+        target: u8,
+        source: u8,
+        location: u8,
+    },
     /// The target gets the value.
     Set { target: u8, value: u32 },
     /// Nothing.

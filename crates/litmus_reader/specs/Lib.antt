@@ -1,14 +1,1 @@
-pub mod Names
-pub mod ReadingItems
-pub mod ReadingBlock
-pub mod Mnemonics
-pub mod ReadingForms
-pub mod Verdicts
-pub mod ReadingRows
-pub mod ReadingTable
-pub mod Trees
-pub mod TreeViews
-pub mod ReadingAtoms
-pub mod ReadingCondition
-pub mod ReadingHeader
-pub mod Reachable
+pub mod ThreadSteps

@@ -158,7 +158,7 @@ operands_take before w word.Fence line pieces x p m e =
     let t = fence_takes line pieces r.0 r.1 in
     subst (λ (y : Form × ℕ × List Piece). IsForm before y.0 y.2) (ok_is (form.Fence, r.0.0, r.0.1) x r.2) (w, pieces, t.0, p, m, t.1, t.2)
 
-form_takes : (line : ℕ) (pieces : List Piece) (x : Form × ℕ × List Piece) → form_at line pieces ≡ Ok x → IsForm pieces x.0 x.2
+pub form_takes : (line : ℕ) (pieces : List Piece) (x : Form × ℕ × List Piece) → form_at line pieces ≡ Ok x → IsForm pieces x.0 x.2
 unfolding form_at
 form_takes line pieces x e =
     let w = bind_ok (word_here_at BadInstruction line pieces) _ x e in
@@ -199,7 +199,7 @@ two_same f a b c e = ap (λ x. f x c) (sym e)
 swap_same : (d s d' s' l : ℕ) → d ≡ d' → s ≡ s' → Swap d' s' l ≡ Swap d s l
 swap_same d s d' s' l e f = ap (λ x. Swap x s' l) (sym e) ∙ ap (λ x. Swap d x l) (sym f)
 
-judged_takes : (items : List Item) (t : ℕ) (before : Option Width) (f : Form) (line : ℕ) (x : Instruction × Option Width) → judged_at items t before f line ≡ Ok x → StandsFor items t before f x.0 x.1
+pub judged_takes : (items : List Item) (t : ℕ) (before : Option Width) (f : Form) (line : ℕ) (x : Instruction × Option Width) → judged_at items t before f line ≡ Ok x → StandsFor items t before f x.0 x.1
 unfolding judged_at
 judged_takes items t before (form.Load own target base) line x e =
     let w = bind_ok (kept_at before own line) _ x e in

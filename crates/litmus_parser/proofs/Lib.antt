@@ -2,3 +2,5 @@ pub mod Chains
 pub mod Steps
 pub mod BlockTakes
 pub mod FormTakes
+pub mod TableTakes
+pub mod ConditionTakes

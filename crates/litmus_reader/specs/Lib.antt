@@ -1,1 +1,6 @@
 pub mod ThreadSteps
+pub mod Litmus
+pub mod Seen
+pub mod TestViews
+pub mod ReadingTest
+pub mod Grammar

@@ -9,14 +9,14 @@ use std::marker::Model;
 
 /// A thread of a test: its registers and the instructions that are left, of which the first is a
 /// memory instruction of its own.
-#[derive(Clone, Copy, Debug)]
+#[derive(Drop)]
 pub struct ThreadState<'a> {
     thread: u8,
     rest: &'a [Cell],
     registers: [u64; 32],
 }
 
-impl Model for ThreadState<'_> {
+impl<'a> Model for ThreadState<'a> {
     ghost use Rattle.litmus_reader.specs.ThreadSteps.{Thread};
 
     ghost Value = { Thread };

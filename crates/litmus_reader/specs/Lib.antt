@@ -4,3 +4,4 @@ pub mod Seen
 pub mod TestViews
 pub mod ReadingTest
 pub mod Grammar
+pub mod Truth

@@ -7,6 +7,7 @@ ghost use Rattle.litmus_reader.specs.ThreadSteps.{settled, opened};
 use crate::threads::ThreadState;
 use litmus_grammar::Locations;
 use litmus_parser::{Cell, Expr, Item, Name, Quantifier};
+use std::alloc::Global;
 
 /// A litmus test.
 #[derive(Drop)]
@@ -19,6 +20,7 @@ pub struct Test {
     pub(crate) quantifier: Quantifier,
     pub(crate) expr: Expr,
     pub(crate) seen: Vec<Name>,
+    pub(crate) alloc: Global,
 }
 
 impl Test {

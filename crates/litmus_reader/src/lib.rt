@@ -2,10 +2,12 @@
 #![tactic(auto)]
 
 mod contents;
+mod ends;
 mod reading;
 mod threads;
 
 pub use contents::Test;
+pub use ends::EndState;
 pub use litmus_grammar::{Kind, LitmusError};
 pub use litmus_parser::{Name, Quantifier};
 pub use reading::read;

@@ -91,6 +91,7 @@ fn parts(alloc: Global, text: &[u8]) -> Result<Test, ReadError>
         quantifier,
         expr,
         seen,
+        alloc,
     })
 }
 

@@ -12,3 +12,6 @@ pub use litmus_grammar::{Kind, LitmusError};
 pub use litmus_parser::{Name, Quantifier};
 pub use reading::read;
 pub use threads::ThreadState;
+
+#[cfg(test)]
+mod tests;

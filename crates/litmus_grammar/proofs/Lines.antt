@@ -1,6 +1,5 @@
 -- A line feed parts the pieces.
-use Rattle.std.proofs.Common.{◌≡◌, ℕ, Bool, true, false, cond, ◌||◌, ◌&&◌, List, [], ◌∷◌, ◌++◌, refl, sym, ap, ◌∙◌, inl, inr}
-use Rattle.std.proofs.lemmas.Bool.{cases_Bool}
+use Rattle.std.proofs.Common.{◌≡◌, ℕ, Bool, true, false, cond, ◌&&◌, List, [], ◌∷◌, ◌++◌, refl, sym, ap, ◌∙◌}
 use Rattle.litmus_grammar.specs.Pieces.{Piece, Word, Sign, LineEnd, is_blank, is_letter, is_slash, is_joined, grown, lone_piece, pieces_of}
 
 and-false : (x : Bool) → (x && false) ≡ false
@@ -42,7 +41,7 @@ step : (b : ℕ) (bytes after : List ℕ) (ps qs : List Piece) → pieces_of aft
 unfolding pieces_of
 step b bytes after ps qs e j i =
     rw (e, j, i, grown-line b ps qs) (sym (cond-append (is_blank b) ps (cond (is_joined b bytes) (grown b ps) (lone_piece b ∷ ps)) (LineEnd ∷ qs)
-      ∙ ap (λ (z : List Piece). cond (is_blank b) (ps ++ LineEnd ∷ qs) z) (cond-append (is_joined b bytes) (grown b ps) (lone_piece b ∷ ps) (LineEnd ∷ qs))))
+    ∙ ap (λ (z : List Piece). cond (is_blank b) (ps ++ LineEnd ∷ qs) z) (cond-append (is_joined b bytes) (grown b ps) (lone_piece b ∷ ps) (LineEnd ∷ qs))))
 
 pub pieces-lines : (line after : List ℕ) → pieces_of (line ++ 10 ∷ after) ≡ pieces_of line ++ LineEnd ∷ pieces_of after
 unfolding pieces_of

@@ -1,5 +1,5 @@
 -- How the pieces of a text begin.
-use Rattle.std.proofs.Common.{◌≡◌, ◌≢◌, ℕ, zero, suc, ◌+◌, ◌-◌, ◌<◌, ◌≤◌, Bool, true, false, cond, eqb, ◌||◌, ◌&&◌, List, [], ◌∷◌, ◌++◌, length, take, drop, refl, sym, ap, subst, ◌∙◌, arith, inl, inr, add-one}
+use Rattle.std.proofs.Common.{◌≡◌, ◌≢◌, ℕ, suc, ◌+◌, Bool, true, false, eqb, ◌||◌, List, [], ◌∷◌, take, drop, refl, sym, ap, subst, ◌∙◌, arith, inl, inr}
 use Rattle.std.proofs.lemmas.Bool.{cases_Bool, ne_eqb, or_cases, eqb-true, false_from_ne_true, both_ways}
 use Rattle.std.specs.List.{prefix_len}
 use Rattle.litmus_grammar.specs.Pieces.{Piece, Word, Sign, LineEnd, is_blank, is_letter, is_slash, is_joined, grown, lone_piece, pieces_of}
@@ -48,7 +48,7 @@ word-first p kind b [] h = pieces-word_alone b [] (kind.no_blank b h) (joined-no
 word-first p kind b (c ∷ bytes) h =
     elim (cases_Bool (p c)) [
       | inl e ↦ rw (e, drop-one_more (prefix_len p bytes) c bytes, take-one_more (prefix_len p bytes) c bytes)
-        (pieces-joined b (c ∷ bytes) (kind.no_blank b h) (kind.joins b c bytes h ∙ e) ∙ ap (grown b) (word-first p kind c bytes e))
+          (pieces-joined b (c ∷ bytes) (kind.no_blank b h) (kind.joins b c bytes h ∙ e) ∙ ap (grown b) (word-first p kind c bytes e))
       | inr e ↦ rw e (pieces-word_alone b (c ∷ bytes) (kind.no_blank b h) (kind.joins b c bytes h ∙ e) ∙ ap (λ (x : Piece). x ∷ pieces_of (c ∷ bytes)) (kind.lone b h))
     ]
 

@@ -1,10 +1,10 @@
 -- The first line, both ways.
-use Rattle.std.proofs.Common.{◌≡◌, ◌≢◌, ℕ, zero, suc, ◌+◌, ◌<◌, ◌≤◌, Bool, true, false, cond, eqb, ltb, ◌||◌, ◌&&◌, List, [], ◌∷◌, ◌++◌, length, take, drop, Option, Some, None, refl, sym, ap, subst, ◌∙◌, inl, inr, arith, codes}
+use Rattle.std.proofs.Common.{◌≡◌, ◌≢◌, ℕ, ◌<◌, ◌≤◌, Bool, true, false, cond, eqb, ltb, ◌||◌, ◌&&◌, List, [], ◌∷◌, ◌++◌, length, take, drop, Option, Some, None, refl, sym, ap, subst, ◌∙◌, inl, inr, arith, codes}
 use Rattle.std.specs.Prelude.{option_and_then, option_map, MatchOption}
 use denote.Bor.{Bor}
 use Rattle.std.specs.List.{list_all, prefix_len}
-use Rattle.std.proofs.lemmas.Bool.{cases_Bool, and_parts, eqb-true, eqb-false, eq-eqb, ne_eqb, ltb-false, le-ltb, or_cases, false_from_ne_true, both_ways}
-use Rattle.std.proofs.lemmas.List.{take-append-drop, take_at, drop_at, append-nil, length-take, length-append, length-drop}
+use Rattle.std.proofs.lemmas.Bool.{and_parts, eqb-true, eqb-false, eq-eqb, ne_eqb, ltb-false, le-ltb, or_cases, false_from_ne_true, both_ways}
+use Rattle.std.proofs.lemmas.List.{take-append-drop, take_at, drop_at, length-take}
 use Rattle.litmus_grammar.specs.Pieces.{is_blank}
 use Rattle.litmus_grammar.specs.FirstLines.{IsTitle, is_title_byte, behind_riscv, name_in, name_behind, title_of}
 use Rattle.std.proofs.lemmas.List.Sums.{prefix_len-le-length}

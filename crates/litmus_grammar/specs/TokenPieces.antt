@@ -1,5 +1,4 @@
 -- The pieces that the code's tokens are.
-use Rattle.std.specs.Prelude.{ℕ}
 use Rattle.litmus_grammar.specs.Pieces.{Piece, Word, Sign, LineEnd}
 use Rattle.litmus_grammar.specs.declared.tokens.Token.{Token}
 use Rattle.litmus_grammar.specs.declared.tokens.Token.TheVariants as token

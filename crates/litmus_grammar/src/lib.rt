@@ -15,4 +15,6 @@ pub use first_lines::{begins_block, is_header_line, read_title, split_line};
 pub use locations::Locations;
 pub use pulls::{end_line, expect, expect_here, here, next, passed, sign, start, word, word_here};
 pub use tokens::{Token, next_token};
-pub use words::{MOST_BYTES, MOST_LOCATIONS, TOO_LARGE, is_location, is_number, number, register, small};
+pub use words::{
+    MOST_BYTES, MOST_LOCATIONS, TOO_LARGE, is_location, is_number, number, register, small,
+};

@@ -95,10 +95,7 @@ pub fn is_location(word: &[u8]) -> bool
 {
     match word {
         [first, ..] => {
-            !is_digit(*first)
-                && all_name_bytes(word)
-                && word.len() <= 32
-                && !is_like_register(word)
+            !is_digit(*first) && all_name_bytes(word) && word.len() <= 32 && !is_like_register(word)
         }
         [] => false,
     }

@@ -36,12 +36,12 @@ location_takes kind word line names x e =
     let t = then_ok (is_location word) (cond (ltb place (length names)) (Ok (place, names)) (cond (nat_le 64 (length names)) (fails TooLarge line) (Ok (length names, names ++ word ∷ [])))) _ x e in
     elim (either_ok (ltb place (length names)) (Ok (place, names)) (cond (nat_le 64 (length names)) (fails TooLarge line) (Ok (length names, names ++ word ∷ []))) x t.1) [
       | inl h ↦ let lt : place < length names = ltb-true _ _ h.0 in
-        subst (λ (y : ℕ × Names). IsNumbered word names y.0 y.1) (ok_is (place, names) x h.1) (t.0, refl, inl (lt, refl))
+          subst (λ (y : ℕ × Names). IsNumbered word names y.0 y.1) (ok_is (place, names) x h.1) (t.0, refl, inl (lt, refl))
       | inr h ↦ let ge : length names ≤ place = ltb-false _ _ h.0 in
-        let u = else_ok (nat_le 64 (length names)) _ (Ok (length names, names ++ word ∷ [])) x h.1 in
-        let few : length names < 64 = leb-false _ _ u.0 in
-        let same : length names ≡ place = omega (arith, le, ge) in
-        subst (λ (y : ℕ × Names). IsNumbered word names y.0 y.1) (ok_is (length names, names ++ word ∷ []) x u.1) (t.0, same, inr (refl, few, refl))
+          let u = else_ok (nat_le 64 (length names)) _ (Ok (length names, names ++ word ∷ [])) x h.1 in
+          let few : length names < 64 = leb-false _ _ u.0 in
+          let same : length names ≡ place = omega (arith, le, ge) in
+          subst (λ (y : ℕ × Names). IsNumbered word names y.0 y.1) (ok_is (length names, names ++ word ∷ []) x u.1) (t.0, same, inr (refl, few, refl))
     ]
 
 pub value_takes : (kind : Kind) (line : ℕ) (pieces : List Piece) (x : ℕ × ℕ × List Piece) → number_at kind line pieces ≡ Ok x → (w : List ℕ) × Next pieces (Word w) x.2 × IsValue w x.0
@@ -62,11 +62,11 @@ setting_takes names line pieces x e =
     let w = bind_ok (word_at BadInitial line pieces) _ x e in
     let n = word_takes BadInitial line pieces w.0 w.1 in
     elim (either_ok (is_number w.0.0) (cond (ltb (number_of w.0.0) 2147483648) (Ok ((Number (number_of w.0.0), names), w.0.1, w.0.2)) (fails ValueRange w.0.1))
-      (location_at BadInitial w.0.0 w.0.1 names >>= λ l. Ok ((Address l.0, l.1), w.0.1, w.0.2)) x w.2) [
+    (location_at BadInitial w.0.0 w.0.1 names >>= λ l. Ok ((Address l.0, l.1), w.0.1, w.0.2)) x w.2) [
       | inl h ↦ let f = then_ok (ltb (number_of w.0.0) 2147483648) (Ok ((Number (number_of w.0.0), names), w.0.1, w.0.2)) _ x h.1 in
-        subst (TakesSetting pieces names) (ok_is ((Number (number_of w.0.0), names), w.0.1, w.0.2) x f.1) (w.0.0, n, ((h.0, refl, ltb-true _ _ f.0), refl))
+          subst (TakesSetting pieces names) (ok_is ((Number (number_of w.0.0), names), w.0.1, w.0.2) x f.1) (w.0.0, n, ((h.0, refl, ltb-true _ _ f.0), refl))
       | inr h ↦ let l = bind_ok (location_at BadInitial w.0.0 w.0.1 names) (λ l. Ok ((Address l.0, l.1), w.0.1, w.0.2)) x h.1 in
-        subst (TakesSetting pieces names) (ok_is ((Address l.0.0, l.0.1), w.0.1, w.0.2) x l.2) (w.0.0, n, (h.0, location_takes BadInitial w.0.0 w.0.1 names l.0 l.1))
+          subst (TakesSetting pieces names) (ok_is ((Address l.0.0, l.0.1), w.0.1, w.0.2) x l.2) (w.0.0, n, (h.0, location_takes BadInitial w.0.0 w.0.1 names l.0 l.1))
     ]
 
 -- ---- items
@@ -85,9 +85,24 @@ register_item_takes before tw thread names line pieces x first is_thread e =
     let equals = bind_ok (expect_at 61 BadInitial w.0.1 w.0.2) _ x z.1 in
     let v = bind_ok (setting_at names equals.0.0 equals.0.1) (λ v. Ok ((record { line = line; name = Register thread r.0; setting = v.0.0 }, v.0.1), v.1, v.2)) x equals.2 in
     let s = setting_takes names equals.0.0 equals.0.1 v.0 v.1 in
-    subst (TakesItem before names) (ok_is ((record { line = line; name = Register thread r.0; setting = v.0.0.0 }, v.0.0.1), v.0.1, v.0.2) x v.2)
-    (tw, w.0.0, s.0, pieces, colon.0.1, w.0.2, equals.0.1, first, expect_takes 58 BadInitial line pieces colon.0 colon.1, word_takes BadInitial colon.0.0 colon.0.1 w.0 w.1,
-      expect_takes 61 BadInitial w.0.1 w.0.2 equals.0 equals.1, s.1, is_thread, r.1, eqb-false _ _ z.0, s.2)
+    subst (TakesItem before names) (ok_is ((record { line = line; name = Register thread r.0; setting = v.0.0.0 }, v.0.0.1), v.0.1, v.0.2) x v.2) (
+      tw,
+      w.0.0,
+      s.0,
+      pieces,
+      colon.0.1,
+      w.0.2,
+      equals.0.1,
+      first,
+      expect_takes 58 BadInitial line pieces colon.0 colon.1,
+      word_takes BadInitial colon.0.0 colon.0.1 w.0 w.1,
+      expect_takes 61 BadInitial w.0.1 w.0.2 equals.0 equals.1,
+      s.1,
+      is_thread,
+      r.1,
+      eqb-false _ _ z.0,
+      s.2,
+    )
 
 location_item_takes : (before : List Piece) (lw : List ℕ) (names : Names) (line : ℕ) (pieces : List Piece) (x : (Item × Names) × ℕ × List Piece)
     → Next before (Word lw) pieces → location_item_at lw names line pieces ≡ Ok x → TakesItem before names x
@@ -143,7 +158,7 @@ separated_takes line pieces x e =
     elim (either_ok (eqb s.0.0 59) (Ok (true, s.0.1, s.0.2)) (cond (eqb s.0.0 125) (Ok (false, s.0.1, s.0.2)) (fails BadInitial s.0.1)) x s.2) [
       | inl h ↦ subst (Separates pieces) (ok_is (true, s.0.1, s.0.2) x h.1) (subst (λ (b : ℕ). Next pieces (Sign b) s.0.2) (eqb-true _ _ h.0) n)
       | inr h ↦ let t = then_ok (eqb s.0.0 125) (Ok (false, s.0.1, s.0.2)) _ x h.1 in
-        subst (Separates pieces) (ok_is (false, s.0.1, s.0.2) x t.1) (subst (λ (b : ℕ). Next pieces (Sign b) s.0.2) (eqb-true _ _ t.0) n)
+          subst (Separates pieces) (ok_is (false, s.0.1, s.0.2) x t.1) (subst (λ (b : ℕ). Next pieces (Sign b) s.0.2) (eqb-true _ _ t.0) n)
     ]
 
 entry_with : (s : Block) (item : Item) (names : Names) (behind : List Piece) (items : List Item) (m : Bool × ℕ × List Piece)
@@ -206,7 +221,10 @@ block_takes line pieces x e =
     let b = bind_ok (items_at [] brace.0.0 brace.0.1) _ x brace.2 in
     let next = bind_ok (end_line_at BadInitial b.0.2 b.0.3) (λ next. Ok (b.0.0, b.0.1, next.0, next.1)) x b.2 in
     let i = items_take [] brace.0.0 brace.0.1 b.0 b.1 in
-    subst (λ (y : Block). IsBlock pieces y.0 y.1 y.3) (ok_is (b.0.0, b.0.1, next.0.0, next.0.1) x next.2)
-    (brace.0.1, b.0.3, expect_takes 123 BadInitial line pieces brace.0 brace.1,
+    subst (λ (y : Block). IsBlock pieces y.0 y.1 y.3) (ok_is (b.0.0, b.0.1, next.0.0, next.0.1) x next.2) (
+      brace.0.1,
+      b.0.3,
+      expect_takes 123 BadInitial line pieces brace.0 brace.1,
       subst (λ (items : List Item). AreItems [] brace.0.1 [] items b.0.1 b.0.3) (sym i.all) i.are,
-      end_line_takes BadInitial b.0.2 b.0.3 next.0 next.1)
+      end_line_takes BadInitial b.0.2 b.0.3 next.0 next.1,
+    )

@@ -35,9 +35,21 @@ register_name_takes items threads before tw thread line pieces names x first is_
     let r = found_ok BadCondition (register_of w.0.0) w.0.1 _ x w.2 in
     let z = else_ok (eqb r.0 0) _ (cond (is_there (address_of thread r.0 items)) (fails AddressAsValue w.0.1) (Ok (Register thread r.0, w.0.1, w.0.2))) x r.2 in
     let a = else_ok (is_there (address_of thread r.0 items)) _ (Ok (Register thread r.0, w.0.1, w.0.2)) x z.1 in
-    subst (λ (y : Name × ℕ × List Piece). IsNamed items threads before names y.0 names y.2) (ok_is (Register thread r.0, w.0.1, w.0.2) x a.1)
-    (tw, w.0.0, pieces, colon.0.1, first, expect_takes 58 BadCondition line pieces colon.0 colon.1, word_takes BadCondition colon.0.0 colon.0.1 w.0 w.1,
-      is_thread, leb-false _ _ t.0, r.1, eqb-false _ _ z.0, a.0, refl)
+    subst (λ (y : Name × ℕ × List Piece). IsNamed items threads before names y.0 names y.2) (ok_is (Register thread r.0, w.0.1, w.0.2) x a.1) (
+      tw,
+      w.0.0,
+      pieces,
+      colon.0.1,
+      first,
+      expect_takes 58 BadCondition line pieces colon.0 colon.1,
+      word_takes BadCondition colon.0.0 colon.0.1 w.0 w.1,
+      is_thread,
+      leb-false _ _ t.0,
+      r.1,
+      eqb-false _ _ z.0,
+      a.0,
+      refl,
+    )
 
 abbrev TakesName : List Item → ℕ → List Piece → Names → (Name × Names) × ℕ × List Piece → Type 0
 TakesName items threads before names y = IsNamed items threads before names y.0.0 y.0.1 y.2
@@ -68,9 +80,17 @@ atom_takes items threads before first s line pieces x n e =
     let equals = bind_ok (expect_at 61 BadCondition name.0.1 name.0.2) _ x name.2 in
     let v = bind_ok (number_at BadCondition equals.0.0 equals.0.1) (λ v. Ok ((Is name.0.0.0 v.0, (name.0.0.1, s.1 + 1)), v.1, v.2)) x equals.2 in
     let w = value_takes BadCondition equals.0.0 equals.0.1 v.0 v.1 in
-    subst (TakesPart (IsAtom items threads) s before) (ok_is ((Is name.0.0.0 v.0.0, (name.0.0.1, s.1 + 1)), v.0.1, v.0.2) x v.2)
-    (w.0, name.0.2, equals.0.1, name_of_takes items threads before (small_of 15 first) first s.0 line pieces name.0 n refl name.1,
-      expect_takes 61 BadCondition name.0.1 name.0.2 equals.0 equals.1, w.1, w.2, leb-false _ _ f.0, refl)
+    subst (TakesPart (IsAtom items threads) s before) (ok_is ((Is name.0.0.0 v.0.0, (name.0.0.1, s.1 + 1)), v.0.1, v.0.2) x v.2) (
+      w.0,
+      name.0.2,
+      equals.0.1,
+      name_of_takes items threads before (small_of 15 first) first s.0 line pieces name.0 n refl name.1,
+      expect_takes 61 BadCondition name.0.1 name.0.2 equals.0 equals.1,
+      w.1,
+      w.2,
+      leb-false _ _ f.0,
+      refl,
+    )
 
 -- ---- chains
 
@@ -114,9 +134,9 @@ chain_takes P sign join is_sign s read sound sight line pieces x e =
     let first = bind_ok (read sight line pieces) (λ first. repeat_at 256 (joined_with is_sign join read) too_many_parts (first.0.0, first.0.1, first.1, first.2) >>= chain_result) x e in
     let c = bind_ok (repeat_at 256 (joined_with is_sign join read) too_many_parts (first.0.0.0, first.0.0.1, first.0.1, first.0.2)) chain_result x first.2 in
     let grows = repeat-takes (joined_with is_sign join read) too_many_parts (Chains P sign join)
-      (λ a b t k r s' ps h. r s' ps (step_of_takes P sign join is_sign s read sound a (joined_at is_sign a.2 a.3) (true, b) refl k s' ps h))
-      (λ a t k s' ps h. subst (λ (y : Chain). Chained P sign join s' ps y.0 y.1 y.3) (step_of_takes P sign join is_sign s read sound a (joined_at is_sign a.2 a.3) (false, t) refl k) h)
-      (λ a t k. absurd cc) 256 (first.0.0.0, first.0.0.1, first.0.1, first.0.2) c.0 c.1 in
+    (λ a b t k r s' ps h. r s' ps (step_of_takes P sign join is_sign s read sound a (joined_at is_sign a.2 a.3) (true, b) refl k s' ps h))
+    (λ a t k s' ps h. subst (λ (y : Chain). Chained P sign join s' ps y.0 y.1 y.3) (step_of_takes P sign join is_sign s read sound a (joined_at is_sign a.2 a.3) (false, t) refl k) h)
+    (λ a t k. absurd cc) 256 (first.0.0.0, first.0.0.1, first.0.1, first.0.2) c.0 c.1 in
     subst (TakesPart (Chained P sign join) sight pieces) (ok_is ((c.0.0, c.0.1), c.0.2, c.0.3) x c.2) (grows sight pieces (one (sound sight line pieces first.0 first.1)))
 
 ands : IsSignOf is_and and_word
@@ -165,8 +185,8 @@ factor_takes items threads (suc depth) s line pieces x e =
     let inner : Reader = in_parentheses (chained is_or Either (chained is_and Both (factor_at items threads depth))) in
     let b = bind_ok (next_at line pieces) (factor_of items threads inner s) x e in
     let sound : IsSound (chained is_or Either (chained is_and Both (factor_at items threads depth))) (IsExpression items threads depth) =
-        chain_takes (Chained (IsFactor items threads depth) and_word Both) or_word Either is_or ors (term_at items threads depth)
-          (chain_takes (IsFactor items threads depth) and_word Both is_and ands (factor_at items threads depth) (factor_takes items threads depth)) in
+    chain_takes (Chained (IsFactor items threads depth) and_word Both) or_word Either is_or ors (term_at items threads depth)
+    (chain_takes (IsFactor items threads depth) and_word Both is_and ands (factor_at items threads depth) (factor_takes items threads depth)) in
     factor_begins items threads (suc depth) inner pieces s (λ line' pieces' x' n' e'. paren_takes items threads depth (expression_at items threads depth) sound pieces s line' pieces' x' n' e') b.0.0 b.0.1 b.0.2 x (next_takes line pieces b.0 b.1) b.2
 
 expression_takes : (items : List Item) (threads depth : ℕ) → IsSound (expression_at items threads depth) (IsExpression items threads depth)
@@ -201,4 +221,4 @@ condition_takes items threads names line pieces x e =
     let named : quantifier_of w.0.0 ≡ Some q.0.0 = k.1 ∙ ap (λ (y : Quantifier × ℕ × List Piece). Some y.0) made in
     subst (λ (y : Quantifier × Tree × Names). IsCondition items threads pieces names y.0 y.1 y.2) (ok_is (q.0.0, t.0.0, t.0.1) x t.2)
     (subst (λ (y : Tree × Names). IsCondition items threads pieces names q.0.0 y.0 y.1) n.1
-      (w.0.0, q.0.2, e'.0.2, e'.0.0.1.1, spelled, named, expression_takes items threads 64 (names, 0) q.0.1 q.0.2 e'.0 e'.1, ends-there e'.0.1 e'.0.2 n.0))
+    (w.0.0, q.0.2, e'.0.2, e'.0.0.1.1, spelled, named, expression_takes items threads 64 (names, 0) q.0.1 q.0.2 e'.0 e'.1, ends-there e'.0.1 e'.0.2 n.0))

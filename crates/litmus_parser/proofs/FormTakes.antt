@@ -48,9 +48,11 @@ based_takes line pieces x e =
     let paren = bind_ok (expect_here_at 40 BadInstruction line pieces) _ x e in
     let base = bind_ok (register_at paren.0.0 paren.0.1) _ x paren.2 in
     let close = bind_ok (expect_here_at 41 BadInstruction base.0.1 base.0.2) (λ close. Ok (base.0.0, close.0, close.1)) x base.2 in
-    subst (λ (y : ℕ × ℕ × List Piece). IsBased pieces y.0 y.2) (ok_is (base.0.0, close.0.0, close.0.1) x close.2)
-    (paren.0.1, expect_here_takes 40 BadInstruction line pieces paren.0 paren.1,
-      followed paren.0.1 base.0.0 _ _ (register_takes paren.0.0 paren.0.1 base.0 base.1) (expect_here_takes 41 BadInstruction base.0.1 base.0.2 close.0 close.1))
+    subst (λ (y : ℕ × ℕ × List Piece). IsBased pieces y.0 y.2) (ok_is (base.0.0, close.0.0, close.0.1) x close.2) (
+      paren.0.1,
+      expect_here_takes 40 BadInstruction line pieces paren.0 paren.1,
+      followed paren.0.1 base.0.0 _ _ (register_takes paren.0.0 paren.0.1 base.0 base.1) (expect_here_takes 41 BadInstruction base.0.1 base.0.2 close.0 close.1),
+    )
 
 offset_takes : (line : ℕ) (pieces : List Piece) (x : (ℕ × ℕ) × ℕ × List Piece) → offset_at line pieces ≡ Ok x → IsOffset pieces x.0.0 x.0.1 x.2
 unfolding offset_at
@@ -61,7 +63,7 @@ offset_takes line pieces x e =
     let z = then_ok (is_zero zero.0.0) (based_at zero.0.1 zero.0.2 >>= λ base. Ok ((first.0.0, base.0), base.1, base.2)) _ x zero.2 in
     let base = bind_ok (based_at zero.0.1 zero.0.2) (λ base. Ok ((first.0.0, base.0), base.1, base.2)) x z.1 in
     let behind : first.0.2 ≡ Sign 44 ∷ Word zero.0.0 ∷ zero.0.2 = expect_here_takes 44 BadInstruction first.0.1 first.0.2 comma.0 comma.1
-      ∙ ap (λ (r : List Piece). Sign 44 ∷ r) (word_here_takes BadInstruction comma.0.0 comma.0.1 zero.0 zero.1) in
+    ∙ ap (λ (r : List Piece). Sign 44 ∷ r) (word_here_takes BadInstruction comma.0.0 comma.0.1 zero.0 zero.1) in
     subst (λ (y : (ℕ × ℕ) × ℕ × List Piece). IsOffset pieces y.0.0 y.0.1 y.2) (ok_is ((first.0.0, base.0.0), base.0.1, base.0.2) x base.2)
     (zero.0.0, zero.0.2, followed pieces first.0.0 _ _ (register_takes line pieces first.0 first.1) behind, z.0, based_takes zero.0.1 zero.0.2 base.0 base.1)
 
@@ -73,11 +75,13 @@ swapped_takes line pieces x e =
     let source = bind_ok (register_at comma.0.0 comma.0.1) _ x comma.2 in
     let second = bind_ok (expect_here_at 44 BadInstruction source.0.1 source.0.2) _ x source.2 in
     let base = bind_ok (based_at second.0.0 second.0.1) (λ base. Ok ((target.0.0, source.0.0, base.0), base.1, base.2)) x second.2 in
-    subst (λ (y : (ℕ × ℕ × ℕ) × ℕ × List Piece). IsSwapped pieces y.0.0 y.0.1 y.0.2 y.2) (ok_is ((target.0.0, source.0.0, base.0.0), base.0.1, base.0.2) x base.2)
-    (comma.0.1, second.0.1,
+    subst (λ (y : (ℕ × ℕ × ℕ) × ℕ × List Piece). IsSwapped pieces y.0.0 y.0.1 y.0.2 y.2) (ok_is ((target.0.0, source.0.0, base.0.0), base.0.1, base.0.2) x base.2) (
+      comma.0.1,
+      second.0.1,
       followed pieces target.0.0 _ _ (register_takes line pieces target.0 target.1) (expect_here_takes 44 BadInstruction target.0.1 target.0.2 comma.0 comma.1),
       followed comma.0.1 source.0.0 _ _ (register_takes comma.0.0 comma.0.1 source.0 source.1) (expect_here_takes 44 BadInstruction source.0.1 source.0.2 second.0 second.1),
-      based_takes second.0.0 second.0.1 base.0 base.1)
+      based_takes second.0.0 second.0.1 base.0 base.1,
+    )
 
 number_takes : (line : ℕ) (pieces : List Piece) (x : ℕ × ℕ × List Piece) → number_word_at line pieces ≡ Ok x → IsAnyNumber pieces x.0 x.2
 unfolding number_word_at
@@ -112,9 +116,13 @@ ori_takes line pieces x e =
     let second = bind_ok (expect_here_at 44 BadInstruction zero.0.1 zero.0.2) _ x z.1 in
     let value = bind_ok (number_word_at second.0.0 second.0.1) (λ value. Ok ((target.0.0, value.0), value.1, value.2)) x second.2 in
     let zero-is : IsRegister comma.0.1 zero.0.0 (Sign 44 ∷ second.0.1) = followed comma.0.1 zero.0.0 _ _ (register_takes comma.0.0 comma.0.1 zero.0 zero.1) (expect_here_takes 44 BadInstruction zero.0.1 zero.0.2 second.0 second.1) in
-    subst (λ (y : (ℕ × ℕ) × ℕ × List Piece). IsOri pieces y.0.0 y.0.1 y.2) (ok_is ((target.0.0, value.0.0), value.0.1, value.0.2) x value.2)
-    (comma.0.1, second.0.1, followed pieces target.0.0 _ _ (register_takes line pieces target.0 target.1) (expect_here_takes 44 BadInstruction target.0.1 target.0.2 comma.0 comma.1),
-      subst (λ (r : ℕ). IsRegister comma.0.1 r (Sign 44 ∷ second.0.1)) (eqb-true _ _ z.0) zero-is, number_takes second.0.0 second.0.1 value.0 value.1)
+    subst (λ (y : (ℕ × ℕ) × ℕ × List Piece). IsOri pieces y.0.0 y.0.1 y.2) (ok_is ((target.0.0, value.0.0), value.0.1, value.0.2) x value.2) (
+      comma.0.1,
+      second.0.1,
+      followed pieces target.0.0 _ _ (register_takes line pieces target.0 target.1) (expect_here_takes 44 BadInstruction target.0.1 target.0.2 comma.0 comma.1),
+      subst (λ (r : ℕ). IsRegister comma.0.1 r (Sign 44 ∷ second.0.1)) (eqb-true _ _ z.0) zero-is,
+      number_takes second.0.0 second.0.1 value.0 value.1,
+    )
 
 set_takes : (line : ℕ) (pieces : List Piece) (x : ℕ × List Piece) → set_at line pieces ≡ Ok x → IsFenceSet pieces x.1
 unfolding set_at

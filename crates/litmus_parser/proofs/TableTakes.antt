@@ -31,10 +31,17 @@ instruction_takes items t end s x e =
     let f = bind_ok (form_at s.2 s.3) _ x e in
     let next = bind_ok (expect_here_at end BadInstruction f.0.1 f.0.2) _ x f.2 in
     let i = bind_ok (judged_at items t s.1 f.0.0 next.0.0) (λ i. Ok (s.0 ++ (record { thread = t; instruction = i.0 }) ∷ [], i.1, next.0.0, next.0.1)) x next.2 in
-    subst (TakesCell items t end s) (ok_is (s.0 ++ (record { thread = t; instruction = i.0.0 }) ∷ [], i.0.1, next.0.0, next.0.1) x i.2)
-    ((record { thread = t; instruction = i.0.0 }) ∷ [], refl, inr (f.0.0, i.0.0,
-      subst (λ (r : List Piece). IsForm s.3 f.0.0 r) (expect_here_takes end BadInstruction f.0.1 f.0.2 next.0 next.1) (form_takes s.2 s.3 f.0 f.1),
-      judged_takes items t s.1 f.0.0 next.0.0 i.0 i.1, refl))
+    subst (TakesCell items t end s) (ok_is (s.0 ++ (record { thread = t; instruction = i.0.0 }) ∷ [], i.0.1, next.0.0, next.0.1) x i.2) (
+      (record { thread = t; instruction = i.0.0 }) ∷ [],
+      refl,
+      inr (
+        f.0.0,
+        i.0.0,
+        subst (λ (r : List Piece). IsForm s.3 f.0.0 r) (expect_here_takes end BadInstruction f.0.1 f.0.2 next.0 next.1) (form_takes s.2 s.3 f.0 f.1),
+        judged_takes items t s.1 f.0.0 next.0.0 i.0 i.1,
+        refl,
+      ),
+    )
 
 behind_takes : (items : List Item) (t end : ℕ) (s x : Rows) (o : Option (ℕ × List Piece)) → passed_at end s.2 s.3 ≡ o
     → behind o (instruction_at items t end s) (λ at. Ok (s.0, s.1, at.0, at.1)) ≡ Ok x → TakesCell items t end s x
@@ -74,9 +81,11 @@ cells_take items threads (suc k) c t e =
     let x = bind_ok (column_at items threads c) (λ r. cond r.0 (repeat_at k (column_at items threads) ended r.1) (Ok r.1)) t e in
     let s = column_takes items threads c x.0 x.1 in
     let rest = cells_take items threads k x.0.1 t (sym (cond_true x.0.0 (repeat_at k (column_at items threads) ended x.0.1) (Ok x.0.1) s.goes_on) ∙ x.2) in
-    let others : AreCells items threads k (c.0 + 1) x.0.1.4 x.0.1.2 rest.0 t.2 t.4 = subst (λ (n : ℕ). AreCells items threads k n x.0.1.4 x.0.1.2 rest.0 t.2 t.4) s.thread rest.2 in
-    (s.added ++ rest.0, rest.1 ∙ ap (λ (xs : List Cell). xs ++ rest.0) s.all ∙ append_assoc c.1 s.added rest.0,
-      (s.added, rest.0, x.0.1.2, x.0.1.4, s.is, others, refl))
+    let others : AreCells items threads k (c.0 + 1) x.0.1.4 x.0.1.2 rest.0 t.2 t.4 = subst (λ (n : ℕ). AreCells items threads k n x.0.1.4 x.0.1.2 rest.0 t.2 t.4) s.thread rest.2 in (
+      s.added ++ rest.0,
+      rest.1 ∙ ap (λ (xs : List Cell). xs ++ rest.0) s.all ∙ append_assoc c.1 s.added rest.0,
+      (s.added, rest.0, x.0.1.2, x.0.1.4, s.is, others, refl),
+    )
 
 abbrev TakesRow : List Item → ℕ → Rows → Rows → Type 0
 TakesRow items threads s x = (added : List Cell) × (x.0 ≡ s.0 ++ added) × IsRow items threads s.3 s.1 added x.1 x.3
@@ -103,9 +112,9 @@ separated_by_takes before (Sign s) line pieces x b e =
     elim (either_ok (eqb s 124) (Ok (true, line, pieces)) (cond (eqb s 59) (end_line_at BadTable line pieces >>= λ next. Ok (false, next.0, next.1)) (fails BadTable line)) x e) [
       | inl h ↦ subst (Separates before) (ok_is (true, line, pieces) x h.1) (b ∙ ap (λ (c : ℕ). Sign c ∷ pieces) (eqb-true _ _ h.0))
       | inr h ↦
-        let t = then_ok (eqb s 59) (end_line_at BadTable line pieces >>= λ next. Ok (false, next.0, next.1)) _ x h.1 in
-        let n = bind_ok (end_line_at BadTable line pieces) (λ next. Ok (false, next.0, next.1)) x t.1 in
-        subst (Separates before) (ok_is (false, n.0.0, n.0.1) x n.2) (pieces, b ∙ ap (λ (c : ℕ). Sign c ∷ pieces) (eqb-true _ _ t.0), end_line_takes BadTable line pieces n.0 n.1)
+          let t = then_ok (eqb s 59) (end_line_at BadTable line pieces >>= λ next. Ok (false, next.0, next.1)) _ x h.1 in
+          let n = bind_ok (end_line_at BadTable line pieces) (λ next. Ok (false, next.0, next.1)) x t.1 in
+          subst (Separates before) (ok_is (false, n.0.0, n.0.1) x n.2) (pieces, b ∙ ap (λ (c : ℕ). Sign c ∷ pieces) (eqb-true _ _ t.0), end_line_takes BadTable line pieces n.0 n.1)
     ]
 
 separated_takes : (line : ℕ) (pieces : List Piece) (x : Bool × ℕ × List Piece) → separated line pieces ≡ Ok x → Separates pieces x
@@ -154,9 +163,11 @@ heading_last h t k =
 pub header_takes : (line : ℕ) (pieces : List Piece) (t : Headings) → header_at line pieces ≡ Ok t → IsHeaderRow pieces t.0 t.2
 unfolding header_at headings_at
 header_takes line pieces t e =
-    let s = bind_ok (start_at line pieces) (λ at. headings_at at.0 at.1) t e in
-    (s.0.1, start_takes line pieces s.0 s.1,
-      repeat-takes heading_at too_many Headed (λ h h' t k r. heading_more h h' t (heading_takes h (true, h') k) r) (λ h t k. heading_last h t (heading_takes h (false, t) k)) (λ h t k. absurd cc) 17 (0, s.0.0, s.0.1) t s.2)
+    let s = bind_ok (start_at line pieces) (λ at. headings_at at.0 at.1) t e in (
+      s.0.1,
+      start_takes line pieces s.0 s.1,
+      repeat-takes heading_at too_many Headed (λ h h' t k r. heading_more h h' t (heading_takes h (true, h') k) r) (λ h t k. heading_last h t (heading_takes h (false, t) k)) (λ h t k. absurd cc) 17 (0, s.0.0, s.0.1) t s.2,
+    )
 
 -- ---- the rows
 
@@ -170,13 +181,13 @@ next_row_takes items threads s x e =
     let at = bind_ok (start_at s.3 s.4) _ x e in
     let b = start_takes s.3 s.4 at.0 at.1 in
     elim (either_ok (quantifier_next at.0.1) (Ok (false, (s.0 + 1, s.1, s.2, at.0.0, at.0.1)))
-      (cond (leb 1024 s.0) (fails TooLarge at.0.0) (row_at items threads (s.1, s.2, at.0.0, at.0.1) >>= λ r. Ok (true, (s.0 + 1, r.0, r.1, r.2, r.3)))) x at.2) [
+    (cond (leb 1024 s.0) (fails TooLarge at.0.0) (row_at items threads (s.1, s.2, at.0.0, at.0.1) >>= λ r. Ok (true, (s.0 + 1, r.0, r.1, r.2, r.3)))) x at.2) [
       | inl h ↦ subst (TakesNext items threads s) (ok_is (false, (s.0 + 1, s.1, s.2, at.0.0, at.0.1)) x h.1) (b, refl)
       | inr h ↦
-        let f = else_ok (leb 1024 s.0) _ (row_at items threads (s.1, s.2, at.0.0, at.0.1) >>= λ r. Ok (true, (s.0 + 1, r.0, r.1, r.2, r.3))) x h.1 in
-        let r = bind_ok (row_at items threads (s.1, s.2, at.0.0, at.0.1)) (λ r. Ok (true, (s.0 + 1, r.0, r.1, r.2, r.3))) x f.1 in
-        let t = row_takes items threads (s.1, s.2, at.0.0, at.0.1) r.0 r.1 in
-        subst (TakesNext items threads s) (ok_is (true, (s.0 + 1, r.0.0, r.0.1, r.0.2, r.0.3)) x r.2) (refl, leb-false _ _ f.0, (at.0.1, t.0, b, t.1, t.2))
+          let f = else_ok (leb 1024 s.0) _ (row_at items threads (s.1, s.2, at.0.0, at.0.1) >>= λ r. Ok (true, (s.0 + 1, r.0, r.1, r.2, r.3))) x h.1 in
+          let r = bind_ok (row_at items threads (s.1, s.2, at.0.0, at.0.1)) (λ r. Ok (true, (s.0 + 1, r.0, r.1, r.2, r.3))) x f.1 in
+          let t = row_takes items threads (s.1, s.2, at.0.0, at.0.1) r.0 r.1 in
+          subst (TakesNext items threads s) (ok_is (true, (s.0 + 1, r.0.0, r.0.1, r.0.2, r.0.3)) x r.2) (refl, leb-false _ _ f.0, (at.0.1, t.0, b, t.1, t.2))
     ]
 
 abbrev Tabled : List Item → ℕ → Table → Table → Type 0
@@ -184,9 +195,11 @@ Tabled items threads s t = (added : List Cell) × (t.1 ≡ s.1 ++ added) × AreR
 
 row_more : (items : List Item) (threads : ℕ) (s s' t : Table) → TakesNext items threads s (true, s') → Tabled items threads s' t → Tabled items threads s t
 row_more items threads s s' t k rest =
-    let r = k.2 in
-    (r.1 ++ rest.0, rest.1 ∙ ap (λ (xs : List Cell). xs ++ rest.0) r.3 ∙ append_assoc s.1 r.1 rest.0,
-      row r.1 rest.0 r.0 s'.4 s'.2 k.1 r.2 r.4 (subst (λ (n : ℕ). AreRows items threads n s'.4 s'.2 rest.0 t.4) k.0 rest.2))
+    let r = k.2 in (
+      r.1 ++ rest.0,
+      rest.1 ∙ ap (λ (xs : List Cell). xs ++ rest.0) r.3 ∙ append_assoc s.1 r.1 rest.0,
+      row r.1 rest.0 r.0 s'.4 s'.2 k.1 r.2 r.4 (subst (λ (n : ℕ). AreRows items threads n s'.4 s'.2 rest.0 t.4) k.0 rest.2),
+    )
 
 row_last : (items : List Item) (threads : ℕ) (s t : Table) → TakesNext items threads s (false, t) → Tabled items threads s t
 row_last items threads s t k = ([], k.1 ∙ sym (append-nil s.1), none k.0)
@@ -196,7 +209,7 @@ unfolding rows_at table_at
 rows_take items threads line pieces x e =
     let t = bind_ok (table_at items threads [] line pieces) (λ t. Ok (t.1, t.3, t.4)) x e in
     let r = repeat-takes (next_row_at items threads) too_long (Tabled items threads)
-      (λ s s' t k r. row_more items threads s s' t (next_row_takes items threads s (true, s') k) r)
-      (λ s t k. row_last items threads s t (next_row_takes items threads s (false, t) k)) (λ s t k. absurd cc) 1025 (0, [], None, line, pieces) t.0 t.1 in
+    (λ s s' t k r. row_more items threads s s' t (next_row_takes items threads s (true, s') k) r)
+    (λ s t k. row_last items threads s t (next_row_takes items threads s (false, t) k)) (λ s t k. absurd cc) 1025 (0, [], None, line, pieces) t.0 t.1 in
     subst (λ (y : List Cell × ℕ × List Piece). AreRows items threads 0 pieces None y.0 y.2) (ok_is (t.0.1, t.0.3, t.0.4) x t.2)
     (subst (λ (cells : List Cell). AreRows items threads 0 pieces None cells t.0.4) (sym r.1) r.2)

@@ -32,7 +32,7 @@ AreItems earlier pieces before (item ∷ items) after rest = (between : Names) �
     × IsItem pieces before item.name item.setting between a
     × (list_any (λ other. same_name other.name item.name) earlier ≡ false)
     × (((b : List Piece) × Next a (Sign 59) b × AreItems (earlier ++ item ∷ []) b between items after rest)
-      ⊎ (Next a (Sign 125) rest × (items ≡ []) × (after ≡ between)))
+    ⊎ (Next a (Sign 125) rest × (items ≡ []) × (after ≡ between)))
 
 -- { items }, and the line's end
 abbrev pub IsBlock : List Piece → List Item → Names → List Piece → Type 0

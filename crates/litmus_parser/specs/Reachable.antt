@@ -35,5 +35,5 @@ whole_lines text = take (length text - tail_of 0 text) text
 abbrev pub reach : List ℕ → List ℕ × LitmusError
 reach text =
     if prefix_len is_allowed text == length text
-      then (text, record { line = 1 + inner_line_feeds text; kind = CutShort })
-      else (whole_lines (good text), record { line = 1 + line_feeds (good text); kind = BadByte })
+    then (text, record { line = 1 + inner_line_feeds text; kind = CutShort })
+    else (whole_lines (good text), record { line = 1 + line_feeds (good text); kind = BadByte })

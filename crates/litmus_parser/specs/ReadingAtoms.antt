@@ -36,9 +36,9 @@ register_name_at items threads thread line pieces =
       colon ← expect_at 58 BadCondition line pieces
       w ← word_at BadCondition colon.0 colon.1
       found BadCondition (register_of w.0) w.1 (λ register.
-        if register == 0 then fails BadCondition w.1
-        else if is_there (address_of thread register items) then fails AddressAsValue w.1
-        else Ok (Register thread register, w.1, w.2)))
+          if register == 0 then fails BadCondition w.1
+          else if is_there (address_of thread register items) then fails AddressAsValue w.1
+          else Ok (Register thread register, w.1, w.2)))
 
 unfoldable pub location_name_at : List ℕ → Names → ℕ → List Piece → Read (Name × Names)
 location_name_at first names line pieces = do

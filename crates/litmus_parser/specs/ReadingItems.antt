@@ -19,28 +19,28 @@ use Rattle.litmus_parser.specs.declared.syntax.Item.{Item}
 unfoldable pub location_at : Kind → List ℕ → ℕ → Names → Result (ℕ × Names) LitmusError
 location_at kind word line names =
     if is_location word
-      then (if nat_lt (place_of word names) (length names) then Ok (place_of word names, names)
-        else if nat_le 64 (length names) then fails TooLarge line
-        else Ok (length names, names ++ word ∷ []))
-      else fails kind line
+    then (if nat_lt (place_of word names) (length names) then Ok (place_of word names, names)
+    else if nat_le 64 (length names) then fails TooLarge line
+    else Ok (length names, names ++ word ∷ []))
+    else fails kind line
 
 -- a number that fits
 unfoldable pub number_at : Kind → ℕ → List Piece → Read ℕ
 number_at kind line pieces = do
   w ← word_at kind line pieces
   if is_number w.0
-    then (if nat_lt (number_of w.0) 2147483648 then Ok (number_of w.0, w.1, w.2) else fails ValueRange w.1)
-    else fails kind w.1
+      then (if nat_lt (number_of w.0) 2147483648 then Ok (number_of w.0, w.1, w.2) else fails ValueRange w.1)
+      else fails kind w.1
 
 -- a number that fits, or a location
 unfoldable pub setting_at : Names → ℕ → List Piece → Read (Setting × Names)
 setting_at names line pieces = do
   w ← word_at BadInitial line pieces
   if is_number w.0
-    then (if nat_lt (number_of w.0) 2147483648 then Ok ((Number (number_of w.0), names), w.1, w.2) else fails ValueRange w.1)
-    else (do
-      l ← location_at BadInitial w.0 w.1 names
-      Ok ((Address l.0, l.1), w.1, w.2))
+      then (if nat_lt (number_of w.0) 2147483648 then Ok ((Number (number_of w.0), names), w.1, w.2) else fails ValueRange w.1)
+      else (do
+        l ← location_at BadInitial w.0 w.1 names
+        Ok ((Address l.0, l.1), w.1, w.2))
 
 -- behind T: a colon, a register other than x0, = and what it is set to
 unfoldable pub register_item_at : ℕ → Names → ℕ → List Piece → Read (Item × Names)
@@ -48,10 +48,10 @@ register_item_at thread names line pieces = do
   colon ← expect_at 58 BadInitial line pieces
   w ← word_at BadInitial colon.0 colon.1
   found BadInitial (register_of w.0) w.1 (λ register.
-    if register == 0 then fails BadInitial w.1 else (do
-      equals ← expect_at 61 BadInitial w.1 w.2
-      v ← setting_at names equals.0 equals.1
-      Ok ((record { line = line; name = Register thread register; setting = v.0.0 }, v.0.1), v.1, v.2)))
+      if register == 0 then fails BadInitial w.1 else (do
+        equals ← expect_at 61 BadInitial w.1 w.2
+        v ← setting_at names equals.0 equals.1
+        Ok ((record { line = line; name = Register thread register; setting = v.0.0 }, v.0.1), v.1, v.2)))
 
 -- a location, = and a number
 unfoldable pub location_item_at : List ℕ → Names → ℕ → List Piece → Read (Item × Names)

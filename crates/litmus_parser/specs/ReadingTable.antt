@@ -45,9 +45,9 @@ unfoldable pub heading_at : Headings → Result (Bool × Headings) LitmusError
 heading_at h = do
   w ← word_here_at BadTable h.1 h.2
   if is_thread (thread_named w.0) h.0 then
-    (if nat_le 16 h.0 then fails TooLarge w.1 else (do
-      s ← separated w.1 w.2
-      Ok (s.0, (h.0 + 1, s.1, s.2)))) else fails BadTable w.1
+      (if nat_le 16 h.0 then fails TooLarge w.1 else (do
+        s ← separated w.1 w.2
+        Ok (s.0, (h.0 + 1, s.1, s.2)))) else fails BadTable w.1
 
 abbrev pub too_many : Headings → Result Headings LitmusError
 too_many h = fails TooLarge h.1
@@ -90,10 +90,10 @@ unfoldable pub next_row_at : List Item → ℕ → Table → Result (Bool × Tab
 next_row_at items threads t = do
   at ← start_at t.3 t.4
   if quantifier_next at.1 then Ok (false, (t.0 + 1, t.1, t.2, at.0, at.1))
-    else if nat_le 1024 t.0 then fails TooLarge at.0
-    else (do
-      r ← row_at items threads (t.1, t.2, at.0, at.1)
-      Ok (true, (t.0 + 1, r.0, r.1, r.2, r.3)))
+      else if nat_le 1024 t.0 then fails TooLarge at.0
+      else (do
+        r ← row_at items threads (t.1, t.2, at.0, at.1)
+        Ok (true, (t.0 + 1, r.0, r.1, r.2, r.3)))
 
 abbrev pub too_long : Table → Result Table LitmusError
 too_long t = fails TooLarge t.3

@@ -8,7 +8,8 @@ ghost use Rattle.litmus_parser.specs.ReadingBlock.{entry_at, block_at, separated
 use crate::items::{is_set, item};
 use crate::syntax::Item;
 use litmus_grammar::{
-    Cursor, Kind, LitmusError, Locations, MOST_BYTES, ReadError, Token, end_line, expect, next, sign,
+    Cursor, Kind, LitmusError, Locations, MOST_BYTES, ReadError, Token, end_line, expect, next,
+    sign,
 };
 use std::alloc::Global;
 

@@ -9,7 +9,9 @@ ghost use Rattle.litmus_parser.specs.ReadingEnd.{keyword_at, further_at, whole_a
 use crate::parsing::expression;
 use crate::syntax::{Expr, Item, Quantifier};
 use crate::table::quantifier_named;
-use litmus_grammar::{Cursor, Kind, LitmusError, Locations, ReadError, Token, next_token, word_here};
+use litmus_grammar::{
+    Cursor, Kind, LitmusError, Locations, ReadError, Token, next_token, word_here,
+};
 use std::alloc::Global;
 
 #[tactic(auto, unfolding(crate::specs::ReadingEnd::keyword_at))]

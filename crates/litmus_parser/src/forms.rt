@@ -212,10 +212,7 @@ fn fence<'a>(cursor: Cursor<'a>) -> Result<Cursor<'a>, ReadError>
 
 /// The operands behind a mnemonic.
 #[tactic(auto, unfolding(crate::specs::ReadingForms::operands_at))]
-fn operands<'a>(
-    mnemonic: Mnemonic,
-    cursor: Cursor<'a>,
-) -> Result<(Form, Cursor<'a>), ReadError>
+fn operands<'a>(mnemonic: Mnemonic, cursor: Cursor<'a>) -> Result<(Form, Cursor<'a>), ReadError>
     ensures { Gives (λ r. (r.0, r.1.line, pieces_of r.1.rest.now)) result (operands_at mnemonic cursor.entry.line (pieces_of cursor.entry.rest.now)) }
 {
     match mnemonic {

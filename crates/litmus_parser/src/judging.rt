@@ -37,12 +37,7 @@ fn kept(width: Option<Width>, own: Width, at: Cursor<'_>) -> Result<Option<Width
 
 /// The register, unless it is an address register.
 #[tactic(auto, unfolding(crate::specs::Verdicts::value_register_at))]
-fn value_register(
-    items: &[Item],
-    thread: u8,
-    register: u8,
-    at: Cursor<'_>,
-) -> Result<u8, ReadError>
+fn value_register(items: &[Item], thread: u8, register: u8, at: Cursor<'_>) -> Result<u8, ReadError>
     ensures { Gives (λ r. r) result (value_register_at items.now thread register at.entry.line) }
 {
     if is_address(items, thread, register) {
@@ -53,12 +48,7 @@ fn value_register(
 
 /// The location that an address register holds.
 #[tactic(auto, unfolding(crate::specs::Verdicts::base_at))]
-fn base_location(
-    items: &[Item],
-    thread: u8,
-    register: u8,
-    at: Cursor<'_>,
-) -> Result<u8, ReadError>
+fn base_location(items: &[Item], thread: u8, register: u8, at: Cursor<'_>) -> Result<u8, ReadError>
     ensures { Gives (λ r. r) result (base_at items.now thread register at.entry.line) }
 {
     match address_of(items, thread, register) {

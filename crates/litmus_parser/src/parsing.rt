@@ -28,8 +28,9 @@ pub fn expression<'a>(
     let (first, mut atoms, mut at) = term(alloc, items, threads, locations, atoms, depth, cursor)?;
     let mut left = first;
     for _ in 0..256u16 {
-        let (more, joined, count, after) =
-            or_term(alloc, items, threads, locations, atoms, depth, left, at)?;
+        let (more, joined, count, after) = or_term(
+            alloc, items, threads, locations, atoms, depth, left, at,
+        )?;
         left = joined;
         atoms = count;
         at = after;
@@ -59,8 +60,9 @@ fn or_term<'a>(
     match or_sign(at) {
         None => Ok((false, left, atoms, at)),
         Some(after) => {
-            let (right, atoms, after) =
-                term(alloc, items, threads, locations, atoms, depth, after)?;
+            let (right, atoms, after) = term(
+                alloc, items, threads, locations, atoms, depth, after,
+            )?;
             let joined = Expr::Or(Box::new(alloc, left)?, Box::new(alloc, right)?);
             Ok((true, joined, atoms, after))
         }
@@ -81,12 +83,14 @@ fn term<'a>(
     ensures { Gives (λ r. ((tree_of r.0, (locations.new, r.1)), r.2.line, pieces_of r.2.rest.now)) result
         (term_at items.now threads depth (locations.old, atoms) cursor.entry.line (pieces_of cursor.entry.rest.now)) }
 {
-    let (first, mut atoms, mut at) =
-        factor(alloc, items, threads, locations, atoms, depth, cursor)?;
+    let (first, mut atoms, mut at) = factor(
+        alloc, items, threads, locations, atoms, depth, cursor,
+    )?;
     let mut left = first;
     for _ in 0..256u16 {
-        let (more, joined, count, after) =
-            and_factor(alloc, items, threads, locations, atoms, depth, left, at)?;
+        let (more, joined, count, after) = and_factor(
+            alloc, items, threads, locations, atoms, depth, left, at,
+        )?;
         left = joined;
         atoms = count;
         at = after;
@@ -116,8 +120,9 @@ fn and_factor<'a>(
     match and_sign(at) {
         None => Ok((false, left, atoms, at)),
         Some(after) => {
-            let (right, atoms, after) =
-                factor(alloc, items, threads, locations, atoms, depth, after)?;
+            let (right, atoms, after) = factor(
+                alloc, items, threads, locations, atoms, depth, after,
+            )?;
             let joined = Expr::And(Box::new(alloc, left)?, Box::new(alloc, right)?);
             Ok((true, joined, atoms, after))
         }
@@ -146,8 +151,15 @@ fn factor<'a>(
             if depth == 0 {
                 return Err(after.fault(Kind::TooLarge));
             }
-            let (inner, atoms, after) =
-                expression(alloc, items, threads, locations, atoms, depth - 1, after)?;
+            let (inner, atoms, after) = expression(
+                alloc,
+                items,
+                threads,
+                locations,
+                atoms,
+                depth - 1,
+                after,
+            )?;
             let after = expect(after, b')', Kind::BadCondition)?;
             Ok((inner, atoms, after))
         }

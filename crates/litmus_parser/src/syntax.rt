@@ -39,9 +39,15 @@ pub enum Width {
 #[derive(Clone, Copy, Debug, PartialEq, Eq)]
 pub enum Instruction {
     /// The target gets the location's value.
-    Load { target: u8, location: u8 },
+    Load {
+        target: u8,
+        location: u8,
+    },
     /// The location gets the source's value.
-    Store { source: u8, location: u8 },
+    Store {
+        source: u8,
+        location: u8,
+    },
     /// The location gets the source's value, and the target the location's old value.
     Swap {
         target: u8,
@@ -49,7 +55,10 @@ pub enum Instruction {
         location: u8,
     },
     /// The target gets the value.
-    Set { target: u8, value: u32 },
+    Set {
+        target: u8,
+        value: u32,
+    },
     /// Nothing.
     Fence,
 }

@@ -8,7 +8,9 @@ ghost use Rattle.litmus_parser.specs.ReadingTable.{thread_named, quantifier_of, 
 use crate::cells::row;
 use crate::forms::is;
 use crate::syntax::{Cell, Item, Name, Quantifier, Width};
-use litmus_grammar::{Cursor, Kind, ReadError, Token, end_line, here, next_token, small, start, word_here};
+use litmus_grammar::{
+    Cursor, Kind, ReadError, Token, end_line, here, next_token, small, start, word_here,
+};
 use std::alloc::Global;
 
 /// How many rows a table may have.

@@ -46,7 +46,7 @@ header_line_takes s x e =
     elim (either_ok (begins_block (before_line_feed s.1)) (Ok (false, s)) (cond (is_header_line (before_line_feed s.1)) (Ok (true, (s.0 + 1, behind_line_feed s.1))) (fails BadHeader s.0)) x some.1) [
       | inl h ↦ subst (TakesLine s) (ok_is (false, s) x h.1) (h.0, refl)
       | inr h ↦ let t = then_ok (is_header_line (before_line_feed s.1)) (Ok (true, (s.0 + 1, behind_line_feed s.1))) _ x h.1 in
-        subst (TakesLine s) (ok_is (true, (s.0 + 1, behind_line_feed s.1)) x t.1) (t.0, refl)
+          subst (TakesLine s) (ok_is (true, (s.0 + 1, behind_line_feed s.1)) x t.1) (t.0, refl)
     ]
 
 abbrev Headed : Lines → Lines → Type 0
@@ -121,16 +121,26 @@ parts_take text test le allowed e =
     let table = table_takes b.0.0 b.0.2 b.0.3 t.0 t.1 in
     subst (IsTest text) (ok_is (record { name = o.0.0; locations = c.0.2; items = b.0.0; threads = t.0.0; cells = t.0.1; quantifier = c.0.0; tree = c.0.1; seen = seen_in c.0.1 [] }) test c.2)
     (record {
-      length_is = le; allowed = allowed; title = heads.0; body = o.0.1.1; header = heads.1;
-      named = b.0.1; table = b.0.3; block = block_takes o.0.1.0 (pieces_of o.0.1.1) b.0 b.1;
-      body_rows = table.0; rest = t.0.3; header_row = table.1; threads_there = table.2; rows = table.3;
+      length_is = le;
+      allowed = allowed;
+      title = heads.0;
+      body = o.0.1.1;
+      header = heads.1;
+      named = b.0.1;
+      table = b.0.3;
+      block = block_takes o.0.1.0 (pieces_of o.0.1.1) b.0 b.1;
+      body_rows = table.0;
+      rest = t.0.3;
+      header_row = table.1;
+      threads_there = table.2;
+      rows = table.3;
       condition = condition_takes b.0.0 t.0.0 b.0.1 t.0.2 t.0.3 c.0 c.1;
       seen = refl;
     })
 
 ended-ok : (end : LitmusError) (r : Result Litmus LitmusError) (test : Litmus) → ended_by end r ≡ Ok test → (is_cut_short end.kind ≡ true) × (r ≡ Ok test)
 ended-ok end (Ok t) test e = then_ok (is_cut_short end.kind) (Ok t) end test e
-ended-ok end (Err fault) test e = elim (either_ok (is_cut_short fault.kind) (Err end) (Err fault) test e) [ | inl h ↦ never end test _ h.1 | inr h ↦ never fault test _ h.1 ]
+ended-ok end (Err fault) test e = elim (either_ok (is_cut_short fault.kind) (Err end) (Err fault) test e) [ inl h ↦ never end test _ h.1 | inr h ↦ never fault test _ h.1 ]
 
 reached : (b : Bool) (x y : List ℕ) (l m : ℕ) (r : List ℕ × LitmusError) → r ≡ cond b (x, record { line = l; kind = CutShort }) (y, record { line = m; kind = BadByte }) → is_cut_short r.1.kind ≡ true → (b ≡ true) × (r.0 ≡ x)
 reached true x y l m r e h = (refl, ap (λ (p : List ℕ × LitmusError). p.0) e)

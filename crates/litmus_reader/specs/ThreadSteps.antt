@@ -45,8 +45,8 @@ unfoldable pub settled : ℕ → List ℕ → List Cell → Thread
 settled thread registers [] = record { thread = thread; registers = registers; rest = [] }
 settled thread registers (cell ∷ rest) =
     if cell.thread == thread
-      then goes_on (after_local cell.instruction registers) (λ registers. settled thread registers rest) (record { thread = thread; registers = registers; rest = cell ∷ rest })
-      else settled thread registers rest
+    then goes_on (after_local cell.instruction registers) (λ registers. settled thread registers rest) (record { thread = thread; registers = registers; rest = cell ∷ rest })
+    else settled thread registers rest
 
 abbrev pub with_item : ℕ → Name → Setting → List ℕ → List ℕ
 with_item thread (Register owner register) (Number value) registers = if owner == thread then written registers register value else registers

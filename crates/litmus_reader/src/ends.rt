@@ -90,11 +90,7 @@ fn holds(expr: &Expr, seen: &[Name], values: &[u64]) -> bool
 impl Test {
     /// The end state of a run: asks for each thread's state, in the order of the threads, and for
     /// each location's value by the location's number.
-    pub fn end(
-        &self,
-        threads: &[ThreadState<'_>],
-        memory: &[u64],
-    ) -> Result<EndState, AllocError>
+    pub fn end(&self, threads: &[ThreadState<'_>], memory: &[u64]) -> Result<EndState, AllocError>
         ensures { IfOk result (λ state. state ≡ map (end_value threads.now memory.now) (test_of self.now).seen) }
     {
         let mut values = Vec::new(self.alloc);

@@ -14,7 +14,8 @@ ghost use Rattle.litmus_reader.specs.Grammar.{IsTest};
 use crate::contents::Test;
 use litmus_grammar::{Cursor, Kind, LitmusError, Locations, MOST_BYTES, ReadError};
 use litmus_parser::{
-    Cell, Expr, Item, Name, absent_line, block, condition, header_row, opening, reach, rows, same_name,
+    Cell, Expr, Item, Name, absent_line, block, condition, header_row, opening, reach, rows,
+    same_name,
 };
 use std::alloc::{AllocError, Global};
 

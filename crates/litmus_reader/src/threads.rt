@@ -114,11 +114,10 @@ impl<'a> ThreadState<'a> {
                 value_in(&self.registers, source),
             )),
             Instruction::Swap {
-                source, location, ..
-            } => Some(Op::Swap(
-                address(location)?,
-                value_in(&self.registers, source),
-            )),
+                source,
+                location,
+                ..
+            } => Some(Op::Swap(address(location)?, value_in(&self.registers, source))),
             _ => None,
         }
     }

@@ -1,6 +1,6 @@
-use Rattle.std.proofs.Common.{◌≡◌, sym, ◌∙◌, arith, true, rules}
+use Rattle.std.proofs.Common.{sym, ◌∙◌, rules}
 use Rattle.std.proofs.lemmas.List.{nil_from_length}
-use Rattle.litmus_grammar.proofs.Pieces.{Begins, pieces-none, pieces-line_end, pieces-sign, pieces-word_split, letters, slashes}
+use Rattle.litmus_grammar.proofs.Pieces.{pieces-none, pieces-line_end, pieces-sign, pieces-word_split, letters, slashes}
 use Rattle.litmus_grammar.specs.Pieces.{is_letter, is_slash}
 use Rattle.litmus_grammar.proofs.tokens.next_token.Goals as goal
 use Rattle.litmus_grammar.proofs.tokens.next_token.Goals.{then-is_letter, else-is_letter+then-is_slash}
@@ -20,8 +20,8 @@ returns-else-is_slash-clause-pieces c =
 
 pub returns-clause-pieces : goal.returns-clause-pieces
 returns-clause-pieces c = elim c.if-is_letter.branch [
-      | then-is_letter w ↦ pieces-word_split is_letter letters _ _ _ _ (record { blanks = c.blank_count.ensures.count; first = sym c.split_at.ensures.back ∙ c.in_ok-first.ensures.cases.0 })
-        (sym w.if-is_letter.ensures) _ c.in_ok-first.ensures.cases.0 _ (w.len-is ∙ w.letter_count-len.ensures.count) _ _ c.split_at-2.ensures.front c.split_at-2.ensures.back
-      | else-is_letter+then-is_slash w ↦ pieces-word_split is_slash slashes _ _ _ _ (record { blanks = c.blank_count.ensures.count; first = sym c.split_at.ensures.back ∙ c.in_ok-first.ensures.cases.0 })
-        (sym w.if-is_slash.ensures) _ c.in_ok-first.ensures.cases.0 _ (w.len-is ∙ w.slash_count.ensures.count) _ _ c.split_at-2.ensures.front c.split_at-2.ensures.back
-    ]
+  | then-is_letter w ↦ pieces-word_split is_letter letters _ _ _ _ (record { blanks = c.blank_count.ensures.count; first = sym c.split_at.ensures.back ∙ c.in_ok-first.ensures.cases.0 })
+      (sym w.if-is_letter.ensures) _ c.in_ok-first.ensures.cases.0 _ (w.len-is ∙ w.letter_count-len.ensures.count) _ _ c.split_at-2.ensures.front c.split_at-2.ensures.back
+  | else-is_letter+then-is_slash w ↦ pieces-word_split is_slash slashes _ _ _ _ (record { blanks = c.blank_count.ensures.count; first = sym c.split_at.ensures.back ∙ c.in_ok-first.ensures.cases.0 })
+      (sym w.if-is_slash.ensures) _ c.in_ok-first.ensures.cases.0 _ (w.len-is ∙ w.slash_count.ensures.count) _ _ c.split_at-2.ensures.front c.split_at-2.ensures.back
+]

@@ -1,4 +1,4 @@
-use Rattle.std.proofs.Common.{◌≡◌, ◌∙◌, sym, ap}
+use Rattle.std.proofs.Common.{◌∙◌, ap}
 use Rattle.litmus_grammar.specs.Naming.{place_of}
 use Rattle.litmus_grammar.proofs.Places.{place-of_texts}
 use Rattle.litmus_grammar.proofs.locations.Locations.place.Goals as goal

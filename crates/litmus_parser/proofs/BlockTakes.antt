@@ -1,5 +1,5 @@
 -- What is read as the initial block is in the grammar.
-use Rattle.std.proofs.Common.{◌≡◌, ◌≢◌, ℕ, zero, suc, ◌+◌, ◌<◌, ◌≤◌, Bool, true, false, cond, eqb, ltb, leb, List, [], ◌∷◌, ◌++◌, length, Option, Some, None, Result, Ok, Err, refl, sym, ap, subst, ◌∙◌, ◌⊎◌, inl, inr, append_assoc, arith}
+use Rattle.std.proofs.Common.{◌≡◌, ℕ, ◌<◌, ◌≤◌, Bool, true, false, cond, eqb, ltb, List, [], ◌∷◌, ◌++◌, length, Option, Some, None, Ok, refl, sym, ap, subst, ◌∙◌, ◌⊎◌, inl, inr, append_assoc, arith}
 use Rattle.std.specs.List.{list_any}
 use Rattle.std.proofs.lemmas.Bool.{eqb-true, eqb-false, ltb-true, ltb-false, leb-false}
 use Rattle.std.proofs.lemmas.List.{append-nil}
@@ -11,20 +11,18 @@ use Rattle.litmus_grammar.specs.Naming.{place_of}
 use Rattle.litmus_grammar.specs.Spelling.{is_number, number_of, small_of, register_of, is_location}
 use Rattle.litmus_grammar.specs.declared.errors.Kind.{Kind}
 use Rattle.litmus_grammar.specs.declared.errors.Kind.TheVariants.{BadInitial, TooLarge, ValueRange}
-use Rattle.litmus_grammar.specs.declared.errors.LitmusError.{LitmusError}
-use Rattle.litmus_grammar.specs.Reading.{◌>>=◌, Read, fails, found, next_at, word_at, sign_at, expect_at, end_line_at, repeat_at}
+use Rattle.litmus_grammar.specs.Reading.{◌>>=◌, fails, next_at, word_at, sign_at, expect_at, end_line_at}
 use Rattle.litmus_grammar.proofs.Repeats.{repeat-takes}
 use Rattle.litmus_parser.specs.Names.{Names, same_name}
 use Rattle.litmus_parser.specs.ReadingItems.{location_at, number_at, setting_at, register_item_at, location_item_at, item_of, item_at}
 use Rattle.litmus_parser.specs.ReadingBlock.{Block, separated, added, whole_item_at, entry_of, entry_at, unended, items_at, block_at}
-use Rattle.litmus_parser.specs.GrammarWords.{Next, EndsLine, IsValue, IsNumbered}
+use Rattle.litmus_parser.specs.GrammarWords.{Next, IsValue, IsNumbered}
 use Rattle.litmus_parser.specs.GrammarBlock.{IsSetting, IsItem, AreItems, IsBlock}
-use Rattle.litmus_parser.specs.declared.syntax.Name.{Name}
 use Rattle.litmus_parser.specs.declared.syntax.Name.TheVariants.{Register, Location}
 use Rattle.litmus_parser.specs.declared.syntax.Setting.{Setting}
 use Rattle.litmus_parser.specs.declared.syntax.Setting.TheVariants.{Number, Address}
 use Rattle.litmus_parser.specs.declared.syntax.Item.{Item}
-use Rattle.litmus_parser.proofs.Steps.{bind_ok, found_ok, ok_is, never, then_ok, else_ok, either_ok, next_takes, word_takes, sign_takes, expect_takes, end_line_takes}
+use Rattle.litmus_parser.proofs.Steps.{bind_ok, found_ok, ok_is, then_ok, else_ok, either_ok, next_takes, word_takes, sign_takes, expect_takes, end_line_takes}
 
 -- ---- words
 

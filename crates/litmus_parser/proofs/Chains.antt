@@ -1,5 +1,5 @@
 -- A part of a condition and further ones, each behind a sign, one after another.
-use Rattle.std.proofs.Common.{◌≡◌, ℕ, ◌+◌, ◌-◌, ◌<◌, ◌≤◌, Bool, true, false, List, Result, Ok, Err, refl, sym, ap, ◌∙◌}
+use Rattle.std.proofs.Common.{◌≡◌, ℕ, ◌+◌, ◌-◌, ◌<◌, ◌≤◌, Bool, true, false, List, Result, Ok, refl, sym, ap, ◌∙◌}
 use Rattle.litmus_grammar.specs.Pieces.{Piece}
 use Rattle.litmus_grammar.specs.declared.errors.LitmusError.{LitmusError}
 use Rattle.litmus_grammar.specs.declared.errors.ReadError.{ReadError}
@@ -8,7 +8,7 @@ use Rattle.litmus_grammar.specs.Reading.{◌>>=◌, Fails, Read, repeat_at}
 use Rattle.litmus_grammar.proofs.Repeats.{goes-on, fails-there, is-done, runs-out}
 use Rattle.litmus_parser.specs.Trees.{Tree, Both, Either}
 use Rattle.litmus_parser.specs.ReadingAtoms.{Sight, is_and, is_or}
-use Rattle.litmus_parser.specs.ReadingCondition.{Chain, Reader, joined_with, too_many_parts, chain_result, chained, factor_at, and_factor_at, term_at, or_term_at, expression_at}
+use Rattle.litmus_parser.specs.ReadingCondition.{Chain, joined_with, too_many_parts, chain_result, factor_at, and_factor_at, term_at, or_term_at, expression_at}
 use Rattle.litmus_parser.specs.declared.syntax.Item.{Item}
 
 pub fails-on : {A B : Type 0} (e : ReadError) (r : Result A LitmusError) (g : A → Result B LitmusError) (total : Result B LitmusError) → Fails e r → (r >>= g) ≡ total → Fails e total

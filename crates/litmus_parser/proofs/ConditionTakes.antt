@@ -1,11 +1,10 @@
 -- What is read as the condition is in the grammar.
-use Rattle.std.proofs.Common.{◌≡◌, ◌≢◌, ℕ, zero, suc, ◌+◌, ◌<◌, ◌≤◌, Bool, true, false, cond, eqb, ltb, leb, List, [], ◌∷◌, Option, Some, None, Result, Ok, Err, refl, sym, ap, subst, ◌∙◌, ◌⊎◌, inl, inr}
+use Rattle.std.proofs.Common.{◌≡◌, ℕ, zero, suc, ◌+◌, Bool, true, false, cond, eqb, leb, List, [], ◌∷◌, Option, Some, None, Ok, refl, ap, subst, ◌∙◌, inl, inr}
 use Rattle.std.proofs.lemmas.Bool.{eqb-true, eqb-false, leb-false, and_parts}
 use Rattle.litmus_grammar.specs.Pieces.{Piece, Word, Sign, LineEnd}
 use Rattle.litmus_grammar.specs.Spelling.{small_of, register_of}
-use Rattle.litmus_grammar.specs.declared.errors.Kind.TheVariants.{BadCondition, BadTable, TooLarge, AddressAsValue}
-use Rattle.litmus_grammar.specs.declared.errors.LitmusError.{LitmusError}
-use Rattle.litmus_grammar.specs.Reading.{◌>>=◌, Read, fails, found, behind, next_at, word_at, expect_at, word_here_at, repeat_at}
+use Rattle.litmus_grammar.specs.declared.errors.Kind.TheVariants.{BadCondition, BadTable, AddressAsValue}
+use Rattle.litmus_grammar.specs.Reading.{◌>>=◌, fails, behind, next_at, word_at, expect_at, word_here_at, repeat_at}
 use Rattle.litmus_grammar.proofs.Repeats.{repeat-takes}
 use Rattle.litmus_parser.specs.Names.{Names, address_of, is_there}
 use Rattle.litmus_parser.specs.Trees.{Tree, Is, Both, Either}
@@ -14,7 +13,7 @@ use Rattle.litmus_parser.specs.ReadingTable.{quantifier_of}
 use Rattle.litmus_parser.specs.ReadingAtoms.{Sight, is_and, is_or, joined_at, register_name_at, location_name_at, name_of, name_at, atom_at}
 use Rattle.litmus_parser.specs.ReadingCondition.{Reader, Chain, joined_with, too_many_parts, chain_result, chained, in_parentheses, factor_of, too_deep, factor_at, term_at, expression_at}
 use Rattle.litmus_parser.specs.ReadingEnd.{keyword_at, further_at, unless_further, whole_at, condition_at}
-use Rattle.litmus_parser.specs.GrammarWords.{Next, IsValue, IsNumbered}
+use Rattle.litmus_parser.specs.GrammarWords.{Next}
 use Rattle.litmus_parser.specs.GrammarCondition.{IsNamed, IsAtom, and_word, or_word, Part, Chained, one, more, IsFactor, IsExpression, Ends, IsCondition}
 use Rattle.litmus_parser.specs.declared.syntax.Item.{Item}
 use Rattle.litmus_parser.specs.declared.syntax.Name.{Name}

@@ -1,33 +1,25 @@
 -- What is read as an instruction is in the grammar, and stands for what is answered.
-use Rattle.std.proofs.Common.{◌≡◌, ℕ, zero, suc, ◌+◌, ◌<◌, ◌≤◌, Bool, true, false, cond, eqb, ltb, leb, List, [], ◌∷◌, ◌++◌, length, min, Option, Some, None, Result, Ok, Err, refl, sym, ap, subst, ◌∙◌, ◌⊎◌, inl, inr, append_assoc, arith}
-use Rattle.std.proofs.lemmas.Bool.{eqb-true, ltb-true, ltb-false, leb-false}
-use Rattle.std.proofs.lemmas.List.{append-nil}
-use Rattle.litmus_grammar.specs.Pieces.{Piece, Word, Sign, LineEnd}
+use Rattle.std.proofs.Common.{◌≡◌, ℕ, true, eqb, ltb, List, ◌∷◌, min, Option, Some, None, Ok, refl, sym, ap, subst, ◌∙◌}
+use Rattle.std.proofs.lemmas.Bool.{eqb-true, ltb-true, ltb-false}
+use Rattle.litmus_grammar.specs.Pieces.{Piece, Word, Sign}
 use Rattle.litmus_grammar.specs.Spelling.{is_number, number_of, register_of}
-use Rattle.litmus_grammar.specs.declared.errors.Kind.TheVariants.{BadInstruction, BadTable, TooLarge}
-use Rattle.litmus_grammar.specs.declared.errors.LitmusError.{LitmusError}
-use Rattle.litmus_grammar.specs.Reading.{◌>>=◌, Read, fails, found, behind, here_at, word_here_at, expect_here_at, start_at, end_line_at, passed_at, repeat_at}
-use Rattle.litmus_grammar.proofs.Repeats.{repeat-takes}
+use Rattle.litmus_grammar.specs.declared.errors.Kind.TheVariants.{BadInstruction}
+use Rattle.litmus_grammar.specs.Reading.{◌>>=◌, word_here_at, expect_here_at}
 use Rattle.litmus_parser.specs.Names.{address_of, is_there}
 use Rattle.litmus_parser.specs.Mnemonics.{mnemonic_of, is_zero, is_fence_set}
 use Rattle.litmus_parser.specs.ReadingForms.{register_at, based_at, offset_at, swapped_at, number_word_at, set_at, fence_at, li_at, ori_at, operands_at, form_at}
 use Rattle.litmus_parser.specs.Verdicts.{same_width, kept_at, value_register_at, or_no_address, base_at, judged_at}
-use Rattle.litmus_parser.specs.ReadingRows.{Rows, Columns, has_shape, instruction_at, cell_at, column_at, ended, columns_at, row_at}
-use Rattle.litmus_parser.specs.ReadingTable.{thread_named, is_thread, separated_by, separated, Headings, heading_at, too_many, headings_at, header_at, quantifier_next, Table, next_row_at, too_long, table_at, rows_at}
-use Rattle.litmus_parser.specs.GrammarWords.{EndsLine}
 use Rattle.litmus_parser.specs.GrammarForms.{IsRegister, IsBased, IsOffset, IsSwapped, IsAnyNumber, IsFenceSet, IsForm, HasWidth, HoldsValue, StandsFor}
-use Rattle.litmus_parser.specs.GrammarTable.{Begins, AreHeadings, last, more, IsHeaderRow, IsCell, AreCells, IsRow, AreRows, none, row}
 use Rattle.litmus_parser.specs.declared.syntax.Width.{Width}
 use Rattle.litmus_parser.specs.declared.syntax.Width.TheVariants.{Single, Double}
 use Rattle.litmus_parser.specs.declared.syntax.Item.{Item}
 use Rattle.litmus_parser.specs.declared.syntax.Instruction.{Instruction}
 use Rattle.litmus_parser.specs.declared.syntax.Instruction.TheVariants.{Load, Store, Swap, Set, Fence}
-use Rattle.litmus_parser.specs.declared.syntax.Cell.{Cell}
 use Rattle.litmus_parser.specs.declared.forms.Mnemonic.{Mnemonic}
 use Rattle.litmus_parser.specs.declared.forms.Mnemonic.TheVariants as word
 use Rattle.litmus_parser.specs.declared.forms.Form.{Form}
 use Rattle.litmus_parser.specs.declared.forms.Form.TheVariants as form
-use Rattle.litmus_parser.proofs.Steps.{bind_ok, found_ok, ok_is, then_ok, else_ok, either_ok, pair, triple, here_takes, word_here_takes, expect_here_takes, end_line_takes, start_takes, passed_takes}
+use Rattle.litmus_parser.proofs.Steps.{bind_ok, found_ok, ok_is, then_ok, else_ok, word_here_takes, expect_here_takes}
 
 -- ---- instructions as they are written
 

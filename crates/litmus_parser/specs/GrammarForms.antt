@@ -1,5 +1,5 @@
 -- The grammar of instructions, within a line.
-use Rattle.std.specs.Prelude.{◌≡◌, ℕ, ◌<◌, ◌≤◌, min, true, false, List, [], ◌∷◌, Option, Some, None}
+use Rattle.std.specs.Prelude.{◌≡◌, ℕ, ◌<◌, ◌≤◌, min, true, false, List, ◌∷◌, Option, Some, None}
 use Rattle.litmus_grammar.specs.Pieces.{Piece, Word, Sign}
 use Rattle.litmus_grammar.specs.Spelling.{is_number, number_of, register_of}
 use Rattle.litmus_parser.specs.Names.{address_of, is_there}

@@ -1,5 +1,5 @@
 -- The words of instructions.
-use Rattle.std.specs.Prelude.{ℕ, ◌==◌, ◌&&◌, ◌||◌, Bool, true, false, if◌then◌else◌, List, [], ◌∷◌, Option, Some, None, codes}
+use Rattle.std.specs.Prelude.{ℕ, ◌||◌, Bool, if◌then◌else◌, List, Option, Some, None, codes}
 use Rattle.std.specs.Str.{bytes_eq}
 use Rattle.litmus_parser.specs.declared.syntax.Width.{Width}
 use Rattle.litmus_parser.specs.declared.syntax.Width.TheVariants.{Single, Double}

@@ -1,5 +1,5 @@
 -- How far a text can be read, and what is wrong behind that.
-use Rattle.std.specs.Prelude.{◌≡◌, ℕ, ◌+◌, ◌-◌, ◌==◌, ◌||◌, Bool, if◌then◌else◌, List, [], ◌∷◌, length, take}
+use Rattle.std.specs.Prelude.{ℕ, ◌+◌, ◌-◌, ◌==◌, ◌||◌, Bool, if◌then◌else◌, List, [], ◌∷◌, length, take}
 use Rattle.std.specs.List.{prefix_len}
 use Rattle.litmus_grammar.specs.Pieces.{between}
 use Rattle.litmus_grammar.specs.declared.errors.Kind.TheVariants.{BadByte, CutShort}

@@ -1,10 +1,10 @@
 -- Reading the initial block, with the first fault.
-use Rattle.std.specs.Prelude.{◌≡◌, ℕ, ◌==◌, Bool, true, false, if◌then◌else◌, List, [], ◌∷◌, ◌++◌, Result, Ok, Err}
+use Rattle.std.specs.Prelude.{ℕ, ◌==◌, Bool, true, false, if◌then◌else◌, List, [], ◌∷◌, ◌++◌, Result, Ok}
 use Rattle.std.specs.List.{list_any}
 use Rattle.litmus_grammar.specs.Pieces.{Piece, Word, Sign, LineEnd}
 use Rattle.litmus_grammar.specs.declared.errors.Kind.TheVariants.{BadInitial, DoubleInitial, CutShort}
 use Rattle.litmus_grammar.specs.declared.errors.LitmusError.{LitmusError}
-use Rattle.litmus_grammar.specs.Reading.{◌>>=◌, Read, fails, next_at, sign_at, expect_at, end_line_at, repeat_at}
+use Rattle.litmus_grammar.specs.Reading.{◌>>=◌, fails, next_at, sign_at, expect_at, end_line_at, repeat_at}
 use Rattle.litmus_parser.specs.Names.{Names, same_name}
 use Rattle.litmus_parser.specs.ReadingItems.{item_at}
 use Rattle.litmus_parser.specs.declared.syntax.Item.{Item}

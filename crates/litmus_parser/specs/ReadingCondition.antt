@@ -1,5 +1,5 @@
 -- Reading the expression of a condition, with the first fault.
-use Rattle.std.specs.Prelude.{◌≡◌, ℕ, zero, suc, ◌==◌, Bool, true, false, if◌then◌else◌, List, [], ◌∷◌, Option, Some, None, Result, Ok, Err}
+use Rattle.std.specs.Prelude.{ℕ, zero, suc, ◌==◌, Bool, true, false, if◌then◌else◌, List, Result, Ok}
 use Rattle.litmus_grammar.specs.Pieces.{Piece, Word, Sign, LineEnd}
 use Rattle.litmus_grammar.specs.declared.errors.Kind.TheVariants.{TooLarge, BadCondition}
 use Rattle.litmus_grammar.specs.declared.errors.LitmusError.{LitmusError}

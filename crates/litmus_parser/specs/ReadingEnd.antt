@@ -1,5 +1,5 @@
 -- Reading the condition up to the end of the text, with the first fault.
-use Rattle.std.specs.Prelude.{◌≡◌, ℕ, ◌+◌, List, [], ◌∷◌, Option, Some, None, Result, Ok, Err}
+use Rattle.std.specs.Prelude.{ℕ, ◌+◌, List, [], ◌∷◌, Option, Some, None, Result, Ok}
 use Rattle.litmus_grammar.specs.Pieces.{Piece, Word, Sign, LineEnd}
 use Rattle.litmus_grammar.specs.declared.errors.Kind.TheVariants.{BadTable, BadCondition}
 use Rattle.litmus_grammar.specs.declared.errors.LitmusError.{LitmusError}

@@ -1,12 +1,10 @@
 -- Reading instructions as they are written, within a line.
-use Rattle.std.specs.Prelude.{◌≡◌, ℕ, ◌==◌, min, Bool, if◌then◌else◌, List, [], ◌∷◌, Option, Result, Ok, Err}
+use Rattle.std.specs.Prelude.{ℕ, ◌==◌, min, if◌then◌else◌, List, Ok}
 use Rattle.litmus_grammar.specs.Pieces.{Piece}
 use Rattle.litmus_grammar.specs.Spelling.{is_number, number_of, register_of}
 use Rattle.litmus_grammar.specs.declared.errors.Kind.TheVariants.{BadInstruction}
-use Rattle.litmus_grammar.specs.declared.errors.LitmusError.{LitmusError}
 use Rattle.litmus_grammar.specs.Reading.{◌>>=◌, Read, Passed, fails, found, word_here_at, expect_here_at}
 use Rattle.litmus_parser.specs.Mnemonics.{mnemonic_of, is_zero, is_fence_set}
-use Rattle.litmus_parser.specs.declared.syntax.Width.{Width}
 use Rattle.litmus_parser.specs.declared.forms.Mnemonic.{Mnemonic}
 use Rattle.litmus_parser.specs.declared.forms.Mnemonic.TheVariants as word
 use Rattle.litmus_parser.specs.declared.forms.Form.{Form}

@@ -1,5 +1,5 @@
 -- Reading the lines before the initial block, with the first fault.
-use Rattle.std.specs.Prelude.{◌≡◌, ℕ, ◌+◌, ◌==◌, Bool, true, false, if◌then◌else◌, List, [], ◌∷◌, length, Option, Some, None, Result, Ok, Err}
+use Rattle.std.specs.Prelude.{ℕ, ◌+◌, ◌==◌, Bool, true, false, if◌then◌else◌, List, length, Result, Ok}
 use Rattle.litmus_grammar.specs.FirstLines.{title_of, before_line_feed, behind_line_feed, begins_block, is_header_line}
 use Rattle.litmus_grammar.specs.declared.errors.Kind.TheVariants.{CutShort, BadHeader}
 use Rattle.litmus_grammar.specs.declared.errors.LitmusError.{LitmusError}

@@ -1,5 +1,4 @@
 -- The tree that an expression stands for.
-use Rattle.std.specs.Prelude.{ℕ}
 use Rattle.litmus_parser.specs.declared.syntax.Expr.{Expr}
 use Rattle.litmus_parser.specs.declared.syntax.Expr.TheVariants as expr
 use Rattle.litmus_parser.specs.Trees.{Tree, Is, Both, Either}

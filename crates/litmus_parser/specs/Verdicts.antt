@@ -1,5 +1,5 @@
 -- What an instruction may say: its numbers, its width, its registers.
-use Rattle.std.specs.Prelude.{◌≡◌, ℕ, nat_lt, Bool, true, false, if◌then◌else◌, List, Option, Some, None, Result, Ok, Err}
+use Rattle.std.specs.Prelude.{ℕ, nat_lt, Bool, true, false, if◌then◌else◌, List, Option, Some, None, Result, Ok}
 use Rattle.litmus_grammar.specs.declared.errors.Kind.TheVariants.{MixedWidth, ValueRange, AddressAsValue, ValueAsAddress}
 use Rattle.litmus_grammar.specs.declared.errors.LitmusError.{LitmusError}
 use Rattle.litmus_grammar.specs.Reading.{◌>>=◌, fails}

@@ -1,13 +1,13 @@
 -- What is read of a whole text is in the grammar.
-use Rattle.std.proofs.Common.{◌≡◌, ℕ, zero, suc, ◌+◌, ◌<◌, ◌≤◌, Bool, true, false, cond, eqb, ltb, leb, List, [], ◌∷◌, length, take, Option, Some, None, Result, Ok, Err, refl, sym, ap, subst, ◌∙◌, ◌⊎◌, inl, inr}
+use Rattle.std.proofs.Common.{◌≡◌, ℕ, ◌+◌, ◌≤◌, Bool, true, false, cond, eqb, ltb, List, [], ◌∷◌, length, Option, Some, None, Result, Ok, Err, refl, sym, ap, subst, ◌∙◌, inl, inr}
 use Rattle.std.specs.Prelude.{IfOk}
 use Rattle.std.specs.List.{list_all, prefix_len, AllByRecursion}
 use Rattle.std.proofs.lemmas.Bool.{eqb-true, ltb-false, leb-false}
 use Rattle.litmus_grammar.specs.Pieces.{Piece, pieces_of}
 use Rattle.litmus_grammar.specs.FirstLines.{IsTitle, title_of, is_header_line, begins_block, before_line_feed, behind_line_feed}
-use Rattle.litmus_grammar.specs.declared.errors.Kind.TheVariants.{CutShort, BadHeader, BadInitial, BadByte, TooLarge}
+use Rattle.litmus_grammar.specs.declared.errors.Kind.TheVariants.{CutShort, BadHeader, BadByte}
 use Rattle.litmus_grammar.specs.declared.errors.LitmusError.{LitmusError}
-use Rattle.litmus_grammar.specs.Reading.{◌>>=◌, fails, found, repeat_at}
+use Rattle.litmus_grammar.specs.Reading.{◌>>=◌, fails, found}
 use Rattle.litmus_grammar.proofs.Repeats.{repeat-takes}
 use Rattle.litmus_grammar.proofs.Titles.{title-takes}
 use Rattle.litmus_grammar.proofs.Fronts.{whole-front}

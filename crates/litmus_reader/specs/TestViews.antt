@@ -1,5 +1,4 @@
 -- What a test of the code stands for.
-use Rattle.std.specs.Prelude.{ℕ, List}
 use Rattle.litmus_parser.specs.TreeViews.{tree_of}
 use Rattle.litmus_reader.specs.Litmus.{Litmus}
 use Rattle.litmus_reader.specs.declared.contents.Test.{Test}

@@ -289,9 +289,7 @@ fn a_text_that_is_too_long(rt: HostRuntime) -> Result<(), Fail> {
 /// Each cut of the text is refused, but for the one that lacks the last line feed alone.
 #[test]
 fn cut_texts(rt: HostRuntime) -> Result<(), Fail> {
-    let mut cut = STORE_BUFFERING.len();
-    while cut > 0 {
-        cut -= 1;
+    for cut in 0..STORE_BUFFERING.len() {
         let (front, rest) = STORE_BUFFERING.split_at(cut);
         assert_eq!(rt; read(rt.alloc(), front).is_ok(), rest.len() == 1);
     }

@@ -1,7 +1,7 @@
-use Rattle.std.proofs.Common.{rules, ◌≡◌, ◌-◌, ℕ, ◌∙◌, ap, sym, arith, refl, Ok}
+use Rattle.std.proofs.Common.{◌≡◌, ◌-◌, ℕ, ◌∙◌, ap, arith, refl, Ok}
 use Rattle.std.proofs.lemmas.Result.{err_from_is_err_and}
 use Rattle.litmus_grammar.proofs.Repeats.{goes-on, fails-there, runs-out}
-use Rattle.litmus_parser.specs.ReadingRows.{Columns, column_at, ended, columns_at}
+use Rattle.litmus_parser.specs.ReadingRows.{column_at, ended, columns_at}
 use Rattle.litmus_parser.proofs.cells.columns.Goals as goal
 use Rattle.litmus_grammar.specs.Pieces.{pieces_of}
 

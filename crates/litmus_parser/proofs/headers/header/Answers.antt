@@ -1,4 +1,4 @@
-use Rattle.std.proofs.Common.{rules, ◌≡◌, ◌∙◌, refl}
+use Rattle.std.proofs.Common.{rules, refl}
 use Rattle.std.proofs.lemmas.Result.{err_from_is_err_and}
 use Rattle.litmus_grammar.proofs.Repeats.{goes-on, fails-there, is-done, runs-out}
 use Rattle.litmus_parser.specs.ReadingHeader.{header_line_at, cut_short, header_at}

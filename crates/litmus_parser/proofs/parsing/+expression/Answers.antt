@@ -1,6 +1,6 @@
-use Rattle.std.proofs.Common.{◌≡◌, ◌-◌, refl, sym, ap, ◌∙◌, arith, rules}
+use Rattle.std.proofs.Common.{rules}
 use Rattle.std.proofs.lemmas.Result.{err_from_is_err_and}
-use Rattle.litmus_parser.specs.ReadingCondition.{expression_at, or_term_at, term_at, and_factor_at, factor_at}
+use Rattle.litmus_parser.specs.ReadingCondition.{or_term_at, and_factor_at}
 use Rattle.litmus_parser.proofs.Chains.{first-term, first-factor, next-fails, next-is, none-left, too-many}
 use Rattle.litmus_parser.proofs.parsing.+expression.Goals as goal
 

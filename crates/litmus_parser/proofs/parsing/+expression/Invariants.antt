@@ -1,7 +1,7 @@
-use Rattle.std.proofs.Common.{◌≡◌, ℕ, ◌+◌, ◌-◌, ◌*◌, ◌<◌, ◌≤◌, Ok}
+use Rattle.std.proofs.Common.{◌≡◌, ◌+◌, ◌-◌, ◌*◌}
 use Rattle.litmus_grammar.specs.Pieces.{pieces_of}
 use Rattle.litmus_grammar.specs.Reading.{◌>>=◌, repeat_at}
-use Rattle.litmus_parser.specs.ReadingCondition.{or_term_at, and_factor_at, term_at, factor_at, expression_at, too_many_parts, chain_result}
+use Rattle.litmus_parser.specs.ReadingCondition.{or_term_at, and_factor_at, term_at, expression_at, too_many_parts, chain_result}
 use Rattle.litmus_parser.specs.TreeViews.{tree_of}
 use Rattle.litmus_parser.proofs.parsing.+expression.Given as goal
 

@@ -1,4 +1,4 @@
-use Rattle.std.proofs.Common.{rules, ◌≡◌, ◌-◌, ℕ, ◌∙◌, ap, sym, arith, refl, Ok}
+use Rattle.std.proofs.Common.{rules, refl}
 use Rattle.std.proofs.lemmas.Result.{err_from_is_err_and}
 use Rattle.litmus_grammar.proofs.Repeats.{goes-on, fails-there, is-done, runs-out}
 use Rattle.litmus_parser.specs.ReadingTable.{heading_at, too_many, headings_at}

@@ -1,6 +1,6 @@
 //! What the text of a litmus test says.
 
-ghost use Rattle.std.specs.Prelude.{◌≡◌, length, replicate};
+ghost use Rattle.std.specs.Prelude.{◌≡◌, ◌≤◌, length, replicate};
 ghost use Rattle.litmus_reader.specs.TestViews.{test_of};
 ghost use Rattle.litmus_reader.specs.ThreadSteps.{settled, opened};
 
@@ -54,7 +54,8 @@ impl Test {
 
     /// How many locations there are, at most 64; their words are numbered from 0.
     pub fn locations(&self) -> usize
-        ensures { result ≡ length (test_of self.now).locations }
+        ensures count { result ≡ length (test_of self.now).locations }
+        ensures few { result ≤ 64 }
     {
         self.locations.len()
     }

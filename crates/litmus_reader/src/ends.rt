@@ -3,6 +3,7 @@
 ghost use Rattle.std.specs.Prelude.{◌≡◌, ◌++◌, ◌∷◌, [], IfOk, OnOk, map};
 ghost use Rattle.litmus_parser.specs.TreeViews.{tree_of};
 ghost use Rattle.litmus_reader.specs.TestViews.{test_of};
+ghost use Rattle.litmus_reader.specs.Seen.{seen_in};
 ghost use Rattle.litmus_reader.specs.Truth.{end_value, value_of, holds};
 
 use crate::contents::Test;
@@ -88,10 +89,12 @@ fn holds(expr: &Expr, seen: &[Name], values: &[u64]) -> bool
 }
 
 impl Test {
-    /// The end state of a run: asks for each thread's state, in the order of the threads, and for
-    /// each location's value by the location's number.
-    pub fn end(&self, threads: &[ThreadState<'_>], memory: &[u64]) -> Result<EndState, AllocError>
-        ensures { IfOk result (λ state. state ≡ map (end_value threads.now memory.now) (test_of self.now).seen) }
+    fn end_values(
+        &self,
+        threads: &[ThreadState<'_>],
+        memory: &[u64],
+    ) -> Result<Vec<u64>, AllocError>
+        ensures { IfOk result (λ values. values.items ≡ map (end_value threads.now memory.now) (test_of self.now).seen) }
     {
         let mut values = Vec::new(self.alloc);
         let mut left = self.seen();
@@ -99,6 +102,18 @@ impl Test {
             push_value(&mut values, end_value(threads, memory, *name))?;
             left = rest;
         }
+        Ok(values)
+    }
+
+    /// The end state of a run: asks for each thread's state, in the order of the threads, and for
+    /// each location's value by the location's number.
+    pub fn end(&self, threads: &[ThreadState<'_>], memory: &[u64]) -> Result<EndState, AllocError>
+        ensures values { IfOk result (λ state. state ≡ map (end_value threads.now memory.now) (test_of self.now).seen) }
+        // The expression holds in it where it holds of the registers and the memory.
+        ensures truth { (test_of self.now).seen ≡ seen_in (test_of self.now).tree [] → IfOk result (λ state.
+            holds (value_of (test_of self.now).seen state) (test_of self.now).tree ≡ holds (end_value threads.now memory.now) (test_of self.now).tree) }
+    {
+        let values = self.end_values(threads, memory)?;
         Ok(EndState { values })
     }
 

@@ -1,6 +1,6 @@
 //! Reading a whole text.
 
-ghost use Rattle.std.specs.Prelude.{◌≡◌, ◌≤◌, [], IfOk, OnOk, length};
+ghost use Rattle.std.specs.Prelude.{◌≡◌, ◌<◌, ◌≤◌, [], IfOk, OnOk, length};
 ghost use Rattle.std.specs.List.{list_any};
 ghost use Rattle.litmus_grammar.specs.Reading.{Gives};
 ghost use Rattle.litmus_parser.specs.Names.{same_name};
@@ -142,6 +142,8 @@ fn read_whole(alloc: Global, text: &[u8]) -> Result<Test, LitmusError>
 pub fn read(alloc: Global, text: &[u8]) -> Result<Test, LitmusError>
     // What is read is what the text says.
     ensures found { IfOk result (λ test. IsTest text.now (test_of test)) }
+    // It has 1 to 16 threads.
+    ensures few { IfOk result (λ test. (0 < (test_of test).threads) × ((test_of test).threads ≤ 16)) }
     // The test or the first fault, front to back, unless memory ran out.
     ensures told { Told test_of result (read_at text.now) }
 {

@@ -1,7 +1,7 @@
 use Rattle.std.proofs.Common.{◌≡◌, ◌++◌, length, map}
 use Rattle.litmus_reader.specs.Truth.{end_value}
 use Rattle.litmus_reader.specs.TestViews.{test_of}
-use Rattle.litmus_reader.proofs.contents.Test.end.Given as goal
+use Rattle.litmus_reader.proofs.contents.Test.end_values.Given as goal
 
 -- the values so far and those that are left are all of them
 abbrev pub invariant-loop-name : goal.invariant-loop-name

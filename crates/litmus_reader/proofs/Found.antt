@@ -26,7 +26,7 @@ use Rattle.litmus_parser.proofs.Steps.{bind_ok, found_ok, ok_is, never, then_ok,
 use Rattle.litmus_parser.proofs.BlockTakes.{block_takes}
 use Rattle.litmus_parser.proofs.TableTakes.{header_takes, rows_take}
 use Rattle.litmus_parser.proofs.ConditionTakes.{condition_takes}
-use Rattle.litmus_reader.specs.Litmus.{Litmus}
+use Rattle.litmus_reader.specs.Litmus.{Litmus, settings_of}
 use Rattle.litmus_reader.specs.Seen.{seen_in}
 use Rattle.litmus_reader.specs.TestViews.{test_of}
 use Rattle.litmus_reader.specs.ReadingTest.{unless_absent, table_at, parts_at, is_cut_short, ended_by, read_at, Told}
@@ -116,16 +116,18 @@ parts_take text test le allowed e =
     let o = bind_ok (opening_at text) _ test e in
     let b = bind_ok (block_at [] o.0.1.0 (pieces_of o.0.1.1)) _ test o.2 in
     let t = bind_ok (table_at b.0.0 b.0.2 b.0.3) _ test b.2 in
-    let c = bind_ok (condition_at b.0.0 t.0.0 b.0.1 t.0.2 t.0.3) (λ c. Ok (record { name = o.0.0; locations = c.2; items = b.0.0; threads = t.0.0; cells = t.0.1; quantifier = c.0; tree = c.1; seen = seen_in c.1 [] })) test t.2 in
+    let c = bind_ok (condition_at b.0.0 t.0.0 b.0.1 t.0.2 t.0.3) (λ c. Ok (record { name = o.0.0; locations = c.2; items = settings_of b.0.0; threads = t.0.0; cells = t.0.1; quantifier = c.0; tree = c.1; seen = seen_in c.1 [] })) test t.2 in
     let heads = opening_takes text o.0 o.1 in
     let table = table_takes b.0.0 b.0.2 b.0.3 t.0 t.1 in
-    subst (IsTest text) (ok_is (record { name = o.0.0; locations = c.0.2; items = b.0.0; threads = t.0.0; cells = t.0.1; quantifier = c.0.0; tree = c.0.1; seen = seen_in c.0.1 [] }) test c.2)
+    subst (IsTest text) (ok_is (record { name = o.0.0; locations = c.0.2; items = settings_of b.0.0; threads = t.0.0; cells = t.0.1; quantifier = c.0.0; tree = c.0.1; seen = seen_in c.0.1 [] }) test c.2)
     (record {
       length_is = le;
       allowed = allowed;
       title = heads.0;
       body = o.0.1.1;
       header = heads.1;
+      items = b.0.0;
+      items_are = refl;
       named = b.0.1;
       table = b.0.3;
       block = block_takes o.0.1.0 (pieces_of o.0.1.1) b.0 b.1;

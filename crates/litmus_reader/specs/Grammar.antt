@@ -10,7 +10,8 @@ use Rattle.litmus_parser.specs.GrammarTable.{IsHeaderRow, AreRows}
 use Rattle.litmus_parser.specs.GrammarCondition.{IsCondition}
 use Rattle.litmus_parser.specs.declared.syntax.Name.{Name}
 use Rattle.litmus_parser.specs.declared.syntax.Name.TheVariants.{Register, Location}
-use Rattle.litmus_reader.specs.Litmus.{Litmus}
+use Rattle.litmus_parser.specs.declared.syntax.Item.{Item}
+use Rattle.litmus_reader.specs.Litmus.{Litmus, settings_of}
 use Rattle.litmus_reader.specs.Seen.{seen_in}
 
 -- header lines, and then a body of which the first line begins with {
@@ -30,15 +31,18 @@ pub record IsTest (text : List ℕ) (test : Litmus) : Type 0 where
   pub title : IsTitle (before_line_feed text) test.name
   pub body : List ℕ
   pub header : IsHeader (behind_line_feed text) body
+  -- the items with their lines
+  pub items : List Item
+  pub items_are : test.items ≡ settings_of items
   -- the locations that the initial block names, and the pieces behind it
   pub named : Names
   pub table : List Piece
-  pub block : IsBlock (pieces_of body) test.items named table
+  pub block : IsBlock (pieces_of body) items named table
   -- the pieces behind the header row, and behind the rows
   pub body_rows : List Piece
   pub rest : List Piece
   pub header_row : IsHeaderRow table test.threads body_rows
-  pub threads_there : AllByRecursion (λ item. IsThere test.threads item.name) test.items
-  pub rows : AreRows test.items test.threads 0 body_rows None test.cells rest
-  pub condition : IsCondition test.items test.threads rest named test.quantifier test.tree test.locations
+  pub threads_there : AllByRecursion (λ item. IsThere test.threads item.name) items
+  pub rows : AreRows items test.threads 0 body_rows None test.cells rest
+  pub condition : IsCondition items test.threads rest named test.quantifier test.tree test.locations
   pub seen : test.seen ≡ seen_in test.tree []

@@ -1,5 +1,5 @@
-pub mod ThreadSteps
 pub mod Litmus
+pub mod ThreadSteps
 pub mod Seen
 pub mod TestViews
 pub mod ReadingTest

@@ -12,7 +12,7 @@ use Rattle.litmus_parser.specs.ReadingEnd.{condition_at}
 use Rattle.litmus_parser.specs.Reachable.{reach}
 use Rattle.litmus_parser.specs.declared.syntax.Item.{Item}
 use Rattle.litmus_parser.specs.declared.syntax.Cell.{Cell}
-use Rattle.litmus_reader.specs.Litmus.{Litmus}
+use Rattle.litmus_reader.specs.Litmus.{Litmus, settings_of}
 use Rattle.litmus_reader.specs.Seen.{seen_in}
 
 abbrev pub unless_absent : {A : Type 0} → Option ℕ → Result A LitmusError → Result A LitmusError
@@ -31,7 +31,7 @@ parts_at text = do
   b ← block_at [] o.1.0 (pieces_of o.1.1)
   t ← table_at b.0 b.2 b.3
   c ← condition_at b.0 t.0 b.1 t.2 t.3
-  Ok (record { name = o.0; locations = c.2; items = b.0; threads = t.0; cells = t.1; quantifier = c.0; tree = c.1; seen = seen_in c.1 [] })
+  Ok (record { name = o.0; locations = c.2; items = settings_of b.0; threads = t.0; cells = t.1; quantifier = c.0; tree = c.1; seen = seen_in c.1 [] })
 
 abbrev pub is_cut_short : Kind → Bool
 is_cut_short CutShort = true

@@ -4,7 +4,6 @@ use Rattle.litmus_parser.specs.declared.syntax.Name.{Name}
 use Rattle.litmus_parser.specs.declared.syntax.Name.TheVariants.{Register, Location}
 use Rattle.litmus_parser.specs.declared.syntax.Setting.{Setting}
 use Rattle.litmus_parser.specs.declared.syntax.Setting.TheVariants.{Number, Address}
-use Rattle.litmus_parser.specs.declared.syntax.Item.{Item}
 use Rattle.litmus_parser.specs.declared.syntax.Cell.{Cell}
 use Rattle.litmus_parser.specs.declared.syntax.Instruction.{Instruction}
 use Rattle.litmus_parser.specs.declared.syntax.Instruction.TheVariants as does
@@ -55,9 +54,9 @@ with_item thread (Location l) (Number value) registers = registers
 with_item thread (Location l) (Address m) registers = registers
 
 -- the registers as the items set them
-unfoldable pub opened : ℕ → List Item → List ℕ → List ℕ
+unfoldable pub opened : ℕ → List (Name × Setting) → List ℕ → List ℕ
 opened thread [] registers = registers
-opened thread (item ∷ items) registers = opened thread items (with_item thread item.name item.setting registers)
+opened thread (item ∷ items) registers = opened thread items (with_item thread item.0 item.1 registers)
 
 abbrev pub operation_of : Instruction → List ℕ → Option Op
 operation_of (does.Load target location) registers = Some (op.Load location)

@@ -1,6 +1,7 @@
 //! The threads of a litmus test, as a run drives them.
 
 ghost use Rattle.std.specs.Prelude.{◌≡◌, ℕ, List, Some, replicate};
+ghost use Rattle.litmus_reader.specs.Litmus.{settings_of};
 ghost use Rattle.litmus_reader.specs.ThreadSteps.{Thread, value_in, written, settled, opened, next_of, done_with, received_by};
 
 use litmus_parser::{Cell, Instruction, Item, Name, Setting};
@@ -65,7 +66,7 @@ fn settle<'a>(thread: u8, registers: &mut [u64; 32], cells: &'a [Cell]) -> &'a [
 /// The registers of a thread as the items set them; what isn't set is 0.
 #[tactic(auto, unfolding(crate::specs::ThreadSteps::opened))]
 fn open_registers(thread: u8, items: &[Item], registers: &mut [u64; 32])
-    ensures { registers.new ≡ opened thread items.now registers.old }
+    ensures { registers.new ≡ opened thread (settings_of items.now) registers.old }
 {
     let mut left = items;
     while let Some((item, rest)) = left.split_first() {
@@ -90,7 +91,7 @@ fn address(location: u8) -> Option<WordAddr>
 impl<'a> ThreadState<'a> {
     /// A thread as the test opens it.
     pub(crate) fn open(thread: u8, items: &[Item], cells: &'a [Cell]) -> ThreadState<'a>
-        ensures { result ≡ settled thread (opened thread items.now (replicate 32 0)) cells.now }
+        ensures { result ≡ settled thread (opened thread (settings_of items.now) (replicate 32 0)) cells.now }
     {
         let mut registers = [0; 32];
         open_registers(thread, items, &mut registers);

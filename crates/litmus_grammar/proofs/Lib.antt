@@ -1,0 +1,6 @@
+pub mod Pieces
+pub mod Lines
+pub mod Fronts
+pub mod Titles
+pub mod Places
+pub mod Repeats

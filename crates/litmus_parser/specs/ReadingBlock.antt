@@ -1,0 +1,55 @@
+-- Reading the initial block, with the first fault.
+use Rattle.std.specs.Prelude.{ℕ, ◌==◌, Bool, true, false, if◌then◌else◌, List, [], ◌∷◌, ◌++◌, Result, Ok}
+use Rattle.std.specs.List.{list_any}
+use Rattle.litmus_grammar.specs.Pieces.{Piece, Word, Sign, LineEnd}
+use Rattle.litmus_grammar.specs.declared.errors.Kind.TheVariants.{BadInitial, DoubleInitial, CutShort}
+use Rattle.litmus_grammar.specs.declared.errors.LitmusError.{LitmusError}
+use Rattle.litmus_grammar.specs.Reading.{◌>>=◌, fails, next_at, sign_at, expect_at, end_line_at, repeat_at}
+use Rattle.litmus_parser.specs.Names.{Names, same_name}
+use Rattle.litmus_parser.specs.ReadingItems.{item_at}
+use Rattle.litmus_parser.specs.declared.syntax.Item.{Item}
+
+-- the items so far, the locations so far, the line and the pieces that are left
+abbrev pub Block : Type 0
+Block = List Item × Names × ℕ × List Piece
+
+-- behind an item: whether a further one may follow
+unfoldable pub separated : ℕ → List Piece → Result (Bool × ℕ × List Piece) LitmusError
+separated line pieces = do
+  s ← sign_at BadInitial line pieces
+  if s.0 == 59 then Ok (true, s.1, s.2) else if s.0 == 125 then Ok (false, s.1, s.2) else fails BadInitial s.1
+
+-- an item behind the earlier ones, unless one of them sets the same name
+unfoldable pub added : List Item → Item → Result (List Item) LitmusError
+added items item = if list_any (λ other. same_name other.name item.name) items then fails DoubleInitial item.line else Ok (items ++ item ∷ [])
+
+unfoldable pub whole_item_at : List ℕ → Block → Result (Bool × Block) LitmusError
+whole_item_at first block = do
+  read ← item_at first block.1 block.2 block.3
+  items ← added block.0 read.0.0
+  more ← separated read.1 read.2
+  Ok (more.0, (items, read.0.1, more.1, more.2))
+
+abbrev pub entry_of : List Item → Names → Piece × ℕ × List Piece → Result (Bool × Block) LitmusError
+entry_of items names (Word first, line, pieces) = whole_item_at first (items, names, line, pieces)
+entry_of items names (Sign b, line, pieces) = if b == 125 then Ok (false, (items, names, line, pieces)) else fails BadInitial line
+entry_of items names (LineEnd, line, pieces) = fails BadInitial line
+
+-- an item and what parts it from the next one, or the closing brace
+unfoldable pub entry_at : Block → Result (Bool × Block) LitmusError
+entry_at block = next_at block.2 block.3 >>= entry_of block.0 block.1
+
+abbrev pub unended : Block → Result Block LitmusError
+unended block = fails CutShort block.2
+
+-- items up to the closing brace; a text has no more of them than bytes
+unfoldable pub items_at : Names → ℕ → List Piece → Result Block LitmusError
+items_at names line pieces = repeat_at 65536 entry_at unended ([], names, line, pieces)
+
+-- { items } and the line's end
+unfoldable pub block_at : Names → ℕ → List Piece → Result Block LitmusError
+block_at names line pieces = do
+  brace ← expect_at 123 BadInitial line pieces
+  b ← items_at names brace.0 brace.1
+  next ← end_line_at BadInitial b.2 b.3
+  Ok (b.0, b.1, next.0, next.1)

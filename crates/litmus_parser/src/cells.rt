@@ -1,0 +1,153 @@
+//! The rows of the table, cell by cell.
+
+ghost use Rattle.std.specs.Prelude.{◌≡◌, ◌<◌, ◌+◌, ◌++◌, [], ◌∷◌, Ok, true};
+ghost use Rattle.litmus_grammar.specs.Reading.{Gives};
+ghost use Rattle.litmus_grammar.specs.Pieces.{pieces_of};
+ghost use Rattle.litmus_parser.specs.ReadingRows.{ends_line, has_shape, instruction_at, cell_at, column_at, columns_at, row_at};
+
+use crate::forms::read_form;
+use crate::judging::judge;
+use crate::syntax::{Cell, Item, Width};
+use litmus_grammar::{Cursor, Kind, ReadError, Token, end_line, expect_here, next_token, passed};
+
+fn ends_line(text: &[u8]) -> bool
+    ensures { result ≡ ends_line (pieces_of text.now) }
+{
+    matches!(next_token(text), None | Some((Token::LineEnd, _)))
+}
+
+/// Whether a line has so many `|`, then a `;`, and nothing behind it.
+#[tactic(auto, unfolding(crate::specs::ReadingRows::has_shape))]
+fn has_shape(bars: u8, text: &[u8]) -> bool
+    ensures { result ≡ has_shape bars (pieces_of text.now) }
+{
+    let mut left = bars;
+    let mut rest = text;
+    while let Some((token, after)) = next_token(rest) {
+        match token {
+            Token::LineEnd => return false,
+            Token::Sign(b';') => return left == 0 && ends_line(after),
+            Token::Sign(b'|') => {
+                if left == 0 {
+                    return false;
+                }
+                left -= 1;
+            }
+            _ => {}
+        }
+        rest = after;
+    }
+    false
+}
+
+fn push_cell(cells: &mut Vec<Cell>, cell: Cell) -> Result<(), ReadError>
+    ensures { Gives (λ _. cells.new.items) result (Ok (cells.old.items ++ cell ∷ [])) }
+{
+    cells.push(cell)?;
+    Ok(())
+}
+
+/// An instruction and the sign that ends its cell.
+#[tactic(auto, unfolding(crate::specs::ReadingRows::instruction_at))]
+fn instruction<'a>(
+    items: &[Item],
+    cells: &mut Vec<Cell>,
+    thread: u8,
+    width: Option<Width>,
+    end: u8,
+    cursor: Cursor<'a>,
+) -> Result<(Option<Width>, Cursor<'a>), ReadError>
+    ensures { Gives (λ r. (cells.new.items, r.0, r.1.line, pieces_of r.1.rest.now)) result
+        (instruction_at items.now thread end (cells.old.items, width, cursor.entry.line, pieces_of cursor.entry.rest.now)) }
+{
+    let (form, after) = read_form(cursor)?;
+    let after = expect_here(after, end, Kind::BadInstruction)?;
+    let (instruction, width) = judge(items, thread, width, form, after)?;
+    push_cell(
+        cells,
+        Cell {
+            thread,
+            instruction,
+        },
+    )?;
+    Ok((width, after))
+}
+
+/// A blank cell or an instruction, and the sign that ends it.
+#[tactic(auto, unfolding(crate::specs::ReadingRows::cell_at))]
+fn cell<'a>(
+    items: &[Item],
+    cells: &mut Vec<Cell>,
+    thread: u8,
+    width: Option<Width>,
+    end: u8,
+    cursor: Cursor<'a>,
+) -> Result<(Option<Width>, Cursor<'a>), ReadError>
+    ensures { Gives (λ r. (cells.new.items, r.0, r.1.line, pieces_of r.1.rest.now)) result
+        (cell_at items.now thread end (cells.old.items, width, cursor.entry.line, pieces_of cursor.entry.rest.now)) }
+{
+    match passed(cursor, end) {
+        Some(after) => Ok((width, after)),
+        None => instruction(items, cells, thread, width, end, cursor),
+    }
+}
+
+/// The cell of a thread, with `|` behind it, or `;` for the last one.
+#[tactic(auto, unfolding(crate::specs::ReadingRows::column_at))]
+fn column<'a>(
+    items: &[Item],
+    cells: &mut Vec<Cell>,
+    threads: u8,
+    thread: u8,
+    width: Option<Width>,
+    cursor: Cursor<'a>,
+) -> Result<(Option<Width>, Cursor<'a>), ReadError>
+    requires { thread < threads }
+    ensures { Gives (λ r. (true, (thread + 1, cells.new.items, r.0, r.1.line, pieces_of r.1.rest.now))) result
+        (column_at items.now threads (thread, cells.old.items, width, cursor.entry.line, pieces_of cursor.entry.rest.now)) }
+{
+    let end = if thread + 1 == threads { b';' } else { b'|' };
+    let (width, after) = cell(items, cells, thread, width, end, cursor)?;
+    Ok((width, after))
+}
+
+/// The cells of all threads.
+fn columns<'a>(
+    items: &[Item],
+    cells: &mut Vec<Cell>,
+    threads: u8,
+    width: Option<Width>,
+    cursor: Cursor<'a>,
+) -> Result<(Option<Width>, Cursor<'a>), ReadError>
+    ensures { Gives (λ r. (threads, cells.new.items, r.0, r.1.line, pieces_of r.1.rest.now)) result
+        (columns_at items.now threads (0, cells.old.items, width, cursor.entry.line, pieces_of cursor.entry.rest.now)) }
+{
+    let mut width = width;
+    let mut at = cursor;
+    for thread in 0..threads {
+        let (kept, after) = column(items, cells, threads, thread, width, at)?;
+        width = kept;
+        at = after;
+    }
+    Ok((width, at))
+}
+
+/// A row: its shape is tested before its cells.
+#[tactic(auto, unfolding(crate::specs::ReadingRows::row_at))]
+pub fn row<'a>(
+    items: &[Item],
+    cells: &mut Vec<Cell>,
+    threads: u8,
+    width: Option<Width>,
+    cursor: Cursor<'a>,
+) -> Result<(Option<Width>, Cursor<'a>), ReadError>
+    ensures { Gives (λ r. (cells.new.items, r.0, r.1.line, pieces_of r.1.rest.now)) result
+        (row_at items.now threads (cells.old.items, width, cursor.entry.line, pieces_of cursor.entry.rest.now)) }
+{
+    if !has_shape(threads.saturating_sub(1), cursor.rest) {
+        return Err(cursor.fault(Kind::BadTable));
+    }
+    let (width, after) = columns(items, cells, threads, width, cursor)?;
+    let after = end_line(after, Kind::BadTable)?;
+    Ok((width, after))
+}

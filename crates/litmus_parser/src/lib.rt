@@ -1,0 +1,23 @@
+//! The parts of a litmus text: its first lines, the initial block, the table and the condition.
+#![tactic(auto)]
+
+mod atoms;
+mod blocks;
+mod cells;
+mod conditions;
+mod forms;
+mod headers;
+mod items;
+mod judging;
+mod parsing;
+mod reaching;
+mod syntax;
+mod table;
+
+pub use blocks::block;
+pub use conditions::condition;
+pub use headers::opening;
+pub use items::same_name;
+pub use reaching::reach;
+pub use syntax::{Cell, Expr, Instruction, Item, Name, Quantifier, Setting, Width};
+pub use table::{absent_line, header_row, rows};

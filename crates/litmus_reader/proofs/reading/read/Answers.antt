@@ -1,0 +1,9 @@
+use Rattle.litmus_reader.proofs.Found.{found-told}
+use Rattle.litmus_reader.proofs.Sizes.{threads-few}
+use Rattle.litmus_reader.proofs.reading.read.Goals as goal
+
+pub returns-clause-found : goal.returns-clause-found
+returns-clause-found c = found-told _ _ c.read_whole.ensures
+
+pub returns-clause-few : goal.returns-clause-few
+returns-clause-few c = threads-few _ _ (found-told _ _ c.read_whole.ensures)

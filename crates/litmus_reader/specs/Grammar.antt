@@ -1,0 +1,48 @@
+-- The grammar of litmus texts.
+use Rattle.std.specs.Prelude.{◌≡◌, ℕ, ◌<◌, ◌≤◌, true, List, [], length, None}
+use Rattle.std.specs.List.{list_all, AllByRecursion}
+use Rattle.litmus_grammar.specs.Pieces.{Piece, pieces_of}
+use Rattle.litmus_grammar.specs.FirstLines.{IsTitle, is_header_line, begins_block, before_line_feed, behind_line_feed}
+use Rattle.litmus_parser.specs.Names.{Names}
+use Rattle.litmus_parser.specs.Reachable.{is_allowed}
+use Rattle.litmus_parser.specs.GrammarBlock.{IsBlock}
+use Rattle.litmus_parser.specs.GrammarTable.{IsHeaderRow, AreRows}
+use Rattle.litmus_parser.specs.GrammarCondition.{IsCondition}
+use Rattle.litmus_parser.specs.declared.syntax.Name.{Name}
+use Rattle.litmus_parser.specs.declared.syntax.Name.TheVariants.{Register, Location}
+use Rattle.litmus_parser.specs.declared.syntax.Item.{Item}
+use Rattle.litmus_reader.specs.Litmus.{Litmus, settings_of}
+use Rattle.litmus_reader.specs.Seen.{seen_in}
+
+-- header lines, and then a body of which the first line begins with {
+pub data IsHeader : List ℕ → List ℕ → Type 0 where
+  ends : {text : List ℕ} → begins_block (before_line_feed text) ≡ true → IsHeader text text
+  more : {text body : List ℕ} → is_header_line (before_line_feed text) ≡ true → IsHeader (behind_line_feed text) body → IsHeader text body
+
+-- a register is one of a thread that is there
+abbrev pub IsThere : ℕ → Name → Type 0
+IsThere threads (Register t r) = t < threads
+IsThere threads (Location l) = Unit {0}
+
+-- A line with the name; header lines; then, in pieces, the initial block, the table and the condition.
+pub record IsTest (text : List ℕ) (test : Litmus) : Type 0 where
+  pub length_is : length text ≤ 65536
+  pub allowed : list_all is_allowed text ≡ true
+  pub title : IsTitle (before_line_feed text) test.name
+  pub body : List ℕ
+  pub header : IsHeader (behind_line_feed text) body
+  -- the items with their lines
+  pub items : List Item
+  pub items_are : test.items ≡ settings_of items
+  -- the locations that the initial block names, and the pieces behind it
+  pub named : Names
+  pub table : List Piece
+  pub block : IsBlock (pieces_of body) items named table
+  -- the pieces behind the header row, and behind the rows
+  pub body_rows : List Piece
+  pub rest : List Piece
+  pub header_row : IsHeaderRow table test.threads body_rows
+  pub threads_there : AllByRecursion (λ item. IsThere test.threads item.name) items
+  pub rows : AreRows items test.threads 0 body_rows None test.cells rest
+  pub condition : IsCondition items test.threads rest named test.quantifier test.tree test.locations
+  pub seen : test.seen ≡ seen_in test.tree []

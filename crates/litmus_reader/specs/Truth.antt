@@ -1,0 +1,28 @@
+-- End states, and the truth of an expression in them.
+use Rattle.std.specs.Prelude.{ℕ, ◌==◌, ◌&&◌, ◌||◌, Bool, if◌then◌else◌, List, [], ◌∷◌, Option, Some, None, slice_get}
+use Rattle.litmus_parser.specs.Names.{same_name}
+use Rattle.litmus_parser.specs.Trees.{Tree, Is, Both, Either}
+use Rattle.litmus_parser.specs.declared.syntax.Name.{Name}
+use Rattle.litmus_parser.specs.declared.syntax.Name.TheVariants.{Register, Location}
+use Rattle.litmus_reader.specs.ThreadSteps.{Thread, or_zero, value_in}
+
+abbrev pub register_in : Option Thread → ℕ → ℕ
+register_in (Some thread) register = value_in thread.registers register
+register_in None register = 0
+
+-- a register's value in its thread, or a location's in memory
+abbrev pub end_value : List Thread → List ℕ → Name → ℕ
+end_value threads memory (Register t r) = register_in (slice_get threads t) r
+end_value threads memory (Location l) = or_zero (slice_get memory l)
+
+-- the value that stands at a name's first place
+unfoldable pub value_of : List Name → List ℕ → Name → ℕ
+value_of [] values name = 0
+value_of (other ∷ names) [] name = 0
+value_of (other ∷ names) (value ∷ values) name = if same_name other name then value else value_of names values name
+
+-- the truth of an expression, where each name has a value
+abbrev pub holds : (Name → ℕ) → Tree → Bool
+holds value (Is name n) = value name == n
+holds value (Both a b) = holds value a && holds value b
+holds value (Either a b) = holds value a || holds value b

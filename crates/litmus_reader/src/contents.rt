@@ -1,0 +1,69 @@
+//! What the text of a litmus test says.
+
+ghost use Rattle.std.specs.Prelude.{◌≡◌, ◌≤◌, length, replicate};
+ghost use Rattle.litmus_reader.specs.TestViews.{test_of};
+ghost use Rattle.litmus_reader.specs.ThreadSteps.{settled, opened};
+
+use crate::threads::ThreadState;
+use litmus_grammar::Locations;
+use litmus_parser::{Cell, Expr, Item, Name, Quantifier};
+use std::alloc::Global;
+
+/// A litmus test.
+#[derive(Drop)]
+pub struct Test {
+    pub(crate) name: Vec<u8>,
+    pub(crate) locations: Locations,
+    pub(crate) items: Vec<Item>,
+    pub(crate) threads: u8,
+    pub(crate) cells: Vec<Cell>,
+    pub(crate) quantifier: Quantifier,
+    pub(crate) expr: Expr,
+    pub(crate) seen: Vec<Name>,
+    pub(crate) alloc: Global,
+}
+
+impl Test {
+    /// The name of the test: 1 to 128 letters, digits and `_ + . - [ ]`.
+    pub fn name(&self) -> &[u8]
+        ensures { result.now ≡ (test_of self.now).name }
+    {
+        &self.name
+    }
+
+    /// What the condition asks of the end states.
+    pub fn condition(&self) -> Quantifier
+        ensures { result ≡ (test_of self.now).quantifier }
+    {
+        self.quantifier
+    }
+
+    /// The names in the condition, each once, in the order in which they are first seen.
+    pub fn seen(&self) -> &[Name]
+        ensures { result.now ≡ (test_of self.now).seen }
+    {
+        &self.seen
+    }
+
+    /// How many threads there are, 1 to 16; they are numbered from 0.
+    pub fn threads(&self) -> usize
+        ensures { result ≡ (test_of self.now).threads }
+    {
+        usize::from(self.threads)
+    }
+
+    /// How many locations there are, at most 64; their words are numbered from 0.
+    pub fn locations(&self) -> usize
+        ensures count { result ≡ length (test_of self.now).locations }
+        ensures few { result ≤ 64 }
+    {
+        self.locations.len()
+    }
+
+    /// A thread as the test opens it; one that is not there has finished.
+    pub fn start(&self, thread: u8) -> ThreadState<'_>
+        ensures { result ≡ settled thread (opened thread (test_of self.now).items (replicate 32 0)) (test_of self.now).cells }
+    {
+        ThreadState::open(thread, &self.items, &self.cells)
+    }
+}

@@ -1,0 +1,17 @@
+//! Reads the text of a litmus test, and gives what a run of it needs.
+#![tactic(auto)]
+
+mod contents;
+mod ends;
+mod reading;
+mod threads;
+
+pub use contents::Test;
+pub use ends::EndState;
+pub use litmus_grammar::{Kind, LitmusError};
+pub use litmus_parser::{Name, Quantifier};
+pub use reading::read;
+pub use threads::ThreadState;
+
+#[cfg(test)]
+mod tests;

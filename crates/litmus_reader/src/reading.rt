@@ -1,0 +1,151 @@
+//! Reading a whole text.
+
+ghost use Rattle.std.specs.Prelude.{◌≡◌, ◌<◌, ◌≤◌, [], IfOk, OnOk, length};
+ghost use Rattle.std.specs.List.{list_any};
+ghost use Rattle.litmus_grammar.specs.Reading.{Gives};
+ghost use Rattle.litmus_parser.specs.Names.{same_name};
+ghost use Rattle.litmus_grammar.specs.Pieces.{pieces_of};
+ghost use Rattle.litmus_parser.specs.TreeViews.{tree_of};
+ghost use Rattle.litmus_reader.specs.TestViews.{test_of};
+ghost use Rattle.litmus_reader.specs.Seen.{seen_in, with_name};
+ghost use Rattle.litmus_reader.specs.ReadingTest.{table_at, parts_at, is_cut_short, read_at, Told};
+ghost use Rattle.litmus_reader.specs.Grammar.{IsTest};
+
+use crate::contents::Test;
+use litmus_grammar::{Cursor, Kind, LitmusError, Locations, MOST_BYTES, ReadError};
+use litmus_parser::{
+    Cell, Expr, Item, Name, absent_line, block, condition, header_row, opening, reach, rows,
+    same_name,
+};
+use std::alloc::{AllocError, Global};
+
+/// The table behind the initial block: how many threads there are, their instructions, and the
+/// place where the condition begins.
+#[tactic(auto, unfolding(crate::specs::ReadingTest::table_at))]
+fn table<'a>(
+    alloc: Global,
+    items: &[Item],
+    cursor: Cursor<'a>,
+) -> Result<(u8, Vec<Cell>, Cursor<'a>), ReadError>
+    ensures { Gives (λ r. (r.0, r.1.items, r.2.line, pieces_of r.2.rest.now)) result (table_at items.now cursor.entry.line (pieces_of cursor.entry.rest.now)) }
+{
+    let (threads, after) = header_row(cursor)?;
+    if let Some(line) = absent_line(items, threads) {
+        return Err(ReadError::Fault(LitmusError {
+            line,
+            kind: Kind::BadInitial,
+        }));
+    }
+    let (cells, after) = rows(alloc, items, threads, after)?;
+    Ok((threads, cells, after))
+}
+
+fn is_seen(seen: &[Name], name: Name) -> bool
+    ensures { result ≡ list_any (λ other. same_name other name) seen.now }
+{
+    seen.iter().any(|other| same_name(*other, name))
+}
+
+fn see_name(seen: &mut Vec<Name>, name: Name) -> Result<(), AllocError>
+    ensures { OnOk result (seen.new.items ≡ with_name seen.old.items name) }
+{
+    if is_seen(seen, name) {
+        return Ok(());
+    }
+    seen.push(name)?;
+    Ok(())
+}
+
+/// Adds the names of an expression, each once, in the order in which they are first seen.
+fn see(seen: &mut Vec<Name>, expr: &Expr) -> Result<(), AllocError>
+    ensures { OnOk result (seen.new.items ≡ seen_in (tree_of expr.now) seen.old.items) }
+{
+    match expr {
+        Expr::Is(name, _) => see_name(seen, *name),
+        Expr::And(a, b) | Expr::Or(a, b) => {
+            see(seen, a)?;
+            see(seen, b)
+        }
+    }
+}
+
+/// The parts of a text, one after the other.
+#[tactic(auto, unfolding(crate::specs::ReadingTest::parts_at))]
+fn parts(alloc: Global, text: &[u8]) -> Result<Test, ReadError>
+    requires { length text.now ≤ 65536 }
+    ensures { Gives test_of result (parts_at text.now) }
+{
+    let (name, body) = opening(text)?;
+    let mut locations = Locations::new(alloc);
+    let (items, after) = block(alloc, &mut locations, body)?;
+    let (threads, cells, after) = table(alloc, &items, after)?;
+    let (quantifier, expr) = condition(alloc, &items, threads, &mut locations, after)?;
+    let name = Vec::from_slice(alloc, name)?;
+    let mut seen = Vec::new(alloc);
+    see(&mut seen, &expr)?;
+    Ok(Test {
+        name,
+        locations,
+        items,
+        threads,
+        cells,
+        quantifier,
+        expr,
+        seen,
+        alloc,
+    })
+}
+
+fn is_cut_short(kind: Kind) -> bool
+    ensures { result ≡ is_cut_short kind }
+{
+    matches!(kind, Kind::CutShort)
+}
+
+#[tactic(auto, unfolding(crate::specs::ReadingTest::read_at))]
+fn read_whole(alloc: Global, text: &[u8]) -> Result<Test, LitmusError>
+    ensures { Told test_of result (read_at text.now) }
+{
+    if text.len() > MOST_BYTES {
+        return Err(LitmusError {
+            line: 1,
+            kind: Kind::TooLarge,
+        });
+    }
+    let (lines, end) = reach(text);
+    match parts(alloc, lines) {
+        Ok(test) => {
+            if is_cut_short(end.kind) {
+                Ok(test)
+            } else {
+                Err(end)
+            }
+        }
+        Err(ReadError::Memory) => Err(LitmusError {
+            line: 0,
+            kind: Kind::NoMemory,
+        }),
+        Err(ReadError::Fault(fault)) => {
+            if is_cut_short(fault.kind) {
+                Err(end)
+            } else {
+                Err(fault)
+            }
+        }
+    }
+}
+
+/// Reads the text of a litmus test, at most 65,536 bytes.
+///
+/// A text that is refused is answered by its first fault, front to back: the line, counted from
+/// 1, and the kind. Where a growth was refused the answer is `NoMemory` with line 0.
+pub fn read(alloc: Global, text: &[u8]) -> Result<Test, LitmusError>
+    // What is read is what the text says.
+    ensures found { IfOk result (λ test. IsTest text.now (test_of test)) }
+    // It has 1 to 16 threads.
+    ensures few { IfOk result (λ test. (0 < (test_of test).threads) × ((test_of test).threads ≤ 16)) }
+    // The test or the first fault, front to back, unless memory ran out.
+    ensures told { Told test_of result (read_at text.now) }
+{
+    read_whole(alloc, text)
+}

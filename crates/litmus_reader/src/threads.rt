@@ -1,0 +1,151 @@
+//! The threads of a litmus test, as a run drives them.
+
+ghost use Rattle.std.specs.Prelude.{◌≡◌, ℕ, List, Some, replicate};
+ghost use Rattle.litmus_reader.specs.Litmus.{settings_of};
+ghost use Rattle.litmus_reader.specs.ThreadSteps.{Thread, value_in, written, settled, opened, next_of, done_with, received_by};
+
+use litmus_parser::{Cell, Instruction, Item, Name, Setting};
+use physiological_order::{Op, WordAddr};
+use std::marker::Model;
+
+/// A thread of a test: its registers and the instructions that are left, of which the first is a
+/// memory instruction of its own.
+#[derive(Drop)]
+pub struct ThreadState<'a> {
+    thread: u8,
+    rest: &'a [Cell],
+    registers: [u64; 32],
+}
+
+impl<'a> Model for ThreadState<'a> {
+    ghost use Rattle.litmus_reader.specs.ThreadSteps.{Thread};
+
+    ghost Value = { Thread };
+
+    ghost view = { λ t. record { thread = t.thread; registers = t.registers; rest = t.rest.now } };
+}
+
+/// A register's value; x0 reads as 0.
+fn value_in(registers: &[u64; 32], register: u8) -> u64
+    ensures { result ≡ value_in registers.now register }
+{
+    match registers.get(usize::from(register)) {
+        Some(value) => *value,
+        None => 0,
+    }
+}
+
+/// Sets a register; writes to x0 are ignored.
+fn write(registers: &mut [u64; 32], register: u8, value: u64)
+    ensures { registers.new ≡ written registers.old register value }
+{
+    if register > 0 && register < 32 {
+        registers[usize::from(register)] = value;
+    }
+}
+
+/// Does a thread's instructions up to its next memory instruction: what is left from there on.
+#[tactic(auto, unfolding(crate::specs::ThreadSteps::settled))]
+fn settle<'a>(thread: u8, registers: &mut [u64; 32], cells: &'a [Cell]) -> &'a [Cell]
+    ensures { settled thread registers.old cells.now ≡ record { thread = thread; registers = registers.new; rest = result.now } }
+{
+    let mut rest = cells;
+    while let Some((cell, after)) = rest.split_first() {
+        if cell.thread == thread {
+            match cell.instruction {
+                Instruction::Set { target, value } => write(registers, target, u64::from(value)),
+                Instruction::Fence => {}
+                _ => return rest,
+            }
+        }
+        rest = after;
+    }
+    rest
+}
+
+/// The registers of a thread as the items set them; what isn't set is 0.
+#[tactic(auto, unfolding(crate::specs::ThreadSteps::opened))]
+fn open_registers(thread: u8, items: &[Item], registers: &mut [u64; 32])
+    ensures { registers.new ≡ opened thread (settings_of items.now) registers.old }
+{
+    let mut left = items;
+    while let Some((item, rest)) = left.split_first() {
+        if let Name::Register(owner, register) = item.name {
+            if let Setting::Number(value) = item.setting {
+                if owner == thread {
+                    write(registers, register, u64::from(value));
+                }
+            }
+        }
+        left = rest;
+    }
+}
+
+/// The address of a location's word.
+fn address(location: u8) -> Option<WordAddr>
+    ensures { result ≡ Some location }
+{
+    WordAddr::new(8 * u64::from(location))
+}
+
+impl<'a> ThreadState<'a> {
+    /// A thread as the test opens it.
+    pub(crate) fn open(thread: u8, items: &[Item], cells: &'a [Cell]) -> ThreadState<'a>
+        ensures { result ≡ settled thread (opened thread (settings_of items.now) (replicate 32 0)) cells.now }
+    {
+        let mut registers = [0; 32];
+        open_registers(thread, items, &mut registers);
+        let rest = settle(thread, &mut registers, cells);
+        ThreadState {
+            thread,
+            rest,
+            registers,
+        }
+    }
+
+    /// The thread's next operation, the same until `done`; `None` where it has finished.
+    pub fn next(&self) -> Option<Op>
+        ensures { result ≡ next_of self.now }
+    {
+        let cell = self.rest.first()?;
+        match cell.instruction {
+            Instruction::Load { location, .. } => Some(Op::Load(address(location)?)),
+            Instruction::Store { source, location } => Some(Op::Store(
+                address(location)?,
+                value_in(&self.registers, source),
+            )),
+            Instruction::Swap {
+                source,
+                location,
+                ..
+            } => Some(Op::Swap(address(location)?, value_in(&self.registers, source))),
+            _ => None,
+        }
+    }
+
+    /// Takes the next operation as done, with the value that it received; a thread that has
+    /// finished stays as it is.
+    pub fn done(&mut self, received: Option<u64>)
+        ensures { self.new ≡ done_with self.old received }
+    {
+        let Some((cell, rest)) = self.rest.split_first() else {
+            return;
+        };
+        if let Some(value) = received {
+            match cell.instruction {
+                Instruction::Load { target, .. } | Instruction::Swap { target, .. } => {
+                    write(&mut self.registers, target, value);
+                }
+                _ => {}
+            }
+        }
+        self.rest = settle(self.thread, &mut self.registers, rest);
+    }
+
+    /// A register's value.
+    pub fn register(&self, register: u8) -> u64
+        ensures { result ≡ value_in self.now.registers register }
+    {
+        value_in(&self.registers, register)
+    }
+}

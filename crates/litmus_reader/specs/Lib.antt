@@ -5,3 +5,4 @@ pub mod TestViews
 pub mod ReadingTest
 pub mod Grammar
 pub mod Truth
+pub mod OpeningMemory

@@ -3,6 +3,7 @@
 
 mod contents;
 mod ends;
+mod opening;
 mod reading;
 mod threads;
 

@@ -341,6 +341,8 @@ fn swaps_and_registers(rt: HostRuntime) -> Result<(), Fail> {
     let test = one_thread(&rt, rt.alloc(), text).ok_or("it is read")?;
     let x = word(0).ok_or("the first word")?;
     let mut thread = test.start(0);
+    let opening = test.opening()?;
+    assert_eq!(rt; opening.get(x), 9);
     assert_eq!(rt; thread.next(), Some(Op::Swap(x, 4)));
     thread.done(Some(9));
     assert_eq!(rt; thread.register(7), 9);

@@ -82,10 +82,10 @@ fn open_registers(thread: u8, items: &[Item], registers: &mut [u64; 32])
 }
 
 /// The address of a location's word.
-fn address(location: u8) -> Option<WordAddr>
-    ensures { result ≡ Some location }
+pub(crate) fn address(location: u8) -> WordAddr
+    ensures { result ≡ location }
 {
-    WordAddr::new(8 * u64::from(location))
+    WordAddr::at(u64::from(location))
 }
 
 impl<'a> ThreadState<'a> {
@@ -109,16 +109,16 @@ impl<'a> ThreadState<'a> {
     {
         let cell = self.rest.first()?;
         match cell.instruction {
-            Instruction::Load { location, .. } => Some(Op::Load(address(location)?)),
+            Instruction::Load { location, .. } => Some(Op::Load(address(location))),
             Instruction::Store { source, location } => Some(Op::Store(
-                address(location)?,
+                address(location),
                 value_in(&self.registers, source),
             )),
             Instruction::Swap {
                 source,
                 location,
                 ..
-            } => Some(Op::Swap(address(location)?, value_in(&self.registers, source))),
+            } => Some(Op::Swap(address(location), value_in(&self.registers, source))),
             _ => None,
         }
     }

@@ -1,0 +1,23 @@
+-- The memory that a test opens.
+use Rattle.std.specs.Prelude.{ℕ, List, [], ◌∷◌}
+use Rattle.std.specs.FinMap as finite
+use Rattle.std.specs.Ordering.{nat_cmp}
+use Rattle.litmus_parser.specs.declared.syntax.Name.{Name}
+use Rattle.litmus_parser.specs.declared.syntax.Name.TheVariants.{Register, Location}
+use Rattle.litmus_parser.specs.declared.syntax.Setting.{Setting}
+use Rattle.litmus_parser.specs.declared.syntax.Setting.TheVariants.{Number, Address}
+
+abbrev pub Words : Type 0
+Words = finite.FinMap nat_cmp ℕ
+
+-- an item that sets a location sets its word
+abbrev pub with_word : Name → Setting → Words → Words
+with_word (Location l) (Number value) words = finite.insert words l value
+with_word (Location l) (Address m) words = words
+with_word (Register t r) (Number value) words = words
+with_word (Register t r) (Address l) words = words
+
+-- the words that the items set
+unfoldable pub words_opened : List (Name × Setting) → Words → Words
+words_opened [] words = words
+words_opened (item ∷ items) words = words_opened items (with_word item.0 item.1 words)

@@ -1,0 +1,41 @@
+//! The memory that a test opens.
+
+ghost use Rattle.std.specs.Prelude.{◌≡◌, IfOk, OnOk};
+ghost use Rattle.std.specs.FinMap as finite;
+ghost use Rattle.litmus_reader.specs.TestViews.{test_of};
+ghost use Rattle.litmus_reader.specs.OpeningMemory.{with_word, words_opened};
+
+use crate::contents::Test;
+use crate::threads::address;
+use litmus_parser::{Item, Name, Setting};
+use physiological_order::Memory;
+use std::alloc::AllocError;
+
+/// Sets the word of an item that sets a location.
+fn set_word(memory: &mut Memory, item: Item) -> Result<(), AllocError>
+    ensures { OnOk result (memory.new ≡ with_word item.name item.setting memory.old) }
+{
+    match (item.name, item.setting) {
+        (Name::Location(location), Setting::Number(value)) => {
+            memory.set(address(location), u64::from(value))
+        }
+        _ => Ok(()),
+    }
+}
+
+impl Test {
+    /// The memory as the test opens it: the words that the initial block sets; every other word
+    /// is 0.
+    #[tactic(auto, unfolding(crate::specs::OpeningMemory::words_opened))]
+    pub fn opening(&self) -> Result<Memory, AllocError>
+        ensures { IfOk result (λ memory. memory ≡ words_opened (test_of self.now).items finite.empty) }
+    {
+        let mut memory = Memory::new(self.alloc);
+        let mut left = self.items.as_slice();
+        while let Some((item, rest)) = left.split_first() {
+            set_word(&mut memory, *item)?;
+            left = rest;
+        }
+        Ok(memory)
+    }
+}

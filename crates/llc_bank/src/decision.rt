@@ -153,11 +153,9 @@ fn exclusive_request(room: bool, core: u32, version: Option<u64>, entry: Option<
 fn given_back(line: TimedLine, entry: Option<Entry>) -> Decision
     ensures { result ≡ given_back line entry }
 {
+    let returned = Entry::Shared { dirty: true, line };
     match entry {
-        Some(Entry::Exclusive { .. } | Entry::Recalling { .. }) => Decision::Becomes(Entry::Shared {
-            dirty: true,
-            line,
-        }),
+        Some(Entry::Exclusive { .. } | Entry::Recalling { .. }) => Decision::Becomes(returned),
         _ => Decision::NoCase,
     }
 }

@@ -5,6 +5,10 @@ ghost use Rattle.llc_bank.specs.BankTable.{bank_has_case, comes_to_bank};
 use crate::bank::Bank;
 use crate::config::BankConfig;
 use crate::entry::{Entry, Evict, EvictError};
+use crate::laws::{
+    evictions_raise_time, fills_at_memory_time, grants_unowned_lines, loads_absent_lines,
+    readers_are_leased, words_go_to_other_versions,
+};
 use network::{Body, LineNo, Message, Node, Part, PartError, Reaction, TimedLine, Words};
 use std::alloc::{AllocError, Global};
 use std::test::Fail;
@@ -405,4 +409,16 @@ fn sums_at_the_last_time(rt: HostRuntime) -> Result<(), Fail> {
     ];
     assert_eq!(rt; first_wrong(&mut bank, &steps), None);
     Ok(())
+}
+
+#[test]
+fn laws(rt: HostRuntime) {
+    grants_unowned_lines();
+    loads_absent_lines();
+    evictions_raise_time();
+    fills_at_memory_time();
+    readers_are_leased();
+    words_go_to_other_versions();
+    assert!(rt; !Entry::Storing.is_settled());
+    assert!(rt; !Entry::Loading.is_shared());
 }

@@ -1,5 +1,5 @@
 -- How many threads a test has.
-use Rattle.std.proofs.Common.{◌≡◌, ℕ, ◌+◌, ◌<◌, ◌≤◌, List, Result, Ok, Err, arith}
+use Rattle.std.proofs.Common.{ℕ, ◌<◌, ◌≤◌, List, Result, Ok, Err, arith}
 use Rattle.std.specs.Prelude.{IfOk}
 use Rattle.litmus_grammar.specs.Pieces.{Piece}
 use Rattle.litmus_grammar.specs.declared.errors.LitmusError.{LitmusError}

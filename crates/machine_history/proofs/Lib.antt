@@ -1,0 +1,9 @@
+pub mod Lookups
+pub mod Turns
+pub mod OnCopies
+pub mod OnEntries
+pub mod CoreEvents
+pub mod Deliveries
+pub mod DramWords
+pub mod BankEvents
+pub mod Events

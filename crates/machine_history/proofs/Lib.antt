@@ -7,3 +7,4 @@ pub mod Deliveries
 pub mod DramWords
 pub mod BankEvents
 pub mod Events
+pub mod SetUps

@@ -3,9 +3,11 @@ ghost use Rattle.std.specs.Prelude.{◌≡◌, ℕ};
 ghost use Rattle.machine_table.specs.declared.event.Event.{Event};
 ghost use Rattle.machine_table.specs.Machine.{Machine};
 ghost use Rattle.machine_table.specs.Transition.{transition};
-ghost use Rattle.machine_history.specs.Steps.{Stands};
+ghost use Rattle.machine_history.specs.Steps.{SetUpAs, Stands};
 
-/// What an event makes of a machine that stands, stands.
+/// A machine stands where its parts have their shape and it is, seen line by line, one that the protocol by lines
+/// reaches. What any event makes of such a machine stands as well, and no event changes how it was set up.
 pub fn events_are_turns()
-    ensures { (m : Machine) (event : Event) → Stands m → Stands (transition m event).1 }
+    ensures stands { (m : Machine) (event : Event) → Stands m → Stands (transition m event).1 }
+    ensures set_up { (m : Machine) (event : Event) → SetUpAs m (transition m event).1 }
 {}

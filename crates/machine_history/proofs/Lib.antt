@@ -8,3 +8,5 @@ pub mod DramWords
 pub mod BankEvents
 pub mod Events
 pub mod SetUps
+pub mod DramOpening
+pub mod Openings

@@ -1,5 +1,10 @@
 //! What every event and every list of events keeps.
-ghost use Rattle.std.specs.Prelude.{◌≡◌, ℕ};
+ghost use Rattle.std.specs.Prelude.{◌≡◌, ℕ, true};
+ghost use Rattle.std.specs.Ordering.{nat_cmp};
+ghost use Rattle.std.specs.FinMap.{FinMap};
+ghost use Rattle.machine_table.specs.declared.config.Config.{Config};
+ghost use Rattle.machine_table.specs.SetUp.{is_good};
+ghost use Rattle.machine_table.specs.Opening.{at_start};
 ghost use Rattle.machine_table.specs.declared.event.Event.{Event};
 ghost use Rattle.machine_table.specs.Machine.{Machine};
 ghost use Rattle.machine_table.specs.Transition.{transition};
@@ -10,4 +15,9 @@ ghost use Rattle.machine_history.specs.Steps.{SetUpAs, Stands};
 pub fn events_are_turns()
     ensures stands { (m : Machine) (event : Event) → Stands m → Stands (transition m event).1 }
     ensures set_up { (m : Machine) (event : Event) → SetUpAs m (transition m event).1 }
+{}
+
+/// A machine that is well set up stands as it opens, whatever the opening memory.
+pub fn openings_stand()
+    ensures { (config : Config) (opening : FinMap nat_cmp ℕ) → is_good config ≡ true → Stands (at_start config opening) }
 {}

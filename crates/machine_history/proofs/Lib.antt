@@ -10,3 +10,5 @@ pub mod Events
 pub mod SetUps
 pub mod DramOpening
 pub mod Openings
+pub mod Standings
+pub mod History

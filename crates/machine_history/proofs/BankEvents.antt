@@ -1,5 +1,5 @@
 -- What a bank's and a DRAM's events make of a machine that stands, stands.
-use Rattle.std.proofs.Common.{◌≡◌, ◌≢◌, ℕ, ◌+◌, ◌%◌, ◌/◌, ◌<◌, max, Bool, true, false, ◌&&◌, cond, List, [], ◌∷◌, ◌++◌, length, set, Option, Some, None, refl, sym, ap, ◌∙◌, subst, ⊎_elim}
+use Rattle.std.proofs.Common.{◌≡◌, ◌≢◌, ℕ, ◌%◌, ◌/◌, ◌<◌, max, Bool, true, false, cond, List, [], ◌∷◌, ◌++◌, length, set, Option, Some, None, refl, sym, ap, ◌∙◌, subst, ⊎_elim}
 use Rattle.std.specs.Ordering.{nat_cmp}
 use Rattle.std.specs.FinMap.{FinMap, insert}
 use Rattle.std.specs.List.{slice_get, AllByRecursion as Each}
@@ -36,7 +36,6 @@ use Rattle.machine_history.proofs.OnCopies.{right_of}
 use Rattle.machine_history.proofs.OnEntries.{bank_goes}
 use Rattle.machine_history.proofs.DramWords.{words-insert_same, words-insert_other}
 use Rattle.machine_history.proofs.CoreEvents.{either}
-use Rattle.machine_history.proofs.Deliveries.{left_of}
 
 -- the bank of a line
 module _ (m : Machine) (s : Stands m) (l : ℕ) (bank : BankState) (at : slice_get m.banks (l % m.config.banks) ≡ Some bank) where

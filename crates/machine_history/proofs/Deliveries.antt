@@ -1,18 +1,14 @@
 -- What a delivery makes of a machine that stands, stands.
-use Rattle.std.proofs.Common.{◌≡◌, ◌≢◌, ℕ, ◌+◌, ◌%◌, ◌/◌, ◌<◌, Bool, true, false, ◌&&◌, cond, eqb, List, [], ◌∷◌, ◌++◌, length, set, get_or, Option, Some, None, refl, sym, ap, ◌∙◌, subst, arith, ⊎_elim}
-use Rattle.std.specs.Ordering.{nat_cmp}
-use Rattle.std.specs.FinMap.{FinMap, insert, get-insert}
-use Rattle.std.specs.Cmp.{nat_cmp_total}
+use Rattle.std.proofs.Common.{◌≡◌, ◌≢◌, ℕ, ◌%◌, ◌<◌, Bool, true, false, ◌&&◌, cond, List, [], ◌∷◌, ◌++◌, length, set, Option, Some, None, refl, sym, ap, ◌∙◌, subst}
 use Rattle.std.specs.List.{slice_get, AllByRecursion as Each}
 use Rattle.std.specs.List.Sorted.{IsPermutation}
 use Rattle.std.proofs.lemmas.List.Sorted.{IsPermutation-refl}
-use Rattle.std.proofs.lemmas.Bool.{cases_eq, cases_Bool, eqb-true}
+use Rattle.std.proofs.lemmas.Bool.{eqb-true}
 use Rattle.network.specs.declared.message.Node.{Node}
 use Rattle.network.specs.declared.message.Node.TheVariants as node
 use Rattle.network.specs.declared.message.Body.{Body}
 use Rattle.network.specs.declared.message.Body.TheVariants as body
 use Rattle.network.specs.declared.message.Message.{Message}
-use Rattle.network.specs.declared.part.Reaction.{Reaction}
 use Rattle.network.specs.Numbered.{at_number, without_number}
 use Rattle.private_cache.specs.declared.line_copy.LineCopy.{LineCopy}
 use Rattle.private_cache.specs.CopyTable.{copy_of, with_used, with_changed}

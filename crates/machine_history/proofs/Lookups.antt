@@ -5,7 +5,7 @@ use Rattle.std.specs.List.{slice_get, AllByRecursion as Each}
 use Rattle.std.specs.List.Sorted.{IsPermutation}
 use Rattle.std.proofs.Math.Nat.{mod-lt}
 use Rattle.std.proofs.lemmas.List.Sorted.{IsPermutation-refl, IsPermutation-sym, IsPermutation-cons, IsPermutation-trans, IsPermutation-swap, IsPermutation-to_front}
-use Rattle.std.proofs.lemmas.Bool.{cases_eq, cases_Bool, ne_eqb, eq-eqb, eqb-true, cond-true, cond-false}
+use Rattle.std.proofs.lemmas.Bool.{cases_eq, cases_Bool, ne_eqb, eq-eqb, cond-true, cond-false}
 use Rattle.network.specs.declared.message.Message.{Message}
 use Rattle.network.specs.Numbered.{at_number, without_number}
 use Rattle.line_sets.specs.SetTable.{look, put, put_within, drop_line}

@@ -1,21 +1,20 @@
 -- What a core's table does with one line: operations use copies as the protocol by lines says, and what is done at a
 -- message is a reply to the core or a move of the line.
-use Rattle.std.proofs.Common.{◌≡◌, ◌≢◌, ℕ, ◌+◌, ◌%◌, ◌/◌, ◌<◌, ◌≤◌, max, Bool, true, false, ◌||◌, ◌&&◌, cond, leb, List, ◌∷◌, ◌++◌, [], length, Option, Some, None, refl, sym, ap, ◌∙◌, subst, arith}
+use Rattle.std.proofs.Common.{◌≡◌, ℕ, ◌+◌, ◌%◌, ◌<◌, max, Bool, true, false, ◌||◌, ◌&&◌, cond, leb, List, ◌∷◌, Option, Some, None, refl, sym, ◌∙◌, subst, arith}
 use Rattle.std.specs.List.Sorted.{IsPermutation}
 use Rattle.std.proofs.lemmas.Bool.{leb-true, leb-false}
 use Rattle.physiological_order.specs.declared.operation.Op.{Op}
 use Rattle.physiological_order.specs.declared.operation.Op.TheVariants.{Load, Store, Swap}
-use Rattle.physiological_order.specs.Order.{address, of_core}
+use Rattle.physiological_order.specs.Order.{address}
 use Rattle.network.specs.declared.message.Body.{Body}
 use Rattle.network.specs.declared.message.Body.TheVariants as body
 use Rattle.private_cache.specs.declared.line_copy.LineCopy.{LineCopy}
-use Rattle.private_cache.specs.CopyTable.{copy_of, renewed, upgraded, downgraded}
+use Rattle.private_cache.specs.CopyTable.{copy_of, renewed, upgraded}
 use Rattle.timestamp_manager.specs.Lease.{fits, returned_lease}
 use Rattle.core_pts.specs.CoreTable.{CoreState, comes_to_core, waits_for, is_shared_copy}
 use Rattle.core_pts.specs.OnCopy as on_copy
 use Rattle.core_pts.specs.OnCopy.{is_exclusive, serves, time_of, received_at, copy_after, words_of_copy, at_core, CoreReaction, Arrives, Grants, Returns, Drops, Holds, TooLate, NoCase}
-use Rattle.line_machine.specs.Machine as by_line
-use Rattle.line_machine.specs.Machine.{Config, Copy, Message, ShRep, ExRep, RenewRep, UpgradeRep, FlushReq, WbReq, FlushRep, WbRep, Line, line_of, with_at, CannotUse, Moves, dropped, wb_dropped, flushed, written_back, Answers, shared, exclusive, renews, upgrades, Uses, load_hit, load_own, store_own, swap_own, Turn, complete}
+use Rattle.line_machine.specs.Machine.{Config, Message, RenewRep, UpgradeRep, FlushReq, WbReq, Line, with_at, CannotUse, Moves, dropped, wb_dropped, flushed, written_back, Answers, shared, exclusive, renews, upgrades, Uses, load_hit, load_own, store_own, swap_own}
 use Rattle.line_machine.proofs.Cores.{Some_injective}
 use Rattle.machine_history.specs.View.{copy_seen, copy_or_none, body_seen}
 

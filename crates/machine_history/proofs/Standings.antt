@@ -1,5 +1,5 @@
 -- Rights and standing values of the data are those of the machine by lines.
-use Rattle.std.proofs.Common.{◌≡◌, ◌≢◌, ℕ, zero, suc, ◌+◌, ◌%◌, ◌/◌, ◌≤◌, Bool, true, false, ◌&&◌, cond, eqb, List, [], ◌∷◌, length, Option, Some, None, refl, sym, ap, ap₂, ◌∙◌, subst, arith, ⊎_elim}
+use Rattle.std.proofs.Common.{◌≡◌, ℕ, zero, suc, ◌+◌, ◌%◌, ◌≤◌, Bool, true, false, ◌&&◌, cond, eqb, List, [], ◌∷◌, length, Option, Some, None, refl, sym, ap, ap₂, ◌∙◌, arith}
 use Rattle.std.specs.List.{slice_get}
 use Rattle.std.proofs.lemmas.Option.{slice_get_past}
 use Rattle.network.specs.declared.message.Body.{Body}
@@ -17,7 +17,7 @@ use Rattle.llc_bank.specs.BankTable.{BankState, core_of, entry_of}
 use Rattle.machine_table.specs.Machine.{Machine}
 use Rattle.line_machine.specs.Machine as by_line
 use Rattle.line_machine.specs.Machine.{Copy, owns, owned_below, owners, rights_in, owner_or}
-use Rattle.machine_history.specs.View.{copy_or_none, copy_in, entry_seen, entry_in, body_seen, messages_of, words_in, line_in}
+use Rattle.machine_history.specs.View.{copy_or_none, copy_in, entry_seen, entry_in, body_seen, messages_of, line_in}
 use Rattle.machine_history.specs.Standing.{right_in, exclusive_copies, rights, or_other, or_else, owned_words, copy_words, owner_words, cached_words, words_with, granted_words, shared_words, bank_words, words_to_store, stored_words, standing_words}
 
 -- rights of cores

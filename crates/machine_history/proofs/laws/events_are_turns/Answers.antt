@@ -1,6 +1,6 @@
 use Rattle.machine_history.proofs.laws.events_are_turns.Goals as goal
 use Rattle.machine_history.proofs.Events.{any_transition}
-use Rattle.machine_history.proofs.SetUps.{transition_same, after_all_same}
+use Rattle.machine_history.proofs.SetUps.{transition_same}
 
 pub returns-clause-stands : goal.returns-clause-stands
 returns-clause-stands c = λ m event stands. any_transition m stands event

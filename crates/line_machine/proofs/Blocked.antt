@@ -93,5 +93,5 @@ turn_blocked f m n (move l t y mv) k =
     }
 
 pub reached_blocked : (f : Config) (m : Machine) → Reached f m → BlockedOk f m
-reached_blocked f m (at_first pts mts at) = record { idle = λ c e. refl; blocked = λ c op e q. absurd (cc) }
+reached_blocked f m (at_first pts mts drams at opens) = record { idle = λ c e. refl; blocked = λ c op e q. absurd (cc) }
 reached_blocked f m (goes_on {m = before} r turn) = turn_blocked f before m turn (reached_blocked f before r)

@@ -91,7 +91,7 @@ module _ (f : Config) (h g : ℕ → Memory) (l : ℕ) (records : List Record) (
   Standing-write s a v good on up at other here k =
       record {
         order = le_refl _;
-        long = length-set s.words (a % f.line_words) v ∙ k.long;
+        long = (let n = length-set s.words (a % f.line_words) v in let le = k.long in omega arith);
         value = λ u b on_b from. ⊎_elim
             (λ (e : b ≡ a). ap (g u) e ∙ here u from ∙ sym (ap (λ (i : ℕ). get_or (set s.words (a % f.line_words) v) (i % f.line_words) 0) e
             ∙ get_or-set_same s.words (a % f.line_words) v 0 (let lt = mod-lt a good in let n = k.long in omega arith)))

@@ -11,7 +11,7 @@ use Rattle.physiological_order.specs.declared.operation.Record.{Record}
 use Rattle.physiological_order.specs.Order.{Memory, address, of_core, Legal}
 use Rattle.physiological_order.proofs.Arranged.{each_push, Sorted-from_Ascends}
 use Rattle.physiological_order.proofs.Kept.{Kept-none, Kept-issue, Kept-push, Legal-from_Kept}
-use Rattle.line_machine.specs.Machine.{Config, Timed, Copy, Entry, Absent, Loading, Shared, Exclusive, Recalling, Storing, Line, Core, Machine, line_of, with_at, waits, words_from, opened, IsPinned, Moves, evict_clean, evict_dirty, Answers, shared, exclusive, renews, upgrades, Asks, Uses, Turn, issue, advance, ask, answer, complete, move, Reached, at_first, goes_on}
+use Rattle.line_machine.specs.Machine.{Config, Timed, Copy, Entry, Absent, Loading, Shared, Exclusive, Recalling, Storing, Line, Core, Machine, line_of, with_at, word_at, waits, OpensWith, opened, IsPinned, Moves, evict_clean, evict_dirty, Answers, shared, exclusive, renews, upgrades, Asks, Uses, Turn, issue, advance, ask, answer, complete, move, Reached, at_first, goes_on}
 use Rattle.line_machine.proofs.Bags.{tally-taken, each_map}
 use Rattle.line_machine.proofs.Lines.{Holder, Bank, about, about_itself, EntryOk, with_at_same, with_at_other, with_at_cases}
 use Rattle.line_machine.proofs.Moved.{Goes, moves_keep}
@@ -109,46 +109,35 @@ moves_rise lease pinned t u x y (evict_dirty line is) = omega arith
 moves_rise lease pinned t u x y _ = omega arith
 
 -- the opening
-words_length : (memory : Memory) (a n : ℕ) → length (words_from memory a n) ≡ n
-words_length memory a zero = refl
-words_length memory a (suc n) = ap suc (words_length memory (a + 1) n)
+opened_line : (f : Config) (pts mts : ℕ → ℕ) (drams : ℕ → List ℕ) → OpensWith f drams → (l : ℕ) → Goes f (values f []) l [] (busy f (opened pts mts drams).cores l) f.opening_time ((opened pts mts drams).lines l)
+opened_line f pts mts drams opens l = (
+  record { wts = f.opening_time; rts = f.opening_time; words = drams l },
+  Bank,
+  record {
+    standing = record {
+      order = le_refl _;
+      long = opens.long l;
+      value = λ t a on from. sym (opens.same a) ∙ ap (λ (k : ℕ). word_at f (drams k) a) on;
+      past = tt;
+    };
+    top = f.opening_time;
+    within = le_refl _;
+    copies = λ c cp e. absurd (cc);
+    held = λ c at. absurd (cc);
+    messages = tt;
+    rights = refl;
+    loads = refl;
+    stores = refl;
+    asks = λ c. refl;
+    entry = (refl, le_refl _, refl);
+  },
+)
 
-words_get : (memory : Memory) (a n i : ℕ) → i < n → get_or (words_from memory a n) i 0 ≡ memory (a + i)
-words_get memory a zero i h = absurd (omega arith)
-words_get memory a (suc n) zero h = ap memory (omega arith)
-words_get memory a (suc n) (suc i) h = words_get memory (a + 1) n i (omega arith) ∙ ap memory (omega arith)
-
-opened_line : (f : Config) (pts mts : ℕ → ℕ) → 0 < f.line_words → (l : ℕ) → Goes f (values f []) l [] (busy f (opened f pts mts).cores l) f.opening_time ((opened f pts mts).lines l)
-opened_line f pts mts good l =
-    let words = words_from f.opening (l * f.line_words) f.line_words in (
-      record { wts = f.opening_time; rts = f.opening_time; words = words },
-      Bank,
-      record {
-        standing = record {
-          order = le_refl _;
-          long = words_length f.opening (l * f.line_words) f.line_words;
-          value = λ t a on from. sym (words_get f.opening (l * f.line_words) f.line_words (a % f.line_words) (mod-lt a good)
-              ∙ ap f.opening (ap (λ (n : ℕ). n * f.line_words + a % f.line_words) (sym on) ∙ div-add-mod' a f.line_words));
-          past = tt;
-        };
-        top = f.opening_time;
-        within = le_refl _;
-        copies = λ c cp e. absurd (cc);
-        held = λ c at. absurd (cc);
-        messages = tt;
-        rights = refl;
-        loads = refl;
-        stores = refl;
-        asks = λ c. refl;
-        entry = (refl, le_refl _, refl);
-      },
-    )
-
-opened_ok : (f : Config) (pts mts : ℕ → ℕ) → ((l : ℕ) → mts (l % f.banks) ≡ f.opening_time) → 0 < f.line_words → MachineOk f (opened f pts mts)
-opened_ok f pts mts at good =
+opened_ok : (f : Config) (pts mts : ℕ → ℕ) (drams : ℕ → List ℕ) → ((l : ℕ) → mts (l % f.banks) ≡ f.opening_time) → OpensWith f drams → MachineOk f (opened pts mts drams)
+opened_ok f pts mts drams at opens =
     record {
-      kept = Kept-none f.opening (opened f pts mts).issued;
-      lines = λ l. subst (λ (u : ℕ). Goes f (values f []) l [] (busy f (opened f pts mts).cores l) u ((opened f pts mts).lines l)) (sym (at l)) (opened_line f pts mts good l);
+      kept = Kept-none f.opening (opened pts mts drams).issued;
+      lines = λ l. subst (λ (u : ℕ). Goes f (values f []) l [] (busy f (opened pts mts drams).cores l) u ((opened pts mts drams).lines l)) (sym (at l)) (opened_line f pts mts drams opens l);
       cores = λ c. record { pts = tt; opened = refl; idle = λ e. refl };
     }
 
@@ -306,7 +295,7 @@ turn_ok f good m n (complete c op copy new received ts opens quiet is used) k = 
 turn_ok f good m n (move l t y mv) k = move_ok f m l t y mv k
 
 pub reached_ok : (f : Config) → 0 < f.line_words → (m : Machine) → Reached f m → MachineOk f m
-reached_ok f good m (at_first pts mts at) = opened_ok f pts mts at good
+reached_ok f good m (at_first pts mts drams at opens) = opened_ok f pts mts drams at opens
 reached_ok f good m (goes_on {m = before} r turn) = turn_ok f good before m turn (reached_ok f good before r)
 
 -- THE HEADLINE

@@ -1,4 +1,4 @@
-use Rattle.std.proofs.Common.{◌≡◌, ℕ, ◌≤◌, List, length, sym, ap, ◌∙◌, arith, le_trans, le_refl}
+use Rattle.std.proofs.Common.{◌≡◌, ℕ, ◌≤◌, List, length, sym, ap, ◌∙◌, subst, arith, le_trans, le_refl}
 use Rattle.std.specs.List.{AllByRecursion as Each}
 use Rattle.line_machine.proofs.Bags.{each_map}
 use Rattle.physiological_order.specs.declared.operation.Record.{Record}
@@ -10,7 +10,7 @@ use Rattle.line_machine.specs.Machine.{Config, Timed, line_of, word_at}
 -- what the holder of a line's right has: its words are the values from wts on, and nothing of the line comes after rts
 pub record Standing (f : Config) (h : ℕ → Memory) (records : List Record) (l : ℕ) (s : Timed) : Type 0 where
   pub order : s.wts ≤ s.rts
-  pub long : length s.words ≡ f.line_words
+  pub long : f.line_words ≤ length s.words
   pub value : (t a : ℕ) → line_of f a ≡ l → s.wts ≤ t → h t a ≡ word_at f s.words a
   pub past : Each (λ r. line_of f (address r.op) ≡ l → r.ts ≤ s.rts) records
 
@@ -18,7 +18,7 @@ pub record Standing (f : Config) (h : ℕ → Memory) (records : List Record) (l
 pub record Leased (f : Config) (h : ℕ → Memory) (l bound : ℕ) (s : Timed) : Type 0 where
   pub order : s.wts ≤ s.rts
   pub within : s.rts ≤ bound
-  pub long : length s.words ≡ f.line_words
+  pub long : f.line_words ≤ length s.words
   pub value : (t a : ℕ) → line_of f a ≡ l → s.wts ≤ t → t ≤ s.rts → h t a ≡ word_at f s.words a
 
 -- a lease under other values and another bound
@@ -40,7 +40,7 @@ pub Standing-fill : (f : Config) (h : ℕ → Memory) (records : List Record) (l
 Standing-fill f h records l s t words le e c =
     record {
       order = (le_refl _);
-      long = ap length e ∙ c.long;
+      long = subst (λ (ws : List ℕ). f.line_words ≤ length ws) (sym e) c.long;
       value = λ u a on from. c.value u a on (le_trans c.order (le_trans le from)) ∙ ap (λ ws. word_at f ws a) (sym e);
       past = each_map (λ r k on. le_trans (k on) le) records c.past;
     }

@@ -220,16 +220,16 @@ waits f l true (Some op) = if line_of f (address op) == l then 1 else 0
 waits f l true None = 0
 waits f l false op = 0
 
--- the words of a line in a memory
-abbrev pub words_from : Memory → ℕ → ℕ → List ℕ
-words_from memory a zero = []
-words_from memory a (suc n) = memory a ∷ words_from memory (a + 1) n
+-- DRAM opens with the opening memory: each line's list has all the line's words
+pub record OpensWith (f : Config) (drams : ℕ → List ℕ) : Type 0 where
+  pub long : (l : ℕ) → f.line_words ≤ length (drams l)
+  pub same : (a : ℕ) → word_at f (drams (line_of f a)) a ≡ f.opening a
 
--- the opening, with these times of cores and banks
-abbrev pub opened : Config → (ℕ → ℕ) → (ℕ → ℕ) → Machine
-opened f pts mts =
+-- the opening, with these times of cores and banks, and these words in DRAM
+abbrev pub opened : (pts mts : ℕ → ℕ) → (ℕ → List ℕ) → Machine
+opened pts mts drams =
     record {
-      lines = λ l. record { entry = Absent; copies = λ c. None; messages = []; dram = words_from f.opening (l * f.line_words) f.line_words };
+      lines = λ l. record { entry = Absent; copies = λ c. None; messages = []; dram = drams l };
       cores = λ c. record { pts = pts c; open_op = None; out = false };
       mts = mts;
       issued = λ c. [];
@@ -237,7 +237,7 @@ opened f pts mts =
     }
 
 pub data Reached (f : Config) : Machine → Type 0 where
-  at_first : (pts mts : ℕ → ℕ) → ((l : ℕ) → mts (l % f.banks) ≡ f.opening_time) → Reached f (opened f pts mts)
+  at_first : (pts mts : ℕ → ℕ) (drams : ℕ → List ℕ) → ((l : ℕ) → mts (l % f.banks) ≡ f.opening_time) → OpensWith f drams → Reached f (opened pts mts drams)
   goes_on : {m n : Machine} → Reached f m → Turn f m n → Reached f n
 
 -- the rights of a line: Exclusive copies of the first n cores, and grants and returns in flight

@@ -1,0 +1,258 @@
+-- What a bank's and a DRAM's events make of a machine that stands, stands.
+use Rattle.std.proofs.Common.{◌≡◌, ◌≢◌, ℕ, ◌%◌, ◌/◌, ◌<◌, max, Bool, true, false, cond, List, [], ◌∷◌, ◌++◌, length, set, Option, Some, None, refl, sym, ap, ◌∙◌, subst, ⊎_elim}
+use Rattle.std.specs.Ordering.{nat_cmp}
+use Rattle.std.specs.FinMap.{FinMap, insert}
+use Rattle.std.specs.List.{slice_get, AllByRecursion as Each}
+use Rattle.std.specs.List.Sorted.{IsPermutation}
+use Rattle.std.proofs.lemmas.List.Sorted.{IsPermutation-refl}
+use Rattle.std.proofs.lemmas.Bool.{cases_eq}
+use Rattle.network.specs.declared.message.Node.{Node}
+use Rattle.network.specs.declared.message.Node.TheVariants as node
+use Rattle.network.specs.declared.message.Body.{Body}
+use Rattle.network.specs.declared.message.Body.TheVariants as body
+use Rattle.network.specs.declared.message.Message.{Message}
+use Rattle.network.specs.declared.part.Reaction.{Reaction}
+use Rattle.network.specs.declared.part.Reaction.TheVariants.{Done, HeldAfter}
+use Rattle.network.specs.Numbered.{at_number, without_number}
+use Rattle.llc_bank.specs.declared.entry.Entry.{Entry}
+use Rattle.llc_bank.specs.declared.entry.Entry.TheVariants as entry
+use Rattle.llc_bank.specs.OnEntry as on_entry
+use Rattle.llc_bank.specs.BankTable as bank_table
+use Rattle.llc_bank.specs.BankTable.{BankState, core_of, entry_of, with_used, with_changed, without_entry, from_bank, to_dram, is_this_bank, comes_to_bank, bank_has_case, after_decision, after_eviction}
+use Rattle.line_sets.specs.SetTable.{has_room}
+use Rattle.dram_mts.specs.Lines.{words_of}
+use Rattle.dram_mts.specs.Table.{dram_has_case, is_dram, comes_to_dram, answer_to, dram_case, dram_table}
+use Rattle.machine_table.specs.declared.event.Refusal.TheVariants.{NoSuch}
+use Rattle.machine_table.specs.Machine.{Machine, has_number, has_place, with_bank, with_dram}
+use Rattle.machine_table.specs.Transition.{refused, reacted, deliver_bank, deliver_dram, entry_evicted, evict_entry}
+use Rattle.line_machine.specs.Machine as by_line
+use Rattle.line_machine.specs.Machine.{Absent, Loading, Recalling, Storing, DramLd, DramLdRep, DramSt, DramStRep, FlushReq, Line, IsPinned, Moves, evict_clean, evict_dirty, flush_starts, dram_loads, dram_stores, Reached}
+use Rattle.machine_history.specs.View.{timed, entry_seen, body_seen, messages_of, entry_in, words_in, set_up, line_in, view}
+use Rattle.machine_history.specs.Shape.{IsBank, IsHome, GoesHome, HasShape}
+use Rattle.machine_history.specs.Steps.{Stands}
+use Rattle.machine_history.proofs.Lookups.{each_get, each_at_number, each_sent, each_without_number, put_here, put_there, put_sets, change_here, change_there, change_sets, drop_here, drop_there, drop_sets, messages-sent, messages-sent_other, messages-taken, messages-taken_other}
+use Rattle.machine_history.proofs.Turns.{bank_turn, dram_turn}
+use Rattle.machine_history.proofs.OnCopies.{right_of}
+use Rattle.machine_history.proofs.OnEntries.{bank_goes}
+use Rattle.machine_history.proofs.DramWords.{words-insert_same, words-insert_other}
+use Rattle.machine_history.proofs.CoreEvents.{either}
+
+-- the bank of a line
+module _ (m : Machine) (s : Stands m) (l : ℕ) (bank : BankState) (at : slice_get m.banks (l % m.config.banks) ≡ Some bank) where
+  abbrev b : ℕ
+  b = l % m.config.banks
+
+  is : IsBank m.config b bank
+  is = s.whole.each_bank b bank at
+
+  seen : (line_in m l).entry ≡ entry_seen (entry_of bank l)
+  seen = ap (λ (o : Option BankState). entry_in o l) at
+
+  shape : (new : BankState) (ms : List (ℕ × Message)) → IsBank m.config b new → Each (GoesHome m.config.banks) ms → HasShape m.config m.cores (set m.banks b new) ms m.issued
+  shape new ms k each =
+      record {
+        some_words = s.whole.some_words;
+        core_count = s.whole.core_count;
+        lists = s.whole.lists;
+        each_core = s.whole.each_core;
+        each_bank = each_get (λ i y. IsBank m.config i y) m.banks b new bank at k (λ j ne z w. s.whole.each_bank j z w);
+        each_message = each;
+      }
+
+  -- what is sent about the line goes home
+  home : (n : ℕ) (to : Node) (sent : Body) → IsHome b to → GoesHome m.config.banks (n, from_bank bank l to sent)
+  home n to sent h = (is.numbered, h)
+
+  -- the bank, its entry of the line, and the messages, after a move
+  step : (new : BankState) (e : by_line.Entry) (front : List by_line.Message) (ms : List (ℕ × Message)) → new.number ≡ bank.number → new.banks ≡ bank.banks → new.lease ≡ bank.lease → 0 < length new.table.sets →
+      entry_seen (entry_of new l) ≡ e → ((k : ℕ) → k ≢ l → entry_of new k ≡ entry_of bank k) → IsPermutation front (messages_of ms l) → ((k : ℕ) → k ≢ l → messages_of m.messages k ≡ messages_of ms k) → Each (GoesHome m.config.banks) ms →
+      Moves m.config.lease (IsPinned (set_up m) (view m).cores l) bank.mts (line_in m l) new.mts (record (line_in m l) { entry = e; messages = front }) →
+      Stands (record m { banks = set m.banks b new; messages = ms })
+  step new e front ms number banks lease sets here there bags others each mv =
+      record {
+        whole = shape new ms (record {
+          numbered = number ∙ is.numbered;
+          banks = banks ∙ is.banks;
+          lease = lease ∙ is.lease;
+          sets = sets;
+          own = λ k ne. there k (λ q. ne (ap (λ (j : ℕ). j % m.config.banks) q)) ∙ is.own k ne;
+        }) each;
+        reached = bank_turn m bank new l (record (line_in m l) { entry = e; messages = front }) ms at (sym here) (λ d. refl) refl bags there others mv s.reached;
+      }
+
+  abbrev own_set : ℕ → ℕ
+  own_set k = k / bank.banks
+
+  -- a message is sent, with these in flight before it
+  step_sent : (new : BankState) (e : by_line.Entry) (ms : List (ℕ × Message)) (q : Message) → q.line ≡ l → GoesHome m.config.banks (m.next, q) → new.number ≡ bank.number → new.banks ≡ bank.banks → new.lease ≡ bank.lease → 0 < length new.table.sets →
+      entry_seen (entry_of new l) ≡ e → ((k : ℕ) → k ≢ l → entry_of new k ≡ entry_of bank k) → ((k : ℕ) → k ≢ l → messages_of m.messages k ≡ messages_of ms k) → Each (GoesHome m.config.banks) ms →
+      Moves m.config.lease (IsPinned (set_up m) (view m).cores l) bank.mts (line_in m l) new.mts (record (line_in m l) { entry = e; messages = body_seen (core_of q.from) (core_of q.to) q.body ∷ messages_of ms l }) →
+      Stands (record m { banks = set m.banks b new; messages = ms ++ (m.next, q) ∷ [] })
+  step_sent new e ms q line goes number banks lease sets here there others each mv =
+      step new e (body_seen (core_of q.from) (core_of q.to) q.body ∷ messages_of ms l) (ms ++ (m.next, q) ∷ []) number banks lease sets here there
+      (subst (λ (k : ℕ). IsPermutation (body_seen (core_of q.from) (core_of q.to) q.body ∷ messages_of ms k) (messages_of (ms ++ (m.next, q) ∷ []) k)) line (messages-sent ms m.next q))
+      (λ k ne. others k ne ∙ messages-sent_other ms m.next q k (λ w. ne (w ∙ line))) (each_sent (GoesHome m.config.banks) ms (m.next, q) each goes) mv
+
+  -- EvictBank
+  pub entry_goes : (o : Option Entry) → entry_of bank l ≡ o → Stands (entry_evicted m b (after_eviction bank l (on_entry.evicted o))).1
+  entry_goes None e = s
+  entry_goes (Some entry.Loading) e = s
+  entry_goes (Some (entry.Recalling o)) e = s
+  entry_goes (Some entry.Storing) e = s
+  entry_goes (Some (entry.Shared false line)) e =
+      let new : BankState = record (without_entry bank l) { mts = max bank.mts line.rts } in
+      let t = step new Absent (messages_of m.messages l) m.messages refl refl refl (drop_sets own_set bank.table.sets is.sets l) (ap entry_seen (drop_here own_set bank.table.sets is.sets l)) (drop_there own_set bank.table.sets is.sets l)
+      (IsPermutation-refl (messages_of m.messages l)) (λ k ne. refl) s.whole.each_message (evict_clean (timed line) (seen ∙ ap entry_seen e)) in
+      record { whole = t.whole; reached = t.reached }
+  entry_goes (Some (entry.Shared true line)) e =
+      let new : BankState = record (with_changed bank l entry.Storing) { mts = max bank.mts line.rts } in
+      let q = to_dram bank l (body.DramSt line.words) in
+      let t = step_sent new Storing m.messages q refl (home m.next (node.Dram bank.number) (body.DramSt line.words) is.numbered) refl refl refl (change_sets own_set bank.table.sets is.sets l entry.Storing)
+      (ap entry_seen (change_here own_set bank.table.sets is.sets l entry.Storing (entry.Shared true line) e)) (change_there own_set bank.table.sets is.sets l entry.Storing) (λ k ne. refl) s.whole.each_message (evict_dirty (timed line) (seen ∙ ap entry_seen e)) in
+      either (has_place m) _ _ (record { whole = t.whole; reached = t.reached }) s
+  entry_goes (Some (entry.Exclusive o)) e =
+      let q = from_bank bank l (node.Core o) body.FlushReq in
+      let t = step_sent (with_changed bank l (entry.Recalling o)) (Recalling o) m.messages q refl (home m.next (node.Core o) body.FlushReq tt) refl refl refl (change_sets own_set bank.table.sets is.sets l (entry.Recalling o))
+      (ap entry_seen (change_here own_set bank.table.sets is.sets l (entry.Recalling o) (entry.Exclusive o) e)) (change_there own_set bank.table.sets is.sets l (entry.Recalling o)) (λ k ne. refl) s.whole.each_message (flush_starts o (seen ∙ ap entry_seen e)) in
+      either (has_place m) _ _ (record { whole = t.whole; reached = t.reached }) s
+
+-- Deliver to the bank of the message's line
+module _ (m : Machine) (s : Stands m) (n : ℕ) (message : Message) (found : at_number n m.messages ≡ Some message) where
+  abbrev l : ℕ
+  l = message.line
+
+  abbrev home_bank : ℕ
+  home_bank = message.line % m.config.banks
+
+  abbrev left : List (ℕ × Message)
+  left = without_number n m.messages
+
+  others : (k : ℕ) → k ≢ message.line → messages_of m.messages k ≡ messages_of left k
+  others k ne = messages-taken_other m.messages n message k found ne
+
+  each_left : Each (GoesHome m.config.banks) left
+  each_left = each_without_number (GoesHome m.config.banks) n m.messages s.whole.each_message
+
+  goes_home : GoesHome m.config.banks (n, message)
+  goes_home = each_at_number (GoesHome m.config.banks) n m.messages message found s.whole.each_message (λ k p. p)
+
+  module _ (bank : BankState) (at : slice_get m.banks (message.line % m.config.banks) ≡ Some bank) where
+    of : IsBank m.config home_bank bank
+    of = is m s message.line bank at
+
+    abbrev place : ℕ → ℕ
+    place k = k / bank.banks
+
+    abbrev Goes : Option (Reaction × BankState) → Type 0
+    Goes o = Stands (reacted m n (λ machine part. with_bank machine home_bank part) o).1
+
+    abbrev Leads : by_line.Entry → List by_line.Message → Type 0
+    Leads e ms = Moves m.config.lease (IsPinned (set_up m) (view m).cores message.line) bank.mts (line_in m message.line) bank.mts (record (line_in m message.line) { entry = e; messages = ms })
+
+    loads : Leads Loading (DramLd ∷ messages_of m.messages message.line) → Goes (Some (HeldAfter (to_dram bank message.line body.DramLd), with_used bank message.line entry.Loading))
+    loads mv =
+        let q = to_dram bank message.line body.DramLd in
+        let t = step_sent m s message.line bank at (with_used bank message.line entry.Loading) Loading m.messages q refl (home m s message.line bank at m.next (node.Dram bank.number) body.DramLd of.numbered) refl refl refl (put_sets place bank.table.sets of.sets message.line entry.Loading)
+        (ap entry_seen (put_here place bank.table.sets of.sets message.line entry.Loading)) (put_there place bank.table.sets of.sets message.line entry.Loading) (λ k ne. refl) s.whole.each_message mv in
+        either (has_place m) _ _ (record { whole = t.whole; reached = t.reached }) s
+
+    recalls : (owner : ℕ) (sent : Body) (old : Entry) → entry_of bank message.line ≡ Some old → Leads (Recalling owner) (body_seen 0 owner sent ∷ messages_of m.messages message.line) →
+        Goes (Some (HeldAfter (from_bank bank message.line (node.Core owner) sent), with_changed bank message.line (entry.Recalling owner)))
+    recalls owner sent old there mv =
+        let q = from_bank bank message.line (node.Core owner) sent in
+        let t = step_sent m s message.line bank at (with_changed bank message.line (entry.Recalling owner)) (Recalling owner) m.messages q refl (home m s message.line bank at m.next (node.Core owner) sent tt) refl refl refl (change_sets place bank.table.sets of.sets message.line (entry.Recalling owner))
+        (ap entry_seen (change_here place bank.table.sets of.sets message.line (entry.Recalling owner) old there)) (change_there place bank.table.sets of.sets message.line (entry.Recalling owner)) (λ k ne. refl) s.whole.each_message mv in
+        either (has_place m) _ _ (record { whole = t.whole; reached = t.reached }) s
+
+    grants : (e : Entry) (sent : Body) → Leads (entry_seen (Some e)) (body_seen 0 (core_of message.from) sent ∷ messages_of left message.line) →
+        Goes (Some (Done (Some (from_bank bank message.line message.from sent)), with_used bank message.line e))
+    grants e sent mv =
+        let q = from_bank bank message.line message.from sent in
+        let t = step_sent m s message.line bank at (with_used bank message.line e) (entry_seen (Some e)) left q refl (home m s message.line bank at m.next message.from sent goes_home.0) refl refl refl (put_sets place bank.table.sets of.sets message.line e)
+        (ap entry_seen (put_here place bank.table.sets of.sets message.line e)) (put_there place bank.table.sets of.sets message.line e) others each_left mv in
+        either (has_number m) _ _ (record { whole = t.whole; reached = t.reached }) s
+
+    becomes : (e old : Entry) → entry_of bank message.line ≡ Some old → Leads (entry_seen (Some e)) (messages_of left message.line) → Goes (Some (Done None, with_changed bank message.line e))
+    becomes e old there mv =
+        let t = step m s message.line bank at (with_changed bank message.line e) (entry_seen (Some e)) (messages_of left message.line) left refl refl refl (change_sets place bank.table.sets of.sets message.line e)
+        (ap entry_seen (change_here place bank.table.sets of.sets message.line e old there)) (change_there place bank.table.sets of.sets message.line e) (IsPermutation-refl (messages_of left message.line)) others each_left mv in
+        record { whole = t.whole; reached = t.reached }
+
+    leaves : Leads Absent (messages_of left message.line) → Goes (Some (Done None, without_entry bank message.line))
+    leaves mv =
+        let t = step m s message.line bank at (without_entry bank message.line) Absent (messages_of left message.line) left refl refl refl (drop_sets place bank.table.sets of.sets message.line)
+        (ap entry_seen (drop_here place bank.table.sets of.sets message.line)) (drop_there place bank.table.sets of.sets message.line) (IsPermutation-refl (messages_of left message.line)) others each_left mv in
+        record { whole = t.whole; reached = t.reached }
+
+    bank_delivered : core_of message.to ≡ 0 → comes_to_bank message.from (entry_of bank message.line) message.body ≡ true → Goes (bank_table.bank_table bank message)
+    bank_delivered to comes =
+        let room = has_room bank.table (bank_table.set_of bank message.line) in
+        let came = subst (λ (k : ℕ). IsPermutation (messages_of m.messages message.line) (body_seen (core_of message.from) k message.body ∷ messages_of left message.line)) to (messages-taken m.messages n message found) in
+        subst (λ (k : ℕ). Goes (after_decision bank message (on_entry.at_bank k bank.mts room (core_of message.from) (entry_of bank message.line) message.body))) (sym of.lease)
+        (bank_goes m.config.lease (IsPinned (set_up m) (view m).cores message.line) bank.mts (line_in m message.line) (messages_of left message.line) (core_of message.from) bank message Goes (seen m s message.line bank at)
+        s (record { whole = s.whole; reached = s.reached }) loads recalls grants becomes leaves room message.body comes came)
+
+    by_case : core_of message.to ≡ 0 → (h : Bool) → bank_has_case bank message ≡ h → Stands (cond h (reacted m n (λ machine part. with_bank machine home_bank part) (bank_table.bank_table bank message)) (refused m NoSuch)).1
+    by_case to true has = bank_delivered to (right_of (is_this_bank bank.number message.to) (comes_to_bank message.from (entry_of bank message.line) message.body) has)
+    by_case to false has = s
+
+  bank_delivery : (to : Node) → core_of message.to ≡ 0 → (o : Option BankState) → slice_get m.banks home_bank ≡ o → Stands (deliver_bank m n message home_bank o).1
+  bank_delivery to none None at = s
+  bank_delivery to none (Some bank) at = by_case bank at none (bank_has_case bank message) refl
+
+  pub any_bank_delivery : (k : ℕ) → message.to ≡ node.Bank k → Stands (deliver_bank m n message k (slice_get m.banks k)).1
+  any_bank_delivery k to =
+      let here : k ≡ home_bank = subst (IsHome home_bank) to goes_home.1 in
+      subst (λ (j : ℕ). Stands (deliver_bank m n message j (slice_get m.banks j)).1) (sym here) (bank_delivery message.to (ap core_of to) (slice_get m.banks home_bank) refl)
+
+  -- Deliver to the DRAM behind it
+  module _ (lines : FinMap nat_cmp (List ℕ)) (at : slice_get m.drams (message.line % m.config.banks) ≡ Some lines) where
+    answered : (new : FinMap nat_cmp (List ℕ)) (reply : Body) → words_of new message.line ≡ words_of new message.line → ((k : ℕ) → k ≢ message.line → words_of new k ≡ words_of lines k) →
+        Moves m.config.lease (IsPinned (set_up m) (view m).cores message.line) ((view m).mts home_bank) (line_in m message.line) ((view m).mts home_bank) (record (line_in m message.line) { dram = words_of new message.line; messages = body_seen (core_of message.to) (core_of message.from) reply ∷ messages_of left message.line }) →
+        Stands (reacted m n (λ machine part. with_dram machine home_bank part) (Some (Done (Some (answer_to message reply)), new))).1
+    answered new reply same there mv =
+        let q = answer_to message reply in
+        either (has_number m) _ _
+        (record {
+          whole = record { some_words = s.whole.some_words; core_count = s.whole.core_count; lists = s.whole.lists; each_core = s.whole.each_core; each_bank = s.whole.each_bank; each_message = each_sent (GoesHome m.config.banks) left (m.next, q) each_left (goes_home.1, goes_home.0) };
+          reached = dram_turn m lines new message.line (record (line_in m message.line) { dram = words_of new message.line; messages = body_seen (core_of message.to) (core_of message.from) reply ∷ messages_of left message.line }) (left ++ (m.next, q) ∷ []) at refl (λ d. refl) refl
+              (messages-sent left m.next q) there (λ k ne. others k ne ∙ messages-sent_other left m.next q k ne) mv s.reached;
+        })
+        s
+
+    dram_delivered : (c : Body) → message.body ≡ c → comes_to_dram c ≡ true → Stands (reacted m n (λ machine part. with_dram machine home_bank part) (dram_case lines message c)).1
+    dram_delivered body.DramLd e has =
+        let words : (line_in m message.line).dram ≡ words_of lines message.line = ap (λ (o : Option (FinMap nat_cmp (List ℕ))). words_in o message.line) at in
+        answered lines (body.DramLdRep (words_of lines message.line)) refl (λ k ne. refl)
+        (subst (λ (ws : List ℕ). Moves m.config.lease (IsPinned (set_up m) (view m).cores message.line) ((view m).mts home_bank) (line_in m message.line) ((view m).mts home_bank) (record (line_in m message.line) { dram = ws; messages = DramLdRep ws ∷ messages_of left message.line })) words
+        (dram_loads (messages_of left message.line) (came body.DramLd e)))
+      where
+        came : (c : Body) → message.body ≡ c → IsPermutation (messages_of m.messages message.line) (body_seen (core_of message.from) (core_of message.to) c ∷ messages_of left message.line)
+        came c e = subst (λ (d : Body). IsPermutation (messages_of m.messages message.line) (body_seen (core_of message.from) (core_of message.to) d ∷ messages_of left message.line)) e (messages-taken m.messages n message found)
+    dram_delivered (body.DramSt ws) e has =
+        answered (insert lines message.line ws) body.DramStRep refl (λ k ne. words-insert_other lines message.line k ws ne)
+        (subst (λ (us : List ℕ). Moves m.config.lease (IsPinned (set_up m) (view m).cores message.line) ((view m).mts home_bank) (line_in m message.line) ((view m).mts home_bank) (record (line_in m message.line) { dram = us; messages = DramStRep ∷ messages_of left message.line })) (sym (words-insert_same lines message.line ws))
+        (dram_stores ws (messages_of left message.line) (subst (λ (d : Body). IsPermutation (messages_of m.messages message.line) (body_seen (core_of message.from) (core_of message.to) d ∷ messages_of left message.line)) e (messages-taken m.messages n message found))))
+    dram_delivered _ e has = absurd (let z : false ≡ true = has in cc)
+
+    by_dram_case : (h : Bool) → dram_has_case lines message ≡ h → Stands (cond h (reacted m n (λ machine part. with_dram machine home_bank part) (dram_table lines message)) (refused m NoSuch)).1
+    by_dram_case true has = dram_delivered message.body refl (right_of (is_dram message.to) (comes_to_dram message.body) has)
+    by_dram_case false has = s
+
+  dram_delivery : (o : Option (FinMap nat_cmp (List ℕ))) → slice_get m.drams home_bank ≡ o → Stands (deliver_dram m n message home_bank o).1
+  dram_delivery None at = s
+  dram_delivery (Some lines) at = by_dram_case lines at (dram_has_case lines message) refl
+
+  pub any_dram_delivery : (k : ℕ) → message.to ≡ node.Dram k → Stands (deliver_dram m n message k (slice_get m.drams k)).1
+  any_dram_delivery k to =
+      let here : k ≡ home_bank = subst (IsHome home_bank) to goes_home.1 in
+      subst (λ (j : ℕ). Stands (deliver_dram m n message j (slice_get m.drams j)).1) (sym here) (dram_delivery (slice_get m.drams home_bank) refl)
+
+-- EvictBank
+pub any_entry_evicted : (m : Machine) → Stands m → (b l : ℕ) (o : Option BankState) → slice_get m.banks b ≡ o → Stands (evict_entry m b l o).1
+any_entry_evicted m s b l None at = s
+any_entry_evicted m s b l (Some bank) at =
+    ⊎_elim
+    (λ (e : l % m.config.banks ≡ b). subst (λ (k : ℕ). Stands (entry_evicted m k (bank_table.evict bank l)).1) e (entry_goes m s l bank (subst (λ (k : ℕ). slice_get m.banks k ≡ Some bank) (sym e) at) (entry_of bank l) refl))
+    (λ (ne : l % m.config.banks ≡ b → ⊥). subst (λ (o : Option Entry). Stands (entry_evicted m b (after_eviction bank l (on_entry.evicted o))).1) (sym ((s.whole.each_bank b bank at).own l ne)) s)
+    (cases_eq (l % m.config.banks) b)

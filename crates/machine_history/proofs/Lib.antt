@@ -1,0 +1,14 @@
+pub mod Lookups
+pub mod Turns
+pub mod OnCopies
+pub mod OnEntries
+pub mod CoreEvents
+pub mod Deliveries
+pub mod DramWords
+pub mod BankEvents
+pub mod Events
+pub mod SetUps
+pub mod DramOpening
+pub mod Openings
+pub mod Standings
+pub mod History

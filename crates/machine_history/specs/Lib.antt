@@ -1,0 +1,4 @@
+pub mod Shape
+pub mod Standing
+pub mod Steps
+pub mod View

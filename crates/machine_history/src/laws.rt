@@ -1,0 +1,43 @@
+//! What every event and every list of events keeps.
+ghost use Rattle.std.specs.Prelude.{◌≡◌, ◌≤◌, ℕ, true, List, [], map, slice_index_or};
+ghost use Rattle.std.specs.Ordering.{nat_cmp};
+ghost use Rattle.std.specs.FinMap.{FinMap};
+ghost use Rattle.physiological_order.specs.declared.operation.Record.{Record};
+ghost use Rattle.physiological_order.specs.Order.{flat, Legal, Arrangement, replay_end};
+ghost use Rattle.machine_table.specs.declared.config.Config.{Config};
+ghost use Rattle.machine_table.specs.SetUp.{is_good};
+ghost use Rattle.machine_table.specs.Opening.{at_start};
+ghost use Rattle.machine_table.specs.declared.event.Event.{Event};
+ghost use Rattle.machine_table.specs.Machine.{Machine};
+ghost use Rattle.machine_table.specs.Transition.{transition};
+ghost use Rattle.machine_table.specs.Runs.{after_all};
+ghost use Rattle.machine_history.specs.Standing.{rights, standing_value};
+ghost use Rattle.machine_history.specs.Steps.{SetUpAs, Stands};
+
+/// A machine stands where its parts have their shape and it is, seen line by line, one that the protocol by lines
+/// reaches. What any event makes of such a machine stands as well, and no event changes how it was set up.
+pub fn events_are_turns()
+    ensures stands { (m : Machine) (event : Event) → Stands m → Stands (transition m event).1 }
+    ensures set_up { (m : Machine) (event : Event) → SetUpAs m (transition m event).1 }
+{}
+
+/// A machine that is well set up stands as it opens, whatever the opening memory.
+pub fn openings_stand()
+    ensures { (config : Config) (opening : FinMap nat_cmp ℕ) → is_good config ≡ true → Stands (at_start config opening) }
+{}
+
+/// After any list of events, refused ones included, of a machine that was well set up: the records are a legal history
+/// of the opening memory and the lists that the cores were issued; a line has at most one right, where grants and
+/// returns in flight count; and a word's standing value is the one that the records leave, one after the other in the
+/// order of their times, on the opening memory.
+pub fn every_history_is_legal()
+    ensures legal { (config : Config) (opening : FinMap nat_cmp ℕ) (events : List Event) → is_good config ≡ true →
+        let m = after_all (at_start config opening) events in
+        Legal (flat opening) (λ core. slice_index_or m.issued core []) m.records }
+    ensures rights { (config : Config) (opening : FinMap nat_cmp ℕ) (events : List Event) → is_good config ≡ true →
+        (line : ℕ) → rights (after_all (at_start config opening) events) line ≤ 1 }
+    ensures standing { (config : Config) (opening : FinMap nat_cmp ℕ) (events : List Event) → is_good config ≡ true →
+        let m = after_all (at_start config opening) events in
+        (arranged : List Record) → Arrangement m.records arranged → (word : ℕ) →
+        standing_value m word ≡ replay_end (flat opening) (map (λ r. r.op) arranged) word }
+{}

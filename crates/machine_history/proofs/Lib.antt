@@ -12,3 +12,5 @@ pub mod DramOpening
 pub mod Openings
 pub mod Standings
 pub mod History
+pub mod Routes
+pub mod Rooms

@@ -14,3 +14,4 @@ pub mod Standings
 pub mod History
 pub mod Routes
 pub mod Rooms
+pub mod FoundCases

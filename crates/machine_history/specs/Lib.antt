@@ -1,3 +1,4 @@
+pub mod Cases
 pub mod Shape
 pub mod Standing
 pub mod Steps

@@ -15,3 +15,4 @@ pub mod History
 pub mod Routes
 pub mod Rooms
 pub mod FoundCases
+pub mod Found

@@ -145,9 +145,9 @@ module _ (m : Machine) (s : Stands m) (core : CoreState) (at : slice_get m.cores
         whole = record {
           some_words = s.whole.some_words;
           some_banks = s.whole.some_banks;
-        core_count = length-set m.cores c new ∙ s.whole.core_count;
-        bank_count = s.whole.bank_count;
-        dram_count = s.whole.dram_count;
+          core_count = length-set m.cores c new ∙ s.whole.core_count;
+          bank_count = s.whole.bank_count;
+          dram_count = s.whole.dram_count;
           lists = length-set m.issued c more ∙ s.whole.lists;
           each_core = each_get (λ i y. IsCore m.config i (get_or (set m.issued c more) i []) y) m.cores c new core at
               (subst (λ (os : List Op). IsCore m.config c os new) (sym (get_or-set_same m.issued c more [] there))

@@ -1,5 +1,5 @@
 -- A message in flight is always found by its part.
-use Rattle.std.proofs.Common.{◌≡◌, ◌≢◌, ℕ, Bool, true, false, cond, List, [], ◌∷◌, Option, Some, None, refl, sym, ap, ◌∙◌, subst}
+use Rattle.std.proofs.Common.{◌≡◌, ◌≢◌, ℕ, Bool, true, false, cond, List, Option, Some, None, sym, subst}
 use Rattle.std.specs.List.{slice_get, AllByRecursion as Each}
 use Rattle.std.specs.Ordering.{nat_cmp}
 use Rattle.std.specs.FinMap.{FinMap}
@@ -12,7 +12,6 @@ use Rattle.network.specs.Numbered.{at_number}
 use Rattle.core_pts.specs.CoreTable.{CoreState, core_table, core_has_case}
 use Rattle.llc_bank.specs.BankTable.{BankState, bank_table, bank_has_case}
 use Rattle.dram_mts.specs.Table.{dram_table, dram_has_case}
-use Rattle.machine_table.specs.declared.event.Answer.{Answer}
 use Rattle.machine_table.specs.declared.event.Answer.TheVariants.{Refused}
 use Rattle.machine_table.specs.declared.event.Event.TheVariants.{Deliver}
 use Rattle.machine_table.specs.declared.event.Refusal.TheVariants.{NoSuch, Stopped}

@@ -1,5 +1,5 @@
 -- Every message in flight has a case in the table of the part that it goes to.
-use Rattle.std.proofs.Common.{◌≡◌, ℕ, zero, suc, ◌%◌, ◌/◌, ◌<◌, Bool, true, false, ◌&&◌, cond, eqb, List, [], ◌∷◌, length, get_or, Option, Some, None, refl, sym, ap, ◌∙◌, subst, arith, ⊎_elim}
+use Rattle.std.proofs.Common.{◌≡◌, ℕ, zero, suc, ◌%◌, ◌/◌, ◌<◌, Bool, true, false, cond, eqb, List, [], ◌∷◌, length, get_or, Option, Some, None, refl, sym, ap, ◌∙◌, subst, arith}
 use Rattle.std.specs.List.{slice_get, AllByRecursion as Each}
 use Rattle.std.specs.Ordering.{nat_cmp}
 use Rattle.std.specs.FinMap.{FinMap}
@@ -16,21 +16,19 @@ use Rattle.private_cache.specs.declared.line_copy.LineCopy.{LineCopy}
 use Rattle.private_cache.specs.CopyTable.{copy_of, place_for}
 use Rattle.core_pts.specs.CoreTable as core_table
 use Rattle.core_pts.specs.CoreTable.{CoreState, pinned_line, line_of_open, is_on, waits_for, is_shared_copy, is_this_core, comes_to_core, core_has_case}
-use Rattle.core_pts.specs.OnCopy.{is_exclusive}
 use Rattle.llc_bank.specs.declared.entry.Entry.{Entry}
 use Rattle.llc_bank.specs.declared.entry.Entry.TheVariants as entry
-use Rattle.llc_bank.specs.BankTable.{BankState, core_of, entry_of, is_core, is_owned, is_loading, is_storing, is_this_bank, comes_to_bank, bank_has_case}
-use Rattle.dram_mts.specs.Table.{is_dram, comes_to_dram, dram_has_case}
+use Rattle.llc_bank.specs.BankTable.{BankState, core_of, entry_of, is_core, is_owned, is_loading, is_storing, is_this_bank, comes_to_bank}
+use Rattle.dram_mts.specs.Table.{is_dram, comes_to_dram}
 use Rattle.machine_table.specs.Machine.{Machine}
 use Rattle.line_machine.specs.Machine as by_line
 use Rattle.line_machine.specs.Machine.{Core, WaitsFor, IsShared, IsGranted, HasCase}
 use Rattle.line_machine.proofs.Cases.{messages_have_cases}
 use Rattle.machine_history.specs.View.{copy_or_none, copy_in, core_seen, entry_seen, entry_in, body_seen, message_seen, messages_of, set_up, line_in, view}
-use Rattle.machine_history.specs.Shape.{IsHome, IsCore, IsBank, GoesHome}
+use Rattle.machine_history.specs.Shape.{IsHome, IsCore, GoesHome}
 use Rattle.machine_history.specs.Steps.{Stands}
 use Rattle.machine_history.specs.Cases.{core_case, bank_case, dram_case, has_case_at, has_case}
 use Rattle.machine_history.proofs.Routes.{both, up_ends, back_ends}
-use Rattle.machine_history.proofs.CoreEvents as events
 
 -- what is in a list at an index within it
 at_index : {X : Type 0} (xs : List X) (i : ℕ) → i < length xs → (x : X) × (slice_get xs i ≡ Some x)

@@ -1,10 +1,10 @@
 -- A place for a line stays where other lines of a cache are changed or leave.
-use Rattle.std.proofs.Common.{◌≡◌, ◌≢◌, ℕ, ◌%◌, ◌<◌, ◌≤◌, Bool, true, false, ◌||◌, ltb, List, length, set, Option, Some, refl, sym, ap, ◌∙◌, subst, arith, ⊎_elim}
+use Rattle.std.proofs.Common.{◌≡◌, ◌≢◌, ℕ, ◌%◌, ◌<◌, ◌≤◌, Bool, true, false, ◌||◌, ltb, List, length, set, Some, sym, ap, ◌∙◌, subst, arith, ⊎_elim}
 use Rattle.std.specs.Option.{is_some}
 use Rattle.std.proofs.Math.Nat.{mod-lt}
-use Rattle.std.proofs.lemmas.Bool.{cases_eq, cases_Bool, lt-ltb, ltb-true, or_right}
-use Rattle.line_sets.specs.Order.{is_there, without, put_in_place}
-use Rattle.line_sets.specs.SetTable.{Sets, set_at, put_within, drop_line}
+use Rattle.std.proofs.lemmas.Bool.{cases_eq, cases_Bool, lt-ltb, ltb-true}
+use Rattle.line_sets.specs.Order.{without, put_in_place}
+use Rattle.line_sets.specs.SetTable.{Sets, set_at}
 use Rattle.line_sets.proofs.OrderLaws.{length-without_le, length-put_in_place}
 use Rattle.line_sets.proofs.TableLaws.{set_at-set_same, set_at-set_other, length-put_within, length-drop_line}
 use Rattle.private_cache.specs.declared.line_copy.LineCopy.{LineCopy}

@@ -16,3 +16,4 @@ pub mod Routes
 pub mod Rooms
 pub mod FoundCases
 pub mod Found
+pub mod StaleRun

@@ -18,6 +18,7 @@ ghost use Rattle.machine_table.specs.Machine.{Machine};
 ghost use Rattle.machine_table.specs.Transition.{transition};
 ghost use Rattle.machine_table.specs.Runs.{after_all};
 ghost use Rattle.machine_history.specs.Cases.{has_case};
+ghost use Rattle.machine_history.specs.StaleHit.{two_cores, stale_hit, stale_records};
 ghost use Rattle.machine_history.specs.Standing.{rights, standing_value};
 ghost use Rattle.machine_history.specs.Steps.{SetUpAs, Stands};
 
@@ -55,4 +56,12 @@ pub fn every_history_is_legal()
         let m = after_all (at_start config opening) events in
         (number : ℕ) (message : Message) → at_number number m.messages ≡ Some message →
         (transition m (Deliver number)).0 ≢ Refused NoSuch }
+{}
+
+/// A run by the table, whatever the opening memory: a core reads a word, another writes it, and the first reads the
+/// opening value once more, at a time before the write.
+pub fn stale_hits_happen()
+    ensures good { is_good two_cores ≡ true }
+    ensures records { (opening : FinMap nat_cmp ℕ) →
+        (after_all (at_start two_cores opening) stale_hit).records ≡ stale_records (flat opening 0) }
 {}

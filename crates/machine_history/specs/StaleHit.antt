@@ -1,5 +1,5 @@
 -- A run in which a core reads a word that another core has written since, and the history is legal all the same.
-use Rattle.std.specs.Prelude.{ℕ, true, false, List, [], ◌∷◌, Some, None}
+use Rattle.std.specs.Prelude.{ℕ, false, List, [], ◌∷◌, Some, None}
 use Rattle.physiological_order.specs.declared.operation.Op.TheVariants.{Load, Store}
 use Rattle.physiological_order.specs.declared.operation.Record.{Record}
 use Rattle.machine_table.specs.declared.config.Config.{Config}

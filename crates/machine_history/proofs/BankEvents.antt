@@ -26,16 +26,33 @@ use Rattle.machine_table.specs.declared.event.Refusal.TheVariants.{NoSuch}
 use Rattle.machine_table.specs.Machine.{Machine, has_number, has_place, with_bank, with_dram}
 use Rattle.machine_table.specs.Transition.{refused, reacted, deliver_bank, deliver_dram, entry_evicted, evict_entry}
 use Rattle.line_machine.specs.Machine as by_line
-use Rattle.line_machine.specs.Machine.{Absent, Loading, Recalling, Storing, DramLd, DramLdRep, DramSt, DramStRep, FlushReq, Line, IsPinned, Moves, evict_clean, evict_dirty, flush_starts, dram_loads, dram_stores, Reached}
+use Rattle.line_machine.specs.Machine.{Shared, Absent, Loading, Recalling, Storing, DramLd, DramLdRep, DramSt, DramStRep, FlushReq, Line, IsPinned, Moves, evict_clean, evict_dirty, flush_starts, dram_loads, dram_stores, Reached}
 use Rattle.machine_history.specs.View.{timed, entry_seen, body_seen, messages_of, entry_in, words_in, set_up, line_in, view}
 use Rattle.machine_history.specs.Shape.{IsBank, IsHome, GoesHome, HasShape}
 use Rattle.machine_history.specs.Steps.{Stands}
 use Rattle.machine_history.proofs.Lookups.{each_get, each_at_number, each_sent, each_without_number, put_here, put_there, put_sets, change_here, change_there, change_sets, drop_here, drop_there, drop_sets, messages-sent, messages-sent_other, messages-taken, messages-taken_other}
 use Rattle.machine_history.proofs.Turns.{bank_turn, dram_turn}
-use Rattle.machine_history.proofs.OnCopies.{right_of}
-use Rattle.machine_history.proofs.OnEntries.{bank_goes}
+use Rattle.std.proofs.Common.{length-set}
+use Rattle.std.proofs.Math.Nat.{mod-lt}
+use Rattle.std.proofs.lemmas.Bool.{lt-ltb, eq-eqb}
+use Rattle.network.specs.declared.message.TimedLine.{TimedLine}
+use Rattle.network.specs.Routes.{is_core_to_bank, is_bank_to_dram, has_route}
+use Rattle.machine_history.specs.Shape.{IsOwnedBelow}
+use Rattle.machine_history.proofs.Routes.{GoesDown, right_of, both, core_and_bank, up_ends}
+use Rattle.machine_history.proofs.OnEntries.{IsFor, bank_goes}
 use Rattle.machine_history.proofs.DramWords.{words-insert_same, words-insert_other}
 use Rattle.machine_history.proofs.CoreEvents.{either}
+
+abbrev IsOwnedIf : ℕ → Option Entry → Type 0
+IsOwnedIf cores None = Unit {0}
+IsOwnedIf cores (Some e) = IsOwnedBelow cores e
+
+for_below : (cores c : ℕ) → c < cores → (e : Entry) → IsFor c e → IsOwnedBelow cores e
+for_below cores c lt entry.Loading own = tt
+for_below cores c lt (entry.Shared dirty line) own = tt
+for_below cores c lt (entry.Exclusive o) own = subst (λ (k : ℕ). k < cores) (sym own) lt
+for_below cores c lt (entry.Recalling o) own = subst (λ (k : ℕ). k < cores) (sym own) lt
+for_below cores c lt entry.Storing own = tt
 
 -- the bank of a line
 module _ (m : Machine) (s : Stands m) (l : ℕ) (bank : BankState) (at : slice_get m.banks (l % m.config.banks) ≡ Some bank) where
@@ -48,11 +65,14 @@ module _ (m : Machine) (s : Stands m) (l : ℕ) (bank : BankState) (at : slice_g
   seen : (line_in m l).entry ≡ entry_seen (entry_of bank l)
   seen = ap (λ (o : Option BankState). entry_in o l) at
 
-  shape : (new : BankState) (ms : List (ℕ × Message)) → IsBank m.config b new → Each (GoesHome m.config.banks) ms → HasShape m.config m.cores (set m.banks b new) ms m.issued
+  shape : (new : BankState) (ms : List (ℕ × Message)) → IsBank m.config b new → Each (GoesHome m.config) ms → HasShape m.config m.cores (set m.banks b new) m.drams ms m.issued
   shape new ms k each =
       record {
         some_words = s.whole.some_words;
+        some_banks = s.whole.some_banks;
         core_count = s.whole.core_count;
+        bank_count = length-set m.banks b new ∙ s.whole.bank_count;
+        dram_count = s.whole.dram_count;
         lists = s.whole.lists;
         each_core = s.whole.each_core;
         each_bank = each_get (λ i y. IsBank m.config i y) m.banks b new bank at k (λ j ne z w. s.whole.each_bank j z w);
@@ -60,15 +80,25 @@ module _ (m : Machine) (s : Stands m) (l : ℕ) (bank : BankState) (at : slice_g
       }
 
   -- what is sent about the line goes home
-  home : (n : ℕ) (to : Node) (sent : Body) → IsHome b to → GoesHome m.config.banks (n, from_bank bank l to sent)
-  home n to sent h = (is.numbered, h)
+  home : (n : ℕ) (to : Node) (sent : Body) → IsHome b to → has_route m.config.cores m.config.banks (node.Bank bank.number) to sent ≡ true → GoesHome m.config (n, from_bank bank l to sent)
+  home n to sent h route = (is.numbered, h, route)
+
+  below : bank.number < m.config.banks
+  below = subst (λ (k : ℕ). k < m.config.banks) (sym is.numbered) (mod-lt l s.whole.some_banks)
+
+  -- to the DRAM behind the bank, and to a core
+  back : is_bank_to_dram m.config.banks (node.Bank bank.number) (node.Dram bank.number) ≡ true
+  back = both _ _ (lt-ltb bank.number m.config.banks below) (eq-eqb bank.number bank.number refl)
+
+  down : (owner : ℕ) → owner < m.config.cores → is_core_to_bank m.config.cores m.config.banks (node.Core owner) (node.Bank bank.number) ≡ true
+  down owner lt = core_and_bank m.config.cores m.config.banks owner bank.number lt below
 
   -- the bank, its entry of the line, and the messages, after a move
-  step : (new : BankState) (e : by_line.Entry) (front : List by_line.Message) (ms : List (ℕ × Message)) → new.number ≡ bank.number → new.banks ≡ bank.banks → new.lease ≡ bank.lease → 0 < length new.table.sets →
-      entry_seen (entry_of new l) ≡ e → ((k : ℕ) → k ≢ l → entry_of new k ≡ entry_of bank k) → IsPermutation front (messages_of ms l) → ((k : ℕ) → k ≢ l → messages_of m.messages k ≡ messages_of ms k) → Each (GoesHome m.config.banks) ms →
-      Moves m.config.lease (IsPinned (set_up m) (view m).cores l) bank.mts (line_in m l) new.mts (record (line_in m l) { entry = e; messages = front }) →
+  step : (new : BankState) (o : Option Entry) (front : List by_line.Message) (ms : List (ℕ × Message)) → new.number ≡ bank.number → new.banks ≡ bank.banks → new.lease ≡ bank.lease → 0 < length new.table.sets →
+      entry_of new l ≡ o → IsOwnedIf m.config.cores o → ((k : ℕ) → k ≢ l → entry_of new k ≡ entry_of bank k) → IsPermutation front (messages_of ms l) → ((k : ℕ) → k ≢ l → messages_of m.messages k ≡ messages_of ms k) → Each (GoesHome m.config) ms →
+      Moves m.config.lease (IsPinned (set_up m) (view m).cores l) bank.mts (line_in m l) new.mts (record (line_in m l) { entry = entry_seen o; messages = front }) →
       Stands (record m { banks = set m.banks b new; messages = ms })
-  step new e front ms number banks lease sets here there bags others each mv =
+  step new o front ms number banks lease sets here owned there bags others each mv =
       record {
         whole = shape new ms (record {
           numbered = number ∙ is.numbered;
@@ -76,22 +106,26 @@ module _ (m : Machine) (s : Stands m) (l : ℕ) (bank : BankState) (at : slice_g
           lease = lease ∙ is.lease;
           sets = sets;
           own = λ k ne. there k (λ q. ne (ap (λ (j : ℕ). j % m.config.banks) q)) ∙ is.own k ne;
+          owners = λ k y i. ⊎_elim
+              (λ (q : k ≡ l). subst (IsOwnedIf m.config.cores) (sym here ∙ subst (λ (j : ℕ). entry_of new j ≡ Some y) q i) owned)
+              (λ (ne : k ≡ l → ⊥). is.owners k y (sym (there k ne) ∙ i))
+              (cases_eq k l);
         }) each;
-        reached = bank_turn m bank new l (record (line_in m l) { entry = e; messages = front }) ms at (sym here) (λ d. refl) refl bags there others mv s.reached;
+        reached = bank_turn m bank new l (record (line_in m l) { entry = entry_seen o; messages = front }) ms at (sym (ap entry_seen here)) (λ d. refl) refl bags there others mv s.reached;
       }
 
   abbrev own_set : ℕ → ℕ
   own_set k = k / bank.banks
 
   -- a message is sent, with these in flight before it
-  step_sent : (new : BankState) (e : by_line.Entry) (ms : List (ℕ × Message)) (q : Message) → q.line ≡ l → GoesHome m.config.banks (m.next, q) → new.number ≡ bank.number → new.banks ≡ bank.banks → new.lease ≡ bank.lease → 0 < length new.table.sets →
-      entry_seen (entry_of new l) ≡ e → ((k : ℕ) → k ≢ l → entry_of new k ≡ entry_of bank k) → ((k : ℕ) → k ≢ l → messages_of m.messages k ≡ messages_of ms k) → Each (GoesHome m.config.banks) ms →
-      Moves m.config.lease (IsPinned (set_up m) (view m).cores l) bank.mts (line_in m l) new.mts (record (line_in m l) { entry = e; messages = body_seen (core_of q.from) (core_of q.to) q.body ∷ messages_of ms l }) →
+  step_sent : (new : BankState) (o : Option Entry) (ms : List (ℕ × Message)) (q : Message) → q.line ≡ l → GoesHome m.config (m.next, q) → new.number ≡ bank.number → new.banks ≡ bank.banks → new.lease ≡ bank.lease → 0 < length new.table.sets →
+      entry_of new l ≡ o → IsOwnedIf m.config.cores o → ((k : ℕ) → k ≢ l → entry_of new k ≡ entry_of bank k) → ((k : ℕ) → k ≢ l → messages_of m.messages k ≡ messages_of ms k) → Each (GoesHome m.config) ms →
+      Moves m.config.lease (IsPinned (set_up m) (view m).cores l) bank.mts (line_in m l) new.mts (record (line_in m l) { entry = entry_seen o; messages = body_seen (core_of q.from) (core_of q.to) q.body ∷ messages_of ms l }) →
       Stands (record m { banks = set m.banks b new; messages = ms ++ (m.next, q) ∷ [] })
-  step_sent new e ms q line goes number banks lease sets here there others each mv =
-      step new e (body_seen (core_of q.from) (core_of q.to) q.body ∷ messages_of ms l) (ms ++ (m.next, q) ∷ []) number banks lease sets here there
+  step_sent new o ms q line goes number banks lease sets here owned there others each mv =
+      step new o (body_seen (core_of q.from) (core_of q.to) q.body ∷ messages_of ms l) (ms ++ (m.next, q) ∷ []) number banks lease sets here owned there
       (subst (λ (k : ℕ). IsPermutation (body_seen (core_of q.from) (core_of q.to) q.body ∷ messages_of ms k) (messages_of (ms ++ (m.next, q) ∷ []) k)) line (messages-sent ms m.next q))
-      (λ k ne. others k ne ∙ messages-sent_other ms m.next q k (λ w. ne (w ∙ line))) (each_sent (GoesHome m.config.banks) ms (m.next, q) each goes) mv
+      (λ k ne. others k ne ∙ messages-sent_other ms m.next q k (λ w. ne (w ∙ line))) (each_sent (GoesHome m.config) ms (m.next, q) each goes) mv
 
   -- EvictBank
   pub entry_goes : (o : Option Entry) → entry_of bank l ≡ o → Stands (entry_evicted m b (after_eviction bank l (on_entry.evicted o))).1
@@ -101,19 +135,19 @@ module _ (m : Machine) (s : Stands m) (l : ℕ) (bank : BankState) (at : slice_g
   entry_goes (Some entry.Storing) e = s
   entry_goes (Some (entry.Shared false line)) e =
       let new : BankState = record (without_entry bank l) { mts = max bank.mts line.rts } in
-      let t = step new Absent (messages_of m.messages l) m.messages refl refl refl (drop_sets own_set bank.table.sets is.sets l) (ap entry_seen (drop_here own_set bank.table.sets is.sets l)) (drop_there own_set bank.table.sets is.sets l)
+      let t = step new None (messages_of m.messages l) m.messages refl refl refl (drop_sets own_set bank.table.sets is.sets l) (drop_here own_set bank.table.sets is.sets l) tt (drop_there own_set bank.table.sets is.sets l)
       (IsPermutation-refl (messages_of m.messages l)) (λ k ne. refl) s.whole.each_message (evict_clean (timed line) (seen ∙ ap entry_seen e)) in
       record { whole = t.whole; reached = t.reached }
   entry_goes (Some (entry.Shared true line)) e =
       let new : BankState = record (with_changed bank l entry.Storing) { mts = max bank.mts line.rts } in
       let q = to_dram bank l (body.DramSt line.words) in
-      let t = step_sent new Storing m.messages q refl (home m.next (node.Dram bank.number) (body.DramSt line.words) is.numbered) refl refl refl (change_sets own_set bank.table.sets is.sets l entry.Storing)
-      (ap entry_seen (change_here own_set bank.table.sets is.sets l entry.Storing (entry.Shared true line) e)) (change_there own_set bank.table.sets is.sets l entry.Storing) (λ k ne. refl) s.whole.each_message (evict_dirty (timed line) (seen ∙ ap entry_seen e)) in
+      let t = step_sent new (Some entry.Storing) m.messages q refl (home m.next (node.Dram bank.number) (body.DramSt line.words) is.numbered back) refl refl refl (change_sets own_set bank.table.sets is.sets l entry.Storing)
+      (change_here own_set bank.table.sets is.sets l entry.Storing (entry.Shared true line) e) tt (change_there own_set bank.table.sets is.sets l entry.Storing) (λ k ne. refl) s.whole.each_message (evict_dirty (timed line) (seen ∙ ap entry_seen e)) in
       either (has_place m) _ _ (record { whole = t.whole; reached = t.reached }) s
   entry_goes (Some (entry.Exclusive o)) e =
       let q = from_bank bank l (node.Core o) body.FlushReq in
-      let t = step_sent (with_changed bank l (entry.Recalling o)) (Recalling o) m.messages q refl (home m.next (node.Core o) body.FlushReq tt) refl refl refl (change_sets own_set bank.table.sets is.sets l (entry.Recalling o))
-      (ap entry_seen (change_here own_set bank.table.sets is.sets l (entry.Recalling o) (entry.Exclusive o) e)) (change_there own_set bank.table.sets is.sets l (entry.Recalling o)) (λ k ne. refl) s.whole.each_message (flush_starts o (seen ∙ ap entry_seen e)) in
+      let t = step_sent (with_changed bank l (entry.Recalling o)) (Some (entry.Recalling o)) m.messages q refl (home m.next (node.Core o) body.FlushReq tt (down o (is.owners l (entry.Exclusive o) e))) refl refl refl (change_sets own_set bank.table.sets is.sets l (entry.Recalling o))
+      (change_here own_set bank.table.sets is.sets l (entry.Recalling o) (entry.Exclusive o) e) (is.owners l (entry.Exclusive o) e) (change_there own_set bank.table.sets is.sets l (entry.Recalling o)) (λ k ne. refl) s.whole.each_message (flush_starts o (seen ∙ ap entry_seen e)) in
       either (has_place m) _ _ (record { whole = t.whole; reached = t.reached }) s
 
 -- Deliver to the bank of the message's line
@@ -130,11 +164,11 @@ module _ (m : Machine) (s : Stands m) (n : ℕ) (message : Message) (found : at_
   others : (k : ℕ) → k ≢ message.line → messages_of m.messages k ≡ messages_of left k
   others k ne = messages-taken_other m.messages n message k found ne
 
-  each_left : Each (GoesHome m.config.banks) left
-  each_left = each_without_number (GoesHome m.config.banks) n m.messages s.whole.each_message
+  each_left : Each (GoesHome m.config) left
+  each_left = each_without_number (GoesHome m.config) n m.messages s.whole.each_message
 
-  goes_home : GoesHome m.config.banks (n, message)
-  goes_home = each_at_number (GoesHome m.config.banks) n m.messages message found s.whole.each_message (λ k p. p)
+  goes_home : GoesHome m.config (n, message)
+  goes_home = each_at_number (GoesHome m.config) n m.messages message found s.whole.each_message (λ k p. p)
 
   module _ (bank : BankState) (at : slice_get m.banks (message.line % m.config.banks) ≡ Some bank) where
     of : IsBank m.config home_bank bank
@@ -152,36 +186,40 @@ module _ (m : Machine) (s : Stands m) (n : ℕ) (message : Message) (found : at_
     loads : Leads Loading (DramLd ∷ messages_of m.messages message.line) → Goes (Some (HeldAfter (to_dram bank message.line body.DramLd), with_used bank message.line entry.Loading))
     loads mv =
         let q = to_dram bank message.line body.DramLd in
-        let t = step_sent m s message.line bank at (with_used bank message.line entry.Loading) Loading m.messages q refl (home m s message.line bank at m.next (node.Dram bank.number) body.DramLd of.numbered) refl refl refl (put_sets place bank.table.sets of.sets message.line entry.Loading)
-        (ap entry_seen (put_here place bank.table.sets of.sets message.line entry.Loading)) (put_there place bank.table.sets of.sets message.line entry.Loading) (λ k ne. refl) s.whole.each_message mv in
+        let t = step_sent m s message.line bank at (with_used bank message.line entry.Loading) (Some entry.Loading) m.messages q refl (home m s message.line bank at m.next (node.Dram bank.number) body.DramLd of.numbered (back m s message.line bank at)) refl refl refl (put_sets place bank.table.sets of.sets message.line entry.Loading)
+        (put_here place bank.table.sets of.sets message.line entry.Loading) tt (put_there place bank.table.sets of.sets message.line entry.Loading) (λ k ne. refl) s.whole.each_message mv in
         either (has_place m) _ _ (record { whole = t.whole; reached = t.reached }) s
 
-    recalls : (owner : ℕ) (sent : Body) (old : Entry) → entry_of bank message.line ≡ Some old → Leads (Recalling owner) (body_seen 0 owner sent ∷ messages_of m.messages message.line) →
+    recalls : (owner : ℕ) (sent : Body) → GoesDown sent → entry_of bank message.line ≡ Some (entry.Exclusive owner) → Leads (Recalling owner) (body_seen 0 owner sent ∷ messages_of m.messages message.line) →
         Goes (Some (HeldAfter (from_bank bank message.line (node.Core owner) sent), with_changed bank message.line (entry.Recalling owner)))
-    recalls owner sent old there mv =
+    recalls owner sent goes there mv =
         let q = from_bank bank message.line (node.Core owner) sent in
-        let t = step_sent m s message.line bank at (with_changed bank message.line (entry.Recalling owner)) (Recalling owner) m.messages q refl (home m s message.line bank at m.next (node.Core owner) sent tt) refl refl refl (change_sets place bank.table.sets of.sets message.line (entry.Recalling owner))
-        (ap entry_seen (change_here place bank.table.sets of.sets message.line (entry.Recalling owner) old there)) (change_there place bank.table.sets of.sets message.line (entry.Recalling owner)) (λ k ne. refl) s.whole.each_message mv in
+        let t = step_sent m s message.line bank at (with_changed bank message.line (entry.Recalling owner)) (Some (entry.Recalling owner)) m.messages q refl (home m s message.line bank at m.next (node.Core owner) sent tt (goes m.config.cores m.config.banks (node.Bank bank.number) (node.Core owner) ∙ down m s message.line bank at owner (of.owners message.line (entry.Exclusive owner) there))) refl refl refl (change_sets place bank.table.sets of.sets message.line (entry.Recalling owner))
+        (change_here place bank.table.sets of.sets message.line (entry.Recalling owner) (entry.Exclusive owner) there) (of.owners message.line (entry.Exclusive owner) there) (change_there place bank.table.sets of.sets message.line (entry.Recalling owner)) (λ k ne. refl) s.whole.each_message mv in
         either (has_place m) _ _ (record { whole = t.whole; reached = t.reached }) s
 
-    grants : (e : Entry) (sent : Body) → Leads (entry_seen (Some e)) (body_seen 0 (core_of message.from) sent ∷ messages_of left message.line) →
+    grants : (e : Entry) (sent : Body) → GoesDown sent → IsFor (core_of message.from) e → is_core_to_bank m.config.cores m.config.banks message.from message.to ≡ true → Leads (entry_seen (Some e)) (body_seen 0 (core_of message.from) sent ∷ messages_of left message.line) →
         Goes (Some (Done (Some (from_bank bank message.line message.from sent)), with_used bank message.line e))
-    grants e sent mv =
+    grants e sent goes own up mv =
+        let ends = up_ends m.config.cores m.config.banks message.from message.to up in
+        let route : is_core_to_bank m.config.cores m.config.banks message.from (node.Bank bank.number) ≡ true =
+        subst (λ (f : Node). is_core_to_bank m.config.cores m.config.banks f (node.Bank bank.number) ≡ true) (sym ends.from_core) (down m s message.line bank at ends.core ends.some_core) in
+        let some : core_of message.from < m.config.cores = subst (λ (k : ℕ). k < m.config.cores) (sym (ap core_of ends.from_core)) ends.some_core in
         let q = from_bank bank message.line message.from sent in
-        let t = step_sent m s message.line bank at (with_used bank message.line e) (entry_seen (Some e)) left q refl (home m s message.line bank at m.next message.from sent goes_home.0) refl refl refl (put_sets place bank.table.sets of.sets message.line e)
-        (ap entry_seen (put_here place bank.table.sets of.sets message.line e)) (put_there place bank.table.sets of.sets message.line e) others each_left mv in
+        let t = step_sent m s message.line bank at (with_used bank message.line e) (Some e) left q refl (home m s message.line bank at m.next message.from sent goes_home.0 (goes m.config.cores m.config.banks (node.Bank bank.number) message.from ∙ route)) refl refl refl (put_sets place bank.table.sets of.sets message.line e)
+        (put_here place bank.table.sets of.sets message.line e) (for_below m.config.cores (core_of message.from) some e own) (put_there place bank.table.sets of.sets message.line e) others each_left mv in
         either (has_number m) _ _ (record { whole = t.whole; reached = t.reached }) s
 
-    becomes : (e old : Entry) → entry_of bank message.line ≡ Some old → Leads (entry_seen (Some e)) (messages_of left message.line) → Goes (Some (Done None, with_changed bank message.line e))
-    becomes e old there mv =
-        let t = step m s message.line bank at (with_changed bank message.line e) (entry_seen (Some e)) (messages_of left message.line) left refl refl refl (change_sets place bank.table.sets of.sets message.line e)
-        (ap entry_seen (change_here place bank.table.sets of.sets message.line e old there)) (change_there place bank.table.sets of.sets message.line e) (IsPermutation-refl (messages_of left message.line)) others each_left mv in
+    becomes : (dirty : Bool) (line : TimedLine) (old : Entry) → entry_of bank message.line ≡ Some old → Leads (Shared dirty (timed line)) (messages_of left message.line) → Goes (Some (Done None, with_changed bank message.line (entry.Shared dirty line)))
+    becomes dirty line old there mv =
+        let t = step m s message.line bank at (with_changed bank message.line (entry.Shared dirty line)) (Some (entry.Shared dirty line)) (messages_of left message.line) left refl refl refl (change_sets place bank.table.sets of.sets message.line (entry.Shared dirty line))
+        (change_here place bank.table.sets of.sets message.line (entry.Shared dirty line) old there) tt (change_there place bank.table.sets of.sets message.line (entry.Shared dirty line)) (IsPermutation-refl (messages_of left message.line)) others each_left mv in
         record { whole = t.whole; reached = t.reached }
 
     leaves : Leads Absent (messages_of left message.line) → Goes (Some (Done None, without_entry bank message.line))
     leaves mv =
-        let t = step m s message.line bank at (without_entry bank message.line) Absent (messages_of left message.line) left refl refl refl (drop_sets place bank.table.sets of.sets message.line)
-        (ap entry_seen (drop_here place bank.table.sets of.sets message.line)) (drop_there place bank.table.sets of.sets message.line) (IsPermutation-refl (messages_of left message.line)) others each_left mv in
+        let t = step m s message.line bank at (without_entry bank message.line) None (messages_of left message.line) left refl refl refl (drop_sets place bank.table.sets of.sets message.line)
+        (drop_here place bank.table.sets of.sets message.line) tt (drop_there place bank.table.sets of.sets message.line) (IsPermutation-refl (messages_of left message.line)) others each_left mv in
         record { whole = t.whole; reached = t.reached }
 
     bank_delivered : core_of message.to ≡ 0 → comes_to_bank message.from (entry_of bank message.line) message.body ≡ true → Goes (bank_table.bank_table bank message)
@@ -189,8 +227,8 @@ module _ (m : Machine) (s : Stands m) (n : ℕ) (message : Message) (found : at_
         let room = has_room bank.table (bank_table.set_of bank message.line) in
         let came = subst (λ (k : ℕ). IsPermutation (messages_of m.messages message.line) (body_seen (core_of message.from) k message.body ∷ messages_of left message.line)) to (messages-taken m.messages n message found) in
         subst (λ (k : ℕ). Goes (after_decision bank message (on_entry.at_bank k bank.mts room (core_of message.from) (entry_of bank message.line) message.body))) (sym of.lease)
-        (bank_goes m.config.lease (IsPinned (set_up m) (view m).cores message.line) bank.mts (line_in m message.line) (messages_of left message.line) (core_of message.from) bank message Goes (seen m s message.line bank at)
-        s (record { whole = s.whole; reached = s.reached }) loads recalls grants becomes leaves room message.body comes came)
+        (bank_goes m.config.lease (IsPinned (set_up m) (view m).cores message.line) bank.mts (line_in m message.line) (messages_of left message.line) (core_of message.from) bank message m.config.cores m.config.banks Goes (seen m s message.line bank at)
+        s (record { whole = s.whole; reached = s.reached }) loads recalls grants becomes leaves room message.body comes goes_home.2 came)
 
     by_case : core_of message.to ≡ 0 → (h : Bool) → bank_has_case bank message ≡ h → Stands (cond h (reacted m n (λ machine part. with_bank machine home_bank part) (bank_table.bank_table bank message)) (refused m NoSuch)).1
     by_case to true has = bank_delivered to (right_of (is_this_bank bank.number message.to) (comes_to_bank message.from (entry_of bank message.line) message.body) has)
@@ -207,14 +245,14 @@ module _ (m : Machine) (s : Stands m) (n : ℕ) (message : Message) (found : at_
 
   -- Deliver to the DRAM behind it
   module _ (lines : FinMap nat_cmp (List ℕ)) (at : slice_get m.drams (message.line % m.config.banks) ≡ Some lines) where
-    answered : (new : FinMap nat_cmp (List ℕ)) (reply : Body) → words_of new message.line ≡ words_of new message.line → ((k : ℕ) → k ≢ message.line → words_of new k ≡ words_of lines k) →
+    answered : (new : FinMap nat_cmp (List ℕ)) (reply : Body) → has_route m.config.cores m.config.banks message.to message.from reply ≡ true → ((k : ℕ) → k ≢ message.line → words_of new k ≡ words_of lines k) →
         Moves m.config.lease (IsPinned (set_up m) (view m).cores message.line) ((view m).mts home_bank) (line_in m message.line) ((view m).mts home_bank) (record (line_in m message.line) { dram = words_of new message.line; messages = body_seen (core_of message.to) (core_of message.from) reply ∷ messages_of left message.line }) →
         Stands (reacted m n (λ machine part. with_dram machine home_bank part) (Some (Done (Some (answer_to message reply)), new))).1
-    answered new reply same there mv =
+    answered new reply route there mv =
         let q = answer_to message reply in
         either (has_number m) _ _
         (record {
-          whole = record { some_words = s.whole.some_words; core_count = s.whole.core_count; lists = s.whole.lists; each_core = s.whole.each_core; each_bank = s.whole.each_bank; each_message = each_sent (GoesHome m.config.banks) left (m.next, q) each_left (goes_home.1, goes_home.0) };
+          whole = record { some_words = s.whole.some_words; some_banks = s.whole.some_banks; core_count = s.whole.core_count; bank_count = s.whole.bank_count; dram_count = length-set m.drams home_bank new ∙ s.whole.dram_count; lists = s.whole.lists; each_core = s.whole.each_core; each_bank = s.whole.each_bank; each_message = each_sent (GoesHome m.config) left (m.next, q) each_left (goes_home.1, goes_home.0, route) };
           reached = dram_turn m lines new message.line (record (line_in m message.line) { dram = words_of new message.line; messages = body_seen (core_of message.to) (core_of message.from) reply ∷ messages_of left message.line }) (left ++ (m.next, q) ∷ []) at refl (λ d. refl) refl
               (messages-sent left m.next q) there (λ k ne. others k ne ∙ messages-sent_other left m.next q k ne) mv s.reached;
         })
@@ -223,14 +261,14 @@ module _ (m : Machine) (s : Stands m) (n : ℕ) (message : Message) (found : at_
     dram_delivered : (c : Body) → message.body ≡ c → comes_to_dram c ≡ true → Stands (reacted m n (λ machine part. with_dram machine home_bank part) (dram_case lines message c)).1
     dram_delivered body.DramLd e has =
         let words : (line_in m message.line).dram ≡ words_of lines message.line = ap (λ (o : Option (FinMap nat_cmp (List ℕ))). words_in o message.line) at in
-        answered lines (body.DramLdRep (words_of lines message.line)) refl (λ k ne. refl)
+        answered lines (body.DramLdRep (words_of lines message.line)) (subst (λ (d : Body). has_route m.config.cores m.config.banks message.from message.to d ≡ true) e goes_home.2) (λ k ne. refl)
         (subst (λ (ws : List ℕ). Moves m.config.lease (IsPinned (set_up m) (view m).cores message.line) ((view m).mts home_bank) (line_in m message.line) ((view m).mts home_bank) (record (line_in m message.line) { dram = ws; messages = DramLdRep ws ∷ messages_of left message.line })) words
         (dram_loads (messages_of left message.line) (came body.DramLd e)))
       where
         came : (c : Body) → message.body ≡ c → IsPermutation (messages_of m.messages message.line) (body_seen (core_of message.from) (core_of message.to) c ∷ messages_of left message.line)
         came c e = subst (λ (d : Body). IsPermutation (messages_of m.messages message.line) (body_seen (core_of message.from) (core_of message.to) d ∷ messages_of left message.line)) e (messages-taken m.messages n message found)
     dram_delivered (body.DramSt ws) e has =
-        answered (insert lines message.line ws) body.DramStRep refl (λ k ne. words-insert_other lines message.line k ws ne)
+        answered (insert lines message.line ws) body.DramStRep (subst (λ (d : Body). has_route m.config.cores m.config.banks message.from message.to d ≡ true) e goes_home.2) (λ k ne. words-insert_other lines message.line k ws ne)
         (subst (λ (us : List ℕ). Moves m.config.lease (IsPinned (set_up m) (view m).cores message.line) ((view m).mts home_bank) (line_in m message.line) ((view m).mts home_bank) (record (line_in m message.line) { dram = us; messages = DramStRep ∷ messages_of left message.line })) (sym (words-insert_same lines message.line ws))
         (dram_stores ws (messages_of left message.line) (subst (λ (d : Body). IsPermutation (messages_of m.messages message.line) (body_seen (core_of message.from) (core_of message.to) d ∷ messages_of left message.line)) e (messages-taken m.messages n message found))))
     dram_delivered _ e has = absurd (let z : false ≡ true = has in cc)

@@ -1,5 +1,5 @@
 -- What a core's events make of a machine that stands, stands: issues, attempts, evictions and advances.
-use Rattle.std.proofs.Common.{◌≡◌, ℕ, ◌+◌, ◌-◌, ◌%◌, ◌/◌, ◌<◌, Bool, true, false, cond, eqb, List, [], ◌∷◌, ◌++◌, length, set, get_or, Option, Some, None, refl, sym, ap, ◌∙◌, subst, arith, ⊎_elim, length-set, length-append, get_or-set_same, get_or-set_other}
+use Rattle.std.proofs.Common.{◌≡◌, ◌≢◌, ℕ, ◌+◌, ◌-◌, ◌%◌, ◌/◌, ◌<◌, Bool, true, false, cond, eqb, List, [], ◌∷◌, ◌++◌, length, set, get_or, Option, Some, None, refl, sym, ap, ◌∙◌, subst, arith, ⊎_elim, length-set, length-append, get_or-set_same, get_or-set_other}
 use Rattle.std.specs.Prelude.{Ok, Err}
 use Rattle.std.specs.List.{slice_get, AllByRecursion as Each}
 use Rattle.std.proofs.lemmas.Option.{slice_get_within}
@@ -35,6 +35,11 @@ use Rattle.machine_history.specs.Shape.{IsCore, GoesHome, HasShape}
 use Rattle.machine_history.specs.Steps.{Stands}
 use Rattle.machine_history.proofs.Lookups.{each_get, each_sent, put_here, put_there, put_sets, drop_here, drop_there, drop_sets, messages-sent, messages-sent_other}
 use Rattle.machine_history.proofs.Turns.{machine_same, line_same, copies_kept, cores_view, core_turn, core_move}
+use Rattle.line_machine.proofs.Cores.{Some_injective}
+use Rattle.std.proofs.Math.Nat.{mod-lt}
+use Rattle.network.specs.declared.message.Node.TheVariants as node
+use Rattle.machine_history.proofs.Routes.{GoesUp, core_and_bank}
+use Rattle.machine_history.proofs.Rooms.{place-without, place-there}
 use Rattle.machine_history.proofs.OnCopies.{serves_uses, serves_not, serves_clash}
 
 pub either : (b : Bool) (x y : Outcome) → Stands x.1 → Stands y.1 → Stands (cond b x y).1
@@ -79,11 +84,14 @@ module _ (m : Machine) (s : Stands m) (core : CoreState) (at : slice_get m.cores
   pub is : IsCore m.config c ops core
   is = s.whole.each_core c core at
 
-  pub shape : (new : CoreState) (ms : List (ℕ × Message)) → IsCore m.config c ops new → Each (GoesHome m.config.banks) ms → HasShape m.config (set m.cores c new) m.banks ms m.issued
+  pub shape : (new : CoreState) (ms : List (ℕ × Message)) → IsCore m.config c ops new → Each (GoesHome m.config) ms → HasShape m.config (set m.cores c new) m.banks m.drams ms m.issued
   shape new ms k each =
       record {
         some_words = s.whole.some_words;
+        some_banks = s.whole.some_banks;
         core_count = length-set m.cores c new ∙ s.whole.core_count;
+        bank_count = s.whole.bank_count;
+        dram_count = s.whole.dram_count;
         lists = s.whole.lists;
         each_core = each_get (λ i y. IsCore m.config i (get_or m.issued i []) y) m.cores c new core at k (λ j ne z w. s.whole.each_core j z w);
         each_bank = s.whole.each_bank;
@@ -97,8 +105,24 @@ module _ (m : Machine) (s : Stands m) (core : CoreState) (at : slice_get m.cores
   copies_at l = ap (λ (o : Option CoreState). copy_in o l) at
 
   -- a message to the bank of a line goes home
-  pub home : (n l : ℕ) (b : Body) → GoesHome m.config.banks (n, to_bank core l b)
-  home n l b = (tt, ap (λ (k : ℕ). l % k) is.banks)
+  home_is : (l : ℕ) → l % core.banks ≡ l % m.config.banks
+  home_is l = ap (λ (k : ℕ). l % k) is.banks
+
+  pub home : (n l : ℕ) (b : Body) → GoesUp b → GoesHome m.config (n, to_bank core l b)
+  home n l b up =
+      let below : c < m.config.cores = (let lt = slice_get_within m.cores c core at in let a = s.whole.core_count in omega arith) in
+      let there : l % core.banks < m.config.banks = subst (λ (k : ℕ). k < m.config.banks) (sym (home_is l)) (mod-lt l s.whole.some_banks) in
+      (tt, home_is l, up m.config.cores m.config.banks (node.Core c) (node.Bank (l % core.banks)) ∙ core_and_bank m.config.cores m.config.banks c (l % core.banks) below there)
+
+  -- no request is out where no operation is open
+  idle : core.open_op ≡ None → core.is_out ≡ false
+  idle none = sym (ap (λ (y : Core). y.out) seen) ∙ (reached_blocked (set_up m) (view m) s.reached).idle c (ap (λ (y : Core). y.open_op) seen ∙ none)
+
+  pub off_line : (l : ℕ) → is_on (pinned_line core) l ≡ false → (op : Op) → core.open_op ≡ Some op → core_table.line_of core op ≢ l
+  off_line l off op opens q =
+      let z : eqb (core_table.line_of core op) l ≡ true = eq-eqb _ _ q in
+      let w : eqb (core_table.line_of core op) l ≡ false = sym (ap (λ (o : Option Op). is_on (line_of_open core o) l) opens) ∙ off in
+      cc
 
   pub unpinned : (l : ℕ) → is_on (pinned_line core) l ≡ false → IsPinned (set_up m) (view m).cores l c → ⊥
   unpinned l off p =
@@ -120,11 +144,14 @@ module _ (m : Machine) (s : Stands m) (core : CoreState) (at : slice_get m.cores
       record {
         whole = record {
           some_words = s.whole.some_words;
+          some_banks = s.whole.some_banks;
           core_count = length-set m.cores c new ∙ s.whole.core_count;
+          bank_count = s.whole.bank_count;
+          dram_count = s.whole.dram_count;
           lists = length-set m.issued c more ∙ s.whole.lists;
           each_core = each_get (λ i y. IsCore m.config i (get_or (set m.issued c more) i []) y) m.cores c new core at
               (subst (λ (os : List Op). IsCore m.config c os new) (sym (get_or-set_same m.issued c more [] there))
-              (record { numbered = refl; banks = is.banks; line_words = is.line_words; lease = is.lease; private_write = is.private_write; sets = is.sets; count = (let k = is.count in let a = length-append ops (op ∷ []) in omega arith) }))
+              (record { numbered = refl; banks = is.banks; line_words = is.line_words; lease = is.lease; private_write = is.private_write; sets = is.sets; count = (let k = is.count in let a = length-append ops (op ∷ []) in omega arith); room = λ p o q. absurd (let z : true ≡ false = sym q ∙ idle none in cc) }))
               (λ j ne z w. subst (λ (os : List Op). IsCore m.config j os z) (sym (get_or-set_other m.issued c j more [] ne)) (s.whole.each_core j z w));
           each_bank = s.whole.each_bank;
           each_message = s.whole.each_message;
@@ -149,7 +176,7 @@ module _ (m : Machine) (s : Stands m) (core : CoreState) (at : slice_get m.cores
       let after : Machine = record m { cores = set m.cores c new } in
       let n : by_line.Machine = record v { cores = with_at v.cores c (record (v.cores c) { pts = (v.cores c).pts + 1 }) } in
       record {
-        whole = shape new m.messages (record { numbered = refl; banks = is.banks; line_words = is.line_words; lease = is.lease; private_write = is.private_write; sets = is.sets; count = is.count }) s.whole.each_message;
+        whole = shape new m.messages (record { numbered = refl; banks = is.banks; line_words = is.line_words; lease = is.lease; private_write = is.private_write; sets = is.sets; count = is.count; room = is.room }) s.whole.each_message;
         reached = subst (Reached (set_up m))
             (machine_same n (view after) (λ l. line_same (v.lines l) ((view after).lines l) refl (λ e. copies_kept m c core new at l e refl) refl refl)
             (λ e. ap (λ (y : Core). with_at v.cores c (record y { pts = y.pts + 1 }) e) seen ∙ cores_view m c core new at e) (λ b. refl) (λ e. refl) refl)
@@ -197,7 +224,7 @@ module _ (m : Machine) (s : Stands m) (core : CoreState) (at : slice_get m.cores
         subst (λ (k : ℕ). Uses (set_up m) core.pts (copy_seen copy) op (received_at (address op % k) op copy) ts (copy_seen (copy_after (address op % k) ts op copy))) (sym is.line_words)
         (serves_uses (set_up m) core.pts copy op ts can (subst (λ (b : Bool). time_of b core.pts op copy ≡ Some ts) is.private_write t)) in
         record {
-          whole = shape new m.messages (record { numbered = refl; banks = is.banks; line_words = is.line_words; lease = is.lease; private_write = is.private_write; sets = put_sets (λ k. k) core.cache.sets is.sets l used; count = is.count }) s.whole.each_message;
+          whole = shape new m.messages (record { numbered = refl; banks = is.banks; line_words = is.line_words; lease = is.lease; private_write = is.private_write; sets = put_sets (λ k. k) core.cache.sets is.sets l used; count = is.count; room = λ p o q. absurd (let z : ◌≡◌ {A = Option Op} None (Some p) = o in cc) }) s.whole.each_message;
           reached = core_turn m c core new at n l y m.messages rs (with_at_same v.lines l y) (λ j ne. with_at_other v.lines l y j ne) refl (λ d. refl) refl refl refl refl
               (λ d. ap (λ (z : Option Copy). with_at ((v.lines l).copies) c z d) (sym (ap copy_or_none (put_here (λ k. k) core.cache.sets is.sets l used)))) (IsPermutation-refl (messages_of m.messages l))
               (λ k ne. ap copy_or_none (put_there (λ j. j) core.cache.sets is.sets l used k ne)) (λ k ne. refl)
@@ -206,8 +233,8 @@ module _ (m : Machine) (s : Stands m) (core : CoreState) (at : slice_get m.cores
         }
 
     -- a request is sent
-    requested_goes : (b : Body) → core.is_out ≡ false → Asks c core.pts op (line_in m l) (record (line_in m l) { messages = body_seen c 0 b ∷ messages_of m.messages l }) → Stands (requested m c core (to_bank core l b)).1
-    requested_goes b out a =
+    requested_goes : (b : Body) → GoesUp b → place_for core.cache l ≡ true → core.is_out ≡ false → Asks c core.pts op (line_in m l) (record (line_in m l) { messages = body_seen c 0 b ∷ messages_of m.messages l }) → Stands (requested m c core (to_bank core l b)).1
+    requested_goes b up place out a =
         let v = view m in
         let q = to_bank core l b in
         let new : CoreState = record core { is_out = true } in
@@ -215,7 +242,7 @@ module _ (m : Machine) (s : Stands m) (core : CoreState) (at : slice_get m.cores
         let n : by_line.Machine = record v { cores = with_at v.cores c (record (v.cores c) { out = true }); lines = with_at v.lines l y } in
         either (has_place m) _ _
         (record {
-          whole = shape new (m.messages ++ (m.next, q) ∷ []) (record { numbered = refl; banks = is.banks; line_words = is.line_words; lease = is.lease; private_write = is.private_write; sets = is.sets; count = is.count }) (each_sent (GoesHome m.config.banks) m.messages (m.next, q) s.whole.each_message (home m.next l b));
+          whole = shape new (m.messages ++ (m.next, q) ∷ []) (record { numbered = refl; banks = is.banks; line_words = is.line_words; lease = is.lease; private_write = is.private_write; sets = is.sets; count = is.count; room = λ p o q. subst (λ (k : Op). place_for core.cache (core_table.line_of core k) ≡ true) (Some_injective op p (sym opens ∙ o)) place }) (each_sent (GoesHome m.config) m.messages (m.next, q) s.whole.each_message (home m.next l b up));
           reached = core_turn m c core new at n l y (m.messages ++ (m.next, q) ∷ []) m.records (with_at_same v.lines l y) (λ j ne. with_at_other v.lines l y j ne) refl (λ d. ap (λ (z : Core). with_at v.cores c (record z { out = true }) d) seen) refl refl refl refl
               (λ d. ap (λ (g : ℕ → Option Copy). g d) (sym (with_at_id ((v.lines l).copies) c (copy_in (Some core) l) (copies_at l)))) (messages-sent m.messages m.next q)
               (λ k ne. refl) (λ k ne. messages-sent_other m.messages m.next q k ne)
@@ -223,32 +250,32 @@ module _ (m : Machine) (s : Stands m) (core : CoreState) (at : slice_get m.cores
         })
         s
 
-    need_goes : (version : Option ℕ) (o : Option LineCopy) → copy_of core.cache l ≡ o → version_of (copy_or_none o) ≡ version → core.is_out ≡ false → CannotUse op core.pts (copy_or_none o) → Stands (attempted_op m c core op (Some (core_table.need core.pts op version), core)).1
-    need_goes version o there v out cannot = by_op op refl cannot
+    need_goes : (version : Option ℕ) (o : Option LineCopy) → copy_of core.cache l ≡ o → version_of (copy_or_none o) ≡ version → place_for core.cache l ≡ true → core.is_out ≡ false → CannotUse op core.pts (copy_or_none o) → Stands (attempted_op m c core op (Some (core_table.need core.pts op version), core)).1
+    need_goes version o there v place out cannot = by_op op refl cannot
       where
         copy : (line_in m l).copies c ≡ copy_or_none o
         copy = copies_at l ∙ ap copy_or_none there
 
         by_op : (p : Op) → op ≡ p → CannotUse p core.pts (copy_or_none o) → Stands (attempted_op m c core op (Some (core_table.need core.pts p version), core)).1
-        by_op (Load a) e can = requested_goes (body.ShReq core.pts version) out (subst (λ (p : Op). Asks c core.pts p (line_in m l) (record (line_in m l) { messages = ShReq c core.pts version ∷ messages_of m.messages l })) (sym e) (reads c core.pts a (line_in m l) version (copy_or_none o) copy can v))
-        by_op (Store a w) e can = requested_goes (body.ExReq version) out (writes c core.pts op (line_in m l) version (copy_or_none o) copy cannot v)
-        by_op (Swap a w) e can = requested_goes (body.ExReq version) out (writes c core.pts op (line_in m l) version (copy_or_none o) copy cannot v)
+        by_op (Load a) e can = requested_goes (body.ShReq core.pts version) (λ cores banks from to. refl) place out (subst (λ (p : Op). Asks c core.pts p (line_in m l) (record (line_in m l) { messages = ShReq c core.pts version ∷ messages_of m.messages l })) (sym e) (reads c core.pts a (line_in m l) version (copy_or_none o) copy can v))
+        by_op (Store a w) e can = requested_goes (body.ExReq version) (λ cores banks from to. refl) place out (writes c core.pts op (line_in m l) version (copy_or_none o) copy cannot v)
+        by_op (Swap a w) e can = requested_goes (body.ExReq version) (λ cores banks from to. refl) place out (writes c core.pts op (line_in m l) version (copy_or_none o) copy cannot v)
 
     attempt_on_goes : (o : Option LineCopy) → copy_of core.cache l ≡ o → Stands (attempted_op m c core op (core_table.attempt_on core op o)).1
     attempt_on_goes None there = by_out core.is_out refl
       where
-        by_place : core.is_out ≡ false → (b : Bool) → Stands (attempted_op m c core op (Some (cond b (core_table.need core.pts op None) attempted.NoRoom), core)).1
-        by_place out true = need_goes None None there refl out tt
-        by_place out false = s
+        by_place : core.is_out ≡ false → (b : Bool) → place_for core.cache l ≡ b → Stands (attempted_op m c core op (Some (cond b (core_table.need core.pts op None) attempted.NoRoom), core)).1
+        by_place out true place = need_goes None None there refl place out tt
+        by_place out false place = s
 
         by_out : (b : Bool) → core.is_out ≡ b → Stands (attempted_op m c core op (Some (cond b attempted.Waiting (cond (place_for core.cache l) (core_table.need core.pts op None) attempted.NoRoom)), core)).1
         by_out true out = s
-        by_out false out = by_place out (place_for core.cache l)
+        by_out false out = by_place out (place_for core.cache l) refl
     attempt_on_goes (Some copy) there = by_use (serves op core.pts copy) refl
       where
         by_out : serves op core.pts copy ≡ false → (b : Bool) → core.is_out ≡ b → Stands (attempted_op m c core op (Some (cond b attempted.Waiting (core_table.need core.pts op (Some copy.wts))), core)).1
         by_out no_use true out = s
-        by_out no_use false out = need_goes (Some copy.wts) (Some copy) there refl out (serves_not op core.pts copy no_use)
+        by_out no_use false out = need_goes (Some copy.wts) (Some copy) there refl (place-there core.cache l copy there) out (serves_not op core.pts copy no_use)
 
         by_use : (b : Bool) → serves op core.pts copy ≡ b → Stands (attempted_op m c core op (cond b (completed_at core op copy (time_of core.private_write core.pts op copy)) (Some (core_table.attempt_unserved core op copy.wts), core))).1
         by_use true can = completed_goes copy there can _ refl
@@ -266,8 +293,8 @@ module _ (m : Machine) (s : Stands m) (core : CoreState) (at : slice_get m.cores
       new : CoreState
       new = record core { cache = without_copy core.cache l }
 
-      gone : IsCore m.config c ops new
-      gone = record { numbered = refl; banks = is.banks; line_words = is.line_words; lease = is.lease; private_write = is.private_write; sets = drop_sets (λ k. k) core.cache.sets is.sets l; count = is.count }
+      gone : is_on (pinned_line core) l ≡ false → IsCore m.config c ops new
+      gone off = record { numbered = refl; banks = is.banks; line_words = is.line_words; lease = is.lease; private_write = is.private_write; sets = drop_sets (λ k. k) core.cache.sets is.sets l; count = is.count; room = λ p o q. place-without core.cache is.sets l (core_table.line_of core p) (off_line l off p o) (is.room p o q) }
 
       copy_is : (line_in m l).copies c ≡ Some (copy_seen copy)
       copy_is = copies_at l ∙ ap copy_or_none there
@@ -277,14 +304,14 @@ module _ (m : Machine) (s : Stands m) (core : CoreState) (at : slice_get m.cores
           let back = to_bank core l (body.FlushRep (words_of_copy copy)) in
           either (has_place m) _ _
           (record {
-            whole = shape new (m.messages ++ (m.next, back) ∷ []) gone (each_sent (GoesHome m.config.banks) m.messages (m.next, back) s.whole.each_message (home m.next l (body.FlushRep (words_of_copy copy))));
+            whole = shape new (m.messages ++ (m.next, back) ∷ []) (gone off) (each_sent (GoesHome m.config) m.messages (m.next, back) s.whole.each_message (home m.next l (body.FlushRep (words_of_copy copy)) (λ cores banks from to. refl)));
             reached = core_move m c core new at l None (FlushRep c (record { wts = copy.wts; rts = copy.rts; words = copy.words }) ∷ messages_of m.messages l) (m.messages ++ (m.next, back) ∷ []) refl
                 (ap copy_or_none (drop_here (λ k. k) core.cache.sets is.sets l)) (λ k ne. ap copy_or_none (drop_there (λ j. j) core.cache.sets is.sets l k ne))
                 (messages-sent m.messages m.next back) (λ k ne. messages-sent_other m.messages m.next back k ne) (evict_exclusive c (copy_seen copy) (unpinned l off) copy_is ex) s.reached;
           })
           s
       by_state off false sh = record {
-        whole = shape new m.messages gone s.whole.each_message;
+        whole = shape new m.messages (gone off) s.whole.each_message;
         reached = core_move m c core new at l None (messages_of m.messages l) m.messages refl
             (ap copy_or_none (drop_here (λ k. k) core.cache.sets is.sets l)) (λ k ne. ap copy_or_none (drop_there (λ j. j) core.cache.sets is.sets l k ne))
             (IsPermutation-refl (messages_of m.messages l)) (λ k ne. refl) (evict_shared c (copy_seen copy) (unpinned l off) copy_is sh) s.reached;

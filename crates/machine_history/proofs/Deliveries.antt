@@ -1,5 +1,5 @@
 -- What a delivery makes of a machine that stands, stands.
-use Rattle.std.proofs.Common.{◌≡◌, ◌≢◌, ℕ, ◌%◌, ◌<◌, Bool, true, false, ◌&&◌, cond, List, [], ◌∷◌, ◌++◌, length, set, Option, Some, None, refl, sym, ap, ◌∙◌, subst}
+use Rattle.std.proofs.Common.{◌≡◌, ◌≢◌, ℕ, ◌%◌, ◌<◌, Bool, true, false, cond, List, [], ◌∷◌, ◌++◌, length, set, Option, Some, None, refl, sym, ap, ◌∙◌, subst}
 use Rattle.std.specs.List.{slice_get, AllByRecursion as Each}
 use Rattle.std.specs.List.Sorted.{IsPermutation}
 use Rattle.std.proofs.lemmas.List.Sorted.{IsPermutation-refl}
@@ -11,7 +11,8 @@ use Rattle.network.specs.declared.message.Body.TheVariants as body
 use Rattle.network.specs.declared.message.Message.{Message}
 use Rattle.network.specs.Numbered.{at_number, without_number}
 use Rattle.private_cache.specs.declared.line_copy.LineCopy.{LineCopy}
-use Rattle.private_cache.specs.CopyTable.{copy_of, with_used, with_changed}
+use Rattle.physiological_order.specs.declared.operation.Op.{Op}
+use Rattle.private_cache.specs.CopyTable.{copy_of, place_for, with_used, with_changed}
 use Rattle.core_pts.specs.CoreTable as core_table
 use Rattle.core_pts.specs.CoreTable.{CoreState, to_bank, pinned_line, is_on, kept_in, is_this_core, comes_to_core, core_has_case}
 use Rattle.core_pts.specs.OnCopy.{CoreReaction, Arrives, Grants, Returns, Drops, Holds, TooLate, NoCase, at_core}
@@ -27,13 +28,11 @@ use Rattle.machine_history.specs.Shape.{IsCore, GoesHome}
 use Rattle.machine_history.specs.Steps.{Stands}
 use Rattle.machine_history.proofs.Lookups.{each_sent, each_without_number, put_here, put_there, put_sets, change_here, change_there, change_sets, drop_here, drop_there, drop_sets, messages-sent, messages-sent_other, messages-taken, messages-taken_other}
 use Rattle.machine_history.proofs.Turns.{core_turn, core_move, messages_turn}
-use Rattle.machine_history.proofs.OnCopies.{CoreFits, core_fits, right_of}
+use Rattle.machine_history.proofs.OnCopies.{CoreFits, core_fits}
+use Rattle.machine_history.proofs.Routes.{left_of, right_of}
+use Rattle.machine_history.proofs.Rooms.{place-changed, place-without}
 use Rattle.machine_history.proofs.CoreEvents as events
 use Rattle.machine_history.proofs.CoreEvents.{either}
-
-pub left_of : (a b : Bool) → (a && b) ≡ true → a ≡ true
-left_of true b h = refl
-left_of false b h = absurd (let z : false ≡ true = h in cc)
 
 -- Deliver to a core
 module _ (m : Machine) (s : Stands m) (core : CoreState) (at : slice_get m.cores core.number ≡ Some core) (n : ℕ) (message : Message) (found : at_number n m.messages ≡ Some message) where
@@ -52,14 +51,14 @@ module _ (m : Machine) (s : Stands m) (core : CoreState) (at : slice_get m.cores
   others : (k : ℕ) → k ≢ l → messages_of m.messages k ≡ messages_of rest k
   others k ne = messages-taken_other m.messages n message k found ne
 
-  each_rest : Each (GoesHome m.config.banks) rest
-  each_rest = each_without_number (GoesHome m.config.banks) n m.messages s.whole.each_message
+  each_rest : Each (GoesHome m.config) rest
+  each_rest = each_without_number (GoesHome m.config) n m.messages s.whole.each_message
 
   is : IsCore m.config c (events.ops m s core at) core
   is = events.is m s core at
 
-  with_cache : (new : CoreState) → new.number ≡ core.number → new.banks ≡ core.banks → new.line_words ≡ core.line_words → new.lease ≡ core.lease → new.private_write ≡ core.private_write → 0 < length new.cache.sets → new.issued ≡ core.issued → IsCore m.config c (events.ops m s core at) new
-  with_cache new a b d e f g h = record { numbered = a; banks = b ∙ is.banks; line_words = d ∙ is.line_words; lease = e ∙ is.lease; private_write = f ∙ is.private_write; sets = g; count = h ∙ is.count }
+  with_cache : (new : CoreState) → new.number ≡ core.number → new.banks ≡ core.banks → new.line_words ≡ core.line_words → new.lease ≡ core.lease → new.private_write ≡ core.private_write → 0 < length new.cache.sets → new.issued ≡ core.issued → ((op : Op) → new.open_op ≡ Some op → new.is_out ≡ true → place_for new.cache (core_table.line_of new op) ≡ true) → IsCore m.config c (events.ops m s core at) new
+  with_cache new a b d e f g h room = record { numbered = a; banks = b ∙ is.banks; line_words = d ∙ is.line_words; lease = e ∙ is.lease; private_write = f ∙ is.private_write; sets = g; count = h ∙ is.count; room = room }
 
   answered : (new : CoreState) (copy : LineCopy) → core_seen (Some new) ≡ record (core_seen (Some core)) { out = false } → copy_in (Some new) l ≡ Some (copy_seen copy) → ((k : ℕ) → k ≢ l → copy_in (Some new) k ≡ copy_in (Some core) k) →
       Answers c (line_in m l) (record (line_in m l) { copies = with_at (line_in m l).copies c (Some (copy_seen copy)); messages = messages_of rest l }) →
@@ -85,18 +84,22 @@ module _ (m : Machine) (s : Stands m) (core : CoreState) (at : slice_get m.cores
   kept_sets None = drop_sets (λ k. k) core.cache.sets is.sets l
   kept_sets (Some copy) = change_sets (λ k. k) core.cache.sets is.sets l copy
 
-  reaction_goes : (r : CoreReaction) → CoreFits m.config.lease (IsPinned (set_up m) (view m).cores l) ((view m).mts (l % m.config.banks)) c (line_in m l) (messages_of rest l) (copy_of core.cache l) r →
+  kept_room : (kept : Option LineCopy) (k : ℕ) → k ≢ l → place_for core.cache k ≡ true → place_for (kept_in core l kept) k ≡ true
+  kept_room None k ne place = place-without core.cache is.sets l k ne place
+  kept_room (Some copy) k ne place = place-changed core.cache is.sets l k ne place copy
+
+  reaction_goes : (r : CoreReaction) → CoreFits m.config.lease (IsPinned (set_up m) (view m).cores l) ((view m).mts (l % m.config.banks)) c (line_in m l) (messages_of rest l) (is_on (pinned_line core) l) (copy_of core.cache l) r →
       Stands (reacted m n put (core_table.after_reaction core l r)).1
   reaction_goes (Arrives copy) fit =
       let new : CoreState = record core { cache = with_used core.cache l copy; is_out = false } in
       record {
-        whole = events.shape m s core at new rest (with_cache new refl refl refl refl refl (put_sets (λ k. k) core.cache.sets is.sets l copy) refl) each_rest;
+        whole = events.shape m s core at new rest (with_cache new refl refl refl refl refl (put_sets (λ k. k) core.cache.sets is.sets l copy) refl (λ p o q. absurd (let z : false ≡ true = q in cc))) each_rest;
         reached = answered new copy refl (ap copy_or_none (put_here (λ k. k) core.cache.sets is.sets l copy)) (λ k ne. ap copy_or_none (put_there (λ j. j) core.cache.sets is.sets l copy k ne)) fit;
       }
   reaction_goes (Grants copy) fit =
       let new : CoreState = record core { cache = with_changed core.cache l copy; is_out = false } in
       record {
-        whole = events.shape m s core at new rest (with_cache new refl refl refl refl refl (change_sets (λ k. k) core.cache.sets is.sets l copy) refl) each_rest;
+        whole = events.shape m s core at new rest (with_cache new refl refl refl refl refl (change_sets (λ k. k) core.cache.sets is.sets l copy) refl (λ p o q. absurd (let z : false ≡ true = q in cc))) each_rest;
         reached = answered new copy refl (ap copy_or_none (change_here (λ k. k) core.cache.sets is.sets l copy fit.0.0 fit.0.1)) (λ k ne. ap copy_or_none (change_there (λ j. j) core.cache.sets is.sets l copy k ne)) fit.1;
       }
   reaction_goes (Returns kept sent) fit =
@@ -104,14 +107,14 @@ module _ (m : Machine) (s : Stands m) (core : CoreState) (at : slice_get m.cores
       let new : CoreState = record core { cache = kept_in core l kept } in
       either (has_number m) _ _
       (record {
-        whole = events.shape m s core at new (rest ++ (m.next, back) ∷ []) (with_cache new refl refl refl refl refl (kept_sets kept) refl) (each_sent (GoesHome m.config.banks) rest (m.next, back) each_rest (events.home m s core at m.next l sent));
+        whole = events.shape m s core at new (rest ++ (m.next, back) ∷ []) (with_cache new refl refl refl refl refl (kept_sets kept) refl (λ p o q. kept_room kept (core_table.line_of core p) (events.off_line m s core at l fit.1 p o) (is.room p o q))) (each_sent (GoesHome m.config) rest (m.next, back) each_rest (events.home m s core at m.next l sent fit.2));
         reached = core_move m c core new at l (copy_or_none kept) (body_seen c 0 sent ∷ messages_of rest l) (rest ++ (m.next, back) ∷ []) refl (kept_here fit.0.0 fit.0.1 kept) (kept_there kept)
-            (messages-sent rest m.next back) (λ k ne. others k ne ∙ messages-sent_other rest m.next back k ne) fit.1 s.reached;
+            (messages-sent rest m.next back) (λ k ne. others k ne ∙ messages-sent_other rest m.next back k ne) fit.3 s.reached;
       })
       s
   reaction_goes Drops fit =
       record {
-        whole = record { some_words = s.whole.some_words; core_count = s.whole.core_count; lists = s.whole.lists; each_core = s.whole.each_core; each_bank = s.whole.each_bank; each_message = each_rest };
+        whole = record { some_words = s.whole.some_words; some_banks = s.whole.some_banks; core_count = s.whole.core_count; bank_count = s.whole.bank_count; dram_count = s.whole.dram_count; lists = s.whole.lists; each_core = s.whole.each_core; each_bank = s.whole.each_bank; each_message = each_rest };
         reached = messages_turn m l (messages_of rest l) rest (IsPermutation-refl (messages_of rest l)) others fit s.reached;
       }
   reaction_goes Holds fit = s
@@ -123,7 +126,7 @@ module _ (m : Machine) (s : Stands m) (core : CoreState) (at : slice_get m.cores
       let b = is_on (pinned_line core) l in
       let came = messages-taken m.messages n message found in
       reaction_goes (at_core core.lease b (copy_of core.cache l) message.body)
-      (subst (λ (lease : ℕ). CoreFits m.config.lease (IsPinned (set_up m) (view m).cores l) ((view m).mts (l % m.config.banks)) c (line_in m l) (messages_of rest l) (copy_of core.cache l) (at_core lease b (copy_of core.cache l) message.body)) (sym is.lease)
+      (subst (λ (lease : ℕ). CoreFits m.config.lease (IsPinned (set_up m) (view m).cores l) ((view m).mts (l % m.config.banks)) c (line_in m l) (messages_of rest l) (is_on (pinned_line core) l) (copy_of core.cache l) (at_core lease b (copy_of core.cache l) message.body)) (sym is.lease)
       (core_fits m.config.lease (IsPinned (set_up m) (view m).cores l) ((view m).mts (l % m.config.banks)) c (line_in m l) (messages_of rest l) b core l message.body (λ e. events.unpinned m s core at l e) comes (events.copies_at m s core at l)
       (by_node message.to refl this message.body comes came)))
     where

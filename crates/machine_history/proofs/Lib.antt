@@ -12,3 +12,8 @@ pub mod DramOpening
 pub mod Openings
 pub mod Standings
 pub mod History
+pub mod Routes
+pub mod Rooms
+pub mod FoundCases
+pub mod Found
+pub mod StaleRun

@@ -16,6 +16,7 @@ use Rattle.core_pts.specs.OnCopy as on_copy
 use Rattle.core_pts.specs.OnCopy.{is_exclusive, serves, time_of, received_at, copy_after, words_of_copy, at_core, CoreReaction, Arrives, Grants, Returns, Drops, Holds, TooLate, NoCase}
 use Rattle.line_machine.specs.Machine.{Config, Message, RenewRep, UpgradeRep, FlushReq, WbReq, Line, with_at, CannotUse, Moves, dropped, wb_dropped, flushed, written_back, Answers, shared, exclusive, renews, upgrades, Uses, load_hit, load_own, store_own, swap_own}
 use Rattle.line_machine.proofs.Cores.{Some_injective}
+use Rattle.machine_history.proofs.Routes.{GoesUp, right_of}
 use Rattle.machine_history.specs.View.{copy_seen, copy_or_none, body_seen}
 
 -- the time of a write, where it fits
@@ -67,67 +68,63 @@ serves_clash (Swap a v) pts copy h k = let z : true ≡ false = sym h ∙ k.0 in
 abbrev IsThere : Option LineCopy → Type 0
 IsThere o = (old : LineCopy) × (o ≡ Some old)
 
-abbrev pub CoreFits : ℕ → (ℕ → Type 0) → ℕ → ℕ → Line → List Message → Option LineCopy → CoreReaction → Type 0
-CoreFits lease pinned t c x rest o (Arrives copy) = Answers c x (record x { copies = with_at x.copies c (Some (copy_seen copy)); messages = rest })
-CoreFits lease pinned t c x rest o (Grants copy) = IsThere o × Answers c x (record x { copies = with_at x.copies c (Some (copy_seen copy)); messages = rest })
-CoreFits lease pinned t c x rest o (Returns kept sent) = IsThere o × Moves lease pinned t x t (record x { copies = with_at x.copies c (copy_or_none kept); messages = body_seen c 0 sent ∷ rest })
-CoreFits lease pinned t c x rest o Drops = Moves lease pinned t x t (record x { messages = rest })
-CoreFits lease pinned t c x rest o Holds = Unit {0}
-CoreFits lease pinned t c x rest o TooLate = Unit {0}
-CoreFits lease pinned t c x rest o NoCase = ⊥
+abbrev pub CoreFits : ℕ → (ℕ → Type 0) → ℕ → ℕ → Line → List Message → Bool → Option LineCopy → CoreReaction → Type 0
+CoreFits lease pinned t c x rest b o (Arrives copy) = Answers c x (record x { copies = with_at x.copies c (Some (copy_seen copy)); messages = rest })
+CoreFits lease pinned t c x rest b o (Grants copy) = IsThere o × Answers c x (record x { copies = with_at x.copies c (Some (copy_seen copy)); messages = rest })
+CoreFits lease pinned t c x rest b o (Returns kept sent) = IsThere o × (b ≡ false) × GoesUp sent × Moves lease pinned t x t (record x { copies = with_at x.copies c (copy_or_none kept); messages = body_seen c 0 sent ∷ rest })
+CoreFits lease pinned t c x rest b o Drops = Moves lease pinned t x t (record x { messages = rest })
+CoreFits lease pinned t c x rest b o Holds = Unit {0}
+CoreFits lease pinned t c x rest b o TooLate = Unit {0}
+CoreFits lease pinned t c x rest b o NoCase = ⊥
 
-pub right_of : (a b : Bool) → (a && b) ≡ true → b ≡ true
-right_of true b h = h
-right_of false b h = absurd (cc)
-
-module _ (lease : ℕ) (pinned : ℕ → Type 0) (t c : ℕ) (x : Line) (rest : List Message) where
+module _ (lease : ℕ) (pinned : ℕ → Type 0) (t c : ℕ) (x : Line) (rest : List Message) (b : Bool) where
   renewed_fits : (rts : ℕ) (o : Option LineCopy) → x.copies c ≡ copy_or_none o → is_shared_copy o ≡ true → IsPermutation x.messages (RenewRep c rts ∷ rest) →
-      CoreFits lease pinned t c x rest o (on_copy.with_copy (renewed rts) o)
+      CoreFits lease pinned t c x rest b o (on_copy.with_copy (renewed rts) o)
   renewed_fits rts None is sh p = absurd (cc)
   renewed_fits rts (Some copy) is sh p = ((copy, refl), renews rts (copy_seen copy) rest p is)
 
   upgraded_fits : (rts : ℕ) (o : Option LineCopy) → x.copies c ≡ copy_or_none o → is_shared_copy o ≡ true → IsPermutation x.messages (UpgradeRep c rts ∷ rest) →
-      CoreFits lease pinned t c x rest o (on_copy.with_copy (upgraded rts) o)
+      CoreFits lease pinned t c x rest b o (on_copy.with_copy (upgraded rts) o)
   upgraded_fits rts None is sh p = absurd (cc)
   upgraded_fits rts (Some copy) is sh p = ((copy, refl), upgrades rts (copy_seen copy) rest p is)
 
-  flush_fits : (o : Option LineCopy) → x.copies c ≡ copy_or_none o → (pinned c → ⊥) → IsPermutation x.messages (FlushReq c ∷ rest) → CoreFits lease pinned t c x rest o (on_copy.flushed o)
-  flush_fits None is un p = dropped c rest p
-  flush_fits (Some copy) is un p = go (is_exclusive copy.state) refl
+  flush_fits : (o : Option LineCopy) → x.copies c ≡ copy_or_none o → b ≡ false → (pinned c → ⊥) → IsPermutation x.messages (FlushReq c ∷ rest) → CoreFits lease pinned t c x rest b o (on_copy.flushed o)
+  flush_fits None is off un p = dropped c rest p
+  flush_fits (Some copy) is off un p = go (is_exclusive copy.state) refl
     where
-      go : (e : Bool) → is_exclusive copy.state ≡ e → CoreFits lease pinned t c x rest (Some copy) (cond e (Returns None (body.FlushRep (words_of_copy copy))) Drops)
-      go true ex = ((copy, refl), flushed c rest (copy_seen copy) p un is ex)
+      go : (e : Bool) → is_exclusive copy.state ≡ e → CoreFits lease pinned t c x rest b (Some copy) (cond e (Returns None (body.FlushRep (words_of_copy copy))) Drops)
+      go true ex = ((copy, refl), off, (λ cores banks from to. refl), flushed c rest (copy_seen copy) p un is ex)
       go false sh = dropped c rest p
 
-  back_fits : (until : ℕ) (o : Option LineCopy) → x.copies c ≡ copy_or_none o → (pinned c → ⊥) → IsPermutation x.messages (WbReq c until ∷ rest) → CoreFits lease pinned t c x rest o (on_copy.written_back lease until o)
-  back_fits until None is un p = wb_dropped c until rest p
-  back_fits until (Some copy) is un p = go (is_exclusive copy.state) refl
+  back_fits : (until : ℕ) (o : Option LineCopy) → x.copies c ≡ copy_or_none o → b ≡ false → (pinned c → ⊥) → IsPermutation x.messages (WbReq c until ∷ rest) → CoreFits lease pinned t c x rest b o (on_copy.written_back lease until o)
+  back_fits until None is off un p = wb_dropped c until rest p
+  back_fits until (Some copy) is off un p = go (is_exclusive copy.state) refl
     where
-      by_time : is_exclusive copy.state ≡ true → (b : Bool) → CoreFits lease pinned t c x rest (Some copy) (on_copy.returned copy (cond b (Some (max (max copy.rts (copy.wts + lease)) until)) None))
-      by_time ex true = ((copy, refl), written_back c until rest (copy_seen copy) p un is ex)
+      by_time : is_exclusive copy.state ≡ true → (fit : Bool) → CoreFits lease pinned t c x rest b (Some copy) (on_copy.returned copy (cond fit (Some (max (max copy.rts (copy.wts + lease)) until)) None))
+      by_time ex true = ((copy, refl), off, (λ cores banks from to. refl), written_back c until rest (copy_seen copy) p un is ex)
       by_time ex false = tt
 
-      go : (e : Bool) → is_exclusive copy.state ≡ e → CoreFits lease pinned t c x rest (Some copy) (cond e (on_copy.returned copy (returned_lease copy.wts copy.rts until lease)) Drops)
+      go : (e : Bool) → is_exclusive copy.state ≡ e → CoreFits lease pinned t c x rest b (Some copy) (cond e (on_copy.returned copy (returned_lease copy.wts copy.rts until lease)) Drops)
       go true ex = by_time ex (fits (copy.wts + lease))
       go false sh = wb_dropped c until rest p
 
-  unless_open : (b : Bool) (o : Option LineCopy) (r : CoreReaction) → (b ≡ false → CoreFits lease pinned t c x rest o r) → CoreFits lease pinned t c x rest o (cond b Holds r)
+  unless_open : (q : Bool) (o : Option LineCopy) (r : CoreReaction) → (q ≡ false → CoreFits lease pinned t c x rest b o r) → CoreFits lease pinned t c x rest b o (cond q Holds r)
   unless_open true o r h = tt
   unless_open false o r h = h refl
 
-  pub core_fits : (b : Bool) (core : CoreState) (line : ℕ) (m : Body) → (b ≡ false → pinned c → ⊥) → comes_to_core core line m ≡ true → x.copies c ≡ copy_or_none (copy_of core.cache line) → IsPermutation x.messages (body_seen 0 c m ∷ rest) →
-      CoreFits lease pinned t c x rest (copy_of core.cache line) (at_core lease b (copy_of core.cache line) m)
-  core_fits b core line (body.ShRep y) un has is p = shared (record { wts = y.wts; rts = y.rts; words = y.words }) rest p
-  core_fits b core line (body.ExRep y) un has is p = exclusive (record { wts = y.wts; rts = y.rts; words = y.words }) rest p
-  core_fits b core line (body.RenewRep rts) un has is p = renewed_fits rts _ is (right_of (waits_for core line) _ has) p
-  core_fits b core line (body.UpgradeRep rts) un has is p = upgraded_fits rts _ is (right_of (waits_for core line) _ has) p
-  core_fits b core line body.FlushReq un has is p = unless_open b _ _ (λ e. flush_fits _ is (un e) p)
-  core_fits b core line (body.WbReq until) un has is p = unless_open b _ _ (λ e. back_fits until _ is (un e) p)
-  core_fits b core line (body.ShReq pts v) un has is p = absurd (let z : false ≡ true = has in cc)
-  core_fits b core line (body.ExReq v) un has is p = absurd (let z : false ≡ true = has in cc)
-  core_fits b core line (body.FlushRep y) un has is p = absurd (let z : false ≡ true = has in cc)
-  core_fits b core line (body.WbRep y) un has is p = absurd (let z : false ≡ true = has in cc)
-  core_fits b core line body.DramLd un has is p = absurd (let z : false ≡ true = has in cc)
-  core_fits b core line (body.DramLdRep ws) un has is p = absurd (let z : false ≡ true = has in cc)
-  core_fits b core line (body.DramSt ws) un has is p = absurd (let z : false ≡ true = has in cc)
-  core_fits b core line body.DramStRep un has is p = absurd (let z : false ≡ true = has in cc)
+  pub core_fits : (core : CoreState) (line : ℕ) (m : Body) → (b ≡ false → pinned c → ⊥) → comes_to_core core line m ≡ true → x.copies c ≡ copy_or_none (copy_of core.cache line) → IsPermutation x.messages (body_seen 0 c m ∷ rest) →
+      CoreFits lease pinned t c x rest b (copy_of core.cache line) (at_core lease b (copy_of core.cache line) m)
+  core_fits core line (body.ShRep y) un has is p = shared (record { wts = y.wts; rts = y.rts; words = y.words }) rest p
+  core_fits core line (body.ExRep y) un has is p = exclusive (record { wts = y.wts; rts = y.rts; words = y.words }) rest p
+  core_fits core line (body.RenewRep rts) un has is p = renewed_fits rts _ is (right_of (waits_for core line) _ has) p
+  core_fits core line (body.UpgradeRep rts) un has is p = upgraded_fits rts _ is (right_of (waits_for core line) _ has) p
+  core_fits core line body.FlushReq un has is p = unless_open b _ _ (λ e. flush_fits _ is e (un e) p)
+  core_fits core line (body.WbReq until) un has is p = unless_open b _ _ (λ e. back_fits until _ is e (un e) p)
+  core_fits core line (body.ShReq pts v) un has is p = absurd (let z : false ≡ true = has in cc)
+  core_fits core line (body.ExReq v) un has is p = absurd (let z : false ≡ true = has in cc)
+  core_fits core line (body.FlushRep y) un has is p = absurd (let z : false ≡ true = has in cc)
+  core_fits core line (body.WbRep y) un has is p = absurd (let z : false ≡ true = has in cc)
+  core_fits core line body.DramLd un has is p = absurd (let z : false ≡ true = has in cc)
+  core_fits core line (body.DramLdRep ws) un has is p = absurd (let z : false ≡ true = has in cc)
+  core_fits core line (body.DramSt ws) un has is p = absurd (let z : false ≡ true = has in cc)
+  core_fits core line body.DramStRep un has is p = absurd (let z : false ≡ true = has in cc)

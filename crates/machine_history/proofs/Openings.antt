@@ -10,6 +10,7 @@ use Rattle.std.proofs.lemmas.Bool.{leb-true, eqb-true}
 use Rattle.line_sets.specs.Order.{find}
 use Rattle.dram_mts.specs.Lines.{words_of}
 use Rattle.core_pts.specs.CoreTable.{CoreState, opened}
+use Rattle.llc_bank.specs.declared.entry.Entry.{Entry}
 use Rattle.llc_bank.specs.BankTable.{BankState, empty_bank, entry_of}
 use Rattle.machine_table.specs.declared.config.Config.{Config}
 use Rattle.machine_table.specs.SetUp.{is_within, is_good}
@@ -21,8 +22,7 @@ use Rattle.line_machine.proofs.Cores.{Some_injective}
 use Rattle.machine_history.specs.View.{entry_seen, copy_or_none, copy_in, core_seen, entry_in, time_in, words_in, set_up, view}
 use Rattle.machine_history.specs.Shape.{IsCore, IsBank}
 use Rattle.machine_history.specs.Steps.{Stands}
-use Rattle.machine_history.proofs.OnCopies.{right_of}
-use Rattle.machine_history.proofs.Deliveries.{left_of}
+use Rattle.machine_history.proofs.Routes.{left_of, right_of}
 use Rattle.machine_history.proofs.Turns.{machine_same, line_same}
 use Rattle.machine_history.proofs.DramOpening.{get_replicate, dram_long, dram_word}
 
@@ -94,6 +94,14 @@ module _ (c : Config) where
   length-cores_from number zero = refl
   length-cores_from number (suc n) = ap suc (length-cores_from (number + 1) n)
 
+  length-banks_from : (number n : ℕ) → length (banks_from c number n) ≡ n
+  length-banks_from number zero = refl
+  length-banks_from number (suc n) = ap suc (length-banks_from (number + 1) n)
+
+  length-drams_from : (es : List (ℕ × ℕ)) (number n : ℕ) → length (drams_from c es number n) ≡ n
+  length-drams_from es number zero = refl
+  length-drams_from es number (suc n) = ap suc (length-drams_from es (number + 1) n)
+
   -- what holds of no core and of each core as it opens
   any_core : (P : Option CoreState → Type 0) → P None → ((i : ℕ) → P (Some (opened (core_config c i) (geometry c)))) → (number n k : ℕ) → P (slice_get (cores_from c number n) k)
   any_core P none some number zero k = none
@@ -145,12 +153,15 @@ module _ (c : Config) where
     at_start_stands = record {
       whole = record {
         some_words = f.some_words;
+        some_banks = f.some_banks;
         core_count = length-cores_from 0 c.cores;
+        bank_count = length-banks_from 0 c.banks;
+        dram_count = length-drams_from (entries opening) 0 c.banks;
         lists = length-replicate c.cores [];
         each_core = λ k core at. subst (λ (y : CoreState). IsCore c k (get_or (replicate c.cores []) k []) y) (cores_at 0 c.cores k core at)
-            (record { numbered = omega arith; banks = refl; line_words = refl; lease = refl; private_write = refl; sets = subst (λ (n : ℕ). 0 < n) (sym (length-replicate c.sets [])) f.some_sets; count = sym (ap length (get_replicate c.cores k [])) });
+            (record { numbered = omega arith; banks = refl; line_words = refl; lease = refl; private_write = refl; sets = subst (λ (n : ℕ). 0 < n) (sym (length-replicate c.sets [])) f.some_sets; count = sym (ap length (get_replicate c.cores k [])); room = λ p o q. absurd (let z : false ≡ true = q in cc) });
         each_bank = λ b bank at. subst (λ (y : BankState). IsBank c b y) (banks_at 0 c.banks b bank at)
-            (record { numbered = omega arith; banks = refl; lease = refl; sets = subst (λ (n : ℕ). 0 < n) (sym (length-replicate c.bank_sets [])) f.some_bank_sets; own = λ l ne. no_entry (0 + b) l });
+            (record { numbered = omega arith; banks = refl; lease = refl; sets = subst (λ (n : ℕ). 0 < n) (sym (length-replicate c.bank_sets [])) f.some_bank_sets; own = λ l ne. no_entry (0 + b) l; owners = λ l y i. absurd (let z : ◌≡◌ {A = Option Entry} None (Some y) = sym (no_entry (0 + b) l) ∙ i in cc) });
         each_message = tt;
       };
       reached = reached;

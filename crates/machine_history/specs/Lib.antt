@@ -1,4 +1,6 @@
+pub mod Cases
 pub mod Shape
+pub mod StaleHit
 pub mod Standing
 pub mod Steps
 pub mod View

@@ -1,5 +1,6 @@
 //! What every event and every list of events keeps.
-ghost use Rattle.std.specs.Prelude.{◌≡◌, ◌≤◌, ℕ, true, List, [], map, slice_index_or};
+ghost use Rattle.std.specs.Prelude.{◌≡◌, ◌≢◌, ◌≤◌, ℕ, true, List, [], Some, map, slice_index_or};
+ghost use Rattle.std.specs.List.{AllByRecursion};
 ghost use Rattle.std.specs.Ordering.{nat_cmp};
 ghost use Rattle.std.specs.FinMap.{FinMap};
 ghost use Rattle.physiological_order.specs.declared.operation.Record.{Record};
@@ -8,9 +9,16 @@ ghost use Rattle.machine_table.specs.declared.config.Config.{Config};
 ghost use Rattle.machine_table.specs.SetUp.{is_good};
 ghost use Rattle.machine_table.specs.Opening.{at_start};
 ghost use Rattle.machine_table.specs.declared.event.Event.{Event};
+ghost use Rattle.network.specs.declared.message.Message.{Message};
+ghost use Rattle.network.specs.Numbered.{at_number};
+ghost use Rattle.machine_table.specs.declared.event.Event.TheVariants.{Deliver};
+ghost use Rattle.machine_table.specs.declared.event.Answer.TheVariants.{Refused};
+ghost use Rattle.machine_table.specs.declared.event.Refusal.TheVariants.{NoSuch};
 ghost use Rattle.machine_table.specs.Machine.{Machine};
 ghost use Rattle.machine_table.specs.Transition.{transition};
 ghost use Rattle.machine_table.specs.Runs.{after_all};
+ghost use Rattle.machine_history.specs.Cases.{has_case};
+ghost use Rattle.machine_history.specs.StaleHit.{two_cores, stale_hit, stale_records};
 ghost use Rattle.machine_history.specs.Standing.{rights, standing_value};
 ghost use Rattle.machine_history.specs.Steps.{SetUpAs, Stands};
 
@@ -29,7 +37,8 @@ pub fn openings_stand()
 /// After any list of events, refused ones included, of a machine that was well set up: the records are a legal history
 /// of the opening memory and the lists that the cores were issued; a line has at most one right, where grants and
 /// returns in flight count; and a word's standing value is the one that the records leave, one after the other in the
-/// order of their times, on the opening memory.
+/// order of their times, on the opening memory. And the part that a message in flight goes to has a case for it, with
+/// a place for the line that it brings: a delivery of it is never answered that there is no such thing.
 pub fn every_history_is_legal()
     ensures legal { (config : Config) (opening : FinMap nat_cmp ℕ) (events : List Event) → is_good config ≡ true →
         let m = after_all (at_start config opening) events in
@@ -40,4 +49,19 @@ pub fn every_history_is_legal()
         let m = after_all (at_start config opening) events in
         (arranged : List Record) → Arrangement m.records arranged → (word : ℕ) →
         standing_value m word ≡ replay_end (flat opening) (map (λ r. r.op) arranged) word }
+    ensures cases { (config : Config) (opening : FinMap nat_cmp ℕ) (events : List Event) → is_good config ≡ true →
+        let m = after_all (at_start config opening) events in
+        AllByRecursion (λ message. has_case m message.1 ≡ true) m.messages }
+    ensures found { (config : Config) (opening : FinMap nat_cmp ℕ) (events : List Event) → is_good config ≡ true →
+        let m = after_all (at_start config opening) events in
+        (number : ℕ) (message : Message) → at_number number m.messages ≡ Some message →
+        (transition m (Deliver number)).0 ≢ Refused NoSuch }
+{}
+
+/// A run by the table, whatever the opening memory: a core reads a word, another writes it, and the first reads the
+/// opening value once more, at a time before the write.
+pub fn stale_hits_happen()
+    ensures good { is_good two_cores ≡ true }
+    ensures records { (opening : FinMap nat_cmp ℕ) →
+        (after_all (at_start two_cores opening) stale_hit).records ≡ stale_records (flat opening 0) }
 {}

@@ -9,7 +9,7 @@ use timestamp_manager::{Exhausted, on_exclusive, on_shared, recall_until};
 
 /// What a bank does at a message.
 #[derive(Clone, Copy, Debug, PartialEq, Eq)]
-pub(crate) enum Decision {
+pub enum Decision {
     /// A request waits, and nothing changes.
     Waits,
     /// The line is loaded for a request, which waits.
@@ -30,7 +30,7 @@ pub(crate) enum Decision {
 
 /// What a bank does at an eviction.
 #[derive(Clone, Copy, Debug, PartialEq, Eq)]
-pub(crate) enum Eviction {
+pub enum Eviction {
     /// The bank does not have the line.
     NotThere,
     /// The line is being loaded, recalled or stored.

@@ -34,6 +34,17 @@ pub fn openings_stand()
     ensures { (config : Config) (opening : FinMap nat_cmp ℕ) → is_good config ≡ true → Stands (at_start config opening) }
 {}
 
+/// Of every machine that stands: its records are a legal history of its opening memory and of what its cores were issued; a
+/// line has at most one right; a word's standing value is the one that the records leave; and each message in flight has
+/// its case.
+pub fn standing_machines_are_consistent()
+    ensures legal { (m : Machine) → Stands m → Legal (flat m.opening) (λ core. slice_index_or m.issued core []) m.records }
+    ensures rights { (m : Machine) → Stands m → (line : ℕ) → rights m line ≤ 1 }
+    ensures standing { (m : Machine) → Stands m → (arranged : List Record) → Arrangement m.records arranged → (word : ℕ) →
+        standing_value m word ≡ replay_end (flat m.opening) (map (λ r. r.op) arranged) word }
+    ensures cases { (m : Machine) → Stands m → AllByRecursion (λ message. has_case m message.1 ≡ true) m.messages }
+{}
+
 /// After any list of events, refused ones included, of a machine that was well set up: the records are a legal history
 /// of the opening memory and the lists that the cores were issued; a line has at most one right, where grants and
 /// returns in flight count; and a word's standing value is the one that the records leave, one after the other in the

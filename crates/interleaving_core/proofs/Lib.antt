@@ -1,0 +1,12 @@
+pub mod Changes
+pub mod Closing
+pub mod Ends
+pub mod Filled
+pub mod Joining
+pub mod Opened
+pub mod OpenKept
+pub mod Owed
+pub mod Parts
+pub mod Places
+pub mod Running
+pub mod Standing

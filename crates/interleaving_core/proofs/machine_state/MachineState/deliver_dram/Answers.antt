@@ -1,0 +1,41 @@
+use Rattle.std.proofs.Common.{◌≡◌, ℕ, ap, sym, subst, refl, ◌∙◌, arith, length, slice_get, true}
+use Rattle.std.proofs.lemmas.Option.{slice_get_read}
+use Rattle.machine_table.specs.Machine.{Machine, with_dram}
+use Rattle.machine_table.specs.Transition.{deliver_dram}
+use Rattle.machine_history.specs.Steps.{Stands}
+use Rattle.dram_mts.specs.Table.{dram_table}
+use Rattle.network.specs.Numbered.{at_number}
+use Rattle.network.specs.Sent.{sent_by}
+use Rattle.interleaving_core.specs.contracts.machine_state.MachineState.{the_view}
+use Rattle.interleaving_core.specs.Joined.{changed, mail_of}
+use Rattle.interleaving_core.specs.Traffic.{finds_place, OutcomeHasEnds, reacted_in}
+use Rattle.interleaving_core.proofs.Changes.{dram_reacts}
+use Rattle.interleaving_core.proofs.Ends.{dram_ends, dram_has}
+use Rattle.interleaving_core.proofs.Joining.{answered_with}
+use Rattle.interleaving_core.proofs.machine_state.MachineState.deliver_dram.Goals as goal
+
+pub react-requires-clause-case : goal.react-requires-clause-case
+react-requires-clause-case c =
+    let m : Machine = the_view c.self.inside in
+    let here = slice_get_read c.self.inside.drams.items (length c.self.inside.drams.items) c.args.bank c.index_mut.result.now refl (omega (arith, c.if-at-len.false, c.len.ensures)) c.index_mut.ensures.value in
+    dram_has m (subst Stands (sym c.self.view_is) c.requires.stands) c.args.number c.args.message.now (ap (λ (k : Machine). at_number c.args.number k.messages) c.self.view_is ∙ c.requires.there) c.args.bank c.requires.to c.index_mut.result.now here
+
+pub react-requires-clause-ends : goal.react-requires-clause-ends
+react-requires-clause-ends c =
+    let m : Machine = the_view c.self.inside in
+    let here = slice_get_read c.self.inside.drams.items (length c.self.inside.drams.items) c.args.bank c.index_mut.result.now refl (omega (arith, c.if-at-len.false, c.len.ensures)) c.index_mut.ensures.value in
+    let fitted = dram_ends m (subst Stands (sym c.self.view_is) c.requires.stands) c.args.number c.args.message.now (ap (λ (k : Machine). at_number c.args.number k.messages) c.self.view_is ∙ c.requires.there) c.args.bank c.requires.to c.index_mut.result.now here in
+    λ fits. subst (λ k. OutcomeHasEnds k c.self.inside.traffic.banks (dram_table c.index_mut.result.now c.args.message.now)) (sym c.self.invariant.cores_are)
+    (subst (λ k. OutcomeHasEnds m.config.cores k (dram_table c.index_mut.result.now c.args.message.now)) (sym c.self.invariant.banks_are)
+    (fitted (subst (λ k. finds_place k (mail_of m) (sent_by (dram_table c.index_mut.result.now c.args.message.now)) ≡ true) c.self.invariant.capacity_is fits)))
+
+pub returns-clause-done : goal.returns-clause-done
+returns-clause-done c =
+    let m : Machine = the_view c.self.inside in
+    let here = slice_get_read c.self.inside.drams.items (length c.self.inside.drams.items) c.args.bank c.index_mut.result.now refl (omega (arith, c.if-at-len.false, c.len.ensures)) c.index_mut.ensures.value in
+    let has = dram_has m (subst Stands (sym c.self.view_is) c.requires.stands) c.args.number c.args.message.now (ap (λ (k : Machine). at_number c.args.number k.messages) c.self.view_is ∙ c.requires.there) c.args.bank c.requires.to c.index_mut.result.now here in
+    let done = c.in_ok-answer.ensures.done
+    ∙ ap (λ (n : ℕ). reacted_in c.index_mut.result.now n (mail_of m) c.args.number (dram_table c.index_mut.result.now c.args.message.now)) c.self.invariant.capacity_is in
+    answered_with m (with_dram m c.args.bank) c.in_ok-answer.answer c.react.new.part c.react.new.traffic.mail c.stop.new.is_stopped _ refl c.stop.ensures
+    (ap (changed (with_dram m c.args.bank)) done ∙ dram_reacts m c.args.bank c.index_mut.result.now here c.args.number c.args.message.now has)
+    ∙ ap (λ (n : Machine). deliver_dram n c.args.number c.args.message.now c.args.bank (slice_get n.drams c.args.bank)) c.self.view_is

@@ -1,0 +1,12 @@
+use Rattle.std.proofs.Common.{get_or, [], List, sym, subst}
+use Rattle.physiological_order.specs.declared.operation.Record.{Record}
+use Rattle.physiological_order.specs.Order.{flat, Legal}
+use Rattle.machine_table.specs.Machine.{Machine}
+use Rattle.machine_history.proofs.History.{legal_now}
+use Rattle.interleaving_core.proofs.system.System.records.Goals as goal
+
+pub returns-clause-legal : goal.returns-clause-legal
+returns-clause-legal c =
+    subst (λ (m : Machine). Legal (flat m.opening) (λ core. get_or m.issued core []) c.records.result.now) c.self.view_is
+    (subst (λ (rs : List Record). Legal (flat c.self.inside.state.opening) (λ core. get_or c.self.inside.state.issued core []) rs) (sym c.records.ensures)
+    (legal_now _ c.self.invariant.1))

@@ -1,0 +1,19 @@
+//! The machine: any list of events, answered one by one as the machine's table says, under the theorem. docs/PROTOCOL.md
+//! has the order of refusals.
+#![tactic(auto)]
+
+mod line_words;
+mod look_ups;
+mod machine_state;
+mod noting;
+mod op_list;
+mod opening;
+mod operating;
+mod reacting;
+mod stepping;
+pub mod system;
+mod traffic;
+
+pub use machine_table::{Answer, Config, Counts, Event, Refusal};
+pub use op_list::OpList;
+pub use system::{OpenError, System};

@@ -1,0 +1,145 @@
+//! A machine as it opens.
+ghost use Rattle.std.specs.Prelude.{◌≡◌, ◌⊎◌, ◌<◌, ◌≤◌, [], IfOk, OnErr, OnOk, length, replicate, true};
+ghost use Rattle.std.specs.FinMap.{empty, entries};
+ghost use Rattle.machine_table.specs.SetUp.{is_good};
+ghost use Rattle.machine_table.specs.Opening.{at_start, bank_config, banks_from, core_config, cores_from, drams_from, geometry};
+ghost use Rattle.interleaving_core.specs.Filling.{word_set};
+
+use crate::machine_state::MachineState;
+use crate::op_list::OpList;
+use crate::traffic::Traffic;
+use core_pts::{Core, CoreConfig};
+use dram_mts::Dram;
+use llc_bank::{Bank, BankConfig};
+use machine_table::Config;
+use network::LineNo;
+use physiological_order::{Memory, WordAddr};
+use private_cache::Geometry;
+use std::alloc::{AllocError, Global};
+
+impl MachineState {
+    /// A machine that is set up so, with this memory. All the memory of its parts is taken here, but that of messages,
+    /// records and operations.
+    pub(crate) fn open(
+        alloc: Global,
+        config: Config,
+        memory: Memory,
+    ) -> Result<MachineState, AllocError>
+        requires { is_good config ≡ true }
+        ensures { IfOk result (λ machine. machine ≡ at_start config memory) }
+    {
+        let cores = open_cores(alloc, config)?;
+        let banks = open_banks(alloc, config)?;
+        let drams = open_drams(alloc, config, &memory)?;
+        let issued = no_operations(alloc, config.cores)?;
+        Ok(MachineState {
+            config,
+            opening: memory,
+            cores,
+            banks,
+            drams,
+            traffic: Traffic::new(alloc, config.cores, config.banks, config.messages),
+            issued,
+            records: Vec::new(alloc),
+            is_stopped: false,
+        })
+    }
+}
+
+// The cores as they open.
+fn open_cores(alloc: Global, config: Config) -> Result<Vec<Core>, AllocError>
+    requires { is_good config ≡ true }
+    ensures { IfOk result (λ cores. cores.items ≡ cores_from config 0 config.cores) }
+{
+    let mut cores = Vec::new(alloc);
+    for number in 0..config.cores {
+        let core = CoreConfig {
+            number,
+            banks: config.banks,
+            line_words: config.line_words,
+            lease: config.lease,
+            private_write: config.private_write,
+            opening_time: config.opening_time,
+        };
+        let geometry = Geometry {
+            sets: config.sets,
+            ways: config.ways,
+        };
+        cores.push(Core::new(alloc, core, geometry)?)?;
+    }
+    Ok(cores)
+}
+
+// The banks as they open.
+fn open_banks(alloc: Global, config: Config) -> Result<Vec<Bank>, AllocError>
+    requires { is_good config ≡ true }
+    ensures { IfOk result (λ banks. banks.items ≡ banks_from config 0 config.banks) }
+{
+    let mut banks = Vec::new(alloc);
+    for number in 0..config.banks {
+        let bank = BankConfig {
+            number,
+            banks: config.banks,
+            sets: config.bank_sets,
+            ways: config.bank_ways,
+            lease: config.lease,
+            opening_time: config.opening_time,
+        };
+        banks.push(Bank::new(alloc, bank)?)?;
+    }
+    Ok(banks)
+}
+
+// The DRAM of each bank, with the words of the opening memory.
+fn open_drams(alloc: Global, config: Config, memory: &Memory) -> Result<Vec<Dram>, AllocError>
+    requires { is_good config ≡ true }
+    ensures { IfOk result (λ drams. drams.items ≡ drams_from config (entries memory.now) 0 config.banks) }
+{
+    let mut drams = empty_drams(alloc, config.banks)?;
+    let mut words = memory.words()?;
+    while let Some(word) = words.pop() {
+        set_word(&mut drams, config, word.0, word.1)?;
+    }
+    Ok(drams)
+}
+
+// DRAMs of zeros.
+fn empty_drams(alloc: Global, banks: u32) -> Result<Vec<Dram>, AllocError>
+    ensures { IfOk result (λ drams. drams.items ≡ replicate banks empty) }
+{
+    let mut drams = Vec::new(alloc);
+    for _ in 0..banks {
+        drams.push(Dram::new(alloc))?;
+    }
+    Ok(drams)
+}
+
+// Sets a word of the opening memory in the DRAM of its line's bank.
+fn set_word(
+    drams: &mut Vec<Dram>,
+    config: Config,
+    addr: WordAddr,
+    value: u64,
+) -> Result<(), AllocError>
+    requires count { length drams.old.items ≡ config.banks }
+    requires some { 1 ≤ config.banks }
+    requires words { (config.line_words ≡ 1) ⊎ (config.line_words ≡ 8) }
+    ensures { OnOk result (drams.new.items ≡ word_set config (addr, value) drams.old.items) }
+{
+    let words = config.line_words as u64;
+    let line = addr.word() / words;
+    let index = (addr.word() % words) as usize;
+    let bank = (line % config.banks as u64) as usize;
+    drams[bank].set_word(LineNo(line), index, value)
+}
+
+// No operations, of so many cores.
+fn no_operations(alloc: Global, cores: u32) -> Result<Vec<OpList>, AllocError>
+    ensures { IfOk result (λ issued. issued.items ≡ replicate cores []) }
+{
+    let mut issued = Vec::new(alloc);
+    for _ in 0..cores {
+        issued.push(OpList::new(alloc))?;
+    }
+    Ok(issued)
+}

@@ -1,6 +1,6 @@
 //! The locations of a text, in the order in which they were first named.
 
-ghost use Rattle.std.specs.Prelude.{◌≡◌, ◌++◌, [], ◌∷◌, ◌≤◌, ◌<◌, length, OnOk, OnErr, not};
+ghost use Rattle.std.specs.Prelude.{◌≡◌, ◌++◌, [], ◌∷◌, ◌≤◌, ◌<◌, length, slice_get, option_map, OnOk, OnErr, not};
 ghost use Rattle.std.specs.List.{prefix_len};
 ghost use Rattle.std.specs.Str.{bytes_eq};
 ghost use Rattle.litmus_grammar.specs.Naming.{place_of};
@@ -59,6 +59,14 @@ impl Locations {
         ensures { result ≡ place_of name.now self.now }
     {
         place_among(&self.names, name)
+    }
+
+    /// The name of the location of this number, where there is one.
+    pub fn name(&self, number: usize) -> Option<&[u8]>
+        ensures { option_map (λ name. name.now) result ≡ slice_get self.now number }
+    {
+        let name = self.names.get(number)?;
+        Some(name)
     }
 
     /// Adds a name at the end.

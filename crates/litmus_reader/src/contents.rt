@@ -1,6 +1,6 @@
 //! What the text of a litmus test says.
 
-ghost use Rattle.std.specs.Prelude.{◌≡◌, ◌≤◌, length, replicate};
+ghost use Rattle.std.specs.Prelude.{◌≡◌, ◌≤◌, length, replicate, slice_get, option_map};
 ghost use Rattle.litmus_reader.specs.TestViews.{test_of};
 ghost use Rattle.litmus_reader.specs.ThreadSteps.{settled, opened};
 
@@ -58,6 +58,13 @@ impl Test {
         ensures few { result ≤ 64 }
     {
         self.locations.len()
+    }
+
+    /// The name of the location of this number, where there is one: a letter or `_` with letters, digits and `_` behind it.
+    pub fn location(&self, number: u8) -> Option<&[u8]>
+        ensures { option_map (λ name. name.now) result ≡ slice_get (test_of self.now).locations number }
+    {
+        self.locations.name(usize::from(number))
     }
 
     /// A thread as the test opens it; one that is not there has finished.

@@ -303,6 +303,8 @@ fn store_buffering(rt: HostRuntime) -> Result<(), Fail> {
     assert_eq!(rt; test.condition(), Quantifier::Exists);
     assert_eq!(rt; test.threads(), 2);
     assert_eq!(rt; test.locations(), 2);
+    assert!(rt; test.location(1).is_some_and(|name| name == b"y".as_slice()));
+    assert!(rt; test.location(2).is_none());
     assert_eq!(rt; test.seen().len(), 2);
     assert_eq!(rt; test.seen().first(), Some(&Name::Register(0, 7)));
     let x = word(0).ok_or("the first word")?;

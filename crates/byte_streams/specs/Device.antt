@@ -1,0 +1,34 @@
+-- What a read and a write do, and that a failure is counted.
+use Rattle.std.specs.Prelude.{◌≡◌, ℕ, suc, ◌<◌, ◌≤◌, List, [], ◌++◌, length, take, Option, Some, None, Result, Ok, Err}
+use Rattle.byte_streams.specs.declared.device.DeviceError.{DeviceError}
+
+-- known bytes begin with these, and lose them
+abbrev pub Loses : Option (List ℕ) → Option (List ℕ) → List ℕ → Type 0
+Loses None new bytes = Unit {0}
+Loses (Some old) None bytes = ⊥
+Loses (Some old) (Some new) bytes = old ≡ bytes ++ new
+
+abbrev pub AtEnd : Option (List ℕ) → Type 0
+AtEnd None = Unit {0}
+AtEnd (Some bytes) = bytes ≡ []
+
+-- n bytes came, which are the buffer's first; none only at the end or without room
+abbrev pub Gives : Option (List ℕ) → Option (List ℕ) → Result ℕ DeviceError → List ℕ → Type 0
+Gives old new (Ok n) buffer = (n ≤ length buffer) × Loses old new (take n buffer) × (n ≡ 0 → 0 < length buffer → AtEnd old)
+Gives old new (Err e) buffer = Loses old new []
+
+-- known bytes grow by these
+abbrev pub Grows : Option (List ℕ) → Option (List ℕ) → List ℕ → Type 0
+Grows None new bytes = Unit {0}
+Grows (Some old) None bytes = ⊥
+Grows (Some old) (Some new) bytes = new ≡ old ++ bytes
+
+-- the first n of the bytes went out; some, where there are any
+abbrev pub Takes : Option (List ℕ) → Option (List ℕ) → Result ℕ DeviceError → List ℕ → Type 0
+Takes old new (Ok n) bytes = (n ≤ length bytes) × Grows old new (take n bytes) × (0 < length bytes → 0 < n)
+Takes old new (Err e) bytes = Grows old new []
+
+-- a failure is counted, and nothing else is
+abbrev pub Counts : {A : Type 0} → ℕ → ℕ → Result A DeviceError → Type 0
+Counts old new (Ok x) = new ≡ old
+Counts old new (Err e) = new ≡ suc old

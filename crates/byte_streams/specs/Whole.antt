@@ -1,0 +1,16 @@
+-- All the bytes that come, and a part of those that go.
+use Rattle.std.specs.Prelude.{◌≡◌, ℕ, List, ◌++◌, Option, Some, None}
+use Rattle.byte_streams.specs.Device.{Grows, Loses}
+
+-- these are all the bytes, where they are known
+abbrev pub ReadsAll : Option (List ℕ) → List ℕ → Type 0
+ReadsAll None bytes = Unit {0}
+ReadsAll (Some known) bytes = bytes ≡ known
+
+-- some bytes came, and what remains is what stood behind them
+abbrev pub LosesSome : Option (List ℕ) → Option (List ℕ) → Type 0
+LosesSome old new = (came : List ℕ) × Loses old new came
+
+-- what went out is a beginning of the text
+abbrev pub GrowsByFront : Option (List ℕ) → Option (List ℕ) → List ℕ → Type 0
+GrowsByFront old new text = (front rest : List ℕ) × (text ≡ front ++ rest) × Grows old new front

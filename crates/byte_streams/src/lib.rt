@@ -1,0 +1,14 @@
+//! Where bytes come from and where they go, with a count of the failures that contracts alone see.
+#![tactic(auto)]
+
+mod adapters;
+mod device;
+mod tally;
+mod whole;
+
+pub use adapters::{FromRead, ToWrite};
+pub use device::{DeviceError, Sink, Source};
+pub use whole::{ReadError, read_all, write_all};
+
+#[cfg(test)]
+mod tests;

@@ -1,0 +1,34 @@
+-- What the options say of the matches.
+use Rattle.std.specs.Prelude.{◌≡◌, ℕ, ◌≤◌, true, false, List, Some, codes}
+use Rattle.std.specs.Str.Parse.{IsNumeral, digits_value, without_leading_plus}
+use Rattle.clap.specs.Words.{Row, Text, one_of}
+use Rattle.command_line.specs.declared.options.LitmusOptions.{LitmusOptions}
+
+-- the text is this number in decimal, with a plus in front or without one
+abbrev pub Writes : Text → ℕ → Type 0
+Writes text n = IsNumeral 10 (without_leading_plus text) × (digits_value 10 (without_leading_plus text) ≡ n)
+
+-- the option's value lies between these, and is the number that was written wherever that does
+abbrev pub IsNumber : List Row → Text → ℕ → ℕ → ℕ → Type 0
+IsNumber rows name least most value =
+    (least ≤ value) × (value ≤ most) × ((text : Text) (n : ℕ) → one_of name rows ≡ Some text → Writes text n → least ≤ n → n ≤ most → value ≡ n)
+
+abbrev pub IsAnyNumber : List Row → Text → ℕ → Type 0
+IsAnyNumber rows name value = IsNumber rows name 0 18446744073709551615 value
+
+abbrev pub Tells : List Row → LitmusOptions → Type 0
+Tells rows options =
+    IsNumber rows (codes "limit") 1 4294967295 options.limit
+    × IsNumber rows (codes "runs") 1 1000000 options.runs
+    × IsNumber rows (codes "workers") 1 16 options.workers
+    × (one_of (codes "private-write") rows ≡ Some (codes "true") → options.private_write ≡ true)
+    × (one_of (codes "private-write") rows ≡ Some (codes "false") → options.private_write ≡ false)
+    × IsAnyNumber rows (codes "lease") options.lease
+    × IsAnyNumber rows (codes "time") options.time
+    × IsAnyNumber rows (codes "banks") options.banks
+    × IsAnyNumber rows (codes "sets") options.sets
+    × IsAnyNumber rows (codes "ways") options.ways
+    × IsAnyNumber rows (codes "bank-sets") options.bank_sets
+    × IsAnyNumber rows (codes "bank-ways") options.bank_ways
+    × IsAnyNumber rows (codes "line-words") options.line_words
+    × IsAnyNumber rows (codes "messages") options.messages

@@ -1,0 +1,12 @@
+//! The command line of the program: what its words ask for.
+#![tactic(auto)]
+
+mod app;
+mod options;
+mod words;
+
+pub use options::{LitmusOptions, Schedule};
+pub use words::{Job, WordsError, read_words};
+
+#[cfg(test)]
+mod tests;

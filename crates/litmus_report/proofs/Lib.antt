@@ -1,0 +1,3 @@
+pub mod AddedUp
+pub mod OneMore
+pub mod LineByLine

@@ -1,0 +1,4 @@
+pub mod LookUps
+pub mod Rooms
+pub mod Stepped
+pub mod Traffic

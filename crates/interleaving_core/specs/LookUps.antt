@@ -1,0 +1,68 @@
+-- What is looked up in a machine. A core or a bank that isn't there has nothing.
+use Rattle.std.specs.Prelude.{ℕ, Bool, true, false, List, [], Option, Some, None, option_map, slice_get, if◌then◌else◌}
+use Rattle.line_sets.specs.SetTable.{all_listed}
+use Rattle.physiological_order.specs.declared.operation.Op.{Op}
+use Rattle.network.specs.declared.message.Body.{Body}
+use Rattle.network.specs.declared.message.Body.TheVariants.{ShReq, ExReq}
+use Rattle.network.specs.declared.message.Message.{Message}
+use Rattle.network.specs.declared.message.Node.{Node}
+use Rattle.network.specs.declared.message.Node.TheVariants.{Bank}
+use Rattle.network.specs.Numbered.{at_number}
+use Rattle.private_cache.specs.CopyTable.{victim_for}
+use Rattle.core_pts.specs.CoreTable.{CoreState}
+use Rattle.llc_bank.specs.BankTable as bank_table
+use Rattle.llc_bank.specs.BankTable.{BankState}
+use Rattle.llc_bank.specs.Settled.{is_settled}
+use Rattle.machine_table.specs.Machine.{Machine}
+
+-- a core's open operation, and whether its request is out
+abbrev pub open_op_of : Option CoreState → Option (Op × Bool)
+open_op_of None = None
+open_op_of (Some core) = option_map (λ op. (op, core.is_out)) core.open_op
+
+abbrev pub open_op : Machine → ℕ → Option (Op × Bool)
+open_op m core = open_op_of (slice_get m.cores core)
+
+-- the copy that leaves a core's cache to make a place for a line, where there is none: the least recently used one
+abbrev pub victim_of : ℕ → Option CoreState → Option ℕ
+victim_of line None = None
+victim_of line (Some core) = victim_for core.cache line
+
+abbrev pub victim : Machine → ℕ → ℕ → Option ℕ
+victim m core line = victim_of line (slice_get m.cores core)
+
+-- the lines of a core's copies, and those that a bank has and that nothing is under way for, set by set
+abbrev pub copies_of : Option CoreState → List ℕ
+copies_of None = []
+copies_of (Some core) = all_listed (λ copy. true) core.cache.sets
+
+abbrev pub copies : Machine → ℕ → List ℕ
+copies m core = copies_of (slice_get m.cores core)
+
+abbrev pub entries_of : Option BankState → List ℕ
+entries_of None = []
+entries_of (Some bank) = all_listed is_settled bank.table.sets
+
+abbrev pub entries : Machine → ℕ → List ℕ
+entries m bank = entries_of (slice_get m.banks bank)
+
+abbrev pub is_request : Body → Bool
+is_request (ShReq pts version) = true
+is_request (ExReq version) = true
+is_request _ = false
+
+-- the line to evict from a bank so that a request that waits for room there finds it
+abbrev pub room_in : ℕ → ℕ → Option BankState → Option (ℕ × ℕ)
+room_in b line None = None
+room_in b line (Some bank) = option_map (λ victim. (b, victim)) (bank_table.make_room bank line)
+
+abbrev pub room_at : Machine → ℕ → Node → Option (ℕ × ℕ)
+room_at m line (Bank b) = room_in b line (slice_get m.banks b)
+room_at m line _ = None
+
+abbrev pub room_for : Machine → Option Message → Option (ℕ × ℕ)
+room_for m None = None
+room_for m (Some message) = if is_request message.body then room_at m message.line message.to else None
+
+abbrev pub make_room : Machine → ℕ → Option (ℕ × ℕ)
+make_room m number = room_for m (at_number number m.messages)

@@ -1,0 +1,77 @@
+//! What is looked up in a machine.
+ghost use Rattle.std.specs.Prelude.{◌≡◌, IfOk, IsPermutation, IsSorted, map};
+ghost use Rattle.std.specs.Ordering.{nat_cmp};
+ghost use Rattle.network.specs.Numbered.{IsRising};
+ghost use Rattle.interleaving_core.specs.LookUps.{copies, entries, is_request, make_room, open_op, room_at, victim};
+
+use crate::machine_state::MachineState;
+use network::{Body, LineNo, Message, MsgNo, Node};
+use physiological_order::Op;
+use std::alloc::{AllocError, Global};
+
+impl MachineState {
+    // The open operation of a core, and whether its request is out.
+    pub(crate) fn open_op(&self, core: u32) -> Option<(Op, bool)>
+        ensures { result ≡ open_op self.now core }
+    {
+        self.cores.get(core as usize)?.open_op()
+    }
+
+    // The copy to evict from a core's cache to make a place for a line, where there is none.
+    pub(crate) fn victim(&self, core: u32, line: LineNo) -> Option<LineNo>
+        ensures { result ≡ victim self.now core line }
+    {
+        self.cores.get(core as usize)?.victim(line)
+    }
+
+    // The line to evict from a bank so that a request that waits for room there finds it.
+    pub(crate) fn make_room(&self, number: MsgNo) -> Option<(u32, LineNo)>
+        ensures { result ≡ make_room self.now number }
+    {
+        let message = self.traffic.flight.look(number)?;
+        if !is_request(&message.body) {
+            return None;
+        }
+        self.room_at(message.line, message.to)
+    }
+
+    // The line to evict from a bank for a line that waits for room there.
+    fn room_at(&self, line: LineNo, to: Node) -> Option<(u32, LineNo)>
+        ensures { result ≡ room_at self.now line to }
+    {
+        let Node::Bank(bank) = to else {
+            return None;
+        };
+        let victim = self.banks.get(bank as usize)?.make_room(line)?;
+        Some((bank, victim))
+    }
+
+    // The lines of a core's copies, rising.
+    pub(crate) fn copies(&self, alloc: Global, core: u32) -> Result<Vec<LineNo>, AllocError>
+        ensures lines { IfOk result (λ lines. IsPermutation (copies self.now core) lines.items) }
+        ensures rising { IfOk result (λ lines. IsSorted nat_cmp lines.items) }
+    {
+        match self.cores.get(core as usize) {
+            Some(core) => core.lines(),
+            None => Ok(Vec::new(alloc)),
+        }
+    }
+
+    // The lines that a bank has and that nothing is under way for, rising.
+    pub(crate) fn entries(&self, alloc: Global, bank: u32) -> Result<Vec<LineNo>, AllocError>
+        ensures lines { IfOk result (λ lines. IsPermutation (entries self.now bank) lines.items) }
+        ensures rising { IfOk result (λ lines. IsSorted nat_cmp lines.items) }
+    {
+        match self.banks.get(bank as usize) {
+            Some(bank) => bank.lines(),
+            None => Ok(Vec::new(alloc)),
+        }
+    }
+}
+
+// Whether a message asks for a line.
+fn is_request(body: &Body) -> bool
+    ensures { result ≡ is_request body.now }
+{
+    matches!(body, Body::ShReq { .. } | Body::ExReq { .. })
+}

@@ -1,0 +1,140 @@
+//! The machine that users drive, and what is always true of it.
+ghost use Rattle.std.specs.Prelude.{◌≡◌, ◌≢◌, ◌≤◌, ◌<◌, [], false, true, IfOk, IfErr, OnErr, OnOk, IsPermutation, IsSorted, length, map, slice_get, slice_index_or, List, ℕ};
+ghost use Rattle.std.specs.Ordering.{nat_cmp};
+ghost use Rattle.physiological_order.specs.Order.{flat, Legal, Arrangement, replay_end};
+ghost use Rattle.physiological_order.specs.declared.operation.Record.{Record};
+ghost use Rattle.network.specs.Numbered.{IsRising};
+ghost use Rattle.machine_table.specs.SetUp.{is_good};
+ghost use Rattle.machine_table.specs.Opening.{at_start};
+ghost use Rattle.machine_history.specs.Standing.{rights, standing_value};
+ghost use Rattle.machine_history.specs.Steps.{SetUpAs};
+ghost use Rattle.interleaving_core.specs.LookUps.{copies, entries, make_room, open_op, victim};
+ghost use Rattle.interleaving_core.specs.Stepped.{Stepped, Ran};
+
+use crate::machine_state::MachineState;
+use machine_table::{Answer, Config, Counts, Event, Refusal};
+use network::{LineNo, MsgNo};
+use physiological_order::{Memory, Op, Record, WordAddr};
+use std::alloc::{AllocError, Global};
+use std::marker::Model;
+
+/// Why no machine was made.
+#[derive(Clone, Copy, Debug, PartialEq, Eq)]
+pub enum OpenError {
+    /// 1: a value of the configuration is out of its range.
+    BadConfig = 1,
+    /// 2: a growth was refused.
+    NoMemory = 2,
+}
+
+/// A machine: its cores, its banks, the DRAM behind each bank and the messages in flight. Contracts see it as data. It is
+/// always one that the protocol reaches from an opening: what `records`, `owners` and `coherent` say holds at every point.
+#[derive(Drop)]
+pub struct System {
+    state: MachineState,
+}
+
+impl Model for System {
+    ghost use Rattle.std.specs.Coded.{codes, coded_ℕ, coded_list};
+    ghost use Rattle.std.specs.FinMap as finite;
+    ghost use Rattle.std.specs.Ordering.{nat_cmp};
+    ghost use Rattle.machine_table.specs.Machine.{Machine};
+    ghost use Rattle.machine_history.specs.Steps.{Stands};
+
+    ghost Value = { Machine };
+
+    ghost coded = { Prim.hlevel (codes, finite.code {R = nat_cmp} coded_ℕ coded_ℕ, finite.code {R = nat_cmp} coded_ℕ (coded_list coded_ℕ)) };
+
+    ghost view = { λ a. a.state };
+
+    // Its parts have their shape, and line by line it is one that the protocol reaches.
+    ghost invariant = { λ a. Stands a.state };
+}
+
+impl System {
+    /// A machine that is set up so, with this memory. BadConfig exactly where a value of the configuration is out of its
+    /// range; where the machine is refused the memory is given up.
+    pub fn new(alloc: Global, config: Config, memory: Memory) -> Result<System, OpenError>
+        ensures opened { IfOk result (λ system. system ≡ at_start config memory) }
+        ensures bad { is_good config ≡ false → IfErr result (λ e. e ≡ OpenError.BadConfig) }
+        ensures not_bad { IfErr result (λ e. e ≡ OpenError.BadConfig → is_good config ≡ false) }
+    {
+        if !config.is_good() {
+            return Err(OpenError::BadConfig);
+        }
+        Err(OpenError::NoMemory)
+    }
+
+    /// One event. The answer and the machine afterwards are those of the machine's table, or the answer is NoMemory,
+    /// where a growth was refused, and the machine is as it was.
+    pub fn step(&mut self, event: Event) -> Answer
+        ensures stepped { Stepped self.old event result self.new }
+        ensures set_up { SetUpAs self.old self.new }
+    {
+        Answer::Refused(Refusal::NoMemory)
+    }
+
+    /// How many cores there are.
+    pub fn cores(&self) -> u32
+        ensures cores { result ≡ self.now.config.cores }
+        ensures count { length self.now.cores ≡ result }
+    {
+        self.state.config.cores
+    }
+
+    /// The records of the completed operations by number. They are a legal history of the opening memory and of what the
+    /// cores were issued.
+    pub fn records(&self) -> &[Record]
+        ensures records { result.now ≡ self.now.records }
+    {
+        &self.state.records
+    }
+
+    /// A core's open operation, and whether its request is out.
+    pub fn open_op(&self, core: u32) -> Option<(Op, bool)>
+        ensures { result ≡ open_op self.now core }
+    {
+        self.state.open_op(core)
+    }
+
+    /// The copy to evict from a core's cache to make a place for a line, where there is none: the least recently used one
+    /// of the line's set.
+    pub fn victim(&self, core: u32, line: LineNo) -> Option<LineNo>
+        ensures { result ≡ victim self.now core line }
+    {
+        self.state.victim(core, line)
+    }
+
+    /// The bank and the line to evict from it so that this message, a request that is held for want of room, finds room:
+    /// the least recently used line of the set that no core owns, else the least recently used one. None where the bank
+    /// has the line or room for it, and where a line of the set is being loaded, recalled or stored.
+    pub fn make_room(&self, number: MsgNo) -> Option<(u32, LineNo)>
+        ensures { result ≡ make_room self.now number }
+    {
+        self.state.make_room(number)
+    }
+
+    /// The lines of a core's copies, rising; none for a core that isn't there.
+    pub fn copies(&self, alloc: Global, core: u32) -> Result<Vec<LineNo>, AllocError>
+        ensures lines { IfOk result (λ lines. IsPermutation (copies self.now core) lines.items) }
+        ensures rising { IfOk result (λ lines. IsSorted nat_cmp lines.items) }
+    {
+        self.state.copies(alloc, core)
+    }
+
+    /// The lines that a bank has Shared or Exclusive, rising; none for a bank that isn't there.
+    pub fn entries(&self, alloc: Global, bank: u32) -> Result<Vec<LineNo>, AllocError>
+        ensures lines { IfOk result (λ lines. IsPermutation (entries self.now bank) lines.items) }
+        ensures rising { IfOk result (λ lines. IsSorted nat_cmp lines.items) }
+    {
+        self.state.entries(alloc, bank)
+    }
+
+    /// The numbers of the messages in flight, rising.
+    pub fn in_flight(&self) -> Result<Vec<MsgNo>, AllocError>
+        ensures numbers { IfOk result (λ numbers. numbers.items ≡ map (λ m. m.0) self.now.messages) }
+        ensures rising { IsRising 0 self.now.messages self.now.next }
+    {
+        self.state.traffic.flight.numbers()
+    }
+}

@@ -6,7 +6,7 @@ pub mod ends;
 mod look_ups;
 mod noting;
 mod op_program;
-pub mod plan;
+mod plan;
 pub mod program;
 mod round;
 pub mod rounds;
@@ -16,5 +16,5 @@ pub use op_program::OpProgram;
 pub use program::Program;
 pub use rounds::{Driven, drive_round};
 
-// #[cfg(test)]
-// mod tests;
+#[cfg(test)]
+mod tests;

@@ -87,8 +87,8 @@ fn attempt_again<P: Program>(
     ensures goes_on { OnOk result (Leads P.acts plan (at system.old programs.old log.old (AttemptingAgain core)) (at system.new programs.new log.new (Issuing (core + 1)))) }
     ensures stops { IfErr result (Stops P.acts plan (at system.old programs.old log.old (AttemptingAgain core)) system.new programs.new log.new) }
 {
-    let answer = step(log, system, &Event::Attempt(core))?;
-    tell(programs, core, &answer);
+    let second = step(log, system, &Event::Attempt(core))?;
+    tell(programs, core, &second);
     Ok(())
 }
 

@@ -1,0 +1,184 @@
+-- Laws of runs that follow the schedule: the events make the machine, and all done means that nothing is left to do.
+use Rattle.std.proofs.Common.{◌≡◌, ℕ, ◌+◌, ◌<◌, nat_lt, ◌==◌, Bool, true, false, ◌||◌, is_none, List, [], ◌∷◌, ◌++◌, Option, Some, None, refl, sym, ap, ◌∙◌, ⊎_elim}
+use Rattle.std.proofs.lemmas.Bool.{and_parts, cond_both, true≢false, false≢true}
+use Rattle.physiological_order.specs.declared.operation.Op.{Op}
+use Rattle.machine_table.specs.declared.event.Event.{Event}
+use Rattle.machine_table.specs.declared.event.Answer.{Answer}
+use Rattle.machine_table.specs.Machine.{Machine}
+use Rattle.machine_table.specs.Transition.{Outcome, transition}
+use Rattle.machine_table.specs.Runs.{after_all}
+use Rattle.interleaving_core.specs.LookUps.{open_op, make_room}
+use Rattle.worker_driver.specs.declared.ends.End.{End}
+use Rattle.worker_driver.specs.declared.ends.End.TheVariants.{AllDone, Stalled, TurnsUsed, Exhausted, NoMemory}
+use Rattle.worker_driver.specs.declared.plan.Plan.{Plan}
+use Rattle.worker_driver.specs.Acts.{Acts, next_in}
+use Rattle.worker_driver.specs.Schedule.{Stage, RoundStart, Issuing, Attempting, Evicting, AttemptingAgain, Delivering, MakingRoom, OutOfTimes, Position, Move, Does, Goes, Ends, move, move_at, begin, issue, attempt, evict, evict_bank, in_flight, victim_for, answered, answered_at, is_move, is_exhausted, are_over}
+use Rattle.worker_driver.specs.Follows.{Follows, stays, goes, does, Ended}
+use Rattle.worker_driver.proofs.Over.{each_over}
+
+-- one more event
+after_more : (m : Machine) (events : List Event) (e : Event) → after_all m (events ++ e ∷ []) ≡ (transition (after_all m events) e).1
+after_more m [] e = refl
+after_more m (x ∷ events) e = after_more (transition m x).1 events e
+
+module _ {P : Type 0} (acts : Acts P) (plan : Plan) where
+  stage_keeps : (d : Position P) (answer : Answer) (stage : Stage) → (answered_at acts d answer stage).machine ≡ d.machine
+  stage_keeps d answer RoundStart = refl
+  stage_keeps d answer (Issuing core) = refl
+  stage_keeps d answer (Attempting core) = refl
+  stage_keeps d answer (Evicting core) = refl
+  stage_keeps d answer (AttemptingAgain core) = refl
+  stage_keeps d answer (Delivering []) = refl
+  stage_keeps d answer (Delivering (n ∷ left)) = refl
+  stage_keeps d answer (MakingRoom n left) = refl
+  stage_keeps d answer OutOfTimes = refl
+
+  answered_machine : (d : Position P) (o : Outcome) → (answered acts d o).machine ≡ o.1
+  answered_machine d (answer, m) =
+      let e = record d { machine = m; has_moved = d.has_moved || is_move answer } in
+      cond_both (is_exhausted answer) (record e { stage = OutOfTimes }) (answered_at acts e answer d.stage) (λ x. x.machine ≡ m) (λ t. refl) (λ t. stage_keeps e answer d.stage)
+
+  -- a place without an event keeps the machine
+  machine_at : Machine → Move P → Machine
+  machine_at m (Goes d) = d.machine
+  machine_at m (Does event) = m
+  machine_at m (Ends e) = m
+
+  begin_keeps : (d : Position P) (over : Bool) → machine_at d.machine (begin plan d over) ≡ d.machine
+  unfolding machine_at
+  begin_keeps d true = refl
+  begin_keeps d false = cond_both (d.rounds == plan.limit) (Ends TurnsUsed) (Goes (record d { stage = Issuing 0; has_moved = false })) (λ x. machine_at d.machine x ≡ d.machine) (λ t. refl) (λ t. refl)
+
+  issue_keeps : (d : Position P) (core : ℕ) (o : Option (Op × Bool)) (next : Option Op) → machine_at d.machine (issue d core o next) ≡ d.machine
+  unfolding machine_at
+  issue_keeps d core None None = refl
+  issue_keeps d core None (Some op) = refl
+  issue_keeps d core (Some x) next = refl
+
+  attempt_keeps : (d : Position P) (core : ℕ) (o : Option (Op × Bool)) → machine_at d.machine (attempt d core o) ≡ d.machine
+  unfolding machine_at
+  attempt_keeps d core None = refl
+  attempt_keeps d core (Some x) = refl
+
+  evict_keeps : (d : Position P) (core : ℕ) (o : Option ℕ) → machine_at d.machine (evict d core o) ≡ d.machine
+  unfolding machine_at
+  evict_keeps d core None = refl
+  evict_keeps d core (Some line) = refl
+
+  evict_bank_keeps : (d : Position P) (left : List ℕ) (o : Option (ℕ × ℕ)) → machine_at d.machine (evict_bank d left o) ≡ d.machine
+  unfolding machine_at
+  evict_bank_keeps d left None = refl
+  evict_bank_keeps d left (Some x) = refl
+
+  move_keeps : (d : Position P) (stage : Stage) → machine_at d.machine (move_at acts plan d stage) ≡ d.machine
+  unfolding machine_at
+  move_keeps d RoundStart = begin_keeps d (are_over acts d.machine d.programs plan.cores)
+  move_keeps d (Issuing core) = cond_both (nat_lt core plan.cores)
+      (issue d core (open_op d.machine core) (next_in acts d.programs core)) (Goes (record d { stage = Delivering (in_flight d.machine) }))
+      (λ x. machine_at d.machine x ≡ d.machine) (λ t. issue_keeps d core (open_op d.machine core) (next_in acts d.programs core)) (λ t. refl)
+  move_keeps d (Attempting core) = attempt_keeps d core (open_op d.machine core)
+  move_keeps d (Evicting core) = evict_keeps d core (victim_for plan d.machine core (open_op d.machine core))
+  move_keeps d (AttemptingAgain core) = refl
+  move_keeps d (Delivering []) = cond_both d.has_moved (Goes (record d { stage = RoundStart; rounds = d.rounds + 1 })) (Ends Stalled) (λ x. machine_at d.machine x ≡ d.machine) (λ t. refl) (λ t. refl)
+  move_keeps d (Delivering (n ∷ left)) = refl
+  move_keeps d (MakingRoom n left) = evict_bank_keeps d left (make_room d.machine n)
+  move_keeps d OutOfTimes = refl
+
+  goes_keeps : (d e : Position P) → move acts plan d ≡ Goes e → e.machine ≡ d.machine
+  unfolding machine_at
+  goes_keeps d e next = sym (ap (machine_at d.machine) next) ∙ move_keeps d d.stage
+
+  -- the events make the machine
+  pub made_by : (start d : Position P) (events : List Event) → Follows acts plan start events d → d.machine ≡ after_all start.machine events
+  made_by start d events stays = refl
+  made_by start d events (goes {events = taken} {d = before} {e = e} follows next) = goes_keeps before e next ∙ made_by start before taken follows
+  made_by start d events (does {events = taken} {d = before} {event = event} follows next) =
+      answered_machine before (transition before.machine event)
+      ∙ ap (λ (m : Machine). (transition m event).1) (made_by start before taken follows)
+      ∙ sym (after_more start.machine taken event)
+
+  -- whether the end is that all is done
+  says_done : Move P → Bool
+  says_done (Ends AllDone) = true
+  says_done (Ends Stalled) = false
+  says_done (Ends TurnsUsed) = false
+  says_done (Ends Exhausted) = false
+  says_done (Ends NoMemory) = false
+  says_done (Does event) = false
+  says_done (Goes d) = false
+
+  begin_says : (d : Position P) (over : Bool) → says_done (begin plan d over) ≡ true → over ≡ true
+  unfolding says_done
+  begin_says d true done = refl
+  begin_says d false done = absurd (true≢false (sym done ∙ cond_both (d.rounds == plan.limit) (Ends TurnsUsed) (Goes (record d { stage = Issuing 0; has_moved = false })) (λ x. says_done x ≡ false) (λ t. refl) (λ t. refl)))
+
+  issue_says : (d : Position P) (core : ℕ) (o : Option (Op × Bool)) (next : Option Op) → says_done (issue d core o next) ≡ false
+  unfolding says_done
+  issue_says d core None None = refl
+  issue_says d core None (Some op) = refl
+  issue_says d core (Some x) next = refl
+
+  attempt_says : (d : Position P) (core : ℕ) (o : Option (Op × Bool)) → says_done (attempt d core o) ≡ false
+  unfolding says_done
+  attempt_says d core None = refl
+  attempt_says d core (Some x) = refl
+
+  evict_says : (d : Position P) (core : ℕ) (o : Option ℕ) → says_done (evict d core o) ≡ false
+  unfolding says_done
+  evict_says d core None = refl
+  evict_says d core (Some line) = refl
+
+  evict_bank_says : (d : Position P) (left : List ℕ) (o : Option (ℕ × ℕ)) → says_done (evict_bank d left o) ≡ false
+  unfolding says_done
+  evict_bank_says d left None = refl
+  evict_bank_says d left (Some x) = refl
+
+  never : {A : Type 0} {b : Bool} → b ≡ true → b ≡ false → A
+  never here not_here = absurd (true≢false (sym here ∙ not_here))
+
+  move_says : (d : Position P) (stage : Stage) → says_done (move_at acts plan d stage) ≡ true → are_over acts d.machine d.programs plan.cores ≡ true
+  unfolding says_done
+  move_says d RoundStart done = begin_says d (are_over acts d.machine d.programs plan.cores) done
+  move_says d (Issuing core) done = never done (cond_both (nat_lt core plan.cores)
+      (issue d core (open_op d.machine core) (next_in acts d.programs core)) (Goes (record d { stage = Delivering (in_flight d.machine) }))
+      (λ x. says_done x ≡ false) (λ t. issue_says d core (open_op d.machine core) (next_in acts d.programs core)) (λ t. refl))
+  move_says d (Attempting core) done = never done (attempt_says d core (open_op d.machine core))
+  move_says d (Evicting core) done = never done (evict_says d core (victim_for plan d.machine core (open_op d.machine core)))
+  move_says d (AttemptingAgain core) done = absurd (false≢true done)
+  move_says d (Delivering []) done = never done (cond_both d.has_moved (Goes (record d { stage = RoundStart; rounds = d.rounds + 1 })) (Ends Stalled) (λ x. says_done x ≡ false) (λ t. refl) (λ t. refl))
+  move_says d (Delivering (n ∷ left)) done = absurd (false≢true done)
+  move_says d (MakingRoom n left) done = never done (evict_bank_says d left (make_room d.machine n))
+  move_says d OutOfTimes done = absurd (false≢true done)
+
+  none_of : {A : Type 0} (o : Option A) → is_none o ≡ true → o ≡ None
+  none_of None none = refl
+  none_of (Some x) none = absurd (false≢true none)
+
+  -- all done means that no core has an open operation and no program a next one
+  pub nothing_left : (d : Position P) → move acts plan d ≡ Ends AllDone → (core : ℕ) → core < plan.cores →
+      (open_op d.machine core ≡ None) × (next_in acts d.programs core ≡ None)
+  unfolding says_done
+  nothing_left d all core below =
+      let over = move_says d d.stage (ap says_done all) in
+      let parts = and_parts (is_none (open_op d.machine core)) (is_none (next_in acts d.programs core)) (each_over acts d.machine d.programs plan.cores core below over) in
+      (none_of (open_op d.machine core) parts.0, none_of (next_in acts d.programs core) parts.1)
+
+  is_all : End → Bool
+  is_all AllDone = true
+  is_all Stalled = false
+  is_all TurnsUsed = false
+  is_all Exhausted = false
+  is_all NoMemory = false
+
+  other : AllDone ≡ NoMemory → ⊥
+  unfolding is_all
+  other same = true≢false (ap is_all same)
+
+  pub run_makes : (start : Position P) (events : List Event) (m : Machine) (programs : List P) (e : End) → Ended acts plan start events m programs e →
+      m ≡ after_all start.machine events
+  run_makes start events m programs e ended = sym ended.machine_is ∙ made_by start ended.last events ended.follows
+
+  pub run_leaves_nothing : (start : Position P) (events : List Event) (m : Machine) (programs : List P) (e : End) → Ended acts plan start events m programs e →
+      e ≡ AllDone → (core : ℕ) → core < plan.cores → (open_op m core ≡ None) × (next_in acts programs core ≡ None)
+  run_leaves_nothing start events m programs e ended done core below =
+      rw (ended.machine_is, ended.programs_are) at (nothing_left ended.last (⊎_elim (λ ends. ends ∙ ap Ends done) (λ memory. absurd (other (sym done ∙ memory))) ended.ends) core below)

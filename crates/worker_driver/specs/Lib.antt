@@ -1,0 +1,4 @@
+pub mod Acts
+pub mod Schedule
+pub mod Follows
+pub mod Noting

@@ -1,0 +1,20 @@
+//! Drives a machine by a schedule: programs give its cores their operations, and each event that the machine is given is
+//! the one that the schedule has next. docs/PROTOCOL.md has the schedule.
+#![tactic(auto)]
+
+pub mod ends;
+mod look_ups;
+mod noting;
+mod op_program;
+mod plan;
+pub mod program;
+mod round;
+pub mod rounds;
+
+pub use ends::End;
+pub use op_program::OpProgram;
+pub use program::Program;
+pub use rounds::{Driven, drive_round};
+
+#[cfg(test)]
+mod tests;

@@ -1,0 +1,87 @@
+//! What a round looks up in the machine and the programs.
+ghost use Rattle.std.specs.Prelude.{◌≡◌, ◌/◌, ◌<◌};
+ghost use Rattle.physiological_order.specs.Order.{address};
+ghost use Rattle.interleaving_core.specs.LookUps.{open_op};
+ghost use Rattle.worker_driver.specs.Acts.{next_in, done_in};
+ghost use Rattle.worker_driver.specs.Schedule.{are_over, is_over, told, victim_for};
+
+use crate::plan::Plan;
+use crate::program::Program;
+use interleaving_core::{Answer, System};
+use network::LineNo;
+use physiological_order::Op;
+
+// The word of an operation.
+fn word_of(op: Op) -> u64
+    ensures { result ≡ address op }
+{
+    match op {
+        Op::Load(word) => word.word(),
+        Op::Store(word, _) => word.word(),
+        Op::Swap(word, _) => word.word(),
+    }
+}
+
+// The copy to evict for the line of a core's open operation.
+pub(crate) fn victim_for(plan: Plan, system: &System, core: u32) -> Option<LineNo>
+    requires { 0 < plan.line_words }
+    ensures { result ≡ victim_for plan system.now core (open_op system.now core) }
+{
+    let (op, _) = system.open_op(core)?;
+    system.victim(core, LineNo(word_of(op) / u64::from(plan.line_words)))
+}
+
+// The next operation of a core's program.
+pub(crate) fn next_in<P: Program>(programs: &mut [P], core: u32) -> Option<Op>
+    ensures next { result ≡ next_in P.acts programs.old core }
+    ensures same { programs.new ≡ programs.old }
+{
+    let at = core as usize;
+    if at >= programs.len() {
+        return None;
+    }
+    programs[at].next()
+}
+
+// Tells a core's program what its operation received.
+fn tell_done<P: Program>(programs: &mut [P], core: u32, received: Option<u64>)
+    ensures { programs.new ≡ done_in P.acts programs.old core received }
+{
+    let at = core as usize;
+    if at < programs.len() {
+        programs[at].done(received);
+    }
+}
+
+// Tells a core's program of a completion.
+pub(crate) fn tell<P: Program>(programs: &mut [P], core: u32, answer: &Answer)
+    ensures { programs.new ≡ told P.acts programs.old core answer.now }
+{
+    if let Answer::Completed(record) = *answer {
+        tell_done(programs, core, record.received);
+    }
+}
+
+// Whether a core has no open operation and its program no next one.
+fn is_over<P: Program>(system: &System, programs: &mut [P], core: u32) -> bool
+    ensures over { result ≡ is_over P.acts system.now programs.old core }
+    ensures same { programs.new ≡ programs.old }
+{
+    if system.open_op(core).is_some() {
+        return false;
+    }
+    next_in(programs, core).is_none()
+}
+
+// Whether that is so of all cores below a number.
+pub(crate) fn are_over<P: Program>(system: &System, programs: &mut [P], cores: u32) -> bool
+    ensures over { result ≡ are_over P.acts system.now programs.old cores }
+    ensures same { programs.new ≡ programs.old }
+{
+    for core in 0..cores {
+        if !is_over(system, programs, core) {
+            return false;
+        }
+    }
+    true
+}

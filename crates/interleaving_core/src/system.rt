@@ -105,6 +105,14 @@ impl System {
         self.state.config.cores
     }
 
+    /// How many words a line has: 1 or 8.
+    pub fn line_words(&self) -> u32
+        ensures words { result ≡ self.now.config.line_words }
+        ensures some { 0 < result }
+    {
+        self.state.config.line_words
+    }
+
     /// The records of the completed operations by number. They are a legal history of the opening memory and of what the
     /// cores were issued.
     pub fn records(&self) -> &[Record]

@@ -2,7 +2,7 @@
 use Rattle.std.proofs.Common.{◌≡◌, ℕ, ◌+◌, ◌<◌, ◌==◌, true, false, List, [], inl, refl, ap, ◌∙◌, arith}
 use Rattle.std.proofs.lemmas.Bool.{eq-eqb, ne_eqb}
 use Rattle.machine_table.specs.Machine.{Machine}
-use Rattle.worker_driver.specs.declared.ends.End.TheVariants as end
+use Rattle.run_ends.specs.declared.ends.End.TheVariants as end
 use Rattle.worker_driver.specs.declared.plan.Plan.{Plan}
 use Rattle.worker_driver.specs.Acts.{Acts}
 use Rattle.worker_driver.specs.Schedule.{RoundStart, Issuing, Delivering, Position, begin, are_over}

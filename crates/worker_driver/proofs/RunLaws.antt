@@ -8,8 +8,8 @@ use Rattle.machine_table.specs.Machine.{Machine}
 use Rattle.machine_table.specs.Transition.{Outcome, transition}
 use Rattle.machine_table.specs.Runs.{after_all}
 use Rattle.interleaving_core.specs.LookUps.{open_op, make_room}
-use Rattle.worker_driver.specs.declared.ends.End.{End}
-use Rattle.worker_driver.specs.declared.ends.End.TheVariants.{AllDone, Stalled, TurnsUsed, Exhausted, NoMemory}
+use Rattle.run_ends.specs.declared.ends.End.{End}
+use Rattle.run_ends.specs.declared.ends.End.TheVariants.{AllDone, Stalled, TurnsUsed, Exhausted, NoMemory}
 use Rattle.worker_driver.specs.declared.plan.Plan.{Plan}
 use Rattle.worker_driver.specs.Acts.{Acts, next_in}
 use Rattle.worker_driver.specs.Schedule.{Stage, RoundStart, Issuing, Attempting, Evicting, AttemptingAgain, Delivering, MakingRoom, OutOfTimes, Position, Move, Does, Goes, Ends, move, move_at, begin, issue, attempt, evict, evict_bank, in_flight, victim_for, answered, answered_at, is_move, is_exhausted, are_over}

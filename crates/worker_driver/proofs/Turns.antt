@@ -7,8 +7,8 @@ use Rattle.machine_table.specs.declared.event.Event.TheVariants.{Issue, Attempt,
 use Rattle.machine_table.specs.declared.event.Answer.{Answer}
 use Rattle.machine_table.specs.Machine.{Machine}
 use Rattle.interleaving_core.specs.LookUps.{open_op, make_room}
-use Rattle.worker_driver.specs.declared.ends.End.{End}
-use Rattle.worker_driver.specs.declared.ends.End.TheVariants.{NoMemory}
+use Rattle.run_ends.specs.declared.ends.End.{End}
+use Rattle.run_ends.specs.declared.ends.End.TheVariants.{NoMemory}
 use Rattle.worker_driver.specs.declared.plan.Plan.{Plan}
 use Rattle.worker_driver.specs.Acts.{Acts, next_in}
 use Rattle.worker_driver.specs.Schedule.{Stage, Issuing, Attempting, Evicting, AttemptingAgain, Delivering, MakingRoom, Position, Does, Goes, move, answered_at, at_stage, issue, attempt, evict, evict_bank, victim_for, told, is_held, is_no_room, in_flight}

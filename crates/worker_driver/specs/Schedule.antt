@@ -10,8 +10,8 @@ use Rattle.machine_table.specs.declared.event.Refusal.TheVariants.{NoRoom, Exhau
 use Rattle.machine_table.specs.Machine.{Machine}
 use Rattle.machine_table.specs.Transition.{Outcome, transition}
 use Rattle.interleaving_core.specs.LookUps.{open_op, victim, make_room}
-use Rattle.worker_driver.specs.declared.ends.End.{End}
-use Rattle.worker_driver.specs.declared.ends.End.TheVariants.{AllDone, Stalled, TurnsUsed, Exhausted}
+use Rattle.run_ends.specs.declared.ends.End.{End}
+use Rattle.run_ends.specs.declared.ends.End.TheVariants.{AllDone, Stalled, TurnsUsed, Exhausted}
 use Rattle.worker_driver.specs.declared.plan.Plan.{Plan}
 use Rattle.worker_driver.specs.Acts.{Acts, next_in, done_in}
 

@@ -2,7 +2,6 @@
 //! the one that the schedule has next. docs/PROTOCOL.md has the schedule.
 #![tactic(auto)]
 
-pub mod ends;
 mod look_ups;
 mod noting;
 mod op_program;
@@ -11,7 +10,6 @@ pub mod program;
 mod round;
 pub mod rounds;
 
-pub use ends::End;
 pub use op_program::OpProgram;
 pub use program::Program;
 pub use rounds::{Driven, drive_round};

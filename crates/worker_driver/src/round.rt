@@ -4,7 +4,7 @@ ghost use Rattle.std.specs.Prelude.{◌≡◌, ◌+◌, ◌<◌, ◌∷◌, [], 
 ghost use Rattle.worker_driver.specs.Schedule.{Issuing, Attempting, Evicting, AttemptingAgain, Delivering, MakingRoom};
 ghost use Rattle.worker_driver.specs.Noting.{Leads, Stops, at};
 
-use crate::ends::End;
+use run_ends::End;
 use crate::look_ups::{next_in, tell, victim_for};
 use crate::noting::{Log, is_held, is_no_room, step};
 use crate::plan::Plan;

@@ -5,7 +5,7 @@ ghost use Rattle.interleaving_core.specs.LookUps.{open_op};
 ghost use Rattle.worker_driver.specs.Acts.{next_in};
 ghost use Rattle.worker_driver.specs.Follows.{Ended, opening, plan_of};
 
-use crate::ends::End;
+use run_ends::End;
 use crate::look_ups::are_over;
 use crate::noting::Log;
 use crate::plan::Plan;
@@ -24,24 +24,21 @@ pub struct Driven {
 /// Drives the machine by the schedule of rounds, one program a core, until every program is done, a round went by
 /// without a move, `limit` rounds were made, times are exhausted or a growth is refused. The events are those that the
 /// schedule has, each by the machine and the programs as they then are, and so is the end, unless it is NoMemory. What
-/// was given to the machine is in the list, and nothing else. `line_words` is how many words a line of the machine has.
+/// was given to the machine is in the list, and nothing else.
 pub fn drive_round<P: Program>(
     alloc: Global,
     system: &mut System,
     programs: &mut [P],
-    line_words: u32,
     limit: u32,
 ) -> Driven
     requires one_each { length programs.old ≡ system.old.config.cores }
-    requires line_words { line_words ≡ system.old.config.line_words }
-    requires some_words { 0 < line_words }
     ensures schedule { Ended P.acts (plan_of system.old.config limit) (opening system.old programs.old) result.events.items system.new programs.new result.end }
     ensures machine { system.new ≡ after_all system.old result.events.items }
     ensures all_done { result.end ≡ End.AllDone → (core : ℕ) → core < system.old.config.cores → (open_op system.new core ≡ None) × (next_in P.acts programs.new core ≡ None) }
 {
     let plan = Plan {
         cores: system.cores(),
-        line_words,
+        line_words: system.line_words(),
         limit,
     };
     let mut log = Log::new(alloc);

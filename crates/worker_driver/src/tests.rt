@@ -1,7 +1,7 @@
 //! Runs by hand: store buffering by two lists of operations, and the ends.
 ghost use Rattle.std.specs.Prelude.{◌≡◌, ◌≤◌, IfOk, length};
 
-use crate::ends::End;
+use run_ends::End;
 use crate::op_program::OpProgram;
 use crate::rounds::{Driven, drive_round};
 use interleaving_core::{Config, System};
@@ -49,7 +49,7 @@ fn run(
         OpProgram::new(Vec::from_slice(alloc, first)?),
         OpProgram::new(Vec::from_slice(alloc, second)?),
     ];
-    let driven = drive_round(alloc, &mut system, &mut programs, 1, limit);
+    let driven = drive_round(alloc, &mut system, &mut programs, limit);
     Ok((driven, system))
 }
 

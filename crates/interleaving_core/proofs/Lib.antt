@@ -2,6 +2,7 @@ pub mod Changes
 pub mod Closing
 pub mod Ends
 pub mod Filled
+pub mod InOrder
 pub mod Joining
 pub mod Opened
 pub mod OpenKept

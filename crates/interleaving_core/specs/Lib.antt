@@ -1,5 +1,6 @@
 pub mod Attempting
 pub mod Filling
+pub mod InOrder
 pub mod Joined
 pub mod LookUps
 pub mod Rooms

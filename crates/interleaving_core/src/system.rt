@@ -2,6 +2,7 @@
 ghost use Rattle.std.specs.Prelude.{◌≡◌, ◌≢◌, ◌≤◌, ◌<◌, ◌++◌, ◌∷◌, vec_capacity, [], false, true, IfOk, IfErr, IfSome, IsTrue, OnErr, OnOk, IsPermutation, IsSorted, length, map, slice_get, slice_index_or, List, ℕ};
 ghost use Rattle.std.specs.Ordering.{nat_cmp};
 ghost use Rattle.physiological_order.specs.Order.{flat, Legal, Arrangement, replay_end};
+ghost use Rattle.physiological_order.specs.StaleHits.{RisesByNumber};
 ghost use Rattle.physiological_order.specs.declared.operation.Record.{Record};
 ghost use Rattle.network.specs.Numbered.{IsRising};
 ghost use Rattle.machine_table.specs.SetUp.{is_good};
@@ -42,6 +43,7 @@ impl Model for System {
     ghost use Rattle.machine_table.specs.Machine.{Machine};
     ghost use Rattle.machine_table.specs.SetUp.{is_good};
     ghost use Rattle.machine_history.specs.Steps.{Stands};
+    ghost use Rattle.interleaving_core.specs.InOrder.{AreNumbered};
     ghost use Rattle.std.specs.Prelude.{◌≡◌, true};
 
     ghost Value = { Machine };
@@ -50,8 +52,9 @@ impl Model for System {
 
     ghost view = { λ a. a.state };
 
-    // It is well set up, its parts have their shape, and line by line it is one that the protocol reaches.
-    ghost invariant = { λ a. (is_good a.state.config ≡ true) × Stands a.state };
+    // It is well set up, its parts have their shape, and line by line it is one that the protocol reaches; its records
+    // stand in the order of their numbers.
+    ghost invariant = { λ a. (is_good a.state.config ≡ true) × Stands a.state × AreNumbered 0 a.state.records };
 }
 
 impl System {
@@ -118,6 +121,7 @@ impl System {
     pub fn records(&self) -> &[Record]
         ensures records { result.now ≡ self.now.records }
         ensures legal { Legal (flat self.now.opening) (λ core. slice_index_or self.now.issued core []) result.now }
+        ensures rising { RisesByNumber result.now }
     {
         self.state.records()
     }

@@ -3,6 +3,8 @@ use Rattle.physiological_order.specs.declared.operation.Record.{Record}
 use Rattle.physiological_order.specs.Order.{flat, Legal}
 use Rattle.machine_table.specs.Machine.{Machine}
 use Rattle.machine_history.proofs.History.{legal_now}
+use Rattle.physiological_order.specs.StaleHits.{RisesByNumber}
+use Rattle.interleaving_core.proofs.InOrder.{numbered_rise}
 use Rattle.interleaving_core.proofs.system.System.records.Goals as goal
 
 pub returns-clause-legal : goal.returns-clause-legal
@@ -10,3 +12,6 @@ returns-clause-legal c =
     subst (λ (m : Machine). Legal (flat m.opening) (λ core. get_or m.issued core []) c.records.result.now) c.self.view_is
     (subst (λ (rs : List Record). Legal (flat c.self.inside.state.opening) (λ core. get_or c.self.inside.state.issued core []) rs) (sym c.records.ensures)
     (legal_now _ c.self.invariant.1))
+
+pub returns-clause-rising : goal.returns-clause-rising
+returns-clause-rising c = subst RisesByNumber (sym c.records.ensures) (numbered_rise 0 _ c.self.invariant.2)

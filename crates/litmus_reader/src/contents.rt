@@ -1,6 +1,6 @@
 //! What the text of a litmus test says.
 
-ghost use Rattle.std.specs.Prelude.{◌≡◌, ◌≤◌, length, replicate, slice_get, option_map};
+ghost use Rattle.std.specs.Prelude.{◌≡◌, ◌≤◌, ◌<◌, length, replicate, slice_get, option_map};
 ghost use Rattle.litmus_reader.specs.TestViews.{test_of};
 ghost use Rattle.litmus_reader.specs.ThreadSteps.{settled, opened};
 
@@ -47,7 +47,8 @@ impl Test {
 
     /// How many threads there are, 1 to 16; they are numbered from 0.
     pub fn threads(&self) -> usize
-        ensures { result ≡ (test_of self.now).threads }
+        ensures count { result ≡ (test_of self.now).threads }
+        ensures few { result < 256 }
     {
         usize::from(self.threads)
     }

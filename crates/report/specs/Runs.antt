@@ -1,0 +1,52 @@
+-- What a run of a litmus test is.
+use Rattle.std.specs.Prelude.{◌≡◌, ℕ, zero, suc, ◌+◌, List, [], ◌∷◌, length, map, replicate, Option, Some, None}
+use Rattle.std.specs.FinMap.{empty}
+use Rattle.physiological_order.specs.StaleHits.{stale_count}
+use Rattle.litmus_reader.specs.Litmus.{Litmus}
+use Rattle.litmus_reader.specs.OpeningMemory.{words_opened}
+use Rattle.litmus_reader.specs.ThreadSteps.{Thread, opened, settled, next_of, done_with}
+use Rattle.litmus_reader.specs.Truth.{end_value}
+use Rattle.machine_table.specs.declared.config.Config.{Config}
+use Rattle.machine_table.specs.declared.event.Event.{Event}
+use Rattle.machine_table.specs.Machine.{Machine}
+use Rattle.machine_table.specs.Opening.{at_start}
+use Rattle.machine_history.specs.Standing.{standing_value}
+use Rattle.run_ends.specs.declared.ends.End.{End}
+use Rattle.run_ends.specs.declared.ends.End.TheVariants.{AllDone, Stalled, TurnsUsed, Exhausted, NoMemory}
+use Rattle.run_ends.specs.declared.ends.RunEnd.{RunEnd}
+use Rattle.worker_driver.specs.Acts.{Acts}
+use Rattle.worker_driver.specs.Follows.{Ended, opening, plan_of}
+
+-- what the threads of a test do
+abbrev pub thread_acts : Acts Thread
+thread_acts = record { next = next_of; done = done_with }
+
+-- a thread as the test opens it, and so many of them from this number on
+abbrev pub started : Litmus → ℕ → Thread
+started test t = settled t (opened t test.items (replicate 32 0)) test.cells
+
+abbrev pub threads_from : Litmus → ℕ → ℕ → List Thread
+threads_from test t zero = []
+threads_from test t (suc n) = started test t ∷ threads_from test (t + 1) n
+
+-- the values of so many words from this one on, where they stand
+abbrev pub values_from : Machine → ℕ → ℕ → List ℕ
+values_from m word zero = []
+values_from m word (suc n) = standing_value m word ∷ values_from m (word + 1) n
+
+-- what the condition's names have at the end, where all threads are done
+abbrev pub state_at : Litmus → End → List Thread → Machine → Option (List ℕ)
+state_at test AllDone threads m = Some (map (end_value threads (values_from m 0 (length test.locations))) test.seen)
+state_at test end threads m = None
+
+-- events by the schedule of rounds lead from the machine and the threads that the test opens to the run's end; its numbers
+-- are those of the machine then
+pub record IsRun (test : Litmus) (config : Config) (limit : ℕ) (run : RunEnd) : Type 0 where
+  pub events : List Event
+  pub machine : Machine
+  pub threads : List Thread
+  pub ended : Ended thread_acts (plan_of config limit) (opening (at_start config (words_opened test.items empty)) (threads_from test 0 test.threads)) events machine threads run.end
+  pub state : run.state ≡ state_at test run.end threads machine
+  pub completed : run.completed ≡ length machine.records
+  pub stale : run.stale ≡ stale_count machine.records
+  pub counts : run.counts ≡ machine.counts

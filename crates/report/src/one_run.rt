@@ -1,0 +1,83 @@
+//! One run of a litmus test.
+ghost use Rattle.std.specs.Prelude.{◌≡◌, ◌≤◌, ◌<◌, true, length, IfOk};
+ghost use Rattle.litmus_reader.specs.TestViews.{test_of};
+ghost use Rattle.machine_table.specs.SetUp.{is_good};
+ghost use Rattle.report.specs.Runs.{IsRun, state_at, threads_from, values_from};
+
+use interleaving_core::{Config, System};
+use litmus_reader::{EndState, Test, ThreadState};
+use physiological_order::{WordAddr, stale_hits};
+use run_ends::{End, RunEnd};
+use std::alloc::{AllocError, Global};
+use worker_driver::drive_round;
+
+/// A run of the test on a machine with a core for each thread, by the schedule of rounds, with at most so many rounds.
+pub(crate) fn run_once(
+    alloc: Global,
+    test: &Test,
+    config: Config,
+    limit: u32,
+) -> Result<RunEnd, AllocError>
+    requires good { is_good config ≡ true }
+    requires cores { config.cores ≡ (test_of test.now).threads }
+    ensures { IfOk result (IsRun (test_of test.now) config limit) }
+{
+    let memory = test.opening()?;
+    let Ok(mut system) = System::new(alloc, config, memory) else {
+        return Err(AllocError);
+    };
+    let mut started = start_threads(alloc, test)?;
+    let threads = started.as_mut_slice();
+    let driven = drive_round(alloc, &mut system, threads, limit);
+    let stale = stale_hits(alloc, system.records())?;
+    let state = end_state(alloc, test, driven.end, threads, &system)?;
+    Ok(RunEnd {
+        end: driven.end,
+        state,
+        completed: system.records().len() as u64,
+        stale,
+        counts: system.counts(),
+    })
+}
+
+// The threads as the test opens them.
+fn start_threads<'a>(alloc: Global, test: &'a Test) -> Result<Vec<ThreadState<'a>>, AllocError>
+    ensures { IfOk result (λ threads. threads.items ≡ threads_from (test_of test.now) 0 (test_of test.now).threads) }
+{
+    let mut threads = Vec::new(alloc);
+    for thread in 0..test.threads() {
+        threads.push(test.start(thread as u8))?;
+    }
+    Ok(threads)
+}
+
+// The values of the condition's names, where all threads are done.
+fn end_state(
+    alloc: Global,
+    test: &Test,
+    end: End,
+    threads: &[ThreadState<'_>],
+    system: &System,
+) -> Result<Option<EndState>, AllocError>
+    ensures { IfOk result (λ state. state ≡ state_at (test_of test.now) end threads.now system.now) }
+{
+    match end {
+        End::AllDone => {
+            let memory = values(alloc, test.locations(), system)?;
+            Ok(Some(test.end(threads, &memory)?))
+        }
+        _ => Ok(None),
+    }
+}
+
+// The values of the first words, where they stand.
+fn values(alloc: Global, count: usize, system: &System) -> Result<Vec<u64>, AllocError>
+    requires { count ≤ 64 }
+    ensures { IfOk result (λ values. values.items ≡ values_from system.now 0 count) }
+{
+    let mut values = Vec::new(alloc);
+    for word in 0..count {
+        values.push(system.coherent(WordAddr::at(word as u64)))?;
+    }
+    Ok(values)
+}

@@ -47,5 +47,5 @@ sums_text sums = field (codes "completed") sums.completed
     ++ field (codes "write-backs") sums.write_backs
     ++ field (codes "stale-hits") sums.stale
 
-abbrev pub litmus_text : Litmus → List RunEnd → List ℕ
+unfoldable pub litmus_text : Litmus → List RunEnd → List ℕ
 litmus_text test runs = ends_text test runs ++ states_text test (tallied (done_states runs)) ++ condition_text test runs ++ sums_text (sums_of runs)

@@ -7,11 +7,13 @@ pub returns-clause-machine : goal.returns-clause-machine
 returns-clause-machine g c =
     let a = c.args in
     let n = c.rounds-end.new in
-    rw c.into_events.ensures (run_makes g.P.Program.acts (record { cores = c.cores.result; line_words = a.line_words; limit = a.limit }) (opening a.system.now a.programs.now) n.log.events n.system n.programs c.rounds-end.result c.rounds-end.ensures)
+    rw c.into_events.ensures (run_makes g.P.Program.acts (record { cores = c.cores.result; line_words = a.line_words; limit = a.limit }) (opening
+    a.system.now a.programs.now) n.log.events n.system n.programs c.rounds-end.result c.rounds-end.ensures)
 
 pub returns-clause-all_done : goal.returns-clause-all_done
 returns-clause-all_done g c done core below =
     let a = c.args in
     let n = c.rounds-end.new in
-    run_leaves_nothing g.P.Program.acts (record { cores = c.cores.result; line_words = a.line_words; limit = a.limit }) (opening a.system.now a.programs.now) n.log.events n.system n.programs c.rounds-end.result c.rounds-end.ensures done core
+    run_leaves_nothing g.P.Program.acts (record { cores = c.cores.result; line_words = a.line_words; limit = a.limit }) (opening a.system.now
+    a.programs.now) n.log.events n.system n.programs c.rounds-end.result c.rounds-end.ensures done core
     (omega (arith, below, c.cores.ensures.cores))

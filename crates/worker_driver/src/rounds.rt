@@ -23,8 +23,9 @@ pub struct Driven {
 
 /// Drives the machine by the schedule of rounds, one program a core, until every program is done, a round went by
 /// without a move, `limit` rounds were made, times are exhausted or a growth is refused. The events are those that the
-/// schedule has, each by the machine and the programs as they then are, and so is the end, unless it is NoMemory. What
-/// was given to the machine is in the list, and nothing else. `line_words` is how many words a line of the machine has.
+/// schedule has, each by the machine and the programs as they then are, and so is the end, unless it is NoMemory. An event
+/// that was refused for want of memory changed nothing and is not among them. `line_words` is how many words a line of the
+/// machine has; at most `limit` rounds are made, and none where it is 0.
 pub fn drive_round<P: Program>(
     alloc: Global,
     system: &mut System,

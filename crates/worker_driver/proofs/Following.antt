@@ -19,10 +19,12 @@ module _ {P : Type 0} (acts : Acts P) (plan : Plan) (start : Position P) where
   lands : (p : Point P) (rounds : ℕ) (event : Event) (answer : Answer) (m : Machine) (log : Log) →
       (answer, m) ≡ transition p.machine event → IsNoted p.log event answer log →
       Follows acts plan start p.log.events (position p rounds) → move acts plan (position p rounds) ≡ Does event →
-      Follows acts plan start log.events (if is_exhausted answer then position (at m p.programs log OutOfTimes) rounds else answered_at acts (position (at m p.programs log p.stage) rounds) answer p.stage)
+      Follows acts plan start log.events (if is_exhausted answer then position (at m p.programs log OutOfTimes) rounds else answered_at acts
+      (position (at m p.programs log p.stage) rounds) answer p.stage)
   lands p rounds event answer m log stepped noted before next =
       let done = does before next in
-      let by_answer = subst (λ (o : Outcome). Follows acts plan start (p.log.events ++ event ∷ []) (answered acts (position p rounds) o)) (sym stepped) done in
+      let by_answer = subst (λ (o : Outcome). Follows acts plan start (p.log.events ++ event ∷ []) (answered acts (position p rounds) o)) (sym
+      stepped) done in
       rw (noted.events, noted.has_moved) by_answer
 
   pub did : (p : Point P) (rounds : ℕ) (event : Event) (answer : Answer) (m : Machine) (log : Log) →

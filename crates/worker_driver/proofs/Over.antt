@@ -9,7 +9,8 @@ module _ {P : Type 0} (acts : Acts P) (m : Machine) (programs : List P) where
   pub not_over : (cores core : ℕ) → core < cores → is_over acts m programs core ≡ false → are_over acts m programs cores ≡ false
   not_over zero core below work = absurd (omega (arith, below))
   not_over (suc cores) core below work = ⊎_elim
-      (λ (same : core ≡ cores). and_right (are_over acts m programs cores) (is_over acts m programs cores) (subst (λ (c : ℕ). is_over acts m programs c ≡ false) same work))
+      (λ (same : core ≡ cores). and_right (are_over acts m programs cores) (is_over acts m programs cores) (subst (λ (c : ℕ). is_over acts m
+      programs c ≡ false) same work))
       (λ other. and_left (are_over acts m programs cores) (is_over acts m programs cores) (not_over cores core (omega (arith, below, other)) work))
       (cases_eq core cores)
 

@@ -36,7 +36,8 @@ module _ {P : Type 0} (acts : Acts P) (plan : Plan) where
   answered_machine : (d : Position P) (o : Outcome) → (answered acts d o).machine ≡ o.1
   answered_machine d (answer, m) =
       let e = record d { machine = m; has_moved = d.has_moved || is_move answer } in
-      cond_both (is_exhausted answer) (record e { stage = OutOfTimes }) (answered_at acts e answer d.stage) (λ x. x.machine ≡ m) (λ t. refl) (λ t. stage_keeps e answer d.stage)
+      cond_both (is_exhausted answer) (record e { stage = OutOfTimes }) (answered_at acts e answer d.stage) (λ x. x.machine ≡ m) (λ t. refl) (λ
+      t. stage_keeps e answer d.stage)
 
   -- a place without an event keeps the machine
   machine_at : Machine → Move P → Machine
@@ -47,7 +48,8 @@ module _ {P : Type 0} (acts : Acts P) (plan : Plan) where
   begin_keeps : (d : Position P) (over : Bool) → machine_at d.machine (begin plan d over) ≡ d.machine
   unfolding machine_at
   begin_keeps d true = refl
-  begin_keeps d false = cond_both (d.rounds == plan.limit) (Ends TurnsUsed) (Goes (record d { stage = Issuing 0; has_moved = false })) (λ x. machine_at d.machine x ≡ d.machine) (λ t. refl) (λ t. refl)
+  begin_keeps d false = cond_both (d.rounds == plan.limit) (Ends TurnsUsed) (Goes (record d { stage = Issuing 0; has_moved = false })) (λ x.
+      machine_at d.machine x ≡ d.machine) (λ t. refl) (λ t. refl)
 
   issue_keeps : (d : Position P) (core : ℕ) (o : Option (Op × Bool)) (next : Option Op) → machine_at d.machine (issue d core o next) ≡ d.machine
   unfolding machine_at
@@ -79,7 +81,8 @@ module _ {P : Type 0} (acts : Acts P) (plan : Plan) where
   move_keeps d (Attempting core) = attempt_keeps d core (open_op d.machine core)
   move_keeps d (Evicting core) = evict_keeps d core (victim_for plan d.machine core (open_op d.machine core))
   move_keeps d (AttemptingAgain core) = refl
-  move_keeps d (Delivering []) = cond_both d.has_moved (Goes (record d { stage = RoundStart; rounds = d.rounds + 1 })) (Ends Stalled) (λ x. machine_at d.machine x ≡ d.machine) (λ t. refl) (λ t. refl)
+  move_keeps d (Delivering []) = cond_both d.has_moved (Goes (record d { stage = RoundStart; rounds = d.rounds + 1 })) (Ends Stalled) (λ x.
+      machine_at d.machine x ≡ d.machine) (λ t. refl) (λ t. refl)
   move_keeps d (Delivering (n ∷ left)) = refl
   move_keeps d (MakingRoom n left) = evict_bank_keeps d left (make_room d.machine n)
   move_keeps d OutOfTimes = refl
@@ -110,7 +113,11 @@ module _ {P : Type 0} (acts : Acts P) (plan : Plan) where
   begin_says : (d : Position P) (over : Bool) → says_done (begin plan d over) ≡ true → over ≡ true
   unfolding says_done
   begin_says d true done = refl
-  begin_says d false done = absurd (true≢false (sym done ∙ cond_both (d.rounds == plan.limit) (Ends TurnsUsed) (Goes (record d { stage = Issuing 0; has_moved = false })) (λ x. says_done x ≡ false) (λ t. refl) (λ t. refl)))
+  begin_says d false done = absurd (true≢false (sym done ∙ cond_both (d.rounds == plan.limit) (Ends TurnsUsed) (Goes (record d {
+    stage = Issuing
+        0;
+    has_moved = false;
+  })) (λ x. says_done x ≡ false) (λ t. refl) (λ t. refl)))
 
   issue_says : (d : Position P) (core : ℕ) (o : Option (Op × Bool)) (next : Option Op) → says_done (issue d core o next) ≡ false
   unfolding says_done
@@ -145,7 +152,8 @@ module _ {P : Type 0} (acts : Acts P) (plan : Plan) where
   move_says d (Attempting core) done = never done (attempt_says d core (open_op d.machine core))
   move_says d (Evicting core) done = never done (evict_says d core (victim_for plan d.machine core (open_op d.machine core)))
   move_says d (AttemptingAgain core) done = absurd (false≢true done)
-  move_says d (Delivering []) done = never done (cond_both d.has_moved (Goes (record d { stage = RoundStart; rounds = d.rounds + 1 })) (Ends Stalled) (λ x. says_done x ≡ false) (λ t. refl) (λ t. refl))
+  move_says d (Delivering []) done = never done (cond_both d.has_moved (Goes (record d { stage = RoundStart; rounds = d.rounds + 1 })) (Ends
+      Stalled) (λ x. says_done x ≡ false) (λ t. refl) (λ t. refl))
   move_says d (Delivering (n ∷ left)) done = absurd (false≢true done)
   move_says d (MakingRoom n left) done = never done (evict_bank_says d left (make_room d.machine n))
   move_says d OutOfTimes done = absurd (false≢true done)
@@ -160,7 +168,8 @@ module _ {P : Type 0} (acts : Acts P) (plan : Plan) where
   unfolding says_done
   nothing_left d all core below =
       let over = move_says d d.stage (ap says_done all) in
-      let parts = and_parts (is_none (open_op d.machine core)) (is_none (next_in acts d.programs core)) (each_over acts d.machine d.programs plan.cores core below over) in
+      let parts = and_parts (is_none (open_op d.machine core)) (is_none (next_in acts d.programs core)) (each_over acts d.machine d.programs
+      plan.cores core below over) in
       (none_of (open_op d.machine core) parts.0, none_of (next_in acts d.programs core) parts.1)
 
   is_all : End → Bool
@@ -178,7 +187,9 @@ module _ {P : Type 0} (acts : Acts P) (plan : Plan) where
       m ≡ after_all start.machine events
   run_makes start events m programs e ended = sym ended.machine_is ∙ made_by start ended.last events ended.follows
 
-  pub run_leaves_nothing : (start : Position P) (events : List Event) (m : Machine) (programs : List P) (e : End) → Ended acts plan start events m programs e →
+  pub run_leaves_nothing : (start : Position P) (events : List Event) (m : Machine) (programs : List P) (e : End) → Ended acts plan start events
+      m programs e →
       e ≡ AllDone → (core : ℕ) → core < plan.cores → (open_op m core ≡ None) × (next_in acts programs core ≡ None)
   run_leaves_nothing start events m programs e ended done core below =
-      rw (ended.machine_is, ended.programs_are) at (nothing_left ended.last (⊎_elim (λ ends. ends ∙ ap Ends done) (λ memory. absurd (other (sym done ∙ memory))) ended.ends) core below)
+      rw (ended.machine_is, ended.programs_are) at (nothing_left ended.last (⊎_elim (λ ends. ends ∙ ap Ends done) (λ memory. absurd (other (sym
+      done ∙ memory))) ended.ends) core below)

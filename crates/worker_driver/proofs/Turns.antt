@@ -28,7 +28,8 @@ module _ {P : Type 0} (acts : Acts P) (plan : Plan) where
       Leads acts plan p (at m programs log stage)
   unfolding Next
   leads_by p event answer m programs log stage next noted lands start rounds before =
-      subst (λ (d : Position P). Follows acts plan start log.events d) (lands rounds) (did acts plan start p rounds event answer m log noted before (next rounds))
+      subst (λ (d : Position P). Follows acts plan start log.events d) (lands rounds) (did acts plan start p rounds event answer m log noted
+      before (next rounds))
 
   -- by an event that ends the run
   stops_by : (p : Point P) (event : Event) (e : End) (m : Machine) (log : Log) →
@@ -51,15 +52,18 @@ module _ {P : Type 0} (acts : Acts P) (plan : Plan) where
 
     pub issue_open : core < plan.cores → is_some (open_op m core) ≡ true →
         Leads acts plan (at m programs log (Issuing core)) (at m programs log (Attempting core))
-    issue_open below busy = leads_over m programs log (Issuing core) (Attempting core) (λ rounds. turn below rounds ∙ by_open (open_op m core) busy (position (at m programs log (Issuing core)) rounds))
+    issue_open below busy = leads_over m programs log (Issuing core) (Attempting core) (λ rounds. turn below rounds ∙ by_open (open_op m core)
+        busy (position (at m programs log (Issuing core)) rounds))
       where
-        by_open : (o : Option (Op × Bool)) → is_some o ≡ true → (d : Position P) → issue d core o (next_in acts programs core) ≡ Goes (at_stage d (Attempting core))
+        by_open : (o : Option (Op × Bool)) → is_some o ≡ true → (d : Position P) → issue d core o (next_in acts programs core) ≡ Goes (at_stage d
+            (Attempting core))
         by_open None busy d = absurd (false≢true busy)
         by_open (Some x) busy d = refl
 
     pub issue_ended : core < plan.cores → next_in acts programs core ≡ None →
         Leads acts plan (at m programs log (Issuing core)) (at m programs log (Attempting core))
-    issue_ended below over = leads_over m programs log (Issuing core) (Attempting core) (λ rounds. turn below rounds ∙ by_open (open_op m core) (position (at m programs log (Issuing core)) rounds))
+    issue_ended below over = leads_over m programs log (Issuing core) (Attempting core) (λ rounds. turn below rounds ∙ by_open (open_op m core)
+        (position (at m programs log (Issuing core)) rounds))
       where
         by_open : (o : Option (Op × Bool)) (d : Position P) → issue d core o (next_in acts programs core) ≡ Goes (at_stage d (Attempting core))
         by_open None d = rw over refl
@@ -78,7 +82,8 @@ module _ {P : Type 0} (acts : Acts P) (plan : Plan) where
         next_in acts programs core ≡ Some op → Noted m log (Issue core op) (Ok answer) after after_log →
         Leads acts plan (at m programs log (Issuing core)) (at after programs after_log (Attempting core))
     issued op answer after after_log below free next noted =
-        leads_by (at m programs log (Issuing core)) (Issue core op) answer after programs after_log (Attempting core) (issue_next op below free next) noted (λ rounds. refl)
+        leads_by (at m programs log (Issuing core)) (Issue core op) answer after programs after_log (Attempting core) (issue_next op below free
+        next) noted (λ rounds. refl)
 
     pub issue_stops : (op : Op) (e : End) (after : Machine) (after_log : Log) → core < plan.cores → is_some (open_op m core) ≡ false →
         next_in acts programs core ≡ Some op → Noted m log (Issue core op) (Err e) after after_log →
@@ -88,7 +93,8 @@ module _ {P : Type 0} (acts : Acts P) (plan : Plan) where
 
     pub attempt_idle : is_none (open_op m core) ≡ true →
         Leads acts plan (at m programs log (Attempting core)) (at m programs log (Issuing (core + 1)))
-    attempt_idle idle = leads_over m programs log (Attempting core) (Issuing (core + 1)) (λ rounds. by_open (open_op m core) idle (position (at m programs log (Attempting core)) rounds))
+    attempt_idle idle = leads_over m programs log (Attempting core) (Issuing (core + 1)) (λ rounds. by_open (open_op m core) idle (position (at m
+        programs log (Attempting core)) rounds))
       where
         by_open : (o : Option (Op × Bool)) → is_none o ≡ true → (d : Position P) → attempt d core o ≡ Goes (at_stage d (Issuing (core + 1)))
         by_open None idle d = refl
@@ -106,32 +112,38 @@ module _ {P : Type 0} (acts : Acts P) (plan : Plan) where
         Noted m log (Attempt core) (Ok answer) after after_log → is_no_room answer ≡ false →
         Leads acts plan (at m programs log (Attempting core)) (at after (told acts programs core answer) after_log (Issuing (core + 1)))
     attempted answer after after_log busy noted room =
-        leads_by (at m programs log (Attempting core)) (Attempt core) answer after (told acts programs core answer) after_log (Issuing (core + 1)) (attempt_next busy) noted (λ rounds. rw room refl)
+        leads_by (at m programs log (Attempting core)) (Attempt core) answer after (told acts programs core answer) after_log (Issuing (core +
+        1)) (attempt_next busy) noted (λ rounds. rw room refl)
 
     pub attempted_without_room : (answer : Answer) (after : Machine) (after_log : Log) → is_none (open_op m core) ≡ false →
         Noted m log (Attempt core) (Ok answer) after after_log → is_no_room answer ≡ true →
         Leads acts plan (at m programs log (Attempting core)) (at after (told acts programs core answer) after_log (Evicting core))
     attempted_without_room answer after after_log busy noted full =
-        leads_by (at m programs log (Attempting core)) (Attempt core) answer after (told acts programs core answer) after_log (Evicting core) (attempt_next busy) noted (λ rounds. rw full refl)
+        leads_by (at m programs log (Attempting core)) (Attempt core) answer after (told acts programs core answer) after_log (Evicting core)
+        (attempt_next busy) noted (λ rounds. rw full refl)
 
     pub attempt_stops : (e : End) (after : Machine) (after_log : Log) → is_none (open_op m core) ≡ false →
         Noted m log (Attempt core) (Err e) after after_log → Stops acts plan (at m programs log (Attempting core)) after programs after_log e
-    attempt_stops e after after_log busy noted = stops_by (at m programs log (Attempting core)) (Attempt core) e after after_log (attempt_next busy) noted
+    attempt_stops e after after_log busy noted = stops_by (at m programs log (Attempting core)) (Attempt core) e after after_log (attempt_next
+        busy) noted
 
     pub attempted_again : (answer : Answer) (after : Machine) (after_log : Log) → Noted m log (Attempt core) (Ok answer) after after_log →
         Leads acts plan (at m programs log (AttemptingAgain core)) (at after (told acts programs core answer) after_log (Issuing (core + 1)))
     unfolding Next
     attempted_again answer after after_log noted =
-        leads_by (at m programs log (AttemptingAgain core)) (Attempt core) answer after (told acts programs core answer) after_log (Issuing (core + 1)) (λ rounds. refl) noted (λ rounds. refl)
+        leads_by (at m programs log (AttemptingAgain core)) (Attempt core) answer after (told acts programs core answer) after_log (Issuing (core
+        + 1)) (λ rounds. refl) noted (λ rounds. refl)
 
     pub attempt_again_stops : (e : End) (after : Machine) (after_log : Log) → Noted m log (Attempt core) (Err e) after after_log →
         Stops acts plan (at m programs log (AttemptingAgain core)) after programs after_log e
     unfolding Next
-    attempt_again_stops e after after_log noted = stops_by (at m programs log (AttemptingAgain core)) (Attempt core) e after after_log (λ rounds. refl) noted
+    attempt_again_stops e after after_log noted = stops_by (at m programs log (AttemptingAgain core)) (Attempt core) e after after_log (λ rounds.
+        refl) noted
 
     pub no_victim : victim_for plan m core (open_op m core) ≡ None →
         Leads acts plan (at m programs log (Evicting core)) (at m programs log (AttemptingAgain core))
-    no_victim none = leads_over m programs log (Evicting core) (AttemptingAgain core) (λ rounds. ap (evict (position (at m programs log (Evicting core)) rounds) core) none)
+    no_victim none = leads_over m programs log (Evicting core) (AttemptingAgain core) (λ rounds. ap (evict (position (at m programs log (Evicting
+        core)) rounds) core) none)
 
     evict_next : (line : ℕ) → victim_for plan m core (open_op m core) ≡ Some line → Next (at m programs log (Evicting core)) (EvictCache core line)
     unfolding Next
@@ -141,7 +153,8 @@ module _ {P : Type 0} (acts : Acts P) (plan : Plan) where
         Noted m log (EvictCache core line) (Ok answer) after after_log →
         Leads acts plan (at m programs log (Evicting core)) (at after programs after_log (AttemptingAgain core))
     evicted line answer after after_log some noted =
-        leads_by (at m programs log (Evicting core)) (EvictCache core line) answer after programs after_log (AttemptingAgain core) (evict_next line some) noted (λ rounds. refl)
+        leads_by (at m programs log (Evicting core)) (EvictCache core line) answer after programs after_log (AttemptingAgain core) (evict_next
+        line some) noted (λ rounds. refl)
 
     pub evict_stops : (line : ℕ) (e : End) (after : Machine) (after_log : Log) → victim_for plan m core (open_op m core) ≡ Some line →
         Noted m log (EvictCache core line) (Err e) after after_log → Stops acts plan (at m programs log (Evicting core)) after programs after_log e
@@ -149,25 +162,31 @@ module _ {P : Type 0} (acts : Acts P) (plan : Plan) where
         stops_by (at m programs log (Evicting core)) (EvictCache core line) e after after_log (evict_next line some) noted
 
   module _ (m : Machine) (programs : List P) (log : Log) (number : ℕ) (left : List ℕ) where
-    pub delivered : (answer : Answer) (after : Machine) (after_log : Log) → Noted m log (Deliver number) (Ok answer) after after_log → is_held answer ≡ false →
+    pub delivered : (answer : Answer) (after : Machine) (after_log : Log) → Noted m log (Deliver number) (Ok answer) after after_log → is_held
+        answer ≡ false →
         Leads acts plan (at m programs log (Delivering (number ∷ left))) (at after programs after_log (Delivering left))
     unfolding Next
     delivered answer after after_log noted gone =
-        leads_by (at m programs log (Delivering (number ∷ left))) (Deliver number) answer after programs after_log (Delivering left) (λ rounds. refl) noted (λ rounds. rw gone refl)
+        leads_by (at m programs log (Delivering (number ∷ left))) (Deliver number) answer after programs after_log (Delivering left) (λ rounds.
+        refl) noted (λ rounds. rw gone refl)
 
-    pub held : (answer : Answer) (after : Machine) (after_log : Log) → Noted m log (Deliver number) (Ok answer) after after_log → is_held answer ≡ true →
+    pub held : (answer : Answer) (after : Machine) (after_log : Log) → Noted m log (Deliver number) (Ok answer) after after_log → is_held answer
+        ≡ true →
         Leads acts plan (at m programs log (Delivering (number ∷ left))) (at after programs after_log (MakingRoom number left))
     unfolding Next
     held answer after after_log noted stays =
-        leads_by (at m programs log (Delivering (number ∷ left))) (Deliver number) answer after programs after_log (MakingRoom number left) (λ rounds. refl) noted (λ rounds. rw stays refl)
+        leads_by (at m programs log (Delivering (number ∷ left))) (Deliver number) answer after programs after_log (MakingRoom number left) (λ
+        rounds. refl) noted (λ rounds. rw stays refl)
 
     pub delivery_stops : (e : End) (after : Machine) (after_log : Log) → Noted m log (Deliver number) (Err e) after after_log →
         Stops acts plan (at m programs log (Delivering (number ∷ left))) after programs after_log e
     unfolding Next
-    delivery_stops e after after_log noted = stops_by (at m programs log (Delivering (number ∷ left))) (Deliver number) e after after_log (λ rounds. refl) noted
+    delivery_stops e after after_log noted = stops_by (at m programs log (Delivering (number ∷ left))) (Deliver number) e after after_log (λ
+        rounds. refl) noted
 
     pub no_line : make_room m number ≡ None → Leads acts plan (at m programs log (MakingRoom number left)) (at m programs log (Delivering left))
-    no_line none = leads_over m programs log (MakingRoom number left) (Delivering left) (λ rounds. ap (evict_bank (position (at m programs log (MakingRoom number left)) rounds) left) none)
+    no_line none = leads_over m programs log (MakingRoom number left) (Delivering left) (λ rounds. ap (evict_bank (position (at m programs log
+        (MakingRoom number left)) rounds) left) none)
 
     room_next : (bank line : ℕ) → make_room m number ≡ Some (bank, line) → Next (at m programs log (MakingRoom number left)) (EvictBank bank line)
     unfolding Next
@@ -177,17 +196,20 @@ module _ {P : Type 0} (acts : Acts P) (plan : Plan) where
         Noted m log (EvictBank bank line) (Ok answer) after after_log →
         Leads acts plan (at m programs log (MakingRoom number left)) (at after programs after_log (Delivering left))
     room_made bank line answer after after_log some noted =
-        leads_by (at m programs log (MakingRoom number left)) (EvictBank bank line) answer after programs after_log (Delivering left) (room_next bank line some) noted (λ rounds. refl)
+        leads_by (at m programs log (MakingRoom number left)) (EvictBank bank line) answer after programs after_log (Delivering left) (room_next
+        bank line some) noted (λ rounds. refl)
 
     pub room_stops : (bank line : ℕ) (e : End) (after : Machine) (after_log : Log) → make_room m number ≡ Some (bank, line) →
-        Noted m log (EvictBank bank line) (Err e) after after_log → Stops acts plan (at m programs log (MakingRoom number left)) after programs after_log e
+        Noted m log (EvictBank bank line) (Err e) after after_log → Stops acts plan (at m programs log (MakingRoom number left)) after programs
+        after_log e
     room_stops bank line e after after_log some noted =
         stops_by (at m programs log (MakingRoom number left)) (EvictBank bank line) e after after_log (room_next bank line some) noted
 
   -- behind the last turn
   pub turns_over : (m : Machine) (programs : List P) (log : Log) →
       Leads acts plan (at m programs log (Issuing plan.cores)) (at m programs log (Delivering (in_flight m)))
-  turns_over m programs log = leads_over m programs log (Issuing plan.cores) (Delivering (in_flight m)) (λ rounds. rw (le-ltb plan.cores plan.cores (le_refl plan.cores)) refl)
+  turns_over m programs log = leads_over m programs log (Issuing plan.cores) (Delivering (in_flight m)) (λ rounds. rw (le-ltb plan.cores
+      plan.cores (le_refl plan.cores)) refl)
 
   -- where memory is refused the run ends as it stands
   pub no_memory : (p : Point P) → Stops acts plan p p.machine p.programs p.log NoMemory

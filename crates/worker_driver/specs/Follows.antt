@@ -25,7 +25,8 @@ abbrev pub opening : {P : Type 0} → Machine → List P → Position P
 opening m programs = record { machine = m; programs = programs; stage = RoundStart; has_moved = false; rounds = 0 }
 
 -- the events lead to this machine and these programs, where the schedule has this end, unless memory was refused
-pub record Ended {P : Type 0} (acts : Acts P) (plan : Plan) (start : Position P) (events : List Event) (m : Machine) (programs : List P) (end : End) : Type 0 where
+pub record Ended {P : Type 0} (acts : Acts P) (plan : Plan) (start : Position P) (events : List Event)
+    (m : Machine) (programs : List P) (end : End) : Type 0 where
   pub last : Position P
   pub follows : Follows acts plan start events last
   pub machine_is : last.machine ≡ m

@@ -1,5 +1,5 @@
 -- Records stay in the order of their numbers.
-use Rattle.std.proofs.Common.{◌≡◌, ◌⊎◌, inl, inr, ℕ, ◌+◌, ◌<◌, ◌++◌, List, [], ◌∷◌, length, refl, sym, ap, ◌∙◌, subst, arith}
+use Rattle.std.proofs.Common.{◌≡◌, inl, inr, ℕ, ◌+◌, ◌++◌, List, [], ◌∷◌, length, refl, sym, ap, ◌∙◌, subst, arith}
 use Rattle.physiological_order.specs.declared.operation.Record.{Record}
 use Rattle.physiological_order.specs.StaleHits.{RisesByNumber}
 use Rattle.machine_table.specs.declared.event.Event.{Event}
@@ -8,7 +8,7 @@ use Rattle.machine_table.specs.declared.event.Answer.TheVariants.{Issued, Comple
 use Rattle.machine_table.specs.declared.event.Refusal.{Refusal}
 use Rattle.machine_table.specs.declared.event.Refusal.TheVariants.{Busy, TooMany, NoSuch, NoRoom, Pinned, NetworkFull, NoMemory, Exhausted, Stopped}
 use Rattle.machine_table.specs.Machine.{Machine}
-use Rattle.machine_table.specs.Transition.{Outcome, transition}
+use Rattle.machine_table.specs.Transition.{Outcome}
 use Rattle.machine_table.specs.Answered.{Answered, RefusedSo}
 use Rattle.machine_table.proofs.Cases.{every_answer}
 use Rattle.interleaving_core.specs.InOrder.{AreNumbered}

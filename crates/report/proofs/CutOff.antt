@@ -10,7 +10,7 @@ use Rattle.machine_table.specs.declared.config.Config.{Config}
 use Rattle.run_ends.specs.declared.ends.RunEnd.{RunEnd}
 use Rattle.report.specs.SetUp.{config_of}
 use Rattle.report.specs.Runs.{IsRun}
-use Rattle.report.specs.Outcomes.{AreRuns, IsCutOff, rounds}
+use Rattle.report.specs.Outcomes.{IsCutOff, rounds}
 
 pub cut_off : (options : LitmusOptions) (known : Option (List ℕ)) (bytes read : List ℕ) (old new : Option (List ℕ)) (test : Litmus) (config : Config) (runs : List RunEnd) →
     ReadsAll known bytes → read ≡ bytes → IsTest read test → config ≡ config_of options test.threads → length runs ≡ options.runs →

@@ -12,7 +12,7 @@ use Rattle.machine_table.specs.Machine.{Machine}
 use Rattle.machine_table.specs.Opening.{at_start}
 use Rattle.machine_history.specs.Standing.{standing_value}
 use Rattle.run_ends.specs.declared.ends.End.{End}
-use Rattle.run_ends.specs.declared.ends.End.TheVariants.{AllDone, Stalled, TurnsUsed, Exhausted, NoMemory}
+use Rattle.run_ends.specs.declared.ends.End.TheVariants.{AllDone}
 use Rattle.run_ends.specs.declared.ends.RunEnd.{RunEnd}
 use Rattle.worker_driver.specs.Acts.{Acts}
 use Rattle.worker_driver.specs.Follows.{Ended, opening, plan_of}

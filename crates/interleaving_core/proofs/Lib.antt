@@ -11,3 +11,4 @@ pub mod Parts
 pub mod Places
 pub mod Running
 pub mod Standing
+pub mod Throughout

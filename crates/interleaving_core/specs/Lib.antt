@@ -3,6 +3,7 @@ pub mod Filling
 pub mod InOrder
 pub mod Joined
 pub mod LookUps
+pub mod Midway
 pub mod Rooms
 pub mod Stepped
 pub mod Traffic

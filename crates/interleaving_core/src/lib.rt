@@ -2,6 +2,7 @@
 //! has the order of refusals.
 #![tactic(auto)]
 
+pub mod laws;
 mod line_words;
 mod look_ups;
 mod machine_state;

@@ -1,0 +1,21 @@
+-- What holds in the middle of a run.
+use Rattle.std.specs.Prelude.{◌≡◌, ℕ, ◌≤◌, List, [], take, drop, map, slice_index_or}
+use Rattle.physiological_order.specs.declared.operation.Record.{Record}
+use Rattle.physiological_order.specs.Order.{flat, Legal, Arrangement, replay_end}
+use Rattle.machine_table.specs.declared.event.Event.{Event}
+use Rattle.machine_table.specs.declared.event.Answer.{Answer}
+use Rattle.machine_table.specs.Machine.{Machine}
+use Rattle.machine_history.specs.Standing.{rights, standing_value}
+use Rattle.machine_history.specs.Steps.{SetUpAs}
+use Rattle.interleaving_core.specs.Stepped.{Ran}
+
+-- the machine after the first k events of a run, from which the others lead to its end: it is set up as at first, its
+-- records are legal, no line has more than one right, and each word stands as the records leave it
+pub record IsMidway (m : Machine) (events : List Event) (answers : List Answer) (after : Machine) (k : ℕ) : Type 0 where
+  pub mid : Machine
+  pub before : Ran m (take k events) (take k answers) mid
+  pub behind : Ran mid (drop k events) (drop k answers) after
+  pub set_up : SetUpAs m mid
+  pub legal : Legal (flat mid.opening) (λ core. slice_index_or mid.issued core []) mid.records
+  pub one_owner : (line : ℕ) → rights mid line ≤ 1
+  pub standing : (arranged : List Record) → Arrangement mid.records arranged → (word : ℕ) → standing_value mid word ≡ replay_end (flat mid.opening) (map (λ r. r.op) arranged) word

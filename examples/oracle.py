@@ -10,25 +10,26 @@ on standard error.
 import argparse
 import re
 import sys
+from types import SimpleNamespace
 
 DEFAULTS = {"limit": 100000, "runs": 1, "lease": 10, "time": 0, "banks": 1, "sets": 64, "ways": 4,
             "bank_sets": 256, "bank_ways": 8, "line_words": 1, "messages": 4096}
 COUNTED = {"RenewRep": "renewals", "UpgradeRep": "upgrades", "FlushRep": "flushes", "WbRep": "write-backs"}
 
 
-class Exhausted(Exception):
-    """A sum of times doesn't fit 64 bits. It is raised before anything changed."""
+class Refusal(Exception):
+    """Exhausted or NetworkFull, raised before anything changed."""
 
 
 def fit(n):
-    if n >= 2 ** 64:
-        raise Exhausted()
-    return n
+    if n < 2 ** 64:
+        return n
+    raise Refusal("Exhausted")
 
 
 # ---- the text ------------------------------------------------------------------------------------------------------
 
-NAME = r"\d+\s*:\s*x\d+|[A-Za-z_]\w*"  # a register of a thread, or a location
+NAME = r"\d+:x\d+|[A-Za-z_]\w*"  # a register of a thread, or a location
 
 
 class Test:
@@ -39,32 +40,27 @@ class Test:
         opening, rest = text.split("{", 1)[1].split("}", 1)
         self.words = {}    # location -> word number, in the order of first naming
         self.memory = {}   # word number -> opening value
-        self.start = {}    # (thread, register) -> opening value
-        self.address = {}  # (thread, register) -> word number
+        self.start = {}    # (thread, register) -> opening value, or word number of an address register
         for item in filter(None, (re.sub(r"\s", "", i) for i in opening.split(";"))):
             left, right = item.split("=")
-            if ":" not in left:
-                self.memory[self.word(left)] = int(right)
-                continue
-            thread, register = left.split(":")
-            if right.isdigit():
-                self.start[int(thread), register] = int(right)
+            thread, _, register = left.partition(":")
+            if register:
+                self.start[int(thread), register] = int(right) if right.isdigit() else self.word(right)
             else:
-                self.address[int(thread), register] = self.word(right)
+                self.memory[self.word(left)] = int(right)
         table, self.kind, condition = re.fullmatch(
             r"(.*?)^[ \t]*(exists|~exists|forall)\b(.*)", rest, re.S | re.M).groups()
         rows = [line.strip().rstrip(";").split("|") for line in table.split("\n") if line.strip()]
         self.threads = [[self.instruction(thread, row[thread].strip()) for row in rows[1:] if row[thread].strip()]
                         for thread in range(len(rows[0]))]
-        # The names of the condition in the order of first naming, and the condition in Python's words: `or` binds
-        # weaker than `and` as \/ does than /\.
-        self.seen = list(dict.fromkeys(re.sub(r"\s", "", name) for name in re.findall(NAME, condition)))
+        condition = re.sub(r"\s*([:=])\s*", r"\1", " ".join(condition.split()))
+        self.seen = list(dict.fromkeys(re.findall(NAME, condition)))  # in the order of first naming
         for name in self.seen:
             if ":" not in name:
                 self.word(name)
-        condition = re.sub(rf"({NAME})\s*=", lambda m: f"value['{re.sub(chr(92) + 's', '', m[1])}'] ==", condition)
-        condition = condition.replace("/\\", " and ").replace("\\/", " or ")
-        self.expression = " ".join(re.sub(r"\b0+(?=\d)", "", condition).split())
+        # The condition in Python's words: `or` binds weaker than `and`, as \/ does than /\.
+        condition = re.sub(rf"({NAME})=0*(\d)", r"value['\1']==\2", condition)
+        self.expression = condition.replace("/\\", " and ").replace("\\/", " or ")
 
     def word(self, location):
         return self.words.setdefault(location, len(self.words))
@@ -72,19 +68,14 @@ class Test:
     def instruction(self, thread, cell):
         """(kind, xD, xS or number, word); kind is load, store, swap, set or fence."""
         cell = re.sub(r"\s*([,()])\s*", r"\1", re.sub(r"\s+", " ", cell))
-        if m := re.fullmatch(r"l[wd] (x\d+),0\((x\d+)\)", cell):
-            return "load", m[1], None, self.address[thread, m[2]]
-        if m := re.fullmatch(r"s[wd] (x\d+),0\((x\d+)\)", cell):
-            return "store", None, m[1], self.address[thread, m[2]]
+        if m := re.fullmatch(r"([ls])[wd] (x\d+),0\((x\d+)\)", cell):
+            return "load" if m[1] == "l" else "store", m[2], m[2], self.start[thread, m[3]]
         if m := re.fullmatch(r"amoswap\.[wd](?:\.aq|\.rl)? (x\d+),(x\d+),\((x\d+)\)", cell):
-            return "swap", m[1], m[2], self.address[thread, m[3]]
+            return "swap", m[1], m[2], self.start[thread, m[3]]
         if m := re.fullmatch(r"(?:li (x\d+)|ori (x\d+),x0),(\d+)", cell):
             return "set", m[1] or m[2], int(m[3]), None
         assert re.fullmatch(r"fence (r|w|rw),(r|w|rw)", cell), cell
         return "fence", None, None, None
-
-    def holds(self, values):
-        return eval(self.expression, {"value": values})
 
 
 class Thread:
@@ -93,59 +84,38 @@ class Thread:
     def __init__(self, test, number):
         self.code, self.at = test.threads[number], 0
         self.registers = {r: v for (t, r), v in test.start.items() if t == number}
-        self.settle()
 
     def read(self, register):
         return 0 if register == "x0" else self.registers.get(register, 0)
 
-    def settle(self):
-        while self.at < len(self.code) and self.code[self.at][0] in ("set", "fence"):
-            kind, target, number, _ = self.code[self.at]
-            if kind == "set":
-                self.registers[target] = number
-            self.at += 1
-
     def next(self):
         """(kind, word, value to be written), or None at the end."""
-        if self.at == len(self.code):
-            return None
-        kind, _, source, word = self.code[self.at]
-        return kind, word, None if kind == "load" else self.read(source)
+        while self.at < len(self.code):
+            kind, target, source, word = self.code[self.at]
+            if kind not in ("set", "fence"):
+                return kind, word, None if kind == "load" else self.read(source)
+            if kind == "set":
+                self.registers[target] = source
+            self.at += 1
+        return None
 
     def done(self, received):
         if self.code[self.at][0] != "store":
             self.registers[self.code[self.at][1]] = received
         self.at += 1
-        self.settle()
 
 
 # ---- the machine ---------------------------------------------------------------------------------------------------
 
-class Core:
-    def __init__(self, o):
-        self.pts, self.op, self.out = o.time, None, False  # time, open operation, whether its request is out
-        self.sets = [[] for _ in range(o.sets)]            # each with copies from the least recently used on
-
-
-class Copy:
-    """A core's copy of a line, just granted."""
-
-    def __init__(self, line, state, wts, rts, words):
-        self.line, self.state, self.wts, self.rts, self.words, self.written = line, state, wts, rts, list(words), False
-
-
-class Entry:
-    """A bank's entry of a line that isn't absent any more."""
-
-    def __init__(self, line):
-        self.line, self.state, self.owner, self.dirty = line, "Loading", None, False
-        self.wts = self.rts = self.words = None
-
-
 class Machine:
+    """Cores with their copies, banks with their entries, DRAM, and the messages in flight. A core's set lists its
+    copies and a bank's set its entries, those that aren't absent, from the least to the most recently used."""
+
     def __init__(self, test, o, threads):
         self.o, self.threads = o, threads
-        self.cores = [Core(o) for _ in threads]
+        # op is the open operation, and out tells whether its request is out.
+        self.cores = [SimpleNamespace(pts=o.time, op=None, out=False, sets=[[] for _ in range(o.sets)])
+                      for _ in threads]
         self.mts = [o.time] * o.banks
         self.bank_sets = [[[] for _ in range(o.bank_sets)] for _ in range(o.banks)]
         self.dram = {}                   # line -> words, zeros where it isn't there
@@ -161,33 +131,33 @@ class Machine:
     def cache_set(self, core, line):
         return self.cores[core].sets[line % self.o.sets]
 
-    def copy(self, core, line):
-        return next((c for c in self.cache_set(core, line) if c.line == line), None)
-
     def bank_set(self, line):
         return self.bank_sets[line % self.o.banks][(line // self.o.banks) % self.o.bank_sets]
 
-    def entry(self, line):
-        return next((e for e in self.bank_set(line) if e.line == line), None)
-
-    def has_place(self):
-        return len(self.flight) < self.o.messages
+    def find(self, line, places):
+        """The line's copy or entry or None, and the set."""
+        return next((place for place in places if place.line == line), None), places
 
     def send(self, kind, line, core=None, **carried):
-        self.flight[self.sent] = dict(kind=kind, line=line, core=core, **carried)
+        self.flight[self.sent] = SimpleNamespace(kind=kind, line=line, core=core, **carried)
         self.sent += 1
         if kind in self.counts:
             self.counts[kind] += 1
 
-    def send_line(self, kind, core, holder):
-        self.send(kind, holder.line, core, wts=holder.wts, rts=holder.rts, words=list(holder.words))
+    def start(self, *message, **carried):
+        """Sends a message that is no answer to a delivered one, so it needs a place."""
+        if len(self.flight) >= self.o.messages:
+            raise Refusal("NetworkFull")
+        self.send(*message, **carried)
+
+    def line_of(self, holder):
+        return dict(wts=holder.wts, rts=holder.rts, words=list(holder.words))
 
     # Events of a core.
     def attempt(self, number):
         core = self.cores[number]
-        kind, word, value = core.op
-        line, index = self.line(word), word % self.o.line_words
-        copy, copies = self.copy(number, line), self.cache_set(number, line)
+        (kind, word, value), line, index = core.op, self.line(core.op[1]), core.op[1] % self.o.line_words
+        copy, copies = self.find(line, self.cache_set(number, line))
         if copy and (copy.state == "Exclusive" or kind == "load" and core.pts <= copy.rts):
             received = copy.words[index] if kind != "store" else None
             if kind == "load":
@@ -199,8 +169,7 @@ class Machine:
                 time = max(core.pts, copy.rts if private else fit(copy.rts + 1))
                 copy.wts, copy.rts, copy.words[index], copy.written = time, time, value, True
             core.pts, core.op = time, None
-            copies.remove(copy)
-            copies.append(copy)
+            copies.append(copies.pop(copies.index(copy)))
             self.records.append((number, kind, word, value, received, time))
             self.threads[number].done(received)
             return "Completed"
@@ -208,50 +177,37 @@ class Machine:
             return "Waiting"
         if not copy and len(copies) >= self.o.ways:
             return "NoRoom"
-        if not self.has_place():
-            return "NetworkFull"
-        version = copy.wts if copy else None
-        if kind == "load":
-            self.send("ShReq", line, number, pts=core.pts, version=version)
-        else:
-            self.send("ExReq", line, number, version=version)
+        # No copy has no version: None, which equals none.
+        self.start("ShReq" if kind == "load" else "ExReq", line, number, pts=core.pts, version=copy and copy.wts)
         core.out = True
         return "Requested"
 
     def evict_cache(self, number, copy):
         if copy.state == "Exclusive":
-            if not self.has_place():
-                return "NetworkFull"
-            self.send_line("FlushRep", number, copy)
+            self.start("FlushRep", copy.line, number, **self.line_of(copy))
         self.cache_set(number, copy.line).remove(copy)
         return "Evicted"
 
     # Deliveries. A message that is answered leaves its place to the answer.
     def deliver(self, number):
         m = self.flight[number]
-        if m["kind"] in ("DramLd", "DramSt"):
-            answer = self.at_dram(m)
-        elif m["kind"] in ("ShRep", "ExRep", "RenewRep", "UpgradeRep", "FlushReq", "WbReq"):
-            answer = self.at_core(m)
-        elif m["kind"] in ("ShReq", "ExReq"):
-            answer = self.request(m)
-        else:
-            answer = self.returned(m)
+        at = dict(DramLd=self.at_dram, DramSt=self.at_dram, ShReq=self.request, ExReq=self.request,
+                  FlushRep=self.returned, WbRep=self.returned, DramLdRep=self.returned, DramStRep=self.returned)
+        answer = at.get(m.kind, self.at_core)(m)
         if answer in ("Delivered", "Dropped"):
             del self.flight[number]
         return answer
 
     def at_dram(self, m):
-        if m["kind"] == "DramLd":
-            self.send("DramLdRep", m["line"], words=self.dram.get(m["line"], [0] * self.o.line_words))
-        else:
-            self.dram[m["line"]] = m["words"]
-            self.send("DramStRep", m["line"])
+        if m.kind == "DramSt":
+            self.dram[m.line] = m.words
+        self.send(m.kind + "Rep", m.line, words=self.dram.get(m.line, [0] * self.o.line_words))
         return "Delivered"
 
     def at_core(self, m):
-        number, line, kind = m["core"], m["line"], m["kind"]
-        core, copy, copies = self.cores[number], self.copy(number, line), self.cache_set(number, line)
+        number, line, kind = m.core, m.line, m.kind
+        core = self.cores[number]
+        copy, copies = self.find(line, self.cache_set(number, line))
         wanted = core.op is not None and self.line(core.op[1]) == line
         if kind in ("FlushReq", "WbReq"):
             if wanted:
@@ -260,11 +216,10 @@ class Machine:
                 return "Dropped"
             if kind == "FlushReq":
                 copies.remove(copy)
-                self.send_line("FlushRep", number, copy)
             else:
-                copy.rts = max(copy.rts, fit(copy.wts + self.o.lease), m["rts"])
+                copy.rts = max(copy.rts, fit(copy.wts + self.o.lease), m.rts)
                 copy.state, copy.written = "Shared", False
-                self.send_line("WbRep", number, copy)
+            self.send("FlushRep" if kind == "FlushReq" else "WbRep", line, number, **self.line_of(copy))
             return "Delivered"
         assert wanted and core.out
         core.out = False
@@ -272,91 +227,76 @@ class Machine:
             if copy:
                 copies.remove(copy)
             assert len(copies) < self.o.ways
-            state = "Shared" if kind == "ShRep" else "Exclusive"
-            copies.append(Copy(line, state, m["wts"], m["rts"], m["words"]))
+            copies.append(SimpleNamespace(line=line, written=False, **self.line_of(m)))
+            copies[-1].state = "Shared" if kind == "ShRep" else "Exclusive"
         else:
             assert copy.state == "Shared"
-            copy.rts = m["rts"]
+            copy.rts = m.rts
             if kind == "UpgradeRep":
                 copy.state, copy.written = "Exclusive", False
         return "Delivered"
 
     def returned(self, m):
         """What comes back to a bank: a line from its owner or from DRAM, or that DRAM stored it."""
-        e, kind = self.entry(m["line"]), m["kind"]
-        if kind == "DramStRep":
-            assert e.state == "Storing"
-            self.bank_set(m["line"]).remove(e)
+        e, entries = self.find(m.line, self.bank_set(m.line))
+        assert e.state in {"DramStRep": ["Storing"], "DramLdRep": ["Loading"]}.get(m.kind, ["Exclusive", "Recalling"])
+        if m.kind == "DramStRep":
+            entries.remove(e)
             return "Delivered"
-        if kind == "DramLdRep":
-            assert e.state == "Loading"
-            e.wts = e.rts = self.mts[m["line"] % self.o.banks]
+        if m.kind == "DramLdRep":
+            e.wts = e.rts = self.mts[m.line % self.o.banks]
         else:
-            assert e.state in ("Exclusive", "Recalling")
-            e.wts, e.rts, e.dirty = m["wts"], m["rts"], True
-        e.state, e.owner, e.words = "Shared", None, list(m["words"])
+            e.wts, e.rts, e.dirty = m.wts, m.rts, True
+        e.state, e.words = "Shared", list(m.words)
         return "Delivered"
 
     def request(self, m):
-        line, load, lease = m["line"], m["kind"] == "ShReq", self.o.lease
-        e, entries = self.entry(line), self.bank_set(line)
+        line, load, lease = m.line, m.kind == "ShReq", self.o.lease
+        e, entries = self.find(line, self.bank_set(line))
         if not e:
             if len(entries) >= self.o.bank_ways:
                 return "Held"
-            if not self.has_place():
-                return "NetworkFull"
-            entries.append(Entry(line))
-            self.send("DramLd", line)
+            self.start("DramLd", line)
+            entries.append(SimpleNamespace(line=line, state="Loading", dirty=False))
             return "Started"
         if e.state == "Exclusive":
-            until = fit(m["pts"] + lease) if load else None
-            if not self.has_place():
-                return "NetworkFull"
+            until = fit(m.pts + lease) if load else None
+            self.start("WbReq" if load else "FlushReq", line, e.owner, rts=until)
             e.state = "Recalling"
-            if load:
-                self.send("WbReq", line, e.owner, rts=until)
-            else:
-                self.send("FlushReq", line, e.owner)
             return "Started"
         if e.state != "Shared":
             return "Held"
-        same = m["version"] == e.wts
+        same = m.version == e.wts
         if load:
-            e.rts = max(e.rts, fit(e.wts + lease), fit(m["pts"] + lease))
+            e.rts = max(e.rts, fit(e.wts + lease), fit(m.pts + lease))
         else:
-            e.state, e.owner = "Exclusive", m["core"]
-        if same:
-            self.send("RenewRep" if load else "UpgradeRep", line, m["core"], rts=e.rts)
-        else:
-            self.send_line("ShRep" if load else "ExRep", m["core"], e)
-        entries.remove(e)
-        entries.append(e)
+            e.state, e.owner = "Exclusive", m.core
+        kind = ("RenewRep" if same else "ShRep") if load else ("UpgradeRep" if same else "ExRep")
+        self.send(kind, line, m.core, **self.line_of(e))  # of RenewRep and UpgradeRep only rts is read
+        entries.append(entries.pop(entries.index(e)))
         return "Delivered"
 
     # Evictions at a bank.
     def room_for(self, m):
         """The entry to evict for a request that is held for room, where nothing is under way in its set."""
-        entries = self.bank_set(m["line"])
-        if m["kind"] not in ("ShReq", "ExReq") or self.entry(m["line"]):
-            return None
-        if any(e.state in ("Loading", "Recalling", "Storing") for e in entries):
+        e, entries = self.find(m.line, self.bank_set(m.line))
+        under_way = any(e.state in ("Loading", "Recalling", "Storing") for e in entries)
+        if e or under_way or m.kind not in ("ShReq", "ExReq"):
             return None
         return next((e for e in entries if e.state == "Shared"), entries[0])
 
     def evict_bank(self, e):
-        if (e.state == "Exclusive" or e.dirty) and not self.has_place():
-            return "NetworkFull"
         if e.state == "Exclusive":
+            self.start("FlushReq", e.line, e.owner)
             e.state = "Recalling"
-            self.send("FlushReq", e.line, e.owner)
             return "Recalled"
-        bank = e.line % self.o.banks
-        self.mts[bank] = max(self.mts[bank], e.rts)
         if e.dirty:
+            self.start("DramSt", e.line, words=list(e.words))
             e.state = "Storing"
-            self.send("DramSt", e.line, words=list(e.words))
         else:
             self.bank_set(e.line).remove(e)
+        bank = e.line % self.o.banks
+        self.mts[bank] = max(self.mts[bank], e.rts)
         return "Evicted"
 
     # The schedule of rounds.
@@ -367,54 +307,57 @@ class Machine:
             if rounds == self.o.limit:
                 return "limit", rounds
             rounds += 1
-            try:
-                if not self.round(rounds):
-                    return "stalled", rounds
-            except Exhausted:
+            answers = self.round(rounds)
+            if answers[-1] == "Exhausted":
                 return "exhausted", rounds
+            if all(answer in ("Waiting", "Held", "NoRoom", "NetworkFull") for answer in answers):
+                return "stalled", rounds
         return "all-done", rounds
 
     def round(self, number):
-        """One round; whether some answer wasn't Waiting, Held or a refusal."""
-        moves = []
+        """The answers of one round, up to the first that is Exhausted."""
+        answers = []
 
-        def told(what, answer):
+        def told(what, event, *of):
+            if "Exhausted" in answers[-1:]:
+                return None
+            try:
+                answers.append(event(*of))
+            except Refusal as refusal:
+                answers.append(str(refusal))
             if self.o.trace:
-                print(f"round {number}: {what}: {answer}", file=sys.stderr)
-            moves.append(answer not in ("Waiting", "Held", "NoRoom", "NetworkFull"))
-            return answer
+                print(f"round {number}: {what}: {answers[-1]}", file=sys.stderr)
+            return answers[-1]
 
         for n, (core, thread) in enumerate(zip(self.cores, self.threads)):
             if not core.op and thread.next():
                 core.op = thread.next()
-                told(f"core {n} is issued {core.op}", "Issued")
-            if core.op and told(f"core {n} attempts", self.attempt(n)) == "NoRoom":
+                told(f"core {n} is issued {core.op}", lambda: "Issued")
+            if core.op and told(f"core {n} attempts", self.attempt, n) == "NoRoom":
                 victim = self.cache_set(n, self.line(core.op[1]))[0]
-                told(f"core {n} evicts line {victim.line}", self.evict_cache(n, victim))
-                told(f"core {n} attempts", self.attempt(n))
+                told(f"core {n} evicts line {victim.line}", self.evict_cache, n, victim)
+                told(f"core {n} attempts", self.attempt, n)
         for m in sorted(self.flight):
             message = self.flight[m]
-            if told(f"message {m} {message}", self.deliver(m)) == "Held" and (e := self.room_for(message)):
-                told(f"bank evicts line {e.line}", self.evict_bank(e))
-        return any(moves)
+            if told(f"message {m} {message}", self.deliver, m) == "Held" and (e := self.room_for(message)):
+                told(f"bank evicts line {e.line}", self.evict_bank, e)
+        return answers
 
-    def end_values(self, opening):
-        """The words' values at the end: by time and then by number, each load must receive the last write."""
-        flat = dict(opening)
+    def replay(self, memory):
+        """The memory at the end. By time and then by number, each load and swap must receive the last write."""
         for _, kind, word, written, received, _ in sorted(self.records, key=lambda record: record[5]):
-            assert kind == "store" or received == flat.get(word, 0)
+            assert kind == "store" or received == memory.get(word, 0)
             if kind != "load":
-                flat[word] = written
-        return flat
+                memory[word] = written
+        return memory
 
     def stale_hits(self):
         """Loads with a store or swap of the same word of a smaller number and a greater time."""
-        greatest, stale = {}, 0
+        latest, stale = {}, 0
         for _, kind, word, _, _, time in self.records:
-            if kind == "load":
-                stale += greatest.get(word, -1) > time
-            else:
-                greatest[word] = max(greatest.get(word, -1), time)
+            stale += kind == "load" and latest.get(word, 0) > time
+            if kind != "load":
+                latest[word] = max(latest.get(word, 0), time)
         return stale
 
 
@@ -424,18 +367,18 @@ def report(test, o):
     threads = [Thread(test, n) for n in range(len(test.threads))]
     machine = Machine(test, o, threads)
     end, rounds = machine.run()
-    memory = machine.end_values(test.memory)
+    memory = machine.replay(test.memory)
     if o.trace:
         print(f"{end} after {rounds} rounds, records {machine.records}", file=sys.stderr)
     # The schedule of rounds makes each run the same again.
     lines = [f"test {test.name}", f"threads {len(threads)}", f"runs {o.runs}"]
     lines += [f"{e} {o.runs if end == e else 0}" for e in ("all-done", "stalled", "limit", "exhausted", "memory")]
     done, held = o.runs if end == "all-done" else 0, 0
-    lines.append(f"states {1 if done else 0}")
+    lines.append(f"states {int(done > 0)}")
     if done:
         values = {name: memory.get(test.words[name], 0) if ":" not in name
                   else threads[int(name.split(":")[0])].read(name.split(":")[1]) for name in test.seen}
-        held = done if test.holds(values) else 0
+        held = done if eval(test.expression, {"value": values}) else 0
         lines.append(" ".join([str(done)] + [f"{name}={values[name]}" for name in test.seen]))
     verdict = {"exists": held > 0, "~exists": held == 0, "forall": held == done}[test.kind]
     lines += [f"condition {test.kind}", f"held {held}", f"verdict {'yes' if verdict else 'no'}"]
@@ -445,7 +388,7 @@ def report(test, o):
     return "".join(line + "\n" for line in lines)
 
 
-def main():
+if __name__ == "__main__":
     words = argparse.ArgumentParser()
     for option, default in DEFAULTS.items():
         words.add_argument("--" + option.replace("_", "-"), type=int, default=default)
@@ -453,9 +396,4 @@ def main():
     words.add_argument("--trace", action="store_true")
     words.add_argument("FILE")
     o = words.parse_args()
-    with open(o.FILE, newline="") as source:
-        sys.stdout.write(report(Test(source.read()), o))
-
-
-if __name__ == "__main__":
-    main()
+    sys.stdout.write(report(Test(open(o.FILE, newline="").read()), o))

@@ -10,13 +10,13 @@ thread_behind : (test : Litmus) (start n : ℕ) → threads_from test start n ++
 thread_behind test start zero = ap (λ k. started test k ∷ []) (omega arith)
 thread_behind test start (suc n) =
     ap (λ (xs : List Thread). started test start ∷ xs)
-        (ap (λ k. threads_from test (start + 1) n ++ started test k ∷ []) (omega arith) ∙ thread_behind test (start + 1) n)
+    (ap (λ k. threads_from test (start + 1) n ++ started test k ∷ []) (omega arith) ∙ thread_behind test (start + 1) n)
 
 value_behind : (m : Machine) (start n : ℕ) → values_from m start n ++ standing_value m (start + n) ∷ [] ≡ values_from m start (suc n)
 value_behind m start zero = ap (λ k. standing_value m k ∷ []) (omega arith)
 value_behind m start (suc n) =
     ap (λ (xs : List ℕ). standing_value m start ∷ xs)
-        (ap (λ k. values_from m (start + 1) n ++ standing_value m k ∷ []) (omega arith) ∙ value_behind m (start + 1) n)
+    (ap (λ k. values_from m (start + 1) n ++ standing_value m k ∷ []) (omega arith) ∙ value_behind m (start + 1) n)
 
 pub next_thread : (test : Litmus) (n : ℕ) → threads_from test 0 n ++ started test n ∷ [] ≡ threads_from test 0 (n + 1)
 next_thread test n =

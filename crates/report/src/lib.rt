@@ -6,3 +6,6 @@ mod running;
 mod set_up;
 
 pub use running::{Done, RunError, run_litmus};
+
+#[cfg(test)]
+mod tests;

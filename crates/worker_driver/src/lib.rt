@@ -1,5 +1,5 @@
 //! Drives a machine by a schedule: programs give its cores their operations, and each event that the machine is given is
-//! the one that the schedule has next. docs/PROTOCOL.md has the schedule.
+//! the one that the schedule has next. docs/SCHEDULES.md has the schedule.
 #![tactic(auto)]
 
 mod look_ups;

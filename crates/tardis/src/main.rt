@@ -59,12 +59,18 @@ fn borrowed<'a, R: AllocGlobal>(rt: &R, texts: &'a [String]) -> Result<Vec<&'a s
     texts.iter().map(|text| text.as_str()).collect(rt.alloc())
 }
 
+/// There is no memory for the words: says so.
+fn no_memory<R: Eprint>(rt: &R) -> ExitCode {
+    let _shown = eprintln!(rt; "tardis: no memory");
+    ExitCode::from(NO_MEMORY)
+}
+
 fn main(rt: HostRuntime) -> ExitCode {
     let Ok(texts) = words_of(&rt) else {
-        return ExitCode::from(NO_MEMORY);
+        return no_memory(&rt);
     };
     let Ok(words) = borrowed(&rt, &texts) else {
-        return ExitCode::from(NO_MEMORY);
+        return no_memory(&rt);
     };
     ExitCode::from(answer(&rt, &words))
 }

@@ -3,10 +3,10 @@ ghost use Rattle.std.specs.Prelude.{◌≡◌, ◌<◌, ◌++◌, ◌∷◌, [],
 ghost use Rattle.worker_driver.specs.Noting.{Noted, is_no_memory};
 ghost use Rattle.worker_driver.specs.Schedule.{is_exhausted, is_held, is_move, is_no_room};
 
-use run_ends::End;
 use interleaving_core::{Answer, Event, Refusal, System};
 use machine_table::laws::every_answer_keeps_its_word;
 use physiological_order::Op;
+use run_ends::End;
 use std::alloc::{AllocError, Global};
 use std::marker::Model;
 

@@ -4,13 +4,13 @@ ghost use Rattle.std.specs.Prelude.{◌≡◌, ◌+◌, ◌<◌, ◌∷◌, [], 
 ghost use Rattle.worker_driver.specs.Schedule.{Issuing, Attempting, Evicting, AttemptingAgain, Delivering, MakingRoom};
 ghost use Rattle.worker_driver.specs.Noting.{Leads, Stops, at};
 
-use run_ends::End;
 use crate::look_ups::{next_in, tell, victim_for};
 use crate::noting::{Log, is_held, is_no_room, step};
 use crate::plan::Plan;
 use crate::program::Program;
 use interleaving_core::{Event, System};
 use network::MsgNo;
+use run_ends::End;
 
 // A core is issued its program's next operation, where none is open.
 fn issue<P: Program>(

@@ -5,13 +5,13 @@ ghost use Rattle.interleaving_core.specs.LookUps.{open_op};
 ghost use Rattle.worker_driver.specs.Acts.{next_in};
 ghost use Rattle.worker_driver.specs.Follows.{Ended, opening, plan_of};
 
-use run_ends::End;
 use crate::look_ups::are_over;
 use crate::noting::Log;
 use crate::plan::Plan;
 use crate::program::Program;
 use crate::round::round;
 use interleaving_core::{Event, System};
+use run_ends::End;
 use std::alloc::Global;
 
 /// What a run came to: its end, and the events that the machine was given, in order.

@@ -1,11 +1,11 @@
 //! Runs by hand: store buffering by two lists of operations, and the ends.
 ghost use Rattle.std.specs.Prelude.{◌≡◌, ◌≤◌, IfOk, length};
 
-use run_ends::End;
 use crate::op_program::OpProgram;
 use crate::rounds::{Driven, drive_round};
 use interleaving_core::{Config, System};
 use physiological_order::{Memory, Op, Record, WordAddr};
+use run_ends::End;
 use std::alloc::{AllocError, Global};
 use std::test::Fail;
 

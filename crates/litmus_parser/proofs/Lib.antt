@@ -7,3 +7,4 @@ pub mod ConditionTakes
 pub mod Onward
 pub mod OnwardHere
 pub mod FormAgain
+pub mod TableAgain

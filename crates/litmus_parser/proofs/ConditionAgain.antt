@@ -1,0 +1,88 @@
+-- A condition that is in the grammar is read.
+use Rattle.std.proofs.Common.{◌≡◌, ◌≢◌, ℕ, zero, suc, ◌+◌, ◌-◌, ◌<◌, ◌≤◌, Bool, true, false, cond, eqb, leb, ◌&&◌, not, List, [], ◌∷◌, length, Option, Some, None, Result, Ok, Err, refl, sym, ap, subst, ◌∙◌, inl, inr, arith}
+use Rattle.std.proofs.lemmas.Bool.{lt-leb, ne_eqb, and_parts, and_cases, and_left, and_right, not-true, leb-false}
+use Rattle.std.specs.List.{list_all}
+use Rattle.litmus_grammar.specs.Pieces.{Piece, Word, Sign, LineEnd, between}
+use Rattle.litmus_grammar.specs.Spelling.{small_of, register_of, is_location, is_digit, is_name_byte, is_like_register}
+use Rattle.litmus_grammar.specs.declared.errors.Kind.TheVariants.{BadCondition, BadTable}
+use Rattle.litmus_grammar.specs.Reading.{◌>>=◌, Read, fails, found, behind, next_at, word_at, expect_at, here_at, word_here_at, repeat_at}
+use Rattle.litmus_parser.specs.Names.{Names, address_of, is_there}
+use Rattle.litmus_parser.specs.Trees.{Tree, Is, Both, Either}
+use Rattle.litmus_parser.specs.ReadingItems.{location_at, number_at}
+use Rattle.litmus_parser.specs.ReadingTable.{quantifier_of}
+use Rattle.litmus_parser.specs.ReadingAtoms.{Sight, is_and, is_or, joined_at, register_name_at, location_name_at, name_of, name_at, atom_at}
+use Rattle.litmus_parser.specs.ReadingCondition.{Reader, Chain, joined_with, too_many_parts, chain_result, chained, in_parentheses, factor_of, too_deep, factor_at, term_at, expression_at}
+use Rattle.litmus_parser.specs.ReadingEnd.{keyword_at, further_at, unless_further, whole_at, condition_at}
+use Rattle.litmus_parser.specs.GrammarWords.{Next, IsNumbered}
+use Rattle.litmus_parser.specs.GrammarCondition.{IsNamed, IsAtom, and_word, or_word, Part, Chained, one, more, IsFactor, IsExpression, Ends, IsCondition}
+use Rattle.litmus_parser.specs.declared.syntax.Item.{Item}
+use Rattle.litmus_parser.specs.declared.syntax.Name.{Name}
+use Rattle.litmus_parser.specs.declared.syntax.Name.TheVariants.{Register, Location}
+use Rattle.litmus_parser.specs.declared.syntax.Quantifier.{Quantifier}
+use Rattle.litmus_parser.proofs.Chains.{next-is, none-left}
+use Rattle.litmus_parser.proofs.Onward.{Again, Past, onward, onward_past, moved, next_again, word_again, expect_again}
+use Rattle.litmus_parser.proofs.WordsAgain.{number_again, location_again}
+
+-- the same registers hold the same addresses
+abbrev pub Agree : List Item → List Item → Type 0
+Agree items items' = (t r : ℕ) → address_of t r items' ≡ address_of t r items
+
+-- ---- atoms
+
+digit-less : (a : ℕ) → is_digit a ≡ false → between 49 57 a ≡ false
+digit-less a h =
+    elim (and_cases (leb 48 a) (leb a 57) h) [
+      | inl low ↦ let less : a < 48 = leb-false _ _ low in and_left (leb 49 a) (leb a 57) (lt-leb _ _ (omega arith))
+      | inr high ↦ and_right (leb 49 a) (leb a 57) high
+    ]
+
+first-of : (p q r s : Bool) → (p && q && r && s) ≡ true → p ≡ true
+first-of p q r s h = (and_parts p q (and_parts (p && q) r (and_parts (p && q && r) s h).0).0).0
+
+not-digit : (a : ℕ) (w : List ℕ) → is_location (a ∷ w) ≡ true → is_digit a ≡ false
+not-digit a w h = not-true (is_digit a) (first-of (not (is_digit a)) (list_all is_name_byte (a ∷ w)) (leb (length (a ∷ w)) 32) (not (is_like_register (a ∷ w))) h)
+
+no-thread : (w : List ℕ) → is_location w ≡ true → small_of 15 w ≡ None
+no-thread [] h = absurd cc
+no-thread (a ∷ []) h = rw (not-digit a [] h) refl
+no-thread (a ∷ b ∷ []) h = rw (digit-less a (not-digit a (b ∷ []) h)) refl
+no-thread (a ∷ b ∷ c ∷ w) h = refl
+
+register_name_again : (items items' : List Item) (threads line : ℕ) (pieces b rest : List Piece) (thread r : ℕ) (w : List ℕ) → Agree items items'
+    → Next pieces (Sign 58) b → Next b (Word w) rest → thread < threads → register_of w ≡ Some r → r ≢ 0 → is_there (address_of thread r items) ≡ false
+    → Again (register_name_at items' threads thread line pieces) (Register thread r) rest
+unfolding register_name_at
+register_name_again items items' threads line pieces b rest thread r w agree n1 n2 lt reg nz none =
+    let below : leb threads thread ≡ false = lt-leb _ _ lt in
+    let not_zero : eqb r 0 ≡ false = ne_eqb r 0 nz in
+    let plain : is_there (address_of thread r items') ≡ false = ap is_there (agree thread r) ∙ none in
+    rw below (onward_past (expect_at 58 BadCondition line pieces) b _ (Register thread r) rest (expect_again 58 BadCondition line pieces b n1) (λ l1.
+      onward (word_at BadCondition l1 b) w rest _ (Register thread r) rest (word_again BadCondition l1 b w rest n2) (λ l2.
+        record { line = l2; is = rw (reg, not_zero, plain) refl })))
+
+-- a name begins with a word, behind which it is read
+name_again : (items items' : List Item) (threads : ℕ) (pieces : List Piece) (before : Names) (name : Name) (after : Names) (rest : List Piece) → Agree items items'
+    → IsNamed items threads pieces before name after rest
+    → (w : List ℕ) × (a : List Piece) × Next pieces (Word w) a × ((line : ℕ) → Again (name_at items' threads w before line a) (name, after) rest)
+unfolding name_at location_name_at
+name_again items items' threads pieces before (Register t r) after rest agree (tw, w, a, b, n1, n2, n3, is_t, lt, is_r, nz, none, same) =
+    (tw, a, n1, λ line.
+      let read = register_name_again items items' threads line a b rest t r w agree n2 n3 lt is_r nz none in
+      record { line = read.line; is = rw (is_t, read.is, same) refl })
+name_again items items' threads pieces before (Location l) after rest agree (w, n, numbered) =
+    (w, rest, n, λ line. record { line = line; is = rw (no-thread w numbered.0, location_again BadCondition w line before l after numbered) refl })
+
+atom_again : (items items' : List Item) (threads : ℕ) (s : Sight) (pieces : List Piece) (tree : Tree) (t : Sight) (rest : List Piece) → Agree items items'
+    → IsAtom items threads s pieces tree t rest
+    → (w : List ℕ) × (a : List Piece) × Next pieces (Word w) a × ((line : ℕ) → Again (atom_at items' threads w s line a) (tree, t) rest)
+unfolding atom_at
+atom_again items items' threads s pieces (Is name n) t rest agree (v, a, b, named, n1, n2, value, few, count) =
+    let m = name_again items items' threads pieces s.0 name t.0 a agree named in
+    let below : leb 256 s.1 ≡ false = lt-leb _ _ few in
+    (m.0, m.1, m.2, λ line.
+      rw below (onward (name_at items' threads m.0 s.0 line m.1) (name, t.0) a _ (Is name n, t) rest (m.3 line) (λ l1.
+        onward_past (expect_at 61 BadCondition l1 a) b _ (Is name n, t) rest (expect_again 61 BadCondition l1 a b n1) (λ l2.
+          onward (number_at BadCondition l2 b) n rest _ (Is name n, t) rest (number_again BadCondition l2 b v n rest n2 value) (λ l3.
+            record { line = l3; is = rw count refl })))))
+atom_again items items' threads s pieces (Both x y) t rest agree h = absurd h
+atom_again items items' threads s pieces (Either x y) t rest agree h = absurd h

@@ -86,3 +86,80 @@ atom_again items items' threads s pieces (Is name n) t rest agree (v, a, b, name
             record { line = l3; is = rw count refl })))))
 atom_again items items' threads s pieces (Both x y) t rest agree h = absurd h
 atom_again items items' threads s pieces (Either x y) t rest agree h = absurd h
+
+-- ---- chains
+
+-- no sign of a chain stands next
+abbrev pub Stops : (List ℕ → Bool) → List Piece → Type 0
+Stops is_sign pieces = (line : ℕ) → joined_at is_sign line pieces ≡ None
+
+-- each part counts one atom at least, and at most 256 are counted
+abbrev pub Counts : Part → Type 0
+Counts P = (s : Sight) (pieces : List Piece) (tree : Tree) (t : Sight) (rest : List Piece) → P s pieces tree t rest → (s.1 < t.1) × (t.1 ≤ 256)
+
+-- a part is read where F holds of what follows
+abbrev pub Reads : (List Piece → Type 0) → Reader → Part → Type 0
+Reads F read P = (s : Sight) (line : ℕ) (pieces : List Piece) (tree : Tree) (t : Sight) (rest : List Piece) → F rest → P s pieces tree t rest → Again (read s line pieces) (tree, t) rest
+
+chain_counts : (P : Part) (sign : Piece) (join : Tree → Tree → Tree) → Counts P → Counts (Chained P sign join)
+chain_counts P sign join counts s pieces tree t rest (one h) = counts s pieces tree t rest h
+chain_counts P sign join counts s pieces tree t rest (more {b = b} v qs rs c n h) =
+    let first = chain_counts P sign join counts s pieces _ v qs c in
+    let last = counts v rs b t rest h in
+    (omega (arith, first.0, last.0), last.1)
+
+joined_again : (is_sign : List ℕ → Bool) (sign : List ℕ) → is_sign sign ≡ true → (line : ℕ) (pieces rest : List Piece) → Next pieces (Word sign) rest → (at : ℕ) × (joined_at is_sign line pieces ≡ Some (at, rest))
+unfolding joined_at
+joined_again is_sign sign s line [] rest n = absurd n
+joined_again is_sign sign s line (LineEnd ∷ pieces) rest n = joined_again is_sign sign s (line + 1) pieces rest n
+joined_again is_sign sign s line (Word w ∷ pieces) rest n =
+    let same : w ≡ sign = cc in
+    (line, rw (same, s, n.1) refl)
+joined_again is_sign sign s line (Sign b ∷ pieces) rest n = absurd cc
+
+-- the chain is read up to here, by so many further parts
+record Reaches (is_sign : List ℕ → Bool) (join : Tree → Tree → Tree) (read : Reader) (whole : Read (Tree × Sight)) (tree : Tree) (t : Sight) (rest : List Piece) : Type 0 where
+  turns : ℕ
+  line : ℕ
+  few : turns < t.1
+  whole_is : (repeat_at (256 - turns) (joined_with is_sign join read) too_many_parts (tree, t, line, rest) >>= chain_result) ≡ whole
+
+step_again : (is_sign : List ℕ → Bool) (sign : List ℕ) → is_sign sign ≡ true → (join : Tree → Tree → Tree) (read : Reader) (P : Part) (F : List Piece → Type 0) → Reads F read P → Counts P
+    → (whole : Read (Tree × Sight)) (left right : Tree) (s t : Sight) (qs rs rest : List Piece) → s.1 ≤ 256 → F rest → Next qs (Word sign) rs → P s rs right t rest
+    → Reaches is_sign join read whole left s qs → Reaches is_sign join read whole (join left right) t rest
+step_again is_sign sign is join read P F reads counts whole left right s t qs rs rest fits f n h r =
+    let j = joined_again is_sign sign is r.line qs rs n in
+    let a = reads s j.0 rs right t rest f h in
+    let c = counts s rs right t rest h in
+    let step : joined_with is_sign join read (left, s, r.line, qs) ≡ Ok (true, (join left right, t, a.line, rest)) = rw (j.1, a.is) refl in
+    let lt : r.turns < 256 = omega (arith, r.few) in
+    record {
+      turns = r.turns + 1; line = a.line; few = omega (arith, r.few, c.0);
+      whole_is = next-is (joined_with is_sign join read) r.turns (left, s, r.line, qs) (join left right, t, a.line, rest) whole lt step r.whole_is;
+    }
+
+chain_reaches : (is_sign : List ℕ → Bool) (sign : List ℕ) → is_sign sign ≡ true → (join : Tree → Tree → Tree) (read : Reader) (P : Part) (F : List Piece → Type 0) → Reads F read P → Counts P
+    → ((qs rs : List Piece) → Next qs (Word sign) rs → F qs)
+    → (s : Sight) (line : ℕ) (pieces : List Piece) (tree : Tree) (t : Sight) (rest : List Piece) → F rest → Chained P (Word sign) join s pieces tree t rest
+    → Reaches is_sign join read (chained is_sign join read s line pieces) tree t rest
+chain_reaches is_sign sign is join read P F reads counts before s line pieces tree t rest f (one h) =
+    let a = reads s line pieces tree t rest f h in
+    let c = counts s pieces tree t rest h in
+    record {
+      turns = 0; line = a.line; few = omega (arith, c.0);
+      whole_is = sym (ap (λ (r : Read (Tree × Sight)). r >>= λ first. repeat_at 256 (joined_with is_sign join read) too_many_parts (first.0.0, first.0.1, first.1, first.2) >>= chain_result) a.is);
+    }
+chain_reaches is_sign sign is join read P F reads counts before s line pieces tree t rest f (more {a = a} {b = b} v qs rs c n h) =
+    step_again is_sign sign is join read P F reads counts (chained is_sign join read s line pieces) a b v t qs rs rest
+    (chain_counts P (Word sign) join counts s pieces a v qs c).1 f n h
+    (chain_reaches is_sign sign is join read P F reads counts before s line pieces a v qs (before qs rs n) c)
+
+chain_again : (is_sign : List ℕ → Bool) (sign : List ℕ) → is_sign sign ≡ true → (join : Tree → Tree → Tree) (read : Reader) (P : Part) (F : List Piece → Type 0) → Reads F read P → Counts P
+    → ((qs rs : List Piece) → Next qs (Word sign) rs → F qs)
+    → Reads (λ rest. F rest × Stops is_sign rest) (chained is_sign join read) (Chained P (Word sign) join)
+chain_again is_sign sign is join read P F reads counts before s line pieces tree t rest f h =
+    let r = chain_reaches is_sign sign is join read P F reads counts before s line pieces tree t rest f.0 h in
+    let c = chain_counts P (Word sign) join counts s pieces tree t rest h in
+    let lt : r.turns < 256 = omega (arith, r.few, c.1) in
+    let step : joined_with is_sign join read (tree, t, r.line, rest) ≡ Ok (false, (tree, t, r.line, rest)) = rw (f.1 r.line) refl in
+    record { line = r.line; is = none-left (joined_with is_sign join read) r.turns (tree, t, r.line, rest) (tree, t, r.line, rest) (chained is_sign join read s line pieces) lt step r.whole_is }

@@ -163,3 +163,105 @@ chain_again is_sign sign is join read P F reads counts before s line pieces tree
     let lt : r.turns < 256 = omega (arith, r.few, c.1) in
     let step : joined_with is_sign join read (tree, t, r.line, rest) ≡ Ok (false, (tree, t, r.line, rest)) = rw (f.1 r.line) refl in
     record { line = r.line; is = none-left (joined_with is_sign join read) r.turns (tree, t, r.line, rest) (tree, t, r.line, rest) (chained is_sign join read s line pieces) lt step r.whole_is }
+
+-- ---- what follows a part
+
+sign-stops : (is_sign : List ℕ → Bool) (b : ℕ) (pieces rest : List Piece) → Next pieces (Sign b) rest → Stops is_sign pieces
+unfolding joined_at
+sign-stops is_sign b [] rest n line = refl
+sign-stops is_sign b (LineEnd ∷ pieces) rest n line = sign-stops is_sign b pieces rest n (line + 1)
+sign-stops is_sign b (Word w ∷ pieces) rest n line = absurd cc
+sign-stops is_sign b (Sign c ∷ pieces) rest n line = refl
+
+word-stops : (is_sign : List ℕ → Bool) (w : List ℕ) → is_sign w ≡ false → (pieces rest : List Piece) → Next pieces (Word w) rest → Stops is_sign pieces
+unfolding joined_at
+word-stops is_sign w other [] rest n line = refl
+word-stops is_sign w other (LineEnd ∷ pieces) rest n line = word-stops is_sign w other pieces rest n (line + 1)
+word-stops is_sign w other (Word v ∷ pieces) rest n line = let same : v ≡ w = cc in rw (same, other) refl
+word-stops is_sign w other (Sign b ∷ pieces) rest n line = refl
+
+end-stops : (is_sign : List ℕ → Bool) (pieces : List Piece) → Ends pieces → Stops is_sign pieces
+unfolding joined_at
+end-stops is_sign [] e line = refl
+end-stops is_sign (LineEnd ∷ pieces) e line = end-stops is_sign pieces e (line + 1)
+end-stops is_sign (Word w ∷ pieces) e line = absurd e
+end-stops is_sign (Sign b ∷ pieces) e line = absurd e
+
+-- what may follow a factor, a term, an expression
+abbrev pub Anything : List Piece → Type 0
+Anything pieces = Unit {0}
+
+abbrev pub EndsTerm : List Piece → Type 0
+EndsTerm pieces = Anything pieces × Stops is_and pieces
+
+abbrev pub EndsExpression : List Piece → Type 0
+EndsExpression pieces = EndsTerm pieces × Stops is_or pieces
+
+-- ---- factors
+
+atom_counts : (items : List Item) (threads : ℕ) → Counts (IsAtom items threads)
+atom_counts items threads s pieces (Is name n) t rest (v, a, b, named, n1, n2, value, few, count) = (omega (arith, count), omega (arith, few, count))
+atom_counts items threads s pieces (Both x y) t rest h = absurd h
+atom_counts items threads s pieces (Either x y) t rest h = absurd h
+
+factor_counts : (items : List Item) (threads depth : ℕ) → Counts (IsFactor items threads depth)
+factor_counts items threads zero s pieces tree t rest h = atom_counts items threads s pieces tree t rest h
+factor_counts items threads (suc depth) s pieces tree t rest (inl h) = atom_counts items threads s pieces tree t rest h
+factor_counts items threads (suc depth) s pieces tree t rest (inr (a, b, n1, h, n2)) =
+    chain_counts (Chained (IsFactor items threads depth) and_word Both) or_word Either (chain_counts (IsFactor items threads depth) and_word Both (factor_counts items threads depth)) s a tree t b h
+
+atom_factor : (items items' : List Item) (threads : ℕ) → Agree items items' → (inner : Reader) (s : Sight) (line : ℕ) (pieces : List Piece) (tree : Tree) (t : Sight) (rest : List Piece) → IsAtom items threads s pieces tree t rest
+    → Again (next_at line pieces >>= factor_of items' threads inner s) (tree, t) rest
+atom_factor items items' threads agree inner s line pieces tree t rest h =
+    let a = atom_again items items' threads s pieces tree t rest agree h in
+    onward (next_at line pieces) (Word a.0) a.1 (factor_of items' threads inner s) (tree, t) rest (next_again line pieces (Word a.0) a.1 a.2) a.3
+
+paren_factor : (items' : List Item) (threads : ℕ) (read : Reader) (P : Part) → Reads EndsExpression read P → (s : Sight) (line : ℕ) (pieces : List Piece) (tree : Tree) (t : Sight) (rest a b : List Piece)
+    → Next pieces (Sign 40) a → P s a tree t b → Next b (Sign 41) rest → Again (next_at line pieces >>= factor_of items' threads (in_parentheses read) s) (tree, t) rest
+paren_factor items' threads read P reads s line pieces tree t rest a b n1 h n2 =
+    onward (next_at line pieces) (Sign 40) a (factor_of items' threads (in_parentheses read) s) (tree, t) rest (next_again line pieces (Sign 40) a n1) (λ l1.
+      onward (read s l1 a) (tree, t) b _ (tree, t) rest (reads s l1 a tree t b ((tt, sign-stops is_and 41 b rest n2), sign-stops is_or 41 b rest n2) h) (λ l2.
+        onward_past (expect_at 41 BadCondition l2 b) rest _ (tree, t) rest (expect_again 41 BadCondition l2 b rest n2) (λ l3.
+          record { line = l3; is = refl })))
+
+expression_from : (items items' : List Item) (threads depth : ℕ) → Reads Anything (factor_at items' threads depth) (IsFactor items threads depth)
+    → Reads EndsExpression (expression_at items' threads depth) (IsExpression items threads depth)
+expression_from items items' threads depth reads =
+    chain_again is_or (92 ∷ 47 ∷ []) refl Either (term_at items' threads depth) (Chained (IsFactor items threads depth) and_word Both) EndsTerm
+    (chain_again is_and (47 ∷ 92 ∷ []) refl Both (factor_at items' threads depth) (IsFactor items threads depth) Anything reads (factor_counts items threads depth) (λ qs rs n. tt))
+    (chain_counts (IsFactor items threads depth) and_word Both (factor_counts items threads depth))
+    (λ qs rs n. (tt, word-stops is_and (92 ∷ 47 ∷ []) refl qs rs n))
+
+factor_again : (items items' : List Item) (threads depth : ℕ) → Agree items items' → Reads Anything (factor_at items' threads depth) (IsFactor items threads depth)
+unfolding factor_at
+factor_again items items' threads zero agree s line pieces tree t rest f h = atom_factor items items' threads agree too_deep s line pieces tree t rest h
+factor_again items items' threads (suc depth) agree s line pieces tree t rest f h =
+    let reads : Reads EndsExpression (expression_at items' threads depth) (IsExpression items threads depth) = expression_from items items' threads depth (factor_again items items' threads depth agree) in
+    elim h [
+      | inl a ↦ atom_factor items items' threads agree (in_parentheses (expression_at items' threads depth)) s line pieces tree t rest a
+      | inr p ↦ paren_factor items' threads (expression_at items' threads depth) (IsExpression items threads depth) reads s line pieces tree t rest p.0 p.1 p.2 p.3 p.4
+    ]
+
+expression_again : (items items' : List Item) (threads depth : ℕ) → Agree items items' → Reads EndsExpression (expression_at items' threads depth) (IsExpression items threads depth)
+expression_again items items' threads depth agree = expression_from items items' threads depth (factor_again items items' threads depth agree)
+
+-- ---- the whole condition
+
+none_again : (line : ℕ) (pieces : List Piece) → Ends pieces → further_at line pieces ≡ None
+unfolding further_at
+none_again line [] e = refl
+none_again line (LineEnd ∷ pieces) e = none_again (line + 1) pieces e
+none_again line (Word w ∷ pieces) e = absurd e
+none_again line (Sign b ∷ pieces) e = absurd e
+
+keyword_again : (line : ℕ) (w : List ℕ) (a : List Piece) (quantifier : Quantifier) → quantifier_of w ≡ Some quantifier → keyword_at line (Word w ∷ a) ≡ Ok (quantifier, line, a)
+unfolding keyword_at word_here_at here_at
+keyword_again line w a quantifier e = ap (λ (o : Option Quantifier). found BadTable o line (λ q. Ok (q, line, a))) e
+
+pub condition_again : (items items' : List Item) (threads line : ℕ) (pieces : List Piece) (before : Names) (quantifier : Quantifier) (tree : Tree) (after : Names)
+    → ((t r : ℕ) → address_of t r items' ≡ address_of t r items) → IsCondition items threads pieces before quantifier tree after
+    → condition_at items' threads before line pieces ≡ Ok (quantifier, tree, after)
+unfolding condition_at whole_at
+condition_again items items' threads line pieces before quantifier tree after agree (w, a, b, atoms, spelled, is_quantifier, expression, ends) =
+    let e = expression_again items items' threads 64 agree (before, 0) line a tree (after, atoms) b ((tt, end-stops is_and b ends), end-stops is_or b ends) expression in
+    rw (spelled, keyword_again line w a quantifier is_quantifier, e.is, none_again e.line b ends) refl

@@ -1,26 +1,26 @@
 -- A condition that is in the grammar is read.
-use Rattle.std.proofs.Common.{◌≡◌, ◌≢◌, ℕ, zero, suc, ◌+◌, ◌-◌, ◌<◌, ◌≤◌, Bool, true, false, cond, eqb, leb, ◌&&◌, not, List, [], ◌∷◌, length, Option, Some, None, Result, Ok, Err, refl, sym, ap, subst, ◌∙◌, inl, inr, arith}
+use Rattle.std.proofs.Common.{◌≡◌, ◌≢◌, ℕ, zero, suc, ◌+◌, ◌-◌, ◌<◌, ◌≤◌, Bool, true, false, eqb, leb, ◌&&◌, not, List, [], ◌∷◌, length, Option, Some, None, Ok, refl, sym, ap, ◌∙◌, inl, inr, arith}
 use Rattle.std.proofs.lemmas.Bool.{lt-leb, ne_eqb, and_parts, and_cases, and_left, and_right, not-true, leb-false}
 use Rattle.std.specs.List.{list_all}
 use Rattle.litmus_grammar.specs.Pieces.{Piece, Word, Sign, LineEnd, between}
 use Rattle.litmus_grammar.specs.Spelling.{small_of, register_of, is_location, is_digit, is_name_byte, is_like_register}
 use Rattle.litmus_grammar.specs.declared.errors.Kind.TheVariants.{BadCondition, BadTable}
-use Rattle.litmus_grammar.specs.Reading.{◌>>=◌, Read, fails, found, behind, next_at, word_at, expect_at, here_at, word_here_at, repeat_at}
+use Rattle.litmus_grammar.specs.Reading.{◌>>=◌, Read, found, next_at, word_at, expect_at, here_at, word_here_at, repeat_at}
 use Rattle.litmus_parser.specs.Names.{Names, address_of, is_there}
 use Rattle.litmus_parser.specs.Trees.{Tree, Is, Both, Either}
-use Rattle.litmus_parser.specs.ReadingItems.{location_at, number_at}
+use Rattle.litmus_parser.specs.ReadingItems.{number_at}
 use Rattle.litmus_parser.specs.ReadingTable.{quantifier_of}
-use Rattle.litmus_parser.specs.ReadingAtoms.{Sight, is_and, is_or, joined_at, register_name_at, location_name_at, name_of, name_at, atom_at}
-use Rattle.litmus_parser.specs.ReadingCondition.{Reader, Chain, joined_with, too_many_parts, chain_result, chained, in_parentheses, factor_of, too_deep, factor_at, term_at, expression_at}
-use Rattle.litmus_parser.specs.ReadingEnd.{keyword_at, further_at, unless_further, whole_at, condition_at}
-use Rattle.litmus_parser.specs.GrammarWords.{Next, IsNumbered}
+use Rattle.litmus_parser.specs.ReadingAtoms.{Sight, is_and, is_or, joined_at, register_name_at, location_name_at, name_at, atom_at}
+use Rattle.litmus_parser.specs.ReadingCondition.{Reader, joined_with, too_many_parts, chain_result, chained, in_parentheses, factor_of, too_deep, factor_at, term_at, expression_at}
+use Rattle.litmus_parser.specs.ReadingEnd.{keyword_at, further_at, whole_at, condition_at}
+use Rattle.litmus_parser.specs.GrammarWords.{Next}
 use Rattle.litmus_parser.specs.GrammarCondition.{IsNamed, IsAtom, and_word, or_word, Part, Chained, one, more, IsFactor, IsExpression, Ends, IsCondition}
 use Rattle.litmus_parser.specs.declared.syntax.Item.{Item}
 use Rattle.litmus_parser.specs.declared.syntax.Name.{Name}
 use Rattle.litmus_parser.specs.declared.syntax.Name.TheVariants.{Register, Location}
 use Rattle.litmus_parser.specs.declared.syntax.Quantifier.{Quantifier}
 use Rattle.litmus_parser.proofs.Chains.{next-is, none-left}
-use Rattle.litmus_parser.proofs.Onward.{Again, Past, onward, onward_past, moved, next_again, word_again, expect_again}
+use Rattle.litmus_parser.proofs.Onward.{Again, onward, onward_past, next_again, word_again, expect_again}
 use Rattle.litmus_parser.proofs.WordsAgain.{number_again, location_again}
 
 -- the same registers hold the same addresses
@@ -57,18 +57,22 @@ register_name_again items items' threads line pieces b rest thread r w agree n1 
     let not_zero : eqb r 0 ≡ false = ne_eqb r 0 nz in
     let plain : is_there (address_of thread r items') ≡ false = ap is_there (agree thread r) ∙ none in
     rw below (onward_past (expect_at 58 BadCondition line pieces) b _ (Register thread r) rest (expect_again 58 BadCondition line pieces b n1) (λ l1.
-      onward (word_at BadCondition l1 b) w rest _ (Register thread r) rest (word_again BadCondition l1 b w rest n2) (λ l2.
-        record { line = l2; is = rw (reg, not_zero, plain) refl })))
+    onward (word_at BadCondition l1 b) w rest _ (Register thread r) rest (word_again BadCondition l1 b w rest n2) (λ l2.
+    record { line = l2; is = rw (reg, not_zero, plain) refl })))
 
 -- a name begins with a word, behind which it is read
 name_again : (items items' : List Item) (threads : ℕ) (pieces : List Piece) (before : Names) (name : Name) (after : Names) (rest : List Piece) → Agree items items'
     → IsNamed items threads pieces before name after rest
     → (w : List ℕ) × (a : List Piece) × Next pieces (Word w) a × ((line : ℕ) → Again (name_at items' threads w before line a) (name, after) rest)
 unfolding name_at location_name_at
-name_again items items' threads pieces before (Register t r) after rest agree (tw, w, a, b, n1, n2, n3, is_t, lt, is_r, nz, none, same) =
-    (tw, a, n1, λ line.
+name_again items items' threads pieces before (Register t r) after rest agree (tw, w, a, b, n1, n2, n3, is_t, lt, is_r, nz, none, same) = (
+  tw,
+  a,
+  n1,
+  λ line.
       let read = register_name_again items items' threads line a b rest t r w agree n2 n3 lt is_r nz none in
-      record { line = read.line; is = rw (is_t, read.is, same) refl })
+      record { line = read.line; is = rw (is_t, read.is, same) refl },
+)
 name_again items items' threads pieces before (Location l) after rest agree (w, n, numbered) =
     (w, rest, n, λ line. record { line = line; is = rw (no-thread w numbered.0, location_again BadCondition w line before l after numbered) refl })
 
@@ -78,12 +82,16 @@ atom_again : (items items' : List Item) (threads : ℕ) (s : Sight) (pieces : Li
 unfolding atom_at
 atom_again items items' threads s pieces (Is name n) t rest agree (v, a, b, named, n1, n2, value, few, count) =
     let m = name_again items items' threads pieces s.0 name t.0 a agree named in
-    let below : leb 256 s.1 ≡ false = lt-leb _ _ few in
-    (m.0, m.1, m.2, λ line.
-      rw below (onward (name_at items' threads m.0 s.0 line m.1) (name, t.0) a _ (Is name n, t) rest (m.3 line) (λ l1.
-        onward_past (expect_at 61 BadCondition l1 a) b _ (Is name n, t) rest (expect_again 61 BadCondition l1 a b n1) (λ l2.
+    let below : leb 256 s.1 ≡ false = lt-leb _ _ few in (
+      m.0,
+      m.1,
+      m.2,
+      λ line.
+          rw below (onward (name_at items' threads m.0 s.0 line m.1) (name, t.0) a _ (Is name n, t) rest (m.3 line) (λ l1.
+          onward_past (expect_at 61 BadCondition l1 a) b _ (Is name n, t) rest (expect_again 61 BadCondition l1 a b n1) (λ l2.
           onward (number_at BadCondition l2 b) n rest _ (Is name n, t) rest (number_again BadCondition l2 b v n rest n2 value) (λ l3.
-            record { line = l3; is = rw count refl })))))
+          record { line = l3; is = rw count refl })))),
+    )
 atom_again items items' threads s pieces (Both x y) t rest agree h = absurd h
 atom_again items items' threads s pieces (Either x y) t rest agree h = absurd h
 
@@ -134,7 +142,9 @@ step_again is_sign sign is join read P F reads counts whole left right s t qs rs
     let step : joined_with is_sign join read (left, s, r.line, qs) ≡ Ok (true, (join left right, t, a.line, rest)) = rw (j.1, a.is) refl in
     let lt : r.turns < 256 = omega (arith, r.few) in
     record {
-      turns = r.turns + 1; line = a.line; few = omega (arith, r.few, c.0);
+      turns = r.turns + 1;
+      line = a.line;
+      few = omega (arith, r.few, c.0);
       whole_is = next-is (joined_with is_sign join read) r.turns (left, s, r.line, qs) (join left right, t, a.line, rest) whole lt step r.whole_is;
     }
 
@@ -146,7 +156,9 @@ chain_reaches is_sign sign is join read P F reads counts before s line pieces tr
     let a = reads s line pieces tree t rest f h in
     let c = counts s pieces tree t rest h in
     record {
-      turns = 0; line = a.line; few = omega (arith, c.0);
+      turns = 0;
+      line = a.line;
+      few = omega (arith, c.0);
       whole_is = sym (ap (λ (r : Read (Tree × Sight)). r >>= λ first. repeat_at 256 (joined_with is_sign join read) too_many_parts (first.0.0, first.0.1, first.1, first.2) >>= chain_result) a.is);
     }
 chain_reaches is_sign sign is join read P F reads counts before s line pieces tree t rest f (more {a = a} {b = b} v qs rs c n h) =
@@ -220,9 +232,9 @@ paren_factor : (items' : List Item) (threads : ℕ) (read : Reader) (P : Part) �
     → Next pieces (Sign 40) a → P s a tree t b → Next b (Sign 41) rest → Again (next_at line pieces >>= factor_of items' threads (in_parentheses read) s) (tree, t) rest
 paren_factor items' threads read P reads s line pieces tree t rest a b n1 h n2 =
     onward (next_at line pieces) (Sign 40) a (factor_of items' threads (in_parentheses read) s) (tree, t) rest (next_again line pieces (Sign 40) a n1) (λ l1.
-      onward (read s l1 a) (tree, t) b _ (tree, t) rest (reads s l1 a tree t b ((tt, sign-stops is_and 41 b rest n2), sign-stops is_or 41 b rest n2) h) (λ l2.
-        onward_past (expect_at 41 BadCondition l2 b) rest _ (tree, t) rest (expect_again 41 BadCondition l2 b rest n2) (λ l3.
-          record { line = l3; is = refl })))
+    onward (read s l1 a) (tree, t) b _ (tree, t) rest (reads s l1 a tree t b ((tt, sign-stops is_and 41 b rest n2), sign-stops is_or 41 b rest n2) h) (λ l2.
+    onward_past (expect_at 41 BadCondition l2 b) rest _ (tree, t) rest (expect_again 41 BadCondition l2 b rest n2) (λ l3.
+    record { line = l3; is = refl })))
 
 expression_from : (items items' : List Item) (threads depth : ℕ) → Reads Anything (factor_at items' threads depth) (IsFactor items threads depth)
     → Reads EndsExpression (expression_at items' threads depth) (IsExpression items threads depth)

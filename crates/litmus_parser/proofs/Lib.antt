@@ -8,3 +8,5 @@ pub mod Onward
 pub mod OnwardHere
 pub mod FormAgain
 pub mod TableAgain
+pub mod WordsAgain
+pub mod ConditionAgain

@@ -12,3 +12,4 @@ pub mod WordsAgain
 pub mod ConditionAgain
 pub mod Explains
 pub mod ExplainsHere
+pub mod LocationExplains

@@ -1,4 +1,5 @@
 pub mod Places
+pub mod LocationFaults
 pub mod Names
 pub mod ReadingItems
 pub mod ReadingBlock

@@ -13,3 +13,4 @@ pub mod ConditionAgain
 pub mod Explains
 pub mod ExplainsHere
 pub mod LocationExplains
+pub mod ConditionExplains

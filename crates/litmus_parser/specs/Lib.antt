@@ -20,3 +20,4 @@ pub mod GrammarBlock
 pub mod GrammarForms
 pub mod GrammarTable
 pub mod GrammarCondition
+pub mod ConditionFaults

@@ -14,3 +14,5 @@ pub mod Explains
 pub mod ExplainsHere
 pub mod LocationExplains
 pub mod ConditionExplains
+pub mod WaysOn
+pub mod ConditionWays

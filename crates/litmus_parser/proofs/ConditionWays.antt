@@ -177,3 +177,125 @@ ends_chain is_sign join part k x n u e = rw e refl
 goes_further : (is_sign : List ℕ → Bool) (join : Tree → Tree → Tree) (part : Reader) (k : ℕ) (x : Tree × Sight) (n m : ℕ) (t u : List Piece) → joined_at is_sign n t ≡ Some (m, u) → chain_from is_sign join part (suc k) x n t ≡ one_further is_sign join part k x m u
 unfolding chain_from repeat_at
 goes_further is_sign join part k x n m t u e = rw e (turned is_sign join part k x.0 (part x.1 m u))
+
+runs_out : (is_sign : List ℕ → Bool) (join : Tree → Tree → Tree) (part : Reader) (x : Tree × Sight) (n : ℕ) (rest : List Piece) → chain_from is_sign join part 0 x n rest ≡ fails TooLarge n
+unfolding chain_from repeat_at
+runs_out is_sign join part x n rest = refl
+
+-- a chain may end where it stands, and is never refused there
+abbrev Trailing : {X Y : Type 0} → (X → ℕ → List Piece → Y) → Reading Y → ℕ → List Piece → Type 0
+Trailing make g n rest = Way BadCondition (Unit {0}) ⊥ SameFirst make g n rest
+
+behind_part : {X Y Z W : Type 0} (make : X → ℕ → List Piece → Y) (make' : Z → ℕ → List Piece → W) (g : Reading Y) (f : Y → Result W LitmusError)
+    → Looking make g → ((x : X) (m : ℕ) (after : List Piece) → Trailing make' (λ m u. f (make x m u)) m after) → Looking make' (λ n u. g n u >>= f)
+behind_part make make' g f first then = bind_way BadCondition ⊥ (Unit {0}) ⊥ SameFirst SameFirst same_first (λ e t u m. m) (λ a t u. absurd a) make make' g f first then
+
+-- a chain with one step more, by what is joined next
+chain_step : (is_sign : List ℕ → Bool) (join : Tree → Tree → Tree) (part : Reader) → ((s : Sight) → Looking (read {X = Tree × Sight}) (part s)) → (k : ℕ)
+    → ((x : Tree × Sight) (n : ℕ) (rest : List Piece) → Trailing (read {X = Tree × Sight}) (chain_from is_sign join part k x) n rest)
+    → (x : Tree × Sight) (n : ℕ) (rest : List Piece) (o : Option (ℕ × List Piece)) → joined_at is_sign n rest ≡ o → Trailing (read {X = Tree × Sight}) (chain_from is_sign join part (suc k) x) n rest
+chain_step is_sign join part sound k further x n rest None e =
+    done BadCondition ⊥ SameFirst read _ n rest x (λ u same. ends_chain is_sign join part k x n u (none_joined is_sign n rest u e same))
+chain_step is_sign join part sound k further x n rest (Some at) e =
+    let j = joins is_sign n rest at e in
+    looser BadCondition ⊥ ⊥ (Unit {0}) ⊥ SameFirst SameFirst (λ e. tt) (λ a. a) (λ t u m. m) read (chain_from is_sign join part (suc k) x) n rest
+    (behind_front BadCondition ⊥ ⊥ ⊥ Anything SameFirst anything (λ e t u m. tt) (λ a t u. tt) read (chain_from is_sign join part (suc k) x) (one_further is_sign join part k x) n rest
+    (j.front ++ Word j.w ∷ []) at.0 at.1 j.split j.line_is (inr (j.front, Word j.w, tt, refl)) (λ u l. goes_further is_sign join part k x n at.0 _ u (j.again u))
+    (behind_part read read (part x.1) (λ r. chain_from is_sign join part k (join x.0 r.0.0, r.0.1) r.1 r.2) (sound x.1) (λ y. further (join x.0 y.0, y.1)) at.0 at.1))
+
+chain_from_way : (is_sign : List ℕ → Bool) (join : Tree → Tree → Tree) (part : Reader) → ((s : Sight) → Looking (read {X = Tree × Sight}) (part s))
+    → (k : ℕ) (x : Tree × Sight) (n : ℕ) (rest : List Piece) → Trailing (read {X = Tree × Sight}) (chain_from is_sign join part k x) n rest
+chain_from_way is_sign join part sound zero x n rest = other (record { line = n; kind = TooLarge }) (runs_out is_sign join part x n rest) (λ e. absurd cc)
+chain_from_way is_sign join part sound (suc k) x n rest = chain_step is_sign join part sound k (chain_from_way is_sign join part sound k) x n rest (joined_at is_sign n rest) refl
+
+chain_way : (is_sign : List ℕ → Bool) (join : Tree → Tree → Tree) (part : Reader) → ((s : Sight) → Looking (read {X = Tree × Sight}) (part s)) → (s : Sight) → Looking (read {X = Tree × Sight}) (chained is_sign join part s)
+unfolding chain_from
+chain_way is_sign join part sound s =
+    behind_part read read (part s) (λ first. repeat_at 256 (joined_with is_sign join part) too_many_parts (first.0.0, first.0.1, first.1, first.2) >>= chain_result) (sound s) (λ x. chain_from_way is_sign join part sound 256 x)
+
+-- ---- factors
+
+abbrev Parts : Reader → Type 0
+Parts part = (s : Sight) → Looking (read {X = Tree × Sight}) (part s)
+
+looks : (part : Reader) → ((s : Sight) → Firm (read {X = Tree × Sight}) (part s)) → Parts part
+looks part firm s n rest = looser BadCondition ⊥ ⊥ ⊥ ⊥ Anything SameFirst (λ e. e) (λ a. a) (λ t u m. tt) read (part s) n rest (firm s n rest)
+
+expression_from : (factor : Reader) → ((s : Sight) → Firm (read {X = Tree × Sight}) (factor s)) → Parts (chained is_or Either (chained is_and Both factor))
+expression_from factor firm = chain_way is_or Either (chained is_and Both factor) (chain_way is_and Both factor (looks factor firm))
+
+paren_way : (inner : Reader) → Parts inner → (s : Sight) → Loose (read {X = Tree × Sight}) (in_parentheses inner s)
+paren_way inner parts s =
+    loosen read (in_parentheses inner s) (bind_way BadCondition ⊥ ⊥ ⊥ SameFirst Anything same_first (λ e t u m. absurd e) (λ a t u. absurd a) read read (inner s) _ (parts s) (λ x m after.
+    then_way BadCondition ⊥ past read (expect_at 41 BadCondition) (λ close. Ok (x, close.0, close.1)) (expect_way BadCondition not_short 41 BadCondition) (λ t. answers read x) m after))
+
+factor_begins : (items : List Item) (threads : ℕ) (inner : Reader) → ((s : Sight) → Loose (read {X = Tree × Sight}) (inner s)) → (s : Sight) (p : Piece) → Loose (read {X = Tree × Sight}) (λ m u. factor_of items threads inner s (p, m, u))
+factor_begins items threads inner loose s (Word w) = atom_way items threads w s
+factor_begins items threads inner loose s (Sign b) = tested read (eqb b 40) (λ n u. inner s n u) (λ n u. fails BadCondition n) (loose s) (faults read BadCondition)
+factor_begins items threads inner loose s LineEnd = faults read BadCondition
+
+from_next : (items : List Item) (threads : ℕ) (inner : Reader) → ((s : Sight) → Loose (read {X = Tree × Sight}) (inner s)) → (s : Sight) → Firm (read {X = Tree × Sight}) (λ n u. next_at n u >>= factor_of items threads inner s)
+from_next items threads inner loose s = then_way BadCondition ⊥ read read next_at (factor_of items threads inner s) (next_way BadCondition not_short) (factor_begins items threads inner loose s)
+
+factor_way : (items : List Item) (threads depth : ℕ) (s : Sight) → Firm (read {X = Tree × Sight}) (factor_at items threads depth s)
+unfolding factor_at
+factor_way items threads zero s = from_next items threads too_deep (λ s. faults read TooLarge) s
+factor_way items threads (suc depth) s =
+    let inner : Reader = chained is_or Either (chained is_and Both (factor_at items threads depth)) in
+    from_next items threads (in_parentheses inner) (paren_way inner (expression_from (factor_at items threads depth) (factor_way items threads depth))) s
+
+expression_way : (items : List Item) (threads : ℕ) (s : Sight) → Looking (read {X = Tree × Sight}) (expression_at items threads 64 s)
+expression_way items threads s = expression_from (factor_at items threads 64) (factor_way items threads 64) s
+
+-- ---- the whole
+
+-- what is no place
+abbrev alone : {X : Type 0} → X → ℕ → List Piece → X
+alone x m u = x
+
+further_there : (n : ℕ) (rest : List Piece) → is_there (further_at n rest) ≡ is_there (first_of rest)
+unfolding further_at first_of
+further_there n [] = refl
+further_there n (LineEnd ∷ rest) = further_there (n + 1) rest
+further_there n (Word w ∷ rest) = refl
+further_there n (Sign b ∷ rest) = refl
+
+none_further : (n m : ℕ) (rest u : List Piece) → further_at n rest ≡ None → SameFirst rest u → further_at m u ≡ None
+none_further n m rest u e same = none_there (further_at m u) (further_there m u ∙ ap is_there (sym same) ∙ sym (further_there n rest) ∙ ap is_there e)
+
+-- the first piece, which is refused
+record Furthers (n : ℕ) (rest : List Piece) (m : ℕ) : Type 0 where
+  front : List Piece
+  x : Piece
+  tail : List Piece
+  plain : Plain x
+  split : rest ≡ front ++ x ∷ tail
+  line_is : m ≡ n + line_ends front
+  again : (u : List Piece) → further_at n (front ++ x ∷ u) ≡ Some m
+
+some_is : (m n : ℕ) → (let o : Option ℕ = Some m in o) ≡ Some n → m ≡ n
+some_is m n e = cc
+
+furthers : (n : ℕ) (rest : List Piece) (m : ℕ) → further_at n rest ≡ Some m → Furthers n rest m
+unfolding further_at line_ends
+furthers n [] m e = absurd cc
+furthers n (LineEnd ∷ rest) m e =
+    let f = furthers (n + 1) rest m e in
+    let l = f.line_is in
+    record { front = LineEnd ∷ f.front; x = f.x; tail = f.tail; plain = f.plain; split = ap (λ t. LineEnd ∷ t) f.split; line_is = omega (arith, l); again = f.again }
+furthers n (Word w ∷ rest) m e = let s = some_is n m e in record { front = []; x = Word w; tail = rest; plain = tt; split = refl; line_is = omega (arith, s); again = λ u. e }
+furthers n (Sign b ∷ rest) m e = let s = some_is n m e in record { front = []; x = Sign b; tail = rest; plain = tt; split = refl; line_is = omega (arith, s); again = λ u. e }
+
+unless_way : {X : Type 0} (x : X) (n : ℕ) (rest : List Piece) → Trailing (alone {X = X}) (λ m u. unless_further (further_at m u) x) n rest
+unless_way x n rest = on (further_at n rest) refl
+  where
+    on : (o : Option ℕ) → further_at n rest ≡ o → Trailing (alone {X = _}) (λ m u. unless_further (further_at m u) x) n rest
+    on None e = done BadCondition ⊥ SameFirst alone _ n rest x (λ u same. ap (λ o. unless_further o x) (none_further n n rest u e same))
+    on (Some m) e =
+        let f = furthers n rest m e in
+        refuses (record { line = m; kind = BadCondition }) f.front f.x f.tail f.plain f.split f.line_is (λ u. ap (λ o. unless_further o x) (f.again u))
+
+pub whole_way : (items : List Item) (threads : ℕ) (names : Names) (n : ℕ) (rest : List Piece) → Way BadCondition ⊥ ⊥ SameFirst (alone {X = Tree × Names}) (whole_at items threads names) n rest
+unfolding whole_at
+whole_way items threads names =
+    behind_part read alone (expression_at items threads 64 (names, 0)) (λ e. unless_further (further_at e.1 e.2) (e.0.0, e.0.1.0)) (expression_way items threads (names, 0)) (λ x. unless_way (x.0, x.1.0))

@@ -1,24 +1,26 @@
 -- A condition that is refused as such is refused at a piece, whatever follows that piece.
-use Rattle.std.proofs.Common.{◌≡◌, ◌≢◌, ℕ, zero, suc, ◌+◌, ◌⊎◌, Bool, true, false, cond, eqb, ltb, leb, List, [], ◌∷◌, ◌++◌, length, Option, Some, None, Result, Ok, Err, refl, sym, ap, subst, ◌∙◌, inl, inr, append_assoc, arith}
-use Rattle.std.proofs.lemmas.Bool.{cases_Bool, eqb-true}
+use Rattle.std.proofs.Common.{◌≡◌, ◌≢◌, ℕ, zero, suc, ◌+◌, ◌⊎◌, Bool, true, false, cond, eqb, ltb, leb, List, [], ◌∷◌, ◌++◌, length, Option, Some, None, Result, Ok, Err, refl, sym, ap, subst, ◌∙◌, inl, inr, arith}
+use Rattle.std.proofs.lemmas.Bool.{cases_Bool}
 use Rattle.litmus_grammar.specs.Pieces.{Piece, Word, Sign, LineEnd}
 use Rattle.litmus_grammar.specs.Naming.{place_of}
 use Rattle.litmus_grammar.specs.Spelling.{is_number, number_of, small_of, register_of, is_location}
 use Rattle.litmus_grammar.specs.declared.errors.Kind.{Kind}
 use Rattle.litmus_grammar.specs.declared.errors.Kind.TheVariants.{TooLarge, ValueRange, AddressAsValue, BadCondition, CutShort}
 use Rattle.litmus_grammar.specs.declared.errors.LitmusError.{LitmusError}
-use Rattle.litmus_grammar.specs.Reading.{◌>>=◌, Read, fails, found, behind, next_at, word_at, expect_at, repeat_at}
+use Rattle.litmus_grammar.specs.Reading.{◌>>=◌, Read, fails, next_at, word_at, expect_at, repeat_at}
 use Rattle.litmus_parser.specs.Names.{Names, address_of, is_there}
 use Rattle.litmus_parser.specs.Trees.{Tree, Is, Both, Either}
 use Rattle.litmus_parser.specs.ReadingItems.{location_at, number_at}
 use Rattle.litmus_parser.specs.ReadingAtoms.{Sight, is_and, is_or, joined_at, register_name_at, location_name_at, name_of, name_at, atom_at}
-use Rattle.litmus_parser.specs.ReadingCondition.{Reader, Chain, joined_with, too_many_parts, chain_result, chained, in_parentheses, factor_of, too_deep, factor_at, term_at, expression_at}
+use Rattle.litmus_parser.specs.ReadingCondition.{Reader, Chain, joined_with, too_many_parts, chain_result, chained, in_parentheses, factor_of, too_deep, factor_at, expression_at}
 use Rattle.litmus_parser.specs.ReadingEnd.{further_at, unless_further, whole_at}
 use Rattle.litmus_parser.specs.Places.{line_ends}
+use Rattle.litmus_parser.specs.ConditionFaults.{IsWhole, HasNoWayOn}
 use Rattle.litmus_parser.specs.declared.syntax.Item.{Item}
 use Rattle.litmus_parser.specs.declared.syntax.Name.{Name}
 use Rattle.litmus_parser.specs.declared.syntax.Name.TheVariants.{Register, Location}
-use Rattle.litmus_parser.proofs.WaysOn.{Plain, Reading, Way, passes, refuses, at_once, other, Anything, anything, first_of, SameFirst, same_first, behind_front, bind_way, then_way, looser, done, stops, test_way, found_way, read, past, over_line, next_way, word_way, expect_way}
+use Rattle.litmus_parser.proofs.ConditionAgain.{expression_again, none_again, end-stops}
+use Rattle.litmus_parser.proofs.WaysOn.{Plain, Reading, Way, passes, refuses, at_once, other, Anything, anything, first_of, SameFirst, same_first, behind_front, bind_way, then_way, looser, done, stops, test_way, found_way, read, past, next_way, word_way, expect_way}
 
 not_short : CutShort ≢ BadCondition
 not_short e = absurd cc
@@ -60,12 +62,12 @@ unfolding location_at
 location_steady word names =
     elim (cases_Bool (is_location word)) [
       | inl e ↦ elim (cases_Bool (ltb (place_of word names) (length names))) [
-      | inl f ↦ inl ((place_of word names, names), λ n. rw (e, f) refl)
-      | inr f ↦ elim (cases_Bool (leb 64 (length names))) [
-      | inl g ↦ inr (TooLarge, λ n. rw (e, f, g) refl)
-      | inr g ↦ inl ((length names, names ++ word ∷ []), λ n. rw (e, f, g) refl)
-    ]
-    ]
+        | inl f ↦ inl ((place_of word names, names), λ n. rw (e, f) refl)
+        | inr f ↦ elim (cases_Bool (leb 64 (length names))) [
+          | inl g ↦ inr (TooLarge, λ n. rw (e, f, g) refl)
+          | inr g ↦ inl ((length names, names ++ word ∷ []), λ n. rw (e, f, g) refl)
+        ]
+      ]
       | inr e ↦ inr (BadCondition, λ n. rw e refl)
     ]
 
@@ -299,3 +301,42 @@ pub whole_way : (items : List Item) (threads : ℕ) (names : Names) (n : ℕ) (r
 unfolding whole_at
 whole_way items threads names =
     behind_part read alone (expression_at items threads 64 (names, 0)) (λ e. unless_further (further_at e.1 e.2) (e.0.0, e.0.1.0)) (expression_way items threads (names, 0)) (λ x. unless_way (x.0, x.1.0))
+
+-- ---- by the grammar
+
+ok_or_err : {X : Type 0} (x : X) (e : LitmusError) → (let r : Result X LitmusError = Ok x in r) ≡ Err e → ⊥
+ok_or_err x e is = absurd cc
+
+error_is : {X : Type 0} (d e : LitmusError) → (let r : Result X LitmusError = Err d in r) ≡ Err e → d ≡ e
+error_is d e is = cc
+
+whole_again : (items : List Item) (threads : ℕ) (names : Names) (line : ℕ) (pieces : List Piece) (w : IsWhole items threads names pieces) → whole_at items threads names line pieces ≡ Ok (w.0, w.1.0)
+unfolding whole_at
+whole_again items threads names line pieces (tree, after, rest, expression, ends) =
+    let e = expression_again items items threads 64 (λ t r. refl) (names, 0) line pieces tree after rest ((tt, end-stops is_and rest ends), end-stops is_or rest ends) expression in
+    rw (e.is, none_again e.line rest ends) refl
+
+no_end : (x : Piece) → Plain x → x ≢ LineEnd
+no_end (Word w) p e = absurd cc
+no_end (Sign b) p e = absurd cc
+no_end LineEnd p e = p
+
+no_way_on : (items : List Item) (threads : ℕ) (names : Names) (line : ℕ) (pieces : List Piece) (e : LitmusError) → whole_at items threads names line pieces ≡ Err e → e.kind ≡ BadCondition
+    → Way BadCondition ⊥ ⊥ SameFirst (alone {X = Tree × Names}) (whole_at items threads names) line pieces → HasNoWayOn items threads names line pieces e.line
+no_way_on items threads names line pieces e failed bad (passes x front m after split at is b) =
+    let ok : whole_at items threads names line pieces ≡ Ok x = ap (whole_at items threads names line) split ∙ is after refl in
+    absurd (ok_or_err x e (sym ok ∙ failed))
+no_way_on items threads names line pieces e failed bad (refuses d front x tail p split at is) =
+    let same : d ≡ e = error_is d e (sym (ap (whole_at items threads names line) split ∙ is tail) ∙ failed) in (
+      x,
+      tail,
+      record { front = front; split = split; line_is = ap (λ (y : LitmusError). y.line) (sym same) ∙ at },
+      no_end x p,
+      λ others w. ok_or_err (w.0, w.1.0) d (sym (whole_again items threads names line (front ++ x ∷ others) w) ∙ is others),
+    )
+no_way_on items threads names line pieces e failed bad (at_once a d at is) = absurd a
+no_way_on items threads names line pieces e failed bad (other d is ne) = absurd (ne (ap (λ (y : LitmusError). y.kind) (error_is d e (sym is ∙ failed)) ∙ bad))
+
+pub refused_there : (items : List Item) (threads : ℕ) (names : Names) (line : ℕ) (pieces : List Piece) (e : LitmusError) → whole_at items threads names line pieces ≡ Err e → e.kind ≡ BadCondition
+    → HasNoWayOn items threads names line pieces e.line
+refused_there items threads names line pieces e failed bad = no_way_on items threads names line pieces e failed bad (whole_way items threads names line pieces)

@@ -1,16 +1,27 @@
 -- Why a condition is refused: for each kind of fault its cause, and the line where that stands.
-use Rattle.std.specs.Prelude.{◌≡◌, ℕ, ◌+◌, ◌<◌, ◌≤◌, ◌==◌, ◌||◌, ◌⊎◌, Bool, true, if◌then◌else◌, List, [], ◌∷◌, Some}
+use Rattle.std.specs.Prelude.{◌≡◌, ◌≢◌, ℕ, ◌+◌, ◌<◌, ◌≤◌, ◌==◌, ◌||◌, ◌⊎◌, Bool, true, if◌then◌else◌, List, [], ◌∷◌, ◌++◌, Some}
 use Rattle.litmus_grammar.specs.Pieces.{Piece, Word, Sign, LineEnd}
 use Rattle.litmus_grammar.specs.Spelling.{small_of, register_of}
 use Rattle.litmus_grammar.specs.declared.errors.Kind.{Kind}
 use Rattle.litmus_grammar.specs.declared.errors.Kind.TheVariants.{TooLarge, ValueRange, AddressAsValue, BadCondition, CutShort}
 use Rattle.litmus_parser.specs.Names.{Names, address_of, is_there}
 use Rattle.litmus_parser.specs.ReadingTable.{quantifier_of}
-use Rattle.litmus_parser.specs.ReadingAtoms.{is_and, is_or}
+use Rattle.litmus_parser.specs.Trees.{Tree}
+use Rattle.litmus_parser.specs.ReadingAtoms.{Sight, is_and, is_or}
 use Rattle.litmus_parser.specs.GrammarWords.{Next}
-use Rattle.litmus_parser.specs.Places.{Place, Somewhere, HasNumberAbove}
+use Rattle.litmus_parser.specs.GrammarCondition.{IsExpression, Ends}
+use Rattle.litmus_parser.specs.Places.{Place, HasNumberAbove}
 use Rattle.litmus_parser.specs.LocationFaults.{HasLocationTooMany}
 use Rattle.litmus_parser.specs.declared.syntax.Item.{Item}
+
+-- the pieces are an expression up to the end of the text; the names are those of the locations known before
+abbrev pub IsWhole : List Item → ℕ → Names → List Piece → Type 0
+IsWhole items threads names pieces = (tree : Tree) × (after : Sight) × (rest : List Piece) × IsExpression items threads 64 (names, 0) pieces tree after rest × Ends rest
+
+-- in line n stands a piece up to which the pieces begin no expression: whatever may follow, it isn't one
+abbrev pub HasNoWayOn : List Item → ℕ → Names → ℕ → List Piece → ℕ → Type 0
+HasNoWayOn items threads names line pieces n = (x : Piece) × (rest : List Piece) × (p : Place line pieces n (x ∷ rest)) × (x ≢ LineEnd)
+    × ((others : List Piece) → IsWhole items threads names (p.front ++ x ∷ others) → ⊥)
 
 -- how often a sign stands among the pieces
 unfoldable pub count_of : ℕ → List Piece → ℕ
@@ -46,7 +57,7 @@ IsTooDeep line pieces n = (rest : List Piece) × (p : Place line pieces n (Sign 
 
 -- the causes in an expression that begins in this line; the names are the locations of the initial block
 abbrev pub ExpressionCause : List Item → ℕ → Names → ℕ → List Piece → Kind → ℕ → Type 0
-ExpressionCause items threads names line pieces BadCondition n = Somewhere line pieces n
+ExpressionCause items threads names line pieces BadCondition n = HasNoWayOn items threads names line pieces n
 ExpressionCause items threads names line pieces CutShort n = Place line pieces n []
 ExpressionCause items threads names line pieces ValueRange n = HasNumberAbove 2147483647 line pieces n
 ExpressionCause items threads names line pieces AddressAsValue n = HasAddressRegister items threads line pieces n

@@ -18,7 +18,7 @@ use Rattle.litmus_parser.specs.declared.syntax.Item.{Item}
 abbrev pub IsWhole : List Item → ℕ → Names → List Piece → Type 0
 IsWhole items threads names pieces = (tree : Tree) × (after : Sight) × (rest : List Piece) × IsExpression items threads 64 (names, 0) pieces tree after rest × Ends rest
 
--- in line n stands a piece up to which the pieces begin no expression: whatever may follow, it isn't one
+-- in line n stands a piece up to which no expression goes: whatever follows it, the pieces are none
 abbrev pub HasNoWayOn : List Item → ℕ → Names → ℕ → List Piece → ℕ → Type 0
 HasNoWayOn items threads names line pieces n = (x : Piece) × (rest : List Piece) × (p : Place line pieces n (x ∷ rest)) × (x ≢ LineEnd)
     × ((others : List Piece) → IsWhole items threads names (p.front ++ x ∷ others) → ⊥)
@@ -37,7 +37,7 @@ is_due before (LineEnd ∷ pieces) = is_due before pieces
 is_due before (Word w ∷ pieces) = is_due (is_and w || is_or w) pieces
 is_due before (Sign b ∷ pieces) = is_due (b == 40) pieces
 
--- in an expression, which begins where one is due
+-- the same from the beginning of an expression, where one is due
 abbrev pub IsDue : List Piece → Type 0
 IsDue front = is_due true front ≡ true
 
@@ -47,11 +47,11 @@ HasAddressRegister items threads line pieces n = (tw rw : List ℕ) × (t r m : 
     × Place line pieces m (Word tw ∷ a) × Next a (Sign 58) b × Next b (Word rw) rest × Place line pieces n (Word rw ∷ rest)
     × (small_of 15 tw ≡ Some t) × (t < threads) × (register_of rw ≡ Some r) × (is_there (address_of t r items) ≡ true)
 
--- a 257th atom is due at a word of line n: each of the 256 in front of it has its sign =
+-- a 257th atom is due at a word of line n: the 256 in front of it have a sign = each
 abbrev pub HasAtomTooMany : ℕ → List Piece → ℕ → Type 0
 HasAtomTooMany line pieces n = (w : List ℕ) × (rest : List Piece) × (p : Place line pieces n (Word w ∷ rest)) × IsDue p.front × (256 ≤ count_of 61 p.front)
 
--- a parenthesis is opened in line n within 64 others, which were opened in front of it and not closed
+-- a parenthesis is opened in line n where 64 are open: so many more signs ( than ) stand in front of it
 abbrev pub IsTooDeep : ℕ → List Piece → ℕ → Type 0
 IsTooDeep line pieces n = (rest : List Piece) × (p : Place line pieces n (Sign 40 ∷ rest)) × IsDue p.front × (count_of 40 p.front ≡ count_of 41 p.front + 64)
 

@@ -4,3 +4,5 @@ pub mod BlockTakes
 pub mod FormTakes
 pub mod TableTakes
 pub mod ConditionTakes
+pub mod Onward
+pub mod WordsAgain

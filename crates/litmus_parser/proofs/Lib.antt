@@ -6,3 +6,4 @@ pub mod TableTakes
 pub mod ConditionTakes
 pub mod Onward
 pub mod WordsAgain
+pub mod OnwardHere

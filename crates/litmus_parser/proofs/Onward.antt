@@ -1,10 +1,10 @@
 -- What stands in front by the grammar is read, and the reading goes on behind it.
-use Rattle.std.proofs.Common.{◌≡◌, ℕ, ◌+◌, Bool, true, false, cond, eqb, List, [], ◌∷◌, Option, Some, None, Result, Ok, Err, refl, sym, ap, subst, ◌∙◌}
+use Rattle.std.proofs.Common.{◌≡◌, ℕ, ◌+◌, Bool, true, false, cond, eqb, List, [], ◌∷◌, Option, Some, Result, Ok, refl, ap, ◌∙◌}
 use Rattle.std.proofs.lemmas.Bool.{eq-eqb}
 use Rattle.litmus_grammar.specs.Pieces.{Piece, Word, Sign, LineEnd}
 use Rattle.litmus_grammar.specs.declared.errors.Kind.{Kind}
 use Rattle.litmus_grammar.specs.declared.errors.LitmusError.{LitmusError}
-use Rattle.litmus_grammar.specs.Reading.{◌>>=◌, Read, Passed, fails, as_word, as_sign, next_at, word_at, sign_at, expect_at}
+use Rattle.litmus_grammar.specs.Reading.{◌>>=◌, found, Read, Passed, fails, as_word, as_sign, next_at, word_at, sign_at, expect_at}
 use Rattle.litmus_parser.specs.GrammarWords.{Next}
 
 -- it is read as x, at some line, and the rest follows
@@ -16,6 +16,11 @@ pub record Again {X : Type 0} (read : Read X) (x : X) (rest : List Piece) : Type
 pub record Past (read : Passed) (rest : List Piece) : Type 0 where
   pub line : ℕ
   pub is : read ≡ Ok (line, rest)
+
+-- ---- readings one behind the other
+
+pub at_once : {X : Type 0} (read : Read X) (x : X) (line : ℕ) (rest : List Piece) → read ≡ Ok (x, line, rest) → Again read x rest
+at_once read x line rest e = record { line = line; is = e }
 
 pub onward : {X Y : Type 0} (read : Read X) (x : X) (middle : List Piece) (f : X × ℕ × List Piece → Read Y) (y : Y) (rest : List Piece)
     → Again read x middle → ((line : ℕ) → Again (f (x, line, middle)) y rest) → Again (read >>= f) y rest
@@ -32,6 +37,24 @@ onward_past read middle f y rest a go =
 -- the same reading in another form
 pub moved : {Y : Type 0} (read read' : Read Y) (y : Y) (rest : List Piece) → read ≡ read' → Again read' y rest → Again read y rest
 moved read read' y rest e a = record { line = a.line; is = e ∙ a.is }
+
+-- ---- with the place known
+
+pub bind_again : {A B : Type 0} (read : Result A LitmusError) (f : A → Result B LitmusError) (x : A) (y : Result B LitmusError) → read ≡ Ok x → f x ≡ y → (read >>= f) ≡ y
+bind_again read f x y e g = ap (λ r. r >>= f) e ∙ g
+
+pub found_again : {A B : Type 0} (kind : Kind) (o : Option A) (line : ℕ) (f : A → Result B LitmusError) (x : A) (y : Result B LitmusError) → o ≡ Some x → f x ≡ y → found kind o line f ≡ y
+found_again kind o line f x y e g = ap (λ p. found kind p line f) e ∙ g
+
+pub then_again : {A : Type 0} (b : Bool) (x y z : A) → b ≡ true → x ≡ z → cond b x y ≡ z
+then_again true x y z e g = g
+then_again false x y z e g = absurd cc
+
+pub else_again : {A : Type 0} (b : Bool) (x y z : A) → b ≡ false → y ≡ z → cond b x y ≡ z
+else_again true x y z e g = absurd cc
+else_again false x y z e g = g
+
+-- ---- over line ends
 
 pub next_again : (line : ℕ) (pieces : List Piece) (p : Piece) (rest : List Piece) → Next pieces p rest → Again (next_at line pieces) p rest
 unfolding next_at

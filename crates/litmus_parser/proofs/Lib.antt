@@ -7,3 +7,4 @@ pub mod ConditionTakes
 pub mod Onward
 pub mod WordsAgain
 pub mod OnwardHere
+pub mod BlockAgain

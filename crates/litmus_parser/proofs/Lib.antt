@@ -8,3 +8,4 @@ pub mod Onward
 pub mod WordsAgain
 pub mod OnwardHere
 pub mod BlockAgain
+pub mod ConditionAgain

@@ -9,3 +9,5 @@ pub mod WordsAgain
 pub mod OnwardHere
 pub mod BlockAgain
 pub mod ConditionAgain
+pub mod FormAgain
+pub mod TableAgain

@@ -23,7 +23,7 @@ use Rattle.litmus_parser.specs.declared.syntax.Item.{Item}
 use Rattle.litmus_parser.specs.declared.syntax.Cell.{Cell}
 use Rattle.litmus_parser.specs.declared.syntax.Quantifier.{Quantifier}
 use Rattle.litmus_parser.proofs.BlockAgain.{AreAlike, alike-address, alike-absent, block_again}
-use Rattle.litmus_parser.proofs.TableAgain.{header_again}
+use Rattle.litmus_parser.proofs.TableAgain.{header_again, rows_again}
 use Rattle.litmus_parser.proofs.ConditionAgain.{condition_again}
 use Rattle.litmus_reader.specs.Litmus.{Litmus, settings_of}
 use Rattle.litmus_reader.specs.Seen.{seen_in}
@@ -89,37 +89,33 @@ quantifier-ahead : (pieces after : List Piece) (w : List ℕ) (q : Quantifier) �
 unfolding quantifier_next
 quantifier-ahead pieces after w q e f = rw (e, f) refl
 
-abbrev RowsAgain : Type 0
-RowsAgain = (items items' : List Item) (threads line : ℕ) (pieces : List Piece) (cells : List Cell) (rest : List Piece) → ((t r : ℕ) → address_of t r items' ≡ address_of t r items)
-    → AreRows items threads 0 pieces None cells rest → quantifier_next rest ≡ true → (line' : ℕ) × (rows_at items' threads [] line pieces ≡ Ok (cells, line', rest))
-
-table_again : RowsAgain → (items items' : List Item) (line : ℕ) (pieces : List Piece) (threads : ℕ) (body_rows : List Piece) (cells : List Cell) (rest : List Piece)
+table_again : (items items' : List Item) (line : ℕ) (pieces : List Piece) (threads : ℕ) (body_rows : List Piece) (cells : List Cell) (rest : List Piece)
     → AreAlike items' items → IsHeaderRow pieces threads body_rows → AllByRecursion (λ item. IsThere threads item.name) items → AreRows items threads 0 body_rows None cells rest → quantifier_next rest ≡ true
     → (line' : ℕ) × (table_at items' line pieces ≡ Ok (threads, cells, line', rest))
 unfolding table_at
-table_again rows_again items items' line pieces threads body_rows cells rest alike header there rows ahead =
+table_again items items' line pieces threads body_rows cells rest alike header there rows ahead =
     let h = header_again line pieces threads body_rows header in
     let r = rows_again items items' threads h.0 body_rows cells rest (alike-address items' items alike) rows ahead in
     (r.0, rw (h.1, alike-absent threads items' items alike (there-none threads items there), r.1) refl)
 
 -- ---- the whole
 
-parts_again : RowsAgain → (text : List ℕ) (test : Litmus) → IsTest text test → parts_at text ≡ Ok test
+parts_again : (text : List ℕ) (test : Litmus) → IsTest text test → parts_at text ≡ Ok test
 unfolding parts_at
-parts_again rows_again text test h =
+parts_again text test h =
     let o = opening_again text test.name h.body h.length_is h.title h.header in
     let few : length (pieces_of h.body) ≤ 65536 = omega (arith, h.length_is, length-pieces h.body, header-within h.header, length-behind_line_feed text) in
     let b = block_again o.0 (pieces_of h.body) h.items h.named h.table few h.block in
-    let t = table_again rows_again h.items b.0 b.1 h.table test.threads h.body_rows test.cells h.rest b.3 h.header_row h.threads_there h.rows (quantifier-ahead h.rest h.condition.1 h.condition.0 test.quantifier h.condition.4 h.condition.5) in
+    let t = table_again h.items b.0 b.1 h.table test.threads h.body_rows test.cells h.rest b.3 h.header_row h.threads_there h.rows (quantifier-ahead h.rest h.condition.1 h.condition.0 test.quantifier h.condition.4 h.condition.5) in
     let c = condition_again h.items b.0 test.threads t.0 h.rest h.named test.quantifier test.tree test.locations (alike-address b.0 h.items b.3) h.condition in
     rw (o.1, b.2, t.1, c, b.3, ← h.items_are, ← h.seen) refl
 
-pub read_again : RowsAgain → (text : List ℕ) (test : Litmus) → IsTest text test → read_at text ≡ Ok test
+pub read_again : (text : List ℕ) (test : Litmus) → IsTest text test → read_at text ≡ Ok test
 unfolding read_at
-read_again rows_again text test h =
+read_again text test h =
     let small : ltb 65536 (length text) ≡ false = le-ltb _ _ h.length_is in
     let whole : eqb (prefix_len is_allowed text) (length text) ≡ true = eq-eqb _ _ (front-whole is_allowed text h.allowed) in
-    rw (small, whole, parts_again rows_again text test h) refl
+    rw (small, whole, parts_again text test h) refl
 
-pub only-told : RowsAgain → (text : List ℕ) (r : Result Test LitmusError) → Told test_of r (read_at text) → (test : Litmus) → IsTest text test → Told test_of r (Ok test)
-only-told rows_again text r told test h = subst (Told test_of r) (read_again rows_again text test h) told
+pub only-told : (text : List ℕ) (r : Result Test LitmusError) → Told test_of r (read_at text) → (test : Litmus) → IsTest text test → Told test_of r (Ok test)
+only-told text r told test h = subst (Told test_of r) (read_again text test h) told

@@ -6,3 +6,4 @@ pub mod Places
 pub mod Repeats
 pub mod LinesAgain
 pub mod RepeatsAgain
+pub mod LocationWords

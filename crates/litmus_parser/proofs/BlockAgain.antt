@@ -1,18 +1,17 @@
 -- The initial block of the grammar is read, item by item.
-use Rattle.std.proofs.Common.{◌≡◌, ◌≢◌, ℕ, zero, suc, ◌<◌, ◌≤◌, Bool, true, false, cond, eqb, ltb, leb, ◌&&◌, List, [], ◌∷◌, ◌++◌, length, map, Option, Some, None, Ok, refl, sym, ap, subst, ◌∙◌, inl, inr, append_assoc, arith}
-use Rattle.std.specs.Prelude.{not}
-use Rattle.std.specs.List.{list_any, list_all}
-use Rattle.std.proofs.lemmas.Bool.{and_parts, and_from, not-true, false_from_ne_true, both_ways, lt-ltb, leb-true, le-leb, ne_eqb}
+use Rattle.std.proofs.Common.{◌≡◌, ◌≢◌, ℕ, zero, suc, ◌<◌, ◌≤◌, Bool, true, false, cond, eqb, ltb, List, [], ◌∷◌, ◌++◌, length, map, Option, Some, Ok, refl, sym, ap, subst, ◌∙◌, inl, inr, append_assoc, arith}
+use Rattle.std.specs.List.{list_any, AllByRecursion}
+use Rattle.std.proofs.lemmas.Bool.{lt-ltb, ne_eqb}
 use Rattle.std.proofs.lemmas.List.{append-nil, map-append}
 use Rattle.litmus_grammar.specs.Pieces.{Piece, Word, Sign, LineEnd, between}
-use Rattle.litmus_grammar.specs.Spelling.{is_digit, is_number, number_of, small_of, register_of, is_name_byte, is_like_register, is_location}
+use Rattle.litmus_grammar.specs.Spelling.{is_number, number_of, register_of}
 use Rattle.litmus_grammar.specs.declared.errors.Kind.TheVariants.{BadInitial, ValueRange}
 use Rattle.litmus_grammar.specs.Reading.{◌>>=◌, Read, fails, next_at, word_at, sign_at, expect_at, repeat_at}
+use Rattle.litmus_grammar.proofs.LocationWords.{location-no_thread}
 use Rattle.litmus_grammar.proofs.RepeatsAgain.{repeat-more, repeat-last}
 use Rattle.litmus_parser.specs.Names.{Names, same_name, address_of}
 use Rattle.litmus_parser.specs.ReadingItems.{location_at, number_at, setting_at, register_item_at, location_item_at, item_of, item_at}
 use Rattle.litmus_parser.specs.ReadingBlock.{separated, added, whole_item_at, entry_at, unended, items_at, block_at}
-use Rattle.litmus_parser.specs.ReadingTable.{is_absent, absent_line}
 use Rattle.litmus_parser.specs.GrammarWords.{Next, IsValue, IsNumbered}
 use Rattle.litmus_parser.specs.GrammarBlock.{IsSetting, IsItem, AreItems, IsBlock}
 use Rattle.litmus_parser.specs.declared.syntax.Name.{Name}
@@ -23,30 +22,6 @@ use Rattle.litmus_parser.specs.declared.syntax.Item.{Item}
 use Rattle.litmus_parser.proofs.Onward.{Again, onward, onward_past, moved, bind_again, found_again, else_again, next_again, word_again, sign_again, expect_again}
 use Rattle.litmus_parser.proofs.OnwardHere.{end_line_again}
 use Rattle.litmus_parser.proofs.WordsAgain.{number_again, location_again}
-
--- ---- a location is no thread
-
-tens-digit : (a : ℕ) → between 49 57 a ≡ true → is_digit a ≡ true
-tens-digit a h =
-    let p = and_parts (leb 49 a) (leb a 57) h in
-    let low : 49 ≤ a = leb-true _ _ p.0 in
-    and_from (leb 48 a) (leb a 57) (le-leb _ _ (omega (arith, low))) p.1
-
-no_digit-no_ten : (a : ℕ) → is_digit a ≡ false → between 49 57 a ≡ false
-no_digit-no_ten a e = false_from_ne_true (between 49 57 a) (λ h. both_ways (is_digit a) e (tens-digit a h))
-
-location-no_digit : (first : ℕ) (rest : List ℕ) → is_location (first ∷ rest) ≡ true → is_digit first ≡ false
-location-no_digit first rest h =
-    let w : List ℕ = first ∷ rest in
-    let p = and_parts (not (is_digit first) && list_all is_name_byte w && leb (length w) 32) (not (is_like_register w)) h in
-    let q = and_parts (not (is_digit first) && list_all is_name_byte w) (leb (length w) 32) p.0 in
-    not-true (is_digit first) (and_parts (not (is_digit first)) (list_all is_name_byte w) q.0).0
-
-pub location-no_thread : (word : List ℕ) (most : ℕ) → is_location word ≡ true → small_of most word ≡ None
-location-no_thread [] most h = refl
-location-no_thread (a ∷ []) most h = rw (location-no_digit a [] h) refl
-location-no_thread (a ∷ b ∷ []) most h = rw (no_digit-no_ten a (location-no_digit a (b ∷ []) h)) refl
-location-no_thread (a ∷ b ∷ c ∷ rest) most h = refl
 
 -- ---- items
 
@@ -69,15 +44,15 @@ setting_again before line pieces w (Address m) after rest next s =
     onward (word_at BadInitial line pieces) w rest _ (Address m, after) rest (word_again BadInitial line pieces w rest next) (λ l.
     record { line = l; is = setting-address w m l before after rest _ s.0 s.1 })
 
-register_item_again : (thread r : ℕ) (before : Names) (setting : Setting) (after : Names) (line : ℕ) (rw_ vw : List ℕ) (a b c d rest : List Piece)
-    → Next a (Sign 58) b → Next b (Word rw_) c → Next c (Sign 61) d → Next d (Word vw) rest → register_of rw_ ≡ Some r → r ≢ 0 → IsSetting vw before setting after
+register_item_again : (thread r : ℕ) (before : Names) (setting : Setting) (after : Names) (line : ℕ) (which vw : List ℕ) (a b c d rest : List Piece)
+    → Next a (Sign 58) b → Next b (Word which) c → Next c (Sign 61) d → Next d (Word vw) rest → register_of which ≡ Some r → r ≢ 0 → IsSetting vw before setting after
     → Again (register_item_at thread before line a) (record { line = line; name = Register thread r; setting = setting }, after) rest
 unfolding register_item_at
-register_item_again thread r before setting after line rw_ vw a b c d rest colon word equals value is_register some s =
+register_item_again thread r before setting after line which vw a b c d rest colon word equals value is_register some s =
     let item : Item × Names = (record { line = line; name = Register thread r; setting = setting }, after) in
     onward_past (expect_at 58 BadInitial line a) b _ item rest (expect_again 58 BadInitial line a b colon) (λ l.
-    onward (word_at BadInitial l b) rw_ c _ item rest (word_again BadInitial l b rw_ c word) (λ m.
-    moved _ _ item rest (found_again BadInitial (register_of rw_) m _ r _ is_register refl) (moved _ _ item rest (else_again (eqb r 0) _ _ _ (ne_eqb r 0 some) refl) (
+    onward (word_at BadInitial l b) which c _ item rest (word_again BadInitial l b which c word) (λ m.
+    moved _ _ item rest (found_again BadInitial (register_of which) m _ r _ is_register refl) (moved _ _ item rest (else_again (eqb r 0) _ _ _ (ne_eqb r 0 some) refl) (
     onward_past (expect_at 61 BadInitial m c) d _ item rest (expect_again 61 BadInitial m c d equals) (λ n.
     onward (setting_at before n d) (setting, after) rest _ item rest (setting_again before n d vw setting after rest value s) (λ o.
     record { line = o; is = refl }))))))
@@ -171,23 +146,12 @@ alike-address [] (item ∷ items) e t r = absurd cc
 alike-address (item' ∷ items') [] e t r = absurd cc
 alike-address (item' ∷ items') (item ∷ items) e t r = let p = alike-parts item' item items' items e in rw (p.name, p.setting, alike-address items' items p.rest t r) refl
 
-some_absent : (b : Bool) (x : ℕ) (o : Option ℕ) → b ≡ false → o ≡ None → cond b (Some x) o ≡ None
-some_absent b x o e n = rw (e, n) refl
-
-none_absent : (b : Bool) (x : ℕ) (o : Option ℕ) → cond b (Some x) o ≡ None → (b ≡ false) × (o ≡ None)
-none_absent true x o e = absurd cc
-none_absent false x o e = (refl, e)
-
--- none is for a thread that is not there
-pub alike-absent : (threads : ℕ) (items' items : List Item) → AreAlike items' items → absent_line threads items ≡ None → absent_line threads items' ≡ None
-unfolding absent_line
-alike-absent threads [] [] e none = refl
-alike-absent threads [] (item ∷ items) e none = absurd cc
-alike-absent threads (item' ∷ items') [] e none = absurd cc
-alike-absent threads (item' ∷ items') (item ∷ items) e none =
-    let p = alike-parts item' item items' items e in
-    let n = none_absent (is_absent threads item.name) item.line (absent_line threads items) none in
-    some_absent (is_absent threads item'.name) item'.line (absent_line threads items') (ap (is_absent threads) p.name ∙ n.0) (alike-absent threads items' items p.rest n.1)
+-- what holds of every name
+pub alike-all : (P : Name → Type 0) (items' items : List Item) → AreAlike items' items → AllByRecursion (λ item. P item.name) items → AllByRecursion (λ item. P item.name) items'
+alike-all P [] [] e h = tt
+alike-all P [] (item ∷ items) e h = tt
+alike-all P (item' ∷ items') [] e h = absurd cc
+alike-all P (item' ∷ items') (item ∷ items) e h = let p = alike-parts item' item items' items e in (subst P (sym p.name) h.0, alike-all P items' items p.rest h.1)
 
 -- ---- the block
 

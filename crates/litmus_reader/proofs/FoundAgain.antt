@@ -1,6 +1,6 @@
 -- Every text of the grammar is read, as the test that it stands for.
-use Rattle.std.proofs.Common.{◌≡◌, ℕ, zero, suc, ◌+◌, ◌<◌, ◌≤◌, Bool, true, false, eqb, ltb, List, [], ◌∷◌, length, Option, Some, None, Result, Ok, refl, sym, ap, subst, ◌∙◌, arith}
-use Rattle.std.specs.List.{list_all, prefix_len, AllByRecursion}
+use Rattle.std.proofs.Common.{◌≡◌, ℕ, zero, suc, ◌+◌, ◌<◌, ◌≤◌, true, false, eqb, ltb, List, [], ◌∷◌, length, Some, None, Result, Ok, refl, subst, arith}
+use Rattle.std.specs.List.{prefix_len, AllByRecursion}
 use Rattle.std.proofs.lemmas.Bool.{ne_eqb, eq-eqb, le-ltb, lt-leb}
 use Rattle.litmus_grammar.specs.Pieces.{Piece, Word, pieces_of}
 use Rattle.litmus_grammar.specs.FirstLines.{IsTitle, title_of, is_header_line, begins_block, before_line_feed, behind_line_feed}
@@ -10,23 +10,20 @@ use Rattle.litmus_grammar.proofs.Fronts.{front-whole}
 use Rattle.litmus_grammar.proofs.Titles.{title-again}
 use Rattle.litmus_grammar.proofs.LinesAgain.{header_line-no_block, block-some, length-behind_line_feed, length-pieces}
 use Rattle.litmus_grammar.proofs.RepeatsAgain.{repeat-more, repeat-last}
-use Rattle.litmus_parser.specs.Names.{Names, address_of}
 use Rattle.litmus_parser.specs.ReadingHeader.{Lines, first_line_at, header_line_at, cut_short, opening_at}
 use Rattle.litmus_parser.specs.ReadingHeader as heads
-use Rattle.litmus_parser.specs.ReadingTable.{is_absent, absent_line, quantifier_of, quantifier_next, header_at, rows_at}
+use Rattle.litmus_parser.specs.ReadingTable.{is_absent, absent_line, quantifier_of, quantifier_next}
 use Rattle.litmus_parser.specs.Reachable.{is_allowed}
 use Rattle.litmus_parser.specs.GrammarTable.{IsHeaderRow, AreRows}
-use Rattle.litmus_parser.specs.GrammarCondition.{IsCondition}
 use Rattle.litmus_parser.specs.declared.syntax.Name.{Name}
 use Rattle.litmus_parser.specs.declared.syntax.Name.TheVariants.{Register, Location}
 use Rattle.litmus_parser.specs.declared.syntax.Item.{Item}
 use Rattle.litmus_parser.specs.declared.syntax.Cell.{Cell}
 use Rattle.litmus_parser.specs.declared.syntax.Quantifier.{Quantifier}
-use Rattle.litmus_parser.proofs.BlockAgain.{AreAlike, alike-address, alike-absent, block_again}
+use Rattle.litmus_parser.proofs.BlockAgain.{AreAlike, alike-address, alike-all, block_again}
 use Rattle.litmus_parser.proofs.TableAgain.{header_again, rows_again}
 use Rattle.litmus_parser.proofs.ConditionAgain.{condition_again}
-use Rattle.litmus_reader.specs.Litmus.{Litmus, settings_of}
-use Rattle.litmus_reader.specs.Seen.{seen_in}
+use Rattle.litmus_reader.specs.Litmus.{Litmus}
 use Rattle.litmus_reader.specs.TestViews.{test_of}
 use Rattle.litmus_reader.specs.ReadingTest.{table_at, parts_at, read_at, Told}
 use Rattle.litmus_reader.specs.Grammar.{IsHeader, ends, more, IsThere, IsTest}
@@ -96,7 +93,7 @@ unfolding table_at
 table_again items items' line pieces threads body_rows cells rest alike header there rows ahead =
     let h = header_again line pieces threads body_rows header in
     let r = rows_again items items' threads h.0 body_rows cells rest (alike-address items' items alike) rows ahead in
-    (r.0, rw (h.1, alike-absent threads items' items alike (there-none threads items there), r.1) refl)
+    (r.0, rw (h.1, there-none threads items' (alike-all (IsThere threads) items' items alike there), r.1) refl)
 
 -- ---- the whole
 

@@ -75,7 +75,8 @@ impl System {
     }
 
     /// One event. The answer and the machine afterwards are those of the machine's table, or the answer is NoMemory,
-    /// where a growth was refused, and the machine is as it was.
+    /// where a growth was refused, and the machine is as it was. That is only where the table issues an operation or
+    /// sends a message: nothing else takes memory.
     pub fn step(&mut self, event: Event) -> Answer
         ensures stepped { Stepped self.old event result self.new }
         ensures set_up { SetUpAs self.old self.new }

@@ -5,9 +5,9 @@ pub mod FormTakes
 pub mod TableTakes
 pub mod ConditionTakes
 pub mod Onward
-pub mod WordsAgain
 pub mod OnwardHere
-pub mod BlockAgain
-pub mod ConditionAgain
 pub mod FormAgain
 pub mod TableAgain
+pub mod WordsAgain
+pub mod ConditionAgain
+pub mod BlockAgain

@@ -52,14 +52,18 @@ registers_after does.Fence registers m = registers
 abbrev pub with_at : {X : Type 0} → (ℕ → X) → ℕ → X → ℕ → X
 with_at table t x u = if u == t then x else table u
 
--- any thread that has an instruction left does its next one
+-- what is there when a thread has done an instruction, and has the rest left: other threads are as they were
+abbrev pub after_one : State → ℕ → Instruction → List Cell → State
+after_one s t instruction rest =
+    record {
+      memory = memory_after instruction (s.registers t) s.memory;
+      registers = with_at s.registers t (registers_after instruction (s.registers t) s.memory);
+      left = with_at s.left t rest;
+    }
+
+-- any thread that has instructions left does the first of them
 pub data Step : State → State → Type 0 where
-  next : {s : State} (t : ℕ) (cell : Cell) (rest : List Cell) → s.left t ≡ cell ∷ rest →
-      Step s (record {
-        memory = memory_after cell.instruction (s.registers t) s.memory;
-        registers = with_at s.registers t (registers_after cell.instruction (s.registers t) s.memory);
-        left = with_at s.left t rest;
-      })
+  next : {s : State} (t : ℕ) (cell : Cell) (rest : List Cell) → s.left t ≡ cell ∷ rest → Step s (after_one s t cell.instruction rest)
 
 -- no step, or steps and one more
 pub data Steps : State → State → Type 0 where

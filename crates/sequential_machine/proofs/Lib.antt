@@ -1,3 +1,6 @@
 pub mod Tables
 pub mod Stepping
 pub mod Runs
+pub mod Places
+pub mod Names
+pub mod Outcomes

@@ -4,3 +4,4 @@ pub mod Runs
 pub mod Places
 pub mod Names
 pub mod Outcomes
+pub mod Turns

@@ -1,5 +1,5 @@
 -- The names that a test's condition names are there: registers of its threads, and locations that it numbers.
-use Rattle.std.proofs.Common.{◌≡◌, ℕ, zero, suc, ◌+◌, ◌<◌, ◌≤◌, List, [], ◌∷◌, ◌++◌, length, inl, inr, refl, arith, length-append}
+use Rattle.std.proofs.Common.{ℕ, zero, suc, ◌<◌, ◌≤◌, List, [], ◌∷◌, ◌++◌, length, inl, inr, arith, length-append}
 use Rattle.std.specs.List.{list_any, AllByRecursion as Each}
 use Rattle.std.proofs.lemmas.Bool.{cond_both}
 use Rattle.litmus_grammar.specs.Pieces.{Piece}
@@ -7,7 +7,7 @@ use Rattle.litmus_parser.specs.Names.{Names, same_name}
 use Rattle.litmus_parser.specs.Trees.{Tree, Is, Both, Either}
 use Rattle.litmus_parser.specs.ReadingAtoms.{Sight}
 use Rattle.litmus_parser.specs.GrammarWords.{IsNumbered}
-use Rattle.litmus_parser.specs.GrammarCondition.{IsNamed, IsAtom, and_word, or_word, Part, Chained, one, more, IsFactor, IsExpression, IsCondition}
+use Rattle.litmus_parser.specs.GrammarCondition.{IsNamed, IsAtom, and_word, or_word, Part, Chained, one, more, IsFactor, IsCondition}
 use Rattle.litmus_parser.specs.declared.syntax.Item.{Item}
 use Rattle.litmus_parser.specs.declared.syntax.Name.{Name}
 use Rattle.litmus_parser.specs.declared.syntax.Name.TheVariants.{Register, Location}
@@ -40,9 +40,9 @@ numbered_there word before number after h =
     elim h.2 [
       | inl k ↦ (rw (k.1) (omega arith), rw (k.1) k.0)
       | inr k ↦ (
-          rw (k.2, length-append before (word ∷ [])) (omega arith),
-          rw (k.2, length-append before (word ∷ []), k.0) (omega arith),
-        )
+        rw (k.2, length-append before (word ∷ [])) (omega arith),
+        rw (k.2, length-append before (word ∷ []), k.0) (omega arith),
+      )
     ]
 
 named_there : (items : List Item) (threads : ℕ) (pieces : List Piece) (before : Names) (name : Name) (after : Names) (rest : List Piece) → IsNamed items threads pieces before name after rest →

@@ -12,10 +12,10 @@ use Rattle.litmus_reader.specs.Litmus.{Litmus}
 use Rattle.litmus_reader.specs.ThreadSteps.{Thread, or_zero, value_in, next_of}
 use Rattle.litmus_reader.specs.Truth.{register_in, end_value}
 use Rattle.litmus_reader.specs.Grammar.{IsTest}
-use Rattle.sequential_machine.specs.SequentialMachine.{State, memory_opened, opening, value_at, IsOutcome}
+use Rattle.sequential_machine.specs.SequentialMachine.{State, memory_opened, value_at, IsOutcome}
 use Rattle.sequential_machine.specs.Performed.{Performs, ArePerformed}
 use Rattle.sequential_machine.proofs.Stepping.{StandsAt, none_left}
-use Rattle.sequential_machine.proofs.Runs.{Runs, start, whole}
+use Rattle.sequential_machine.proofs.Runs.{start, whole}
 use Rattle.sequential_machine.proofs.Places.{each_permutation, same_of_core}
 use Rattle.sequential_machine.proofs.Names.{IsThere, names_there}
 

@@ -1,16 +1,15 @@
 -- From the opening, threads that were performed to their end are a run of the sequential machine.
-use Rattle.std.proofs.Common.{◌≡◌, ◌≢◌, ℕ, zero, suc, ◌<◌, ◌≤◌, true, cond, eqb, List, [], ◌∷◌, map, Option, Some, None, refl, sym, ap, ◌∙◌, subst, arith, ⊎_elim}
+use Rattle.std.proofs.Common.{◌≡◌, ◌≢◌, ℕ, zero, suc, ◌<◌, ◌≤◌, eqb, List, [], ◌∷◌, map, Option, refl, sym, ap, ◌∙◌, subst, arith, ⊎_elim}
 use Rattle.std.specs.List.{AllByRecursion as Each}
 use Rattle.std.proofs.lemmas.Bool.{cases_eq, cond-true, cond-false, eq-eqb, ne_eqb}
-use Rattle.physiological_order.specs.declared.operation.Op.{Op}
 use Rattle.physiological_order.specs.declared.operation.Record.{Record}
 use Rattle.physiological_order.specs.Order.{Memory, flat_received, flat_after, replay, replay_end, of_core, ReceivesAsReplayed}
 use Rattle.litmus_reader.specs.Litmus.{Litmus}
-use Rattle.litmus_reader.specs.ThreadSteps.{Thread, settled, next_of, done_with}
+use Rattle.litmus_reader.specs.ThreadSteps.{Thread, settled, done_with}
 use Rattle.sequential_machine.specs.SequentialMachine.{State, cells_of, registers_opened, memory_opened, opening, with_at, Steps, none}
 use Rattle.sequential_machine.specs.Performed.{Performs}
 use Rattle.sequential_machine.proofs.Tables.{everywhere}
-use Rattle.sequential_machine.proofs.Stepping.{joined, StandsAt, Goes, settles, performs}
+use Rattle.sequential_machine.proofs.Stepping.{joined, StandsAt, settles, performs}
 
 -- steps after which the memory is this one, and the first n threads stand so
 pub record Runs (n : ℕ) (s : State) (m : Memory) (threads : ℕ → Thread) : Type 0 where
@@ -43,11 +42,11 @@ runs n (r ∷ rs) s q last stand there performed values =
     let after = done_with (q c) r.received in
     let g = performs s c (q c) r.op r.received (stand c there.0) p.0 v.0 in
     let i = runs n rs g.end (with_at q c after) last
-        (everywhere (λ t x. t < n → StandsAt g.end t x) q c after (λ lt. g.stands) (λ u ne lt. still s g.end u (q u) (g.others u ne) (stand u lt)))
-        there.1
-        (everywhere (λ t x. t < n → Performs x (of_core t rs) (last t)) q c after (λ lt. p.1)
-        (λ u ne lt. subst (λ (xs : List Record). Performs (q u) xs (last u)) (none_of_core u r rs ne) (performed u lt)))
-        (subst (λ (m : Memory). ReceivesAsReplayed m rs) (sym g.memory) v.1) in
+    (everywhere (λ t x. t < n → StandsAt g.end t x) q c after (λ lt. g.stands) (λ u ne lt. still s g.end u (q u) (g.others u ne) (stand u lt)))
+    there.1
+    (everywhere (λ t x. t < n → Performs x (of_core t rs) (last t)) q c after (λ lt. p.1)
+    (λ u ne lt. subst (λ (xs : List Record). Performs (q u) xs (last u)) (none_of_core u r rs ne) (performed u lt)))
+    (subst (λ (m : Memory). ReceivesAsReplayed m rs) (sym g.memory) v.1) in
     record {
       end = i.end;
       steps = joined s g.end i.end g.steps i.steps;

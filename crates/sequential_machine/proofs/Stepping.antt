@@ -1,5 +1,5 @@
 -- Steps of one thread: its instructions without memory, up to its next memory instruction, and a memory instruction.
-use Rattle.std.proofs.Common.{◌≡◌, ◌≢◌, ℕ, true, false, cond, eqb, List, [], ◌∷◌, Option, Some, None, refl, sym, ap₂, ◌∙◌, subst}
+use Rattle.std.proofs.Common.{◌≡◌, ◌≢◌, ℕ, eqb, List, [], ◌∷◌, Option, Some, None, refl, sym, ap₂, ◌∙◌, subst}
 use Rattle.std.proofs.lemmas.Bool.{cond_both, cond-true, eqb-true, eq-eqb}
 use Rattle.physiological_order.specs.declared.operation.Op.{Op}
 use Rattle.physiological_order.specs.declared.operation.Op.TheVariants as op
@@ -8,7 +8,7 @@ use Rattle.litmus_parser.specs.declared.syntax.Cell.{Cell}
 use Rattle.litmus_parser.specs.declared.syntax.Instruction.{Instruction}
 use Rattle.litmus_parser.specs.declared.syntax.Instruction.TheVariants as does
 use Rattle.litmus_reader.specs.ThreadSteps.{Thread, value_in, after_local, goes_on, settled, operation_of, first_operation, next_of, received_by, behind_first, done_with}
-use Rattle.sequential_machine.specs.SequentialMachine.{State, cells_of, memory_after, registers_after, with_at, after_one, Step, next, Steps, none, more}
+use Rattle.sequential_machine.specs.SequentialMachine.{State, cells_of, memory_after, registers_after, after_one, next, Steps, none, more}
 use Rattle.sequential_machine.proofs.Tables.{here, elsewhere}
 
 pub joined : (s u v : State) → Steps s u → Steps u v → Steps s v

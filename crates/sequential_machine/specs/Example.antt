@@ -1,5 +1,5 @@
 -- Two threads that each store 1 to a location and then load the other's.
-use Rattle.std.specs.Prelude.{ℕ, List, [], ◌∷◌}
+use Rattle.std.specs.Prelude.{ℕ, [], ◌∷◌}
 use Rattle.litmus_parser.specs.Trees.{Is}
 use Rattle.litmus_parser.specs.declared.syntax.Name.TheVariants.{Register}
 use Rattle.litmus_parser.specs.declared.syntax.Cell.{Cell}

@@ -5,3 +5,4 @@ pub mod Places
 pub mod Names
 pub mod Outcomes
 pub mod Turns
+pub mod NeverBoth

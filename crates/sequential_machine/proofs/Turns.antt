@@ -52,7 +52,7 @@ unfolding words_opened opened
 both_receive_one = record { last = by_turns (opening store_buffering) stores_first; steps = turns (opening store_buffering) stores_first; finished = through; values_are = refl }
 
 -- every word opens as 0
-unset : (a : ℕ) → memory_opened store_buffering a ≡ 0
+pub unset : (a : ℕ) → memory_opened store_buffering a ≡ 0
 unfolding words_opened
 unset a = ap (λ (o : Option ℕ). unwrap_or o 0) (get-empty nat_cmp a)
 

@@ -21,9 +21,10 @@ pub fn performed_histories_are_sequential()
         IsOutcome test (map (end_value threads memory) test.seen) }
 {}
 
-/// The machine does run: of two threads that each store 1 and load the other's location, both may receive the 1, or
-/// one of them may receive the 0 that was there.
+/// The machine does run, and by turns: of two threads that each store 1 and then load the other's location, both may
+/// receive the 1, or one of them the 0 that was there, but never both.
 pub fn store_buffering_runs()
     ensures both { IsOutcome store_buffering (1 ∷ 1 ∷ []) }
     ensures one { IsOutcome store_buffering (0 ∷ 1 ∷ []) }
+    ensures neither { IsOutcome store_buffering (0 ∷ 0 ∷ []) → ⊥ }
 {}

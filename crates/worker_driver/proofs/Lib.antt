@@ -7,3 +7,4 @@ pub mod InProgram
 pub mod TableSteps
 pub mod Serving
 pub mod RunLaws
+pub mod Served

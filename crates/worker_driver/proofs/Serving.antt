@@ -1,5 +1,5 @@
 -- What a run keeps of its start: each program was told of its core's records, and gives next what is still open.
-use Rattle.std.proofs.Common.{◌≡◌, ◌≢◌, ◌⊎◌, inl, inr, ℕ, ◌<◌, Bool, true, false, List, [], ◌∷◌, ◌++◌, set, Option, Some, None, IfSome, refl, sym, ap, ◌∙◌, subst, ⊎_elim, append-nil, append-assoc}
+use Rattle.std.proofs.Common.{◌≡◌, ◌≢◌, ◌⊎◌, inl, inr, ℕ, ◌<◌, Bool, true, false, List, [], ◌∷◌, ◌++◌, set, Option, Some, None, IfSome, refl, sym, ap, ◌∙◌, subst, ⊎_elim, append-nil, append_assoc}
 use Rattle.std.specs.Prelude.{slice_get}
 use Rattle.std.specs.List.{AllByRecursion}
 use Rattle.std.proofs.lemmas.Bool.{cases_eq}
@@ -86,7 +86,7 @@ module _ {P : Type 0} (acts : Acts P) where
       served_done c done below is =
           record {
             added = so_far.added ++ done ∷ [];
-            records = is.records ∙ ap (λ rs. rs ++ done ∷ []) so_far.records ∙ append-assoc start.records so_far.added (done ∷ []);
+            records = is.records ∙ ap (λ rs. rs ++ done ∷ []) so_far.records ∙ append_assoc start.records so_far.added (done ∷ []);
             there = each_push (λ r. r.core < start.config.cores) so_far.added done so_far.there (subst (λ (k : ℕ). k < start.config.cores) (sym is.core) below);
             gone = λ core none p at. by_core core p (cases_eq core c) (so_far.gone core none p at);
           }

@@ -3,7 +3,7 @@ use Rattle.std.proofs.Common.{◌≡◌, ◌⊎◌, ℕ, ◌+◌, ◌<◌, ◌==
 use Rattle.std.specs.Prelude.{slice_get, option_map}
 use Rattle.std.proofs.lemmas.Bool.{cond_both, true≢false, false≢true}
 use Rattle.std.proofs.lemmas.Option.{slice_get_within}
-use Rattle.std.proofs.lemmas.List.{map-append}
+use Rattle.std.proofs.lemmas.List.{length-map, map-append}
 use Rattle.std.proofs.lemmas.List.Elements.{filter-append}
 use Rattle.physiological_order.specs.declared.operation.Op.{Op}
 use Rattle.physiological_order.specs.declared.operation.Record.{Record}
@@ -39,6 +39,79 @@ use Rattle.worker_driver.proofs.RunLaws.{goes_keeps, made_by, run_makes}
 has_core : (cores : List CoreState) (c : ℕ) (o : Option CoreState) (op : Op) → slice_get cores c ≡ o → op_of o ≡ Some op → c < length cores
 has_core cores c None op at is = absurd (cc)
 has_core cores c (Some core) op at is = slice_get_within cores c core at
+
+-- the open operation, with and without whether its request is out
+opens_same : (m : Machine) (core : ℕ) → still_open (open_op m core) ≡ listed (op_at m core)
+opens_same m core = by_core (slice_get m.cores core)
+  where
+    by_op : (out : Bool) (o : Option Op) → still_open (option_map (λ op. (op, out)) o) ≡ listed o
+    by_op out None = refl
+    by_op out (Some op) = refl
+
+    by_core : (o : Option CoreState) → still_open (open_op_of o) ≡ listed (op_of o)
+    by_core None = refl
+    by_core (Some state) = by_op state.is_out state.open_op
+
+none_open : (m : Machine) (core : ℕ) → open_op m core ≡ None → op_at m core ≡ None
+none_open m core none = by_core (slice_get m.cores core) none
+  where
+    by_op : (out : Bool) (o : Option Op) → option_map {U = Op × Bool} (λ op. (op, out)) o ≡ None → o ≡ None
+    by_op out None none = refl
+    by_op out (Some op) none = absurd (cc)
+
+    by_core : (o : Option CoreState) → open_op_of o ≡ None → op_of o ≡ None
+    by_core None none = refl
+    by_core (Some state) none = by_op state.is_out state.open_op none
+
+if_open : (m : Machine) (core : ℕ) (K : Op → Type 0) → IfSome (op_at m core) K → IfSome (open_op m core) (λ o. K o.0)
+if_open m core K is = by_core (slice_get m.cores core) is
+  where
+    by_op : (out : Bool) (o : Option Op) → IfSome o K → IfSome {T = Op × Bool} (option_map (λ op. (op, out)) o) (λ x. K x.0)
+    by_op out None is = tt
+    by_op out (Some op) is = is
+
+    by_core : (o : Option CoreState) → IfSome (op_of o) K → IfSome (open_op_of o) (λ x. K x.0)
+    by_core None is = tt
+    by_core (Some state) is = by_op state.is_out state.open_op is
+
+-- of a machine that stands
+module _ (m : Machine) (s : Stands m) (core : ℕ) where
+  abbrev ops : List Op
+  ops = get_or m.issued core []
+
+  of_program : Stand 0 ops (of_core core m.records)
+  of_program = in_program (set_up m) s.whole.some_words (view m) s.reached core
+
+  seen : (o : Option CoreState) → (core_seen o).open_op ≡ op_of o
+  seen None = refl
+  seen (Some state) = refl
+
+  all_issued : ops ≡ map (λ r. r.op) (of_core core m.records) ++ listed (op_at m core)
+  all_issued = issued_is (of_core core m.records) ops (op_at m core) of_program
+      (subst (Opened ops (length (of_core core m.records))) (seen (slice_get m.cores core)) ((reached_ok (set_up m) s.whole.some_words (view m) s.reached).cores core).opened)
+
+-- between two machines that stand, where nothing was open at the first
+module _ (m after : Machine) (s : Stands m) (t : Stands after) (added : List Record) (more : after.records ≡ m.records ++ added) (core : ℕ) (none : op_at m core ≡ None) where
+  parts : of_core core after.records ≡ of_core core m.records ++ of_core core added
+  parts = ap (of_core core) more ∙ filter-append (λ (r : Record). r.core == core) m.records added
+
+  first : get_or m.issued core [] ≡ map (λ r. r.op) (of_core core m.records)
+  first = all_issued m s core ∙ ap (λ (o : Option Op). map (λ r. r.op) (of_core core m.records) ++ listed o) none ∙ append-nil (map (λ r. r.op) (of_core core m.records))
+
+  issued_more : get_or after.issued core [] ≡ get_or m.issued core [] ++ (map (λ r. r.op) (of_core core added) ++ still_open (open_op after core))
+  issued_more =
+      all_issued after t core
+      ∙ ap (λ (rs : List Record). map (λ r. r.op) rs ++ listed (op_at after core)) parts
+      ∙ ap (λ (os : List Op). os ++ listed (op_at after core)) (map-append (λ (r : Record). r.op) (of_core core m.records) (of_core core added))
+      ∙ append_assoc (map (λ r. r.op) (of_core core m.records)) (map (λ r. r.op) (of_core core added)) (listed (op_at after core))
+      ∙ ap (λ (os : List Op). os ++ (map (λ r. r.op) (of_core core added) ++ listed (op_at after core))) (sym first)
+      ∙ ap (λ (os : List Op). get_or m.issued core [] ++ (map (λ r. r.op) (of_core core added) ++ os)) (sym (opens_same after core))
+
+  added_in_order : Stand (length (get_or m.issued core [])) (get_or after.issued core []) (of_core core added)
+  added_in_order =
+      let count : 0 + length (of_core core m.records) ≡ length (get_or m.issued core []) = omega (arith, ap length first, length-map {B = Op} (of_core core m.records) (λ (r : Record). r.op)) in
+      subst (λ (n : ℕ). Stand n (get_or after.issued core []) (of_core core added)) count
+      (behind (of_core core m.records) (of_core core added) 0 (get_or after.issued core []) (subst (Stand 0 (get_or after.issued core [])) parts (of_program after t core)))
 
 module _ {P : Type 0} (acts : Acts P) (plan : Plan) (start : Position P) where
   -- a program is told of completions alone
@@ -156,3 +229,23 @@ module _ {P : Type 0} (acts : Acts P) (plan : Plan) (start : Position P) where
       let set_up_as = after_all_same start.machine taken in
       goes_on before (follows_kept stands before taken follows)
       (so.whole.core_count ∙ ap (λ (m : Machine). m.config.cores) made ∙ ap (λ c. c.cores) set_up_as.config) event next
+
+  pub all_served : Stands start.machine → (events : List Event) (m : Machine) (programs : List P) (e : End) → Ended acts plan start events m programs e →
+      AreServed acts start.machine m start.programs programs
+  all_served stands events m programs e ended =
+      let kept : Kept m programs = rw (ended.machine_is, ended.programs_are) at (follows_kept stands ended.last events ended.follows) in
+      let stands_after : Stands m = subst Stands (sym (run_makes acts plan start events m programs e ended)) (any_events start.machine stands events) in
+      record {
+        added = kept.added;
+        records = kept.records;
+        there = kept.there;
+        each = λ core below none.
+            let closed = none_open start.machine core none in
+            record {
+              issued = issued_more start.machine m stands stands_after kept.added kept.records core closed;
+              in_order = added_in_order start.machine m stands stands_after kept.added kept.records core closed;
+              told = λ p at.
+                  let gone = kept.gone core closed p at in
+                  (gone.0, gone.1, gone.2, if_open m core (λ op. acts.next gone.0 ≡ Some op) gone.3);
+            };
+      }

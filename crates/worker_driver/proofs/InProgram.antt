@@ -1,5 +1,5 @@
 -- The records of a core, as they complete, are of the operations that it was issued, in their order.
-use Rattle.std.proofs.Common.{◌≡◌, ◌≢◌, ℕ, zero, suc, ◌+◌, ◌<◌, Bool, List, [], ◌∷◌, ◌++◌, length, map, drop, cond, eqb, get_or, Option, Some, None, refl, sym, ap, ◌∙◌, subst, arith, ⊎_elim, append-nil, length-append}
+use Rattle.std.proofs.Common.{◌≡◌, ◌≢◌, ℕ, zero, suc, ◌+◌, ◌<◌, Bool, List, [], ◌∷◌, ◌++◌, length, map, drop, cond, eqb, Option, Some, None, refl, sym, ap, ◌∙◌, subst, arith, ⊎_elim, append-nil}
 use Rattle.std.specs.Prelude.{slice_get}
 use Rattle.std.proofs.lemmas.Bool.{cases_eq, eq-eqb, ne_eqb}
 use Rattle.std.proofs.Math.Seq.{drop-length}
@@ -8,7 +8,7 @@ use Rattle.physiological_order.specs.declared.operation.Op.{Op}
 use Rattle.physiological_order.specs.declared.operation.Record.{Record}
 use Rattle.physiological_order.specs.Order.{Follows, of_core}
 use Rattle.physiological_order.proofs.Arranged.{Follows-push, Follows-issued}
-use Rattle.line_machine.specs.Machine.{Config, Machine, Turn, issue, advance, ask, answer, complete, move, Reached, at_first, goes_on, with_at}
+use Rattle.line_machine.specs.Machine.{Config, Machine, Turn, issue, advance, ask, answer, complete, move, Reached, at_first, goes_on}
 use Rattle.line_machine.proofs.Lines.{with_at_cases}
 use Rattle.line_machine.proofs.Headline.{MachineOk, Opened, reached_ok}
 

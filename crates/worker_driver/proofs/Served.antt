@@ -1,7 +1,7 @@
 -- Whatever the end of a run, each core was issued what its program gave, and the program was told of each record.
-use Rattle.std.proofs.Common.{◌≡◌, ◌⊎◌, ℕ, ◌+◌, ◌<◌, ◌==◌, nat_lt, Bool, true, false, ◌||◌, List, [], ◌∷◌, ◌++◌, length, map, get_or, Option, Some, None, IfSome, refl, sym, ap, ◌∙◌, subst, ⊎_elim, arith, append-nil, append_assoc}
+use Rattle.std.proofs.Common.{◌≡◌, ℕ, ◌+◌, ◌<◌, ◌==◌, nat_lt, Bool, true, false, ◌||◌, List, [], ◌∷◌, ◌++◌, length, map, get_or, Option, Some, None, IfSome, refl, sym, ap, ◌∙◌, subst, ⊎_elim, arith, append-nil, append_assoc}
 use Rattle.std.specs.Prelude.{slice_get, option_map}
-use Rattle.std.proofs.lemmas.Bool.{cond_both, true≢false, false≢true}
+use Rattle.std.proofs.lemmas.Bool.{cond_both, true≢false}
 use Rattle.std.proofs.lemmas.Option.{slice_get_within}
 use Rattle.std.proofs.lemmas.List.{length-map, map-append}
 use Rattle.std.proofs.lemmas.List.Elements.{filter-append}
@@ -15,8 +15,6 @@ use Rattle.machine_table.specs.declared.event.Answer.{Answer}
 use Rattle.machine_table.specs.declared.event.Answer.TheVariants as answer
 use Rattle.machine_table.specs.Machine.{Machine}
 use Rattle.machine_table.specs.Transition.{Outcome, transition}
-use Rattle.machine_table.specs.Runs.{after_all}
-use Rattle.line_machine.specs.Machine as by_line
 use Rattle.line_machine.proofs.Headline.{Opened, reached_ok}
 use Rattle.machine_history.specs.View.{core_seen, set_up, view}
 use Rattle.machine_history.specs.Steps.{Stands}
@@ -26,13 +24,13 @@ use Rattle.interleaving_core.specs.LookUps.{open_op, open_op_of, make_room}
 use Rattle.run_ends.specs.declared.ends.End.{End}
 use Rattle.run_ends.specs.declared.ends.End.TheVariants.{Stalled, TurnsUsed}
 use Rattle.worker_driver.specs.declared.plan.Plan.{Plan}
-use Rattle.worker_driver.specs.Acts.{Acts, next_in, done_in}
+use Rattle.worker_driver.specs.Acts.{Acts, next_in}
 use Rattle.worker_driver.specs.Schedule.{Stage, RoundStart, Issuing, Attempting, Evicting, AttemptingAgain, Delivering, MakingRoom, OutOfTimes, Position, Move, Does, Goes, Ends, move, move_at, begin, issue, attempt, evict, evict_bank, in_flight, victim_for, after, answered, answered_at, at_stage, told, is_move, is_exhausted, are_over}
-use Rattle.worker_driver.specs.Follows.{Follows, stays, goes, does, Ended, opening}
-use Rattle.worker_driver.specs.Told.{Performs, still_open, IsServed, AreServed}
+use Rattle.worker_driver.specs.Follows.{Follows, stays, goes, does, Ended}
+use Rattle.worker_driver.specs.Told.{still_open, AreServed}
 use Rattle.worker_driver.proofs.InProgram.{in_program, listed, issued_is, behind}
-use Rattle.worker_driver.proofs.TableSteps.{op_of, op_at, IsQuiet, Opens, IsDone, Tries, Issues, is_completion, issue_does, attempt_does, delivery_stays, cache_eviction_stays, bank_eviction_stays}
-use Rattle.worker_driver.proofs.Serving.{Gone, Serving, served_none, served_quiet, served_issue, served_done}
+use Rattle.worker_driver.proofs.TableSteps.{op_of, op_at, IsQuiet, Opens, IsDone, Tries, is_completion, issue_does, attempt_does, delivery_stays, cache_eviction_stays, bank_eviction_stays}
+use Rattle.worker_driver.proofs.Serving.{Serving, served_none, served_quiet, served_issue, served_done}
 use Rattle.worker_driver.proofs.RunLaws.{goes_keeps, made_by, run_makes}
 
 -- a core that isn't there has no open operation

@@ -1,5 +1,5 @@
 -- What a run keeps of its start: each program was told of its core's records, and gives next what is still open.
-use Rattle.std.proofs.Common.{◌≡◌, ◌≢◌, ◌⊎◌, inl, inr, ℕ, ◌<◌, Bool, true, false, List, [], ◌∷◌, ◌++◌, set, Option, Some, None, IfSome, refl, sym, ap, ◌∙◌, subst, ⊎_elim, append-nil, append_assoc}
+use Rattle.std.proofs.Common.{◌≡◌, ◌≢◌, ◌⊎◌, inl, inr, ℕ, ◌<◌, List, [], ◌∷◌, ◌++◌, Option, Some, None, IfSome, refl, sym, ap, ◌∙◌, subst, append-nil, append_assoc}
 use Rattle.std.specs.Prelude.{slice_get}
 use Rattle.std.specs.List.{AllByRecursion}
 use Rattle.std.proofs.lemmas.Bool.{cases_eq}
@@ -9,7 +9,6 @@ use Rattle.physiological_order.specs.Order.{of_core}
 use Rattle.physiological_order.proofs.Arranged.{each_push}
 use Rattle.machine_table.specs.Machine.{Machine}
 use Rattle.machine_history.proofs.Lookups.{get-set_same, get-set_other}
-use Rattle.line_machine.proofs.Cores.{Some_injective}
 use Rattle.worker_driver.specs.Acts.{Acts, next_of, next_in, done_of, done_in}
 use Rattle.worker_driver.specs.Told.{Performs}
 use Rattle.worker_driver.proofs.InProgram.{of_core-own, of_core-other}
@@ -99,8 +98,7 @@ module _ {P : Type 0} (acts : Acts P) where
               let closed : op_at after core ≡ None = ap (op_at after) here ∙ is.closed.here in
               let program : slice_get programs c ≡ Some gone.0 = ap (slice_get programs) (sym here) ∙ gone.1 in
               let now : slice_get (done_in acts programs c done.received) core ≡ Some (acts.done gone.0 done.received) =
-                  ap (slice_get (done_in acts programs c done.received)) here ∙ done_here programs c done.received gone.0 program in
-              (
+              ap (slice_get (done_in acts programs c done.received)) here ∙ done_here programs c done.received gone.0 program in (
                 acts.done gone.0 done.received,
                 now,
                 subst (λ (rs : List Record). Performs acts p rs (acts.done gone.0 done.received)) (sym (of_core-own core so_far.added done (is.core ∙ sym here)))
@@ -109,6 +107,6 @@ module _ {P : Type 0} (acts : Acts P) where
               )
           by_core core p (inr other) gone =
               subst (λ (rs : List Record). Gone p rs (op_at after core) (slice_get (done_in acts programs c done.received) core))
-                  (sym (of_core-other core so_far.added done (λ e. other (sym e ∙ is.core))))
+              (sym (of_core-other core so_far.added done (λ e. other (sym e ∙ is.core))))
               (subst (λ (o : Option Op). Gone p (of_core core so_far.added) o (slice_get (done_in acts programs c done.received) core)) (sym (is.closed.there core other))
               (subst (λ (o : Option P). Gone p (of_core core so_far.added) (op_at m core) o) (sym (done_there programs c done.received core other)) gone))

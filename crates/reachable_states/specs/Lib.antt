@@ -1,0 +1,4 @@
+pub mod Consistent
+pub mod Moved
+pub mod Moves
+pub mod States

@@ -1,0 +1,2 @@
+pub mod Bags
+pub mod Parts

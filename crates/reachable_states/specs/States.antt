@@ -63,7 +63,7 @@ seen m = record {
 -- the first n of the parts
 abbrev pub first : {X : Type 0} → (ℕ → X) → ℕ → List X
 first parts zero = []
-first parts (suc n) = parts 0 ∷ first (λ i. parts (i + 1)) n
+first parts (suc n) = parts 0 ∷ first (λ i. parts (suc i)) n
 
 -- messages numbered from this number on
 abbrev pub numbered_from : ℕ → List Message → List (ℕ × Message)

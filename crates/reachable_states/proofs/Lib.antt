@@ -1,2 +1,4 @@
 pub mod Bags
 pub mod Parts
+pub mod Renumbered
+pub mod MovesStand

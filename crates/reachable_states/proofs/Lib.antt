@@ -2,3 +2,4 @@ pub mod Bags
 pub mod Parts
 pub mod Renumbered
 pub mod MovesStand
+pub mod ReachedStates

@@ -56,7 +56,7 @@ bag-sent (m ∷ ms) n q h = let e = bag-sent ms n q h in omega arith
 sent_beside_bag : (n : ℕ) (xs : List Message) (k : ℕ) (q : Message) → SameBag (bag_of (numbered_from n xs ++ (k, q) ∷ [])) (q ∷ xs)
 sent_beside_bag n xs k q h = bag-sent (numbered_from n xs) k q h ∙ ap (λ (ys : List Message). weigh h (q ∷ ys)) (bag-numbered n xs)
 
-kept_bag : (n : ℕ) (xs : List Message) → SameBag (bag_of (numbered_from n xs)) xs
+pub kept_bag : (n : ℕ) (xs : List Message) → SameBag (bag_of (numbered_from n xs)) xs
 kept_bag n xs h = ap (weigh h) (bag-numbered n xs)
 
 module _ (config : Config) (opening : FinMap nat_cmp ℕ) where
@@ -87,7 +87,7 @@ module _ (config : Config) (opening : FinMap nat_cmp ℕ) where
       (λ h. kept_bag 0 a.bag h ∙ same h ∙ sym (kept_bag 0 xs h))
 
   -- the machine of a state, found with these parts
-  finish : (b : State) (cores : List CoreState) (banks : List BankState) (drams : List (FinMap nat_cmp (List ℕ))) (issued : List (List Op)) (counts : Counts) (ms : List (ℕ × Message)) (next capacity : ℕ) →
+  pub finish : (b : State) (cores : List CoreState) (banks : List BankState) (drams : List (FinMap nat_cmp (List ℕ))) (issued : List (List Op)) (counts : Counts) (ms : List (ℕ × Message)) (next capacity : ℕ) →
       cores ≡ first b.cores config.cores → banks ≡ first b.banks config.banks → drams ≡ first b.drams config.banks → issued ≡ first b.issued config.cores → SameBag (bag_of ms) b.bag →
       Stands (placed cores banks drams issued b.records counts ms next capacity) → Stands (numbered config opening b)
   finish b cores banks drams issued counts ms next capacity p q r t same s =

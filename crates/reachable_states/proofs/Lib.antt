@@ -3,3 +3,4 @@ pub mod Parts
 pub mod Renumbered
 pub mod MovesStand
 pub mod ReachedStates
+pub mod Reactions

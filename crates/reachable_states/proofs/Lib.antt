@@ -4,3 +4,5 @@ pub mod Renumbered
 pub mod MovesStand
 pub mod ReachedStates
 pub mod Reactions
+pub mod EventMoves
+pub mod Histories

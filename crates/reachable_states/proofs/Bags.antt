@@ -84,10 +84,6 @@ reordered (x ∷ xs) ys same =
     let out = taken_out x ys (λ e. let w : hit x x + weigh (hit x) xs ≡ weigh (hit x) ys = same (hit x) in omega arith) in
     followed (behind x (reordered xs out.0 (λ h. let a = same h in let b = weigh_reordered h out.1 in omega arith))) out.1
 
--- bags
-pub weigh-append : (h : Message → ℕ) (xs ys : List Message) → weigh h (xs ++ ys) ≡ weigh h xs + weigh h ys
-weigh-append h [] ys = omega arith
-weigh-append h (x ∷ xs) ys = let e = weigh-append h xs ys in omega arith
-
+-- a bag is the same as itself
 pub same_bag : (xs : List Message) → SameBag xs xs
 same_bag xs = λ h. refl

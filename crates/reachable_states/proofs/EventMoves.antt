@@ -137,9 +137,12 @@ module _ (m : Machine) (s : Stands m) where
           move = issues c op new below e;
           same = record {
             cores = changed_parts m.cores (λ j. opened (core_config m.config j) (geometry m.config)) c new listed;
-            banks = λ b. refl; drams = λ b. refl; bag = λ h. refl;
+            banks = λ b. refl;
+            drams = λ b. refl;
+            bag = λ h. refl;
             issued = changed_parts m.issued (λ j. []) c (get_or m.issued c [] ++ op ∷ []) there;
-            records = refl; counts = refl;
+            records = refl;
+            counts = refl;
           };
         }
 

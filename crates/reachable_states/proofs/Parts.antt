@@ -16,6 +16,11 @@ module _ {X : Type 0} where
   get-first f (suc n) zero lt = refl
   get-first f (suc n) (suc i) lt = get-first (λ j. f (suc j)) n i (omega arith)
 
+  pub get-past : (f : ℕ → X) (n i : ℕ) → n ≤ i → slice_get (first f n) i ≡ None
+  get-past f zero i le = refl
+  get-past f (suc n) zero le = absurd (omega arith)
+  get-past f (suc n) (suc i) le = get-past (λ j. f (suc j)) n i (omega arith)
+
   pub get_or-first : (f : ℕ → X) (n i : ℕ) (d : X) → i < n → get_or (first f n) i d ≡ f i
   get_or-first f zero i d lt = absurd (omega arith)
   get_or-first f (suc n) zero d lt = refl

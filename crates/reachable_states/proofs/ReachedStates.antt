@@ -1,6 +1,6 @@
 -- Every state that is reached is, in lists and numbered, a machine that stands, and so consistent.
-use Rattle.std.proofs.Common.{◌≡◌, ℕ, ◌≤◌, ◌<◌, true, List, [], ◌∷◌, ◌++◌, length, get_or, Option, Some, None, refl, sym, ap, ◌∙◌, subst, arith, ⊎_elim}
-use Rattle.std.specs.List.{AllByRecursion as Each}
+use Rattle.std.proofs.Common.{◌≡◌, ℕ, ◌≤◌, ◌<◌, Bool, true, false, List, [], ◌∷◌, ◌++◌, length, get_or, Option, Some, None, refl, sym, ap, ◌∙◌, subst, arith, ⊎_elim}
+use Rattle.std.specs.List.{slice_get, AllByRecursion as Each}
 use Rattle.std.specs.Ordering.{nat_cmp}
 use Rattle.std.specs.FinMap.{FinMap, entries}
 use Rattle.std.proofs.lemmas.Bool.{cases_lt}
@@ -12,21 +12,25 @@ use Rattle.physiological_order.specs.Order.{flat, Legal}
 use Rattle.network.specs.declared.message.Message.{Message}
 use Rattle.core_pts.specs.CoreTable.{CoreState, opened}
 use Rattle.llc_bank.specs.BankTable.{empty_bank}
+use Rattle.line_machine.proofs.Bags.{each_map}
 use Rattle.line_machine.proofs.Lines.{with_at_other}
+use Rattle.network.specs.Routes.{has_ends}
+use Rattle.network.specs.declared.message.Node.{Node}
+use Rattle.network.specs.declared.message.Node.TheVariants as node
 use Rattle.machine_table.specs.declared.config.Config.{Config}
 use Rattle.machine_table.specs.Machine.{Machine}
 use Rattle.machine_table.specs.SetUp.{is_good}
 use Rattle.machine_table.specs.Opening.{at_start, core_config, bank_config, geometry, dram_of}
-use Rattle.machine_history.specs.Cases.{has_case}
+use Rattle.machine_history.specs.Cases.{core_case, bank_case, dram_case, has_case_at, has_case}
 use Rattle.machine_history.specs.Steps.{Stands}
 use Rattle.machine_history.proofs.Openings.{fair, at_start_stands}
 use Rattle.machine_history.proofs.History.{legal_now, one_right, value_left}
 use Rattle.machine_history.proofs.FoundCases.{messages_find_cases}
 use Rattle.reachable_states.specs.States.{State, SameBag, Same, seen, first, numbered}
 use Rattle.reachable_states.specs.Moves.{with_core, with_bank, with_dram, answered, sent_by, Move, issues, completes, asks_to_read, asks_to_write, core_gets, core_drops, bank_gets, bank_starts, dram_gets, evicts_copy, evicts_entry, advances, Reached, opens, goes_on, same}
-use Rattle.reachable_states.specs.Consistent.{Consistent}
+use Rattle.reachable_states.specs.Consistent.{Consistent, FindsCase, FindsPart}
 use Rattle.reachable_states.proofs.Bags.{reordered}
-use Rattle.reachable_states.proofs.Parts.{get_or-first, get_or-past, first_same, first_of_list}
+use Rattle.reachable_states.proofs.Parts.{get-first, get-past, get_or-first, get_or-past, first_same, first_of_list}
 use Rattle.reachable_states.proofs.Renumbered.{each_in_bag, each_reordered}
 use Rattle.reachable_states.proofs.MovesStand.{bag-numbered, kept_bag, finish, move_stands}
 
@@ -90,15 +94,43 @@ module _ (config : Config) (opening : FinMap nat_cmp ℕ) where
       record { stands = move_stands config opening a b k.stands move; past = issued_past a b k.past move }
   found good b (same {a} r e) = found_same a b (found good a r) e
 
+  -- what is said of each message of the machine is said of one that is taken
+  of_taken : (P : Message → Type 0) (a : State) → Each (λ x. P x.1) (numbered config opening a).messages → (message : Message) (rest : List Message) → SameBag a.bag (message ∷ rest) → P message
+  of_taken P a each message rest taken =
+      (each_reordered P (reordered a.bag (message ∷ rest) taken) (subst (λ (xs : List Message). Each P xs) (bag-numbered 0 a.bag) (each_in_bag P (numbered config opening a).messages each))).0
+
+  case_found : (a : State) → Stands (numbered config opening a) → (message : Message) (rest : List Message) → SameBag a.bag (message ∷ rest) → has_case (numbered config opening a) message ≡ true
+  case_found a s message rest taken = of_taken (λ x. has_case (numbered config opening a) x ≡ true) a (messages_find_cases (numbered config opening a) s) message rest taken
+
   pub consistent : is_good config ≡ true → (a : State) → Reached config opening a → Consistent config opening a
   consistent good a r =
       let k = found good a r in
       let m = numbered config opening a in
       let lists : (λ c. get_or m.issued c []) ≡ a.issued = fun_ext (λ c. ⊎_elim (λ (lt : c < config.cores). get_or-first a.issued config.cores c [] lt) (λ (le : config.cores ≤ c). get_or-past a.issued config.cores c [] le ∙ sym (k.past c le)) (cases_lt c config.cores)) in
-      let each : Each (λ x. has_case m x ≡ true) a.bag = subst (λ (xs : List Message). Each (λ x. has_case m x ≡ true) xs) (bag-numbered 0 a.bag) (each_in_bag (λ x. has_case m x ≡ true) m.messages (messages_find_cases m k.stands)) in
       record {
         legal = subst (λ (issued : ℕ → List Op). Legal (flat opening) issued a.records) lists (legal_now m k.stands);
         rights = λ line. one_right m k.stands line;
         standing = λ arranged is word. value_left m k.stands arranged is word;
-        cases = λ message rest taken. (each_reordered (λ x. has_case m x ≡ true) (reordered a.bag (message ∷ rest) taken) each).0;
+        cases = λ message rest taken. case_found a k.stands message rest taken;
       }
+
+  -- the part with a case is one of the first
+  part_found : {X : Type 0} (case : Option X → Bool) → case None ≡ false → (parts : ℕ → X) (n i : ℕ) → case (slice_get (first parts n) i) ≡ true → (i < n) × (case (Some (parts i)) ≡ true)
+  part_found case none parts n i has =
+      ⊎_elim
+      (λ (lt : i < n). (lt, ap case (sym (get-first parts n i lt)) ∙ has))
+      (λ (le : n ≤ i). absurd (let z : false ≡ true = sym none ∙ ap case (sym (get-past parts n i le)) ∙ has in cc))
+      (cases_lt i n)
+
+  pub finds_part : is_good config ≡ true → (a : State) → Reached config opening a → (message : Message) (rest : List Message) → SameBag a.bag (message ∷ rest) → FindsPart config a message
+  finds_part good a r message rest taken =
+      let k = found good a r in
+      record {
+        ends = of_taken (λ x. has_ends config.cores config.banks x ≡ true) a (each_map (λ x goes. goes.2) (numbered config opening a).messages k.stands.whole.each_message) message rest taken;
+        found = by_node message.to (case_found a k.stands message rest taken);
+      }
+    where
+      by_node : (to : Node) → has_case_at (numbered config opening a) message to ≡ true → FindsCase config a message to
+      by_node (node.Core c) has = part_found (λ o. core_case o message) refl a.cores config.cores c has
+      by_node (node.Bank b) has = part_found (λ o. bank_case o message) refl a.banks config.banks b has
+      by_node (node.Dram b) has = part_found (λ o. dram_case o message) refl a.drams config.banks b has

@@ -1,8 +1,7 @@
 //! What moves reach: the states of every history, and each of them consistent.
-ghost use Rattle.std.specs.Prelude.{◌≡◌, true, List};
+ghost use Rattle.std.specs.Prelude.{◌≡◌, ℕ, true, List, ◌∷◌};
 ghost use Rattle.std.specs.Ordering.{nat_cmp};
 ghost use Rattle.std.specs.FinMap.{FinMap};
-ghost use Rattle.std.specs.Prelude.{ℕ};
 ghost use Rattle.machine_table.specs.declared.config.Config.{Config};
 ghost use Rattle.machine_table.specs.declared.event.Event.{Event};
 ghost use Rattle.machine_table.specs.Machine.{Machine};
@@ -11,10 +10,11 @@ ghost use Rattle.machine_table.specs.Opening.{at_start};
 ghost use Rattle.machine_table.specs.Transition.{transition};
 ghost use Rattle.machine_table.specs.Runs.{after_all};
 ghost use Rattle.machine_history.specs.Steps.{Stands};
-ghost use Rattle.reachable_states.specs.States.{State, seen};
+ghost use Rattle.network.specs.declared.message.Message.{Message};
+ghost use Rattle.reachable_states.specs.States.{State, SameBag, seen, numbered};
 ghost use Rattle.reachable_states.specs.Moves.{Reached};
 ghost use Rattle.reachable_states.specs.Moved.{Moved};
-ghost use Rattle.reachable_states.specs.Consistent.{Consistent};
+ghost use Rattle.reachable_states.specs.Consistent.{Consistent, FindsPart};
 
 /// Of a machine that stands, whatever the capacity, the numbers of messages and the stop: an event that is answered
 /// Waiting, Idle, Held or with a refusal changes nothing of its state, and every other event is a move of one part.
@@ -35,4 +35,18 @@ pub fn histories_are_reached()
 pub fn reached_states_are_consistent()
     ensures { (config : Config) (opening : FinMap nat_cmp ℕ) (a : State) → is_good config ≡ true → Reached config opening a →
         Consistent config opening a }
+{}
+
+/// Every state that is reached, with its parts in lists and its messages numbered, is a machine that stands: what holds of
+/// those, holds of it.
+pub fn reached_states_stand()
+    ensures { (config : Config) (opening : FinMap nat_cmp ℕ) (a : State) → is_good config ≡ true → Reached config opening a →
+        Stands (numbered config opening a) }
+{}
+
+/// In every state that is reached, each message in flight goes between nodes of its kind, and the part that it goes to is
+/// there and has a case for it.
+pub fn messages_find_their_parts()
+    ensures { (config : Config) (opening : FinMap nat_cmp ℕ) (a : State) → is_good config ≡ true → Reached config opening a →
+        (message : Message) (rest : List Message) → SameBag a.bag (message ∷ rest) → FindsPart config a message }
 {}

@@ -1,5 +1,5 @@
 -- Every event of the machine's table is a move of one part, or changes nothing.
-use Rattle.std.proofs.Common.{◌≡◌, ◌≢◌, ℕ, ◌+◌, ◌<◌, Bool, true, false, cond, eqb, List, [], ◌∷◌, ◌++◌, length, set, get_or, Option, Some, None, refl, sym, ap, ◌∙◌, subst, arith, ⊎_elim, get_or-set_same, get_or-set_other}
+use Rattle.std.proofs.Common.{◌≡◌, ℕ, ◌+◌, ◌<◌, Bool, true, false, cond, eqb, List, [], ◌∷◌, ◌++◌, length, set, get_or, Option, Some, None, refl, sym, ap, ◌∙◌, subst, arith, ⊎_elim, get_or-set_same, get_or-set_other}
 use Rattle.std.specs.Prelude.{Result, Ok, Err}
 use Rattle.std.specs.List.{slice_get}
 use Rattle.std.specs.Ordering.{nat_cmp}
@@ -22,14 +22,12 @@ use Rattle.core_pts.specs.declared.attempt.IssueError.{IssueError}
 use Rattle.core_pts.specs.declared.attempt.IssueError.TheVariants as not_issued
 use Rattle.core_pts.specs.CoreTable as core_table
 use Rattle.core_pts.specs.CoreTable.{CoreState, opened}
-use Rattle.core_pts.specs.OnCopy.{at_core}
 use Rattle.llc_bank.specs.declared.entry.Evict.{Evict}
 use Rattle.llc_bank.specs.declared.entry.Evict.TheVariants as evict
 use Rattle.llc_bank.specs.declared.entry.EvictError.{EvictError}
 use Rattle.llc_bank.specs.declared.entry.EvictError.TheVariants as not_evicted
 use Rattle.llc_bank.specs.BankTable as bank_table
 use Rattle.llc_bank.specs.BankTable.{BankState, empty_bank}
-use Rattle.line_sets.specs.SetTable.{has_room}
 use Rattle.dram_mts.specs.Table.{dram_table, dram_has_case, is_dram, comes_to_dram}
 use Rattle.line_machine.specs.Machine.{with_at}
 use Rattle.line_machine.proofs.Lines.{with_at_cases}
@@ -46,7 +44,7 @@ use Rattle.machine_history.proofs.Routes.{right_of}
 use Rattle.reachable_states.specs.States.{State, weigh, SameBag, Same, bag_of, seen}
 use Rattle.reachable_states.specs.Moves as moves
 use Rattle.reachable_states.specs.Moves.{Move, issues, completes, asks_to_read, asks_to_write, core_gets, core_drops, bank_gets, bank_starts, dram_gets, evicts_copy, evicts_entry, advances}
-use Rattle.reachable_states.specs.Moved.{Moves, Moved}
+use Rattle.reachable_states.specs.Moved.{Moved}
 use Rattle.reachable_states.proofs.MovesStand.{bag-sent}
 use Rattle.reachable_states.proofs.Reactions.{StartsNothing, cores_start_nothing, DropsNothing, banks_drop_nothing, Answers, drams_answer}
 

@@ -15,7 +15,7 @@ use Rattle.machine_history.specs.Steps.{Stands}
 use Rattle.machine_history.proofs.Events.{any_transition}
 use Rattle.machine_history.proofs.SetUps.{transition_same}
 use Rattle.machine_history.proofs.Openings.{fair, at_start_stands}
-use Rattle.reachable_states.specs.States.{State, Same, seen}
+use Rattle.reachable_states.specs.States.{seen}
 use Rattle.reachable_states.specs.Moves.{Move, Reached, opens, goes_on, same}
 use Rattle.reachable_states.specs.Moved.{Moves, Moved}
 use Rattle.reachable_states.proofs.EventMoves.{transition_moves}

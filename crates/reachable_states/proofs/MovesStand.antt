@@ -1,6 +1,6 @@
 -- Every state that moves reach, in lists and numbered, is a machine that stands.
-use Rattle.std.proofs.Common.{◌≡◌, ℕ, zero, suc, ◌+◌, ◌-◌, ◌<◌, ◌^◌, Bool, true, false, cond, ltb, ◌&&◌, List, [], ◌∷◌, ◌++◌, length, set, get_or, Option, Some, None, refl, sym, ap, ◌∙◌, subst, arith}
-use Rattle.std.specs.Prelude.{Result, Ok, Err}
+use Rattle.std.proofs.Common.{◌≡◌, ℕ, suc, ◌+◌, ◌<◌, Bool, true, false, cond, ltb, List, [], ◌∷◌, ◌++◌, length, set, get_or, Option, Some, None, refl, sym, ap, ◌∙◌, subst, arith}
+use Rattle.std.specs.Prelude.{Result, Ok}
 use Rattle.std.specs.List.{slice_get}
 use Rattle.std.specs.Ordering.{nat_cmp}
 use Rattle.std.specs.FinMap.{FinMap}
@@ -32,8 +32,8 @@ use Rattle.machine_table.specs.declared.event.Answer.TheVariants as answers
 use Rattle.machine_table.specs.declared.event.Counts.{Counts}
 use Rattle.machine_table.specs.declared.event.Event.TheVariants as event
 use Rattle.machine_table.specs.declared.event.Refusal.TheVariants as refusal
-use Rattle.machine_table.specs.Machine.{Machine, counted, has_number, has_place, sent, sent_beside, with_core, with_bank, with_dram}
-use Rattle.machine_table.specs.Transition.{Outcome, refused, issued, issue_at, requested, attempted_op, attempt_open, attempt_at, reacted, deliver_core, deliver_bank, deliver_dram, deliver_to, copy_evicted, evict_copy, entry_evicted, evict_entry, advanced, advance_at}
+use Rattle.machine_table.specs.Machine.{Machine, counted, has_number, has_place, sent, with_core, with_bank, with_dram}
+use Rattle.machine_table.specs.Transition.{refused, issued, issue_at, requested, attempted_op, attempt_open, attempt_at, reacted, deliver_core, deliver_bank, deliver_dram, deliver_to, copy_evicted, evict_copy, entry_evicted, evict_entry, advanced, advance_at}
 use Rattle.machine_history.specs.Steps.{Stands}
 use Rattle.machine_history.proofs.Events.{any_event}
 use Rattle.reachable_states.specs.States.{State, weigh, SameBag, bag_of, first, numbered_from, numbered}

@@ -10,7 +10,7 @@ use Rattle.physiological_order.specs.declared.operation.Op.{Op}
 use Rattle.physiological_order.specs.declared.operation.Record.{Record}
 use Rattle.physiological_order.specs.Order.{flat, Legal}
 use Rattle.network.specs.declared.message.Message.{Message}
-use Rattle.core_pts.specs.CoreTable.{CoreState, opened}
+use Rattle.core_pts.specs.CoreTable.{opened}
 use Rattle.llc_bank.specs.BankTable.{empty_bank}
 use Rattle.line_machine.proofs.Bags.{each_map}
 use Rattle.line_machine.proofs.Lines.{with_at_other}
@@ -18,7 +18,6 @@ use Rattle.network.specs.Routes.{has_ends}
 use Rattle.network.specs.declared.message.Node.{Node}
 use Rattle.network.specs.declared.message.Node.TheVariants as node
 use Rattle.machine_table.specs.declared.config.Config.{Config}
-use Rattle.machine_table.specs.Machine.{Machine}
 use Rattle.machine_table.specs.SetUp.{is_good}
 use Rattle.machine_table.specs.Opening.{at_start, core_config, bank_config, geometry, dram_of}
 use Rattle.machine_history.specs.Cases.{core_case, bank_case, dram_case, has_case_at, has_case}

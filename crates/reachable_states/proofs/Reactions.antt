@@ -1,5 +1,5 @@
 -- What each kind of part does with a message that it has a case for.
-use Rattle.std.proofs.Common.{◌≡◌, ℕ, Bool, true, false, cond, List, Option, Some, None, refl, ap, ◌∙◌}
+use Rattle.std.proofs.Common.{◌≡◌, ℕ, Bool, true, false, List, Option, Some, None}
 use Rattle.std.specs.Ordering.{nat_cmp}
 use Rattle.std.specs.FinMap.{FinMap}
 use Rattle.network.specs.declared.message.TimedLine.{TimedLine}
@@ -13,7 +13,6 @@ use Rattle.core_pts.specs.OnCopy as on_copy
 use Rattle.core_pts.specs.OnCopy.{CoreReaction}
 use Rattle.core_pts.specs.CoreTable.{CoreState, after_reaction}
 use Rattle.llc_bank.specs.declared.decision.Decision.{Decision}
-use Rattle.llc_bank.specs.declared.decision.Decision.TheVariants as decision
 use Rattle.llc_bank.specs.declared.entry.Entry.{Entry}
 use Rattle.llc_bank.specs.declared.entry.Entry.TheVariants as entry
 use Rattle.llc_bank.specs.OnEntry.{leased, asked_back, loaded, shared_request, exclusive_request, given_back, filled, stored, at_bank}

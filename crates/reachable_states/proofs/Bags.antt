@@ -1,10 +1,10 @@
 -- Bags of messages: bags that weigh the same, whatever each message weighs, differ only in their order.
-use Rattle.std.proofs.Common.{◌≡◌, ◌≢◌, ℕ, ◌+◌, Bool, true, false, cond, eqb, ◌&&◌, List, [], ◌∷◌, refl, ap, ◌∙◌, subst, arith, ⊎_elim}
+use Rattle.std.proofs.Common.{◌≡◌, ◌≢◌, ℕ, ◌+◌, Bool, true, false, cond, eqb, ◌&&◌, List, [], ◌∷◌, ◌++◌, refl, ap, ◌∙◌, subst, arith, ⊎_elim}
 use Rattle.std.proofs.lemmas.Bool.{cases_Bool, cond-true, cond-false, eqb-true, eq-eqb}
 use base.Stored.{Gv, gnil, gnum, gcons}
 use Rattle.network.specs.declared.message.Message.{Message}
 use Rattle.network.specs.contracts.message.Message as contracts
-use Rattle.reachable_states.specs.States.{weigh, SameBag}
+use Rattle.reachable_states.specs.States.{weigh, SameBag, bag_of, numbered_from}
 
 -- whether two trees of numbers are the same
 abbrev same_tree : Gv → Gv → Bool
@@ -87,3 +87,19 @@ reordered (x ∷ xs) ys same =
 -- a bag is the same as itself
 pub same_bag : (xs : List Message) → SameBag xs xs
 same_bag xs = λ h. refl
+
+-- numbers don't change a bag
+pub bag-numbered : (n : ℕ) (xs : List Message) → bag_of (numbered_from n xs) ≡ xs
+bag-numbered n [] = refl
+bag-numbered n (x ∷ xs) = ap (λ ys. x ∷ ys) (bag-numbered (n + 1) xs)
+
+pub kept_bag : (n : ℕ) (xs : List Message) → SameBag (bag_of (numbered_from n xs)) xs
+kept_bag n xs h = ap (weigh h) (bag-numbered n xs)
+
+-- a message that is sent
+pub bag-sent : (ms : List (ℕ × Message)) (n : ℕ) (q : Message) → SameBag (bag_of (ms ++ (n, q) ∷ [])) (q ∷ bag_of ms)
+bag-sent [] n q h = refl
+bag-sent (m ∷ ms) n q h = let e = bag-sent ms n q h in omega arith
+
+pub sent_beside_bag : (n : ℕ) (xs : List Message) (k : ℕ) (q : Message) → SameBag (bag_of (numbered_from n xs ++ (k, q) ∷ [])) (q ∷ xs)
+sent_beside_bag n xs k q h = bag-sent (numbered_from n xs) k q h ∙ ap (λ (ys : List Message). weigh h (q ∷ ys)) (bag-numbered n xs)

@@ -45,7 +45,7 @@ use Rattle.reachable_states.specs.States.{State, weigh, SameBag, Same, bag_of, s
 use Rattle.reachable_states.specs.Moves as moves
 use Rattle.reachable_states.specs.Moves.{Move, issues, completes, asks_to_read, asks_to_write, core_gets, core_drops, bank_gets, bank_starts, dram_gets, evicts_copy, evicts_entry, advances}
 use Rattle.reachable_states.specs.Moved.{Moved}
-use Rattle.reachable_states.proofs.MovesStand.{bag-sent}
+use Rattle.reachable_states.proofs.Bags.{bag-sent}
 use Rattle.reachable_states.proofs.Reactions.{StartsNothing, cores_start_nothing, DropsNothing, banks_drop_nothing, Answers, drams_answer}
 
 -- parts by number, where one is changed

@@ -1,7 +1,8 @@
 pub mod Bags
 pub mod Parts
 pub mod Renumbered
-pub mod MovesStand
+pub mod MoveEvents
+pub mod Shown
 pub mod ReachedStates
 pub mod Reactions
 pub mod EventMoves

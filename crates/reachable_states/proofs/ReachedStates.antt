@@ -7,7 +7,6 @@ use Rattle.std.proofs.lemmas.Bool.{cases_lt}
 use Rattle.std.proofs.lemmas.List.{get_or_past}
 use Rattle.std.proofs.Math.Path.{fun_ext}
 use Rattle.physiological_order.specs.declared.operation.Op.{Op}
-use Rattle.physiological_order.specs.declared.operation.Record.{Record}
 use Rattle.physiological_order.specs.Order.{flat, Legal}
 use Rattle.network.specs.declared.message.Message.{Message}
 use Rattle.core_pts.specs.CoreTable.{opened}
@@ -28,10 +27,10 @@ use Rattle.machine_history.proofs.FoundCases.{messages_find_cases}
 use Rattle.reachable_states.specs.States.{State, SameBag, Same, seen, first, numbered}
 use Rattle.reachable_states.specs.Moves.{with_core, with_bank, with_dram, answered, sent_by, Move, issues, completes, asks_to_read, asks_to_write, core_gets, core_drops, bank_gets, bank_starts, dram_gets, evicts_copy, evicts_entry, advances, Reached, opens, goes_on, same}
 use Rattle.reachable_states.specs.Consistent.{Consistent, FindsCase, FindsPart}
-use Rattle.reachable_states.proofs.Bags.{reordered}
+use Rattle.reachable_states.proofs.Bags.{reordered, bag-numbered, kept_bag}
 use Rattle.reachable_states.proofs.Parts.{get-first, get-past, get_or-first, get_or-past, first_same, first_of_list}
 use Rattle.reachable_states.proofs.Renumbered.{each_in_bag, each_reordered}
-use Rattle.reachable_states.proofs.MovesStand.{bag-numbered, kept_bag, finish, move_stands}
+use Rattle.reachable_states.proofs.Shown.{stands_shown, move_stands}
 
 -- a list of so many is its own first parts
 own_parts : {X : Type 0} (xs : List X) (d : ℕ → X) (n : ℕ) → length xs ≡ n → xs ≡ first (λ i. get_or xs i (d i)) n
@@ -49,12 +48,18 @@ module _ (config : Config) (opening : FinMap nat_cmp ℕ) where
       let m = at_start config opening in
       let s : Stands m = at_start_stands config opening (fair config good) in
       record {
-        stands = finish config opening (seen m) m.cores m.banks m.drams m.issued m.counts [] 0 config.messages
-            (own_parts m.cores (λ c. opened (core_config config c) (geometry config)) config.cores s.whole.core_count)
-            (own_parts m.banks (λ b. empty_bank (bank_config config b)) config.banks s.whole.bank_count)
-            (own_parts m.drams (λ b. dram_of config b (entries opening)) config.banks s.whole.dram_count)
-            (own_parts m.issued (λ c. []) config.cores s.whole.lists)
-            (λ h. refl) s;
+        stands = stands_shown config opening m (seen m) (record {
+          set_up = refl;
+          opened = refl;
+          cores = own_parts m.cores (λ c. opened (core_config config c) (geometry config)) config.cores s.whole.core_count;
+          banks = own_parts m.banks (λ b. empty_bank (bank_config config b)) config.banks s.whole.bank_count;
+          drams = own_parts m.drams (λ b. dram_of config b (entries opening)) config.banks s.whole.dram_count;
+          bag = λ h. refl;
+          issued = own_parts m.issued (λ c. []) config.cores s.whole.lists;
+          records = refl;
+          counts = refl;
+          runs = refl;
+        }) s;
         past = λ c le. get_or_past m.issued c [] (let e = s.whole.lists in omega arith);
       }
 
@@ -79,10 +84,18 @@ module _ (config : Config) (opening : FinMap nat_cmp ℕ) where
   found_same : (a b : State) → Found a → Same a b → Found b
   found_same a b k e =
       record {
-        stands = finish config opening b (first a.cores config.cores) (first a.banks config.banks) (first a.drams config.banks) (first a.issued config.cores) a.counts (numbered config opening a).messages (length a.bag) config.messages
-            (first_same a.cores b.cores config.cores (λ c lt. e.cores c)) (first_same a.banks b.banks config.banks (λ i lt. e.banks i)) (first_same a.drams b.drams config.banks (λ i lt. e.drams i)) (first_same a.issued b.issued config.cores (λ c lt. e.issued c))
-            (λ h. kept_bag 0 a.bag h ∙ e.bag h)
-            (subst (λ (rs : List Record). Stands (record (numbered config opening a) { records = rs })) e.records k.stands);
+        stands = stands_shown config opening (numbered config opening a) b (record {
+          set_up = refl;
+          opened = refl;
+          cores = first_same a.cores b.cores config.cores (λ c lt. e.cores c);
+          banks = first_same a.banks b.banks config.banks (λ i lt. e.banks i);
+          drams = first_same a.drams b.drams config.banks (λ i lt. e.drams i);
+          bag = λ h. kept_bag 0 a.bag h ∙ e.bag h;
+          issued = first_same a.issued b.issued config.cores (λ c lt. e.issued c);
+          records = e.records;
+          counts = e.counts;
+          runs = refl;
+        }) k.stands;
         past = λ c le. sym (e.issued c) ∙ k.past c le;
       }
 

@@ -12,7 +12,8 @@ ghost use Rattle.machine_table.specs.Runs.{after_all};
 ghost use Rattle.machine_history.specs.Steps.{Stands};
 ghost use Rattle.network.specs.declared.message.Message.{Message};
 ghost use Rattle.reachable_states.specs.States.{State, SameBag, seen, numbered};
-ghost use Rattle.reachable_states.specs.Moves.{Reached};
+ghost use Rattle.reachable_states.specs.Moves.{Move, Reached};
+ghost use Rattle.reachable_states.specs.Events.{IsEvent};
 ghost use Rattle.reachable_states.specs.Moved.{Moved};
 ghost use Rattle.reachable_states.specs.Consistent.{Consistent, FindsPart};
 
@@ -20,6 +21,12 @@ ghost use Rattle.reachable_states.specs.Consistent.{Consistent, FindsPart};
 /// Waiting, Idle, Held or with a refusal changes nothing of its state, and every other event is a move of one part.
 pub fn events_are_moves()
     ensures { (m : Machine) (event : Event) → Stands m → Moved m (transition m event).0 (transition m event).1 }
+{}
+
+/// And no move is more than such an event: from the one state to the other an event leads of a machine that runs, whatever its
+/// capacity and the numbers of its messages.
+pub fn moves_are_events()
+    ensures { (config : Config) (opening : FinMap nat_cmp ℕ) (a b : State) → Move config a b → IsEvent config opening a b }
 {}
 
 /// Whatever the events, refused ones included, moves reach the state of the machine after them.

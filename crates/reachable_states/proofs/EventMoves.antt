@@ -9,6 +9,7 @@ use Rattle.std.proofs.lemmas.Option.{get_or_from_slice_get, slice_get_within}
 use Rattle.physiological_order.specs.declared.operation.Op.{Op}
 use Rattle.network.specs.declared.message.Node.{Node}
 use Rattle.network.specs.declared.message.Node.TheVariants as node
+use Rattle.network.specs.declared.message.Body.{Body}
 use Rattle.network.specs.declared.message.Body.TheVariants as body
 use Rattle.network.specs.declared.message.Message.{Message}
 use Rattle.network.specs.declared.part.Reaction.{Reaction}
@@ -150,11 +151,12 @@ module _ (m : Machine) (s : Stands m) where
         record { to = moves.with_core a c new; move = advances c new below e; same = core_same c new a.bag m.counts m.messages m.next listed (λ h. refl) }
 
     -- a request is sent
-    request_goes : (request : Message) → Move m.config a (moves.requested a c core request) → Goes (requested m c core request)
-    request_goes request move =
+    request_goes : (op : Op) (b : Body) → Move m.config a (moves.requested a c op b) → Goes (requested m c core (core_table.to_bank core (core_table.line_of core op) b))
+    request_goes op b move =
+        let request = core_table.to_bank core (core_table.line_of core op) b in
         let new : CoreState = record core { is_out = true } in
         either (has_place m) _ _
-        (record { to = moves.requested a c core request; move = move; same = core_same c new (request ∷ a.bag) (counted m.counts request.body) (m.messages ++ (m.next, request) ∷ []) (m.next + 1) listed (sent_bag m.messages request) })
+        (record { to = moves.requested a c op b; move = move; same = core_same c new (request ∷ a.bag) (counted m.counts b) (m.messages ++ (m.next, request) ∷ []) (m.next + 1) listed (sent_bag m.messages request) })
         unchanged
 
     attempt_goes : (op : Op) → core.open_op ≡ Some op → (r : Option Attempt × CoreState) → core_table.attempt core ≡ r → Goes (attempted_op m c core op r)
@@ -166,9 +168,9 @@ module _ (m : Machine) (s : Stands m) where
           same = record { cores = changed_parts m.cores (λ j. opened (core_config m.config j) (geometry m.config)) c new listed; banks = λ b. refl; drams = λ b. refl; bag = λ h. refl; issued = λ d. refl; records = refl; counts = refl };
         }
     attempt_goes op is (Some (attempted.NeedShared pts version), new) e =
-        request_goes (core_table.to_bank core (core_table.line_of core op) (body.ShReq pts version)) (asks_to_read c op pts version new below is e)
+        request_goes op (body.ShReq pts version) (asks_to_read c op pts version new below is e)
     attempt_goes op is (Some (attempted.NeedExclusive version), new) e =
-        request_goes (core_table.to_bank core (core_table.line_of core op) (body.ExReq version)) (asks_to_write c op version new below is e)
+        request_goes op (body.ExReq version) (asks_to_write c op version new below is e)
     attempt_goes op is (Some attempted.NoRoom, new) e = unchanged
     attempt_goes op is (Some attempted.Waiting, new) e = unchanged
     attempt_goes op is (Some attempted.Idle, new) e = unchanged

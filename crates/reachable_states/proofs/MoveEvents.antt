@@ -9,6 +9,7 @@ use Rattle.physiological_order.specs.declared.operation.Op.{Op}
 use Rattle.physiological_order.specs.declared.operation.Record.{Record}
 use Rattle.network.specs.declared.message.Node.{Node}
 use Rattle.network.specs.declared.message.Node.TheVariants as node
+use Rattle.network.specs.declared.message.Body.{Body}
 use Rattle.network.specs.declared.message.Body.TheVariants as body
 use Rattle.network.specs.declared.message.Message.{Message}
 use Rattle.network.specs.declared.part.Reaction.{Reaction}
@@ -153,12 +154,13 @@ module _ (config : Config) (opening : FinMap nat_cmp ℕ) where
         (attempt_leads c op (Some (attempted.Completed received ts), core) lt is e)
         (record { set_up = refl; opened = refl; cores = sym (first-with_at a.cores n c core); banks = refl; drams = refl; bag = kept_bag 0 a.bag; issued = refl; records = refl; counts = refl; runs = refl })
 
-    request_event : (c : ℕ) (request : Message) → (transition m (event.Attempt c)).1 ≡ (requested m c (a.cores c) request).1 → IsEvent config opening a (moves.requested a c (a.cores c) request)
-    request_event c request to =
+    request_event : (c : ℕ) (op : Op) (b : Body) → (transition m (event.Attempt c)).1 ≡ (requested m c (a.cores c) (core_table.to_bank (a.cores c) (core_table.line_of (a.cores c) op) b)).1 → IsEvent config opening a (moves.requested a c op b)
+    request_event c op b to =
+        let request = core_table.to_bank (a.cores c) (core_table.line_of (a.cores c) op) b in
         let core : CoreState = record (a.cores c) { is_out = true } in
         let after = sent (with_core m c core) request in
-        leads a.bag (same_bag a.bag) (event.Attempt c) (moves.requested a c (a.cores c) request) after (to ∙ sends a.bag answers.Requested after)
-        (core_shows c core (request ∷ a.bag) (counted a.counts request.body) (m.messages ++ (0, request) ∷ []) 1 m.config.messages (sent_beside_bag 0 a.bag 0 request))
+        leads a.bag (same_bag a.bag) (event.Attempt c) (moves.requested a c op b) after (to ∙ sends a.bag answers.Requested after)
+        (core_shows c core (request ∷ a.bag) (counted a.counts b) (m.messages ++ (0, request) ∷ []) 1 m.config.messages (sent_beside_bag 0 a.bag 0 request))
 
     -- evictions
     copy_event : (c line : ℕ) (back : Option Message) (core : CoreState) → c < config.cores → core_table.evict (a.cores c) line ≡ (Ok back, core) → IsEvent config opening a (moves.answered (moves.with_core a c core) a.bag back)
@@ -259,9 +261,9 @@ module _ (config : Config) (opening : FinMap nat_cmp ℕ) where
   move_event a b (issues c op core lt e) = issue_event a c op core lt e
   move_event a b (completes c op received ts core lt is e) = complete_event a c op received ts core lt is e
   move_event a b (asks_to_read c op pts version core lt is e) =
-      request_event a c (core_table.to_bank (a.cores c) (core_table.line_of (a.cores c) op) (body.ShReq pts version)) (attempt_leads a c op (Some (attempted.NeedShared pts version), core) lt is e)
+      request_event a c op (body.ShReq pts version) (attempt_leads a c op (Some (attempted.NeedShared pts version), core) lt is e)
   move_event a b (asks_to_write c op version core lt is e) =
-      request_event a c (core_table.to_bank (a.cores c) (core_table.line_of (a.cores c) op) (body.ExReq version)) (attempt_leads a c op (Some (attempted.NeedExclusive version), core) lt is e)
+      request_event a c op (body.ExReq version) (attempt_leads a c op (Some (attempted.NeedExclusive version), core) lt is e)
   move_event a b (core_gets c message rest answer core lt taken to has e) = core_done a message rest taken c lt to has answer core e
   move_event a b (core_drops c message rest core lt taken to has e) = core_dropped a message rest taken c lt to has core e
   move_event a b (bank_gets i message rest answer bank lt taken to has e) = bank_done a message rest taken i lt to has answer bank e

@@ -6,6 +6,7 @@ use Rattle.std.specs.FinMap.{FinMap}
 use Rattle.physiological_order.specs.declared.operation.Op.{Op}
 use Rattle.physiological_order.specs.declared.operation.Record.{Record}
 use Rattle.network.specs.declared.message.Node.TheVariants.{Core, Bank, Dram}
+use Rattle.network.specs.declared.message.Body.{Body}
 use Rattle.network.specs.declared.message.Body.TheVariants.{ShReq, ExReq}
 use Rattle.network.specs.declared.message.Message.{Message}
 use Rattle.network.specs.declared.part.Reaction.TheVariants.{Done, Dropped, HeldAfter}
@@ -42,9 +43,10 @@ abbrev pub answered : State → List Message → Option Message → State
 answered a rest None = record a { bag = rest }
 answered a rest (Some message) = sent_beside a rest message
 
--- the request of an operation is sent and is out
-abbrev pub requested : State → ℕ → CoreState → Message → State
-requested a c core request = sent_beside (with_core a c (record core { is_out = true })) a.bag request
+-- a core's request is out, and is sent to the bank of its operation's line
+abbrev pub requested : State → ℕ → Op → Body → State
+requested a c op body =
+    sent_beside (with_core a c (record (a.cores c) { is_out = true })) a.bag (core_table.to_bank (a.cores c) (core_table.line_of (a.cores c) op) body)
 
 -- the record of an operation that is completed: it draws the next number, and its place is how many operations its
 -- core was issued before
@@ -61,16 +63,17 @@ pub data Move (config : Config) : State → State → Type 0 where
   -- a core is given its next operation
   issues : {a : State} (c : ℕ) (op : Op) (core : CoreState) → c < config.cores → core_table.issue (a.cores c) op ≡ (Ok tt, core) →
       Move config a (record (with_core a c core) { issued = with_at a.issued c (a.issued c ++ op ∷ []) })
-  -- a core completes its open operation, or sends the request that it needs
+  -- a core completes its open operation
   completes : {a : State} (c : ℕ) (op : Op) (received : Option ℕ) (ts : ℕ) (core : CoreState) → c < config.cores →
       (a.cores c).open_op ≡ Some op → core_table.attempt (a.cores c) ≡ (Some (Completed received ts), core) →
       Move config a (record (with_core a c core) { records = a.records ++ record_of a c op received ts ∷ [] })
+  -- a core sends the request that its open operation needs: to read the line, or to own it
   asks_to_read : {a : State} (c : ℕ) (op : Op) (pts : ℕ) (version : Option ℕ) (core : CoreState) → c < config.cores →
       (a.cores c).open_op ≡ Some op → core_table.attempt (a.cores c) ≡ (Some (NeedShared pts version), core) →
-      Move config a (requested a c (a.cores c) (core_table.to_bank (a.cores c) (core_table.line_of (a.cores c) op) (ShReq pts version)))
+      Move config a (requested a c op (ShReq pts version))
   asks_to_write : {a : State} (c : ℕ) (op : Op) (version : Option ℕ) (core : CoreState) → c < config.cores →
       (a.cores c).open_op ≡ Some op → core_table.attempt (a.cores c) ≡ (Some (NeedExclusive version), core) →
-      Move config a (requested a c (a.cores c) (core_table.to_bank (a.cores c) (core_table.line_of (a.cores c) op) (ExReq version)))
+      Move config a (requested a c op (ExReq version))
   -- a core consumes a message in flight to it, and answers it, or not
   core_gets : {a : State} (c : ℕ) (message : Message) (rest : List Message) (answer : Option Message) (core : CoreState) → c < config.cores →
       SameBag a.bag (message ∷ rest) → message.to ≡ Core c → core_table.core_has_case (a.cores c) message ≡ true →

@@ -16,3 +16,4 @@ pub mod LocationExplains
 pub mod ConditionExplains
 pub mod WaysOn
 pub mod ConditionWays
+pub mod BlockAgain

@@ -1,0 +1,94 @@
+//! Each test run by the program with many options, and compared with the plain sequential machine.
+use crate::cases::{CASES, Case};
+use crate::plain::{End, ends_of, has};
+use crate::states::runs_in;
+use byte_streams::{FromRead, ToWrite};
+use command_line::{LitmusOptions, Schedule};
+use report::{Done, run_litmus};
+use std::alloc::Global;
+use std::test::Fail;
+
+const RUNS: u64 = 2;
+
+/// How many settings there are.
+const SETTINGS: u64 = 512;
+
+/// The number of messages that is always enough, and the last time from which there is always time enough.
+const MESSAGES: u64 = 4096;
+
+const LATE: u64 = 4_611_686_018_427_387_904;
+
+// One of two numbers, by a digit.
+fn pick(digit: u64, first: u64, second: u64) -> u64 {
+    if digit % 2 == 0 { first } else { second }
+}
+
+// The options of a setting, by its binary digits.
+fn options(setting: u64) -> LitmusOptions {
+    let sooner = pick(setting / 64, 0, LATE);
+    let later = pick(setting / 64, u64::MAX - 9, u64::MAX - 1);
+    LitmusOptions {
+        schedule: Schedule::Round,
+        limit: 100,
+        runs: RUNS,
+        workers: 1,
+        private_write: setting % 2 == 1,
+        lease: pick(setting / 2, 10, 1),
+        time: pick(setting / 128, sooner, later),
+        banks: pick(setting / 4, 1, 2),
+        sets: pick(setting / 8, 64, 1),
+        ways: pick(setting / 8, 4, 1),
+        bank_sets: pick(setting / 16, 256, 1),
+        bank_ways: pick(setting / 16, 8, 1),
+        line_words: pick(setting / 32, 1, 8),
+        messages: pick(setting / 256, MESSAGES, 3),
+    }
+}
+
+// Whether every run with these options must be all done: no sum of times passes 64 bits, and messages always find room.
+fn must_finish(options: &LitmusOptions) -> bool {
+    options.time <= LATE && options.messages == MESSAGES
+}
+
+// Whether a report says that a run of a test ended as it may, and each of its states is one of the ends.
+fn is_right(alloc: Global, case: &Case, options: &LitmusOptions, ends: &[End]) -> bool {
+    let mut out = Vec::new(alloc);
+    let mut source = FromRead::new(case.text);
+    let mut sink = ToWrite::new(&mut out);
+    match run_litmus(alloc, &mut source, &mut sink, options) {
+        Ok(Done { all_done }) => match runs_in(&out, ends) {
+            Some(runs) => all_done == (runs == RUNS) && (all_done || !must_finish(options)),
+            None => false,
+        },
+        Err(_) => false,
+    }
+}
+
+// Whether a test is reported rightly with each setting.
+fn are_right(alloc: Global, case: &Case, ends: &[End]) -> bool {
+    for setting in 0..SETTINGS {
+        if !is_right(alloc, case, &options(setting), ends) {
+            return false;
+        }
+    }
+    true
+}
+
+#[test]
+fn the_plain_machine_has_so_many_ends(rt: HostRuntime) -> Result<(), Fail> {
+    for case in CASES {
+        let ends = ends_of(rt.alloc(), &case.program)?;
+        assert_eq!(rt; ends.len(), case.ends);
+        assert!(rt; !has(&ends, &case.never));
+    }
+    Ok(())
+}
+
+#[test]
+fn each_reported_end_is_one_of_the_plain_machine(rt: HostRuntime) -> Result<(), Fail> {
+    for case in CASES {
+        let ends = ends_of(rt.alloc(), &case.program)?;
+        assert!(rt; are_right(rt.alloc(), &case, &ends));
+    }
+    Ok(())
+}

@@ -2,7 +2,7 @@
 use crate::plain::{ABSENT, End, Name, Program, Step};
 
 /// A litmus test with its program.
-#[derive(Clone, Copy, Debug)]
+#[derive(Clone, Copy)]
 pub(crate) struct Case {
     pub(crate) text: &'static [u8],
     pub(crate) program: Program,
@@ -19,7 +19,7 @@ const Y: usize = 1;
 const NONE: u64 = ABSENT;
 
 // Each load is behind a store: the thread that stores last sees the other's store.
-const STORE_BUFFERING: Case = Case {
+pub(crate) const STORE_BUFFERING: Case = Case {
     text: b"RISCV SB
 { 0:x5=1; 0:x6=x; 0:x8=y; 1:x5=1; 1:x6=y; 1:x8=x; }
  P0          | P1          ;

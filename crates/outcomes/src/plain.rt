@@ -20,7 +20,7 @@ pub(crate) const ABSENT: u64 = u64::MAX;
 pub(crate) type End = [u64; VALUES];
 
 /// A step of a thread, on the word of a number.
-#[derive(Clone, Copy, Debug)]
+#[derive(Clone, Copy)]
 pub(crate) enum Step {
     Load(usize),
     Store(usize, u64),
@@ -30,7 +30,7 @@ pub(crate) enum Step {
 }
 
 /// A value of an end state.
-#[derive(Clone, Copy, Debug)]
+#[derive(Clone, Copy)]
 pub(crate) enum Name {
     /// What a thread received in a step.
     Received(usize, usize),
@@ -39,7 +39,7 @@ pub(crate) enum Name {
 }
 
 /// A program: the words as they open, the steps of each thread, and what its end state names.
-#[derive(Clone, Copy, Debug)]
+#[derive(Clone, Copy)]
 pub(crate) struct Program {
     pub(crate) words: [u64; WORDS],
     pub(crate) threads: &'static [&'static [Step]],
@@ -103,16 +103,18 @@ impl Plain {
 
     // The thread of a number takes its next step, or has none.
     fn take(&mut self, program: &Program, number: usize) -> Option<()> {
+        let threads = program.threads;
         let mut thread = self.threads.get(number).copied()?;
-        let steps = program.threads.get(number).copied()?;
-        let step = steps.get(thread.taken).copied()?;
+        let steps = threads.get(number).copied()?;
+        let taken = thread.taken;
+        let step = steps.get(taken).copied()?;
         let word = word_of(&step);
         let old = at(&self.words, word);
         if let Some(value) = stored(&step, &thread) {
             put(&mut self.words, word, value);
         }
-        put(&mut thread.received, thread.taken, old);
-        thread.taken = thread.taken.saturating_add(1);
+        put(&mut thread.received, taken, old);
+        thread.taken = taken.saturating_add(1);
         *self.threads.get_mut(number)? = thread;
         Some(())
     }

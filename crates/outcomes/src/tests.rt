@@ -1,5 +1,5 @@
 //! Each test run by the program with many options, and compared with the plain sequential machine.
-use crate::cases::{CASES, Case};
+use crate::cases::{CASES, Case, STORE_BUFFERING};
 use crate::plain::{End, ends_of, has};
 use crate::states::runs_in;
 use byte_streams::{FromRead, ToWrite};
@@ -64,14 +64,14 @@ fn is_right(alloc: Global, case: &Case, options: &LitmusOptions, ends: &[End]) -
     }
 }
 
-// Whether a test is reported rightly with each setting.
-fn are_right(alloc: Global, case: &Case, ends: &[End]) -> bool {
+// The first setting with which a test isn't reported rightly.
+fn wrong_setting(alloc: Global, case: &Case, ends: &[End]) -> Option<u64> {
     for setting in 0..SETTINGS {
         if !is_right(alloc, case, &options(setting), ends) {
-            return false;
+            return Some(setting);
         }
     }
-    true
+    None
 }
 
 #[test]
@@ -86,9 +86,45 @@ fn the_plain_machine_has_so_many_ends(rt: HostRuntime) -> Result<(), Fail> {
 
 #[test]
 fn each_reported_end_is_one_of_the_plain_machine(rt: HostRuntime) -> Result<(), Fail> {
-    for case in CASES {
+    for (number, case) in CASES.iter().enumerate() {
         let ends = ends_of(rt.alloc(), &case.program)?;
-        assert!(rt; are_right(rt.alloc(), &case, &ends));
+        assert_eq!(rt;
+            wrong_setting(rt.alloc(), case, &ends),
+            None,
+            "in case {number}"
+        );
+    }
+    Ok(())
+}
+
+// Reports of store buffering, and how many runs they have in states that are ends of it: none, where another state is
+// reported, a value is missing, the runs don't add up, or a state isn't there.
+const REPORTS: &[(&[u8], Option<u64>)] = &[
+    (b"all-done 0\nstates 0\ncondition exists\n", Some(0)),
+    (
+        b"all-done 2\nstates 1\n2 0:x7=0 1:x7=1\ncondition exists\n",
+        Some(2),
+    ),
+    (
+        b"all-done 13\nstates 2\n3 0:x7=0 1:x7=1\n10 0:x7=1 1:x7=1\nheld 0\n",
+        Some(13),
+    ),
+    (
+        b"all-done 2\nstates 2\n1 0:x7=0 1:x7=1\n1 0:x7=0 1:x7=0\nheld 0\n",
+        None,
+    ),
+    (b"all-done 2\nstates 1\n2 0:x7=0 1:x7=11\nheld 0\n", None),
+    (b"all-done 2\nstates 1\n2 0:x7=1\nheld 0\n", None),
+    (b"all-done 2\nstates 1\n1 0:x7=0 1:x7=1\nheld 0\n", None),
+    (b"all-done 2\nstates 2\n2 0:x7=0 1:x7=1\nheld 0\n", None),
+    (b"all-done 2\nstates 0\nheld 0\n", None),
+];
+
+#[test]
+fn a_wrong_state_is_seen(rt: HostRuntime) -> Result<(), Fail> {
+    let ends = ends_of(rt.alloc(), &STORE_BUFFERING.program)?;
+    for (report, runs) in REPORTS {
+        assert_eq!(rt; runs_in(report, &ends), *runs);
     }
     Ok(())
 }

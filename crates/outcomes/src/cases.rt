@@ -16,6 +16,8 @@ const X: usize = 0;
 
 const Y: usize = 1;
 
+const Z: usize = 2;
+
 const NONE: u64 = ABSENT;
 
 // Each load is behind a store: the thread that stores last sees the other's store.
@@ -36,7 +38,7 @@ exists (0:x7=0 /\\ 1:x7=0)
         names: &[Name::Received(0, 1), Name::Received(1, 1)],
     },
     ends: 3,
-    never: [0, 0, NONE, NONE, NONE],
+    never: [0, 0, NONE, NONE, NONE, NONE],
 };
 
 // Who sees the flag sees the message; without the flag it may be there or not.
@@ -57,7 +59,7 @@ exists (1:x7=1 /\\ 1:x9=0)
         names: &[Name::Received(1, 0), Name::Received(1, 1)],
     },
     ends: 3,
-    never: [1, 0, NONE, NONE, NONE],
+    never: [1, 0, NONE, NONE, NONE, NONE],
 };
 
 // At most one of two loads sees the store behind the other load.
@@ -78,7 +80,7 @@ exists (0:x7=1 /\\ 1:x7=1)
         names: &[Name::Received(0, 0), Name::Received(1, 0)],
     },
     ends: 3,
-    never: [1, 1, NONE, NONE, NONE],
+    never: [1, 1, NONE, NONE, NONE, NONE],
 };
 
 // For each of two orders of the stores, the loads are two of three values that don't go back: six pairs.
@@ -100,7 +102,37 @@ exists (2:x7=1 /\\ 2:x9=2 /\\ x=1)
         names: &[Name::Received(2, 0), Name::Received(2, 1), Name::Word(X)],
     },
     ends: 12,
-    never: [1, 2, 1, NONE, NONE],
+    never: [1, 2, 1, NONE, NONE, NONE],
+};
+
+// Each reader sees three of the four values that don't go back, twenty triples, whatever the other one sees.
+const TWO_READERS: Case = Case {
+    text: b"RISCV TWO-READERS
+{ 0:x5=1; 0:x6=x; 0:x7=2; 0:x9=3; 1:x6=x; 2:x6=x; }
+ P0          | P1           | P2           ;
+ sw x5,0(x6) | lw x7,0(x6)  | lw x7,0(x6)  ;
+ sw x7,0(x6) | lw x9,0(x6)  | lw x9,0(x6)  ;
+ sw x9,0(x6) | lw x10,0(x6) | lw x10,0(x6) ;
+exists (1:x7=0 /\\ 1:x9=2 /\\ 1:x10=1 /\\ 2:x7=0 /\\ 2:x9=0 /\\ 2:x10=0)
+",
+    program: Program {
+        words: [0, 0, 0],
+        threads: &[
+            &[Step::Store(X, 1), Step::Store(X, 2), Step::Store(X, 3)],
+            &[Step::Load(X), Step::Load(X), Step::Load(X)],
+            &[Step::Load(X), Step::Load(X), Step::Load(X)],
+        ],
+        names: &[
+            Name::Received(1, 0),
+            Name::Received(1, 1),
+            Name::Received(1, 2),
+            Name::Received(2, 0),
+            Name::Received(2, 1),
+            Name::Received(2, 2),
+        ],
+    },
+    ends: 400,
+    never: [0, 2, 1, 0, 0, 0],
 };
 
 // The thread that stores last sees its own value twice; the other one sees that value twice, once or never.
@@ -128,7 +160,7 @@ exists (0:x7=1 /\\ 0:x9=2 /\\ 1:x7=2 /\\ 1:x9=1 /\\ x=2)
         ],
     },
     ends: 6,
-    never: [1, 2, 2, 1, 2],
+    never: [1, 2, 2, 1, 2, NONE],
 };
 
 // The second swap receives what the first one stored.
@@ -145,7 +177,7 @@ exists (0:x7=5 /\\ 1:x7=5 /\\ x=2)
         names: &[Name::Received(0, 0), Name::Received(1, 0), Name::Word(X)],
     },
     ends: 2,
-    never: [5, 5, 2, NONE, NONE],
+    never: [5, 5, 2, NONE, NONE, NONE],
 };
 
 // Six orders of three swaps, each with an end of its own.
@@ -171,7 +203,7 @@ const THREE_SWAPS: Case = Case {
         ],
     },
     ends: 6,
-    never: [5, 1, 1, 2, NONE],
+    never: [5, 1, 1, 2, NONE, NONE],
 };
 
 // Of eight ends the one is missing in which a store is passed on and then not seen.
@@ -197,7 +229,7 @@ exists (1:x7=1 /\\ 2:x7=1 /\\ 2:x9=0)
         ],
     },
     ends: 7,
-    never: [1, 1, 0, NONE, NONE],
+    never: [1, 1, 0, NONE, NONE, NONE],
 };
 
 // The loads see 000, 001, 011, 101 or 111: once x is seen it stays, and who sees y sees x from then on.
@@ -223,7 +255,33 @@ exists (0:x7=0 /\\ 0:x9=1 /\\ 0:x10=0)
         ],
     },
     ends: 5,
-    never: [0, 1, 0, NONE, NONE],
+    never: [0, 1, 0, NONE, NONE, NONE],
+};
+
+// With y seen, x was stored behind the first load: 00 or 01. Without, the loads of x see 00, 01 or 11.
+const RENEWED: Case = Case {
+    text: b"RISCV RENEWED
+{ 0:x5=1; 0:x6=x; 0:x8=y; 1:x5=1; 1:x6=x; 1:x8=y; 1:x10=z; }
+ P0          | P1           ;
+ lw x7,0(x6) | lw x7,0(x8)  ;
+ sw x5,0(x8) | lw x0,0(x10) ;
+ lw x9,0(x6) | sw x5,0(x6)  ;
+exists (0:x7=1 /\\ 0:x9=1 /\\ 1:x7=1)
+",
+    program: Program {
+        words: [0, 0, 0],
+        threads: &[
+            &[Step::Load(X), Step::Store(Y, 1), Step::Load(X)],
+            &[Step::Load(Y), Step::Load(Z), Step::Store(X, 1)],
+        ],
+        names: &[
+            Name::Received(0, 0),
+            Name::Received(0, 2),
+            Name::Received(1, 0),
+        ],
+    },
+    ends: 5,
+    never: [1, 1, 1, NONE, NONE, NONE],
 };
 
 // While y is as it opened, x is 0, 3 or 4; behind the store to y it is 4.
@@ -248,7 +306,7 @@ exists (1:x7=0 /\\ 1:x9=3)
         names: &[Name::Received(1, 0), Name::Received(1, 1)],
     },
     ends: 4,
-    never: [0, 3, NONE, NONE, NONE],
+    never: [0, 3, NONE, NONE, NONE, NONE],
 };
 
 // What x0 receives is lost, so it stores 0. Who sees that in y sees the swap of x before it; else the swaps go both ways.
@@ -269,7 +327,7 @@ exists (1:x7=0 /\\ 1:x9=6 /\\ x=2)
         names: &[Name::Received(1, 0), Name::Received(1, 1), Name::Word(X)],
     },
     ends: 3,
-    never: [0, 6, 2, NONE, NONE],
+    never: [0, 6, 2, NONE, NONE, NONE],
 };
 
 // Each thread stores what it received: the words get equal, or change places.
@@ -295,7 +353,7 @@ exists (0:x7=2 /\\ 1:x7=1 /\\ x=1 /\\ y=2)
         ],
     },
     ends: 3,
-    never: [2, 1, 1, 2, NONE],
+    never: [2, 1, 1, 2, NONE, NONE],
 };
 
 pub(crate) const CASES: &[Case] = &[
@@ -303,11 +361,13 @@ pub(crate) const CASES: &[Case] = &[
     MESSAGE_PASSING,
     LOAD_BUFFERING,
     TWO_WRITERS,
+    TWO_READERS,
     WRITERS_THAT_READ,
     TWO_SWAPS,
     THREE_SWAPS,
     WRITE_TO_READ,
     READ_AGAIN,
+    RENEWED,
     SET_AND_FENCED,
     REGISTER_ZERO,
     PASSED_ON,

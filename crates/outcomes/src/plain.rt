@@ -8,7 +8,7 @@ const THREADS: usize = 3;
 
 const WORDS: usize = 3;
 
-pub(crate) const VALUES: usize = 5;
+pub(crate) const VALUES: usize = 6;
 
 /// The numbers of nine digits to the base of three: each is an order of nine steps of three threads.
 const ORDERS: usize = 19_683;

@@ -86,20 +86,20 @@ exists (0:x7=1 /\\ 1:x7=1)
 // For each of two orders of the stores, the loads are two of three values that don't go back: six pairs.
 const TWO_WRITERS: Case = Case {
     text: b"RISCV TWO-WRITERS
-{ 0:x5=1; 0:x6=x; 1:x5=2; 1:x6=x; 2:x6=x; }
+{ 0:x5=1; 0:x6=x; 1:x6=x; 2:x5=2; 2:x6=x; }
  P0          | P1          | P2          ;
- sw x5,0(x6) | sw x5,0(x6) | lw x7,0(x6) ;
-             |             | lw x9,0(x6) ;
-exists (2:x7=1 /\\ 2:x9=2 /\\ x=1)
+ sw x5,0(x6) | lw x7,0(x6) | sw x5,0(x6) ;
+             | lw x9,0(x6) |             ;
+exists (1:x7=1 /\\ 1:x9=2 /\\ x=1)
 ",
     program: Program {
         words: [0, 0, 0],
         threads: &[
             &[Step::Store(X, 1)],
-            &[Step::Store(X, 2)],
             &[Step::Load(X), Step::Load(X)],
+            &[Step::Store(X, 2)],
         ],
-        names: &[Name::Received(2, 0), Name::Received(2, 1), Name::Word(X)],
+        names: &[Name::Received(1, 0), Name::Received(1, 1), Name::Word(X)],
     },
     ends: 12,
     never: [1, 2, 1, NONE, NONE, NONE],
@@ -108,24 +108,24 @@ exists (2:x7=1 /\\ 2:x9=2 /\\ x=1)
 // Each reader sees three of the four values that don't go back, twenty triples, whatever the other one sees.
 const TWO_READERS: Case = Case {
     text: b"RISCV TWO-READERS
-{ 0:x5=1; 0:x6=x; 0:x7=2; 0:x9=3; 1:x6=x; 2:x6=x; }
- P0          | P1           | P2           ;
- sw x5,0(x6) | lw x7,0(x6)  | lw x7,0(x6)  ;
- sw x7,0(x6) | lw x9,0(x6)  | lw x9,0(x6)  ;
- sw x9,0(x6) | lw x10,0(x6) | lw x10,0(x6) ;
-exists (1:x7=0 /\\ 1:x9=2 /\\ 1:x10=1 /\\ 2:x7=0 /\\ 2:x9=0 /\\ 2:x10=0)
+{ 0:x6=x; 1:x5=1; 1:x6=x; 1:x7=2; 1:x9=3; 2:x6=x; }
+ P0           | P1          | P2           ;
+ lw x7,0(x6)  | sw x5,0(x6) | lw x7,0(x6)  ;
+ lw x9,0(x6)  | sw x7,0(x6) | lw x9,0(x6)  ;
+ lw x10,0(x6) | sw x9,0(x6) | lw x10,0(x6) ;
+exists (0:x7=0 /\\ 0:x9=2 /\\ 0:x10=1 /\\ 2:x7=0 /\\ 2:x9=0 /\\ 2:x10=0)
 ",
     program: Program {
         words: [0, 0, 0],
         threads: &[
-            &[Step::Store(X, 1), Step::Store(X, 2), Step::Store(X, 3)],
             &[Step::Load(X), Step::Load(X), Step::Load(X)],
+            &[Step::Store(X, 1), Step::Store(X, 2), Step::Store(X, 3)],
             &[Step::Load(X), Step::Load(X), Step::Load(X)],
         ],
         names: &[
-            Name::Received(1, 0),
-            Name::Received(1, 1),
-            Name::Received(1, 2),
+            Name::Received(0, 0),
+            Name::Received(0, 1),
+            Name::Received(0, 2),
             Name::Received(2, 0),
             Name::Received(2, 1),
             Name::Received(2, 2),
@@ -209,21 +209,21 @@ const THREE_SWAPS: Case = Case {
 // Of eight ends the one is missing in which a store is passed on and then not seen.
 const WRITE_TO_READ: Case = Case {
     text: b"RISCV WRC
-{ 0:x5=1; 0:x6=x; 1:x5=1; 1:x6=x; 1:x8=y; 2:x6=x; 2:x8=y; }
+{ 0:x5=1; 0:x6=x; 0:x8=y; 1:x5=1; 1:x6=x; 2:x6=x; 2:x8=y; }
  P0          | P1          | P2          ;
- sw x5,0(x6) | lw x7,0(x6) | lw x7,0(x8) ;
-             | sw x5,0(x8) | lw x9,0(x6) ;
-exists (1:x7=1 /\\ 2:x7=1 /\\ 2:x9=0)
+ lw x7,0(x6) | sw x5,0(x6) | lw x7,0(x8) ;
+ sw x5,0(x8) |             | lw x9,0(x6) ;
+exists (0:x7=1 /\\ 2:x7=1 /\\ 2:x9=0)
 ",
     program: Program {
         words: [0, 0, 0],
         threads: &[
-            &[Step::Store(X, 1)],
             &[Step::Load(X), Step::Store(Y, 1)],
+            &[Step::Store(X, 1)],
             &[Step::Load(Y), Step::Load(X)],
         ],
         names: &[
-            Name::Received(1, 0),
+            Name::Received(0, 0),
             Name::Received(2, 0),
             Name::Received(2, 1),
         ],

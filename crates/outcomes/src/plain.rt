@@ -1,7 +1,7 @@
 //! The plain sequential machine: one memory, and up to three threads that take their steps one at a time, in any order.
 use std::alloc::{AllocError, Global};
 
-/// How many steps a thread has, how many threads and words there are, and how many values an end state at most.
+/// How many steps a thread, how many threads and words a program, and how many values an end state has at most.
 const STEPS: usize = 3;
 
 const THREADS: usize = 3;
@@ -10,7 +10,7 @@ const WORDS: usize = 3;
 
 pub(crate) const VALUES: usize = 6;
 
-/// The numbers of nine digits to the base of three: each is an order of nine steps of three threads.
+/// How many numbers have nine digits to the base of three: each is an order of nine steps, and its last digits one of fewer.
 const ORDERS: usize = 19_683;
 
 /// Stands where an end state has no value.

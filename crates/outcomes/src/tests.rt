@@ -10,12 +10,13 @@ use std::test::Fail;
 
 const RUNS: u64 = 2;
 
-/// How many settings there are.
+/// How many settings there are: one for each way to take nine choices between two options.
 const SETTINGS: u64 = 512;
 
-/// The number of messages that is always enough, and the last time from which there is always time enough.
+/// So many messages are enough for every case.
 const MESSAGES: u64 = 4096;
 
+/// From this time on no sum of times of a case passes 64 bits.
 const LATE: u64 = 4_611_686_018_427_387_904;
 
 // One of two numbers, by a digit.

@@ -13,3 +13,4 @@ pub mod ConditionAgain
 pub mod Explains
 pub mod ExplainsHere
 pub mod FormExplains
+pub mod TableExplains

@@ -14,3 +14,4 @@ pub mod Explains
 pub mod ExplainsHere
 pub mod FormExplains
 pub mod TableExplains
+pub mod VerdictExplains

@@ -15,3 +15,4 @@ pub mod ExplainsHere
 pub mod FormExplains
 pub mod TableExplains
 pub mod VerdictExplains
+pub mod RowExplains

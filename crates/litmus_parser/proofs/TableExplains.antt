@@ -18,8 +18,8 @@ use Rattle.litmus_parser.proofs.TableTakes.{is_thread-is}
 use Rattle.litmus_parser.proofs.TableAgain.{header_again}
 
 -- every kind in every line
-abbrev Any : Kind → ℕ → Type 0
-Any kind n = Unit {0}
+abbrev AnyCause : Kind → ℕ → Type 0
+AnyCause kind n = Unit {0}
 
 -- what is said of a reading, said of its answer
 pub answered : (C : Kind → ℕ → Type 0) {Y : Type 0} (P : Y → Type 0) (r : Result Y LitmusError) (y : Y) → Explains C P r → r ≡ Ok y → P y
@@ -103,4 +103,4 @@ header_explains line pieces e fault =
     (header_from (HeaderCause line pieces) line pieces (λ n p. p) (λ n row l. (row, l, no_header line pieces e fault)) (λ n w rest p named. (w, rest, p, named))) fault
 
 pub header_place : (line : ℕ) (pieces : List Piece) (h : Headings) → header_at line pieces ≡ Ok h → Place line pieces h.1 h.2
-header_place line pieces h is = answered Any (Headed line pieces) (header_at line pieces) h (header_from Any line pieces (λ n p. tt) (λ n row l. tt) (λ n w rest p named. tt)) is
+header_place line pieces h is = answered AnyCause (Headed line pieces) (header_at line pieces) h (header_from AnyCause line pieces (λ n p. tt) (λ n row l. tt) (λ n w rest p named. tt)) is

@@ -29,7 +29,7 @@ has_width : (before : Option Width) (own : Width) (after : Option Width) → Has
 has_width None own after h = h
 has_width (Some first) own after h = h.1
 
-abbrev Any : {X : Type 0} → X → Type 0
+abbrev pub Any : {X : Type 0} → X → Type 0
 Any x = Unit {0}
 
 module _ (items : List Item) (threads line : ℕ) (pieces : List Piece) where

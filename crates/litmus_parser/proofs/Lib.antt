@@ -13,6 +13,7 @@ pub mod ConditionAgain
 pub mod Explains
 pub mod ExplainsHere
 pub mod FormExplains
+pub mod HeaderExplains
 pub mod TableExplains
 pub mod VerdictExplains
 pub mod RowExplains

@@ -12,8 +12,9 @@ pub mod WordsAgain
 pub mod ConditionAgain
 pub mod Explains
 pub mod ExplainsHere
+pub mod Outcomes
 pub mod FormExplains
 pub mod HeaderExplains
-pub mod TableExplains
 pub mod VerdictExplains
 pub mod RowExplains
+pub mod TableExplains

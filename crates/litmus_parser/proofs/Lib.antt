@@ -17,3 +17,9 @@ pub mod ConditionExplains
 pub mod WaysOn
 pub mod ConditionWays
 pub mod BlockAgain
+pub mod Outcomes
+pub mod FormExplains
+pub mod HeaderExplains
+pub mod VerdictExplains
+pub mod RowExplains
+pub mod TableExplains

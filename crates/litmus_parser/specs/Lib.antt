@@ -21,3 +21,4 @@ pub mod GrammarForms
 pub mod GrammarTable
 pub mod GrammarCondition
 pub mod ConditionFaults
+pub mod TableFaults

@@ -10,3 +10,6 @@ pub mod FormAgain
 pub mod TableAgain
 pub mod WordsAgain
 pub mod ConditionAgain
+pub mod Explains
+pub mod ExplainsHere
+pub mod BlockExplains

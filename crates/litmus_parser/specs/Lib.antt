@@ -18,3 +18,5 @@ pub mod GrammarBlock
 pub mod GrammarForms
 pub mod GrammarTable
 pub mod GrammarCondition
+pub mod Places
+pub mod BlockFaults

@@ -1,0 +1,270 @@
+-- The initial block is read, or its fault has its cause.
+use Rattle.std.proofs.Common.{◌≡◌, ℕ, zero, suc, ◌+◌, ◌<◌, ◌≤◌, Bool, true, false, cond, ◌||◌, eqb, ltb, List, [], ◌∷◌, ◌++◌, length, Option, Some, None, Result, Ok, Err, refl, sym, ap, subst, ◌∙◌, append_assoc, arith, inl, inr}
+use Rattle.std.specs.List.{All, list_any}
+use Rattle.std.proofs.lemmas.Bool.{eqb-true, ltb-false, and_parts}
+use Rattle.std.proofs.lemmas.List.{append-nil, length-append, nil_from_length}
+use Rattle.std.proofs.lemmas.List.Elements.{All-nil, All-push, All-weaker, All-head, All-tail}
+use Rattle.litmus_grammar.specs.Pieces.{Piece, Word, Sign, LineEnd}
+use Rattle.litmus_grammar.specs.Spelling.{is_number, number_of, small_of, register_of}
+use Rattle.litmus_grammar.specs.declared.errors.Kind.{Kind}
+use Rattle.litmus_grammar.specs.declared.errors.Kind.TheVariants.{BadInitial, DoubleInitial, ValueRange}
+use Rattle.litmus_grammar.specs.declared.errors.LitmusError.{LitmusError}
+use Rattle.litmus_grammar.specs.Reading.{◌>>=◌, fails, next_at, word_at, sign_at, expect_at, end_line_at, repeat_at}
+use Rattle.litmus_parser.specs.Names.{Names, same_name}
+use Rattle.litmus_parser.specs.ReadingItems.{location_at, number_at, setting_at, register_item_at, location_item_at, item_of, item_at}
+use Rattle.litmus_parser.specs.ReadingBlock.{Block, separated, added, whole_item_at, entry_of, entry_at, unended, items_at, block_at}
+use Rattle.litmus_parser.specs.Places.{Place, Somewhere, HasNumberAbove}
+use Rattle.litmus_parser.specs.BlockFaults.{ItemAt, ItemStands, SetTwice, BlockCause}
+use Rattle.litmus_parser.specs.GrammarWords.{EndsLine, IsNumbered}
+use Rattle.litmus_parser.specs.GrammarBlock.{IsItem}
+use Rattle.litmus_parser.specs.declared.syntax.Name.{Name}
+use Rattle.litmus_parser.specs.declared.syntax.Name.TheVariants.{Register, Location}
+use Rattle.litmus_parser.specs.declared.syntax.Setting.{Setting}
+use Rattle.litmus_parser.specs.declared.syntax.Setting.TheVariants.{Number, Address}
+use Rattle.litmus_parser.specs.declared.syntax.Item.{Item}
+use Rattle.litmus_parser.proofs.BlockTakes.{location_takes, item_takes}
+use Rattle.litmus_parser.proofs.Explains.{Explains, Onto, start, beyond, over_word, over_sign, bind_explains, test_explains, found_explains, weaker, told, repeat_counted, next_explains, word_explains, sign_explains, expect_explains}
+use Rattle.litmus_parser.proofs.ExplainsHere.{end_line_explains}
+
+-- ---- pieces of the block, read from one of its places; the answers are places behind that one
+
+word_of_block : (line : ℕ) (pieces : List Piece) (n : ℕ) (rest : List Piece) → Place line pieces n rest
+    → Explains (BlockCause line pieces) (λ (x : List ℕ × ℕ × List Piece). Place n rest x.1 (Word x.0 ∷ x.2)) (word_at BadInitial n rest)
+word_of_block line pieces n rest at = word_explains (BlockCause line pieces) n rest BadInitial (λ m p. beyond at p) (λ m r p. (r, beyond at p)) n rest (start n rest)
+
+sign_of_block : (line : ℕ) (pieces : List Piece) (n : ℕ) (rest : List Piece) → Place line pieces n rest
+    → Explains (BlockCause line pieces) (λ (x : ℕ × ℕ × List Piece). Place n rest x.1 (Sign x.0 ∷ x.2)) (sign_at BadInitial n rest)
+sign_of_block line pieces n rest at = sign_explains (BlockCause line pieces) n rest BadInitial (λ m p. beyond at p) (λ m r p. (r, beyond at p)) n rest (start n rest)
+
+expect_of_block : (line : ℕ) (pieces : List Piece) (wanted n : ℕ) (rest : List Piece) → Place line pieces n rest
+    → Explains (BlockCause line pieces) (λ (x : ℕ × List Piece). Place n rest x.0 (Sign wanted ∷ x.1)) (expect_at wanted BadInitial n rest)
+expect_of_block line pieces wanted n rest at = expect_explains (BlockCause line pieces) n rest wanted BadInitial (λ m p. beyond at p) (λ m r p. (r, beyond at p)) n rest (start n rest)
+
+number_of_block : (line : ℕ) (pieces : List Piece) (n : ℕ) (rest : List Piece) → Place line pieces n rest
+    → Explains (BlockCause line pieces) (λ (x : ℕ × ℕ × List Piece). Place n rest x.1 x.2) (number_at BadInitial n rest)
+unfolding number_at
+number_of_block line pieces n rest at =
+    let C : Kind → ℕ → Type 0 = BlockCause line pieces in
+    let Q : ℕ × ℕ × List Piece → Type 0 = λ x. Place n rest x.1 x.2 in
+    bind_explains C (λ (x : List ℕ × ℕ × List Piece). Place n rest x.1 (Word x.0 ∷ x.2)) Q (word_at BadInitial n rest) _ (word_of_block line pieces n rest at) (λ w e p.
+    test_explains C Q (is_number w.0) _ (fails BadInitial w.1) (λ d.
+    test_explains C Q (ltb (number_of w.0) 2147483648) (Ok (number_of w.0, w.1, w.2)) (fails ValueRange w.1) (λ f. over_word p)
+    (λ f. (w.0, w.2, beyond at p, d, omega (arith, ltb-false _ _ f)))) (λ d. (_, beyond at p)))
+
+answered : (C : Kind → ℕ → Type 0) {Y : Type 0} (P : Y → Type 0) (r : Result Y LitmusError) (y : Y) → Explains C P r → r ≡ Ok y → P y
+answered C P (Ok x) y h is = let same : x ≡ y = cc in subst P same h
+answered C P (Err d) y h is = absurd cc
+
+-- ---- names
+
+abbrev Grows : Names → Names → Type 0
+Grows names more = (new : Names) × (more ≡ names ++ new)
+
+grows-more : (a b c : Names) → Grows a b → Grows b c → Grows a c
+grows-more a b c g h = (g.0 ++ h.0, h.1 ∙ ap (λ x. x ++ h.0) g.1 ∙ append_assoc a g.0 h.0)
+
+grows-same : (a b : Names) → b ≡ a → Grows a b
+grows-same a b e = ([], e ∙ sym (append-nil a))
+
+numbered-grows : (word : List ℕ) (before : Names) (l : ℕ) (after : Names) → IsNumbered word before l after → Grows before after
+numbered-grows word before l after (_, _, inl h) = grows-same before after h.1
+numbered-grows word before l after (_, _, inr h) = (word ∷ [], h.2)
+
+same_name-is : (a b : Name) → same_name a b ≡ true → a ≡ b
+same_name-is (Register s q) (Register t r) e = let p = and_parts (eqb s t) (eqb q r) e in rw (eqb-true s t p.0, eqb-true q r p.1) refl
+same_name-is (Location l) (Location m) e = rw (eqb-true l m e) refl
+same_name-is (Register s q) (Location m) e = absurd cc
+same_name-is (Location l) (Register t r) e = absurd cc
+
+-- ---- the state between two items
+
+-- an earlier item: it stands in the block, and the present place and the present names come behind it
+record Behind (line : ℕ) (pieces : List Piece) (names : Names) (n : ℕ) (rest : List Piece) (item : Item) : Type 0 where
+  before : Names
+  after : Names
+  end : ℕ
+  behind : List Piece
+  is : ItemAt line pieces item before after end behind
+  onward : Place end behind n rest
+  grows : Grows after names
+
+record Stands (line : ℕ) (pieces : List Piece) (s : Block) : Type 0 where
+  at : Place line pieces s.2 s.3
+  items : All (Behind line pieces s.1 s.2 s.3) s.0
+
+behind-on : (line : ℕ) (pieces : List Piece) (names : Names) (n : ℕ) (rest : List Piece) (names' : Names) (m : ℕ) (r : List Piece) (item : Item)
+    → Grows names names' → Place n rest m r → Behind line pieces names n rest item → Behind line pieces names' m r item
+behind-on line pieces names n rest names' m r item g p b = record { before = b.before; after = b.after; end = b.end; behind = b.behind; is = b.is; onward = beyond b.onward p; grows = grows-more b.after names names' b.grows g }
+
+stands-on : (line : ℕ) (pieces : List Piece) (s : Block) (m : ℕ) (r : List Piece) → Stands line pieces s → Place s.2 s.3 m r → Stands line pieces (s.0, s.1, m, r)
+stands-on line pieces s m r st p = record {
+  at = beyond st.at p;
+  items = All-weaker (Behind line pieces s.1 s.2 s.3) (Behind line pieces s.1 m r) (λ item. behind-on line pieces s.1 s.2 s.3 s.1 m r item (grows-same s.1 s.1 refl) p) s.0 st.items;
+}
+
+some-such : (P : Item → Type 0) (test : Item → Bool) (items : List Item) → All P items → list_any test items ≡ true → (x : Item) × P x × (test x ≡ true)
+some-such P test [] h e = absurd cc
+some-such P test (x ∷ items) h e = which P test x items (All-head P x items h) (some-such P test items (All-tail P x items h)) (test x) refl e
+  where
+    which : (P : Item → Type 0) (test : Item → Bool) (x : Item) (items : List Item) → P x → (list_any test items ≡ true → (y : Item) × P y × (test y ≡ true))
+        → (b : Bool) → test x ≡ b → (b || list_any test items) ≡ true → (y : Item) × P y × (test y ≡ true)
+    which P test x items p go true e h = (x, p, e)
+    which P test x items p go false e h = go h
+
+-- ---- items, one after another
+
+-- what item_at answers of an item whose first word stands in line n, with the rest behind that
+record ItemRead (line : ℕ) (pieces : List Piece) (names : Names) (n : ℕ) (rest : List Piece) (x : (Item × Names) × ℕ × List Piece) : Type 0 where
+  in_line : x.0.0.line ≡ n
+  onward : Place n rest x.1 x.2
+  grows : Grows names x.0.1
+
+item_explains : (line : ℕ) (pieces : List Piece) (first : List ℕ) (names : Names) (n : ℕ) (rest : List Piece) → Place line pieces n (Word first ∷ rest)
+    → Explains (BlockCause line pieces) (ItemRead line pieces names n rest) (item_at first names n rest)
+item_explains line pieces first names n rest at = ?
+
+separated_explains : (line : ℕ) (pieces : List Piece) (n : ℕ) (rest : List Piece) → Place line pieces n rest
+    → Explains (BlockCause line pieces) (λ (x : Bool × ℕ × List Piece). Place n rest x.1 x.2) (separated n rest)
+unfolding separated
+separated_explains line pieces n rest at =
+    let C : Kind → ℕ → Type 0 = BlockCause line pieces in
+    let Q : Bool × ℕ × List Piece → Type 0 = λ x. Place n rest x.1 x.2 in
+    bind_explains C (λ (x : ℕ × ℕ × List Piece). Place n rest x.1 (Sign x.0 ∷ x.2)) Q (sign_at BadInitial n rest) _ (sign_of_block line pieces n rest at) (λ s e p.
+    test_explains C Q (eqb s.0 59) (Ok (true, s.1, s.2)) _ (λ t. over_sign p) (λ t.
+    test_explains C Q (eqb s.0 125) (Ok (false, s.1, s.2)) (fails BadInitial s.1) (λ t. over_sign p) (λ t. (_, beyond at p))))
+
+set_twice : (line : ℕ) (pieces : List Piece) (s : Block) (other item : Item) (after : Names) (end : ℕ) (rest : List Piece)
+    → Behind line pieces s.1 s.2 s.3 other → ItemAt s.2 s.3 item s.1 after end rest → other.name ≡ item.name → SetTwice line pieces item.line
+set_twice line pieces s other item after end rest b i same = record {
+  earlier = other;
+  later = item;
+  before = b.before;
+  between = b.after;
+  further = b.grows.0;
+  after = after;
+  end = b.end;
+  behind = b.behind;
+  last = end;
+  rest = rest;
+  first_is = b.is;
+  second_is = record { first = i.first; more = i.more; begins = beyond b.onward i.begins; is = subst (λ names. IsItem (Word i.first ∷ i.more) names item.name item.setting after rest) b.grows.1 i.is; ends = i.ends };
+  same = same;
+  line_is = refl;
+}
+
+added_explains : (line : ℕ) (pieces : List Piece) (s : Block) (item : Item) (after : Names) (end : ℕ) (rest : List Piece) → Stands line pieces s → ItemAt s.2 s.3 item s.1 after end rest
+    → Explains (BlockCause line pieces) (λ (items : List Item). items ≡ s.0 ++ item ∷ []) (added s.0 item)
+unfolding added
+added_explains line pieces s item after end rest st i =
+    test_explains (BlockCause line pieces) (λ (items : List Item). items ≡ s.0 ++ item ∷ []) (list_any (λ other. same_name other.name item.name) s.0) (fails DoubleInitial item.line) (Ok (s.0 ++ item ∷ []))
+    (λ t. let o = some-such (Behind line pieces s.1 s.2 s.3) (λ other. same_name other.name item.name) s.0 st.items t in
+    set_twice line pieces s o.0 item after end rest o.1 i (same_name-is o.0.name item.name o.2))
+    (λ t. refl)
+
+-- the item that was read stands where the state is
+item_stands : (s : Block) (first : List ℕ) (n : ℕ) (rest : List Piece) (x : (Item × Names) × ℕ × List Piece) → Place s.2 s.3 n (Word first ∷ rest) → x.0.0.line ≡ n → Place n rest x.1 x.2
+    → item_at first s.1 n rest ≡ Ok x → ItemAt s.2 s.3 x.0.0 s.1 x.0.1 x.1 x.2
+item_stands s first n rest x at in_line onward e = record {
+  first = first;
+  more = rest;
+  begins = subst (λ m. Place s.2 s.3 m (Word first ∷ rest)) (sym in_line) at;
+  is = item_takes (Word first ∷ rest) first s.1 n rest x (refl, refl) e;
+  ends = subst (λ m. Place m (Word first ∷ rest) x.1 x.2) (sym in_line) (beyond (over_word (start n (Word first ∷ rest))) onward);
+}
+
+-- ---- the turns
+
+place-shorter : (n : ℕ) (pieces : List Piece) (m : ℕ) (rest : List Piece) → Place n pieces m rest → length rest ≤ length pieces
+place-shorter n pieces m rest p =
+    let e : length pieces ≡ length (p.front ++ rest) = ap length p.split in
+    let f : length (p.front ++ rest) ≡ length p.front + length rest = length-append p.front rest in
+    omega (arith, e, f)
+
+-- a state with k turns left
+abbrev Left : ℕ → List Piece → ℕ → Block → Type 0
+Left line pieces k s = Stands line pieces s × (length s.3 ≤ k)
+
+onto-either : (line : ℕ) (pieces : List Piece) (k : ℕ) (more : Bool) (t : Block) → Left line pieces k t → Onto (Left line pieces k) (Stands line pieces) (more, t)
+onto-either line pieces k true t l = l
+onto-either line pieces k false t l = l.0
+
+-- behind the item there are fewer pieces
+item-shorter : (s : Block) (first : List ℕ) (n : ℕ) (rest : List Piece) (m : ℕ) (r : List Piece) (k : ℕ) → Place s.2 s.3 n (Word first ∷ rest) → Place n rest m r → length s.3 ≤ suc k → length r ≤ k
+item-shorter s first n rest m r k p q le =
+    let a : length (Word first ∷ rest) ≤ length s.3 = place-shorter s.2 s.3 n (Word first ∷ rest) p in
+    let b : length r ≤ length rest = place-shorter n rest m r q in
+    omega (arith, a, b, le)
+
+-- the state behind an item
+with_item : (line : ℕ) (pieces : List Piece) (s : Block) (item : Item) (after : Names) (end : ℕ) (behind : List Piece) (items : List Item) (m : ℕ) (r : List Piece)
+    → Stands line pieces s → ItemAt s.2 s.3 item s.1 after end behind → Grows s.1 after → Place s.2 s.3 end behind → Place end behind m r → items ≡ s.0 ++ item ∷ []
+    → Stands line pieces (items, after, m, r)
+with_item line pieces s item after end behind items m r st i g on p e =
+    let old : All (Behind line pieces after m r) s.0 = All-weaker (Behind line pieces s.1 s.2 s.3) (Behind line pieces after m r) (λ other. behind-on line pieces s.1 s.2 s.3 after m r other g (beyond on p)) s.0 st.items in
+    let new : Behind line pieces after m r item = record {
+      before = s.1;
+      after = after;
+      end = end;
+      behind = behind;
+      is = record { first = i.first; more = i.more; begins = beyond st.at i.begins; is = i.is; ends = i.ends };
+      onward = p;
+      grows = grows-same after after refl;
+    } in
+    record { at = beyond st.at (beyond on p); items = subst (All (Behind line pieces after m r)) (sym e) (All-push (Behind line pieces after m r) s.0 item old new) }
+
+whole_item_explains : (line : ℕ) (pieces : List Piece) (k : ℕ) (s : Block) (first : List ℕ) (n : ℕ) (rest : List Piece) → Left line pieces (suc k) s → Place s.2 s.3 n (Word first ∷ rest)
+    → Explains (BlockCause line pieces) (Onto (Left line pieces k) (Stands line pieces)) (whole_item_at first (s.0, s.1, n, rest))
+unfolding whole_item_at
+whole_item_explains line pieces k s first n rest l at =
+    let C : Kind → ℕ → Type 0 = BlockCause line pieces in
+    let Q : Bool × Block → Type 0 = Onto (Left line pieces k) (Stands line pieces) in
+    bind_explains C (ItemRead line pieces s.1 n rest) Q (item_at first s.1 n rest) _ (item_explains line pieces first s.1 n rest (beyond l.0.at at)) (λ x e i.
+    let is : ItemAt s.2 s.3 x.0.0 s.1 x.0.1 x.1 x.2 = item_stands s first n rest x at i.in_line i.onward e in
+    let on : Place s.2 s.3 x.1 x.2 = beyond (over_word at) i.onward in
+    bind_explains C (λ (items : List Item). items ≡ s.0 ++ x.0.0 ∷ []) Q (added s.0 x.0.0) _ (added_explains line pieces s x.0.0 x.0.1 x.1 x.2 l.0 is) (λ items e' a.
+    bind_explains C (λ (y : Bool × ℕ × List Piece). Place x.1 x.2 y.1 y.2) Q (separated x.1 x.2) (λ more. Ok (more.0, (items, x.0.1, more.1, more.2))) (separated_explains line pieces x.1 x.2 (beyond l.0.at on)) (λ more e'' p.
+    onto-either line pieces k more.0 (items, x.0.1, more.1, more.2)
+    (with_item line pieces s x.0.0 x.0.1 x.1 x.2 items more.1 more.2 l.0 is i.grows on p a, item-shorter s first n rest more.1 more.2 k at (beyond i.onward p) l.1))))
+
+entry_of_explains : (line : ℕ) (pieces : List Piece) (k : ℕ) (s : Block) (p : Piece) (n : ℕ) (rest : List Piece) → Left line pieces (suc k) s → Place s.2 s.3 n (p ∷ rest)
+    → Explains (BlockCause line pieces) (Onto (Left line pieces k) (Stands line pieces)) (entry_of s.0 s.1 (p, n, rest))
+entry_of_explains line pieces k s (Word first) n rest l at = whole_item_explains line pieces k s first n rest l at
+entry_of_explains line pieces k s (Sign b) n rest l at =
+    test_explains (BlockCause line pieces) (Onto (Left line pieces k) (Stands line pieces)) (eqb b 125) (Ok (false, (s.0, s.1, n, rest))) (fails BadInitial n)
+    (λ t. stands-on line pieces s n rest l.0 (over_sign at)) (λ t. (_, beyond l.0.at at))
+entry_of_explains line pieces k s LineEnd n rest l at = (_, beyond l.0.at at)
+
+entry_explains : (line : ℕ) (pieces : List Piece) (k : ℕ) (s : Block) → Left line pieces (suc k) s → Explains (BlockCause line pieces) (Onto (Left line pieces k) (Stands line pieces)) (entry_at s)
+unfolding entry_at
+entry_explains line pieces k s l =
+    bind_explains (BlockCause line pieces) (λ (x : Piece × ℕ × List Piece). Place s.2 s.3 x.1 (x.0 ∷ x.2)) (Onto (Left line pieces k) (Stands line pieces)) (next_at s.2 s.3) (entry_of s.0 s.1)
+    (next_explains (BlockCause line pieces) s.2 s.3 (λ m p. beyond l.0.at p) s.2 s.3 (start s.2 s.3)) (λ x e p. entry_of_explains line pieces k s x.0 x.1 x.2 l p)
+
+-- no turn is left only where no piece is left
+unended_explains : (line : ℕ) (pieces : List Piece) (s : Block) → Left line pieces 0 s → Explains (BlockCause line pieces) (Stands line pieces) (unended s)
+unended_explains line pieces s l = subst (λ rest. Place line pieces s.2 rest) (nil_from_length s.3 (omega (arith, l.1))) l.0.at
+
+items_explains : (line : ℕ) (pieces : List Piece) (n : ℕ) (rest : List Piece) → length rest ≤ 65536 → Place line pieces n rest → Explains (BlockCause line pieces) (Stands line pieces) (items_at [] n rest)
+unfolding items_at
+items_explains line pieces n rest le at =
+    let stands : Stands line pieces ([], [], n, rest) = record { at = at; items = All-nil (Behind line pieces [] n rest) } in
+    repeat_counted (BlockCause line pieces) (Left line pieces) (Stands line pieces) entry_at unended (λ k s l. entry_explains line pieces k s l) (λ s l. unended_explains line pieces s l)
+    65536 ([], [], n, rest) (stands, le)
+
+whole_block : (line : ℕ) (pieces : List Piece) → length pieces ≤ 65536 → Explains (BlockCause line pieces) (Stands line pieces) (block_at [] line pieces)
+unfolding block_at
+whole_block line pieces le =
+    let C : Kind → ℕ → Type 0 = BlockCause line pieces in
+    bind_explains C (λ (x : ℕ × List Piece). Place line pieces x.0 (Sign 123 ∷ x.1)) (Stands line pieces) (expect_at 123 BadInitial line pieces) _ (expect_of_block line pieces 123 line pieces (start line pieces)) (λ brace e p.
+    let shorter : length brace.1 ≤ length pieces = place-shorter line pieces brace.0 brace.1 (over_sign p) in
+    bind_explains C (Stands line pieces) (Stands line pieces) (items_at [] brace.0 brace.1) _ (items_explains line pieces brace.0 brace.1 (omega (arith, shorter, le)) (over_sign p)) (λ b e' st.
+    bind_explains C (λ (x : ℕ × List Piece). Place b.2 b.3 x.0 x.1 × EndsLine b.3 x.1) (Stands line pieces) (end_line_at BadInitial b.2 b.3) (λ next. Ok (b.0, b.1, next.0, next.1))
+    (end_line_explains C b.2 b.3 BadInitial b.2 b.3 (b.3, st.at) (start b.2 b.3)) (λ next e'' q. stands-on line pieces b next.0 next.1 st q.0)))
+
+pub block_explains : (line : ℕ) (pieces : List Piece) (e : LitmusError) → length pieces ≤ 65536 → block_at [] line pieces ≡ Err e → BlockCause line pieces e.kind e.line
+block_explains line pieces e le is = told (BlockCause line pieces) (Stands line pieces) (block_at [] line pieces) e (whole_block line pieces le) is
+
+pub block_place : (line : ℕ) (pieces : List Piece) (b : Block) → length pieces ≤ 65536 → block_at [] line pieces ≡ Ok b → Place line pieces b.2 b.3 × All (ItemStands line pieces) b.0
+block_place line pieces b le is =
+    let s = answered (BlockCause line pieces) (Stands line pieces) (block_at [] line pieces) b (whole_block line pieces le) is in
+    (s.at, All-weaker (Behind line pieces b.1 b.2 b.3) (ItemStands line pieces) (λ item h. (h.before, h.after, h.end, h.behind, h.is)) b.0 s.items)

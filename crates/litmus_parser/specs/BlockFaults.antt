@@ -1,0 +1,53 @@
+-- What is wrong with an initial block, and in which line.
+use Rattle.std.specs.Prelude.{◌≡◌, ℕ, ◌++◌, List, [], ◌∷◌}
+use Rattle.litmus_grammar.specs.Pieces.{Piece, Word}
+use Rattle.litmus_grammar.specs.declared.errors.Kind.{Kind}
+use Rattle.litmus_grammar.specs.declared.errors.Kind.TheVariants.{TooLarge, BadInitial, DoubleInitial, ValueRange, CutShort}
+use Rattle.litmus_parser.specs.Names.{Names}
+use Rattle.litmus_parser.specs.Places.{Place, Somewhere, HasNumberAbove}
+use Rattle.litmus_parser.specs.GrammarBlock.{IsItem}
+use Rattle.litmus_parser.specs.declared.syntax.Item.{Item}
+
+-- the item stands in pieces that begin in this line: its first word in the item's line, and behind it, in line end, the rest
+pub record ItemAt (line : ℕ) (pieces : List Piece) (item : Item) (before after : Names) (end : ℕ) (rest : List Piece) : Type 0 where
+  pub first : List ℕ
+  pub more : List Piece
+  pub begins : Place line pieces item.line (Word first ∷ more)
+  pub is : IsItem (Word first ∷ more) before item.name item.setting after rest
+  pub ends : Place item.line (Word first ∷ more) end rest
+
+-- the item stands there, with some locations named before it
+abbrev pub ItemStands : ℕ → List Piece → Item → Type 0
+ItemStands line pieces item = (before after : Names) × (end : ℕ) × (rest : List Piece) × ItemAt line pieces item before after end rest
+
+-- an item in line n sets the name that an item in front of it sets; the locations named up to the first one
+-- come first in those named before the second, so that the same number is the same location
+pub record SetTwice (line : ℕ) (pieces : List Piece) (n : ℕ) : Type 0 where
+  pub earlier : Item
+  pub later : Item
+  pub before : Names
+  pub between : Names
+  pub further : Names
+  pub after : Names
+  pub end : ℕ
+  pub behind : List Piece
+  pub last : ℕ
+  pub rest : List Piece
+  pub first_is : ItemAt line pieces earlier before between end behind
+  pub second_is : ItemAt end behind later (between ++ further) after last rest
+  pub same : earlier.name ≡ later.name
+  pub line_is : n ≡ later.line
+
+-- what stands in line n where the initial block, whose pieces begin in this line, has a fault of the kind
+abbrev pub BlockCause : ℕ → List Piece → Kind → ℕ → Type 0
+-- an item or a sign that should stand there doesn't
+BlockCause line pieces BadInitial n = Somewhere line pieces n
+-- the pieces end there
+BlockCause line pieces CutShort n = Place line pieces n []
+-- a number that doesn't fit
+BlockCause line pieces ValueRange n = HasNumberAbove 2147483647 line pieces n
+-- a register or a location is set a second time
+BlockCause line pieces DoubleInitial n = SetTwice line pieces n
+-- a 65th location
+BlockCause line pieces TooLarge n = Unit {0}
+BlockCause line pieces kind n = ⊥

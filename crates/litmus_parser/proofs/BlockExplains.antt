@@ -180,9 +180,17 @@ place-shorter n pieces m rest p =
     let f : length (p.front ++ rest) ≡ length p.front + length rest = length-append p.front rest in
     omega (arith, e, f)
 
--- a state with k turns left
+-- a state with k turns left: where a block isn't too long, they are enough
 abbrev Left : ℕ → List Piece → ℕ → Block → Type 0
-Left line pieces k s = Stands line pieces s × (length s.3 ≤ k)
+Left line pieces k s = Stands line pieces s × (length pieces ≤ 65536 → length s.3 ≤ k)
+
+-- the cause in a block that isn't too long
+abbrev ShortCause : ℕ → List Piece → Kind → ℕ → Type 0
+ShortCause line pieces kind n = length pieces ≤ 65536 → BlockCause line pieces kind n
+
+in_short : {Y : Type 0} (line : ℕ) (pieces : List Piece) (P : Y → Type 0) (r : Result Y LitmusError) → Explains (BlockCause line pieces) P r → Explains (ShortCause line pieces) P r
+in_short line pieces P (Ok y) h = h
+in_short line pieces P (Err e) h = λ short. h
 
 onto-either : (line : ℕ) (pieces : List Piece) (k : ℕ) (more : Bool) (t : Block) → Left line pieces k t → Onto (Left line pieces k) (Stands line pieces) (more, t)
 onto-either line pieces k true t l = l
@@ -224,7 +232,7 @@ whole_item_explains line pieces k s first n rest l at =
     bind_explains C (λ (items : List Item). items ≡ s.0 ++ x.0.0 ∷ []) Q (added s.0 x.0.0) _ (added_explains line pieces s x.0.0 x.0.1 x.1 x.2 l.0 is) (λ items e' a.
     bind_explains C (λ (y : Bool × ℕ × List Piece). Place x.1 x.2 y.1 y.2) Q (separated x.1 x.2) (λ more. Ok (more.0, (items, x.0.1, more.1, more.2))) (separated_explains line pieces x.1 x.2 (beyond l.0.at on)) (λ more e'' p.
     onto-either line pieces k more.0 (items, x.0.1, more.1, more.2)
-    (with_item line pieces s x.0.0 x.0.1 x.1 x.2 items more.1 more.2 l.0 is i.grows on p a, item-shorter s first n rest more.1 more.2 k at (beyond i.onward p) l.1))))
+    (with_item line pieces s x.0.0 x.0.1 x.1 x.2 items more.1 more.2 l.0 is i.grows on p a, λ short. item-shorter s first n rest more.1 more.2 k at (beyond i.onward p) (l.1 short)))))
 
 entry_of_explains : (line : ℕ) (pieces : List Piece) (k : ℕ) (s : Block) (p : Piece) (n : ℕ) (rest : List Piece) → Left line pieces (suc k) s → Place s.2 s.3 n (p ∷ rest)
     → Explains (BlockCause line pieces) (Onto (Left line pieces k) (Stands line pieces)) (entry_of s.0 s.1 (p, n, rest))
@@ -241,30 +249,34 @@ entry_explains line pieces k s l =
     (next_explains (BlockCause line pieces) s.2 s.3 (λ m p. beyond l.0.at p) s.2 s.3 (start s.2 s.3)) (λ x e p. entry_of_explains line pieces k s x.0 x.1 x.2 l p)
 
 -- no turn is left only where no piece is left
-unended_explains : (line : ℕ) (pieces : List Piece) (s : Block) → Left line pieces 0 s → Explains (BlockCause line pieces) (Stands line pieces) (unended s)
-unended_explains line pieces s l = subst (λ rest. Place line pieces s.2 rest) (nil_from_length s.3 (omega (arith, l.1))) l.0.at
+unended_explains : (line : ℕ) (pieces : List Piece) (s : Block) → Left line pieces 0 s → Explains (ShortCause line pieces) (Stands line pieces) (unended s)
+unended_explains line pieces s l = λ short. let few = l.1 short in subst (λ rest. Place line pieces s.2 rest) (nil_from_length s.3 (omega (arith, few))) l.0.at
 
-items_explains : (line : ℕ) (pieces : List Piece) (n : ℕ) (rest : List Piece) → length rest ≤ 65536 → Place line pieces n rest → Explains (BlockCause line pieces) (Stands line pieces) (items_at [] n rest)
+items_explains : (line : ℕ) (pieces : List Piece) (n : ℕ) (rest : List Piece) → Place line pieces n rest → Explains (ShortCause line pieces) (Stands line pieces) (items_at [] n rest)
 unfolding items_at
-items_explains line pieces n rest le at =
+items_explains line pieces n rest at =
+    let shorter : length rest ≤ length pieces = place-shorter line pieces n rest at in
     let stands : Stands line pieces ([], [], n, rest) = record { at = at; items = All-nil (Behind line pieces [] n rest) } in
-    repeat_counted (BlockCause line pieces) (Left line pieces) (Stands line pieces) entry_at unended (λ k s l. entry_explains line pieces k s l) (λ s l. unended_explains line pieces s l)
-    65536 ([], [], n, rest) (stands, le)
+    repeat_counted (ShortCause line pieces) (Left line pieces) (Stands line pieces) entry_at unended
+    (λ k s l. in_short line pieces (Onto (Left line pieces k) (Stands line pieces)) (entry_at s) (entry_explains line pieces k s l)) (λ s l. unended_explains line pieces s l)
+    65536 ([], [], n, rest) (stands, λ short. omega (arith, shorter, short))
 
-whole_block : (line : ℕ) (pieces : List Piece) → length pieces ≤ 65536 → Explains (BlockCause line pieces) (Stands line pieces) (block_at [] line pieces)
+whole_block : (line : ℕ) (pieces : List Piece) → Explains (ShortCause line pieces) (Stands line pieces) (block_at [] line pieces)
 unfolding block_at
-whole_block line pieces le =
-    let C : Kind → ℕ → Type 0 = BlockCause line pieces in
-    bind_explains C (λ (x : ℕ × List Piece). Place line pieces x.0 (Sign 123 ∷ x.1)) (Stands line pieces) (expect_at 123 BadInitial line pieces) _ (expect_of_block line pieces 123 line pieces (start line pieces)) (λ brace e p.
-    let shorter : length brace.1 ≤ length pieces = place-shorter line pieces brace.0 brace.1 (over_sign p) in
-    bind_explains C (Stands line pieces) (Stands line pieces) (items_at [] brace.0 brace.1) _ (items_explains line pieces brace.0 brace.1 (omega (arith, shorter, le)) (over_sign p)) (λ b e' st.
+whole_block line pieces =
+    let C : Kind → ℕ → Type 0 = ShortCause line pieces in
+    let Brace : ℕ × List Piece → Type 0 = λ x. Place line pieces x.0 (Sign 123 ∷ x.1) in
+    bind_explains C Brace (Stands line pieces) (expect_at 123 BadInitial line pieces) _ (in_short line pieces Brace (expect_at 123 BadInitial line pieces) (expect_of_block line pieces 123 line pieces (start line pieces))) (λ brace e p.
+    bind_explains C (Stands line pieces) (Stands line pieces) (items_at [] brace.0 brace.1) _ (items_explains line pieces brace.0 brace.1 (over_sign p)) (λ b e' st.
     bind_explains C (λ (x : ℕ × List Piece). Place b.2 b.3 x.0 x.1 × EndsLine b.3 x.1) (Stands line pieces) (end_line_at BadInitial b.2 b.3) (λ next. Ok (b.0, b.1, next.0, next.1))
-    (end_line_explains C b.2 b.3 BadInitial b.2 b.3 (b.3, st.at) (start b.2 b.3)) (λ next e'' q. stands-on line pieces b next.0 next.1 st q.0)))
+    (end_line_explains C b.2 b.3 BadInitial b.2 b.3 (λ short. (b.3, st.at)) (start b.2 b.3)) (λ next e'' q. stands-on line pieces b next.0 next.1 st q.0)))
+
+-- ---- the whole
 
 pub block_explains : (line : ℕ) (pieces : List Piece) (e : LitmusError) → length pieces ≤ 65536 → block_at [] line pieces ≡ Err e → BlockCause line pieces e.kind e.line
-block_explains line pieces e le is = told (BlockCause line pieces) (Stands line pieces) (block_at [] line pieces) e (whole_block line pieces le) is
+block_explains line pieces e short is = told (ShortCause line pieces) (Stands line pieces) (block_at [] line pieces) e (whole_block line pieces) is short
 
-pub block_place : (line : ℕ) (pieces : List Piece) (b : Block) → length pieces ≤ 65536 → block_at [] line pieces ≡ Ok b → Place line pieces b.2 b.3 × All (ItemStands line pieces) b.0
-block_place line pieces b le is =
-    let s = answered (BlockCause line pieces) (Stands line pieces) (block_at [] line pieces) b (whole_block line pieces le) is in
+pub block_place : (line : ℕ) (pieces : List Piece) (b : Block) → block_at [] line pieces ≡ Ok b → Place line pieces b.2 b.3 × All (ItemStands line pieces) b.0
+block_place line pieces b is =
+    let s = answered (ShortCause line pieces) (Stands line pieces) (block_at [] line pieces) b (whole_block line pieces) is in
     (s.at, All-weaker (Behind line pieces b.1 b.2 b.3) (ItemStands line pieces) (λ item h. (h.before, h.after, h.end, h.behind, h.is)) b.0 s.items)

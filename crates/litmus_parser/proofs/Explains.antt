@@ -10,32 +10,32 @@ use Rattle.litmus_parser.specs.Places.{Place, line_ends}
 
 -- ---- places
 
-line-ends-append : (xs ys : List Piece) → line_ends (xs ++ ys) ≡ line_ends xs + line_ends ys
+pub line-ends-append : (xs ys : List Piece) → line_ends (xs ++ ys) ≡ line_ends xs + line_ends ys
 unfolding line_ends
 line-ends-append [] ys = omega arith
 line-ends-append (LineEnd ∷ xs) ys = let i = line-ends-append xs ys in omega arith
 line-ends-append (Word w ∷ xs) ys = line-ends-append xs ys
 line-ends-append (Sign b ∷ xs) ys = line-ends-append xs ys
 
-pub start : (line : ℕ) (pieces : List Piece) → Place line pieces line pieces
+unfoldable pub start : (line : ℕ) (pieces : List Piece) → Place line pieces line pieces
 unfolding line_ends
 start line pieces = record { front = []; split = refl; line_is = omega arith }
 
 -- a place behind a place is a place of the whole
-pub beyond : {line : ℕ} {pieces : List Piece} {n : ℕ} {middle : List Piece} {m : ℕ} {rest : List Piece} → Place line pieces n middle → Place n middle m rest → Place line pieces m rest
+unfoldable pub beyond : {line : ℕ} {pieces : List Piece} {n : ℕ} {middle : List Piece} {m : ℕ} {rest : List Piece} → Place line pieces n middle → Place n middle m rest → Place line pieces m rest
 beyond {rest = rest} p q =
     let e = line-ends-append p.front q.front in
     record { front = p.front ++ q.front; split = p.split ∙ ap (λ r. p.front ++ r) q.split ∙ sym (append_assoc p.front q.front rest); line_is = omega (arith, p.line_is, q.line_is) }
 
-pub over_word : {line : ℕ} {pieces : List Piece} {n : ℕ} {w : List ℕ} {rest : List Piece} → Place line pieces n (Word w ∷ rest) → Place line pieces n rest
+unfoldable pub over_word : {line : ℕ} {pieces : List Piece} {n : ℕ} {w : List ℕ} {rest : List Piece} → Place line pieces n (Word w ∷ rest) → Place line pieces n rest
 unfolding line_ends
 over_word {w = w} p = beyond p (record { front = Word w ∷ []; split = refl; line_is = omega arith })
 
-pub over_sign : {line : ℕ} {pieces : List Piece} {n b : ℕ} {rest : List Piece} → Place line pieces n (Sign b ∷ rest) → Place line pieces n rest
+unfoldable pub over_sign : {line : ℕ} {pieces : List Piece} {n b : ℕ} {rest : List Piece} → Place line pieces n (Sign b ∷ rest) → Place line pieces n rest
 unfolding line_ends
 over_sign {b = b} p = beyond p (record { front = Sign b ∷ []; split = refl; line_is = omega arith })
 
-pub over_end : {line : ℕ} {pieces : List Piece} {n : ℕ} {rest : List Piece} → Place line pieces n (LineEnd ∷ rest) → Place line pieces (n + 1) rest
+unfoldable pub over_end : {line : ℕ} {pieces : List Piece} {n : ℕ} {rest : List Piece} → Place line pieces n (LineEnd ∷ rest) → Place line pieces (n + 1) rest
 unfolding line_ends
 over_end p = beyond p (record { front = LineEnd ∷ []; split = refl; line_is = omega arith })
 

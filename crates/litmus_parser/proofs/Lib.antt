@@ -12,4 +12,5 @@ pub mod WordsAgain
 pub mod ConditionAgain
 pub mod Explains
 pub mod ExplainsHere
+pub mod LocationExplains
 pub mod BlockExplains

@@ -5,6 +5,7 @@ use Rattle.litmus_grammar.specs.declared.errors.Kind.{Kind}
 use Rattle.litmus_grammar.specs.declared.errors.Kind.TheVariants.{TooLarge, BadInitial, DoubleInitial, ValueRange, CutShort}
 use Rattle.litmus_parser.specs.Names.{Names}
 use Rattle.litmus_parser.specs.Places.{Place, Somewhere, HasNumberAbove}
+use Rattle.litmus_parser.specs.LocationFaults.{HasLocationTooMany}
 use Rattle.litmus_parser.specs.GrammarBlock.{IsItem}
 use Rattle.litmus_parser.specs.declared.syntax.Item.{Item}
 
@@ -49,5 +50,5 @@ BlockCause line pieces ValueRange n = HasNumberAbove 2147483647 line pieces n
 -- a register or a location is set a second time
 BlockCause line pieces DoubleInitial n = SetTwice line pieces n
 -- a 65th location
-BlockCause line pieces TooLarge n = Unit {0}
+BlockCause line pieces TooLarge n = HasLocationTooMany [] line pieces n
 BlockCause line pieces kind n = ⊥

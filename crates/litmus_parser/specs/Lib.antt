@@ -19,4 +19,5 @@ pub mod GrammarForms
 pub mod GrammarTable
 pub mod GrammarCondition
 pub mod Places
+pub mod LocationFaults
 pub mod BlockFaults

@@ -1,8 +1,11 @@
 -- The initial block is read, or its fault has its cause.
 use Rattle.std.proofs.Common.{◌≡◌, ℕ, zero, suc, ◌+◌, ◌<◌, ◌≤◌, Bool, true, false, cond, ◌||◌, eqb, ltb, List, [], ◌∷◌, ◌++◌, length, Option, Some, None, Result, Ok, Err, refl, sym, ap, subst, ◌∙◌, append_assoc, arith, inl, inr}
 use Rattle.std.specs.List.{All, list_any}
-use Rattle.std.proofs.lemmas.Bool.{eqb-true, ltb-false, and_parts}
+use Rattle.std.proofs.lemmas.Bool.{cases_Bool, eqb-true, ltb-false, and_parts}
 use Rattle.std.proofs.lemmas.List.{append-nil, length-append, nil_from_length}
+use Rattle.std.proofs.lemmas.Slice.Eq.{bytes_eq-Decides}
+use Rattle.std.specs.Str.{bytes_eq}
+use Rattle.litmus_grammar.specs.Naming.{place_of}
 use Rattle.std.proofs.lemmas.List.Elements.{All-nil, All-push, All-weaker, All-head, All-tail}
 use Rattle.litmus_grammar.specs.Pieces.{Piece, Word, Sign, LineEnd}
 use Rattle.litmus_grammar.specs.Spelling.{is_number, number_of, small_of, register_of}
@@ -15,7 +18,7 @@ use Rattle.litmus_parser.specs.ReadingItems.{location_at, number_at, setting_at,
 use Rattle.litmus_parser.specs.ReadingBlock.{Block, separated, added, whole_item_at, entry_of, entry_at, unended, items_at, block_at}
 use Rattle.litmus_parser.specs.Places.{Place, Somewhere, HasNumberAbove}
 use Rattle.litmus_parser.specs.LocationFaults.{AreDifferent, AreSeen}
-use Rattle.litmus_parser.specs.BlockFaults.{ItemAt, ItemStands, SetTwice, BlockCause}
+use Rattle.litmus_parser.specs.BlockFaults.{ItemAt, ItemStands, NameTheSame, SetTwice, BlockCause}
 use Rattle.litmus_parser.specs.GrammarWords.{EndsLine, IsNumbered}
 use Rattle.litmus_parser.specs.GrammarBlock.{IsItem}
 use Rattle.litmus_parser.specs.declared.syntax.Name.{Name}
@@ -52,6 +55,9 @@ number_of_block line pieces n rest at =
     weaker (BlockCause line pieces) (λ (x : ℕ × ℕ × List Piece). (w : List ℕ) × At G n rest x.1 (Word w ∷ x.2)) (λ (x : ℕ × ℕ × List Piece). Place n rest x.1 x.2) (number_at BadInitial n rest) (λ x h. over_word h.1.0)
     (number_keeps (BlockCause line pieces) n rest BadInitial (λ m p. beyond at p) (λ m r p. (r, beyond at p)) (λ m h. above-on 2147483647 line pieces n rest m at h) G (λ front g. tt) n rest (start n rest, tt))
 
+word-is : (v w : List ℕ) → (let p : Piece = Word v in p) ≡ Word w → v ≡ w
+word-is v w e = cc
+
 answered : (C : Kind → ℕ → Type 0) {Y : Type 0} (P : Y → Type 0) (r : Result Y LitmusError) (y : Y) → Explains C P r → r ≡ Ok y → P y
 answered C P (Ok x) y h is = let same : x ≡ y = cc in subst P same h
 answered C P (Err d) y h is = absurd cc
@@ -86,11 +92,52 @@ location_of_block line pieces word n rest names a =
     weaker (BlockCause line pieces) (λ (x : ℕ × Names). AreSeen [] (a.0.front ++ Word word ∷ []) x.1) (λ (x : ℕ × Names). Seen line pieces x.1 n rest) (location_at BadInitial word n names) (λ x h. (over_word a.0, h))
     (location_explains (BlockCause line pieces) [] line pieces BadInitial (λ m r p. (r, p)) (λ m h. h) word n rest names a.0 a.1)
 
-same_name-is : (a b : Name) → same_name a b ≡ true → a ≡ b
-same_name-is (Register s q) (Register t r) e = let p = and_parts (eqb s t) (eqb q r) e in rw (eqb-true s t p.0, eqb-true q r p.1) refl
-same_name-is (Location l) (Location m) e = rw (eqb-true l m e) refl
-same_name-is (Register s q) (Location m) e = absurd cc
-same_name-is (Location l) (Register t r) e = absurd cc
+-- ---- the name in a place of the names
+
+abbrev NameAt : Names → ℕ → List ℕ → Type 0
+NameAt [] k word = ⊥
+NameAt (name ∷ names) zero word = name ≡ word
+NameAt (name ∷ names) (suc k) word = NameAt names k word
+
+name-kept : (names more : Names) (k : ℕ) (word : List ℕ) → NameAt names k word → NameAt (names ++ more) k word
+name-kept [] more k word h = absurd h
+name-kept (name ∷ names) more zero word h = h
+name-kept (name ∷ names) more (suc k) word h = name-kept names more k word h
+
+name-last : (names : Names) (word : List ℕ) → NameAt (names ++ word ∷ []) (length names) word
+name-last [] word = refl
+name-last (name ∷ names) word = name-last names word
+
+one-name : (names : Names) (k : ℕ) (v w : List ℕ) → NameAt names k v → NameAt names k w → v ≡ w
+one-name [] k v w h g = absurd h
+one-name (name ∷ names) zero v w h g = sym h ∙ g
+one-name (name ∷ names) (suc k) v w h g = one-name names k v w h g
+
+name-found : (names : Names) (word : List ℕ) → place_of word names < length names → NameAt names (place_of word names) word
+name-found [] word lt = absurd (omega (arith, lt))
+name-found (name ∷ names) word lt =
+    elim (cases_Bool (bytes_eq name word)) [
+      | inl e ↦ let there : place_of word (name ∷ names) ≡ 0 = rw e refl in rw there ((bytes_eq-Decides name word).0 e)
+      | inr e ↦ let further : place_of word (name ∷ names) ≡ suc (place_of word names) = rw e (omega arith) in rw further (name-found names word (omega (arith, lt, further)))
+    ]
+
+numbered-name : (word : List ℕ) (before : Names) (l : ℕ) (after : Names) → IsNumbered word before l after → NameAt after l word
+numbered-name word before l after (_, at, inl h) = rw (h.1, at) (name-found before word (omega (arith, at, h.0)))
+numbered-name word before l after (_, at, inr h) = rw (h.2, h.0) (name-last before word)
+
+item-name : (first : List ℕ) (more : List Piece) (before : Names) (l : ℕ) (setting : Setting) (after : Names) (rest : List Piece) → IsItem (Word first ∷ more) before (Location l) setting after rest → NameAt after l first
+item-name first more before l (Number n) after rest i = let same : first ≡ i.0 = word-is first i.0 i.4.0 in rw same (numbered-name i.0 before l after i.7)
+item-name first more before l (Address m) after rest i = absurd i
+
+-- items of the same name, where the names that the first one leaves grow into those that the second one leaves
+same-words : (a b : Name) (v w : List ℕ) (first_names last_names : Names) → ((l : ℕ) → a ≡ Location l → NameAt first_names l v) → ((l : ℕ) → b ≡ Location l → NameAt last_names l w)
+    → Grows first_names last_names → same_name a b ≡ true → NameTheSame a v b w
+same-words (Register s q) (Register t r) v w first_names last_names h g more e = let p = and_parts (eqb s t) (eqb q r) e in (eqb-true s t p.0, eqb-true q r p.1)
+same-words (Location l) (Location m) v w first_names last_names h g more e =
+    let same : m ≡ l = sym (eqb-true l m e) in
+    one-name last_names l v w (rw more.1 (name-kept first_names more.0 l v (h l refl))) (g l (ap Location same))
+same-words (Register s q) (Location m) v w first_names last_names h g more e = absurd cc
+same-words (Location l) (Register t r) v w first_names last_names h g more e = absurd cc
 
 -- ---- the state between two items
 
@@ -209,32 +256,36 @@ separated_explains line pieces n rest at =
     test_explains C Q (eqb s.0 59) (Ok (true, s.1, s.2)) _ (λ t. over_sign p) (λ t.
     test_explains C Q (eqb s.0 125) (Ok (false, s.1, s.2)) (fails BadInitial s.1) (λ t. over_sign p) (λ t. (_, beyond at p))))
 
+names-it : (item : Item) (first : List ℕ) (more : List Piece) (before after : Names) (rest : List Piece) → IsItem (Word first ∷ more) before item.name item.setting after rest
+    → (l : ℕ) → item.name ≡ Location l → NameAt after l first
+names-it item first more before after rest is l e = item-name first more before l item.setting after rest (subst (λ name. IsItem (Word first ∷ more) before name item.setting after rest) e is)
+
 set_twice : (line : ℕ) (pieces : List Piece) (s : Block) (other item : Item) (after : Names) (end : ℕ) (rest : List Piece)
-    → Behind line pieces s.1 s.2 s.3 other → ItemAt s.2 s.3 item s.1 after end rest → other.name ≡ item.name → SetTwice line pieces item.line
-set_twice line pieces s other item after end rest b i same = record {
+    → Behind line pieces s.1 s.2 s.3 other → ItemAt s.2 s.3 item s.1 after end rest → Grows s.1 after → same_name other.name item.name ≡ true → SetTwice line pieces item.line
+set_twice line pieces s other item after end rest b i g same = record {
   earlier = other;
   later = item;
   before = b.before;
   between = b.after;
-  further = b.grows.0;
+  known = s.1;
   after = after;
   end = b.end;
   behind = b.behind;
   last = end;
   rest = rest;
-  first_is = b.is;
-  second_is = record { first = i.first; more = i.more; begins = beyond b.onward i.begins; is = subst (λ names. IsItem (Word i.first ∷ i.more) names item.name item.setting after rest) b.grows.1 i.is; ends = i.ends };
-  same = same;
+  one = b.is;
+  other = record { first = i.first; more = i.more; begins = beyond b.onward i.begins; is = i.is; ends = i.ends };
+  same = same-words other.name item.name b.is.first i.first b.after after
+      (names-it other b.is.first b.is.more b.before b.after b.behind b.is.is) (names-it item i.first i.more s.1 after rest i.is) (grows-more b.after s.1 after b.grows g) same;
   line_is = refl;
 }
 
-added_explains : (line : ℕ) (pieces : List Piece) (s : Block) (item : Item) (after : Names) (end : ℕ) (rest : List Piece) → Stands line pieces s → ItemAt s.2 s.3 item s.1 after end rest
+added_explains : (line : ℕ) (pieces : List Piece) (s : Block) (item : Item) (after : Names) (end : ℕ) (rest : List Piece) → Stands line pieces s → ItemAt s.2 s.3 item s.1 after end rest → Grows s.1 after
     → Explains (BlockCause line pieces) (λ (items : List Item). items ≡ s.0 ++ item ∷ []) (added s.0 item)
 unfolding added
-added_explains line pieces s item after end rest st i =
+added_explains line pieces s item after end rest st i g =
     test_explains (BlockCause line pieces) (λ (items : List Item). items ≡ s.0 ++ item ∷ []) (list_any (λ other. same_name other.name item.name) s.0) (fails DoubleInitial item.line) (Ok (s.0 ++ item ∷ []))
-    (λ t. let o = some-such (Behind line pieces s.1 s.2 s.3) (λ other. same_name other.name item.name) s.0 st.items t in
-    set_twice line pieces s o.0 item after end rest o.1 i (same_name-is o.0.name item.name o.2))
+    (λ t. let o = some-such (Behind line pieces s.1 s.2 s.3) (λ other. same_name other.name item.name) s.0 st.items t in set_twice line pieces s o.0 item after end rest o.1 i g o.2)
     (λ t. refl)
 
 -- the item that was read stands where the state is
@@ -305,7 +356,7 @@ whole_item_explains line pieces k s first n rest l at =
     bind_explains C (ItemRead line pieces s.1 n rest) Q (item_at first s.1 n rest) _ (item_explains line pieces first s.1 n rest (seen-on line pieces s.1 s.2 s.3 n (Word first ∷ rest) l.0.seen at)) (λ x e i.
     let is : ItemAt s.2 s.3 x.0.0 s.1 x.0.1 x.1 x.2 = item_stands s first n rest x at i.0 i.1.onward e in
     let on : Place s.2 s.3 x.1 x.2 = beyond (over_word at) i.1.onward in
-    bind_explains C (λ (items : List Item). items ≡ s.0 ++ x.0.0 ∷ []) Q (added s.0 x.0.0) _ (added_explains line pieces s x.0.0 x.0.1 x.1 x.2 l.0 is) (λ items e' a.
+    bind_explains C (λ (items : List Item). items ≡ s.0 ++ x.0.0 ∷ []) Q (added s.0 x.0.0) _ (added_explains line pieces s x.0.0 x.0.1 x.1 x.2 l.0 is i.1.grows) (λ items e' a.
     bind_explains C (λ (y : Bool × ℕ × List Piece). Place x.1 x.2 y.1 y.2) Q (separated x.1 x.2) (λ more. Ok (more.0, (items, x.0.1, more.1, more.2))) (separated_explains line pieces x.1 x.2 (beyond l.0.seen.0 on)) (λ more e'' p.
     onto-either line pieces k more.0 (items, x.0.1, more.1, more.2)
     (with_item line pieces s x.0.0 x.0.1 x.1 x.2 items more.1 more.2 l.0 is i.1.grows (seen-on line pieces x.0.1 x.1 x.2 more.1 more.2 i.1.seen p) on p a, λ short. item-shorter s first n rest more.1 more.2 k at (beyond i.1.onward p) (l.1 short)))))

@@ -7,6 +7,8 @@ use Rattle.litmus_parser.specs.Names.{Names}
 use Rattle.litmus_parser.specs.Places.{Place, Somewhere, HasNumberAbove}
 use Rattle.litmus_parser.specs.LocationFaults.{HasLocationTooMany}
 use Rattle.litmus_parser.specs.GrammarBlock.{IsItem}
+use Rattle.litmus_parser.specs.declared.syntax.Name.{Name}
+use Rattle.litmus_parser.specs.declared.syntax.Name.TheVariants.{Register, Location}
 use Rattle.litmus_parser.specs.declared.syntax.Item.{Item}
 
 -- the item stands in pieces that begin in this line: its first word in the item's line, and behind it, in line end, the rest
@@ -21,22 +23,28 @@ pub record ItemAt (line : ℕ) (pieces : List Piece) (item : Item) (before after
 abbrev pub ItemStands : ℕ → List Piece → Item → Type 0
 ItemStands line pieces item = (before after : Names) × (end : ℕ) × (rest : List Piece) × ItemAt line pieces item before after end rest
 
--- an item in line n sets the name that an item in front of it sets; the locations named up to the first one
--- come first in those named before the second, so that the same number is the same location
+-- the same register of the same thread; or a location, each time by the same word, which is its item's first
+abbrev pub NameTheSame : Name → List ℕ → Name → List ℕ → Type 0
+NameTheSame (Register s q) v (Register t r) w = (s ≡ t) × (q ≡ r)
+NameTheSame (Location l) v (Location m) w = v ≡ w
+NameTheSame (Register s q) v (Location m) w = ⊥
+NameTheSame (Location l) v (Register t r) w = ⊥
+
+-- an item in line n sets what an item in front of it sets
 pub record SetTwice (line : ℕ) (pieces : List Piece) (n : ℕ) : Type 0 where
   pub earlier : Item
   pub later : Item
   pub before : Names
   pub between : Names
-  pub further : Names
+  pub known : Names
   pub after : Names
   pub end : ℕ
   pub behind : List Piece
   pub last : ℕ
   pub rest : List Piece
-  pub first_is : ItemAt line pieces earlier before between end behind
-  pub second_is : ItemAt end behind later (between ++ further) after last rest
-  pub same : earlier.name ≡ later.name
+  pub one : ItemAt line pieces earlier before between end behind
+  pub other : ItemAt end behind later known after last rest
+  pub same : NameTheSame earlier.name one.first later.name other.first
   pub line_is : n ≡ later.line
 
 -- what stands in line n where the initial block, whose pieces begin in this line, has a fault of the kind

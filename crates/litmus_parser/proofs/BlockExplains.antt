@@ -1,5 +1,5 @@
 -- The initial block is read, or its fault has its cause.
-use Rattle.std.proofs.Common.{◌≡◌, ℕ, zero, suc, ◌+◌, ◌<◌, ◌≤◌, Bool, true, false, cond, ◌||◌, eqb, ltb, List, [], ◌∷◌, ◌++◌, length, Option, Some, None, Result, Ok, Err, refl, sym, ap, subst, ◌∙◌, append_assoc, arith, inl, inr}
+use Rattle.std.proofs.Common.{◌≡◌, ℕ, zero, suc, ◌+◌, ◌<◌, ◌≤◌, Bool, true, false, ◌||◌, eqb, ltb, List, [], ◌∷◌, ◌++◌, length, Option, Some, None, Result, Ok, Err, refl, sym, ap, subst, ◌∙◌, append_assoc, arith, inl, inr}
 use Rattle.std.specs.List.{All, list_any}
 use Rattle.std.proofs.lemmas.Bool.{cases_Bool, eqb-true, ltb-false, and_parts}
 use Rattle.std.proofs.lemmas.List.{append-nil, length-append, nil_from_length}
@@ -12,11 +12,11 @@ use Rattle.litmus_grammar.specs.Spelling.{is_number, number_of, small_of, regist
 use Rattle.litmus_grammar.specs.declared.errors.Kind.{Kind}
 use Rattle.litmus_grammar.specs.declared.errors.Kind.TheVariants.{BadInitial, DoubleInitial, ValueRange}
 use Rattle.litmus_grammar.specs.declared.errors.LitmusError.{LitmusError}
-use Rattle.litmus_grammar.specs.Reading.{◌>>=◌, fails, next_at, word_at, sign_at, expect_at, end_line_at, repeat_at}
+use Rattle.litmus_grammar.specs.Reading.{fails, next_at, word_at, sign_at, expect_at, end_line_at}
 use Rattle.litmus_parser.specs.Names.{Names, same_name}
 use Rattle.litmus_parser.specs.ReadingItems.{location_at, number_at, setting_at, register_item_at, location_item_at, item_of, item_at}
 use Rattle.litmus_parser.specs.ReadingBlock.{Block, separated, added, whole_item_at, entry_of, entry_at, unended, items_at, block_at}
-use Rattle.litmus_parser.specs.Places.{Place, Somewhere, HasNumberAbove}
+use Rattle.litmus_parser.specs.Places.{Place, HasNumberAbove}
 use Rattle.litmus_parser.specs.LocationFaults.{AreDifferent, AreSeen}
 use Rattle.litmus_parser.specs.BlockFaults.{ItemAt, ItemStands, NameTheSame, SetTwice, BlockCause}
 use Rattle.litmus_parser.specs.GrammarWords.{EndsLine, IsNumbered}

@@ -139,7 +139,7 @@ same-words (Location l) (Location m) v w first_names last_names h g more e =
 same-words (Register s q) (Location m) v w first_names last_names h g more e = absurd cc
 same-words (Location l) (Register t r) v w first_names last_names h g more e = absurd cc
 
--- ---- the state between two items
+-- ---- the state between two items: the items so far, the names so far, the line and the pieces that are left
 
 -- an earlier item: it stands in the block, and the present place and the present names come behind it
 record Behind (line : ℕ) (pieces : List Piece) (names : Names) (n : ℕ) (rest : List Piece) (item : Item) : Type 0 where
@@ -165,6 +165,7 @@ stands-on line pieces s m r st p = record {
   items = All-weaker (Behind line pieces s.1 s.2 s.3) (Behind line pieces s.1 m r) (λ item. behind-on line pieces s.1 s.2 s.3 s.1 m r item (grows-same s.1 s.1 refl) p) s.0 st.items;
 }
 
+-- a test that holds of some item holds of one of which P holds
 some-such : (P : Item → Type 0) (test : Item → Bool) (items : List Item) → All P items → list_any test items ≡ true → (x : Item) × P x × (test x ≡ true)
 some-such P test [] h e = absurd cc
 some-such P test (x ∷ items) h e = which P test x items (All-head P x items h) (some-such P test items (All-tail P x items h)) (test x) refl e

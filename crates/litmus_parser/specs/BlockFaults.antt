@@ -49,14 +49,15 @@ pub record SetTwice (line : ℕ) (pieces : List Piece) (n : ℕ) : Type 0 where
 
 -- what stands in line n where the initial block, whose pieces begin in this line, has a fault of the kind
 abbrev pub BlockCause : ℕ → List Piece → Kind → ℕ → Type 0
--- an item or a sign that should stand there doesn't
+-- a place of the pieces is in that line; that no block stands in front of them is said beside this
 BlockCause line pieces BadInitial n = Somewhere line pieces n
 -- the pieces end there
 BlockCause line pieces CutShort n = Place line pieces n []
--- a number that doesn't fit
+-- a number above 2147483647 stands there
 BlockCause line pieces ValueRange n = HasNumberAbove 2147483647 line pieces n
--- a register or a location is set a second time
+-- an item there sets a register or a location that an item in front of it sets
 BlockCause line pieces DoubleInitial n = SetTwice line pieces n
--- a 65th location
+-- a 65th location stands there
 BlockCause line pieces TooLarge n = HasLocationTooMany [] line pieces n
+-- no other kind comes from the block
 BlockCause line pieces kind n = ⊥

@@ -1,5 +1,5 @@
 //! What a core does with a message.
-ghost use Rattle.std.specs.Prelude.{◌≡◌, ◌≢◌, IfErr, IfOk, IsTrue, None, OnErr, Some};
+ghost use Rattle.std.specs.Prelude.{◌≡◌, ◌≢◌, IfErr, IfOk, IsTrue, is_some, None, OnErr, Some};
 ghost use Rattle.network.specs.Sent.{sent_by};
 ghost use Rattle.private_cache.specs.CopyTable.{arrived, copy_of, place_for, renewed, upgraded};
 ghost use Rattle.core_pts.specs.OnCopy.{with_copy, Arrives};
@@ -142,6 +142,7 @@ impl Part for Core {
         ensures refused { OnErr result (self.new ≡ self.old) }
         ensures exhausted { result ≡ Err PartError.Exhausted → core_table self.old message.now ≡ None }
         ensures fits { core_table self.old message.now ≡ None → result ≡ Err PartError.Exhausted }
+        ensures wanted { result ≡ Err PartError.NoMemory → IsTrue (is_some (sent_by (core_table self.old message.now))) }
         ensures sure { result ≢ Err PartError.NoMemory }
     {
         let line = message.line;

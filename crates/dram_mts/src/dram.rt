@@ -1,5 +1,5 @@
 //! The DRAM behind a bank.
-ghost use Rattle.std.specs.Prelude.{◌≡◌, ◌<◌, false, None, Some, IsTrue, IfOk, OnOk, OnErr, IsSome, IsOk, slice_set};
+ghost use Rattle.std.specs.Prelude.{◌≡◌, ◌<◌, false, None, Some, IsTrue, IfOk, OnOk, OnErr, IsSome, is_some, IsOk, slice_set};
 ghost use Rattle.std.specs.FinMap as map;
 ghost use Rattle.dram_mts.specs.Lines.{words_of};
 
@@ -101,6 +101,7 @@ impl Part for Dram {
         ensures refused { OnErr result (self.new ≡ self.old) }
         ensures exhausted { result ≡ Err PartError.Exhausted → dram_table self.old message.now ≡ None }
         ensures fits { dram_table self.old message.now ≡ None → result ≡ Err PartError.Exhausted }
+        ensures wanted { result ≡ Err PartError.NoMemory → IsTrue (is_some (sent_by (dram_table self.old message.now))) }
         ensures memory { needs_memory self.old message.now ≡ false → IsOk result }
     {
         let body = match message.body {

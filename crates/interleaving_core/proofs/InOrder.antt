@@ -33,7 +33,7 @@ module _ (m after : Machine) (all : AreNumbered 0 m.records) where
   refused NoRoom is = kept m is refl
   refused Pinned is = kept m is refl
   refused NetworkFull is = kept m is refl
-  refused NoMemory is = kept m is refl
+  refused NoMemory is = absurd is
   refused Exhausted is = kept _ is refl
   refused Stopped is = kept m is refl
 

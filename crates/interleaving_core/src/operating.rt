@@ -32,6 +32,7 @@ pub(crate) fn attempt(
     ensures refused { OnErr result (core.new ≡ core.old) }
     ensures kept { OnErr result (traffic.new.mail ≡ traffic.old.mail) }
     ensures completed { IsTrue (completes core.old) → IsOk result }
+    ensures memory { OnErr result (traffic.old.mail.next < (attempted_in number count traffic.old.capacity traffic.old.mail core.old).2.next) }
 {
     let Some((op, _)) = core.open_op() else {
         return Ok(Answer::Idle);
@@ -63,6 +64,7 @@ fn ask(core: &mut Core, traffic: &mut Traffic, op: &Op, body: Body) -> Result<An
     requires number { core.old.number < traffic.old.cores }
     requires banks { core.old.banks ≡ traffic.old.banks }
     ensures done { IfOk result (λ answer. (answer, core.new, traffic.new.mail) ≡ asks traffic.old.capacity traffic.old.mail core.old op.now body) }
+    ensures memory { OnErr result (traffic.old.mail.next < (asks traffic.old.capacity traffic.old.mail core.old op.now body).2.next) }
     ensures set_up { traffic.new ≡ record traffic.old { room = traffic.new.room; mail = traffic.new.mail } }
     ensures refused { OnErr result (core.new ≡ core.old) }
     ensures kept { OnErr result (traffic.new.mail ≡ traffic.old.mail) }
@@ -95,6 +97,7 @@ pub(crate) fn evict_copy(
 ) -> Result<Answer, AllocError>
     requires ends { BackHasEnds traffic.old.cores traffic.old.banks (evict core.old line).0 }
     ensures done { IfOk result (λ answer. (answer, core.new, traffic.new.mail) ≡ copy_left traffic.old.capacity traffic.old.mail core.old (evict core.old line)) }
+    ensures memory { OnErr result (traffic.old.mail.next < (copy_left traffic.old.capacity traffic.old.mail core.old (evict core.old line)).2.next) }
     ensures set_up { traffic.new ≡ record traffic.old { room = traffic.new.room; mail = traffic.new.mail } }
     ensures refused { OnErr result (core.new ≡ core.old) }
     ensures kept { OnErr result (traffic.new.mail ≡ traffic.old.mail) }
@@ -125,6 +128,7 @@ pub(crate) fn evict_entry(
 ) -> Result<Answer, AllocError>
     requires ends { EvictedHasEnds traffic.old.cores traffic.old.banks (bank_table.evict bank.old line).0 }
     ensures done { IfOk result (λ answer. (answer, bank.new, traffic.new.mail) ≡ entry_left traffic.old.capacity traffic.old.mail bank.old (bank_table.evict bank.old line)) }
+    ensures memory { OnErr result (traffic.old.mail.next < (entry_left traffic.old.capacity traffic.old.mail bank.old (bank_table.evict bank.old line)).2.next) }
     ensures set_up { traffic.new ≡ record traffic.old { room = traffic.new.room; mail = traffic.new.mail } }
     ensures refused { OnErr result (bank.new ≡ bank.old) }
     ensures kept { OnErr result (traffic.new.mail ≡ traffic.old.mail) }

@@ -4,7 +4,7 @@ ghost use Rattle.network.specs.Numbered.{at_number};
 ghost use Rattle.machine_table.specs.Transition.{advance_at, attempt_at, deliver_core, deliver_bank, deliver_dram, deliver_message, evict_copy, evict_entry, issue_at, transition};
 ghost use Rattle.machine_history.specs.Steps.{Stands};
 ghost use Rattle.interleaving_core.specs.Rooms.{completes};
-ghost use Rattle.interleaving_core.specs.Stepped.{Stepped};
+ghost use Rattle.interleaving_core.specs.Stepped.{Stepped, TakesMemory};
 
 use crate::machine_state::MachineState;
 use crate::noting::{keep, make_places, stop};
@@ -22,6 +22,7 @@ impl MachineState {
         requires { Stands self.old }
         ensures done { IfOk result (λ answer. (answer, self.new) ≡ issue_at self.old core op (slice_get self.old.cores core)) }
         ensures refused { OnErr result (self.new ≡ self.old) }
+        ensures wanted { OnErr result (TakesMemory self.old (issue_at self.old core op (slice_get self.old.cores core))) }
     {
         let at = core as usize;
         if at >= self.cores.len() {
@@ -44,6 +45,7 @@ impl MachineState {
         requires { Stands self.old }
         ensures done { IfOk result (λ answer. (answer, self.new) ≡ attempt_at self.old core (slice_get self.old.cores core)) }
         ensures refused { OnErr result (self.new ≡ self.old) }
+        ensures wanted { OnErr result (TakesMemory self.old (attempt_at self.old core (slice_get self.old.cores core))) }
         ensures completed { IfSome (slice_get self.old.cores core) (λ c. IsTrue (completes c) → IsOk result) }
     {
         let at = core as usize;
@@ -76,6 +78,7 @@ impl MachineState {
         requires { Stands self.old }
         ensures done { IfOk result (λ answer. (answer, self.new) ≡ evict_copy self.old core line (slice_get self.old.cores core)) }
         ensures refused { OnErr result (self.new ≡ self.old) }
+        ensures wanted { OnErr result (TakesMemory self.old (evict_copy self.old core line (slice_get self.old.cores core))) }
     {
         let at = core as usize;
         if at >= self.cores.len() {
@@ -91,6 +94,7 @@ impl MachineState {
         requires { Stands self.old }
         ensures done { IfOk result (λ answer. (answer, self.new) ≡ evict_entry self.old bank line (slice_get self.old.banks bank)) }
         ensures refused { OnErr result (self.new ≡ self.old) }
+        ensures wanted { OnErr result (TakesMemory self.old (evict_entry self.old bank line (slice_get self.old.banks bank))) }
     {
         let at = bank as usize;
         if at >= self.banks.len() {
@@ -106,6 +110,7 @@ impl MachineState {
         requires { Stands self.old }
         ensures done { IfOk result (λ answer. (answer, self.new) ≡ deliver_message self.old number (at_number number self.old.messages)) }
         ensures refused { OnErr result (self.new ≡ self.old) }
+        ensures wanted { OnErr result (TakesMemory self.old (deliver_message self.old number (at_number number self.old.messages))) }
     {
         let Some(message) = self.traffic.look(number) else {
             return Ok(Answer::Refused(Refusal::NoSuch));
@@ -129,6 +134,7 @@ impl MachineState {
         requires to { message.now.to ≡ Node.Core core }
         ensures done { IfOk result (λ answer. (answer, self.new) ≡ deliver_core self.old number message.now core (slice_get self.old.cores core)) }
         ensures refused { OnErr result (self.new ≡ self.old) }
+        ensures wanted { OnErr result (TakesMemory self.old (deliver_core self.old number message.now core (slice_get self.old.cores core))) }
     {
         let at = core as usize;
         if at >= self.cores.len() {
@@ -151,6 +157,7 @@ impl MachineState {
         requires to { message.now.to ≡ Node.Bank bank }
         ensures done { IfOk result (λ answer. (answer, self.new) ≡ deliver_bank self.old number message.now bank (slice_get self.old.banks bank)) }
         ensures refused { OnErr result (self.new ≡ self.old) }
+        ensures wanted { OnErr result (TakesMemory self.old (deliver_bank self.old number message.now bank (slice_get self.old.banks bank))) }
     {
         let at = bank as usize;
         if at >= self.banks.len() {
@@ -173,6 +180,7 @@ impl MachineState {
         requires to { message.now.to ≡ Node.Dram bank }
         ensures done { IfOk result (λ answer. (answer, self.new) ≡ deliver_dram self.old number message.now bank (slice_get self.old.drams bank)) }
         ensures refused { OnErr result (self.new ≡ self.old) }
+        ensures wanted { OnErr result (TakesMemory self.old (deliver_dram self.old number message.now bank (slice_get self.old.drams bank))) }
     {
         let at = bank as usize;
         if at >= self.drams.len() {
@@ -183,8 +191,8 @@ impl MachineState {
         Ok(answer)
     }
 
-    /// One event. The answer and the machine afterwards are those of the machine's table, or the answer is NoMemory and
-    /// the machine is as it was.
+    /// One event. The answer and the machine afterwards are those of the machine's table, or, where the table issues an
+    /// operation or sends a message, the answer is NoMemory and the machine is as it was.
     pub(crate) fn step(&mut self, event: Event) -> Answer
         requires { Stands self.old }
         ensures stepped { Stepped self.old event result self.new }

@@ -4,3 +4,6 @@ pub mod Fronts
 pub mod Titles
 pub mod Places
 pub mod Repeats
+pub mod LinesAgain
+pub mod RepeatsAgain
+pub mod LocationWords

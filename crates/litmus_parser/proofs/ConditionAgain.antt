@@ -1,11 +1,11 @@
 -- A condition that is in the grammar is read.
-use Rattle.std.proofs.Common.{◌≡◌, ◌≢◌, ℕ, zero, suc, ◌+◌, ◌-◌, ◌<◌, ◌≤◌, Bool, true, false, eqb, leb, ◌&&◌, not, List, [], ◌∷◌, length, Option, Some, None, Ok, refl, sym, ap, ◌∙◌, inl, inr, arith}
-use Rattle.std.proofs.lemmas.Bool.{lt-leb, ne_eqb, and_parts, and_cases, and_left, and_right, not-true, leb-false}
-use Rattle.std.specs.List.{list_all}
-use Rattle.litmus_grammar.specs.Pieces.{Piece, Word, Sign, LineEnd, between}
-use Rattle.litmus_grammar.specs.Spelling.{small_of, register_of, is_location, is_digit, is_name_byte, is_like_register}
+use Rattle.std.proofs.Common.{◌≡◌, ◌≢◌, ℕ, zero, suc, ◌+◌, ◌-◌, ◌<◌, ◌≤◌, Bool, true, false, eqb, leb, List, [], ◌∷◌, Option, Some, None, Ok, refl, sym, ap, ◌∙◌, inl, inr, arith}
+use Rattle.std.proofs.lemmas.Bool.{lt-leb, ne_eqb}
+use Rattle.litmus_grammar.specs.Pieces.{Piece, Word, Sign, LineEnd}
+use Rattle.litmus_grammar.specs.Spelling.{register_of}
 use Rattle.litmus_grammar.specs.declared.errors.Kind.TheVariants.{BadCondition, BadTable}
 use Rattle.litmus_grammar.specs.Reading.{◌>>=◌, Read, found, next_at, word_at, expect_at, here_at, word_here_at, repeat_at}
+use Rattle.litmus_grammar.proofs.LocationWords.{location-no_thread}
 use Rattle.litmus_parser.specs.Names.{Names, address_of, is_there}
 use Rattle.litmus_parser.specs.Trees.{Tree, Is, Both, Either}
 use Rattle.litmus_parser.specs.ReadingItems.{number_at}
@@ -28,25 +28,6 @@ abbrev pub Agree : List Item → List Item → Type 0
 Agree items items' = (t r : ℕ) → address_of t r items' ≡ address_of t r items
 
 -- ---- atoms
-
-digit-less : (a : ℕ) → is_digit a ≡ false → between 49 57 a ≡ false
-digit-less a h =
-    elim (and_cases (leb 48 a) (leb a 57) h) [
-      | inl low ↦ let less : a < 48 = leb-false _ _ low in and_left (leb 49 a) (leb a 57) (lt-leb _ _ (omega arith))
-      | inr high ↦ and_right (leb 49 a) (leb a 57) high
-    ]
-
-first-of : (p q r s : Bool) → (p && q && r && s) ≡ true → p ≡ true
-first-of p q r s h = (and_parts p q (and_parts (p && q) r (and_parts (p && q && r) s h).0).0).0
-
-not-digit : (a : ℕ) (w : List ℕ) → is_location (a ∷ w) ≡ true → is_digit a ≡ false
-not-digit a w h = not-true (is_digit a) (first-of (not (is_digit a)) (list_all is_name_byte (a ∷ w)) (leb (length (a ∷ w)) 32) (not (is_like_register (a ∷ w))) h)
-
-no-thread : (w : List ℕ) → is_location w ≡ true → small_of 15 w ≡ None
-no-thread [] h = absurd cc
-no-thread (a ∷ []) h = rw (not-digit a [] h) refl
-no-thread (a ∷ b ∷ []) h = rw (digit-less a (not-digit a (b ∷ []) h)) refl
-no-thread (a ∷ b ∷ c ∷ w) h = refl
 
 register_name_again : (items items' : List Item) (threads line : ℕ) (pieces b rest : List Piece) (thread r : ℕ) (w : List ℕ) → Agree items items'
     → Next pieces (Sign 58) b → Next b (Word w) rest → thread < threads → register_of w ≡ Some r → r ≢ 0 → is_there (address_of thread r items) ≡ false
@@ -74,7 +55,7 @@ name_again items items' threads pieces before (Register t r) after rest agree (t
       record { line = read.line; is = rw (is_t, read.is, same) refl },
 )
 name_again items items' threads pieces before (Location l) after rest agree (w, n, numbered) =
-    (w, rest, n, λ line. record { line = line; is = rw (no-thread w numbered.0, location_again BadCondition w line before l after numbered) refl })
+    (w, rest, n, λ line. record { line = line; is = rw (location-no_thread w 15 numbered.0, location_again BadCondition w line before l after numbered) refl })
 
 atom_again : (items items' : List Item) (threads : ℕ) (s : Sight) (pieces : List Piece) (tree : Tree) (t : Sight) (rest : List Piece) → Agree items items'
     → IsAtom items threads s pieces tree t rest

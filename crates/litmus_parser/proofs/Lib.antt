@@ -14,3 +14,4 @@ pub mod Explains
 pub mod ExplainsHere
 pub mod LocationExplains
 pub mod BlockExplains
+pub mod BlockAgain

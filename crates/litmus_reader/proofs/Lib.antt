@@ -1,3 +1,4 @@
 mod Found
 mod SeenNames
 mod Sizes
+mod FoundAgain

@@ -1,11 +1,12 @@
 //! Reading a whole text.
 
-ghost use Rattle.std.specs.Prelude.{◌≡◌, ◌<◌, ◌≤◌, [], IfOk, OnOk, length};
+ghost use Rattle.std.specs.Prelude.{◌≡◌, ◌<◌, ◌≤◌, [], Ok, IfOk, OnOk, length};
 ghost use Rattle.std.specs.List.{list_any};
 ghost use Rattle.litmus_grammar.specs.Reading.{Gives};
 ghost use Rattle.litmus_parser.specs.Names.{same_name};
 ghost use Rattle.litmus_grammar.specs.Pieces.{pieces_of};
 ghost use Rattle.litmus_parser.specs.TreeViews.{tree_of};
+ghost use Rattle.litmus_reader.specs.Litmus.{Litmus};
 ghost use Rattle.litmus_reader.specs.TestViews.{test_of};
 ghost use Rattle.litmus_reader.specs.Seen.{seen_in, with_name};
 ghost use Rattle.litmus_reader.specs.ReadingTest.{table_at, parts_at, is_cut_short, read_at, Told};
@@ -142,6 +143,8 @@ fn read_whole(alloc: Global, text: &[u8]) -> Result<Test, LitmusError>
 pub fn read(alloc: Global, text: &[u8]) -> Result<Test, LitmusError>
     // What is read is what the text says.
     ensures found { IfOk result (λ test. IsTest text.now (test_of test)) }
+    // Every text of the grammar is read, as the test that it stands for, unless memory ran out.
+    ensures only { (test : Litmus) → IsTest text.now test → Told test_of result (Ok test) }
     // It has 1 to 16 threads.
     ensures few { IfOk result (λ test. (0 < (test_of test).threads) × ((test_of test).threads ≤ 16)) }
     // The test or the first fault, front to back, unless memory ran out.

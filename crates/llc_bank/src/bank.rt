@@ -279,6 +279,7 @@ impl Part for Bank {
         ensures refused { OnErr result (self.new ≡ self.old) }
         ensures exhausted { result ≡ Err PartError.Exhausted → bank_table self.old message.now ≡ None }
         ensures fits { bank_table self.old message.now ≡ None → result ≡ Err PartError.Exhausted }
+        ensures wanted { result ≡ Err PartError.NoMemory → IsTrue (is_some (sent_by (bank_table self.old message.now))) }
         ensures memory { result ≢ Err PartError.NoMemory }
     {
         let line = message.line;

@@ -7,7 +7,7 @@ use Rattle.machine_table.specs.declared.event.Refusal.{Refusal}
 use Rattle.machine_table.specs.declared.event.Refusal.TheVariants.{Busy, TooMany, NoSuch, NoRoom, Pinned, NetworkFull, NoMemory, Exhausted, Stopped}
 use Rattle.machine_table.specs.Machine.{Machine}
 
--- a refusal leaves the machine as it was, but Exhausted stops it
+-- a refusal leaves the machine as it was, but Exhausted stops it; want of memory is never the table's answer
 abbrev pub RefusedSo : Machine → Refusal → Machine → Type 0
 RefusedSo m Exhausted after = after ≡ record m { is_stopped = true }
 RefusedSo m Busy after = after ≡ m
@@ -16,7 +16,7 @@ RefusedSo m NoSuch after = after ≡ m
 RefusedSo m NoRoom after = after ≡ m
 RefusedSo m Pinned after = after ≡ m
 RefusedSo m NetworkFull after = after ≡ m
-RefusedSo m NoMemory after = after ≡ m
+RefusedSo m NoMemory after = ⊥
 RefusedSo m Stopped after = after ≡ m
 
 -- the machine goes on, with the records that it had

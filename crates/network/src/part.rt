@@ -1,5 +1,5 @@
 //! The parts that messages are delivered to: cores, banks and DRAMs.
-ghost use Rattle.std.specs.Prelude.{◌≡◌, Bool, IsTrue, IfOk, OnErr, Option, None, Some};
+ghost use Rattle.std.specs.Prelude.{◌≡◌, Bool, IsTrue, IfOk, OnErr, Option, None, Some, is_some};
 
 use crate::message::{Message, Node};
 
@@ -43,11 +43,13 @@ pub trait Part {
         requires { IsTrue (has_case self.now message.now) }
         ensures { result ≡ sent_by (table self.now message.now) };
 
-    /// Hands the part a message. An error leaves the part as it was; Exhausted goes before NoMemory.
+    /// Hands the part a message. An error leaves the part as it was; Exhausted goes before NoMemory, which is answered
+    /// only where the part would send a message.
     fn deliver(&mut self, message: &Message) -> Result<Reaction, PartError>
         requires { IsTrue (has_case self.old message.now) }
         ensures done { IfOk result (λ reaction. table self.old message.now ≡ Some (reaction, self.new)) }
         ensures refused { OnErr result (self.new ≡ self.old) }
         ensures exhausted { result ≡ Err PartError.Exhausted → table self.old message.now ≡ None }
-        ensures fits { table self.old message.now ≡ None → result ≡ Err PartError.Exhausted };
+        ensures fits { table self.old message.now ≡ None → result ≡ Err PartError.Exhausted }
+        ensures wanted { result ≡ Err PartError.NoMemory → IsTrue (is_some (sent_by (table self.old message.now))) };
 }

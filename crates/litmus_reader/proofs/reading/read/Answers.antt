@@ -1,4 +1,5 @@
 use Rattle.litmus_reader.proofs.Found.{found-told}
+use Rattle.litmus_reader.proofs.FoundAgain.{only-told}
 use Rattle.litmus_reader.proofs.Sizes.{threads-few}
 use Rattle.litmus_reader.proofs.reading.read.Goals as goal
 
@@ -7,3 +8,6 @@ returns-clause-found c = found-told _ _ c.read_whole.ensures
 
 pub returns-clause-few : goal.returns-clause-few
 returns-clause-few c = threads-few _ _ (found-told _ _ c.read_whole.ensures)
+
+pub returns-clause-only : goal.returns-clause-only
+returns-clause-only c = only-told _ _ c.read_whole.ensures

@@ -11,7 +11,7 @@ use Rattle.interleaving_core.specs.Rooms.{completes, owed_for}
 use Rattle.interleaving_core.specs.Traffic.{Traffic}
 use Rattle.interleaving_core.proofs.Changes.{attempt_changes}
 use Rattle.interleaving_core.proofs.Closing.{attempt_balanced}
-use Rattle.interleaving_core.proofs.Joining.{core_recorded}
+use Rattle.interleaving_core.proofs.Joining.{core_recorded, takes_by_sending}
 use Rattle.interleaving_core.proofs.Owed.{owed_set}
 use Rattle.interleaving_core.proofs.Parts.{core_below, core_banks}
 use Rattle.interleaving_core.proofs.machine_state.MachineState.attempt.Goals as goal
@@ -68,3 +68,13 @@ returns-clause-done c =
     core_recorded m c.args.core c.in_ok-answer.answer c.attempt.new.core c.attempt.new.traffic.mail c.keep.new.records.items c.stop.new.is_stopped _ c.keep.ensures.records c.stop.ensures
     (ap (λ x. recorded (changed (with_core m c.args.core) x)) done ∙ attempt_changes m c.args.core c.index_mut.result.now here c.nothing_completed_keeps.ensures)
     ∙ ap (λ (n : Machine). attempt_at n c.args.core (slice_get n.cores c.args.core)) c.self.view_is
+
+pub returns-in_err-answer-clause-wanted : goal.returns-in_err-answer-clause-wanted
+returns-in_err-answer-clause-wanted c =
+    let m : Machine = the_view c.self.inside in
+    let here = slice_get_read c.self.inside.cores.items (length c.self.inside.cores.items) c.args.core c.index_mut.result.now refl (omega (arith, c.if-at-len.false, c.len.ensures)) c.index_mut.ensures.value in
+    let counted : c.len-count.result ≡ length c.self.inside.records.items = omega (arith, c.len-count.ensures) in
+    let same = ap (λ (n : ℕ). (attempted_in c.args.core n c.self.inside.traffic.capacity (mail_of m) c.index_mut.result.now).2.next) counted
+    ∙ ap (λ (n : ℕ). (attempted_in c.args.core (length m.records) n (mail_of m) c.index_mut.result.now).2.next) c.self.invariant.capacity_is in
+    takes_by_sending _ m _ (λ n. attempt_at n c.args.core (slice_get n.cores c.args.core)) _ c.self.view_is (attempt_changes m c.args.core c.index_mut.result.now here c.nothing_completed_keeps.ensures)
+    (omega (arith, same, c.in_err-answer.ensures.memory))

@@ -13,7 +13,7 @@ use Rattle.interleaving_core.specs.Joined.{changed, mail_of}
 use Rattle.interleaving_core.specs.Traffic.{Traffic, finds_place, OutcomeHasEnds, reacted_in}
 use Rattle.interleaving_core.proofs.Changes.{core_reacts}
 use Rattle.interleaving_core.proofs.Ends.{core_ends, core_has}
-use Rattle.interleaving_core.proofs.Joining.{answered_with}
+use Rattle.interleaving_core.proofs.Joining.{answered_with, takes_by_sending}
 use Rattle.interleaving_core.proofs.OpenKept.{reaction_keeps}
 use Rattle.interleaving_core.proofs.Owed.{owed_kept}
 use Rattle.interleaving_core.proofs.machine_state.MachineState.deliver_core.Goals as goal
@@ -56,3 +56,12 @@ returns-clause-done c =
     answered_with m (with_core m c.args.core) c.in_ok-answer.answer c.react.new.part c.react.new.traffic.mail c.stop.new.is_stopped _ refl c.stop.ensures
     (ap (changed (with_core m c.args.core)) done ∙ core_reacts m c.args.core c.index_mut.result.now here c.args.number c.args.message.now has)
     ∙ ap (λ (n : Machine). deliver_core n c.args.number c.args.message.now c.args.core (slice_get n.cores c.args.core)) c.self.view_is
+
+pub returns-in_err-answer-clause-wanted : goal.returns-in_err-answer-clause-wanted
+returns-in_err-answer-clause-wanted c =
+    let m : Machine = the_view c.self.inside in
+    let here = slice_get_read c.self.inside.cores.items (length c.self.inside.cores.items) c.args.core c.index_mut.result.now refl (omega (arith, c.if-at-len.false, c.len.ensures)) c.index_mut.ensures.value in
+    let has = core_has m (subst Stands (sym c.self.view_is) c.requires.stands) c.args.number c.args.message.now (ap (λ (k : Machine). at_number c.args.number k.messages) c.self.view_is ∙ c.requires.there) c.args.core c.requires.to c.index_mut.result.now here in
+    let same = ap (λ (n : ℕ). (reacted_in c.index_mut.result.now n (mail_of m) c.args.number (core_table.core_table c.index_mut.result.now c.args.message.now)).2.next) c.self.invariant.capacity_is in
+    takes_by_sending _ m _ (λ n. deliver_core n c.args.number c.args.message.now c.args.core (slice_get n.cores c.args.core)) _ c.self.view_is (core_reacts m c.args.core c.index_mut.result.now here c.args.number c.args.message.now has)
+    (omega (arith, same, c.in_err-answer.ensures.memory))

@@ -11,7 +11,7 @@ use Rattle.interleaving_core.specs.Joined.{changed, mail_of}
 use Rattle.interleaving_core.specs.Traffic.{Traffic}
 use Rattle.interleaving_core.proofs.Changes.{evict_changes}
 use Rattle.interleaving_core.proofs.Ends.{back_ends}
-use Rattle.interleaving_core.proofs.Joining.{answered_with}
+use Rattle.interleaving_core.proofs.Joining.{answered_with, takes_by_sending}
 use Rattle.interleaving_core.proofs.OpenKept.{evict_keeps}
 use Rattle.interleaving_core.proofs.Owed.{owed_kept}
 use Rattle.interleaving_core.proofs.machine_state.MachineState.evict_cache.Goals as goal
@@ -48,3 +48,11 @@ returns-clause-done c =
     answered_with m (with_core m c.args.core) c.in_ok-answer.answer c.evict_copy.new.core c.evict_copy.new.traffic.mail c.stop.new.is_stopped _ refl c.stop.ensures
     (ap (changed (with_core m c.args.core)) done ∙ evict_changes m c.args.core c.index_mut.result.now here c.args.line)
     ∙ ap (λ (n : Machine). evict_copy n c.args.core c.args.line (slice_get n.cores c.args.core)) c.self.view_is
+
+pub returns-in_err-answer-clause-wanted : goal.returns-in_err-answer-clause-wanted
+returns-in_err-answer-clause-wanted c =
+    let m : Machine = the_view c.self.inside in
+    let here = slice_get_read c.self.inside.cores.items (length c.self.inside.cores.items) c.args.core c.index_mut.result.now refl (omega (arith, c.if-at-len.false, c.len.ensures)) c.index_mut.ensures.value in
+    let same = ap (λ (n : ℕ). (copy_left n (mail_of m) c.index_mut.result.now (core_table.evict c.index_mut.result.now c.args.line)).2.next) c.self.invariant.capacity_is in
+    takes_by_sending _ m _ (λ n. evict_copy n c.args.core c.args.line (slice_get n.cores c.args.core)) _ c.self.view_is (evict_changes m c.args.core c.index_mut.result.now here c.args.line)
+    (omega (arith, same, c.in_err-answer.ensures.memory))

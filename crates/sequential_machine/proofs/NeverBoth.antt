@@ -1,0 +1,178 @@
+-- Of two threads that each store 1 and then load the other's location, never both receive 0.
+use Rattle.std.proofs.Common.{◌≡◌, ◌≢◌, ℕ, zero, suc, ◌≤◌, eqb, List, [], ◌∷◌, Option, Some, None, ◌⊎◌, inl, inr, refl, sym, ap, ap₂, ◌∙◌, subst, arith, ⊎_elim}
+use Rattle.std.specs.Prelude.{replicate}
+use Rattle.std.specs.List.{AllByRecursion as Each}
+use Rattle.std.proofs.lemmas.Bool.{cond-false, ne_eqb}
+use Rattle.litmus_parser.specs.declared.syntax.Cell.{Cell}
+use Rattle.litmus_parser.specs.declared.syntax.Instruction.{Instruction}
+use Rattle.litmus_parser.specs.declared.syntax.Instruction.TheVariants as does
+use Rattle.litmus_reader.specs.ThreadSteps.{value_in, written, opened}
+use Rattle.sequential_machine.specs.SequentialMachine.{State, cells_of, opening, memory_after, registers_after, after_one, Step, next, Steps, none, more, IsOutcome}
+use Rattle.sequential_machine.specs.Example.{cell, store_buffering}
+use Rattle.sequential_machine.proofs.Tables.{here, elsewhere}
+use Rattle.sequential_machine.proofs.Turns.{unset}
+
+-- how far a thread is
+data Place : Type 0 where
+  Begins : Place
+  HasSet : Place
+  HasStored : Place
+  HasLoaded : (value : ℕ) → Place
+
+-- what is left to a thread that stores to the location of its own number, and loads that of the other
+abbrev left_at : (t u : ℕ) → Place → List Cell
+left_at t u Begins = cell t (does.Set 5 1) ∷ cell t (does.Store 5 t) ∷ cell t (does.Load 6 u) ∷ []
+left_at t u HasSet = cell t (does.Store 5 t) ∷ cell t (does.Load 6 u) ∷ []
+left_at t u HasStored = cell t (does.Load 6 u) ∷ []
+left_at t u (HasLoaded value) = []
+
+abbrev registers_at : Place → List ℕ
+registers_at Begins = replicate 32 0
+registers_at HasSet = written (replicate 32 0) 5 1
+registers_at HasStored = written (replicate 32 0) 5 1
+registers_at (HasLoaded value) = written (written (replicate 32 0) 5 1) 6 value
+
+-- the word of a thread's own location
+abbrev word_at : Place → ℕ
+word_at Begins = 0
+word_at HasSet = 0
+word_at HasStored = 1
+word_at (HasLoaded value) = 1
+
+record IsAt (s : State) (t u : ℕ) (p : Place) : Type 0 where
+  pub left : s.left t ≡ left_at t u p
+  pub registers : s.registers t ≡ registers_at p
+  pub word : s.memory t ≡ word_at p
+
+-- what a thread has received
+abbrev received_at : Place → Option ℕ
+received_at Begins = None
+received_at HasSet = None
+received_at HasStored = None
+received_at (HasLoaded value) = Some value
+
+-- where both have received, one of them received 1
+abbrev OneOf : Place → Place → Type 0
+OneOf p q = (v w : ℕ) → received_at p ≡ Some v → received_at q ≡ Some w → (v ≡ 1) ⊎ (w ≡ 1)
+
+turned : (p q : Place) → OneOf p q → OneOf q p
+turned p q h = λ v w a b. ⊎_elim (λ (e : w ≡ 1). inr e) (λ (e : v ≡ 1). inl e) (h w v b a)
+
+-- a thread that loads behind the other's load receives the other's store
+loads : (q : Place) → OneOf (HasLoaded (word_at q)) q
+loads Begins = λ v w a b. absurd cc
+loads HasSet = λ v w a b. absurd cc
+loads HasStored = λ v w a b. absurd cc
+loads (HasLoaded x) = λ v w a b. inl cc
+
+-- a thread has come to a place, and the other is where it was
+record Comes (s : State) (t u : ℕ) (q : Place) : Type 0 where
+  pub place : Place
+  pub own : IsAt s t u place
+  pub other : IsAt s u t q
+  pub one_of : OneOf place q
+
+comes_to : (s : State) (t u : ℕ) (p q : Place) (i : Instruction) (rest : List Cell) → u ≢ t → rest ≡ left_at t u p → registers_after i (s.registers t) s.memory ≡ registers_at p →
+    memory_after i (s.registers t) s.memory t ≡ word_at p → memory_after i (s.registers t) s.memory u ≡ s.memory u → OneOf p q → IsAt s u t q → Comes (after_one s t i rest) t u q
+comes_to s t u p q i rest ne left registers word same one_of other =
+    let new = registers_after i (s.registers t) s.memory in
+    record {
+      place = p;
+      own = record { left = here s.left t rest ∙ left; registers = here s.registers t new ∙ registers; word = word };
+      other = record { left = elsewhere s.left t rest u ne ∙ other.left; registers = elsewhere s.registers t new u ne ∙ other.registers; word = same ∙ other.word };
+      one_of = one_of;
+    }
+
+both_same : {X : Type 0} (x y : X) (xs ys : List X) → x ∷ xs ≡ y ∷ ys → (x ≡ y) × (ys ≡ xs)
+both_same x y xs ys e = (cc, cc)
+
+comes : (s : State) (t u : ℕ) (p q : Place) (c : Cell) (rest : List Cell) → u ≢ t → left_at t u p ≡ c ∷ rest → IsAt s t u p → IsAt s u t q → Comes (after_one s t c.instruction rest) t u q
+comes s t u Begins q c rest ne l own other =
+    let e = both_same (cell t (does.Set 5 1)) c (left_at t u HasSet) rest l in
+    subst (λ (x : Cell). Comes (after_one s t x.instruction rest) t u q) e.0
+    (comes_to s t u HasSet q (does.Set 5 1) rest ne e.1 (ap (λ (rs : List ℕ). written rs 5 1) own.registers) own.word refl (λ v w a b. absurd cc) other)
+comes s t u HasSet q c rest ne l own other =
+    let e = both_same (cell t (does.Store 5 t)) c (left_at t u HasStored) rest l in
+    let value = value_in (s.registers t) 5 in
+    subst (λ (x : Cell). Comes (after_one s t x.instruction rest) t u q) e.0
+    (comes_to s t u HasStored q (does.Store 5 t) rest ne e.1 own.registers (here s.memory t value ∙ ap (λ (rs : List ℕ). value_in rs 5) own.registers) (elsewhere s.memory t value u ne) (λ v w a b. absurd cc) other)
+comes s t u HasStored q c rest ne l own other =
+    let e = both_same (cell t (does.Load 6 u)) c [] rest l in
+    subst (λ (x : Cell). Comes (after_one s t x.instruction rest) t u q) e.0
+    (comes_to s t u (HasLoaded (word_at q)) q (does.Load 6 u) rest ne e.1 (ap₂ (λ (rs : List ℕ) (n : ℕ). written rs 6 n) own.registers other.word) own.word refl (loads q) other)
+comes s t u (HasLoaded v) q c rest ne l own other = absurd cc
+
+-- what holds of every state
+record Stands (s : State) : Type 0 where
+  pub first : Place
+  pub second : Place
+  pub own : IsAt s 0 1 first
+  pub other : IsAt s 1 0 second
+  pub one_of : OneOf first second
+  pub no_others : (t : ℕ) → 2 ≤ t → s.left t ≡ []
+
+none_of : (t : ℕ) (cells : List Cell) → Each (λ c. c.thread ≢ t) cells → cells_of t cells ≡ []
+none_of t [] h = refl
+none_of t (c ∷ cells) h = cond-false (eqb c.thread t) (c ∷ cells_of t cells) (cells_of t cells) (ne_eqb c.thread t h.0) ∙ none_of t cells h.1
+
+opens : Stands (opening store_buffering)
+unfolding opened
+opens =
+    record {
+      first = Begins;
+      second = Begins;
+      own = record { left = refl; registers = refl; word = unset 0 };
+      other = record { left = refl; registers = refl; word = unset 1 };
+      one_of = λ v w a b. absurd cc;
+      no_others = λ t le.
+          let zeroth : 0 ≢ t = (λ e. absurd (omega arith)) in
+          let first : 1 ≢ t = (λ e. absurd (omega arith)) in
+          none_of t store_buffering.cells (zeroth, (first, (zeroth, (first, (zeroth, (first, tt))))));
+    }
+
+turn_keeps : (s : State) (t : ℕ) (c : Cell) (rest : List Cell) → s.left t ≡ c ∷ rest → Stands s → Stands (after_one s t c.instruction rest)
+turn_keeps s zero c rest l h =
+    let n = comes s 0 1 h.first h.second c rest (λ e. absurd (omega arith)) (sym h.own.left ∙ l) h.own h.other in
+    record { first = n.place; second = h.second; own = n.own; other = n.other; one_of = n.one_of; no_others = λ u le. elsewhere s.left 0 rest u (λ e. absurd (omega arith)) ∙ h.no_others u le }
+turn_keeps s (suc zero) c rest l h =
+    let n = comes s 1 0 h.second h.first c rest (λ e. absurd (omega arith)) (sym h.other.left ∙ l) h.other h.own in
+    record {
+      first = h.first;
+      second = n.place;
+      own = n.other;
+      other = n.own;
+      one_of = turned n.place h.first n.one_of;
+      no_others = λ u le. elsewhere s.left 1 rest u (λ e. absurd (omega arith)) ∙ h.no_others u le;
+    }
+turn_keeps s (suc (suc t)) c rest l h = absurd (let e = sym (h.no_others (suc (suc t)) (omega arith)) ∙ l in cc)
+
+step_keeps : (s u : State) → Step s u → Stands s → Stands u
+step_keeps s u (next t c rest l) h = turn_keeps s t c rest l h
+
+steps_keep : (s u : State) → Steps s u → Stands s → Stands u
+steps_keep s u none h = h
+steps_keep s u (more {u = w} a b) h = step_keeps w u b (steps_keep s w a h)
+
+-- no two places where both threads are through, and have 0
+no_end : (p q : Place) → OneOf p q → left_at 0 1 p ≡ [] → left_at 1 0 q ≡ [] → 0 ≡ value_in (registers_at p) 6 → 0 ≡ value_in (registers_at q) 6 → ⊥
+no_end Begins q h a b v w = absurd cc
+no_end HasSet q h a b v w = absurd cc
+no_end HasStored q h a b v w = absurd cc
+no_end (HasLoaded x) Begins h a b v w = absurd cc
+no_end (HasLoaded x) HasSet h a b v w = absurd cc
+no_end (HasLoaded x) HasStored h a b v w = absurd cc
+no_end (HasLoaded x) (HasLoaded y) h a b v w = ⊎_elim (λ (e : x ≡ 1). omega arith) (λ (e : y ≡ 1). omega arith) (h x y refl refl)
+
+values_of : (v w x y : ℕ) → v ∷ w ∷ [] ≡ x ∷ y ∷ [] → (v ≡ x) × (w ≡ y)
+values_of v w x y e = (cc, cc)
+
+pub never_both : IsOutcome store_buffering (0 ∷ 0 ∷ []) → ⊥
+never_both o =
+    let h = steps_keep (opening store_buffering) o.last o.steps opens in
+    let value = λ (t : ℕ). value_in (o.last.registers t) 6 in
+    let v = values_of 0 0 (value 0) (value 1) o.values_are in
+    no_end h.first h.second h.one_of
+    (sym h.own.left ∙ o.finished 0 (omega arith))
+    (sym h.other.left ∙ o.finished 1 (omega arith))
+    (v.0 ∙ ap (λ (rs : List ℕ). value_in rs 6) h.own.registers)
+    (v.1 ∙ ap (λ (rs : List ℕ). value_in rs 6) h.other.registers)

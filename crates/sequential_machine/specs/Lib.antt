@@ -1,0 +1,3 @@
+pub mod SequentialMachine
+pub mod Performed
+pub mod Example

@@ -1,0 +1,30 @@
+//! What legal histories of performed threads are: their proofs are their contracts, and their bodies are empty.
+ghost use Rattle.std.specs.Prelude.{◌≡◌, ◌<◌, ℕ, List, [], ◌∷◌, length, map, Some, slice_get};
+ghost use Rattle.physiological_order.specs.declared.operation.Op.{Op};
+ghost use Rattle.physiological_order.specs.declared.operation.Record.{Record};
+ghost use Rattle.physiological_order.specs.Order.{Legal, Arrangement, replay_end};
+ghost use Rattle.litmus_reader.specs.Litmus.{Litmus};
+ghost use Rattle.litmus_reader.specs.Grammar.{IsTest};
+ghost use Rattle.litmus_reader.specs.ThreadSteps.{Thread};
+ghost use Rattle.litmus_reader.specs.Truth.{end_value};
+ghost use Rattle.sequential_machine.specs.SequentialMachine.{memory_opened, IsOutcome};
+ghost use Rattle.sequential_machine.specs.Performed.{ArePerformed};
+ghost use Rattle.sequential_machine.specs.Example.{store_buffering};
+
+/// A legal history of a test in which each thread was performed to its end is a run of the sequential machine: the
+/// values that the test's names have in the end, with the memory that the records leave, one after the other in the
+/// order of their times, are an outcome of it.
+pub fn performed_histories_are_sequential()
+    ensures { (text : List ℕ) (test : Litmus) (issued : ℕ → List Op) (records arranged : List Record) (threads : List Thread) (memory : List ℕ) →
+        IsTest text test → Legal (memory_opened test) issued records → Arrangement records arranged → ArePerformed test issued records threads →
+        ((l : ℕ) → l < length test.locations → slice_get memory l ≡ Some (replay_end (memory_opened test) (map (λ r. r.op) arranged) l)) →
+        IsOutcome test (map (end_value threads memory) test.seen) }
+{}
+
+/// The machine does run, and by turns: of two threads that each store 1 and then load the other's location, both may
+/// receive the 1, or one of them the 0 that was there, but never both.
+pub fn store_buffering_runs()
+    ensures both { IsOutcome store_buffering (1 ∷ 1 ∷ []) }
+    ensures one { IsOutcome store_buffering (0 ∷ 1 ∷ []) }
+    ensures neither { IsOutcome store_buffering (0 ∷ 0 ∷ []) → ⊥ }
+{}

@@ -12,6 +12,7 @@ pub mod WordsAgain
 pub mod ConditionAgain
 pub mod Explains
 pub mod ExplainsHere
+pub mod Outcomes
 pub mod LocationExplains
 pub mod BlockExplains
 pub mod BlockAgain

@@ -12,13 +12,14 @@ use Rattle.litmus_grammar.specs.Spelling.{is_number, number_of, small_of, regist
 use Rattle.litmus_grammar.specs.declared.errors.Kind.{Kind}
 use Rattle.litmus_grammar.specs.declared.errors.Kind.TheVariants.{TooLarge, BadInitial, DoubleInitial, ValueRange}
 use Rattle.litmus_grammar.specs.declared.errors.LitmusError.{LitmusError}
-use Rattle.litmus_grammar.specs.Reading.{fails, as_word, as_sign, next_at, word_at, sign_at, expect_at, end_line_at}
+use Rattle.litmus_grammar.specs.Reading.{fails, next_at, word_at, sign_at, expect_at, end_line_at}
 use Rattle.litmus_parser.specs.Names.{Names, same_name, is_there}
 use Rattle.litmus_parser.specs.ReadingItems.{location_at, number_at, setting_at, register_item_at, location_item_at, item_of, item_at}
 use Rattle.litmus_parser.specs.ReadingBlock.{Block, separated, added, whole_item_at, entry_of, entry_at, unended, items_at, block_at}
 use Rattle.litmus_parser.specs.Places.{Place}
 use Rattle.litmus_parser.specs.LocationFaults.{AreDifferent, AreSeen, HasLocationTooMany}
-use Rattle.litmus_parser.specs.BlockFaults.{ItemAt, ItemStands, NameTheSame, SetTwice, Wanted, OpeningBrace, FirstWord, Colon, RegisterWord, RegisterEquals, RegisterValue, LocationEquals, LocationValue, Separator, is_sign, is_word, is_settable, fits, StandItems, no_item, one_more, ItemUpTo, at_item, thread_there, colon_there, register_there, equals_there, location_there, equals_behind, BlockUpTo, at_block, in_item, behind_item, BlockCause}
+use Rattle.litmus_parser.specs.BlockFaults.{ItemAt, ItemStands, NameTheSame, SetTwice, BlockCause}
+use Rattle.litmus_parser.specs.BlockParts.{OpeningBrace, ItemOrBrace, Colon, RegisterWord, RegisterEquals, RegisterValue, LocationEquals, SemicolonOrBrace, is_settable, StandItems, no_item, one_more, ItemUpTo, at_item, thread_there, colon_there, register_there, equals_there, location_there, equals_behind, BlockUpTo, at_block, in_item, behind_item}
 use Rattle.litmus_parser.specs.GrammarWords.{Next, IsNumbered}
 use Rattle.litmus_parser.specs.GrammarBlock.{IsItem, AreItems}
 use Rattle.litmus_parser.specs.declared.syntax.Name.{Name}
@@ -27,86 +28,10 @@ use Rattle.litmus_parser.specs.declared.syntax.Setting.{Setting}
 use Rattle.litmus_parser.specs.declared.syntax.Setting.TheVariants.{Number, Address}
 use Rattle.litmus_parser.specs.declared.syntax.Item.{Item}
 use Rattle.litmus_parser.proofs.BlockTakes.{location_takes, item_takes, Separates, added_takes, separated_takes, items_stand}
-use Rattle.litmus_parser.proofs.Explains.{Explains, Onto, At, start, beyond, over_word, over_sign, over_end, bind_explains, test_explains, found_explains, weaker, told, repeat_counted, next_explains}
-use Rattle.litmus_parser.proofs.Steps.{next_takes}
+use Rattle.litmus_parser.proofs.Explains.{Explains, Onto, At, start, beyond, over_word, over_sign, over_end, bind_explains, test_explains, found_explains, weaker, told, repeat_counted}
 use Rattle.litmus_parser.proofs.Outcomes.{answered, otherwise}
 use Rattle.litmus_parser.proofs.LocationExplains.{seen-start, seen-later, location_explains}
-
--- ---- pieces of the block, read from one of its places; the answers are places behind that one
-
--- a piece of the block that isn't wanted
-not_wanted : (line : ℕ) (pieces : List Piece) (wanted : Wanted) (there : List Piece) → BlockUpTo pieces wanted there
-    → (p : Piece) (m : ℕ) (after : List Piece) → Next there p after → Place line pieces m (p ∷ after) → fits wanted p ≡ false → BlockCause line pieces BadInitial m
-not_wanted line pieces wanted there upto p m after next at wrong = inl (record { wanted = wanted; there = there; piece = p; rest = after; stands = upto; next = next; place = at; wrong = wrong })
-
--- the piece comes next, behind line ends
-abbrev Taken : ℕ → List Piece → Piece → ℕ → List Piece → Type 0
-Taken n rest p m after = Place n rest m (p ∷ after) × Next rest p after
-
-with_answer : (C : Kind → ℕ → Type 0) {Y : Type 0} (P Q : Y → Type 0) (r : Result Y LitmusError) → ((y : Y) → r ≡ Ok y → P y → Q y) → Explains C P r → Explains C Q r
-with_answer C P Q (Ok y) go h = go y refl h
-with_answer C P Q (Err e) go h = h
-
-next_of_block : (line : ℕ) (pieces : List Piece) (n : ℕ) (rest : List Piece) → Place line pieces n rest
-    → Explains (BlockCause line pieces) (λ (x : Piece × ℕ × List Piece). Taken n rest x.0 x.1 x.2) (next_at n rest)
-next_of_block line pieces n rest at =
-    with_answer (BlockCause line pieces) (λ (x : Piece × ℕ × List Piece). Place n rest x.1 (x.0 ∷ x.2)) (λ (x : Piece × ℕ × List Piece). Taken n rest x.0 x.1 x.2) (next_at n rest) (λ x e p. (p, next_takes n rest x e))
-    (next_explains (BlockCause line pieces) n rest (λ m p. beyond at p) n rest (start n rest))
-
-module _ (line : ℕ) (pieces : List Piece) (wanted : Wanted) (n : ℕ) (rest : List Piece) (at : Place line pieces n rest) (upto : BlockUpTo pieces wanted rest) where
-  abbrev C : Kind → ℕ → Type 0
-  C kind m = BlockCause line pieces kind m
-
-  unfit : (p : Piece) (m : ℕ) (after : List Piece) → Taken n rest p m after → fits wanted p ≡ false → C BadInitial m
-  unfit p m after t wrong = not_wanted line pieces wanted rest upto p m after t.1 (beyond at t.0) wrong
-
-  abbrev WordTaken : List ℕ × ℕ × List Piece → Type 0
-  WordTaken x = Taken n rest (Word x.0) x.1 x.2
-
-  abbrev SignTaken : ℕ × ℕ × List Piece → Type 0
-  SignTaken x = Taken n rest (Sign x.0) x.1 x.2
-
-  as_word_of_block : (test : List ℕ → Bool) → ((p : Piece) → fits wanted p ≡ is_word test p) → (p : Piece) (m : ℕ) (after : List Piece) → Taken n rest p m after → Explains C WordTaken (as_word BadInitial (p, m, after))
-  as_word_of_block test same (Word w) m after t = t
-  as_word_of_block test same (Sign b) m after t = unfit (Sign b) m after t (same (Sign b))
-  as_word_of_block test same LineEnd m after t = unfit LineEnd m after t (same LineEnd)
-
-  word_of_block : (test : List ℕ → Bool) → ((p : Piece) → fits wanted p ≡ is_word test p) → Explains C WordTaken (word_at BadInitial n rest)
-  unfolding word_at
-  word_of_block test same =
-      bind_explains C (λ (x : Piece × ℕ × List Piece). Taken n rest x.0 x.1 x.2) WordTaken (next_at n rest) (as_word BadInitial) (next_of_block line pieces n rest at) (λ x e t.
-      as_word_of_block test same x.0 x.1 x.2 t)
-
-  as_sign_of_block : ((w : List ℕ) → fits wanted (Word w) ≡ false) → fits wanted LineEnd ≡ false → (p : Piece) (m : ℕ) (after : List Piece) → Taken n rest p m after → Explains C SignTaken (as_sign BadInitial (p, m, after))
-  as_sign_of_block no_word no_end (Word w) m after t = unfit (Word w) m after t (no_word w)
-  as_sign_of_block no_word no_end (Sign b) m after t = t
-  as_sign_of_block no_word no_end LineEnd m after t = unfit LineEnd m after t no_end
-
-  sign_of_block : ((w : List ℕ) → fits wanted (Word w) ≡ false) → fits wanted LineEnd ≡ false → Explains C SignTaken (sign_at BadInitial n rest)
-  unfolding sign_at
-  sign_of_block no_word no_end =
-      bind_explains C (λ (x : Piece × ℕ × List Piece). Taken n rest x.0 x.1 x.2) SignTaken (next_at n rest) (as_sign BadInitial) (next_of_block line pieces n rest at) (λ x e t.
-      as_sign_of_block no_word no_end x.0 x.1 x.2 t)
-
-  expect_of_block : (sign : ℕ) → ((p : Piece) → fits wanted p ≡ is_sign sign p) → Explains C (λ (x : ℕ × List Piece). Taken n rest (Sign sign) x.0 x.1) (expect_at sign BadInitial n rest)
-  unfolding expect_at
-  expect_of_block sign same =
-      bind_explains C SignTaken (λ (x : ℕ × List Piece). Taken n rest (Sign sign) x.0 x.1) (sign_at BadInitial n rest) (λ s. cond (eqb s.0 sign) (Ok (s.1, s.2)) (fails BadInitial s.1))
-      (sign_of_block (λ w. same (Word w)) (same LineEnd)) (λ s e t.
-      test_explains C (λ (x : ℕ × List Piece). Taken n rest (Sign sign) x.0 x.1) (eqb s.0 sign) (Ok (s.1, s.2)) (fails BadInitial s.1)
-      (λ is. subst (λ b. Taken n rest (Sign b) s.1 s.2) (eqb-true s.0 sign is) t) (λ isnt. unfit (Sign s.0) s.1 s.2 t (same (Sign s.0) ∙ isnt)))
-
-number_of_block : (line : ℕ) (pieces : List Piece) (n : ℕ) (rest : List Piece) → Place line pieces n rest → BlockUpTo pieces LocationValue rest
-    → Explains (BlockCause line pieces) (λ (x : ℕ × ℕ × List Piece). Place n rest x.1 x.2) (number_at BadInitial n rest)
-unfolding number_at
-number_of_block line pieces n rest at upto =
-    let C : Kind → ℕ → Type 0 = BlockCause line pieces in
-    let Q : ℕ × ℕ × List Piece → Type 0 = λ x. Place n rest x.1 x.2 in
-    bind_explains C (λ (x : List ℕ × ℕ × List Piece). Taken n rest (Word x.0) x.1 x.2) Q (word_at BadInitial n rest) _ (word_of_block line pieces LocationValue n rest at upto is_number (λ p. refl)) (λ w e t.
-    test_explains C Q (is_number w.0) _ (fails BadInitial w.1) (λ d.
-    test_explains C Q (ltb (number_of w.0) 2147483648) (Ok (number_of w.0, w.1, w.2)) (fails ValueRange w.1) (λ f. over_word t.0)
-    (λ f. let ge = ltb-false _ _ f in (w.0, w.2, beyond at t.0, d, omega (arith, ge))))
-    (λ d. not_wanted line pieces LocationValue rest upto (Word w.0) w.1 w.2 t.1 (beyond at t.0) d))
+use Rattle.litmus_parser.proofs.BlockPieces.{Taken, neither, not_wanted, next_of_block, word_of_block, sign_of_block, expect_of_block, number_of_block}
 
 word-is : (v w : List ℕ) → (let p : Piece = Word v in p) ≡ Word w → v ≡ w
 word-is v w e = cc
@@ -255,9 +180,6 @@ record Onward (line : ℕ) (pieces : List Piece) (names : Names) (n : ℕ) (rest
 abbrev SettingRead : ℕ → List Piece → Names → ℕ → List Piece → (Setting × Names) × ℕ × List Piece → Type 0
 SettingRead line pieces names n rest x = Onward line pieces names n rest x.0.1 x.1 x.2
 
-neither : (a b : Bool) → a ≡ false → b ≡ false → (a || b) ≡ false
-neither a b e f = rw (e, f) refl
-
 setting_explains : (line : ℕ) (pieces : List Piece) (names : Names) (n : ℕ) (rest : List Piece) → Seen line pieces names n rest → BlockUpTo pieces RegisterValue rest
     → Explains (BlockCause line pieces) (SettingRead line pieces names n rest) (setting_at names n rest)
 unfolding setting_at
@@ -307,7 +229,7 @@ register_item_explains line pieces thread names n rest a earlier here st upto =
 no_first_word : (line : ℕ) (pieces : List Piece) (names : Names) (earlier : List Item) (here : List Piece) (first : List ℕ) (n : ℕ) (rest : List Piece) → StandItems pieces earlier names here
     → Next here (Word first) rest → Place line pieces n (Word first ∷ rest) → small_of 15 first ≡ None → is_location first ≡ false → BlockCause line pieces BadInitial n
 no_first_word line pieces names earlier here first n rest st next at no_thread no_location =
-    not_wanted line pieces FirstWord here (in_item st at_item) (Word first) n rest next at
+    not_wanted line pieces ItemOrBrace here (in_item st at_item) (Word first) n rest next at
     (neither (is_there (small_of 15 first) || is_location first) false (neither (is_there (small_of 15 first)) (is_location first) (ap is_there no_thread) no_location) refl)
 
 location_item_explains : (line : ℕ) (pieces : List Piece) (first : List ℕ) (names : Names) (n : ℕ) (rest : List Piece) → Seen line pieces names n (Word first ∷ rest)
@@ -340,16 +262,16 @@ item_explains : (line : ℕ) (pieces : List Piece) (first : List ℕ) (names : N
 unfolding item_at
 item_explains line pieces first names n rest a earlier here st next = item_of_explains line pieces (small_of 15 first) first names n rest a earlier here st next refl
 
-separated_explains : (line : ℕ) (pieces : List Piece) (n : ℕ) (rest : List Piece) → Place line pieces n rest → BlockUpTo pieces Separator rest
+separated_explains : (line : ℕ) (pieces : List Piece) (n : ℕ) (rest : List Piece) → Place line pieces n rest → BlockUpTo pieces SemicolonOrBrace rest
     → Explains (BlockCause line pieces) (λ (x : Bool × ℕ × List Piece). Place n rest x.1 x.2) (separated n rest)
 unfolding separated
 separated_explains line pieces n rest at upto =
     let C : Kind → ℕ → Type 0 = BlockCause line pieces in
     let Q : Bool × ℕ × List Piece → Type 0 = λ x. Place n rest x.1 x.2 in
-    bind_explains C (λ (x : ℕ × ℕ × List Piece). Taken n rest (Sign x.0) x.1 x.2) Q (sign_at BadInitial n rest) _ (sign_of_block line pieces Separator n rest at upto (λ w. refl) refl) (λ s e p.
+    bind_explains C (λ (x : ℕ × ℕ × List Piece). Taken n rest (Sign x.0) x.1 x.2) Q (sign_at BadInitial n rest) _ (sign_of_block line pieces SemicolonOrBrace n rest at upto (λ w. refl) refl) (λ s e p.
     test_explains C Q (eqb s.0 59) (Ok (true, s.1, s.2)) _ (λ t. over_sign p.0) (λ no_more.
     test_explains C Q (eqb s.0 125) (Ok (false, s.1, s.2)) (fails BadInitial s.1) (λ t. over_sign p.0) (λ no_brace.
-    not_wanted line pieces Separator rest upto (Sign s.0) s.1 s.2 p.1 (beyond at p.0) (neither (eqb s.0 59) (eqb s.0 125) no_more no_brace))))
+    not_wanted line pieces SemicolonOrBrace rest upto (Sign s.0) s.1 s.2 p.1 (beyond at p.0) (neither (eqb s.0 59) (eqb s.0 125) no_more no_brace))))
 
 names-it : (item : Item) (first : List ℕ) (more : List Piece) (before after : Names) (rest : List Piece) → IsItem (Word first ∷ more) before item.name item.setting after rest
     → (l : ℕ) → item.name ≡ Location l → NameAt after l first
@@ -474,8 +396,8 @@ entry_of_explains : (line : ℕ) (pieces : List Piece) (k : ℕ) (s : Block) (p 
 entry_of_explains line pieces k s (Word first) n rest l t = whole_item_explains line pieces k s first n rest l t
 entry_of_explains line pieces k s (Sign b) n rest l t =
     test_explains (BlockCause line pieces) (Onto (Left line pieces k) (Stands line pieces)) (eqb b 125) (Ok (false, (s.0, s.1, n, rest))) (fails BadInitial n)
-    (λ brace. stands-on line pieces s n rest l.0 (over_sign t.0)) (λ other. not_wanted line pieces FirstWord s.3 (in_item l.2 at_item) (Sign b) n rest t.1 (beyond l.0.seen.0 t.0) other)
-entry_of_explains line pieces k s LineEnd n rest l t = not_wanted line pieces FirstWord s.3 (in_item l.2 at_item) LineEnd n rest t.1 (beyond l.0.seen.0 t.0) refl
+    (λ brace. stands-on line pieces s n rest l.0 (over_sign t.0)) (λ other. not_wanted line pieces ItemOrBrace s.3 (in_item l.2 at_item) (Sign b) n rest t.1 (beyond l.0.seen.0 t.0) other)
+entry_of_explains line pieces k s LineEnd n rest l t = not_wanted line pieces ItemOrBrace s.3 (in_item l.2 at_item) LineEnd n rest t.1 (beyond l.0.seen.0 t.0) refl
 
 entry_explains : (line : ℕ) (pieces : List Piece) (k : ℕ) (s : Block) → Left line pieces (suc k) s → Explains (BlockCause line pieces) (Onto (Left line pieces k) (Stands line pieces)) (entry_at s)
 unfolding entry_at

@@ -14,5 +14,6 @@ pub mod Explains
 pub mod ExplainsHere
 pub mod Outcomes
 pub mod LocationExplains
+pub mod BlockPieces
 pub mod BlockExplains
 pub mod BlockAgain

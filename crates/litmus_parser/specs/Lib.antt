@@ -20,4 +20,5 @@ pub mod GrammarTable
 pub mod GrammarCondition
 pub mod Places
 pub mod LocationFaults
+pub mod BlockParts
 pub mod BlockFaults

@@ -74,7 +74,7 @@ pub record HasMoreOnLine (line : ℕ) (pieces : List Piece) (n : ℕ) : Type 0 w
 
 -- what stands in line n where the initial block, whose pieces begin in this line, has a fault of the kind
 abbrev pub BlockCause : ℕ → List Piece → Kind → ℕ → Type 0
--- a piece there is none that the grammar has behind what stands in front of it, or follows the closing brace on its line
+-- a piece there isn't one that the grammar has behind what stands in front of it; or it follows the closing brace on its line
 BlockCause line pieces BadInitial n = HasWrongPiece line pieces n ⊎ HasMoreOnLine line pieces n
 -- the pieces end there
 BlockCause line pieces CutShort n = Place line pieces n []

@@ -20,11 +20,13 @@ pub data Wanted : Type 0 where
   LocationValue : Wanted
   SemicolonOrBrace : Wanted
 
+-- the piece is this sign
 abbrev pub is_sign : ℕ → Piece → Bool
 is_sign wanted (Sign b) = b == wanted
 is_sign wanted (Word w) = false
 is_sign wanted LineEnd = false
 
+-- the piece is a word that meets the test
 abbrev pub is_word : (List ℕ → Bool) → Piece → Bool
 is_word test (Word w) = test w
 is_word test (Sign b) = false

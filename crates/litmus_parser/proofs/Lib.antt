@@ -16,4 +16,7 @@ pub mod Outcomes
 pub mod LocationExplains
 pub mod BlockPieces
 pub mod BlockExplains
+pub mod ConditionExplains
+pub mod WaysOn
+pub mod ConditionWays
 pub mod BlockAgain

@@ -1,3 +1,5 @@
+pub mod Places
+pub mod LocationFaults
 pub mod Names
 pub mod ReadingItems
 pub mod ReadingBlock
@@ -18,7 +20,6 @@ pub mod GrammarBlock
 pub mod GrammarForms
 pub mod GrammarTable
 pub mod GrammarCondition
-pub mod Places
-pub mod LocationFaults
 pub mod BlockParts
 pub mod BlockFaults
+pub mod ConditionFaults

@@ -12,7 +12,10 @@ pub mod WordsAgain
 pub mod ConditionAgain
 pub mod Explains
 pub mod ExplainsHere
+pub mod Outcomes
 pub mod LocationExplains
+pub mod BlockPieces
+pub mod BlockExplains
 pub mod ConditionExplains
 pub mod WaysOn
 pub mod ConditionWays

@@ -20,7 +20,6 @@ pub mod ConditionExplains
 pub mod WaysOn
 pub mod ConditionWays
 pub mod BlockAgain
-pub mod Outcomes
 pub mod FormExplains
 pub mod HeaderExplains
 pub mod VerdictExplains

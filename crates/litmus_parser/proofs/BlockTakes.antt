@@ -118,7 +118,7 @@ item_of_takes : (before : List Piece) (first : List ℕ) (o : Option ℕ) (names
 item_of_takes before first (Some thread) names line pieces x n s e = register_item_takes before first thread names line pieces x n s e
 item_of_takes before first None names line pieces x n s e = location_item_takes before first names line pieces x n e
 
-item_takes : (before : List Piece) (first : List ℕ) (names : Names) (line : ℕ) (pieces : List Piece) (x : (Item × Names) × ℕ × List Piece)
+pub item_takes : (before : List Piece) (first : List ℕ) (names : Names) (line : ℕ) (pieces : List Piece) (x : (Item × Names) × ℕ × List Piece)
     → Next before (Word first) pieces → item_at first names line pieces ≡ Ok x → TakesItem before names x
 unfolding item_at
 item_takes before first names line pieces x n e = item_of_takes before first (small_of 15 first) names line pieces x n refl e

@@ -11,3 +11,7 @@ pub mod TableAgain
 pub mod WordsAgain
 pub mod ConditionAgain
 pub mod BlockAgain
+pub mod Explains
+pub mod ExplainsHere
+pub mod LocationExplains
+pub mod BlockExplains

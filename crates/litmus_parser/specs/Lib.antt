@@ -18,3 +18,6 @@ pub mod GrammarBlock
 pub mod GrammarForms
 pub mod GrammarTable
 pub mod GrammarCondition
+pub mod Places
+pub mod LocationFaults
+pub mod BlockFaults

@@ -15,3 +15,4 @@ pub mod Explains
 pub mod ExplainsHere
 pub mod LocationExplains
 pub mod BlockExplains
+pub mod ConditionExplains

@@ -1,3 +1,5 @@
+pub mod Places
+pub mod LocationFaults
 pub mod Names
 pub mod ReadingItems
 pub mod ReadingBlock
@@ -18,6 +20,5 @@ pub mod GrammarBlock
 pub mod GrammarForms
 pub mod GrammarTable
 pub mod GrammarCondition
-pub mod Places
-pub mod LocationFaults
 pub mod BlockFaults
+pub mod ConditionFaults

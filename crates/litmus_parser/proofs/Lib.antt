@@ -16,3 +16,8 @@ pub mod ExplainsHere
 pub mod LocationExplains
 pub mod BlockExplains
 pub mod ConditionExplains
+pub mod FormExplains
+pub mod HeaderExplains
+pub mod TableExplains
+pub mod VerdictExplains
+pub mod RowExplains

@@ -15,6 +15,7 @@ use Rattle.litmus_parser.specs.ReadingRows.{Rows, ends_line, has_shape, instruct
 use Rattle.litmus_parser.specs.ReadingTable.{thread_named, separated, heading_at, too_many, headings_at, header_at, quantifier_of, quantifier_next, Table, next_row_at, too_long, table_at, rows_at}
 use Rattle.litmus_parser.specs.GrammarWords.{EndsLine}
 use Rattle.litmus_parser.specs.GrammarForms.{IsRegister, IsBased, IsOffset, IsSwapped, IsAnyNumber, IsFenceSet, IsForm, StandsFor}
+use Rattle.litmus_parser.specs.TableFaults.{end_of}
 use Rattle.litmus_parser.specs.GrammarTable.{Begins, AreHeadings, last, more, IsHeaderRow, IsCell, AreCells, IsRow, AreRows, none, row}
 use Rattle.litmus_parser.specs.declared.syntax.Width.{Width}
 use Rattle.litmus_parser.specs.declared.syntax.Item.{Item}
@@ -86,7 +87,7 @@ not_passed : (end line : ℕ) (pieces : List Piece) (m : List ℕ) (a : List Pie
 unfolding passed_at
 not_passed end line pieces m a e = rw e refl
 
-passed_again : (end line : ℕ) (pieces rest : List Piece) → pieces ≡ Sign end ∷ rest → passed_at end line pieces ≡ Some (line, rest)
+pub passed_again : (end line : ℕ) (pieces rest : List Piece) → pieces ≡ Sign end ∷ rest → passed_at end line pieces ≡ Some (line, rest)
 unfolding passed_at
 passed_again end line pieces rest e = rw (e, eq-eqb end end refl) refl
 
@@ -154,9 +155,9 @@ cell_shape : (bars : ℕ) (items : List Item) (t end : ℕ) (pieces : List Piece
 cell_shape bars items t end pieces before cells after rest (inl h) = ap (has_shape bars) h.0
 cell_shape bars items t end pieces before cells after rest (inr h) = form_shape bars pieces h.0 (Sign end ∷ rest) h.2
 
-last_shape : (end : ℕ) (rest : List Piece) → end ≡ 59 → ends_line rest ≡ true → has_shape 0 (Sign end ∷ rest) ≡ true
+last_shape : (end : ℕ) (rest : List Piece) → end ≡ 59 → has_shape 0 (Sign end ∷ rest) ≡ ends_line rest
 unfolding has_shape
-last_shape end rest e l = rw (e, l) refl
+last_shape end rest e = rw e refl
 
 inner_shape : (bars end : ℕ) (rest : List Piece) → end ≡ 124 → has_shape (bars + 1) (Sign end ∷ rest) ≡ has_shape bars rest
 unfolding has_shape
@@ -165,25 +166,21 @@ inner_shape bars end rest e =
     let fewer : bars + 1 - 1 ≡ bars = omega arith in
     rw (e, some, fewer) refl
 
--- what ends the cell of a thread
-abbrev end_of : ℕ → ℕ → ℕ
-end_of threads t = cond (eqb (t + 1) threads) 59 124
-
 last_end : (threads t : ℕ) → t + 1 ≡ threads → end_of threads t ≡ 59
 last_end threads t e = rw (eq-eqb (t + 1) threads e) refl
 
 inner_end : (threads t n : ℕ) → t + suc (suc n) ≡ threads → end_of threads t ≡ 124
 inner_end threads t n e = rw (ne_eqb (t + 1) threads (λ same. omega (arith, e, same))) refl
 
-cells_shape : (items : List Item) (threads n t : ℕ) (pieces : List Piece) (before : Option Width) (cells : List Cell) (after : Option Width) (rest : List Piece)
-    → AreCells items threads (suc n) t pieces before cells after rest → t + suc n ≡ threads → ends_line rest ≡ true → has_shape n pieces ≡ true
-cells_shape items threads zero t pieces before cells after rest h e l =
-    cell_shape 0 items t (end_of threads t) pieces before h.0 h.2 h.3 h.4 ∙ last_shape (end_of threads t) h.3 (last_end threads t (omega (arith, e))) (ap ends_line h.5.0 ∙ l)
-cells_shape items threads (suc n) t pieces before cells after rest h e l =
+pub cells_shape : (items : List Item) (threads n t : ℕ) (pieces : List Piece) (before : Option Width) (cells : List Cell) (after : Option Width) (rest : List Piece)
+    → AreCells items threads (suc n) t pieces before cells after rest → t + suc n ≡ threads → has_shape n pieces ≡ ends_line rest
+cells_shape items threads zero t pieces before cells after rest h e =
+    cell_shape 0 items t (end_of threads t) pieces before h.0 h.2 h.3 h.4 ∙ last_shape (end_of threads t) h.3 (last_end threads t (omega (arith, e))) ∙ ap ends_line h.5.0
+cells_shape items threads (suc n) t pieces before cells after rest h e =
     let bars : suc n ≡ n + 1 = omega arith in
     cell_shape (suc n) items t (end_of threads t) pieces before h.0 h.2 h.3 h.4
     ∙ rw bars (inner_shape n (end_of threads t) h.3 (inner_end threads t n e))
-    ∙ cells_shape items threads n (t + 1) h.3 h.2 h.1 after rest h.5 (omega (arith, e)) l
+    ∙ cells_shape items threads n (t + 1) h.3 h.2 h.1 after rest h.5 (omega (arith, e))
 
 -- ---- rows
 
@@ -204,7 +201,7 @@ row_shape items zero pieces qs before cells after rest b h =
     absurd cc
 row_shape items (suc n) pieces qs before cells after rest b h =
     let bars : suc n - 1 ≡ n = omega arith in
-    rw bars (cells_shape items (suc n) n 0 qs before cells after h.0 h.1 (omega arith) (ends_line_there h.0 rest h.2))
+    rw bars (cells_shape items (suc n) n 0 qs before cells after h.0 h.1 (omega arith) ∙ ends_line_there h.0 rest h.2)
 
 -- a row is read, at some line
 abbrev ReadsRow : List Item → ℕ → Rows → List Cell → Option Width → List Piece → Type 0

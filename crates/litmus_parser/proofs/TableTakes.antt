@@ -20,7 +20,7 @@ use Rattle.litmus_parser.proofs.FormTakes.{form_takes, judged_takes}
 
 -- ---- cells
 
-abbrev TakesCell : List Item → ℕ → ℕ → Rows → Rows → Type 0
+abbrev pub TakesCell : List Item → ℕ → ℕ → Rows → Rows → Type 0
 TakesCell items t end s x = (added : List Cell) × (x.0 ≡ s.0 ++ added) × IsCell items t end s.3 s.1 added x.1 x.3
 
 instruction_takes : (items : List Item) (t end : ℕ) (s x : Rows) → instruction_at items t end s ≡ Ok x → TakesCell items t end s x
@@ -47,7 +47,7 @@ behind_takes items t end s x None p e = instruction_takes items t end s x e
 behind_takes items t end s x (Some at) p e =
     subst (TakesCell items t end s) (ok_is (s.0, s.1, at.0, at.1) x e) ([], sym (append-nil s.0), inl (passed_takes end s.2 s.3 at p, refl, refl))
 
-cell_takes : (items : List Item) (t end : ℕ) (s x : Rows) → cell_at items t end s ≡ Ok x → TakesCell items t end s x
+pub cell_takes : (items : List Item) (t end : ℕ) (s x : Rows) → cell_at items t end s ≡ Ok x → TakesCell items t end s x
 unfolding cell_at
 cell_takes items t end s x e = behind_takes items t end s x (passed_at end s.2 s.3) refl e
 
@@ -85,10 +85,10 @@ cells_take items threads (suc k) c t e =
       (s.added, rest.0, x.0.1.2, x.0.1.4, s.is, others, refl),
     )
 
-abbrev TakesRow : List Item → ℕ → Rows → Rows → Type 0
+abbrev pub TakesRow : List Item → ℕ → Rows → Rows → Type 0
 TakesRow items threads s x = (added : List Cell) × (x.0 ≡ s.0 ++ added) × IsRow items threads s.3 s.1 added x.1 x.3
 
-row_takes : (items : List Item) (threads : ℕ) (s x : Rows) → row_at items threads s ≡ Ok x → TakesRow items threads s x
+pub row_takes : (items : List Item) (threads : ℕ) (s x : Rows) → row_at items threads s ≡ Ok x → TakesRow items threads s x
 unfolding row_at columns_at
 row_takes items threads s x e =
     let shape = then_ok (has_shape (threads - 1) s.3) _ _ x e in
@@ -121,7 +121,7 @@ separated_takes line pieces x e =
     let h = bind_ok (here_at BadTable line pieces) separated_by x e in
     separated_by_takes pieces h.0.0 h.0.1 h.0.2 x (here_takes BadTable line pieces h.0 h.1) h.2
 
-is_thread-is : (o : Option ℕ) (t : ℕ) → is_thread o t ≡ true → o ≡ Some t
+pub is_thread-is : (o : Option ℕ) (t : ℕ) → is_thread o t ≡ true → o ≡ Some t
 is_thread-is None t e = absurd cc
 is_thread-is (Some n) t e = ap Some (eqb-true n t e)
 

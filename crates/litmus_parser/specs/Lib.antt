@@ -22,3 +22,4 @@ pub mod GrammarTable
 pub mod GrammarCondition
 pub mod BlockFaults
 pub mod ConditionFaults
+pub mod TableFaults

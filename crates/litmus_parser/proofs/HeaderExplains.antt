@@ -1,0 +1,120 @@
+-- The header row is read, or its fault has its cause in its line.
+use Rattle.std.proofs.Common.{◌≡◌, ℕ, zero, suc, ◌+◌, ◌<◌, ◌≤◌, Bool, true, false, cond, eqb, leb, List, [], ◌∷◌, Option, Some, None, Result, Ok, Err, refl, sym, ap, subst, ◌∙◌, arith}
+use Rattle.std.proofs.lemmas.Bool.{leb-true, leb-false}
+use Rattle.litmus_grammar.specs.Pieces.{Piece, Word, Sign, LineEnd}
+use Rattle.litmus_grammar.specs.declared.errors.Kind.{Kind}
+use Rattle.litmus_grammar.specs.declared.errors.Kind.TheVariants.{BadTable, TooLarge}
+use Rattle.litmus_grammar.specs.declared.errors.LitmusError.{LitmusError}
+use Rattle.litmus_grammar.specs.Reading.{◌>>=◌, Read, fails, here_at, word_here_at, start_at, end_line_at}
+use Rattle.litmus_parser.specs.Places.{Place}
+use Rattle.litmus_parser.specs.GrammarWords.{EndsLine}
+use Rattle.litmus_parser.specs.ReadingRows.{Rows, row_at}
+use Rattle.litmus_parser.specs.ReadingTable.{thread_named, is_thread, separated_by, separated, Headings, heading_at, too_many, headings_at, header_at, quantifier_next, Table, next_row_at, too_long, table_at, rows_at}
+use Rattle.litmus_parser.specs.GrammarTable.{Begins, AreHeadings, last, more, IsHeaderRow}
+use Rattle.litmus_parser.specs.TableFaults.{LineAt, HeaderCause}
+use Rattle.litmus_parser.specs.declared.syntax.Width.{Width}
+use Rattle.litmus_parser.specs.declared.syntax.Item.{Item}
+use Rattle.litmus_parser.specs.declared.syntax.Cell.{Cell}
+use Rattle.litmus_parser.proofs.Explains.{Explains, EndsShort, Onto, start, beyond, over_word, over_sign, bind_explains, test_explains, weaker, told, repeat_counted}
+use Rattle.litmus_parser.proofs.ExplainsHere.{word_here_explains, here_explains, start_explains, end_line_explains, at_rest}
+use Rattle.litmus_parser.proofs.FormExplains.{On}
+use Rattle.litmus_parser.proofs.TableTakes.{is_thread-is, row_takes}
+use Rattle.litmus_parser.proofs.TableAgain.{header_again}
+use Rattle.litmus_parser.proofs.VerdictExplains.{WidthFrom, width_beyond}
+use Rattle.litmus_parser.proofs.RowExplains.{Follows, row_explains}
+
+-- every kind in every line
+abbrev AnyCause : Kind → ℕ → Type 0
+AnyCause kind n = Unit {0}
+
+-- what is said of a reading, said of its answer
+pub answered : (C : Kind → ℕ → Type 0) {Y : Type 0} (P : Y → Type 0) (r : Result Y LitmusError) (y : Y) → Explains C P r → r ≡ Ok y → P y
+answered C P (Ok x) y h is = let same : x ≡ y = cc in subst P same h
+answered C P (Err d) y h is = absurd cc
+
+-- behind | the row goes on in its line
+abbrev Goes : ℕ → List Piece → Bool × ℕ × List Piece → Type 0
+Goes first row (true, n, rest) = On first row n rest
+Goes first row (false, n, rest) = Place first row n rest
+
+-- so many headings are taken, and the next one is in the row's line
+abbrev NextHeading : ℕ → List Piece → ℕ → Headings → Type 0
+NextHeading first row k h = (h.0 + k ≡ 17) × (h.0 ≤ 16) × On first row h.1 h.2
+
+abbrev Headed : ℕ → List Piece → Headings → Type 0
+Headed first row h = Place first row h.1 h.2
+
+goes_onto : (first : ℕ) (row : List Piece) (k t : ℕ) (s : Bool × ℕ × List Piece) → t + 1 + k ≡ 17 → t + 1 ≤ 16 → Goes first row s → Onto (NextHeading first row k) (Headed first row) (s.0, (t + 1, s.1, s.2))
+goes_onto first row k t (true, n, rest) e le g = (e, le, g)
+goes_onto first row k t (false, n, rest) e le g = g
+
+-- a header row that begins in this line; C is the cause of a kind
+module _ (C : Kind → ℕ → Type 0) (first : ℕ) (row : List Piece) (bad : C BadTable first) (large : (w : List ℕ) (rest : List Piece) → Place first row first (Word w ∷ rest) → thread_named w ≡ Some 16 → C TooLarge first) where
+  separated_by_explains : (p : Piece) (n : ℕ) (rest : List Piece) → n ≡ first → Place first row n (p ∷ rest) → Explains C (Goes first row) (separated_by (p, n, rest))
+  separated_by_explains (Word w) n rest e p = rw e bad
+  separated_by_explains LineEnd n rest e p = rw e bad
+  separated_by_explains (Sign b) n rest e p =
+      test_explains C (Goes first row) (eqb b 124) (Ok (true, n, rest)) _ (λ t. (e, over_sign p)) (λ f.
+      test_explains C (Goes first row) (eqb b 59) (end_line_at BadTable n rest >>= λ next. Ok (false, next.0, next.1)) (fails BadTable n)
+      (λ t. bind_explains C (λ (x : ℕ × List Piece). Place first row x.0 x.1 × EndsLine rest x.1) (Goes first row) (end_line_at BadTable n rest) (λ next. Ok (false, next.0, next.1))
+      (end_line_explains C first row BadTable n rest (rw e bad) (over_sign p)) (λ next is q. q.0)) (λ g. rw e bad))
+
+  separated_explains : (n : ℕ) (rest : List Piece) → On first row n rest → Explains C (Goes first row) (separated n rest)
+  unfolding separated
+  separated_explains n rest o =
+      bind_explains C (λ (x : Piece × ℕ × List Piece). (x.1 ≡ n) × (rest ≡ x.0 ∷ x.2)) (Goes first row) (here_at BadTable n rest) separated_by
+      (here_explains C BadTable n rest (rw o.0 bad)) (λ x is h. separated_by_explains x.0 x.1 x.2 (h.0 ∙ o.0) (at_rest h.0 h.1 o.1))
+
+  seventeenth : (w : List ℕ) (n t : ℕ) (rest : List Piece) → n ≡ first → Place first row n (Word w ∷ rest) → t ≡ 16 → thread_named w ≡ Some t → C TooLarge n
+  seventeenth w n t rest e p many named = rw e (large w rest (at_rest (sym e) refl p) (named ∙ ap Some many))
+
+  heading_explains : (k : ℕ) (h : Headings) → NextHeading first row (suc k) h → Explains C (Onto (NextHeading first row k) (Headed first row)) (heading_at h)
+  unfolding heading_at
+  heading_explains k h s =
+      bind_explains C (λ (x : List ℕ × ℕ × List Piece). (x.1 ≡ h.1) × (h.2 ≡ Word x.0 ∷ x.2)) (Onto (NextHeading first row k) (Headed first row)) (word_here_at BadTable h.1 h.2) _
+      (word_here_explains C BadTable h.1 h.2 (rw s.2.0 bad)) (λ w is q.
+      let here : w.1 ≡ first = q.0 ∙ s.2.0 in
+      let place : Place first row w.1 (Word w.0 ∷ w.2) = at_rest q.0 q.1 s.2.1 in
+      test_explains C (Onto (NextHeading first row k) (Headed first row)) (is_thread (thread_named w.0) h.0) _ (fails BadTable w.1) (λ named.
+      test_explains C (Onto (NextHeading first row k) (Headed first row)) (leb 16 h.0) (fails TooLarge w.1) _ (λ many.
+      let le = leb-true _ _ many in
+      seventeenth w.0 w.1 h.0 w.2 here place (omega (arith, s.1, le)) (is_thread-is (thread_named w.0) h.0 named)) (λ few.
+      bind_explains C (Goes first row) (Onto (NextHeading first row k) (Headed first row)) (separated w.1 w.2) (λ s. Ok (s.0, (h.0 + 1, s.1, s.2))) (separated_explains w.1 w.2 (here, over_word place)) (λ x is g.
+      goes_onto first row k h.0 x (omega (arith, s.0)) (let lt = leb-false _ _ few in omega (arith, lt)) g))) (λ other. rw here bad))
+
+  headings_explain : Explains C (Headed first row) (headings_at first row)
+  unfolding headings_at
+  headings_explain =
+      repeat_counted C (NextHeading first row) (Headed first row) heading_at too_many heading_explains (λ h s. absurd (omega (arith, s.0, s.1))) 17 (0, first, row)
+      (omega arith, omega arith, (refl, start first row))
+
+header_from : (C : Kind → ℕ → Type 0) (line : ℕ) (pieces : List Piece) → EndsShort C line pieces → ((n : ℕ) (row : List Piece) → LineAt line pieces n row → C BadTable n)
+    → ((n : ℕ) (w : List ℕ) (rest : List Piece) → Place line pieces n (Word w ∷ rest) → thread_named w ≡ Some 16 → C TooLarge n) → Explains C (Headed line pieces) (header_at line pieces)
+unfolding header_at
+header_from C line pieces short bad large =
+    bind_explains C (λ (x : ℕ × List Piece). Place line pieces x.0 x.1 × Begins pieces x.1) (Headed line pieces) (start_at line pieces) (λ at. headings_at at.0 at.1) (start_explains C line pieces short line pieces (start line pieces)) (λ at is p.
+    weaker C (Headed at.0 at.1) (Headed line pieces) (headings_at at.0 at.1) (λ h q. beyond p.0 q)
+    (headings_explain C at.0 at.1 (bad at.0 at.1 (p.1, p.0)) (λ w rest q named. large at.0 w rest (beyond p.0 q) named)))
+
+-- where the reading fails no header row stands
+no_header : (line : ℕ) (pieces : List Piece) (e : LitmusError) → header_at line pieces ≡ Err e → (threads : ℕ) (rest : List Piece) → IsHeaderRow pieces threads rest → ⊥
+no_header line pieces e fault threads rest h =
+    let a = header_again line pieces threads rest h in
+    let same = sym a.1 ∙ fault in
+    absurd cc
+
+pub header_explains : (line : ℕ) (pieces : List Piece) (e : LitmusError) → header_at line pieces ≡ Err e → HeaderCause line pieces e.kind e.line
+header_explains line pieces e fault =
+    told (HeaderCause line pieces) (Headed line pieces) (header_at line pieces) e
+    (header_from (HeaderCause line pieces) line pieces (λ n p. p) (λ n row l. (row, l, no_header line pieces e fault)) (λ n w rest p named. (w, rest, p, named))) fault
+
+pub header_place : (line : ℕ) (pieces : List Piece) (h : Headings) → header_at line pieces ≡ Ok h → Place line pieces h.1 h.2
+header_place line pieces h is = answered AnyCause (Headed line pieces) (header_at line pieces) h (header_from AnyCause line pieces (λ n p. tt) (λ n row l. tt) (λ n w rest p named. tt)) is
+
+headings_more : {t threads : ℕ} {pieces rest : List Piece} → AreHeadings t pieces threads rest → t < threads
+headings_more (last named few end) = omega arith
+headings_more (more named few others) = let lt = headings_more others in omega (arith, lt)
+
+-- a header row names a thread
+pub header_threads : (pieces : List Piece) (threads : ℕ) (rest : List Piece) → IsHeaderRow pieces threads rest → 0 < threads
+header_threads pieces threads rest h = headings_more h.2

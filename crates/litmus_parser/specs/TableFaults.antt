@@ -1,0 +1,120 @@
+-- The causes of faults in the header row and in the rows of the table: what stands in the line.
+use Rattle.std.specs.Prelude.{◌≡◌, ◌≢◌, ℕ, ◌+◌, ◌-◌, ◌<◌, ◌==◌, ◌⊎◌, true, false, if◌then◌else◌, List, ◌∷◌, [], Option, Some, None}
+use Rattle.litmus_grammar.specs.Pieces.{Piece, Word, Sign}
+use Rattle.litmus_grammar.specs.declared.errors.Kind.{Kind}
+use Rattle.litmus_grammar.specs.declared.errors.Kind.TheVariants.{TooLarge, BadTable, BadInstruction, ValueRange, MixedWidth, AddressAsValue, ValueAsAddress, CutShort}
+use Rattle.litmus_parser.specs.Names.{address_of, is_there}
+use Rattle.litmus_parser.specs.Places.{Place}
+use Rattle.litmus_parser.specs.ReadingRows.{has_shape}
+use Rattle.litmus_parser.specs.ReadingTable.{thread_named, quantifier_next}
+use Rattle.litmus_parser.specs.GrammarForms.{IsForm}
+use Rattle.litmus_parser.specs.GrammarTable.{Begins, IsHeaderRow, AreCells, IsRow}
+use Rattle.litmus_parser.specs.declared.syntax.Width.{Width}
+use Rattle.litmus_parser.specs.declared.syntax.Item.{Item}
+use Rattle.litmus_parser.specs.declared.syntax.Cell.{Cell}
+use Rattle.litmus_parser.specs.declared.forms.Form.{Form}
+use Rattle.litmus_parser.specs.declared.forms.Form.TheVariants as form
+
+-- behind blank lines, a line begins here, and it is line n
+abbrev pub LineAt : ℕ → List Piece → ℕ → List Piece → Type 0
+LineAt line pieces n start = Begins pieces start × Place line pieces n start
+
+-- the cause of a fault of the header row
+abbrev pub HeaderCause : ℕ → List Piece → Kind → ℕ → Type 0
+-- its line is line n, and it is no header row
+HeaderCause line pieces BadTable n = (start : List Piece) × LineAt line pieces n start × ((threads : ℕ) (rest : List Piece) → IsHeaderRow pieces threads rest → ⊥)
+-- all pieces are taken
+HeaderCause line pieces CutShort n = Place line pieces n []
+-- the heading of a seventeenth thread stands in it
+HeaderCause line pieces TooLarge n = (w : List ℕ) × (rest : List Piece) × Place line pieces n (Word w ∷ rest) × (thread_named w ≡ Some 16)
+HeaderCause line pieces kind n = ⊥
+
+-- so many rows stand from the first place to this one, and give the test its width
+pub data StandRows (items : List Item) (threads : ℕ) (pieces : List Piece) : ℕ → Option Width → List Piece → Type 0 where
+  none : StandRows items threads pieces 0 None pieces
+  row : {n : ℕ} {w v : Option Width} {ps rest : List Piece} (qs : List Piece) (cells : List Cell) → StandRows items threads pieces n w ps → Begins ps qs → IsRow items threads qs w cells v rest
+      → StandRows items threads pieces (n + 1) v rest
+
+-- behind so many rows a line begins here, and it is line n
+pub record RowAt (items : List Item) (threads line : ℕ) (pieces : List Piece) (rows n : ℕ) (before : Option Width) (start : List Piece) : Type 0 where
+  pub above : List Piece
+  pub stand : StandRows items threads pieces rows before above
+  pub begins : Begins above start
+  pub place : Place line pieces n start
+
+-- of a row with the right shape, in line n, the cells of the threads below t stand in front of this place
+pub record CellAt (items : List Item) (threads line : ℕ) (pieces : List Piece) (t n : ℕ) (before : Option Width) (here : List Piece) : Type 0 where
+  pub rows : ℕ
+  pub width : Option Width
+  pub start : List Piece
+  pub cells : List Cell
+  pub row : RowAt items threads line pieces rows n width start
+  pub shaped : has_shape (threads - 1) start ≡ true
+  pub stand : AreCells items threads t 0 start width cells before here
+  pub place : Place n start n here
+
+-- what ends the cell of a thread
+abbrev pub end_of : ℕ → ℕ → ℕ
+end_of threads t = if t + 1 == threads then 59 else 124
+
+-- the cell of thread t, in line n, is this instruction, behind which its end stands
+pub record FormAt (items : List Item) (threads line : ℕ) (pieces : List Piece) (t n : ℕ) (form : Form) (behind : List Piece) : Type 0 where
+  pub before : Option Width
+  pub here : List Piece
+  pub rest : List Piece
+  pub cell : CellAt items threads line pieces t n before here
+  pub thread : t < threads
+  pub ended : behind ≡ Sign (end_of threads t) ∷ rest
+  pub is : IsForm here form behind
+
+-- a number is too large for its place
+abbrev pub TooGreat : Form → Type 0
+TooGreat (form.Li d number) = 2147483647 < number
+TooGreat (form.Ori d number) = 2047 < number
+TooGreat f = ⊥
+
+-- the width of a load, a store or a swap
+abbrev pub width_of : Form → Option Width
+width_of (form.Load width d b) = Some width
+width_of (form.Store width s b) = Some width
+width_of (form.Swap width d s b) = Some width
+width_of f = None
+
+-- the register is read or written as a value: an xD or an xS
+abbrev pub HasValueIn : Form → ℕ → Type 0
+HasValueIn (form.Load width d b) r = d ≡ r
+HasValueIn (form.Store width s b) r = s ≡ r
+HasValueIn (form.Swap width d s b) r = (d ≡ r) ⊎ (s ≡ r)
+HasValueIn (form.Li d number) r = d ≡ r
+HasValueIn (form.Ori d number) r = d ≡ r
+HasValueIn form.Fence r = ⊥
+
+-- the register stands in parentheses: an xB
+abbrev pub HasAddressIn : Form → ℕ → Type 0
+HasAddressIn (form.Load width d b) r = b ≡ r
+HasAddressIn (form.Store width s b) r = b ≡ r
+HasAddressIn (form.Swap width d s b) r = b ≡ r
+HasAddressIn f r = ⊥
+
+-- the cause of a fault of the rows in line n
+abbrev pub RowsCause : List Item → ℕ → ℕ → List Piece → Kind → ℕ → Type 0
+-- it should be a row, and has not a cell for each thread
+RowsCause items threads line pieces BadTable n = (rows : ℕ) × (before : Option Width) × (start : List Piece) × RowAt items threads line pieces rows n before start × (has_shape (threads - 1) start ≡ false)
+-- all pieces are taken
+RowsCause items threads line pieces CutShort n = Place line pieces n []
+-- 1024 rows stand above it, and the condition does not begin in it
+RowsCause items threads line pieces TooLarge n = (before : Option Width) × (start : List Piece) × RowAt items threads line pieces 1024 n before start × (quantifier_next start ≡ false)
+-- a thread's cell in it is not blank and no instruction
+RowsCause items threads line pieces BadInstruction n = (t : ℕ) × (before : Option Width) × (here : List Piece) × CellAt items threads line pieces t n before here × (t < threads)
+    × ((rest : List Piece) → here ≢ Sign (end_of threads t) ∷ rest) × ((form : Form) (rest : List Piece) → IsForm here form (Sign (end_of threads t) ∷ rest) → ⊥)
+-- a number in it is too large for its place
+RowsCause items threads line pieces ValueRange n = (t : ℕ) × (form : Form) × (behind : List Piece) × FormAt items threads line pieces t n form behind × TooGreat form
+-- an instruction in it has another width than one before it
+RowsCause items threads line pieces MixedWidth n = (t s m : ℕ) × (first second : Form) × (middle behind : List Piece) × (v w : Width)
+    × FormAt items threads line pieces s m first middle × (width_of first ≡ Some v) × (f : FormAt items threads line pieces t n second behind) × (width_of second ≡ Some w)
+    × Place m middle n f.here × (v ≢ w)
+-- an instruction in it has a register as a value that the block sets to an address
+RowsCause items threads line pieces AddressAsValue n = (t r : ℕ) × (form : Form) × (behind : List Piece) × FormAt items threads line pieces t n form behind × HasValueIn form r × (is_there (address_of t r items) ≡ true)
+-- an instruction in it has a register in parentheses that the block sets to no address
+RowsCause items threads line pieces ValueAsAddress n = (t r : ℕ) × (form : Form) × (behind : List Piece) × FormAt items threads line pieces t n form behind × HasAddressIn form r × (address_of t r items ≡ None)
+RowsCause items threads line pieces kind n = ⊥

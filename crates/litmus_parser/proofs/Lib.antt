@@ -10,6 +10,7 @@ pub mod FormAgain
 pub mod TableAgain
 pub mod WordsAgain
 pub mod ConditionAgain
+pub mod BlockAgain
 pub mod Explains
 pub mod ExplainsHere
 pub mod Outcomes
@@ -19,7 +20,6 @@ pub mod BlockExplains
 pub mod ConditionExplains
 pub mod WaysOn
 pub mod ConditionWays
-pub mod BlockAgain
 pub mod FormExplains
 pub mod HeaderExplains
 pub mod VerdictExplains

@@ -77,7 +77,7 @@ opening_takes text x e =
 
 -- ---- the table
 
-name-there : (threads : ℕ) (name : Name) → is_absent threads name ≡ false → IsThere threads name
+pub name-there : (threads : ℕ) (name : Name) → is_absent threads name ≡ false → IsThere threads name
 name-there threads (Register t r) e = leb-false _ _ e
 name-there threads (Location l) e = tt
 
@@ -85,7 +85,7 @@ if_none : (b : Bool) (x : ℕ) (o : Option ℕ) → cond b (Some x) o ≡ None �
 if_none true x o e = absurd cc
 if_none false x o e = (refl, e)
 
-all-there : (threads : ℕ) (items : List Item) → absent_line threads items ≡ None → AllByRecursion (λ item. IsThere threads item.name) items
+pub all-there : (threads : ℕ) (items : List Item) → absent_line threads items ≡ None → AllByRecursion (λ item. IsThere threads item.name) items
 unfolding absent_line
 all-there threads [] e = tt
 all-there threads (item ∷ items) e =
@@ -110,7 +110,7 @@ table_takes items line pieces x e =
 
 -- ---- the whole
 
-parts_take : (text : List ℕ) (test : Litmus) → length text ≤ 65536 → list_all is_allowed text ≡ true → parts_at text ≡ Ok test → IsTest text test
+pub parts_take : (text : List ℕ) (test : Litmus) → length text ≤ 65536 → list_all is_allowed text ≡ true → parts_at text ≡ Ok test → IsTest text test
 unfolding parts_at
 parts_take text test le allowed e =
     let o = bind_ok (opening_at text) _ test e in

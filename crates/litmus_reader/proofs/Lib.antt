@@ -2,3 +2,5 @@ mod Found
 mod SeenNames
 mod Sizes
 mod FoundAgain
+mod FaultParts
+mod ReadExplains

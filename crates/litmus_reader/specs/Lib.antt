@@ -6,3 +6,4 @@ pub mod ReadingTest
 pub mod Grammar
 pub mod Truth
 pub mod OpeningMemory
+pub mod Faults

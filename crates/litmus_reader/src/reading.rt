@@ -1,6 +1,6 @@
 //! Reading a whole text.
 
-ghost use Rattle.std.specs.Prelude.{◌≡◌, ◌<◌, ◌≤◌, [], Ok, IfOk, OnOk, length};
+ghost use Rattle.std.specs.Prelude.{◌≡◌, ◌<◌, ◌≤◌, ◌⊎◌, [], Ok, IfOk, IfErr, OnOk, length};
 ghost use Rattle.std.specs.List.{list_any};
 ghost use Rattle.litmus_grammar.specs.Reading.{Gives};
 ghost use Rattle.litmus_parser.specs.Names.{same_name};
@@ -11,6 +11,8 @@ ghost use Rattle.litmus_reader.specs.TestViews.{test_of};
 ghost use Rattle.litmus_reader.specs.Seen.{seen_in, with_name};
 ghost use Rattle.litmus_reader.specs.ReadingTest.{table_at, parts_at, is_cut_short, read_at, Told};
 ghost use Rattle.litmus_reader.specs.Grammar.{IsTest};
+ghost use Rattle.litmus_reader.specs.Faults.{Fault};
+ghost use Rattle.litmus_grammar.specs.declared.errors.Kind.TheVariants.{NoMemory};
 
 use crate::contents::Test;
 use litmus_grammar::{Cursor, Kind, LitmusError, Locations, MOST_BYTES, ReadError};
@@ -147,6 +149,8 @@ pub fn read(alloc: Global, text: &[u8]) -> Result<Test, LitmusError>
     ensures only { (test : Litmus) → IsTest text.now test → Told test_of result (Ok test) }
     // It has 1 to 16 threads.
     ensures few { IfOk result (λ test. (0 < (test_of test).threads) × ((test_of test).threads ≤ 16)) }
+    // A fault has its kind's cause in its line, unless memory ran out.
+    ensures fault { IfErr result (λ e. (e ≡ record { line = 0; kind = NoMemory }) ⊎ Fault text.now e.kind e.line) }
     // The test or the first fault, front to back, unless memory ran out.
     ensures told { Told test_of result (read_at text.now) }
 {

@@ -1,5 +1,6 @@
 use Rattle.litmus_reader.proofs.Found.{found-told}
 use Rattle.litmus_reader.proofs.FoundAgain.{only-told}
+use Rattle.litmus_reader.proofs.ReadExplains.{fault-told}
 use Rattle.litmus_reader.proofs.Sizes.{threads-few}
 use Rattle.litmus_reader.proofs.reading.read.Goals as goal
 
@@ -11,3 +12,6 @@ returns-clause-few c = threads-few _ _ (found-told _ _ c.read_whole.ensures)
 
 pub returns-clause-only : goal.returns-clause-only
 returns-clause-only c = only-told _ _ c.read_whole.ensures
+
+pub returns-clause-fault : goal.returns-clause-fault
+returns-clause-fault c = fault-told _ _ c.read_whole.ensures

@@ -1,5 +1,5 @@
 -- The parts of a text are read, or the part that isn't has a fault with its cause.
-use Rattle.std.proofs.Common.{◌≡◌, ℕ, zero, suc, ◌+◌, ◌<◌, ◌≤◌, Bool, true, false, cond, eqb, List, [], ◌∷◌, ◌++◌, length, Option, Some, None, Result, Ok, Err, refl, sym, ap, subst, ◌∙◌, inl, inr, arith}
+use Rattle.std.proofs.Common.{◌≡◌, ℕ, suc, ◌+◌, ◌<◌, ◌≤◌, Bool, true, false, eqb, List, [], ◌∷◌, length, Option, Some, None, Result, Ok, Err, refl, sym, ap, subst, ◌∙◌, inl, inr, arith}
 use Rattle.std.specs.List.{AllByRecursion}
 use Rattle.std.proofs.lemmas.Bool.{cases_Bool, eqb-true, eqb-false, leb-true}
 use Rattle.litmus_grammar.specs.Pieces.{Piece, pieces_of}
@@ -7,7 +7,7 @@ use Rattle.litmus_grammar.specs.FirstLines.{IsTitle, title_of, is_header_line, b
 use Rattle.litmus_grammar.specs.declared.errors.Kind.{Kind}
 use Rattle.litmus_grammar.specs.declared.errors.Kind.TheVariants.{BadHeader, BadInitial, CutShort}
 use Rattle.litmus_grammar.specs.declared.errors.LitmusError.{LitmusError}
-use Rattle.litmus_grammar.specs.Reading.{◌>>=◌, fails, found}
+use Rattle.litmus_grammar.specs.Reading.{fails}
 use Rattle.litmus_grammar.proofs.Titles.{title-takes, title-again}
 use Rattle.litmus_grammar.proofs.LinesAgain.{length-behind_line_feed, length-pieces}
 use Rattle.litmus_parser.specs.Names.{Names}

@@ -28,7 +28,7 @@ pub data AreHeaderLines : ℕ → List ℕ → ℕ → List ℕ → Type 0 where
   none : {line : ℕ} {text : List ℕ} → AreHeaderLines line text line text
   more : {line n : ℕ} {text body : List ℕ} → 0 < length text → is_header_line (before_line_feed text) ≡ true → AreHeaderLines (line + 1) (behind_line_feed text) n body → AreHeaderLines line text n body
 
--- the first line has a name, and header lines lead to line n
+-- the first line names the test, and header lines lead to line n
 pub record IsHeaded (text : List ℕ) (n : ℕ) (body : List ℕ) : Type 0 where
   pub name : List ℕ
   pub title : IsTitle (before_line_feed text) name
@@ -99,11 +99,11 @@ pub data FaultIn (text : List ℕ) : Kind → ℕ → Type 0 where
   condition : {kind : Kind} {items : List Item} {names : Names} {threads first n : ℕ} {pieces : List Piece} → HasRows text items names threads first pieces
       → ((quantifier : Quantifier) (tree : Tree) (after : Names) → IsCondition items threads pieces names quantifier tree after → ⊥) → ConditionCause items threads names first pieces kind n → FaultIn text kind n
 
--- the lines in front of the one with the first byte that isn't allowed, or the whole text
+-- the lines in front of the one with the first byte that isn't allowed, or the whole text if there is none
 abbrev pub good_lines : List ℕ → List ℕ
 good_lines text = (reach text).0
 
--- a text, but for its allowed bytes, is a test, or has no other fault than that it ends too early
+-- the text is a test, or has no other fault than that it ends too early
 abbrev pub GoesOn : List ℕ → Type 0
 GoesOn text = ((test : Litmus) × IsTest text test) ⊎ ((n : ℕ) × FaultIn text CutShort n)
 
@@ -113,7 +113,7 @@ pub data Fault (text : List ℕ) : Kind → ℕ → Type 0 where
   too_large : 65536 < length text → Fault text TooLarge 1
   -- a part of its good lines has a fault
   in_part : {kind : Kind} {n : ℕ} → length text ≤ 65536 → FaultIn (good_lines text) kind n → kind ≢ CutShort → Fault text kind n
-  -- a byte isn't allowed, the first such one stands in this line, and the lines in front of it could go on
+  -- a byte isn't allowed; the first such one stands in this line, and the lines in front of it have no fault of their own
   bad_byte : length text ≤ 65536 → list_all is_allowed text ≡ false → GoesOn (good_lines text) → Fault text BadByte (1 + line_feeds (good text))
   -- every byte is allowed, but they end too early; the line is the last
   cut_short : {n : ℕ} → length text ≤ 65536 → list_all is_allowed text ≡ true → FaultIn text CutShort n → Fault text CutShort (1 + inner_line_feeds text)

@@ -19,7 +19,7 @@ use Rattle.interleaving_core.specs.Attempting.{Change, asks, attempted_in, tried
 use Rattle.interleaving_core.specs.Joined.{with_record}
 
 -- either no completion, or the operation is closed
-abbrev Closes : Option Attempt × CoreState → Type 0
+abbrev pub Closes : Option Attempt × CoreState → Type 0
 Closes (Some (Completed received ts), after) = after.open_op ≡ None
 Closes (Some (NeedShared pts version), after) = Unit {0}
 Closes (Some (NeedExclusive version), after) = Unit {0}
@@ -33,7 +33,7 @@ need_closes core pts (Load a) version = tt
 need_closes core pts (Store a v) version = tt
 need_closes core pts (Swap a v) version = tt
 
-attempt_closes : (core : CoreState) → Closes (attempt core)
+pub attempt_closes : (core : CoreState) → Closes (attempt core)
 attempt_closes core = by_open core.open_op
   where
     without : (op : Op) (out place : Bool) → Closes (Some (cond out Waiting (cond place (need core.pts op None) NoRoom)), core)

@@ -8,7 +8,7 @@ ghost use Rattle.network.specs.Numbered.{IsRising};
 ghost use Rattle.machine_table.specs.SetUp.{is_good};
 ghost use Rattle.machine_table.specs.Opening.{at_start};
 ghost use Rattle.machine_history.specs.Standing.{rights, standing_value};
-ghost use Rattle.machine_history.specs.Steps.{SetUpAs};
+ghost use Rattle.machine_history.specs.Steps.{SetUpAs, Stands};
 ghost use Rattle.interleaving_core.specs.LookUps.{copies, entries, make_room, open_op, victim};
 ghost use Rattle.interleaving_core.specs.Rooms.{completes};
 ghost use Rattle.interleaving_core.specs.Stepped.{Stepped, Ran};
@@ -101,10 +101,11 @@ impl System {
         Ok(answers)
     }
 
-    /// How many cores there are.
+    /// How many cores there are. The machine has its shape, and line by line it is one that the protocol reaches.
     pub fn cores(&self) -> u32
         ensures cores { result ≡ self.now.config.cores }
         ensures count { length self.now.cores ≡ result }
+        ensures stands { Stands self.now }
     {
         self.state.config.cores
     }

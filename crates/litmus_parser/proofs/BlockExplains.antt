@@ -1,66 +1,40 @@
 -- The initial block is read, or its fault has its cause.
-use Rattle.std.proofs.Common.{◌≡◌, ℕ, zero, suc, ◌+◌, ◌<◌, ◌≤◌, Bool, true, false, ◌||◌, eqb, ltb, List, [], ◌∷◌, ◌++◌, length, Option, Some, None, Result, Ok, Err, refl, sym, ap, subst, ◌∙◌, append_assoc, arith, inl, inr}
+use Rattle.std.proofs.Common.{◌≡◌, ℕ, zero, suc, ◌+◌, ◌<◌, ◌≤◌, ◌⊎◌, Bool, true, false, not, cond, ◌||◌, eqb, ltb, leb, List, [], ◌∷◌, ◌++◌, length, Option, Some, None, Result, Ok, Err, refl, sym, ap, subst, ◌∙◌, append_assoc, arith, inl, inr}
 use Rattle.std.specs.List.{All, list_any}
-use Rattle.std.proofs.lemmas.Bool.{cases_Bool, eqb-true, ltb-false, and_parts}
+use Rattle.std.proofs.lemmas.Bool.{cases_Bool, eqb-true, eqb-false, ltb-false, and_parts}
 use Rattle.std.proofs.lemmas.List.{append-nil, length-append, nil_from_length}
 use Rattle.std.proofs.lemmas.Slice.Eq.{bytes_eq-Decides}
 use Rattle.std.specs.Str.{bytes_eq}
 use Rattle.litmus_grammar.specs.Naming.{place_of}
 use Rattle.std.proofs.lemmas.List.Elements.{All-nil, All-push, All-weaker, All-head, All-tail}
 use Rattle.litmus_grammar.specs.Pieces.{Piece, Word, Sign, LineEnd}
-use Rattle.litmus_grammar.specs.Spelling.{is_number, number_of, small_of, register_of}
+use Rattle.litmus_grammar.specs.Spelling.{is_number, number_of, small_of, register_of, is_location}
 use Rattle.litmus_grammar.specs.declared.errors.Kind.{Kind}
-use Rattle.litmus_grammar.specs.declared.errors.Kind.TheVariants.{BadInitial, DoubleInitial, ValueRange}
+use Rattle.litmus_grammar.specs.declared.errors.Kind.TheVariants.{TooLarge, BadInitial, DoubleInitial, ValueRange}
 use Rattle.litmus_grammar.specs.declared.errors.LitmusError.{LitmusError}
 use Rattle.litmus_grammar.specs.Reading.{fails, next_at, word_at, sign_at, expect_at, end_line_at}
-use Rattle.litmus_parser.specs.Names.{Names, same_name}
+use Rattle.litmus_parser.specs.Names.{Names, same_name, is_there}
 use Rattle.litmus_parser.specs.ReadingItems.{location_at, number_at, setting_at, register_item_at, location_item_at, item_of, item_at}
 use Rattle.litmus_parser.specs.ReadingBlock.{Block, separated, added, whole_item_at, entry_of, entry_at, unended, items_at, block_at}
-use Rattle.litmus_parser.specs.Places.{Place, HasNumberAbove}
-use Rattle.litmus_parser.specs.LocationFaults.{AreDifferent, AreSeen}
+use Rattle.litmus_parser.specs.Places.{Place}
+use Rattle.litmus_parser.specs.LocationFaults.{AreDifferent, AreSeen, HasLocationTooMany}
 use Rattle.litmus_parser.specs.BlockFaults.{ItemAt, ItemStands, NameTheSame, SetTwice, BlockCause}
-use Rattle.litmus_parser.specs.GrammarWords.{EndsLine, IsNumbered}
-use Rattle.litmus_parser.specs.GrammarBlock.{IsItem}
+use Rattle.litmus_parser.specs.BlockParts.{OpeningBrace, ItemOrBrace, Colon, RegisterWord, RegisterEquals, RegisterValue, LocationEquals, SemicolonOrBrace, is_settable, StandItems, no_item, one_more, ItemUpTo, at_item, thread_there, colon_there, register_there, equals_there, location_there, equals_behind, BlockUpTo, at_block, in_item, behind_item}
+use Rattle.litmus_parser.specs.GrammarWords.{Next, IsNumbered}
+use Rattle.litmus_parser.specs.GrammarBlock.{IsItem, AreItems}
 use Rattle.litmus_parser.specs.declared.syntax.Name.{Name}
 use Rattle.litmus_parser.specs.declared.syntax.Name.TheVariants.{Register, Location}
 use Rattle.litmus_parser.specs.declared.syntax.Setting.{Setting}
 use Rattle.litmus_parser.specs.declared.syntax.Setting.TheVariants.{Number, Address}
 use Rattle.litmus_parser.specs.declared.syntax.Item.{Item}
-use Rattle.litmus_parser.proofs.BlockTakes.{location_takes, item_takes}
-use Rattle.litmus_parser.proofs.Explains.{Explains, Onto, start, beyond, over_word, over_sign, bind_explains, test_explains, found_explains, weaker, told, repeat_counted, next_explains, word_explains, sign_explains, expect_explains}
-use Rattle.litmus_parser.proofs.ExplainsHere.{end_line_explains}
-use Rattle.litmus_parser.proofs.LocationExplains.{At, number_keeps, seen-start, seen-later, location_explains}
-
--- ---- pieces of the block, read from one of its places; the answers are places behind that one
-
-word_of_block : (line : ℕ) (pieces : List Piece) (n : ℕ) (rest : List Piece) → Place line pieces n rest
-    → Explains (BlockCause line pieces) (λ (x : List ℕ × ℕ × List Piece). Place n rest x.1 (Word x.0 ∷ x.2)) (word_at BadInitial n rest)
-word_of_block line pieces n rest at = word_explains (BlockCause line pieces) n rest BadInitial (λ m p. beyond at p) (λ m r p. (r, beyond at p)) n rest (start n rest)
-
-sign_of_block : (line : ℕ) (pieces : List Piece) (n : ℕ) (rest : List Piece) → Place line pieces n rest
-    → Explains (BlockCause line pieces) (λ (x : ℕ × ℕ × List Piece). Place n rest x.1 (Sign x.0 ∷ x.2)) (sign_at BadInitial n rest)
-sign_of_block line pieces n rest at = sign_explains (BlockCause line pieces) n rest BadInitial (λ m p. beyond at p) (λ m r p. (r, beyond at p)) n rest (start n rest)
-
-expect_of_block : (line : ℕ) (pieces : List Piece) (wanted n : ℕ) (rest : List Piece) → Place line pieces n rest
-    → Explains (BlockCause line pieces) (λ (x : ℕ × List Piece). Place n rest x.0 (Sign wanted ∷ x.1)) (expect_at wanted BadInitial n rest)
-expect_of_block line pieces wanted n rest at = expect_explains (BlockCause line pieces) n rest wanted BadInitial (λ m p. beyond at p) (λ m r p. (r, beyond at p)) n rest (start n rest)
-
-above-on : (bound line : ℕ) (pieces : List Piece) (n : ℕ) (rest : List Piece) (m : ℕ) → Place line pieces n rest → HasNumberAbove bound n rest m → HasNumberAbove bound line pieces m
-above-on bound line pieces n rest m at (w, r, p, is, above) = (w, r, beyond at p, is, above)
-
-number_of_block : (line : ℕ) (pieces : List Piece) (n : ℕ) (rest : List Piece) → Place line pieces n rest
-    → Explains (BlockCause line pieces) (λ (x : ℕ × ℕ × List Piece). Place n rest x.1 x.2) (number_at BadInitial n rest)
-number_of_block line pieces n rest at =
-    let G : List Piece → Type 0 = λ front. Unit {0} in
-    weaker (BlockCause line pieces) (λ (x : ℕ × ℕ × List Piece). (w : List ℕ) × At G n rest x.1 (Word w ∷ x.2)) (λ (x : ℕ × ℕ × List Piece). Place n rest x.1 x.2) (number_at BadInitial n rest) (λ x h. over_word h.1.0)
-    (number_keeps (BlockCause line pieces) n rest BadInitial (λ m p. beyond at p) (λ m r p. (r, beyond at p)) (λ m h. above-on 2147483647 line pieces n rest m at h) G (λ front g. tt) n rest (start n rest, tt))
+use Rattle.litmus_parser.proofs.BlockTakes.{location_takes, item_takes, Separates, added_takes, separated_takes, items_stand}
+use Rattle.litmus_parser.proofs.Explains.{Explains, Onto, At, start, beyond, over_word, over_sign, over_end, bind_explains, test_explains, found_explains, weaker, told, repeat_counted}
+use Rattle.litmus_parser.proofs.Outcomes.{answered, otherwise}
+use Rattle.litmus_parser.proofs.LocationExplains.{seen-start, seen-later, location_explains}
+use Rattle.litmus_parser.proofs.BlockPieces.{Taken, neither, not_wanted, next_of_block, word_of_block, sign_of_block, expect_of_block, number_of_block}
 
 word-is : (v w : List ℕ) → (let p : Piece = Word v in p) ≡ Word w → v ≡ w
 word-is v w e = cc
-
-answered : (C : Kind → ℕ → Type 0) {Y : Type 0} (P : Y → Type 0) (r : Result Y LitmusError) (y : Y) → Explains C P r → r ≡ Ok y → P y
-answered C P (Ok x) y h is = let same : x ≡ y = cc in subst P same h
-answered C P (Err d) y h is = absurd cc
 
 -- ---- names
 
@@ -85,12 +59,32 @@ seen-on : (line : ℕ) (pieces : List Piece) (names : Names) (n : ℕ) (rest : L
 unfolding beyond
 seen-on line pieces names n rest m r a p = (beyond a.0 p, seen-later [] a.0.front p.front names a.1)
 
+location_tests : (is known many : Bool) (x y : ℕ × Names) (n : ℕ) (e : LitmusError)
+    → cond is (cond known (Ok x) (cond many (fails TooLarge n) (Ok y))) (fails BadInitial n) ≡ Err e → ((e ≡ record { line = n; kind = BadInitial }) × (is ≡ false)) ⊎ (e ≡ record { line = n; kind = TooLarge })
+location_tests false known many x y n e fault = inl (cc, refl)
+location_tests true true many x y n e fault = absurd cc
+location_tests true false true x y n e fault = inr cc
+location_tests true false false x y n e fault = absurd cc
+
+-- the word is no location, or one too many
+location_fails : (word : List ℕ) (n : ℕ) (names : Names) (e : LitmusError) → location_at BadInitial word n names ≡ Err e
+    → ((e ≡ record { line = n; kind = BadInitial }) × (is_location word ≡ false)) ⊎ (e ≡ record { line = n; kind = TooLarge })
+unfolding location_at
+location_fails word n names e fault = location_tests (is_location word) (ltb (place_of word names) (length names)) (leb 64 (length names)) (place_of word names, names) (length names, names ++ word ∷ []) n e fault
+
 location_of_block : (line : ℕ) (pieces : List Piece) (word : List ℕ) (n : ℕ) (rest : List Piece) (names : Names) → Seen line pieces names n (Word word ∷ rest)
-    → Explains (BlockCause line pieces) (λ (x : ℕ × Names). Seen line pieces x.1 n rest) (location_at BadInitial word n names)
+    → (is_location word ≡ false → BlockCause line pieces BadInitial n) → Explains (BlockCause line pieces) (λ (x : ℕ × Names). Seen line pieces x.1 n rest) (location_at BadInitial word n names)
 unfolding over_word beyond
-location_of_block line pieces word n rest names a =
-    weaker (BlockCause line pieces) (λ (x : ℕ × Names). AreSeen [] (a.0.front ++ Word word ∷ []) x.1) (λ (x : ℕ × Names). Seen line pieces x.1 n rest) (location_at BadInitial word n names) (λ x h. (over_word a.0, h))
-    (location_explains (BlockCause line pieces) [] line pieces BadInitial (λ m r p. (r, p)) (λ m h. h) word n rest names a.0 a.1)
+location_of_block line pieces word n rest names a none =
+    let C : Kind → ℕ → Type 0 = BlockCause line pieces in
+    let D : Kind → ℕ → Type 0 = λ kind m. kind ≡ TooLarge → HasLocationTooMany [] line pieces m in
+    let P : ℕ × Names → Type 0 = λ x. AreSeen [] (a.0.front ++ Word word ∷ []) x.1 in
+    weaker C P (λ (x : ℕ × Names). Seen line pieces x.1 n rest) (location_at BadInitial word n names) (λ x h. (over_word a.0, h))
+    (otherwise C D P (location_at BadInitial word n names) (location_explains D [] line pieces BadInitial (λ m r p e. absurd cc) (λ m h e. h) word n rest names a.0 a.1) (λ e fault d.
+    elim (location_fails word n names e fault) [
+      | inl h ↦ subst (λ (f : LitmusError). C f.kind f.line) (sym h.0) (none h.1)
+      | inr h ↦ subst (λ (f : LitmusError). C f.kind f.line) (sym h) (subst (λ (f : LitmusError). f.kind ≡ TooLarge → HasLocationTooMany [] line pieces f.line) h d refl)
+    ]))
 
 -- ---- the name in a place of the names
 
@@ -186,19 +180,21 @@ record Onward (line : ℕ) (pieces : List Piece) (names : Names) (n : ℕ) (rest
 abbrev SettingRead : ℕ → List Piece → Names → ℕ → List Piece → (Setting × Names) × ℕ × List Piece → Type 0
 SettingRead line pieces names n rest x = Onward line pieces names n rest x.0.1 x.1 x.2
 
-setting_explains : (line : ℕ) (pieces : List Piece) (names : Names) (n : ℕ) (rest : List Piece) → Seen line pieces names n rest
+setting_explains : (line : ℕ) (pieces : List Piece) (names : Names) (n : ℕ) (rest : List Piece) → Seen line pieces names n rest → BlockUpTo pieces RegisterValue rest
     → Explains (BlockCause line pieces) (SettingRead line pieces names n rest) (setting_at names n rest)
 unfolding setting_at
-setting_explains line pieces names n rest a =
+setting_explains line pieces names n rest a upto =
     let C : Kind → ℕ → Type 0 = BlockCause line pieces in
     let Q : (Setting × Names) × ℕ × List Piece → Type 0 = SettingRead line pieces names n rest in
-    bind_explains C (λ (x : List ℕ × ℕ × List Piece). Place n rest x.1 (Word x.0 ∷ x.2)) Q (word_at BadInitial n rest) _ (word_of_block line pieces n rest a.0) (λ w e p.
+    bind_explains C (λ (x : List ℕ × ℕ × List Piece). Taken n rest (Word x.0) x.1 x.2) Q (word_at BadInitial n rest) _ (word_of_block line pieces RegisterValue n rest a.0 upto (λ w. is_number w || is_location w) (λ p. refl)) (λ w e t.
+    let p : Place n rest w.1 (Word w.0 ∷ w.2) = t.0 in
     test_explains C Q (is_number w.0) _ _ (λ d.
     test_explains C Q (ltb (number_of w.0) 2147483648) (Ok ((Number (number_of w.0), names), w.1, w.2)) (fails ValueRange w.1)
     (λ f. record { onward = over_word p; grows = grows-same names names refl; seen = seen-on line pieces names n rest w.1 w.2 a (over_word p) })
     (λ f. let ge = ltb-false _ _ f in (w.0, w.2, beyond a.0 p, d, omega (arith, ge)))) (λ d.
     bind_explains C (λ (x : ℕ × Names). Seen line pieces x.1 w.1 w.2) Q (location_at BadInitial w.0 w.1 names) (λ l. Ok ((Address l.0, l.1), w.1, w.2))
-    (location_of_block line pieces w.0 w.1 w.2 names (seen-on line pieces names n rest w.1 (Word w.0 ∷ w.2) a p)) (λ l e' h.
+    (location_of_block line pieces w.0 w.1 w.2 names (seen-on line pieces names n rest w.1 (Word w.0 ∷ w.2) a p) (λ none.
+    not_wanted line pieces RegisterValue rest upto (Word w.0) w.1 w.2 t.1 (beyond a.0 p) (neither (is_number w.0) (is_location w.0) d none))) (λ l e' h.
     record { onward = over_word p; grows = numbered-grows w.0 names l.0 l.1 (location_takes BadInitial w.0 w.1 names l e'); seen = h })))
 
 -- the item is in line n, and its first word stands before the rest
@@ -206,56 +202,76 @@ abbrev ItemRead : ℕ → List Piece → Names → ℕ → List Piece → (Item 
 ItemRead line pieces names n rest x = (x.0.0.line ≡ n) × Onward line pieces names n rest x.0.1 x.1 x.2
 
 register_item_explains : (line : ℕ) (pieces : List Piece) (thread : ℕ) (names : Names) (n : ℕ) (rest : List Piece) → Seen line pieces names n rest
+    → (earlier : List Item) (here : List Piece) → StandItems pieces earlier names here → ItemUpTo names here Colon rest
     → Explains (BlockCause line pieces) (ItemRead line pieces names n rest) (register_item_at thread names n rest)
 unfolding register_item_at
-register_item_explains line pieces thread names n rest a =
+register_item_explains line pieces thread names n rest a earlier here st upto =
     let C : Kind → ℕ → Type 0 = BlockCause line pieces in
     let Q : (Item × Names) × ℕ × List Piece → Type 0 = ItemRead line pieces names n rest in
-    bind_explains C (λ (x : ℕ × List Piece). Place n rest x.0 (Sign 58 ∷ x.1)) Q (expect_at 58 BadInitial n rest) _ (expect_of_block line pieces 58 n rest a.0) (λ colon e p.
-    let behind_colon : Place n rest colon.0 colon.1 = over_sign p in
-    bind_explains C (λ (x : List ℕ × ℕ × List Piece). Place colon.0 colon.1 x.1 (Word x.0 ∷ x.2)) Q (word_at BadInitial colon.0 colon.1) _ (word_of_block line pieces colon.0 colon.1 (beyond a.0 behind_colon)) (λ w e' q.
-    let at_word : Place n rest w.1 (Word w.0 ∷ w.2) = beyond behind_colon q in
-    found_explains C Q BadInitial (register_of w.0) w.1 _ (λ none. (_, beyond a.0 at_word)) (λ r some.
-    test_explains C Q (eqb r 0) (fails BadInitial w.1) _ (λ zero_. (_, beyond a.0 at_word)) (λ other.
-    bind_explains C (λ (x : ℕ × List Piece). Place w.1 w.2 x.0 (Sign 61 ∷ x.1)) Q (expect_at 61 BadInitial w.1 w.2) _ (expect_of_block line pieces 61 w.1 w.2 (beyond a.0 (over_word at_word))) (λ equals e'' s.
-    let behind_equals : Place n rest equals.0 equals.1 = beyond (over_word at_word) (over_sign s) in
+    bind_explains C (λ (x : ℕ × List Piece). Taken n rest (Sign 58) x.0 x.1) Q (expect_at 58 BadInitial n rest) _ (expect_of_block line pieces Colon n rest a.0 (in_item st upto) 58 (λ p. refl)) (λ colon e p.
+    let behind_colon : Place n rest colon.0 colon.1 = over_sign p.0 in
+    let colon_stands : ItemUpTo names here RegisterWord colon.1 = colon_there upto p.1 in
+    bind_explains C (λ (x : List ℕ × ℕ × List Piece). Taken colon.0 colon.1 (Word x.0) x.1 x.2) Q (word_at BadInitial colon.0 colon.1) _
+    (word_of_block line pieces RegisterWord colon.0 colon.1 (beyond a.0 behind_colon) (in_item st colon_stands) (λ w. is_settable (register_of w)) (λ p. refl)) (λ w e' q.
+    let at_word : Place n rest w.1 (Word w.0 ∷ w.2) = beyond behind_colon q.0 in
+    let no_register : is_settable (register_of w.0) ≡ false → C BadInitial w.1 = not_wanted line pieces RegisterWord colon.1 (in_item st colon_stands) (Word w.0) w.1 w.2 q.1 (beyond a.0 at_word) in
+    found_explains C Q BadInitial (register_of w.0) w.1 _ (λ none. no_register (ap is_settable none)) (λ r some.
+    test_explains C Q (eqb r 0) (fails BadInitial w.1) _ (λ zero_. no_register (ap is_settable some ∙ ap not zero_)) (λ other.
+    let register_stands : ItemUpTo names here RegisterEquals w.2 = register_there w.0 r colon_stands q.1 some (eqb-false r 0 other) in
+    bind_explains C (λ (x : ℕ × List Piece). Taken w.1 w.2 (Sign 61) x.0 x.1) Q (expect_at 61 BadInitial w.1 w.2) _
+    (expect_of_block line pieces RegisterEquals w.1 w.2 (beyond a.0 (over_word at_word)) (in_item st register_stands) 61 (λ p. refl)) (λ equals e'' s.
+    let behind_equals : Place n rest equals.0 equals.1 = beyond (over_word at_word) (over_sign s.0) in
     bind_explains C (SettingRead line pieces names equals.0 equals.1) Q (setting_at names equals.0 equals.1) (λ v. Ok ((record { line = n; name = Register thread r; setting = v.0.0 }, v.0.1), v.1, v.2))
-    (setting_explains line pieces names equals.0 equals.1 (seen-on line pieces names n rest equals.0 equals.1 a behind_equals)) (λ v e3 h.
+    (setting_explains line pieces names equals.0 equals.1 (seen-on line pieces names n rest equals.0 equals.1 a behind_equals) (in_item st (equals_there register_stands s.1))) (λ v e3 h.
     (refl, record { onward = beyond behind_equals h.onward; grows = h.grows; seen = h.seen })))))))
 
+-- what is wrong with a word with which no item begins
+no_first_word : (line : ℕ) (pieces : List Piece) (names : Names) (earlier : List Item) (here : List Piece) (first : List ℕ) (n : ℕ) (rest : List Piece) → StandItems pieces earlier names here
+    → Next here (Word first) rest → Place line pieces n (Word first ∷ rest) → small_of 15 first ≡ None → is_location first ≡ false → BlockCause line pieces BadInitial n
+no_first_word line pieces names earlier here first n rest st next at no_thread no_location =
+    not_wanted line pieces ItemOrBrace here (in_item st at_item) (Word first) n rest next at
+    (neither (is_there (small_of 15 first) || is_location first) false (neither (is_there (small_of 15 first)) (is_location first) (ap is_there no_thread) no_location) refl)
+
 location_item_explains : (line : ℕ) (pieces : List Piece) (first : List ℕ) (names : Names) (n : ℕ) (rest : List Piece) → Seen line pieces names n (Word first ∷ rest)
+    → (earlier : List Item) (here : List Piece) → StandItems pieces earlier names here → Next here (Word first) rest → small_of 15 first ≡ None
     → Explains (BlockCause line pieces) (ItemRead line pieces names n rest) (location_item_at first names n rest)
 unfolding location_item_at
-location_item_explains line pieces first names n rest a =
+location_item_explains line pieces first names n rest a earlier here st next no_thread =
     let C : Kind → ℕ → Type 0 = BlockCause line pieces in
     let Q : (Item × Names) × ℕ × List Piece → Type 0 = ItemRead line pieces names n rest in
-    bind_explains C (λ (x : ℕ × Names). Seen line pieces x.1 n rest) Q (location_at BadInitial first n names) _ (location_of_block line pieces first n rest names a) (λ l e b.
-    bind_explains C (λ (x : ℕ × List Piece). Place n rest x.0 (Sign 61 ∷ x.1)) Q (expect_at 61 BadInitial n rest) _ (expect_of_block line pieces 61 n rest b.0) (λ equals e' p.
+    bind_explains C (λ (x : ℕ × Names). Seen line pieces x.1 n rest) Q (location_at BadInitial first n names) _
+    (location_of_block line pieces first n rest names a (no_first_word line pieces names earlier here first n rest st next a.0 no_thread)) (λ l e b.
+    let numbered : IsNumbered first names l.0 l.1 = location_takes BadInitial first n names l e in
+    let location_stands : ItemUpTo names here LocationEquals rest = location_there first l.0 l.1 next numbered in
+    bind_explains C (λ (x : ℕ × List Piece). Taken n rest (Sign 61) x.0 x.1) Q (expect_at 61 BadInitial n rest) _ (expect_of_block line pieces LocationEquals n rest b.0 (in_item st location_stands) 61 (λ p. refl)) (λ equals e' p.
     bind_explains C (λ (x : ℕ × ℕ × List Piece). Place equals.0 equals.1 x.1 x.2) Q (number_at BadInitial equals.0 equals.1) (λ v. Ok ((record { line = n; name = Location l.0; setting = Number v.0 }, l.1), v.1, v.2))
-    (number_of_block line pieces equals.0 equals.1 (beyond b.0 (over_sign p))) (λ v e'' q.
-    let on : Place n rest v.1 v.2 = beyond (over_sign p) q in
-    (refl, record { onward = on; grows = numbered-grows first names l.0 l.1 (location_takes BadInitial first n names l e); seen = seen-on line pieces l.1 n rest v.1 v.2 b on }))))
+    (number_of_block line pieces equals.0 equals.1 (beyond b.0 (over_sign p.0)) (in_item st (equals_behind location_stands p.1))) (λ v e'' q.
+    let on : Place n rest v.1 v.2 = beyond (over_sign p.0) q in
+    (refl, record { onward = on; grows = numbered-grows first names l.0 l.1 numbered; seen = seen-on line pieces l.1 n rest v.1 v.2 b on }))))
 
 item_of_explains : (line : ℕ) (pieces : List Piece) (o : Option ℕ) (first : List ℕ) (names : Names) (n : ℕ) (rest : List Piece) → Seen line pieces names n (Word first ∷ rest)
+    → (earlier : List Item) (here : List Piece) → StandItems pieces earlier names here → Next here (Word first) rest → small_of 15 first ≡ o
     → Explains (BlockCause line pieces) (ItemRead line pieces names n rest) (item_of o first names n rest)
-item_of_explains line pieces (Some thread) first names n rest a =
-    register_item_explains line pieces thread names n rest (seen-on line pieces names n (Word first ∷ rest) n rest a (over_word (start n (Word first ∷ rest))))
-item_of_explains line pieces None first names n rest a = location_item_explains line pieces first names n rest a
+item_of_explains line pieces (Some thread) first names n rest a earlier here st next is =
+    register_item_explains line pieces thread names n rest (seen-on line pieces names n (Word first ∷ rest) n rest a (over_word (start n (Word first ∷ rest)))) earlier here st (thread_there first thread next is)
+item_of_explains line pieces None first names n rest a earlier here st next is = location_item_explains line pieces first names n rest a earlier here st next is
 
 item_explains : (line : ℕ) (pieces : List Piece) (first : List ℕ) (names : Names) (n : ℕ) (rest : List Piece) → Seen line pieces names n (Word first ∷ rest)
+    → (earlier : List Item) (here : List Piece) → StandItems pieces earlier names here → Next here (Word first) rest
     → Explains (BlockCause line pieces) (ItemRead line pieces names n rest) (item_at first names n rest)
 unfolding item_at
-item_explains line pieces first names n rest a = item_of_explains line pieces (small_of 15 first) first names n rest a
+item_explains line pieces first names n rest a earlier here st next = item_of_explains line pieces (small_of 15 first) first names n rest a earlier here st next refl
 
-separated_explains : (line : ℕ) (pieces : List Piece) (n : ℕ) (rest : List Piece) → Place line pieces n rest
+separated_explains : (line : ℕ) (pieces : List Piece) (n : ℕ) (rest : List Piece) → Place line pieces n rest → BlockUpTo pieces SemicolonOrBrace rest
     → Explains (BlockCause line pieces) (λ (x : Bool × ℕ × List Piece). Place n rest x.1 x.2) (separated n rest)
 unfolding separated
-separated_explains line pieces n rest at =
+separated_explains line pieces n rest at upto =
     let C : Kind → ℕ → Type 0 = BlockCause line pieces in
     let Q : Bool × ℕ × List Piece → Type 0 = λ x. Place n rest x.1 x.2 in
-    bind_explains C (λ (x : ℕ × ℕ × List Piece). Place n rest x.1 (Sign x.0 ∷ x.2)) Q (sign_at BadInitial n rest) _ (sign_of_block line pieces n rest at) (λ s e p.
-    test_explains C Q (eqb s.0 59) (Ok (true, s.1, s.2)) _ (λ t. over_sign p) (λ t.
-    test_explains C Q (eqb s.0 125) (Ok (false, s.1, s.2)) (fails BadInitial s.1) (λ t. over_sign p) (λ t. (_, beyond at p))))
+    bind_explains C (λ (x : ℕ × ℕ × List Piece). Taken n rest (Sign x.0) x.1 x.2) Q (sign_at BadInitial n rest) _ (sign_of_block line pieces SemicolonOrBrace n rest at upto (λ w. refl) refl) (λ s e p.
+    test_explains C Q (eqb s.0 59) (Ok (true, s.1, s.2)) _ (λ t. over_sign p.0) (λ no_more.
+    test_explains C Q (eqb s.0 125) (Ok (false, s.1, s.2)) (fails BadInitial s.1) (λ t. over_sign p.0) (λ no_brace.
+    not_wanted line pieces SemicolonOrBrace rest upto (Sign s.0) s.1 s.2 p.1 (beyond at p.0) (neither (eqb s.0 59) (eqb s.0 125) no_more no_brace))))
 
 names-it : (item : Item) (first : List ℕ) (more : List Piece) (before after : Names) (rest : List Piece) → IsItem (Word first ∷ more) before item.name item.setting after rest
     → (l : ℕ) → item.name ≡ Location l → NameAt after l first
@@ -308,9 +324,9 @@ place-shorter n pieces m rest p =
     let f : length (p.front ++ rest) ≡ length p.front + length rest = length-append p.front rest in
     omega (arith, e, f)
 
--- a state with k turns left: where a block isn't too long, they are enough
+-- a state with k turns left, up to which the block's items stand: where a block isn't too long, the turns are enough
 abbrev Left : ℕ → List Piece → ℕ → Block → Type 0
-Left line pieces k s = Stands line pieces s × (length pieces ≤ 65536 → length s.3 ≤ k)
+Left line pieces k s = Stands line pieces s × (length pieces ≤ 65536 → length s.3 ≤ k) × StandItems pieces s.0 s.1 s.3
 
 -- the cause in a block that isn't too long
 abbrev ShortCause : ℕ → List Piece → Kind → ℕ → Type 0
@@ -320,9 +336,17 @@ in_short : {Y : Type 0} (line : ℕ) (pieces : List Piece) (P : Y → Type 0) (r
 in_short line pieces P (Ok y) h = h
 in_short line pieces P (Err e) h = λ short. h
 
-onto-either : (line : ℕ) (pieces : List Piece) (k : ℕ) (more : Bool) (t : Block) → Left line pieces k t → Onto (Left line pieces k) (Stands line pieces) (more, t)
-onto-either line pieces k true t l = l
-onto-either line pieces k false t l = l.0
+onto-either : (line : ℕ) (pieces : List Piece) (k : ℕ) (more : Bool) (t : Block) → Stands line pieces t → (length pieces ≤ 65536 → length t.3 ≤ k) → (more ≡ true → StandItems pieces t.0 t.1 t.3)
+    → Onto (Left line pieces k) (Stands line pieces) (more, t)
+onto-either line pieces k true t stands short items = (stands, short, items refl)
+onto-either line pieces k false t stands short items = stands
+
+-- the item behind the ones that stand, where a ; follows it
+one_more_stands : (pieces : List Piece) (s : Block) (item : Item) (after : Names) (here : List Piece) (items : List Item) (m : ℕ) (r : List Piece) → StandItems pieces s.0 s.1 s.3
+    → IsItem s.3 s.1 item.name item.setting after here → list_any (λ other. same_name other.name item.name) s.0 ≡ false → items ≡ s.0 ++ item ∷ []
+    → (more : Bool) → Separates here (more, m, r) → more ≡ true → StandItems pieces items after r
+one_more_stands pieces s item after here items m r st is fresh e true next t = subst (λ (x : List Item). StandItems pieces x after r) (sym e) (one_more item here st is fresh next)
+one_more_stands pieces s item after here items m r st is fresh e false next t = absurd cc
 
 -- behind the item there are fewer pieces
 item-shorter : (s : Block) (first : List ℕ) (n : ℕ) (rest : List Piece) (m : ℕ) (r : List Piece) (k : ℕ) → Place s.2 s.3 n (Word first ∷ rest) → Place n rest m r → length s.3 ≤ suc k → length r ≤ k
@@ -348,60 +372,77 @@ with_item line pieces s item after end behind items m r st i g seen on p e =
     } in
     record { seen = seen; items = subst (All (Behind line pieces after m r)) (sym e) (All-push (Behind line pieces after m r) s.0 item old new) }
 
-whole_item_explains : (line : ℕ) (pieces : List Piece) (k : ℕ) (s : Block) (first : List ℕ) (n : ℕ) (rest : List Piece) → Left line pieces (suc k) s → Place s.2 s.3 n (Word first ∷ rest)
+whole_item_explains : (line : ℕ) (pieces : List Piece) (k : ℕ) (s : Block) (first : List ℕ) (n : ℕ) (rest : List Piece) → Left line pieces (suc k) s → Taken s.2 s.3 (Word first) n rest
     → Explains (BlockCause line pieces) (Onto (Left line pieces k) (Stands line pieces)) (whole_item_at first (s.0, s.1, n, rest))
 unfolding whole_item_at
-whole_item_explains line pieces k s first n rest l at =
+whole_item_explains line pieces k s first n rest l (at, next) =
     let C : Kind → ℕ → Type 0 = BlockCause line pieces in
     let Q : Bool × Block → Type 0 = Onto (Left line pieces k) (Stands line pieces) in
-    bind_explains C (ItemRead line pieces s.1 n rest) Q (item_at first s.1 n rest) _ (item_explains line pieces first s.1 n rest (seen-on line pieces s.1 s.2 s.3 n (Word first ∷ rest) l.0.seen at)) (λ x e i.
+    bind_explains C (ItemRead line pieces s.1 n rest) Q (item_at first s.1 n rest) _ (item_explains line pieces first s.1 n rest (seen-on line pieces s.1 s.2 s.3 n (Word first ∷ rest) l.0.seen at) s.0 s.3 l.2 next) (λ x e i.
     let is : ItemAt s.2 s.3 x.0.0 s.1 x.0.1 x.1 x.2 = item_stands s first n rest x at i.0 i.1.onward e in
+    let is_item : IsItem s.3 s.1 x.0.0.name x.0.0.setting x.0.1 x.2 = item_takes s.3 first s.1 n rest x next e in
     let on : Place s.2 s.3 x.1 x.2 = beyond (over_word at) i.1.onward in
     bind_explains C (λ (items : List Item). items ≡ s.0 ++ x.0.0 ∷ []) Q (added s.0 x.0.0) _ (added_explains line pieces s x.0.0 x.0.1 x.1 x.2 l.0 is i.1.grows) (λ items e' a.
-    bind_explains C (λ (y : Bool × ℕ × List Piece). Place x.1 x.2 y.1 y.2) Q (separated x.1 x.2) (λ more. Ok (more.0, (items, x.0.1, more.1, more.2))) (separated_explains line pieces x.1 x.2 (beyond l.0.seen.0 on)) (λ more e'' p.
+    let fresh = (added_takes s.0 x.0.0 items e').0 in
+    bind_explains C (λ (y : Bool × ℕ × List Piece). Place x.1 x.2 y.1 y.2) Q (separated x.1 x.2) (λ more. Ok (more.0, (items, x.0.1, more.1, more.2)))
+    (separated_explains line pieces x.1 x.2 (beyond l.0.seen.0 on) (behind_item x.0.0 x.0.1 l.2 is_item fresh)) (λ more e'' p.
     onto-either line pieces k more.0 (items, x.0.1, more.1, more.2)
-    (with_item line pieces s x.0.0 x.0.1 x.1 x.2 items more.1 more.2 l.0 is i.1.grows (seen-on line pieces x.0.1 x.1 x.2 more.1 more.2 i.1.seen p) on p a, λ short. item-shorter s first n rest more.1 more.2 k at (beyond i.1.onward p) (l.1 short)))))
+    (with_item line pieces s x.0.0 x.0.1 x.1 x.2 items more.1 more.2 l.0 is i.1.grows (seen-on line pieces x.0.1 x.1 x.2 more.1 more.2 i.1.seen p) on p a)
+    (λ short. item-shorter s first n rest more.1 more.2 k at (beyond i.1.onward p) (l.1 short))
+    (one_more_stands pieces s x.0.0 x.0.1 x.2 items more.1 more.2 l.2 is_item fresh a more.0 (separated_takes x.1 x.2 more e'')))))
 
-entry_of_explains : (line : ℕ) (pieces : List Piece) (k : ℕ) (s : Block) (p : Piece) (n : ℕ) (rest : List Piece) → Left line pieces (suc k) s → Place s.2 s.3 n (p ∷ rest)
+entry_of_explains : (line : ℕ) (pieces : List Piece) (k : ℕ) (s : Block) (p : Piece) (n : ℕ) (rest : List Piece) → Left line pieces (suc k) s → Taken s.2 s.3 p n rest
     → Explains (BlockCause line pieces) (Onto (Left line pieces k) (Stands line pieces)) (entry_of s.0 s.1 (p, n, rest))
-entry_of_explains line pieces k s (Word first) n rest l at = whole_item_explains line pieces k s first n rest l at
-entry_of_explains line pieces k s (Sign b) n rest l at =
+entry_of_explains line pieces k s (Word first) n rest l t = whole_item_explains line pieces k s first n rest l t
+entry_of_explains line pieces k s (Sign b) n rest l t =
     test_explains (BlockCause line pieces) (Onto (Left line pieces k) (Stands line pieces)) (eqb b 125) (Ok (false, (s.0, s.1, n, rest))) (fails BadInitial n)
-    (λ t. stands-on line pieces s n rest l.0 (over_sign at)) (λ t. (_, beyond l.0.seen.0 at))
-entry_of_explains line pieces k s LineEnd n rest l at = (_, beyond l.0.seen.0 at)
+    (λ brace. stands-on line pieces s n rest l.0 (over_sign t.0)) (λ other. not_wanted line pieces ItemOrBrace s.3 (in_item l.2 at_item) (Sign b) n rest t.1 (beyond l.0.seen.0 t.0) other)
+entry_of_explains line pieces k s LineEnd n rest l t = not_wanted line pieces ItemOrBrace s.3 (in_item l.2 at_item) LineEnd n rest t.1 (beyond l.0.seen.0 t.0) refl
 
 entry_explains : (line : ℕ) (pieces : List Piece) (k : ℕ) (s : Block) → Left line pieces (suc k) s → Explains (BlockCause line pieces) (Onto (Left line pieces k) (Stands line pieces)) (entry_at s)
 unfolding entry_at
 entry_explains line pieces k s l =
-    bind_explains (BlockCause line pieces) (λ (x : Piece × ℕ × List Piece). Place s.2 s.3 x.1 (x.0 ∷ x.2)) (Onto (Left line pieces k) (Stands line pieces)) (next_at s.2 s.3) (entry_of s.0 s.1)
-    (next_explains (BlockCause line pieces) s.2 s.3 (λ m p. beyond l.0.seen.0 p) s.2 s.3 (start s.2 s.3)) (λ x e p. entry_of_explains line pieces k s x.0 x.1 x.2 l p)
+    bind_explains (BlockCause line pieces) (λ (x : Piece × ℕ × List Piece). Taken s.2 s.3 x.0 x.1 x.2) (Onto (Left line pieces k) (Stands line pieces)) (next_at s.2 s.3) (entry_of s.0 s.1)
+    (next_of_block line pieces s.2 s.3 l.0.seen.0) (λ x e t. entry_of_explains line pieces k s x.0 x.1 x.2 l t)
 
 -- no turn is left only where no piece is left
 unended_explains : (line : ℕ) (pieces : List Piece) (s : Block) → Left line pieces 0 s → Explains (ShortCause line pieces) (Stands line pieces) (unended s)
 unended_explains line pieces s l = λ short. let few = l.1 short in subst (λ rest. Place line pieces s.2 rest) (nil_from_length s.3 (omega (arith, few))) l.0.seen.0
 
-items_explains : (line : ℕ) (pieces : List Piece) (n : ℕ) (rest : List Piece) → Seen line pieces [] n rest → Explains (ShortCause line pieces) (Stands line pieces) (items_at [] n rest)
+items_explains : (line : ℕ) (pieces : List Piece) (n : ℕ) (rest : List Piece) → Seen line pieces [] n rest → Next pieces (Sign 123) rest → Explains (ShortCause line pieces) (Stands line pieces) (items_at [] n rest)
 unfolding items_at
-items_explains line pieces n rest seen =
+items_explains line pieces n rest seen next =
     let shorter : length rest ≤ length pieces = place-shorter line pieces n rest seen.0 in
     let stands : Stands line pieces ([], [], n, rest) = record { seen = seen; items = All-nil (Behind line pieces [] n rest) } in
     repeat_counted (ShortCause line pieces) (Left line pieces) (Stands line pieces) entry_at unended
     (λ k s l. in_short line pieces (Onto (Left line pieces k) (Stands line pieces)) (entry_at s) (entry_explains line pieces k s l)) (λ s l. unended_explains line pieces s l)
-    65536 ([], [], n, rest) (stands, λ short. omega (arith, shorter, short))
+    65536 ([], [], n, rest) (stands, λ short. omega (arith, shorter, short), no_item next)
 
 -- no location is named yet
 nothing-seen : (line : ℕ) (pieces : List Piece) (n : ℕ) (rest : List Piece) → Place line pieces n rest → Seen line pieces [] n rest
 nothing-seen line pieces n rest p = (p, seen-later [] [] p.front [] (seen-start [] tt))
 
+-- the line ends behind the closing brace, or there is more on it
+line_ended : (line : ℕ) (pieces : List Piece) (opened : List Piece) (items : List Item) (names : Names) (n : ℕ) (rest : List Piece) → Next pieces (Sign 123) opened → AreItems [] opened [] items names rest → Place line pieces n rest
+    → Explains (ShortCause line pieces) (λ (x : ℕ × List Piece). Place n rest x.0 x.1) (end_line_at BadInitial n rest)
+unfolding end_line_at
+line_ended line pieces opened items names n [] brace are at = start n []
+line_ended line pieces opened items names n (LineEnd ∷ rest) brace are at = over_end (start n (LineEnd ∷ rest))
+line_ended line pieces opened items names n (Word w ∷ rest) brace are at =
+    λ short. inr (record { start = opened; items = items; names = names; piece = Word w; rest = rest; brace = brace; are = are; no_end = λ e. absurd cc; place = at })
+line_ended line pieces opened items names n (Sign b ∷ rest) brace are at =
+    λ short. inr (record { start = opened; items = items; names = names; piece = Sign b; rest = rest; brace = brace; are = are; no_end = λ e. absurd cc; place = at })
+
 whole_block : (line : ℕ) (pieces : List Piece) → Explains (ShortCause line pieces) (Stands line pieces) (block_at [] line pieces)
 unfolding block_at
 whole_block line pieces =
     let C : Kind → ℕ → Type 0 = ShortCause line pieces in
-    let Brace : ℕ × List Piece → Type 0 = λ x. Place line pieces x.0 (Sign 123 ∷ x.1) in
-    bind_explains C Brace (Stands line pieces) (expect_at 123 BadInitial line pieces) _ (in_short line pieces Brace (expect_at 123 BadInitial line pieces) (expect_of_block line pieces 123 line pieces (start line pieces))) (λ brace e p.
-    bind_explains C (Stands line pieces) (Stands line pieces) (items_at [] brace.0 brace.1) _ (items_explains line pieces brace.0 brace.1 (nothing-seen line pieces brace.0 brace.1 (over_sign p))) (λ b e' st.
-    bind_explains C (λ (x : ℕ × List Piece). Place b.2 b.3 x.0 x.1 × EndsLine b.3 x.1) (Stands line pieces) (end_line_at BadInitial b.2 b.3) (λ next. Ok (b.0, b.1, next.0, next.1))
-    (end_line_explains C b.2 b.3 BadInitial b.2 b.3 (λ short. (b.3, st.seen.0)) (start b.2 b.3)) (λ next e'' q. stands-on line pieces b next.0 next.1 st q.0)))
+    let Brace : ℕ × List Piece → Type 0 = λ x. Taken line pieces (Sign 123) x.0 x.1 in
+    bind_explains C Brace (Stands line pieces) (expect_at 123 BadInitial line pieces) _
+    (in_short line pieces Brace (expect_at 123 BadInitial line pieces) (expect_of_block line pieces OpeningBrace line pieces (start line pieces) at_block 123 (λ p. refl))) (λ brace e p.
+    bind_explains C (Stands line pieces) (Stands line pieces) (items_at [] brace.0 brace.1) _ (items_explains line pieces brace.0 brace.1 (nothing-seen line pieces brace.0 brace.1 (over_sign p.0)) p.1) (λ b e' st.
+    bind_explains C (λ (x : ℕ × List Piece). Place b.2 b.3 x.0 x.1) (Stands line pieces) (end_line_at BadInitial b.2 b.3) (λ next. Ok (b.0, b.1, next.0, next.1))
+    (line_ended line pieces brace.1 b.0 b.1 b.2 b.3 p.1 (items_stand [] brace.0 brace.1 b e') st.seen.0) (λ next e'' q. stands-on line pieces b next.0 next.1 st q)))
 
 -- ---- the whole
 

@@ -138,17 +138,17 @@ abbrev OneEntry : Block → Bool × Block → Type 0
 OneEntry s (true, t) = Added s t 59
 OneEntry s (false, t) = Added s t 125 ⊎ (Next s.3 (Sign 125) t.3 × (t.0 ≡ s.0) × (t.1 ≡ s.1))
 
-added_takes : (items : List Item) (item : Item) (out : List Item) → added items item ≡ Ok out → (list_any (λ other. same_name other.name item.name) items ≡ false) × (out ≡ items ++ item ∷ [])
+pub added_takes : (items : List Item) (item : Item) (out : List Item) → added items item ≡ Ok out → (list_any (λ other. same_name other.name item.name) items ≡ false) × (out ≡ items ++ item ∷ [])
 unfolding added
 added_takes items item out e =
     let t = else_ok (list_any (λ other. same_name other.name item.name) items) _ (Ok (items ++ item ∷ [])) out e in
     (t.0, sym (ok_is (items ++ item ∷ []) out t.1))
 
-abbrev Separates : List Piece → Bool × ℕ × List Piece → Type 0
+abbrev pub Separates : List Piece → Bool × ℕ × List Piece → Type 0
 Separates pieces (true, line, rest) = Next pieces (Sign 59) rest
 Separates pieces (false, line, rest) = Next pieces (Sign 125) rest
 
-separated_takes : (line : ℕ) (pieces : List Piece) (x : Bool × ℕ × List Piece) → separated line pieces ≡ Ok x → Separates pieces x
+pub separated_takes : (line : ℕ) (pieces : List Piece) (x : Bool × ℕ × List Piece) → separated line pieces ≡ Ok x → Separates pieces x
 unfolding separated
 separated_takes line pieces x e =
     let s = bind_ok (sign_at BadInitial line pieces) _ x e in
@@ -212,17 +212,21 @@ items_take names line pieces t e =
     (λ s t h. ends s t (entry_takes s (false, t) h))
     (λ s t h. absurd cc) 65536 ([], names, line, pieces) t e
 
+pub items_stand : (names : Names) (line : ℕ) (pieces : List Piece) (t : Block) → items_at names line pieces ≡ Ok t → AreItems [] pieces names t.0 t.1 t.3
+items_stand names line pieces t e =
+    let i = items_take names line pieces t e in
+    subst (λ (items : List Item). AreItems [] pieces names items t.1 t.3) (sym i.all) i.are
+
 pub block_takes : (line : ℕ) (pieces : List Piece) (x : Block) → block_at [] line pieces ≡ Ok x → IsBlock pieces x.0 x.1 x.3
 unfolding block_at
 block_takes line pieces x e =
     let brace = bind_ok (expect_at 123 BadInitial line pieces) _ x e in
     let b = bind_ok (items_at [] brace.0.0 brace.0.1) _ x brace.2 in
     let next = bind_ok (end_line_at BadInitial b.0.2 b.0.3) (λ next. Ok (b.0.0, b.0.1, next.0, next.1)) x b.2 in
-    let i = items_take [] brace.0.0 brace.0.1 b.0 b.1 in
     subst (λ (y : Block). IsBlock pieces y.0 y.1 y.3) (ok_is (b.0.0, b.0.1, next.0.0, next.0.1) x next.2) (
       brace.0.1,
       b.0.3,
       expect_takes 123 BadInitial line pieces brace.0 brace.1,
-      subst (λ (items : List Item). AreItems [] brace.0.1 [] items b.0.1 b.0.3) (sym i.all) i.are,
+      items_stand [] brace.0.0 brace.0.1 b.0 b.1,
       end_line_takes BadInitial b.0.2 b.0.3 next.0 next.1,
     )

@@ -173,7 +173,7 @@ word-stops is_sign w other (LineEnd ∷ pieces) rest n line = word-stops is_sign
 word-stops is_sign w other (Word v ∷ pieces) rest n line = let same : v ≡ w = cc in rw (same, other) refl
 word-stops is_sign w other (Sign b ∷ pieces) rest n line = refl
 
-end-stops : (is_sign : List ℕ → Bool) (pieces : List Piece) → Ends pieces → Stops is_sign pieces
+pub end-stops : (is_sign : List ℕ → Bool) (pieces : List Piece) → Ends pieces → Stops is_sign pieces
 unfolding joined_at
 end-stops is_sign [] e line = refl
 end-stops is_sign (LineEnd ∷ pieces) e line = end-stops is_sign pieces e (line + 1)
@@ -235,12 +235,12 @@ factor_again items items' threads (suc depth) agree s line pieces tree t rest f 
       | inr p ↦ paren_factor items' threads (expression_at items' threads depth) (IsExpression items threads depth) reads s line pieces tree t rest p.0 p.1 p.2 p.3 p.4
     ]
 
-expression_again : (items items' : List Item) (threads depth : ℕ) → Agree items items' → Reads EndsExpression (expression_at items' threads depth) (IsExpression items threads depth)
+pub expression_again : (items items' : List Item) (threads depth : ℕ) → Agree items items' → Reads EndsExpression (expression_at items' threads depth) (IsExpression items threads depth)
 expression_again items items' threads depth agree = expression_from items items' threads depth (factor_again items items' threads depth agree)
 
 -- ---- the whole condition
 
-none_again : (line : ℕ) (pieces : List Piece) → Ends pieces → further_at line pieces ≡ None
+pub none_again : (line : ℕ) (pieces : List Piece) → Ends pieces → further_at line pieces ≡ None
 unfolding further_at
 none_again line [] e = refl
 none_again line (LineEnd ∷ pieces) e = none_again (line + 1) pieces e

@@ -1,10 +1,10 @@
 -- A condition that is refused has the cause of its fault in the fault's line.
-use Rattle.std.proofs.Common.{◌≡◌, ℕ, zero, suc, ◌+◌, ◌<◌, ◌≤◌, Bool, true, false, cond, eqb, leb, ◌||◌, List, [], ◌∷◌, ◌++◌, Option, Some, None, Result, Ok, Err, refl, subst, ◌∙◌, inl, inr, arith}
+use Rattle.std.proofs.Common.{◌≡◌, ◌≢◌, ℕ, zero, suc, ◌+◌, ◌<◌, ◌≤◌, Bool, true, false, cond, eqb, leb, ◌||◌, List, [], ◌∷◌, ◌++◌, Option, Some, None, Result, Ok, Err, refl, sym, subst, ◌∙◌, ◌⊎◌, inl, inr, arith}
 use Rattle.std.proofs.lemmas.Bool.{eqb-true, leb-true, leb-false, or_right}
 use Rattle.litmus_grammar.specs.Pieces.{Piece, Word, Sign, LineEnd}
 use Rattle.litmus_grammar.specs.Spelling.{small_of, register_of}
 use Rattle.litmus_grammar.specs.declared.errors.Kind.{Kind}
-use Rattle.litmus_grammar.specs.declared.errors.Kind.TheVariants.{TooLarge, AddressAsValue, BadCondition, BadTable}
+use Rattle.litmus_grammar.specs.declared.errors.Kind.TheVariants.{NoMemory, BadByte, BadHeader, BadInitial, DoubleInitial, BadInstruction, ValueRange, MixedWidth, ValueAsAddress, TooLarge, AddressAsValue, BadCondition, BadTable, CutShort}
 use Rattle.litmus_grammar.specs.declared.errors.LitmusError.{LitmusError}
 use Rattle.litmus_grammar.specs.Reading.{◌>>=◌, Read, fails, found, behind, next_at, word_at, expect_at, word_here_at, here_at, repeat_at}
 use Rattle.litmus_parser.specs.Names.{Names, address_of, is_there}
@@ -14,13 +14,13 @@ use Rattle.litmus_parser.specs.ReadingTable.{quantifier_of, quantifier_next}
 use Rattle.litmus_parser.specs.ReadingAtoms.{Sight, is_and, is_or, joined_at, register_name_at, location_name_at, name_of, name_at, atom_at}
 use Rattle.litmus_parser.specs.ReadingCondition.{Reader, Chain, joined_with, too_many_parts, chain_result, chained, in_parentheses, factor_of, too_deep, factor_at, expression_at}
 use Rattle.litmus_parser.specs.ReadingEnd.{keyword_at, further_at, unless_further, whole_at, condition_at}
-use Rattle.litmus_parser.specs.Places.{Place, Somewhere}
 use Rattle.litmus_parser.specs.LocationFaults.{AreDifferent, AreSeen}
 use Rattle.litmus_parser.specs.ConditionFaults.{count_of, is_due, IsDue, ExpressionCause, ConditionCause}
 use Rattle.litmus_parser.specs.declared.syntax.Item.{Item}
 use Rattle.litmus_parser.specs.declared.syntax.Name.{Name}
 use Rattle.litmus_parser.specs.declared.syntax.Name.TheVariants.{Register}
 use Rattle.litmus_parser.specs.declared.syntax.Quantifier.{Quantifier}
+use Rattle.litmus_parser.proofs.ConditionWays.{refused_there}
 use Rattle.litmus_parser.proofs.Steps.{word_takes, expect_takes}
 use Rattle.litmus_parser.proofs.Explains.{Explains, EndsShort, Anywhere, Onto, beyond, start, over_word, over_end, bind_explains, test_explains, found_explains, told, repeat_counted}
 use Rattle.litmus_parser.proofs.LocationExplains.{At, Keeps, past_word, past_sign, next_keeps, word_keeps, expect_keeps, number_keeps, seen-later, seen-start, location_explains}
@@ -109,21 +109,22 @@ behind_explains : (C : Kind → ℕ → Type 0) {A Y : Type 0} (P : Y → Type 0
 behind_explains C P S None none some h if_none if_some = if_none
 behind_explains C P S (Some x) none some h if_none if_some = if_some x h
 
-unless_explains : (C : Kind → ℕ → Type 0) {A : Type 0} (P : A → Type 0) (o : Option ℕ) (x : A) → WhereSome (λ n. C BadCondition n) o → P x → Explains C P (unless_further o x)
+unless_explains : (C : Kind → ℕ → Type 0) {A : Type 0} (P : A → Type 0) (o : Option ℕ) (x : A) → ((n : ℕ) → C BadCondition n) → P x → Explains C P (unless_further o x)
 unless_explains C P None x h p = p
-unless_explains C P (Some n) x h p = h
+unless_explains C P (Some n) x h p = h n
 
 -- ---- an expression that begins in this line
 
 module _ (items : List Item) (threads : ℕ) (known : Names) (line : ℕ) (pieces : List Piece) where
+  -- the causes of all kinds but one
   abbrev C : Kind → ℕ → Type 0
-  C = ExpressionCause items threads known line pieces
+  C kind n = kind ≢ BadCondition → ExpressionCause items threads known line pieces kind n
 
   short : EndsShort C line pieces
-  short n p = p
+  short n p ne = p
 
   any : Anywhere C line pieces BadCondition
-  any n rest p = (rest, p)
+  any n rest p ne = absurd (ne refl)
 
   -- ---- names
 
@@ -141,7 +142,7 @@ module _ (items : List Item) (threads : ℕ) (known : Names) (line : ℕ) (piece
       found_explains C P BadCondition (register_of w.0) w.1 _ (λ o. any w.1 _ r.0) (λ register reg.
       test_explains C P (eqb register 0) (fails BadCondition w.1) _ (λ z. any w.1 _ r.0) (λ z.
       test_explains C P (is_there (address_of thread register items)) (fails AddressAsValue w.1) (Ok (Register thread register, w.1, w.2))
-      (λ there. (
+      (λ there ne. (
         tw,
         w.0,
         thread,
@@ -168,7 +169,7 @@ module _ (items : List Item) (threads : ℕ) (known : Names) (line : ℕ) (piece
   location_name_explains s d w n rest a =
       let k = known-word known s d w a.0.front a.1 in
       bind_explains C (λ (x : ℕ × Names). AreSeen known (a.0.front ++ Word w ∷ []) x.1) (AfterName s.1 d) (location_at BadCondition w n s.0) _
-      (location_explains C known line pieces BadCondition any (λ m h. inl h) w n rest s.0 a.0 a.1.0) (λ l e seen. (over_word a.0, (seen, k.1, k.2)))
+      (location_explains C known line pieces BadCondition any (λ m h ne. inl h) w n rest s.0 a.0 a.1.0) (λ l e seen. (over_word a.0, (seen, k.1, k.2)))
 
   name_of_explains : (s : Sight) (d : ℕ) (o : Option ℕ) (w : List ℕ) (n : ℕ) (rest : List Piece) → small_of 15 w ≡ o → At (Known known s d) line pieces n (Word w ∷ rest)
       → Explains C (AfterName s.1 d) (name_of items threads o w s.0 n rest)
@@ -186,14 +187,14 @@ module _ (items : List Item) (threads : ℕ) (known : Names) (line : ℕ) (piece
   unfolding atom_at name_at
   atom_explains s d w n rest a =
       test_explains C (After s d) (leb 256 s.1) (fails TooLarge n) _
-      (λ t. let many = leb-true _ _ t in inr (inl (w, rest, a.0, a.1.1, omega (arith, many, a.1.0.1)))) (λ t.
+      (λ t ne. let many = leb-true _ _ t in inr (inl (w, rest, a.0, a.1.1, omega (arith, many, a.1.0.1)))) (λ t.
       bind_explains C (AfterName s.1 d) (After s d) (name_of items threads (small_of 15 w) w s.0 n rest) _ (name_of_explains s d (small_of 15 w) w n rest refl (a.0, a.1.0)) (λ name e q.
       let G : List Piece → Type 0 = Known known (name.0.1, s.1) d in
       let H : List Piece → Type 0 = Known known (name.0.1, s.1 + 1) d in
       bind_explains C (λ (x : ℕ × List Piece). At G line pieces x.0 (Sign 61 ∷ x.1)) (After s d) (expect_at 61 BadCondition name.1 name.2) _
       (expect_keeps C line pieces 61 BadCondition short any G (known-end known (name.0.1, s.1) d) name.1 name.2 q) (λ equals f r.
       bind_explains C (λ (x : ℕ × ℕ × List Piece). (v : List ℕ) × At H line pieces x.1 (Word v ∷ x.2)) (After s d) (number_at BadCondition equals.0 equals.1) _
-      (number_keeps C line pieces BadCondition short any (λ m h. h) H (known-end known (name.0.1, s.1 + 1) d) equals.0 equals.1
+      (number_keeps C line pieces BadCondition short any (λ m h ne. h) H (known-end known (name.0.1, s.1 + 1) d) equals.0 equals.1
       (past_sign G H line pieces equals.0 61 equals.1 (known-equals known (name.0.1, s.1) d) r)) (λ v g u.
       let few = leb-false _ _ t in
       (omega arith, omega (arith, few), past_word H H line pieces v.1 u.0 v.2 (known-word known (name.0.1, s.1 + 1) d u.0) u.1)))))
@@ -268,7 +269,7 @@ module _ (items : List Item) (threads : ℕ) (known : Names) (line : ℕ) (piece
       (next_keeps C line pieces short (Ready known s d) (ready-end known s d) n rest a) (λ x e q. factor_begins d inner sound s x.0 x.1 x.2 q)
 
   deepest : SoundBehind 0 too_deep
-  deepest s n rest a = inr (inr (rest, a.0, a.1.1, let e = a.1.0.2 in omega (arith, e)))
+  deepest s n rest a ne = inr (inr (rest, a.0, a.1.1, let e = a.1.0.2 in omega (arith, e)))
 
   paren_explains : (d : ℕ) (inner : Reader) → Sound d inner → SoundBehind (suc d) (in_parentheses inner)
   paren_explains d inner sound s n rest a =
@@ -288,13 +289,6 @@ module _ (items : List Item) (threads : ℕ) (known : Names) (line : ℕ) (piece
 
   -- ---- the whole
 
-  further_explains : (n : ℕ) (rest : List Piece) → Place line pieces n rest → WhereSome (Somewhere line pieces) (further_at n rest)
-  unfolding further_at
-  further_explains n [] p = tt
-  further_explains n (LineEnd ∷ rest) p = further_explains (n + 1) rest (over_end p)
-  further_explains n (Word w ∷ rest) p = (_, p)
-  further_explains n (Sign b ∷ rest) p = (_, p)
-
   begins : AreDifferent known → At (Ready known (known, 0) 64) line pieces line pieces
   unfolding start count_of is_due
   begins different = (start line pieces, ((seen-start known different, refl, refl), refl))
@@ -304,13 +298,42 @@ module _ (items : List Item) (threads : ℕ) (known : Names) (line : ℕ) (piece
   whole_explains different =
       bind_explains C (After (known, 0) 64) (λ (x : Tree × Names). Unit {0}) (expression_at items threads 64 (known, 0) line pieces) _
       (expression_sound 64 (factor_at items threads 64) (factor_explains 64) (known, 0) line pieces (begins different)) (λ r e h.
-      unless_explains C (λ (x : Tree × Names). Unit {0}) (further_at r.1 r.2) (r.0.0, r.0.1.0) (further_explains r.1 r.2 h.2.0) tt)
+      unless_explains C (λ (x : Tree × Names). Unit {0}) (further_at r.1 r.2) (r.0.0, r.0.1.0) (λ n ne. absurd (ne refl)) tt)
 
--- behind a keyword that is there
-keyword_there : (C : Kind → ℕ → Type 0) {Y : Type 0} (P : Y → Type 0) (o : Option Quantifier) (line : ℕ) (rest : List Piece) (f : Quantifier × ℕ × List Piece → Result Y LitmusError) → is_there o ≡ true
-    → ((q : Quantifier) → Explains C P (f (q, line, rest))) → Explains C P (found BadTable o line (λ q. (let r : Read Quantifier = Ok (q, line, rest) in r)) >>= f)
-keyword_there C P (Some q) line rest f is go = go q
-keyword_there C P None line rest f is go = absurd cc
+is_bad_condition : (kind : Kind) → (kind ≡ BadCondition) ⊎ (kind ≢ BadCondition)
+is_bad_condition NoMemory = inr (λ e. absurd cc)
+is_bad_condition TooLarge = inr (λ e. absurd cc)
+is_bad_condition BadByte = inr (λ e. absurd cc)
+is_bad_condition BadHeader = inr (λ e. absurd cc)
+is_bad_condition BadInitial = inr (λ e. absurd cc)
+is_bad_condition DoubleInitial = inr (λ e. absurd cc)
+is_bad_condition BadTable = inr (λ e. absurd cc)
+is_bad_condition BadInstruction = inr (λ e. absurd cc)
+is_bad_condition ValueRange = inr (λ e. absurd cc)
+is_bad_condition MixedWidth = inr (λ e. absurd cc)
+is_bad_condition AddressAsValue = inr (λ e. absurd cc)
+is_bad_condition ValueAsAddress = inr (λ e. absurd cc)
+is_bad_condition BadCondition = inl refl
+is_bad_condition CutShort = inr (λ e. absurd cc)
+
+expression_explains : (items : List Item) (threads line : ℕ) (names : Names) (pieces : List Piece) (e : LitmusError) → AreDifferent names → whole_at items threads names line pieces ≡ Err e
+    → ExpressionCause items threads names line pieces e.kind e.line
+expression_explains items threads line names pieces e different failed =
+    elim (is_bad_condition e.kind) [
+      | inl bad ↦ subst (λ (k : Kind). ExpressionCause items threads names line pieces k e.line) (sym bad) (refused_there items threads names line pieces e failed bad)
+      | inr ne ↦ told (λ kind n. kind ≢ BadCondition → ExpressionCause items threads names line pieces kind n) (λ x. Unit {0}) (whole_at items threads names line pieces) e (whole_explains items threads names line pieces different) failed ne
+    ]
+
+-- behind a keyword that is there, the expression has the fault
+answer_fails : {X Y : Type 0} (r : Result X LitmusError) (f : X → Y) (e : LitmusError) → (r >>= λ x. (let y : Result Y LitmusError = Ok (f x) in y)) ≡ Err e → r ≡ Err e
+answer_fails (Ok x) f e is = absurd cc
+answer_fails (Err d) f e is = cc
+
+keyword_there : (items : List Item) (threads line : ℕ) (names : Names) (rest : List Piece) (o : Option Quantifier) (e : LitmusError) → is_there o ≡ true
+    → (found BadTable o line (λ q. (let r : Read Quantifier = Ok (q, line, rest) in r)) >>= λ q. whole_at items threads names q.1 q.2 >>= λ t. (let r : Result (Quantifier × Tree × Names) LitmusError = Ok (q.0, t.0, t.1) in r)) ≡ Err e
+    → whole_at items threads names line rest ≡ Err e
+keyword_there items threads line names rest (Some q) e there is = answer_fails (whole_at items threads names line rest) (λ t. (q, t.0, t.1)) e is
+keyword_there items threads line names rest None e there is = absurd cc
 
 pub condition_explains : (items : List Item) (threads line : ℕ) (names : Names) (pieces : List Piece) (e : LitmusError) → AreDifferent names → quantifier_next pieces ≡ true
     → condition_at items threads names line pieces ≡ Err e → ConditionCause items threads names line pieces e.kind e.line
@@ -319,12 +342,4 @@ condition_explains items threads line names [] e different next is = absurd cc
 condition_explains items threads line names (LineEnd ∷ rest) e different next is = absurd cc
 condition_explains items threads line names (Sign b ∷ rest) e different next is = absurd cc
 condition_explains items threads line names (Word w ∷ rest) e different next is =
-    let C : Kind → ℕ → Type 0 = ExpressionCause items threads names line rest in
-    let P : Quantifier × Tree × Names → Type 0 = λ x. Unit {0} in (
-      w,
-      rest,
-      refl,
-      next,
-      told C P (condition_at items threads names line (Word w ∷ rest)) e (keyword_there C P (quantifier_of w) line rest _ next (λ q.
-          bind_explains C (λ (x : Tree × Names). Unit {0}) P (whole_at items threads names line rest) _ (whole_explains items threads names line rest different) (λ t f u. tt))) is,
-    )
+    (w, rest, refl, next, expression_explains items threads line names rest e different (keyword_there items threads line names rest (quantifier_of w) e next is))

@@ -102,46 +102,94 @@ EndsShort C line pieces = (n : ℕ) → Place line pieces n [] → C CutShort n
 abbrev pub Anywhere : (Kind → ℕ → Type 0) → ℕ → List Piece → Kind → Type 0
 Anywhere C line pieces kind = (n : ℕ) (rest : List Piece) → Place line pieces n rest → C kind n
 
+-- ---- a place, and what is known of the pieces in front of it
+
+abbrev pub At : (List Piece → Type 0) → ℕ → List Piece → ℕ → List Piece → Type 0
+At G line pieces n rest = (p : Place line pieces n rest) × G p.front
+
+-- what a line end doesn't change
+abbrev pub Keeps : (List Piece → Type 0) → Type 0
+Keeps G = (front : List Piece) → G front → G (front ++ LineEnd ∷ [])
+
+-- over one piece, where H holds behind it
+pub past_word : (G H : List Piece → Type 0) (line : ℕ) (pieces : List Piece) (n : ℕ) (w : List ℕ) (rest : List Piece) → ((front : List Piece) → G front → H (front ++ Word w ∷ []))
+    → At G line pieces n (Word w ∷ rest) → At H line pieces n rest
+unfolding over_word beyond
+past_word G H line pieces n w rest go a = (over_word a.0, go a.0.front a.1)
+
+pub past_sign : (G H : List Piece → Type 0) (line : ℕ) (pieces : List Piece) (n b : ℕ) (rest : List Piece) → ((front : List Piece) → G front → H (front ++ Sign b ∷ []))
+    → At G line pieces n (Sign b ∷ rest) → At H line pieces n rest
+unfolding over_sign beyond
+past_sign G H line pieces n b rest go a = (over_sign a.0, go a.0.front a.1)
+
+pub next_keeps : (C : Kind → ℕ → Type 0) (line : ℕ) (pieces : List Piece) → EndsShort C line pieces → (G : List Piece → Type 0) → Keeps G
+    → (n : ℕ) (rest : List Piece) → At G line pieces n rest → Explains C (λ (x : Piece × ℕ × List Piece). At G line pieces x.1 (x.0 ∷ x.2)) (next_at n rest)
+unfolding next_at over_end beyond
+next_keeps C line pieces short G keeps n [] a = short n a.0
+next_keeps C line pieces short G keeps n (LineEnd ∷ rest) a = next_keeps C line pieces short G keeps (n + 1) rest (over_end a.0, keeps a.0.front a.1)
+next_keeps C line pieces short G keeps n (Word w ∷ rest) a = a
+next_keeps C line pieces short G keeps n (Sign b ∷ rest) a = a
+
+as_word_keeps : (C : Kind → ℕ → Type 0) (line : ℕ) (pieces : List Piece) (kind : Kind) → Anywhere C line pieces kind → (G : List Piece → Type 0)
+    → (p : Piece) (n : ℕ) (rest : List Piece) → At G line pieces n (p ∷ rest) → Explains C (λ (x : List ℕ × ℕ × List Piece). At G line pieces x.1 (Word x.0 ∷ x.2)) (as_word kind (p, n, rest))
+as_word_keeps C line pieces kind any G (Word w) n rest a = a
+as_word_keeps C line pieces kind any G (Sign b) n rest a = any n _ a.0
+as_word_keeps C line pieces kind any G LineEnd n rest a = any n _ a.0
+
+as_sign_keeps : (C : Kind → ℕ → Type 0) (line : ℕ) (pieces : List Piece) (kind : Kind) → Anywhere C line pieces kind → (G : List Piece → Type 0)
+    → (p : Piece) (n : ℕ) (rest : List Piece) → At G line pieces n (p ∷ rest) → Explains C (λ (x : ℕ × ℕ × List Piece). At G line pieces x.1 (Sign x.0 ∷ x.2)) (as_sign kind (p, n, rest))
+as_sign_keeps C line pieces kind any G (Word w) n rest a = any n _ a.0
+as_sign_keeps C line pieces kind any G (Sign b) n rest a = a
+as_sign_keeps C line pieces kind any G LineEnd n rest a = any n _ a.0
+
+pub word_keeps : (C : Kind → ℕ → Type 0) (line : ℕ) (pieces : List Piece) (kind : Kind) → EndsShort C line pieces → Anywhere C line pieces kind → (G : List Piece → Type 0) → Keeps G
+    → (n : ℕ) (rest : List Piece) → At G line pieces n rest → Explains C (λ (x : List ℕ × ℕ × List Piece). At G line pieces x.1 (Word x.0 ∷ x.2)) (word_at kind n rest)
+unfolding word_at
+word_keeps C line pieces kind short any G keeps n rest a =
+    bind_explains C (λ (x : Piece × ℕ × List Piece). At G line pieces x.1 (x.0 ∷ x.2)) (λ (x : List ℕ × ℕ × List Piece). At G line pieces x.1 (Word x.0 ∷ x.2)) (next_at n rest) (as_word kind)
+    (next_keeps C line pieces short G keeps n rest a) (λ x e q. as_word_keeps C line pieces kind any G x.0 x.1 x.2 q)
+
+pub sign_keeps : (C : Kind → ℕ → Type 0) (line : ℕ) (pieces : List Piece) (kind : Kind) → EndsShort C line pieces → Anywhere C line pieces kind → (G : List Piece → Type 0) → Keeps G
+    → (n : ℕ) (rest : List Piece) → At G line pieces n rest → Explains C (λ (x : ℕ × ℕ × List Piece). At G line pieces x.1 (Sign x.0 ∷ x.2)) (sign_at kind n rest)
+unfolding sign_at
+sign_keeps C line pieces kind short any G keeps n rest a =
+    bind_explains C (λ (x : Piece × ℕ × List Piece). At G line pieces x.1 (x.0 ∷ x.2)) (λ (x : ℕ × ℕ × List Piece). At G line pieces x.1 (Sign x.0 ∷ x.2)) (next_at n rest) (as_sign kind)
+    (next_keeps C line pieces short G keeps n rest a) (λ x e q. as_sign_keeps C line pieces kind any G x.0 x.1 x.2 q)
+
+pub expect_keeps : (C : Kind → ℕ → Type 0) (line : ℕ) (pieces : List Piece) (wanted : ℕ) (kind : Kind) → EndsShort C line pieces → Anywhere C line pieces kind → (G : List Piece → Type 0) → Keeps G
+    → (n : ℕ) (rest : List Piece) → At G line pieces n rest → Explains C (λ (x : ℕ × List Piece). At G line pieces x.0 (Sign wanted ∷ x.1)) (expect_at wanted kind n rest)
+unfolding expect_at
+expect_keeps C line pieces wanted kind short any G keeps n rest a =
+    bind_explains C (λ (x : ℕ × ℕ × List Piece). At G line pieces x.1 (Sign x.0 ∷ x.2)) (λ (x : ℕ × List Piece). At G line pieces x.0 (Sign wanted ∷ x.1)) (sign_at kind n rest)
+    (λ s. cond (eqb s.0 wanted) (Ok (s.1, s.2)) (fails kind s.1)) (sign_keeps C line pieces kind short any G keeps n rest a) (λ s e q.
+    test_explains C (λ (x : ℕ × List Piece). At G line pieces x.0 (Sign wanted ∷ x.1)) (eqb s.0 wanted) (Ok (s.1, s.2)) (fails kind s.1)
+    (λ t. subst (λ b. At G line pieces s.1 (Sign b ∷ s.2)) (eqb-true s.0 wanted t) q) (λ t. any s.1 _ q.0))
+
+-- ---- the same, where nothing need be known of the pieces in front
+
+abbrev Nothing : List Piece → Type 0
+Nothing front = Unit {0}
+
 pub next_explains : (C : Kind → ℕ → Type 0) (line : ℕ) (pieces : List Piece) → EndsShort C line pieces
     → (n : ℕ) (rest : List Piece) → Place line pieces n rest → Explains C (λ (x : Piece × ℕ × List Piece). Place line pieces x.1 (x.0 ∷ x.2)) (next_at n rest)
-unfolding next_at
-next_explains C line pieces short n [] p = short n p
-next_explains C line pieces short n (LineEnd ∷ rest) p = next_explains C line pieces short (n + 1) rest (over_end p)
-next_explains C line pieces short n (Word w ∷ rest) p = p
-next_explains C line pieces short n (Sign b ∷ rest) p = p
-
-pub as_word_explains : (C : Kind → ℕ → Type 0) (line : ℕ) (pieces : List Piece) (kind : Kind) → Anywhere C line pieces kind
-    → (p : Piece) (n : ℕ) (rest : List Piece) → Place line pieces n (p ∷ rest) → Explains C (λ (x : List ℕ × ℕ × List Piece). Place line pieces x.1 (Word x.0 ∷ x.2)) (as_word kind (p, n, rest))
-as_word_explains C line pieces kind any (Word w) n rest p = p
-as_word_explains C line pieces kind any (Sign b) n rest p = any n _ p
-as_word_explains C line pieces kind any LineEnd n rest p = any n _ p
-
-as_sign_explains : (C : Kind → ℕ → Type 0) (line : ℕ) (pieces : List Piece) (kind : Kind) → Anywhere C line pieces kind
-    → (p : Piece) (n : ℕ) (rest : List Piece) → Place line pieces n (p ∷ rest) → Explains C (λ (x : ℕ × ℕ × List Piece). Place line pieces x.1 (Sign x.0 ∷ x.2)) (as_sign kind (p, n, rest))
-as_sign_explains C line pieces kind any (Word w) n rest p = any n _ p
-as_sign_explains C line pieces kind any (Sign b) n rest p = p
-as_sign_explains C line pieces kind any LineEnd n rest p = any n _ p
+next_explains C line pieces short n rest p =
+    weaker C (λ x. At Nothing line pieces x.1 (x.0 ∷ x.2)) (λ x. Place line pieces x.1 (x.0 ∷ x.2)) (next_at n rest) (λ x a. a.0) (next_keeps C line pieces short Nothing (λ front h. tt) n rest (p, tt))
 
 pub word_explains : (C : Kind → ℕ → Type 0) (line : ℕ) (pieces : List Piece) (kind : Kind) → EndsShort C line pieces → Anywhere C line pieces kind
     → (n : ℕ) (rest : List Piece) → Place line pieces n rest → Explains C (λ (x : List ℕ × ℕ × List Piece). Place line pieces x.1 (Word x.0 ∷ x.2)) (word_at kind n rest)
-unfolding word_at
 word_explains C line pieces kind short any n rest p =
-    bind_explains C (λ (x : Piece × ℕ × List Piece). Place line pieces x.1 (x.0 ∷ x.2)) (λ (x : List ℕ × ℕ × List Piece). Place line pieces x.1 (Word x.0 ∷ x.2)) (next_at n rest) (as_word kind)
-    (next_explains C line pieces short n rest p) (λ x e q. as_word_explains C line pieces kind any x.0 x.1 x.2 q)
+    weaker C (λ x. At Nothing line pieces x.1 (Word x.0 ∷ x.2)) (λ x. Place line pieces x.1 (Word x.0 ∷ x.2)) (word_at kind n rest) (λ x a. a.0)
+    (word_keeps C line pieces kind short any Nothing (λ front h. tt) n rest (p, tt))
 
 pub sign_explains : (C : Kind → ℕ → Type 0) (line : ℕ) (pieces : List Piece) (kind : Kind) → EndsShort C line pieces → Anywhere C line pieces kind
     → (n : ℕ) (rest : List Piece) → Place line pieces n rest → Explains C (λ (x : ℕ × ℕ × List Piece). Place line pieces x.1 (Sign x.0 ∷ x.2)) (sign_at kind n rest)
-unfolding sign_at
 sign_explains C line pieces kind short any n rest p =
-    bind_explains C (λ (x : Piece × ℕ × List Piece). Place line pieces x.1 (x.0 ∷ x.2)) (λ (x : ℕ × ℕ × List Piece). Place line pieces x.1 (Sign x.0 ∷ x.2)) (next_at n rest) (as_sign kind)
-    (next_explains C line pieces short n rest p) (λ x e q. as_sign_explains C line pieces kind any x.0 x.1 x.2 q)
+    weaker C (λ x. At Nothing line pieces x.1 (Sign x.0 ∷ x.2)) (λ x. Place line pieces x.1 (Sign x.0 ∷ x.2)) (sign_at kind n rest) (λ x a. a.0)
+    (sign_keeps C line pieces kind short any Nothing (λ front h. tt) n rest (p, tt))
 
--- the answer is the place behind the sign
+-- the sign stands in front of the answer
 pub expect_explains : (C : Kind → ℕ → Type 0) (line : ℕ) (pieces : List Piece) (wanted : ℕ) (kind : Kind) → EndsShort C line pieces → Anywhere C line pieces kind
     → (n : ℕ) (rest : List Piece) → Place line pieces n rest → Explains C (λ (x : ℕ × List Piece). Place line pieces x.0 (Sign wanted ∷ x.1)) (expect_at wanted kind n rest)
-unfolding expect_at
 expect_explains C line pieces wanted kind short any n rest p =
-    bind_explains C (λ (x : ℕ × ℕ × List Piece). Place line pieces x.1 (Sign x.0 ∷ x.2)) (λ (x : ℕ × List Piece). Place line pieces x.0 (Sign wanted ∷ x.1)) (sign_at kind n rest)
-    (λ s. cond (eqb s.0 wanted) (Ok (s.1, s.2)) (fails kind s.1)) (sign_explains C line pieces kind short any n rest p) (λ s e q.
-    test_explains C (λ (x : ℕ × List Piece). Place line pieces x.0 (Sign wanted ∷ x.1)) (eqb s.0 wanted) (Ok (s.1, s.2)) (fails kind s.1)
-    (λ t. subst (λ b. Place line pieces s.1 (Sign b ∷ s.2)) (eqb-true s.0 wanted t) q) (λ t. any s.1 _ q))
+    weaker C (λ x. At Nothing line pieces x.0 (Sign wanted ∷ x.1)) (λ x. Place line pieces x.0 (Sign wanted ∷ x.1)) (expect_at wanted kind n rest) (λ x a. a.0)
+    (expect_keeps C line pieces wanted kind short any Nothing (λ front h. tt) n rest (p, tt))

@@ -1,36 +1,26 @@
 -- The header row is read, or its fault has its cause in its line.
-use Rattle.std.proofs.Common.{◌≡◌, ℕ, zero, suc, ◌+◌, ◌<◌, ◌≤◌, Bool, true, false, cond, eqb, leb, List, [], ◌∷◌, Option, Some, None, Result, Ok, Err, refl, sym, ap, subst, ◌∙◌, arith}
+use Rattle.std.proofs.Common.{◌≡◌, ℕ, suc, ◌+◌, ◌<◌, ◌≤◌, Bool, true, false, eqb, leb, List, [], ◌∷◌, Some, Ok, Err, refl, sym, ap, ◌∙◌, arith}
 use Rattle.std.proofs.lemmas.Bool.{leb-true, leb-false}
 use Rattle.litmus_grammar.specs.Pieces.{Piece, Word, Sign, LineEnd}
 use Rattle.litmus_grammar.specs.declared.errors.Kind.{Kind}
-use Rattle.litmus_grammar.specs.declared.errors.Kind.TheVariants.{BadTable, TooLarge}
+use Rattle.litmus_grammar.specs.declared.errors.Kind.TheVariants.{BadTable, TooLarge, CutShort}
 use Rattle.litmus_grammar.specs.declared.errors.LitmusError.{LitmusError}
-use Rattle.litmus_grammar.specs.Reading.{◌>>=◌, Read, fails, here_at, word_here_at, start_at, end_line_at}
+use Rattle.litmus_grammar.specs.Reading.{◌>>=◌, fails, here_at, word_here_at, start_at, end_line_at}
 use Rattle.litmus_parser.specs.Places.{Place}
 use Rattle.litmus_parser.specs.GrammarWords.{EndsLine}
-use Rattle.litmus_parser.specs.ReadingRows.{Rows, row_at}
-use Rattle.litmus_parser.specs.ReadingTable.{thread_named, is_thread, separated_by, separated, Headings, heading_at, too_many, headings_at, header_at, quantifier_next, Table, next_row_at, too_long, table_at, rows_at}
+use Rattle.litmus_parser.specs.ReadingTable.{thread_named, is_thread, separated_by, separated, Headings, heading_at, too_many, headings_at, header_at}
 use Rattle.litmus_parser.specs.GrammarTable.{Begins, AreHeadings, last, more, IsHeaderRow}
 use Rattle.litmus_parser.specs.TableFaults.{LineAt, HeaderCause}
-use Rattle.litmus_parser.specs.declared.syntax.Width.{Width}
-use Rattle.litmus_parser.specs.declared.syntax.Item.{Item}
-use Rattle.litmus_parser.specs.declared.syntax.Cell.{Cell}
-use Rattle.litmus_parser.proofs.Explains.{Explains, EndsShort, Onto, start, beyond, over_word, over_sign, bind_explains, test_explains, weaker, told, repeat_counted}
-use Rattle.litmus_parser.proofs.ExplainsHere.{word_here_explains, here_explains, start_explains, end_line_explains, at_rest}
+use Rattle.litmus_parser.proofs.Explains.{Explains, Onto, start, beyond, over_word, over_sign, bind_explains, test_explains, weaker, told, repeat_counted}
+use Rattle.litmus_parser.proofs.ExplainsHere.{word_here_explains, here_explains, end_line_explains, at_rest}
+use Rattle.litmus_parser.proofs.Outcomes.{answered, begins_explains}
 use Rattle.litmus_parser.proofs.FormExplains.{On}
-use Rattle.litmus_parser.proofs.TableTakes.{is_thread-is, row_takes}
+use Rattle.litmus_parser.proofs.TableTakes.{is_thread-is}
 use Rattle.litmus_parser.proofs.TableAgain.{header_again}
-use Rattle.litmus_parser.proofs.VerdictExplains.{WidthFrom, width_beyond}
-use Rattle.litmus_parser.proofs.RowExplains.{Follows, row_explains}
 
 -- every kind in every line
 abbrev AnyCause : Kind → ℕ → Type 0
 AnyCause kind n = Unit {0}
-
--- what is said of a reading, said of its answer
-pub answered : (C : Kind → ℕ → Type 0) {Y : Type 0} (P : Y → Type 0) (r : Result Y LitmusError) (y : Y) → Explains C P r → r ≡ Ok y → P y
-answered C P (Ok x) y h is = let same : x ≡ y = cc in subst P same h
-answered C P (Err d) y h is = absurd cc
 
 -- behind | the row goes on in its line
 abbrev Goes : ℕ → List Piece → Bool × ℕ × List Piece → Type 0
@@ -88,16 +78,18 @@ module _ (C : Kind → ℕ → Type 0) (first : ℕ) (row : List Piece) (bad : C
       repeat_counted C (NextHeading first row) (Headed first row) heading_at too_many heading_explains (λ h s. absurd (omega (arith, s.0, s.1))) 17 (0, first, row)
       (omega arith, omega arith, (refl, start first row))
 
-header_from : (C : Kind → ℕ → Type 0) (line : ℕ) (pieces : List Piece) → EndsShort C line pieces → ((n : ℕ) (row : List Piece) → LineAt line pieces n row → C BadTable n)
-    → ((n : ℕ) (w : List ℕ) (rest : List Piece) → Place line pieces n (Word w ∷ rest) → thread_named w ≡ Some 16 → C TooLarge n) → Explains C (Headed line pieces) (header_at line pieces)
+header_from : (C : Kind → ℕ → Type 0) (line : ℕ) (pieces : List Piece) → ((n : ℕ) (row : List Piece) → LineAt line pieces n row → C BadTable n)
+    → ((n : ℕ) (row rest : List Piece) (w : List ℕ) → LineAt line pieces n row → Place n row n (Word w ∷ rest) → thread_named w ≡ Some 16 → C TooLarge n)
+    → ((n : ℕ) → Place line pieces n [] → ((row : List Piece) → Begins pieces row → ⊥) → C CutShort n) → Explains C (Headed line pieces) (header_at line pieces)
 unfolding header_at
-header_from C line pieces short bad large =
-    bind_explains C (λ (x : ℕ × List Piece). Place line pieces x.0 x.1 × Begins pieces x.1) (Headed line pieces) (start_at line pieces) (λ at. headings_at at.0 at.1) (start_explains C line pieces short line pieces (start line pieces)) (λ at is p.
+header_from C line pieces bad large short =
+    bind_explains C (λ (x : ℕ × List Piece). Place line pieces x.0 x.1 × Begins pieces x.1) (Headed line pieces) (start_at line pieces) (λ at. headings_at at.0 at.1)
+    (begins_explains C line pieces line pieces (start line pieces) short) (λ at is p.
     weaker C (Headed at.0 at.1) (Headed line pieces) (headings_at at.0 at.1) (λ h q. beyond p.0 q)
-    (headings_explain C at.0 at.1 (bad at.0 at.1 (p.1, p.0)) (λ w rest q named. large at.0 w rest (beyond p.0 q) named)))
+    (headings_explain C at.0 at.1 (bad at.0 at.1 (p.1, p.0)) (λ w rest q named. large at.0 at.1 rest w (p.1, p.0) q named)))
 
 -- where the reading fails no header row stands
-no_header : (line : ℕ) (pieces : List Piece) (e : LitmusError) → header_at line pieces ≡ Err e → (threads : ℕ) (rest : List Piece) → IsHeaderRow pieces threads rest → ⊥
+pub no_header : (line : ℕ) (pieces : List Piece) (e : LitmusError) → header_at line pieces ≡ Err e → (threads : ℕ) (rest : List Piece) → IsHeaderRow pieces threads rest → ⊥
 no_header line pieces e fault threads rest h =
     let a = header_again line pieces threads rest h in
     let same = sym a.1 ∙ fault in
@@ -106,10 +98,10 @@ no_header line pieces e fault threads rest h =
 pub header_explains : (line : ℕ) (pieces : List Piece) (e : LitmusError) → header_at line pieces ≡ Err e → HeaderCause line pieces e.kind e.line
 header_explains line pieces e fault =
     told (HeaderCause line pieces) (Headed line pieces) (header_at line pieces) e
-    (header_from (HeaderCause line pieces) line pieces (λ n p. p) (λ n row l. (row, l, no_header line pieces e fault)) (λ n w rest p named. (w, rest, p, named))) fault
+    (header_from (HeaderCause line pieces) line pieces (λ n row l. (row, l, no_header line pieces e fault)) (λ n row rest w l p named. (row, rest, w, l, p, named)) (λ n p no. (no, p))) fault
 
 pub header_place : (line : ℕ) (pieces : List Piece) (h : Headings) → header_at line pieces ≡ Ok h → Place line pieces h.1 h.2
-header_place line pieces h is = answered AnyCause (Headed line pieces) (header_at line pieces) h (header_from AnyCause line pieces (λ n p. tt) (λ n row l. tt) (λ n w rest p named. tt)) is
+header_place line pieces h is = answered AnyCause (Headed line pieces) (header_at line pieces) h (header_from AnyCause line pieces (λ n row l. tt) (λ n row rest w l p named. tt) (λ n p no. tt)) is
 
 headings_more : {t threads : ℕ} {pieces rest : List Piece} → AreHeadings t pieces threads rest → t < threads
 headings_more (last named few end) = omega arith

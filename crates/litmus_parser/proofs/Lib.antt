@@ -13,11 +13,15 @@ pub mod ConditionAgain
 pub mod BlockAgain
 pub mod Explains
 pub mod ExplainsHere
+pub mod Outcomes
 pub mod LocationExplains
+pub mod BlockPieces
 pub mod BlockExplains
 pub mod ConditionExplains
+pub mod WaysOn
+pub mod ConditionWays
 pub mod FormExplains
 pub mod HeaderExplains
-pub mod TableExplains
 pub mod VerdictExplains
 pub mod RowExplains
+pub mod TableExplains

@@ -1,82 +1,22 @@
--- Readings that keep what is known of the pieces in front; and why a location is one too many.
-use Rattle.std.proofs.Common.{◌≡◌, ◌≢◌, ℕ, ◌+◌, ◌≤◌, true, cond, eqb, ltb, leb, List, [], ◌∷◌, ◌++◌, length, Ok, refl, sym, ap, subst, ◌∙◌, inl, inr, append_assoc, append-nil, arith}
-use Rattle.std.proofs.lemmas.Bool.{cases_Bool, eqb-true, ltb-false, leb-true}
+-- Why a number is too large, and why a location is one too many.
+use Rattle.std.proofs.Common.{◌≡◌, ◌≢◌, ℕ, ◌+◌, ◌≤◌, true, ltb, leb, List, [], ◌∷◌, ◌++◌, length, Ok, refl, sym, ap, ◌∙◌, inl, inr, append_assoc, append-nil, arith}
+use Rattle.std.proofs.lemmas.Bool.{cases_Bool, ltb-false, leb-true}
 use Rattle.std.proofs.lemmas.Slice.Eq.{bytes_eq-Decides}
 use Rattle.std.specs.Str.{bytes_eq}
-use Rattle.litmus_grammar.specs.Pieces.{Piece, Word, Sign, LineEnd}
+use Rattle.litmus_grammar.specs.Pieces.{Piece, Word, LineEnd}
 use Rattle.litmus_grammar.specs.Naming.{place_of}
 use Rattle.litmus_grammar.specs.Spelling.{is_number, number_of, is_location}
 use Rattle.litmus_grammar.specs.declared.errors.Kind.{Kind}
 use Rattle.litmus_grammar.specs.declared.errors.Kind.TheVariants.{TooLarge, ValueRange}
-use Rattle.litmus_grammar.specs.Reading.{fails, as_word, as_sign, next_at, word_at, sign_at, expect_at}
+use Rattle.litmus_grammar.specs.Reading.{fails, word_at}
 use Rattle.litmus_parser.specs.Names.{Names}
 use Rattle.litmus_parser.specs.ReadingItems.{location_at, number_at}
 use Rattle.litmus_parser.specs.Places.{Place, HasNumberAbove}
 use Rattle.litmus_parser.specs.LocationFaults.{IsNew, AreDifferent, StandAmong, AreSeen, HasLocationTooMany}
-use Rattle.litmus_parser.proofs.Explains.{Explains, EndsShort, Anywhere, beyond, over_word, over_sign, over_end, bind_explains, test_explains}
+use Rattle.litmus_parser.proofs.Explains.{Explains, EndsShort, Anywhere, bind_explains, test_explains}
+pub use Rattle.litmus_parser.proofs.Explains.{At, Keeps, past_word, past_sign, next_keeps, word_keeps, sign_keeps, expect_keeps}
 
--- ---- a place, and what is known of the pieces in front of it
-
-abbrev pub At : (List Piece → Type 0) → ℕ → List Piece → ℕ → List Piece → Type 0
-At G line pieces n rest = (p : Place line pieces n rest) × G p.front
-
--- what a line end doesn't change
-abbrev pub Keeps : (List Piece → Type 0) → Type 0
-Keeps G = (front : List Piece) → G front → G (front ++ LineEnd ∷ [])
-
--- over one piece, where H holds behind it
-pub past_word : (G H : List Piece → Type 0) (line : ℕ) (pieces : List Piece) (n : ℕ) (w : List ℕ) (rest : List Piece) → ((front : List Piece) → G front → H (front ++ Word w ∷ []))
-    → At G line pieces n (Word w ∷ rest) → At H line pieces n rest
-unfolding over_word beyond
-past_word G H line pieces n w rest go a = (over_word a.0, go a.0.front a.1)
-
-pub past_sign : (G H : List Piece → Type 0) (line : ℕ) (pieces : List Piece) (n b : ℕ) (rest : List Piece) → ((front : List Piece) → G front → H (front ++ Sign b ∷ []))
-    → At G line pieces n (Sign b ∷ rest) → At H line pieces n rest
-unfolding over_sign beyond
-past_sign G H line pieces n b rest go a = (over_sign a.0, go a.0.front a.1)
-
-pub next_keeps : (C : Kind → ℕ → Type 0) (line : ℕ) (pieces : List Piece) → EndsShort C line pieces → (G : List Piece → Type 0) → Keeps G
-    → (n : ℕ) (rest : List Piece) → At G line pieces n rest → Explains C (λ (x : Piece × ℕ × List Piece). At G line pieces x.1 (x.0 ∷ x.2)) (next_at n rest)
-unfolding next_at over_end beyond
-next_keeps C line pieces short G keeps n [] a = short n a.0
-next_keeps C line pieces short G keeps n (LineEnd ∷ rest) a = next_keeps C line pieces short G keeps (n + 1) rest (over_end a.0, keeps a.0.front a.1)
-next_keeps C line pieces short G keeps n (Word w ∷ rest) a = a
-next_keeps C line pieces short G keeps n (Sign b ∷ rest) a = a
-
-as_word_keeps : (C : Kind → ℕ → Type 0) (line : ℕ) (pieces : List Piece) (kind : Kind) → Anywhere C line pieces kind → (G : List Piece → Type 0)
-    → (p : Piece) (n : ℕ) (rest : List Piece) → At G line pieces n (p ∷ rest) → Explains C (λ (x : List ℕ × ℕ × List Piece). At G line pieces x.1 (Word x.0 ∷ x.2)) (as_word kind (p, n, rest))
-as_word_keeps C line pieces kind any G (Word w) n rest a = a
-as_word_keeps C line pieces kind any G (Sign b) n rest a = any n _ a.0
-as_word_keeps C line pieces kind any G LineEnd n rest a = any n _ a.0
-
-as_sign_keeps : (C : Kind → ℕ → Type 0) (line : ℕ) (pieces : List Piece) (kind : Kind) → Anywhere C line pieces kind → (G : List Piece → Type 0)
-    → (p : Piece) (n : ℕ) (rest : List Piece) → At G line pieces n (p ∷ rest) → Explains C (λ (x : ℕ × ℕ × List Piece). At G line pieces x.1 (Sign x.0 ∷ x.2)) (as_sign kind (p, n, rest))
-as_sign_keeps C line pieces kind any G (Word w) n rest a = any n _ a.0
-as_sign_keeps C line pieces kind any G (Sign b) n rest a = a
-as_sign_keeps C line pieces kind any G LineEnd n rest a = any n _ a.0
-
-pub word_keeps : (C : Kind → ℕ → Type 0) (line : ℕ) (pieces : List Piece) (kind : Kind) → EndsShort C line pieces → Anywhere C line pieces kind → (G : List Piece → Type 0) → Keeps G
-    → (n : ℕ) (rest : List Piece) → At G line pieces n rest → Explains C (λ (x : List ℕ × ℕ × List Piece). At G line pieces x.1 (Word x.0 ∷ x.2)) (word_at kind n rest)
-unfolding word_at
-word_keeps C line pieces kind short any G keeps n rest a =
-    bind_explains C (λ (x : Piece × ℕ × List Piece). At G line pieces x.1 (x.0 ∷ x.2)) (λ (x : List ℕ × ℕ × List Piece). At G line pieces x.1 (Word x.0 ∷ x.2)) (next_at n rest) (as_word kind)
-    (next_keeps C line pieces short G keeps n rest a) (λ x e q. as_word_keeps C line pieces kind any G x.0 x.1 x.2 q)
-
-pub sign_keeps : (C : Kind → ℕ → Type 0) (line : ℕ) (pieces : List Piece) (kind : Kind) → EndsShort C line pieces → Anywhere C line pieces kind → (G : List Piece → Type 0) → Keeps G
-    → (n : ℕ) (rest : List Piece) → At G line pieces n rest → Explains C (λ (x : ℕ × ℕ × List Piece). At G line pieces x.1 (Sign x.0 ∷ x.2)) (sign_at kind n rest)
-unfolding sign_at
-sign_keeps C line pieces kind short any G keeps n rest a =
-    bind_explains C (λ (x : Piece × ℕ × List Piece). At G line pieces x.1 (x.0 ∷ x.2)) (λ (x : ℕ × ℕ × List Piece). At G line pieces x.1 (Sign x.0 ∷ x.2)) (next_at n rest) (as_sign kind)
-    (next_keeps C line pieces short G keeps n rest a) (λ x e q. as_sign_keeps C line pieces kind any G x.0 x.1 x.2 q)
-
-pub expect_keeps : (C : Kind → ℕ → Type 0) (line : ℕ) (pieces : List Piece) (wanted : ℕ) (kind : Kind) → EndsShort C line pieces → Anywhere C line pieces kind → (G : List Piece → Type 0) → Keeps G
-    → (n : ℕ) (rest : List Piece) → At G line pieces n rest → Explains C (λ (x : ℕ × List Piece). At G line pieces x.0 (Sign wanted ∷ x.1)) (expect_at wanted kind n rest)
-unfolding expect_at
-expect_keeps C line pieces wanted kind short any G keeps n rest a =
-    bind_explains C (λ (x : ℕ × ℕ × List Piece). At G line pieces x.1 (Sign x.0 ∷ x.2)) (λ (x : ℕ × List Piece). At G line pieces x.0 (Sign wanted ∷ x.1)) (sign_at kind n rest)
-    (λ s. cond (eqb s.0 wanted) (Ok (s.1, s.2)) (fails kind s.1)) (sign_keeps C line pieces kind short any G keeps n rest a) (λ s e q.
-    test_explains C (λ (x : ℕ × List Piece). At G line pieces x.0 (Sign wanted ∷ x.1)) (eqb s.0 wanted) (Ok (s.1, s.2)) (fails kind s.1)
-    (λ t. subst (λ b. At G line pieces s.1 (Sign b ∷ s.2)) (eqb-true s.0 wanted t) q) (λ t. any s.1 _ q.0))
+-- ---- numbers
 
 -- a number that fits
 pub number_keeps : (C : Kind → ℕ → Type 0) (line : ℕ) (pieces : List Piece) (kind : Kind) → EndsShort C line pieces → Anywhere C line pieces kind

@@ -1,21 +1,20 @@
 -- A row is read, or its fault has its cause in its line.
-use Rattle.std.proofs.Common.{◌≡◌, ◌≢◌, ℕ, zero, suc, ◌+◌, ◌-◌, ◌<◌, ◌≤◌, Bool, true, false, cond, eqb, List, [], ◌∷◌, ◌++◌, Option, Some, None, Result, Ok, Err, refl, sym, ap, subst, ◌∙◌, inl, inr, append_assoc, arith}
+use Rattle.std.proofs.Common.{◌≡◌, ◌≢◌, ℕ, zero, suc, ◌+◌, ◌-◌, ◌<◌, true, List, [], ◌∷◌, ◌++◌, Option, Some, None, Ok, Err, refl, sym, ap, subst, ◌∙◌, append_assoc, arith}
 use Rattle.std.proofs.lemmas.List.{append-nil}
 use Rattle.litmus_grammar.specs.Pieces.{Piece, Word, Sign, LineEnd}
 use Rattle.litmus_grammar.specs.declared.errors.Kind.{Kind}
 use Rattle.litmus_grammar.specs.declared.errors.Kind.TheVariants.{BadTable, BadInstruction}
 use Rattle.litmus_grammar.specs.declared.errors.LitmusError.{LitmusError}
-use Rattle.litmus_grammar.specs.Reading.{◌>>=◌, fails, behind, expect_here_at, end_line_at, passed_at, repeat_at}
+use Rattle.litmus_grammar.specs.Reading.{fails, behind, expect_here_at, end_line_at, passed_at, repeat_at}
 use Rattle.litmus_parser.specs.Places.{Place}
 use Rattle.litmus_parser.specs.ReadingForms.{form_at}
 use Rattle.litmus_parser.specs.Verdicts.{judged_at}
 use Rattle.litmus_parser.specs.ReadingRows.{Rows, Columns, ends_line, has_shape, instruction_at, cell_at, column_at, ended, columns_at, row_at}
 use Rattle.litmus_parser.specs.GrammarForms.{IsForm}
-use Rattle.litmus_parser.specs.GrammarTable.{Begins, IsCell, AreCells, IsRow}
+use Rattle.litmus_parser.specs.GrammarTable.{IsCell, AreCells}
 use Rattle.litmus_parser.specs.TableFaults.{RowAt, CellAt, end_of, FormAt, RowsCause}
 use Rattle.litmus_parser.specs.declared.syntax.Width.{Width}
 use Rattle.litmus_parser.specs.declared.syntax.Item.{Item}
-use Rattle.litmus_parser.specs.declared.syntax.Instruction.{Instruction}
 use Rattle.litmus_parser.specs.declared.syntax.Cell.{Cell}
 use Rattle.litmus_parser.specs.declared.forms.Form.{Form}
 use Rattle.litmus_parser.proofs.Explains.{Explains, Onto, start, beyond, over_sign, over_end, bind_explains, test_explains, repeat_counted}
@@ -27,6 +26,7 @@ use Rattle.litmus_parser.proofs.OnwardHere.{expect_here_again}
 use Rattle.litmus_parser.proofs.TableTakes.{cell_takes}
 use Rattle.litmus_parser.proofs.TableAgain.{passed_again, cells_shape}
 use Rattle.litmus_parser.proofs.Steps.{passed_takes}
+use Rattle.litmus_parser.proofs.Outcomes.{otherwise}
 use Rattle.litmus_parser.proofs.VerdictExplains.{Any, WidthFrom, width_beyond, judged_explains, width_onward}
 
 -- ---- one more cell
@@ -52,11 +52,7 @@ cells_ended items (suc n) t row before cells after rest lt e h shape =
     let bars : n ≡ suc n - 1 = omega arith in
     sym (cells_shape items (suc n) n 0 row before cells after rest all (omega arith)) ∙ ap (λ k. has_shape k row) bars ∙ shape
 
--- ---- a fault, and what else must be known of it
-
-otherwise : (C D : Kind → ℕ → Type 0) {Y : Type 0} (P : Y → Type 0) (r : Result Y LitmusError) → Explains D P r → ((e : LitmusError) → r ≡ Err e → D e.kind e.line → C e.kind e.line) → Explains C P r
-otherwise C D P (Ok y) h go = h
-otherwise C D P (Err e) h go = go e refl h
+-- ---- cells
 
 -- no instruction stands in front up to the cell's end
 abbrev NoForm : ℕ → List Piece → Type 0
@@ -97,13 +93,13 @@ module _ (items : List Item) (threads line : ℕ) (pieces : List Piece) where
       (otherwise C (BadHere f.1) (λ (x : ℕ × List Piece). (x.0 ≡ f.1) × (f.2 ≡ Sign (end_of threads t) ∷ x.1)) (expect_here_at (end_of threads t) BadInstruction f.1 f.2)
       (expect_here_explains (BadHere f.1) (end_of threads t) BadInstruction f.1 f.2 (refl, refl)) (λ e fault bad.
       bad_cell t s.2 f.1 s.1 s.3 e cell lt some (no_end (end_of threads t) s.2 s.3 f e is fault) p.0 bad)) (λ next ends q.
-      let form : FormAt items threads line pieces t s.2 f.0 f.2 = record { before = s.1; here = s.3; rest = next.1; cell = cell; thread = lt; ended = q.1; is = form_takes s.2 s.3 f is } in
+      let form : FormAt items threads line pieces t s.2 f.0 = record { before = s.1; here = s.3; rest = next.1; cell = cell; thread = lt; is = subst (IsForm s.3 f.0) q.1 (form_takes s.2 s.3 f is) } in
       let same : next.0 ≡ s.2 = q.0 ∙ p.0 in
-      let place : Place s.2 f.2 next.0 next.1 = over_sign (at_rest same q.1 (start s.2 f.2)) in
+      let place : Place s.2 next.1 next.0 next.1 = at_rest same refl (start s.2 next.1) in
       let whole : Place s.2 s.3 next.0 next.1 = over_sign (at_rest q.0 q.1 p.1) in
       bind_explains C Any (Stays s) (judged_at items t s.1 f.0 next.0) (λ i. Ok (s.0 ++ (record { thread = t; instruction = i.0 }) ∷ [], i.1, next.0, next.1))
-      (subst (λ m. Explains C Any (judged_at items t s.1 f.0 m)) (sym same) (judged_explains items threads line pieces s.1 t s.2 f.0 f.2 form w)) (λ i stands u.
-      ((same, whole), width_onward items threads line pieces s.1 t s.2 f.0 f.2 form w i.0 i.1 (judged_takes items t s.1 f.0 next.0 i stands) next.0 next.1 place whole))))
+      (subst (λ m. Explains C Any (judged_at items t s.1 f.0 m)) (sym same) (judged_explains items threads line pieces s.1 t s.2 f.0 form w)) (λ i stands u.
+      ((same, whole), width_onward items threads line pieces s.1 t s.2 f.0 form w i.0 i.1 (judged_takes items t s.1 f.0 next.0 i stands) next.0 next.1 place whole))))
 
   behind_explains : (t : ℕ) (s : Rows) → CellAt items threads line pieces t s.2 s.1 s.3 → t < threads → WidthFrom items threads line pieces s.1 s.2 s.3
       → (o : Option (ℕ × List Piece)) → passed_at (end_of threads t) s.2 s.3 ≡ o → Explains C (Stays s) (behind o (instruction_at items t (end_of threads t) s) (λ at. Ok (s.0, s.1, at.0, at.1)))
@@ -130,7 +126,7 @@ module _ (items : List Item) (threads line : ℕ) (pieces : List Piece) where
     row = subst (λ n. RowAt items threads line pieces cell.rows n cell.width cell.start) (sym on.0) cell.row;
     shaped = cell.shaped;
     stand = subst (λ k. AreCells items threads k 0 cell.start cell.width (cell.cells ++ more) x.1 x.3) (let e : suc t ≡ t + 1 = omega arith in e)
-    (cells_end items threads t 0 t cell.start cell.width cell.cells more s.1 x.1 s.3 x.3 (omega arith) cell.stand is);
+        (cells_end items threads t 0 t cell.start cell.width cell.cells more s.1 x.1 s.3 x.3 (omega arith) cell.stand is);
     place = subst (λ n. Place n cell.start x.2 x.3) (sym on.0) (beyond cell.place on.1);
   }
 

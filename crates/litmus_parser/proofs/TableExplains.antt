@@ -1,27 +1,23 @@
 -- The rows of the table are read, or their fault has its cause in its line.
-use Rattle.std.proofs.Common.{◌≡◌, ℕ, zero, suc, ◌+◌, ◌<◌, ◌≤◌, Bool, true, false, cond, eqb, leb, List, [], ◌∷◌, Option, Some, None, Result, Ok, Err, refl, sym, ap, subst, ◌∙◌, arith}
+use Rattle.std.proofs.Common.{◌≡◌, ℕ, suc, ◌+◌, ◌<◌, ◌≤◌, true, false, leb, List, [], None, Ok, Err, refl, sym, subst, ◌∙◌, arith}
 use Rattle.std.proofs.lemmas.Bool.{leb-true, leb-false}
-use Rattle.litmus_grammar.specs.Pieces.{Piece, Word, Sign, LineEnd}
+use Rattle.litmus_grammar.specs.Pieces.{Piece}
 use Rattle.litmus_grammar.specs.declared.errors.Kind.{Kind}
-use Rattle.litmus_grammar.specs.declared.errors.Kind.TheVariants.{BadTable, TooLarge}
+use Rattle.litmus_grammar.specs.declared.errors.Kind.TheVariants.{TooLarge}
 use Rattle.litmus_grammar.specs.declared.errors.LitmusError.{LitmusError}
-use Rattle.litmus_grammar.specs.Reading.{◌>>=◌, Read, fails, here_at, word_here_at, start_at, end_line_at}
+use Rattle.litmus_grammar.specs.Reading.{fails, start_at}
 use Rattle.litmus_parser.specs.Places.{Place}
-use Rattle.litmus_parser.specs.GrammarWords.{EndsLine}
 use Rattle.litmus_parser.specs.ReadingRows.{Rows, row_at}
-use Rattle.litmus_parser.specs.ReadingTable.{thread_named, is_thread, separated_by, separated, Headings, heading_at, too_many, headings_at, header_at, quantifier_next, Table, next_row_at, too_long, table_at, rows_at}
-use Rattle.litmus_parser.specs.GrammarTable.{Begins, AreHeadings, last, more, IsHeaderRow}
-use Rattle.litmus_parser.specs.TableFaults.{LineAt, HeaderCause, StandRows, none, row, RowAt, RowsCause}
-use Rattle.litmus_parser.specs.declared.syntax.Width.{Width}
+use Rattle.litmus_parser.specs.ReadingTable.{quantifier_next, Table, next_row_at, too_long, table_at, rows_at}
+use Rattle.litmus_parser.specs.GrammarTable.{AreRows, Begins}
+use Rattle.litmus_parser.specs.TableFaults.{StandRows, none, row, RowAt, RowsCause}
 use Rattle.litmus_parser.specs.declared.syntax.Item.{Item}
 use Rattle.litmus_parser.specs.declared.syntax.Cell.{Cell}
-use Rattle.litmus_parser.proofs.Explains.{Explains, EndsShort, Onto, start, beyond, over_word, over_sign, bind_explains, test_explains, weaker, told, repeat_counted}
-use Rattle.litmus_parser.proofs.ExplainsHere.{word_here_explains, here_explains, start_explains, end_line_explains, at_rest}
-use Rattle.litmus_parser.proofs.FormExplains.{On}
-use Rattle.litmus_parser.proofs.TableTakes.{is_thread-is, row_takes}
-use Rattle.litmus_parser.proofs.TableAgain.{header_again}
-use Rattle.litmus_parser.proofs.VerdictExplains.{WidthFrom, width_beyond}
-use Rattle.litmus_parser.proofs.HeaderExplains.{answered}
+use Rattle.litmus_parser.proofs.Explains.{Explains, Onto, start, beyond, bind_explains, test_explains, told, repeat_counted}
+use Rattle.litmus_parser.proofs.TableTakes.{row_takes}
+use Rattle.litmus_parser.proofs.TableAgain.{rows_again}
+use Rattle.litmus_parser.proofs.VerdictExplains.{width_beyond}
+use Rattle.litmus_parser.proofs.Outcomes.{answered, begins_explains}
 use Rattle.litmus_parser.proofs.RowExplains.{Follows, row_explains}
 
 module _ (items : List Item) (threads line : ℕ) (pieces : List Piece) (some : 0 < threads) where
@@ -39,13 +35,13 @@ module _ (items : List Item) (threads line : ℕ) (pieces : List Piece) (some : 
   unfolding next_row_at
   next_row_explains k t h =
       bind_explains C (λ (x : ℕ × List Piece). Place t.3 t.4 x.0 x.1 × Begins t.4 x.1) (Onto (NextRow k) Through) (start_at t.3 t.4) _
-      (start_explains C t.3 t.4 (λ n p. beyond h.3.0 p) t.3 t.4 (start t.3 t.4)) (λ at is p.
+      (begins_explains C t.3 t.4 t.3 t.4 (start t.3 t.4) (λ n p no. (t.0, t.2, t.4, h.2, no, beyond h.3.0 p))) (λ at is p.
       let place = beyond h.3.0 p.0 in
-      let row_there : RowAt items threads line pieces t.0 at.0 t.2 at.1 = record { above = t.4; stand = h.2; begins = p.1; place = place } in
       test_explains C (Onto (NextRow k) Through) (quantifier_next at.1) (Ok (false, (t.0 + 1, t.1, t.2, at.0, at.1))) _ (λ q. (place, q)) (λ q.
+      let row_there : RowAt items threads line pieces t.0 at.0 t.2 at.1 = record { above = t.4; stand = h.2; begins = p.1; no_condition = q; place = place } in
       test_explains C (Onto (NextRow k) Through) (leb 1024 t.0) (fails TooLarge at.0) _ (λ many.
       let le = leb-true _ _ many in
-      (t.2, at.1, subst (λ n. RowAt items threads line pieces n at.0 t.2 at.1) (omega (arith, h.1, le)) row_there, q)) (λ few.
+      (t.2, at.1, subst (λ n. RowAt items threads line pieces n at.0 t.2 at.1) (omega (arith, h.1, le)) row_there)) (λ few.
       let lt = leb-false _ _ few in
       bind_explains C (λ (x : Rows). Follows items threads line pieces x.1 x.2 x.3) (Onto (NextRow k) Through) (row_at items threads (t.1, t.2, at.0, at.1)) (λ r. Ok (true, (t.0 + 1, r.0, r.1, r.2, r.3)))
       (row_explains items threads line pieces t.0 (t.1, t.2, at.0, at.1) some row_there (width_beyond items threads line pieces t.2 t.3 t.4 at.0 at.1 h.3.1 p.0)) (λ r read f.
@@ -67,3 +63,10 @@ pub rows_place : (items : List Item) (threads line : ℕ) (pieces : List Piece) 
     → Place line pieces r.1 r.2 × (quantifier_next r.2 ≡ true)
 rows_place items threads line pieces r some is =
     answered (λ kind n. RowsCause items threads line pieces kind n) (λ (x : List Cell × ℕ × List Piece). Place line pieces x.1 x.2 × (quantifier_next x.2 ≡ true)) (rows_at items threads [] line pieces) r (rows_through items threads line pieces some) is
+
+-- where the reading fails no rows lead to the condition
+pub no_rows : (items : List Item) (threads line : ℕ) (pieces : List Piece) (e : LitmusError) → rows_at items threads [] line pieces ≡ Err e
+    → (cells : List Cell) (rest : List Piece) → AreRows items threads 0 pieces None cells rest → quantifier_next rest ≡ true → ⊥
+no_rows items threads line pieces e fault cells rest h q =
+    let same = sym (rows_again items items threads line pieces cells rest (λ t r. refl) h q).1 ∙ fault in
+    absurd cc

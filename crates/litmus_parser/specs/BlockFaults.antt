@@ -1,12 +1,14 @@
 -- What is wrong with an initial block, and in which line.
-use Rattle.std.specs.Prelude.{◌≡◌, ℕ, List, [], ◌∷◌}
-use Rattle.litmus_grammar.specs.Pieces.{Piece, Word}
+use Rattle.std.specs.Prelude.{◌≡◌, ◌≢◌, ℕ, ◌⊎◌, false, List, [], ◌∷◌}
+use Rattle.litmus_grammar.specs.Pieces.{Piece, Word, Sign, LineEnd}
 use Rattle.litmus_grammar.specs.declared.errors.Kind.{Kind}
 use Rattle.litmus_grammar.specs.declared.errors.Kind.TheVariants.{TooLarge, BadInitial, DoubleInitial, ValueRange, CutShort}
 use Rattle.litmus_parser.specs.Names.{Names}
-use Rattle.litmus_parser.specs.Places.{Place, Somewhere, HasNumberAbove}
+use Rattle.litmus_parser.specs.Places.{Place, HasNumberAbove}
 use Rattle.litmus_parser.specs.LocationFaults.{HasLocationTooMany}
-use Rattle.litmus_parser.specs.GrammarBlock.{IsItem}
+use Rattle.litmus_parser.specs.GrammarWords.{Next}
+use Rattle.litmus_parser.specs.GrammarBlock.{IsItem, AreItems}
+use Rattle.litmus_parser.specs.BlockParts.{Wanted, fits, BlockUpTo}
 use Rattle.litmus_parser.specs.declared.syntax.Name.{Name}
 use Rattle.litmus_parser.specs.declared.syntax.Name.TheVariants.{Register, Location}
 use Rattle.litmus_parser.specs.declared.syntax.Item.{Item}
@@ -47,10 +49,33 @@ pub record SetTwice (line : ℕ) (pieces : List Piece) (n : ℕ) : Type 0 where
   pub same : NameTheSame earlier.name one.first later.name other.first
   pub line_is : n ≡ later.line
 
+-- the block stands up to a place, behind which the next piece is in line n and isn't one that is wanted there
+pub record HasWrongPiece (line : ℕ) (pieces : List Piece) (n : ℕ) : Type 0 where
+  pub wanted : Wanted
+  pub there : List Piece
+  pub piece : Piece
+  pub rest : List Piece
+  pub stands : BlockUpTo pieces wanted there
+  pub next : Next there piece rest
+  pub place : Place line pieces n (piece ∷ rest)
+  pub wrong : fits wanted piece ≡ false
+
+-- the block stands up to its closing brace, and behind that a piece stands on the same line, which is line n
+pub record HasMoreOnLine (line : ℕ) (pieces : List Piece) (n : ℕ) : Type 0 where
+  pub start : List Piece
+  pub items : List Item
+  pub names : Names
+  pub piece : Piece
+  pub rest : List Piece
+  pub brace : Next pieces (Sign 123) start
+  pub are : AreItems [] start [] items names (piece ∷ rest)
+  pub no_end : piece ≢ LineEnd
+  pub place : Place line pieces n (piece ∷ rest)
+
 -- what stands in line n where the initial block, whose pieces begin in this line, has a fault of the kind
 abbrev pub BlockCause : ℕ → List Piece → Kind → ℕ → Type 0
--- a place of the pieces is in that line; that no block stands in front of them is said beside this
-BlockCause line pieces BadInitial n = Somewhere line pieces n
+-- a piece there isn't one that the grammar has behind what stands in front of it; or it follows the closing brace on its line
+BlockCause line pieces BadInitial n = HasWrongPiece line pieces n ⊎ HasMoreOnLine line pieces n
 -- the pieces end there
 BlockCause line pieces CutShort n = Place line pieces n []
 -- a number above 2147483647 stands there

@@ -20,6 +20,7 @@ pub mod GrammarBlock
 pub mod GrammarForms
 pub mod GrammarTable
 pub mod GrammarCondition
+pub mod BlockParts
 pub mod BlockFaults
 pub mod ConditionFaults
 pub mod TableFaults

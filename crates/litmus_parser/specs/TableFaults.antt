@@ -19,14 +19,14 @@ use Rattle.litmus_parser.specs.declared.forms.Form.TheVariants as form
 abbrev pub LineAt : ℕ → List Piece → ℕ → List Piece → Type 0
 LineAt line pieces n start = Begins pieces start × Place line pieces n start
 
--- the cause of a fault of the header row
+-- the cause of a fault of the header row in line n
 abbrev pub HeaderCause : ℕ → List Piece → Kind → ℕ → Type 0
 -- its line is line n, and it is no header row
-HeaderCause line pieces BadTable n = (start : List Piece) × LineAt line pieces n start × ((threads : ℕ) (rest : List Piece) → IsHeaderRow pieces threads rest → ⊥)
--- all pieces are taken
-HeaderCause line pieces CutShort n = Place line pieces n []
--- the heading of a seventeenth thread stands in it
-HeaderCause line pieces TooLarge n = (w : List ℕ) × (rest : List Piece) × Place line pieces n (Word w ∷ rest) × (thread_named w ≡ Some 16)
+HeaderCause line pieces BadTable n = (row : List Piece) × LineAt line pieces n row × ((threads : ℕ) (rest : List Piece) → IsHeaderRow pieces threads rest → ⊥)
+-- its line is line n, in which the heading of a seventeenth thread stands
+HeaderCause line pieces TooLarge n = (row rest : List Piece) × (w : List ℕ) × LineAt line pieces n row × Place n row n (Word w ∷ rest) × (thread_named w ≡ Some 16)
+-- no line begins up to the end of the text, which is in line n
+HeaderCause line pieces CutShort n = ((row : List Piece) → Begins pieces row → ⊥) × Place line pieces n []
 HeaderCause line pieces kind n = ⊥
 
 -- so many rows stand from the first place to this one, and give the test its width
@@ -35,11 +35,12 @@ pub data StandRows (items : List Item) (threads : ℕ) (pieces : List Piece) : �
   row : {n : ℕ} {w v : Option Width} {ps rest : List Piece} (qs : List Piece) (cells : List Cell) → StandRows items threads pieces n w ps → Begins ps qs → IsRow items threads qs w cells v rest
       → StandRows items threads pieces (n + 1) v rest
 
--- behind so many rows a line begins here, and it is line n
+-- behind so many rows a line begins here, not with the condition, and it is line n
 pub record RowAt (items : List Item) (threads line : ℕ) (pieces : List Piece) (rows n : ℕ) (before : Option Width) (start : List Piece) : Type 0 where
   pub above : List Piece
   pub stand : StandRows items threads pieces rows before above
   pub begins : Begins above start
+  pub no_condition : quantifier_next start ≡ false
   pub place : Place line pieces n start
 
 -- of a row with the right shape, in line n, the cells of the threads below t stand in front of this place
@@ -57,15 +58,14 @@ pub record CellAt (items : List Item) (threads line : ℕ) (pieces : List Piece)
 abbrev pub end_of : ℕ → ℕ → ℕ
 end_of threads t = if t + 1 == threads then 59 else 124
 
--- the cell of thread t, in line n, is this instruction, behind which its end stands
-pub record FormAt (items : List Item) (threads line : ℕ) (pieces : List Piece) (t n : ℕ) (form : Form) (behind : List Piece) : Type 0 where
+-- the cell of thread t, in line n, is this instruction
+pub record FormAt (items : List Item) (threads line : ℕ) (pieces : List Piece) (t n : ℕ) (form : Form) : Type 0 where
   pub before : Option Width
   pub here : List Piece
   pub rest : List Piece
   pub cell : CellAt items threads line pieces t n before here
   pub thread : t < threads
-  pub ended : behind ≡ Sign (end_of threads t) ∷ rest
-  pub is : IsForm here form behind
+  pub is : IsForm here form (Sign (end_of threads t) ∷ rest)
 
 -- a number is too large for its place
 abbrev pub TooGreat : Form → Type 0
@@ -98,23 +98,24 @@ HasAddressIn f r = ⊥
 
 -- the cause of a fault of the rows in line n
 abbrev pub RowsCause : List Item → ℕ → ℕ → List Piece → Kind → ℕ → Type 0
--- it should be a row, and has not a cell for each thread
+-- behind rows a further one begins, and has not the shape of a row
 RowsCause items threads line pieces BadTable n = (rows : ℕ) × (before : Option Width) × (start : List Piece) × RowAt items threads line pieces rows n before start × (has_shape (threads - 1) start ≡ false)
--- all pieces are taken
-RowsCause items threads line pieces CutShort n = Place line pieces n []
--- 1024 rows stand above it, and the condition does not begin in it
-RowsCause items threads line pieces TooLarge n = (before : Option Width) × (start : List Piece) × RowAt items threads line pieces 1024 n before start × (quantifier_next start ≡ false)
--- a thread's cell in it is not blank and no instruction
+-- behind 1024 rows a further row begins
+RowsCause items threads line pieces TooLarge n = (before : Option Width) × (start : List Piece) × RowAt items threads line pieces 1024 n before start
+-- behind rows no line begins up to the end of the text, which is in line n
+RowsCause items threads line pieces CutShort n = (rows : ℕ) × (before : Option Width) × (above : List Piece)
+    × StandRows items threads pieces rows before above × ((start : List Piece) → Begins above start → ⊥) × Place line pieces n []
+-- a cell is neither blank nor an instruction
 RowsCause items threads line pieces BadInstruction n = (t : ℕ) × (before : Option Width) × (here : List Piece) × CellAt items threads line pieces t n before here × (t < threads)
     × ((rest : List Piece) → here ≢ Sign (end_of threads t) ∷ rest) × ((form : Form) (rest : List Piece) → IsForm here form (Sign (end_of threads t) ∷ rest) → ⊥)
--- a number in it is too large for its place
-RowsCause items threads line pieces ValueRange n = (t : ℕ) × (form : Form) × (behind : List Piece) × FormAt items threads line pieces t n form behind × TooGreat form
--- an instruction in it has another width than one before it
-RowsCause items threads line pieces MixedWidth n = (t s m : ℕ) × (first second : Form) × (middle behind : List Piece) × (v w : Width)
-    × FormAt items threads line pieces s m first middle × (width_of first ≡ Some v) × (f : FormAt items threads line pieces t n second behind) × (width_of second ≡ Some w)
-    × Place m middle n f.here × (v ≢ w)
--- an instruction in it has a register as a value that the block sets to an address
-RowsCause items threads line pieces AddressAsValue n = (t r : ℕ) × (form : Form) × (behind : List Piece) × FormAt items threads line pieces t n form behind × HasValueIn form r × (is_there (address_of t r items) ≡ true)
--- an instruction in it has a register in parentheses that the block sets to no address
-RowsCause items threads line pieces ValueAsAddress n = (t r : ℕ) × (form : Form) × (behind : List Piece) × FormAt items threads line pieces t n form behind × HasAddressIn form r × (address_of t r items ≡ None)
+-- an instruction has a number that is too large for its place
+RowsCause items threads line pieces ValueRange n = (t : ℕ) × (form : Form) × FormAt items threads line pieces t n form × TooGreat form
+-- an instruction has another width than one in front of it, in line m
+RowsCause items threads line pieces MixedWidth n = (t s m : ℕ) × (form other : Form) × (own first : Width)
+    × (there : FormAt items threads line pieces s m other) × (here : FormAt items threads line pieces t n form) × Place m there.rest n here.here
+    × (width_of form ≡ Some own) × (width_of other ≡ Some first) × (first ≢ own)
+-- an instruction has a register as a value that the block sets to an address
+RowsCause items threads line pieces AddressAsValue n = (t r : ℕ) × (form : Form) × FormAt items threads line pieces t n form × HasValueIn form r × (is_there (address_of t r items) ≡ true)
+-- an instruction has a register in parentheses that the block sets to no address
+RowsCause items threads line pieces ValueAsAddress n = (t r : ℕ) × (form : Form) × FormAt items threads line pieces t n form × HasAddressIn form r × (address_of t r items ≡ None)
 RowsCause items threads line pieces kind n = ⊥

@@ -1,6 +1,6 @@
 //! Reading a whole text.
 
-ghost use Rattle.std.specs.Prelude.{◌≡◌, ◌<◌, ◌≤◌, ◌⊎◌, [], Ok, IfOk, IfErr, OnOk, length};
+ghost use Rattle.std.specs.Prelude.{◌≡◌, ◌<◌, ◌≤◌, ◌⊎◌, [], Ok, Err, IfOk, IfErr, OnOk, length};
 ghost use Rattle.std.specs.List.{list_any};
 ghost use Rattle.litmus_grammar.specs.Reading.{Gives};
 ghost use Rattle.litmus_parser.specs.Names.{same_name};
@@ -107,7 +107,8 @@ fn is_cut_short(kind: Kind) -> bool
 
 #[tactic(auto, unfolding(crate::specs::ReadingTest::read_at))]
 fn read_whole(alloc: Global, text: &[u8]) -> Result<Test, LitmusError>
-    ensures { Told test_of result (read_at text.now) }
+    ensures told { Told test_of result (read_at text.now) }
+    ensures large { 65536 < length text.now → result ≡ Err (record { line = 1; kind = Kind.TooLarge }) }
 {
     if text.len() > MOST_BYTES {
         return Err(LitmusError {
@@ -151,6 +152,8 @@ pub fn read(alloc: Global, text: &[u8]) -> Result<Test, LitmusError>
     ensures few { IfOk result (λ test. (0 < (test_of test).threads) × ((test_of test).threads ≤ 16)) }
     // A fault has its kind's cause in its line, unless memory ran out.
     ensures fault { IfErr result (λ e. (e ≡ record { line = 0; kind = NoMemory }) ⊎ Fault text.now e.kind e.line) }
+    // A text that is too long wants no memory.
+    ensures large { 65536 < length text.now → result ≡ Err (record { line = 1; kind = Kind.TooLarge }) }
     // The test or the first fault, front to back, unless memory ran out.
     ensures told { Told test_of result (read_at text.now) }
 {

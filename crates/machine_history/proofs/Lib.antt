@@ -17,3 +17,4 @@ pub mod Rooms
 pub mod FoundCases
 pub mod Found
 pub mod StaleRun
+pub mod PrivateRun

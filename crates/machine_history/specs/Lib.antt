@@ -1,4 +1,5 @@
 pub mod Cases
+pub mod PrivateWrites
 pub mod Shape
 pub mod StaleHit
 pub mod Standing

@@ -18,6 +18,7 @@ ghost use Rattle.machine_table.specs.Machine.{Machine};
 ghost use Rattle.machine_table.specs.Transition.{transition};
 ghost use Rattle.machine_table.specs.Runs.{after_all};
 ghost use Rattle.machine_history.specs.Cases.{has_case};
+ghost use Rattle.machine_history.specs.PrivateWrites.{private_cores, private_writes, private_records};
 ghost use Rattle.machine_history.specs.StaleHit.{two_cores, stale_hit, stale_records};
 ghost use Rattle.machine_history.specs.Standing.{rights, standing_value};
 ghost use Rattle.machine_history.specs.Steps.{SetUpAs, Stands};
@@ -75,4 +76,12 @@ pub fn stale_hits_happen()
     ensures good { is_good two_cores ≡ true }
     ensures records { (opening : FinMap nat_cmp ℕ) →
         (after_all (at_start two_cores opening) stale_hit).records ≡ stale_records (flat opening 0) }
+{}
+
+/// A run by the table under private writes, whatever the opening memory: a core writes a word twice at one time, and then
+/// reads what it wrote last.
+pub fn private_writes_happen()
+    ensures good { is_good private_cores ≡ true }
+    ensures records { (opening : FinMap nat_cmp ℕ) →
+        (after_all (at_start private_cores opening) private_writes).records ≡ private_records 2 }
 {}

@@ -1,2 +1,3 @@
 pub mod CutOff
 pub mod Rows
+pub mod Sequential

@@ -1,5 +1,5 @@
 -- What a run of the program answers to a litmus text.
-use Rattle.std.specs.Prelude.{◌≡◌, ℕ, min, Bool, List, length, Option}
+use Rattle.std.specs.Prelude.{◌≡◌, ℕ, min, Bool, List, length, Option, IfSome}
 use Rattle.std.specs.List.{list_all, AllByRecursion}
 use Rattle.byte_streams.specs.Device.{Grows}
 use Rattle.byte_streams.specs.Whole.{GrowsByFront}
@@ -17,16 +17,22 @@ use Rattle.report.specs.declared.running.RunError.{RunError}
 use Rattle.report.specs.declared.running.RunError.TheVariants.{NoMemory, Litmus as Refused}
 use Rattle.report.specs.SetUp.{config_of}
 use Rattle.report.specs.Runs.{IsRun}
+use Rattle.sequential_machine.specs.SequentialMachine.{IsOutcome}
 
 -- the most rounds of a run
 abbrev pub rounds : LitmusOptions → ℕ
 rounds options = min options.limit 4294967295
+
+-- the end state of a run that has one is an outcome of the sequential machine
+abbrev pub HasOutcome : Litmus → RunEnd → Type 0
+HasOutcome test run = IfSome run.state (IsOutcome test)
 
 -- the bytes are the text of a test, and these are its runs, as many as the options ask for
 pub record AreRuns (options : LitmusOptions) (bytes : List ℕ) (test : Litmus) (runs : List RunEnd) : Type 0 where
   pub is_test : IsTest bytes test
   pub count : length runs ≡ options.runs
   pub each : AllByRecursion (IsRun test (config_of options test.threads) (rounds options)) runs
+  pub outcomes : AllByRecursion (HasOutcome test) runs
 
 -- the report of such runs went out, and nothing else
 pub record IsReported (options : LitmusOptions) (bytes : List ℕ) (old new : Option (List ℕ)) (all_done : Bool) : Type 0 where

@@ -1,6 +1,7 @@
 //! Runs a litmus test from its text to the text of its report.
 #![tactic(auto)]
 
+pub mod laws;
 mod one_run;
 mod running;
 mod set_up;

@@ -1,17 +1,22 @@
 //! One run of a litmus test.
-ghost use Rattle.std.specs.Prelude.{◌≡◌, ◌≤◌, ◌<◌, true, length, IfOk};
+ghost use Rattle.std.specs.Prelude.{◌≡◌, ◌≤◌, ◌<◌, ℕ, true, length, IfOk, List};
+ghost use Rattle.litmus_reader.specs.Grammar.{IsTest};
 ghost use Rattle.litmus_reader.specs.TestViews.{test_of};
 ghost use Rattle.machine_table.specs.SetUp.{is_good};
+ghost use Rattle.report.specs.Outcomes.{HasOutcome};
 ghost use Rattle.report.specs.Runs.{IsRun, state_at, threads_from, values_from};
 
 use interleaving_core::{Config, System};
 use litmus_reader::{EndState, Test, ThreadState};
+use machine_history::laws::every_history_is_legal;
 use physiological_order::{WordAddr, stale_hits};
 use run_ends::{End, RunEnd};
+use sequential_machine::laws::performed_histories_are_sequential;
 use std::alloc::{AllocError, Global};
 use worker_driver::drive_round;
 
-/// A run of the test on a machine with a core for each thread, by the schedule of rounds, with at most so many rounds.
+/// A run of the test on a machine with a core for each thread, by the schedule of rounds, with at most so many rounds. The
+/// end state of a run that is all done is an outcome of the sequential machine.
 pub(crate) fn run_once(
     alloc: Global,
     test: &Test,
@@ -20,8 +25,11 @@ pub(crate) fn run_once(
 ) -> Result<RunEnd, AllocError>
     requires good { is_good config ≡ true }
     requires cores { config.cores ≡ (test_of test.now).threads }
-    ensures { IfOk result (IsRun (test_of test.now) config limit) }
+    ensures run { IfOk result (IsRun (test_of test.now) config limit) }
+    ensures outcome { IfOk result (λ run. (text : List ℕ) → IsTest text (test_of test.now) → HasOutcome (test_of test.now) run) }
 {
+    every_history_is_legal();
+    performed_histories_are_sequential();
     let memory = test.opening()?;
     let Ok(mut system) = System::new(alloc, config, memory) else {
         return Err(AllocError);

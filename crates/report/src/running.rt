@@ -1,5 +1,5 @@
 //! From a source with a litmus text to a sink for its report.
-ghost use Rattle.std.specs.Prelude.{◌≡◌, ◌≢◌, ◌<◌, Err, IfErr, IfOk, IfSome, IsErrOf, false, true, length};
+ghost use Rattle.std.specs.Prelude.{◌≡◌, ◌≢◌, ◌<◌, Err, IfErr, IfOk, IfSome, IsErrOf, List, false, true, length, ℕ};
 ghost use Rattle.std.specs.List.{AllByRecursion, list_all};
 ghost use Rattle.litmus_reader.specs.Litmus.{Litmus};
 ghost use Rattle.litmus_reader.specs.TestViews.{test_of};
@@ -9,7 +9,7 @@ ghost use Rattle.litmus_report.specs.Ends.{ends_as};
 ghost use Rattle.machine_table.specs.SetUp.{is_good};
 ghost use Rattle.report.specs.SetUp.{config_of};
 ghost use Rattle.report.specs.Runs.{IsRun};
-ghost use Rattle.report.specs.Outcomes.{IsCutOff, IsReported, refusal, rounds};
+ghost use Rattle.report.specs.Outcomes.{HasOutcome, IsCutOff, IsReported, refusal, rounds};
 
 use crate::one_run::run_once;
 use crate::set_up::config_of;
@@ -43,8 +43,8 @@ pub enum RunError {
     BadConfig,
 }
 
-/// Reads a litmus test to the end of the source, runs it as the options say, and writes the report of the runs. An error
-/// but Write leaves the sink as it was. Read goes before Litmus, that before BadConfig, and Write comes last.
+/// Reads a litmus test to the end of the source, runs it as the options say, and writes the report of the runs. Each end
+/// state in the report is an outcome of the sequential machine. An error but Write leaves the sink as it was. Read goes before Litmus, that before BadConfig, and Write comes last.
 pub fn run_litmus<S: Source, K: Sink>(
     alloc: Global,
     source: &mut S,
@@ -107,6 +107,7 @@ fn run_often(
     requires cores { config.cores ≡ (test_of test.now).threads }
     ensures count { IfOk result (λ runs. length runs.items ≡ options.now.runs) }
     ensures each { IfOk result (λ runs. AllByRecursion (IsRun (test_of test.now) config (rounds options.now)) runs.items) }
+    ensures outcomes { IfOk result (λ runs. (text : List ℕ) → IsTest text (test_of test.now) → AllByRecursion (HasOutcome (test_of test.now)) runs.items) }
 {
     let limit = options.limit.min(u64::from(u32::MAX)) as u32;
     let mut runs = Vec::new(alloc);

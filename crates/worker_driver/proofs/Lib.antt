@@ -3,4 +3,8 @@ pub mod Lists
 pub mod Following
 pub mod Turns
 pub mod RoundEnds
+pub mod InProgram
+pub mod TableSteps
+pub mod Serving
 pub mod RunLaws
+pub mod Served

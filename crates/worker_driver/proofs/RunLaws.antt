@@ -1,5 +1,5 @@
 -- Laws of runs that follow the schedule: the events make the machine, and all done means that nothing is left to do.
-use Rattle.std.proofs.Common.{◌≡◌, ℕ, ◌+◌, ◌<◌, nat_lt, ◌==◌, Bool, true, false, ◌||◌, is_none, List, [], ◌∷◌, ◌++◌, Option, Some, None, refl, sym, ap, ◌∙◌, ⊎_elim}
+use Rattle.std.proofs.Common.{◌≡◌, ℕ, ◌+◌, ◌<◌, nat_lt, ◌==◌, Bool, true, false, ◌||◌, is_none, List, [], ◌∷◌, ◌++◌, Option, Some, None, refl, sym, ap, ◌∙◌, subst, ⊎_elim}
 use Rattle.std.proofs.lemmas.Bool.{and_parts, cond_both, true≢false, false≢true}
 use Rattle.physiological_order.specs.declared.operation.Op.{Op}
 use Rattle.machine_table.specs.declared.event.Event.{Event}
@@ -39,62 +39,62 @@ module _ {P : Type 0} (acts : Acts P) (plan : Plan) where
       cond_both (is_exhausted answer) (record e { stage = OutOfTimes }) (answered_at acts e answer d.stage) (λ x. x.machine ≡ m) (λ t. refl) (λ
       t. stage_keeps e answer d.stage)
 
-  -- a place without an event keeps the machine
-  machine_at : Machine → Move P → Machine
-  machine_at m (Goes d) = d.machine
-  machine_at m (Does event) = m
-  machine_at m (Ends e) = m
+  -- a place without an event keeps the machine and the programs
+  Keeps : Position P → Move P → Type 0
+  Keeps d (Goes e) = (e.machine ≡ d.machine) × (e.programs ≡ d.programs)
+  Keeps d (Does event) = Unit {0}
+  Keeps d (Ends e) = Unit {0}
 
-  begin_keeps : (d : Position P) (over : Bool) → machine_at d.machine (begin plan d over) ≡ d.machine
-  unfolding machine_at
-  begin_keeps d true = refl
-  begin_keeps d false = cond_both (d.rounds == plan.limit) (Ends TurnsUsed) (Goes (record d { stage = Issuing 0; has_moved = false })) (λ x.
-      machine_at d.machine x ≡ d.machine) (λ t. refl) (λ t. refl)
+  begin_keeps : (d : Position P) (over : Bool) → Keeps d (begin plan d over)
+  unfolding Keeps
+  begin_keeps d true = tt
+  begin_keeps d false = cond_both (d.rounds == plan.limit) (Ends TurnsUsed) (Goes (record d { stage = Issuing 0; has_moved = false })) (Keeps d) (λ t.
+      tt) (λ t. (refl, refl))
 
-  issue_keeps : (d : Position P) (core : ℕ) (o : Option (Op × Bool)) (next : Option Op) → machine_at d.machine (issue d core o next) ≡ d.machine
-  unfolding machine_at
-  issue_keeps d core None None = refl
-  issue_keeps d core None (Some op) = refl
-  issue_keeps d core (Some x) next = refl
+  issue_keeps : (d : Position P) (core : ℕ) (o : Option (Op × Bool)) (next : Option Op) → Keeps d (issue d core o next)
+  unfolding Keeps
+  issue_keeps d core None None = (refl, refl)
+  issue_keeps d core None (Some op) = tt
+  issue_keeps d core (Some x) next = (refl, refl)
 
-  attempt_keeps : (d : Position P) (core : ℕ) (o : Option (Op × Bool)) → machine_at d.machine (attempt d core o) ≡ d.machine
-  unfolding machine_at
-  attempt_keeps d core None = refl
-  attempt_keeps d core (Some x) = refl
+  attempt_keeps : (d : Position P) (core : ℕ) (o : Option (Op × Bool)) → Keeps d (attempt d core o)
+  unfolding Keeps
+  attempt_keeps d core None = (refl, refl)
+  attempt_keeps d core (Some x) = tt
 
-  evict_keeps : (d : Position P) (core : ℕ) (o : Option ℕ) → machine_at d.machine (evict d core o) ≡ d.machine
-  unfolding machine_at
-  evict_keeps d core None = refl
-  evict_keeps d core (Some line) = refl
+  evict_keeps : (d : Position P) (core : ℕ) (o : Option ℕ) → Keeps d (evict d core o)
+  unfolding Keeps
+  evict_keeps d core None = (refl, refl)
+  evict_keeps d core (Some line) = tt
 
-  evict_bank_keeps : (d : Position P) (left : List ℕ) (o : Option (ℕ × ℕ)) → machine_at d.machine (evict_bank d left o) ≡ d.machine
-  unfolding machine_at
-  evict_bank_keeps d left None = refl
-  evict_bank_keeps d left (Some x) = refl
+  evict_bank_keeps : (d : Position P) (left : List ℕ) (o : Option (ℕ × ℕ)) → Keeps d (evict_bank d left o)
+  unfolding Keeps
+  evict_bank_keeps d left None = (refl, refl)
+  evict_bank_keeps d left (Some x) = tt
 
-  move_keeps : (d : Position P) (stage : Stage) → machine_at d.machine (move_at acts plan d stage) ≡ d.machine
-  unfolding machine_at
+  move_keeps : (d : Position P) (stage : Stage) → Keeps d (move_at acts plan d stage)
+  unfolding Keeps
   move_keeps d RoundStart = begin_keeps d (are_over acts d.machine d.programs plan.cores)
   move_keeps d (Issuing core) = cond_both (nat_lt core plan.cores)
       (issue d core (open_op d.machine core) (next_in acts d.programs core)) (Goes (record d { stage = Delivering (in_flight d.machine) }))
-      (λ x. machine_at d.machine x ≡ d.machine) (λ t. issue_keeps d core (open_op d.machine core) (next_in acts d.programs core)) (λ t. refl)
+      (Keeps d) (λ t. issue_keeps d core (open_op d.machine core) (next_in acts d.programs core)) (λ t. (refl, refl))
   move_keeps d (Attempting core) = attempt_keeps d core (open_op d.machine core)
   move_keeps d (Evicting core) = evict_keeps d core (victim_for plan d.machine core (open_op d.machine core))
-  move_keeps d (AttemptingAgain core) = refl
-  move_keeps d (Delivering []) = cond_both d.has_moved (Goes (record d { stage = RoundStart; rounds = d.rounds + 1 })) (Ends Stalled) (λ x.
-      machine_at d.machine x ≡ d.machine) (λ t. refl) (λ t. refl)
-  move_keeps d (Delivering (n ∷ left)) = refl
+  move_keeps d (AttemptingAgain core) = tt
+  move_keeps d (Delivering []) = cond_both d.has_moved (Goes (record d { stage = RoundStart; rounds = d.rounds + 1 })) (Ends Stalled) (Keeps d) (λ t.
+      (refl, refl)) (λ t. tt)
+  move_keeps d (Delivering (n ∷ left)) = tt
   move_keeps d (MakingRoom n left) = evict_bank_keeps d left (make_room d.machine n)
-  move_keeps d OutOfTimes = refl
+  move_keeps d OutOfTimes = tt
 
-  goes_keeps : (d e : Position P) → move acts plan d ≡ Goes e → e.machine ≡ d.machine
-  unfolding machine_at
-  goes_keeps d e next = sym (ap (machine_at d.machine) next) ∙ move_keeps d d.stage
+  pub goes_keeps : (d e : Position P) → move acts plan d ≡ Goes e → (e.machine ≡ d.machine) × (e.programs ≡ d.programs)
+  unfolding Keeps
+  goes_keeps d e next = subst (Keeps d) next (move_keeps d d.stage)
 
   -- the events make the machine
   pub made_by : (start d : Position P) (events : List Event) → Follows acts plan start events d → d.machine ≡ after_all start.machine events
   made_by start d events stays = refl
-  made_by start d events (goes {events = taken} {d = before} {e = e} follows next) = goes_keeps before e next ∙ made_by start before taken follows
+  made_by start d events (goes {events = taken} {d = before} {e = e} follows next) = (goes_keeps before e next).0 ∙ made_by start before taken follows
   made_by start d events (does {events = taken} {d = before} {event = event} follows next) =
       answered_machine before (transition before.machine event)
       ∙ ap (λ (m : Machine). (transition m event).1) (made_by start before taken follows)

@@ -2,3 +2,4 @@ pub mod Acts
 pub mod Schedule
 pub mod Follows
 pub mod Noting
+pub mod Told

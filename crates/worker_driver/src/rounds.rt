@@ -4,6 +4,7 @@ ghost use Rattle.machine_table.specs.Runs.{after_all};
 ghost use Rattle.interleaving_core.specs.LookUps.{open_op};
 ghost use Rattle.worker_driver.specs.Acts.{next_in};
 ghost use Rattle.worker_driver.specs.Follows.{Ended, opening, plan_of};
+ghost use Rattle.worker_driver.specs.Told.{AreServed};
 
 use crate::look_ups::are_over;
 use crate::noting::Log;
@@ -24,7 +25,8 @@ pub struct Driven {
 /// Drives the machine by the schedule of rounds, one program a core, until every program is done, a round went by
 /// without a move, `limit` rounds were made, times are exhausted or a growth is refused. The events are those that the
 /// schedule has, each by the machine and the programs as they then are, and so is the end, unless it is NoMemory. What
-/// was given to the machine is in the list, and nothing else.
+/// was given to the machine is in the list, and nothing else. Whatever the end, each core was issued what its program
+/// gave, in order, and the program was told what each completed operation received, in order.
 pub fn drive_round<P: Program>(
     alloc: Global,
     system: &mut System,
@@ -35,6 +37,7 @@ pub fn drive_round<P: Program>(
     ensures schedule { Ended P.acts (plan_of system.old.config limit) (opening system.old programs.old) result.events.items system.new programs.new result.end }
     ensures machine { system.new ≡ after_all system.old result.events.items }
     ensures all_done { result.end ≡ End.AllDone → (core : ℕ) → core < system.old.config.cores → (open_op system.new core ≡ None) × (next_in P.acts programs.new core ≡ None) }
+    ensures served { AreServed P.acts system.old system.new programs.old programs.new }
 {
     let plan = Plan {
         cores: system.cores(),

@@ -5,13 +5,13 @@ use Rattle.litmus_reader.proofs.Sizes.{threads-few}
 use Rattle.litmus_reader.proofs.reading.read.Goals as goal
 
 pub returns-clause-found : goal.returns-clause-found
-returns-clause-found c = found-told _ _ c.read_whole.ensures
+returns-clause-found c = found-told _ _ c.read_whole.ensures.told
 
 pub returns-clause-few : goal.returns-clause-few
-returns-clause-few c = threads-few _ _ (found-told _ _ c.read_whole.ensures)
+returns-clause-few c = threads-few _ _ (found-told _ _ c.read_whole.ensures.told)
 
 pub returns-clause-only : goal.returns-clause-only
-returns-clause-only c = only-told _ _ c.read_whole.ensures
+returns-clause-only c = only-told _ _ c.read_whole.ensures.told
 
 pub returns-clause-fault : goal.returns-clause-fault
-returns-clause-fault c = fault-told _ _ c.read_whole.ensures
+returns-clause-fault c = fault-told _ _ c.read_whole.ensures.told

@@ -10,7 +10,7 @@ pub returns-clause-cut_off : goal.returns-clause-cut_off
 returns-clause-cut_off g c = λ is_write.
     cut_off c.args.options.now (g.S.Source.remaining c.args.source.now) c.in-Ok.bytes.items c.deref.result.now _ _ (test_of c.in-Ok-read.test) c.in-Some.config c.in-Ok-run_often.runs.items
     c.in-Ok.ensures.all c.deref.ensures.value c.in-Ok-read.ensures.found (c.in-Some.ensures.good.0 ∙ ap (config_of c.args.options.now) c.threads.ensures.count)
-    c.in-Ok-run_often.ensures.count c.in-Ok-run_often.ensures.each
+    c.in-Ok-run_often.ensures.count c.in-Ok-run_often.ensures.each c.in-Ok-run_often.ensures.outcomes
     (subst (λ text. GrowsByFront (g.K.Sink.contents c.args.sink.now) (g.K.Sink.contents c.write_all.new.sink) text)
     (c.deref-3.ensures.value ∙ c.in-Ok-litmus_text.ensures ∙ ap (litmus_text (test_of c.in-Ok-read.test)) c.deref-2.ensures.value)
     c.in-Err-write_all.ensures.front)

@@ -1,6 +1,7 @@
 use Rattle.std.proofs.Common.{arith}
 use Rattle.worker_driver.specs.Follows.{opening}
 use Rattle.worker_driver.proofs.RunLaws.{run_makes, run_leaves_nothing}
+use Rattle.worker_driver.proofs.Served.{all_served}
 use Rattle.worker_driver.proofs.rounds.drive_round.Goals as goal
 
 pub returns-clause-machine : goal.returns-clause-machine
@@ -15,3 +16,9 @@ returns-clause-all_done g c done core below =
     let n = c.rounds-end.new in
     run_leaves_nothing g.P.Program.acts (record { cores = c.cores.result; line_words = c.line_words.result; limit = a.limit }) (opening a.system.now a.programs.now) n.log.events n.system n.programs c.rounds-end.result c.rounds-end.ensures done core
     (omega (arith, below, c.cores.ensures.cores))
+
+pub returns-clause-served : goal.returns-clause-served
+returns-clause-served g c =
+    let a = c.args in
+    let n = c.rounds-end.new in
+    all_served g.P.Program.acts (record { cores = c.cores.result; line_words = c.line_words.result; limit = a.limit }) (opening a.system.now a.programs.now) c.cores.ensures.stands n.log.events n.system n.programs c.rounds-end.result c.rounds-end.ensures

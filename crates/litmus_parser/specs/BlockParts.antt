@@ -1,0 +1,92 @@
+-- How far an initial block stands, and what the grammar has next there.
+use Rattle.std.specs.Prelude.{◌≡◌, ◌≢◌, ℕ, ◌==◌, ◌||◌, Bool, false, not, List, [], ◌∷◌, ◌++◌, Option, Some, None}
+use Rattle.std.specs.List.{list_any}
+use Rattle.litmus_grammar.specs.Pieces.{Piece, Word, Sign, LineEnd}
+use Rattle.litmus_grammar.specs.Spelling.{is_number, small_of, register_of, is_location}
+use Rattle.litmus_parser.specs.Names.{Names, same_name, is_there}
+use Rattle.litmus_parser.specs.GrammarWords.{Next, IsNumbered}
+use Rattle.litmus_parser.specs.GrammarBlock.{IsItem}
+use Rattle.litmus_parser.specs.declared.syntax.Item.{Item}
+
+-- what the grammar has next, at a place of a block
+pub data Wanted : Type 0 where
+  OpeningBrace : Wanted
+  ItemOrBrace : Wanted
+  Colon : Wanted
+  RegisterWord : Wanted
+  RegisterEquals : Wanted
+  RegisterValue : Wanted
+  LocationEquals : Wanted
+  LocationValue : Wanted
+  SemicolonOrBrace : Wanted
+
+-- the piece is this sign
+abbrev pub is_sign : ℕ → Piece → Bool
+is_sign wanted (Sign b) = b == wanted
+is_sign wanted (Word w) = false
+is_sign wanted LineEnd = false
+
+-- the piece is a word that meets the test
+abbrev pub is_word : (List ℕ → Bool) → Piece → Bool
+is_word test (Word w) = test w
+is_word test (Sign b) = false
+is_word test LineEnd = false
+
+-- a register that can be set
+abbrev pub is_settable : Option ℕ → Bool
+is_settable (Some r) = not (r == 0)
+is_settable None = false
+
+-- whether the piece is one that is wanted
+abbrev pub fits : Wanted → Piece → Bool
+-- {
+fits OpeningBrace piece = is_sign 123 piece
+-- a thread from 0 to 15 or a location, with which an item begins; or }
+fits ItemOrBrace piece = is_word (λ w. is_there (small_of 15 w) || is_location w) piece || is_sign 125 piece
+-- :
+fits Colon piece = is_sign 58 piece
+-- a register from x1 to x31
+fits RegisterWord piece = is_word (λ w. is_settable (register_of w)) piece
+-- =
+fits RegisterEquals piece = is_sign 61 piece
+-- a number or a location
+fits RegisterValue piece = is_word (λ w. is_number w || is_location w) piece
+-- =
+fits LocationEquals piece = is_sign 61 piece
+-- a number
+fits LocationValue piece = is_word is_number piece
+-- ; or }
+fits SemicolonOrBrace piece = is_sign 59 piece || is_sign 125 piece
+
+-- behind the opening brace these items stand up to this place, each ended by ; and none setting a name that an earlier one set
+pub data StandItems (pieces : List Piece) : List Item → Names → List Piece → Type 0 where
+  no_item : {rest : List Piece} → Next pieces (Sign 123) rest → StandItems pieces [] [] rest
+  one_more : {items : List Item} {before after : Names} {here rest : List Piece} (item : Item) (behind : List Piece) → StandItems pieces items before here → IsItem here before item.name item.setting after behind
+      → list_any (λ other. same_name other.name item.name) items ≡ false → Next behind (Sign 59) rest → StandItems pieces (items ++ item ∷ []) after rest
+
+-- of an item that begins here all parts stand up to the place where this is wanted
+pub data ItemUpTo (names : Names) (here : List Piece) : Wanted → List Piece → Type 0 where
+  -- nothing yet
+  at_item : ItemUpTo names here ItemOrBrace here
+  -- T
+  thread_there : {rest : List Piece} (w : List ℕ) (t : ℕ) → Next here (Word w) rest → small_of 15 w ≡ Some t → ItemUpTo names here Colon rest
+  -- T:
+  colon_there : {place rest : List Piece} → ItemUpTo names here Colon place → Next place (Sign 58) rest → ItemUpTo names here RegisterWord rest
+  -- T:xR
+  register_there : {place rest : List Piece} (w : List ℕ) (r : ℕ) → ItemUpTo names here RegisterWord place → Next place (Word w) rest → register_of w ≡ Some r → r ≢ 0 → ItemUpTo names here RegisterEquals rest
+  -- T:xR=
+  equals_there : {place rest : List Piece} → ItemUpTo names here RegisterEquals place → Next place (Sign 61) rest → ItemUpTo names here RegisterValue rest
+  -- L
+  location_there : {rest : List Piece} (w : List ℕ) (l : ℕ) (after : Names) → Next here (Word w) rest → IsNumbered w names l after → ItemUpTo names here LocationEquals rest
+  -- L=
+  equals_behind : {place rest : List Piece} → ItemUpTo names here LocationEquals place → Next place (Sign 61) rest → ItemUpTo names here LocationValue rest
+
+-- of a block all parts stand up to the place where this is wanted
+pub data BlockUpTo (pieces : List Piece) : Wanted → List Piece → Type 0 where
+  -- nothing yet
+  at_block : BlockUpTo pieces OpeningBrace pieces
+  -- items and, behind them, the beginning of one
+  in_item : {items : List Item} {names : Names} {here place : List Piece} {wanted : Wanted} → StandItems pieces items names here → ItemUpTo names here wanted place → BlockUpTo pieces wanted place
+  -- items and, behind them, one of a name that they don't set
+  behind_item : {items : List Item} {before : Names} {here place : List Piece} (item : Item) (after : Names) → StandItems pieces items before here → IsItem here before item.name item.setting after place
+      → list_any (λ other. same_name other.name item.name) items ≡ false → BlockUpTo pieces SemicolonOrBrace place

@@ -1,0 +1,9 @@
+pub mod Bags
+pub mod Parts
+pub mod Renumbered
+pub mod MoveEvents
+pub mod Shown
+pub mod ReachedStates
+pub mod Reactions
+pub mod EventMoves
+pub mod Histories

@@ -1,0 +1,5 @@
+pub mod Consistent
+pub mod Events
+pub mod Moved
+pub mod Moves
+pub mod States

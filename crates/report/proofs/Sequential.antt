@@ -1,0 +1,96 @@
+-- The end state of a run that is all done is an outcome of the sequential machine.
+use Rattle.std.proofs.Common.{◌≡◌, ℕ, zero, suc, ◌+◌, ◌<◌, List, [], ◌∷◌, length, map, replicate, Option, Some, None, IfSome, refl, sym, ap, subst, ◌∙◌, arith}
+use Rattle.std.specs.List.{slice_get, AllByRecursion}
+use Rattle.std.specs.Prelude.{slice_index_or}
+use Rattle.std.specs.FinMap.{empty}
+use Rattle.physiological_order.specs.declared.operation.Op.{Op}
+use Rattle.physiological_order.specs.declared.operation.Record.{Record}
+use Rattle.physiological_order.specs.Order.{Follows, of_core, replay_end}
+use Rattle.litmus_reader.specs.Litmus.{Litmus}
+use Rattle.litmus_reader.specs.OpeningMemory.{words_opened}
+use Rattle.litmus_reader.specs.ThreadSteps.{Thread, next_of, done_with}
+use Rattle.litmus_reader.specs.Truth.{end_value}
+use Rattle.machine_table.specs.declared.config.Config.{Config}
+use Rattle.machine_table.specs.Machine.{Machine}
+use Rattle.machine_table.specs.Opening.{at_start, cores_from}
+use Rattle.machine_history.specs.Standing.{standing_value}
+use Rattle.interleaving_core.specs.LookUps.{open_op, open_op_of}
+use Rattle.run_ends.specs.declared.ends.End.{End}
+use Rattle.run_ends.specs.declared.ends.End.TheVariants.{AllDone, Stalled, TurnsUsed, Exhausted, NoMemory}
+use Rattle.sequential_machine.specs.SequentialMachine.{memory_opened}
+use Rattle.sequential_machine.specs.Performed.{ArePerformed, Performs as Does}
+use Rattle.worker_driver.specs.Acts.{next_in}
+use Rattle.worker_driver.specs.Told.{AreServed, IsServed, Performs}
+use Rattle.report.specs.Runs.{started, state_at, thread_acts, threads_from, values_from}
+
+-- ---- rows of threads, values and cores, by number
+
+thread_from : (test : Litmus) (start n k : ℕ) → k < n → slice_get (threads_from test start n) k ≡ Some (started test (start + k))
+thread_from test start zero k below = absurd (omega (arith, below))
+thread_from test start (suc n) zero below = ap (λ i. Some (started test i)) (omega arith)
+thread_from test start (suc n) (suc k) below = thread_from test (start + 1) n k (omega (arith, below)) ∙ ap (λ i. Some (started test i)) (omega arith)
+
+value_from : (m : Machine) (start n k : ℕ) → k < n → slice_get (values_from m start n) k ≡ Some (standing_value m (start + k))
+value_from m start zero k below = absurd (omega (arith, below))
+value_from m start (suc n) zero below = ap (λ i. Some (standing_value m i)) (omega arith)
+value_from m start (suc n) (suc k) below = value_from m (start + 1) n k (omega (arith, below)) ∙ ap (λ i. Some (standing_value m i)) (omega arith)
+
+-- no core opens with an operation
+nothing_open : (config : Config) (start n k : ℕ) → open_op_of (slice_get (cores_from config start n) k) ≡ None
+nothing_open config start zero k = refl
+nothing_open config start (suc n) zero = refl
+nothing_open config start (suc n) (suc k) = nothing_open config (start + 1) n k
+
+nothing_issued : (n k : ℕ) → slice_index_or (let lists : List (List Op) = replicate n [] in lists) k [] ≡ []
+nothing_issued zero k = refl
+nothing_issued (suc n) zero = refl
+nothing_issued (suc n) (suc k) = nothing_issued n k
+
+-- what a program of a thread gave, the thread did
+does : (t : Thread) (rs : List Record) (last : Thread) → Performs thread_acts t rs last → Does t rs last
+does t [] last is = is
+does t (r ∷ rs) last p = (p.0, does (done_with t r.received) rs last p.1)
+
+next_there : (threads : List Thread) (core : ℕ) (t : Thread) → slice_get threads core ≡ Some t → next_in thread_acts threads core ≡ None → next_of t ≡ None
+next_there threads core t here none = ap (λ (o : Option Thread). Rattle.worker_driver.specs.Acts.next_of thread_acts o) (sym here) ∙ none
+
+-- ---- a run of a test
+
+module _ (test : Litmus) (config : Config) (m : Machine) (threads : List Thread) (cores : config.cores ≡ test.threads)
+    (served : AreServed thread_acts (at_start config (words_opened test.items empty)) m (threads_from test 0 test.threads) threads) where
+  abbrev pub issued_to : ℕ → List Op
+  issued_to core = slice_index_or m.issued core []
+
+  of_thread : (t : ℕ) → t < test.threads → IsServed thread_acts t (at_start config (words_opened test.items empty)) m served.added (threads_from test 0 test.threads) threads
+  of_thread t below = served.each t (subst (λ n. t < n) (sym cores) below) (nothing_open config 0 config.cores t)
+
+  -- each thread was performed to its end
+  pub performed : ((core : ℕ) → core < config.cores → (open_op m core ≡ None) × (next_in thread_acts threads core ≡ None)) → ArePerformed test issued_to m.records threads
+  performed done = record {
+    there = subst (AllByRecursion (λ (r : Record). r.core < test.threads)) (sym served.records) (subst (λ n. AllByRecursion (λ (r : Record). r.core < n) served.added) cores served.there);
+    in_order = λ t below.
+        subst (λ rs. Follows 0 (issued_to t) (of_core t rs)) (sym served.records)
+        (subst (λ (ops : List Op). Follows (length ops) (issued_to t) (of_core t served.added)) (nothing_issued config.cores t) (of_thread t below).in_order);
+    performed = λ t below.
+        let told = (of_thread t below).told (started test t) (thread_from test 0 test.threads t below ∙ ap (λ i. Some (started test i)) (omega arith)) in (
+          told.0,
+          told.1,
+          subst (λ rs. Does (started test t) (of_core t rs) told.0) (sym served.records) (does (started test t) (of_core t served.added) told.0 told.2),
+          next_there threads t told.0 told.1 (done t (subst (λ n. t < n) (sym cores) below)).1,
+        );
+  }
+
+  -- and the words are those that the records leave
+  pub left : (arranged : List Record) → ((word : ℕ) → standing_value m word ≡ replay_end (memory_opened test) (map (λ r. r.op) arranged) word) →
+      (l : ℕ) → l < length test.locations → slice_get (values_from m 0 (length test.locations)) l ≡ Some (replay_end (memory_opened test) (map (λ r. r.op) arranged) l)
+  left arranged standing l below =
+      value_from m 0 (length test.locations) l below ∙ ap (λ i. Some (standing_value m i)) (omega arith) ∙ ap Some (standing l)
+
+-- only a run that is all done has a state
+pub state_of : (test : Litmus) (end : End) (threads : List Thread) (m : Machine) (P : List ℕ → Type 0) →
+    (end ≡ AllDone → P (map (end_value threads (values_from m 0 (length test.locations))) test.seen)) → IfSome (state_at test end threads m) P
+state_of test AllDone threads m P is = is refl
+state_of test Stalled threads m P is = tt
+state_of test TurnsUsed threads m P is = tt
+state_of test Exhausted threads m P is = tt
+state_of test NoMemory threads m P is = tt

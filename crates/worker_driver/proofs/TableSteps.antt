@@ -1,0 +1,268 @@
+-- What each event that a run makes does to the open operations and the records.
+use Rattle.std.proofs.Common.{◌≡◌, ◌≢◌, ◌⊎◌, ℕ, ◌+◌, ◌-◌, ◌^◌, nat_lt, Bool, true, false, cond, List, [], ◌∷◌, ◌++◌, set, Option, Some, None, Result, Ok, Err, inl, inr, refl, sym, ap, ◌∙◌, subst, ⊎_elim}
+use Rattle.std.specs.Prelude.{slice_get}
+use Rattle.std.specs.Ordering.{nat_cmp}
+use Rattle.std.specs.FinMap.{FinMap}
+use Rattle.std.proofs.lemmas.Bool.{cases_eq, cond_both}
+use Rattle.physiological_order.specs.declared.operation.Op.{Op}
+use Rattle.physiological_order.specs.declared.operation.Record.{Record}
+use Rattle.network.specs.declared.message.Node.{Node}
+use Rattle.network.specs.declared.message.Node.TheVariants.{Core, Bank, Dram}
+use Rattle.network.specs.declared.message.Message.{Message}
+use Rattle.network.specs.declared.part.Reaction.{Reaction}
+use Rattle.network.specs.declared.part.Reaction.TheVariants.{Done, Dropped, Held, HeldAfter}
+use Rattle.network.specs.Numbered.{at_number, without_number}
+use Rattle.line_sets.specs.SetTable.{Sets}
+use Rattle.private_cache.specs.declared.line_copy.LineCopy.{LineCopy}
+use Rattle.private_cache.specs.declared.cache.CacheError.{CacheError}
+use Rattle.private_cache.specs.declared.cache.CacheError.TheVariants.{NoRoom, NotHere, Pinned}
+use Rattle.private_cache.specs.CopyTable.{copy_of, evicted}
+use Rattle.core_pts.specs.declared.attempt.Attempt.{Attempt}
+use Rattle.core_pts.specs.declared.attempt.Attempt.TheVariants as attempted
+use Rattle.core_pts.specs.declared.attempt.IssueError.{IssueError}
+use Rattle.core_pts.specs.declared.attempt.IssueError.TheVariants as not_issued
+use Rattle.core_pts.specs.OnCopy.{CoreReaction, Arrives, Grants, Returns, Drops, Holds, TooLate, NoCase, at_core}
+use Rattle.core_pts.specs.CoreTable as core_table
+use Rattle.core_pts.specs.CoreTable.{CoreState, after_reaction, is_on, pinned_line, sent_back}
+use Rattle.llc_bank.specs.declared.entry.Evict.{Evict}
+use Rattle.llc_bank.specs.declared.entry.Evict.TheVariants as evict
+use Rattle.llc_bank.specs.declared.entry.EvictError.{EvictError}
+use Rattle.llc_bank.specs.declared.entry.EvictError.TheVariants as not_evicted
+use Rattle.llc_bank.specs.BankTable as bank_table
+use Rattle.llc_bank.specs.BankTable.{BankState}
+use Rattle.dram_mts.specs.Table.{dram_table, dram_has_case}
+use Rattle.machine_table.specs.declared.event.Event.{Event}
+use Rattle.machine_table.specs.declared.event.Event.TheVariants.{Issue, Attempt as AttemptOf, Deliver, EvictCache, EvictBank}
+use Rattle.machine_table.specs.declared.event.Answer.{Answer}
+use Rattle.machine_table.specs.declared.event.Answer.TheVariants as answer
+use Rattle.machine_table.specs.declared.event.Refusal.TheVariants as refusal
+use Rattle.machine_table.specs.Machine.{Machine, has_number, has_place, sent, sent_beside, with_core, with_bank, with_dram}
+use Rattle.machine_table.specs.Transition.{Outcome, refused, with_place, issued, issue_at, requested, record_of, attempted_op, attempt_open, attempt_at, reacted, deliver_core, deliver_bank, deliver_dram, deliver_to, deliver_message, copy_evicted, evict_copy, entry_evicted, evict_entry, on_event, transition}
+use Rattle.machine_history.proofs.Lookups.{get-set_same, get-set_other}
+use Rattle.interleaving_core.proofs.Closing.{Closes, attempt_closes}
+
+-- a core's open operation
+abbrev pub op_of : Option CoreState → Option Op
+op_of None = None
+op_of (Some core) = core.open_op
+
+abbrev pub op_at : Machine → ℕ → Option Op
+op_at m core = op_of (slice_get m.cores core)
+
+-- the open operations and the records stay
+pub record IsQuiet (m after : Machine) : Type 0 where
+  pub ops : (core : ℕ) → op_at after core ≡ op_at m core
+  pub records : after.records ≡ m.records
+
+-- a core's open operation is now this, and the others stay
+pub record IsOpen (m : Machine) (c : ℕ) (o : Option Op) (after : Machine) : Type 0 where
+  pub here : op_at after c ≡ o
+  pub there : (core : ℕ) → core ≢ c → op_at after core ≡ op_at m core
+
+-- an operation is opened
+pub record Opens (m : Machine) (c : ℕ) (op : Op) (after : Machine) : Type 0 where
+  pub opened : IsOpen m c (Some op) after
+  pub records : after.records ≡ m.records
+
+-- the open operation is completed, with this record
+pub record IsDone (m : Machine) (c : ℕ) (done : Record) (after : Machine) : Type 0 where
+  pub core : done.core ≡ c
+  pub op : op_at m c ≡ Some done.op
+  pub closed : IsOpen m c None after
+  pub records : after.records ≡ m.records ++ done ∷ []
+
+abbrev pub is_completion : Answer → Bool
+is_completion (answer.Completed done) = true
+is_completion _ = false
+
+-- what an issue and an attempt may come to
+abbrev pub Issues : Machine → ℕ → Op → Outcome → Type 0
+Issues m c op o = IsQuiet m o.1 ⊎ Opens m c op o.1
+
+abbrev pub Tries : Machine → ℕ → Outcome → Type 0
+Tries m c o = ((is_completion o.0 ≡ false) × IsQuiet m o.1) ⊎ ((done : Record) × (o.0 ≡ answer.Completed done) × IsDone m c done o.1)
+
+module _ (m : Machine) where
+  abbrev Stays : Outcome → Type 0
+  Stays o = IsQuiet m o.1
+
+  same : IsQuiet m m
+  same = record { ops = λ core. refl; records = refl }
+
+  -- a core in its place
+  module _ (c : ℕ) (core : CoreState) (at : slice_get m.cores c ≡ Some core) (new : CoreState) where
+    opened : (o : Option Op) → new.open_op ≡ o → IsOpen m c o (with_core m c new)
+    opened o is = record { here = ap op_of (get-set_same m.cores c new core at) ∙ is; there = λ j other. ap op_of (get-set_other m.cores c j new other) }
+
+    kept : new.open_op ≡ core.open_op → IsQuiet m (with_core m c new)
+    kept is =
+        record {
+          ops = λ j. ⊎_elim
+              (λ (here : j ≡ c). subst (λ (i : ℕ). op_of (slice_get (set m.cores c new) i) ≡ op_of (slice_get m.cores i)) (sym here)
+              (ap op_of (get-set_same m.cores c new core at) ∙ is ∙ sym (ap op_of at)))
+              (λ (other : j ≡ c → ⊥). ap op_of (get-set_other m.cores c j new other))
+              (cases_eq j c);
+          records = refl;
+        }
+
+  -- an answer that is given where there is a place
+  placed : (after : Machine) (a : Answer) → IsQuiet m after → Stays (with_place m a after)
+  placed after a quiet = cond_both (has_place m) (a, after) (refused m refusal.NetworkFull) Stays (λ t. quiet) (λ t. same)
+
+  with_message : (after : Machine) (message : Message) → IsQuiet m after → IsQuiet m (sent after message)
+  with_message after message quiet = record { ops = quiet.ops; records = quiet.records }
+
+  -- what is known of the part that a message makes
+  Part : {S : Type 0} → (S → Type 0) → Option (Reaction × S) → Type 0
+  Part K None = Unit {0}
+  Part K (Some (reaction, part)) = K part
+
+  reacted_stays : {S : Type 0} (n : ℕ) (put : Machine → S → Machine) (K : S → Type 0) → ((part : S) → K part → IsQuiet m (put m part)) → (r : Option (Reaction × S)) → Part K r → Stays (reacted m n put r)
+  unfolding Part
+  reacted_stays n put K puts None is = record { ops = λ core. refl; records = refl }
+  reacted_stays n put K puts (Some (Held, part)) is = same
+  reacted_stays n put K puts (Some (Dropped, part)) is = record { ops = λ core. refl; records = refl }
+  reacted_stays n put K puts (Some (Done None, part)) is = record { ops = (puts part is).ops; records = (puts part is).records }
+  reacted_stays n put K puts (Some (Done (Some reply), part)) is =
+      cond_both (has_number m) (answer.Delivered, sent_beside (put m part) (without_number n m.messages) reply) (refused m refusal.NetworkFull) Stays
+      (λ t. record { ops = (puts part is).ops; records = (puts part is).records }) (λ t. same)
+  reacted_stays n put K puts (Some (HeldAfter started, part)) is = placed (sent (put m part) started) answer.Started (with_message (put m part) started (puts part is))
+
+  -- a message that has no case is refused
+  if_case : (b : Bool) (o : Outcome) → Stays o → Stays (cond b o (refused m refusal.NoSuch))
+  if_case b o stays = cond_both b o (refused m refusal.NoSuch) Stays (λ t. stays) (λ t. same)
+
+  reaction_part : (core : CoreState) (line : ℕ) (r : CoreReaction) → Part (λ new. new.open_op ≡ core.open_op) (after_reaction core line r)
+  unfolding Part
+  reaction_part core line (Arrives copy) = refl
+  reaction_part core line (Grants copy) = refl
+  reaction_part core line (Returns copy back) = refl
+  reaction_part core line Drops = refl
+  reaction_part core line Holds = refl
+  reaction_part core line TooLate = tt
+  reaction_part core line NoCase = refl
+
+  any_part : {S : Type 0} (r : Option (Reaction × S)) → Part (λ (part : S). Unit {0}) r
+  unfolding Part
+  any_part None = tt
+  any_part (Some (reaction, part)) = tt
+
+  core_stays : (n : ℕ) (message : Message) (c : ℕ) (o : Option CoreState) → slice_get m.cores c ≡ o → Stays (deliver_core m n message c o)
+  core_stays n message c None at = same
+  core_stays n message c (Some core) at =
+      if_case (core_table.core_has_case core message) (reacted m n (λ machine part. with_core machine c part) (core_table.core_table core message))
+      (reacted_stays n (λ machine part. with_core machine c part) (λ new. new.open_op ≡ core.open_op) (λ new is. kept c core at new is) (core_table.core_table core message)
+      (reaction_part core message.line (at_core core.lease (is_on (pinned_line core) message.line) (copy_of core.cache message.line) message.body)))
+
+  bank_stays : (n : ℕ) (message : Message) (b : ℕ) (o : Option BankState) → Stays (deliver_bank m n message b o)
+  bank_stays n message b None = same
+  bank_stays n message b (Some bank) =
+      if_case (bank_table.bank_has_case bank message) (reacted m n (λ machine part. with_bank machine b part) (bank_table.bank_table bank message))
+      (reacted_stays n (λ machine part. with_bank machine b part) (λ part. Unit {0}) (λ part is. record { ops = λ core. refl; records = refl }) (bank_table.bank_table bank message) (any_part (bank_table.bank_table bank message)))
+
+  dram_stays : (n : ℕ) (message : Message) (b : ℕ) (o : Option (FinMap nat_cmp (List ℕ))) → Stays (deliver_dram m n message b o)
+  dram_stays n message b None = same
+  dram_stays n message b (Some dram) =
+      if_case (dram_has_case dram message) (reacted m n (λ machine part. with_dram machine b part) (dram_table dram message))
+      (reacted_stays n (λ machine part. with_dram machine b part) (λ part. Unit {0}) (λ part is. record { ops = λ core. refl; records = refl }) (dram_table dram message) (any_part (dram_table dram message)))
+
+  delivered_stays : (n : ℕ) (o : Option Message) → Stays (deliver_message m n o)
+  delivered_stays n None = same
+  delivered_stays n (Some message) = by_node message.to
+    where
+      by_node : (to : Node) → Stays (deliver_to m n message to)
+      by_node (Core c) = core_stays n message c (slice_get m.cores c) refl
+      by_node (Bank b) = bank_stays n message b (slice_get m.banks b)
+      by_node (Dram b) = dram_stays n message b (slice_get m.drams b)
+
+  copy_stays : (c : ℕ) (core : CoreState) → slice_get m.cores c ≡ Some core → (r : Result (Option Message) CacheError × CoreState) → r.1.open_op ≡ core.open_op → Stays (copy_evicted m c r)
+  copy_stays c core at (Err NotHere, new) is = same
+  copy_stays c core at (Err NoRoom, new) is = same
+  copy_stays c core at (Err Pinned, new) is = same
+  copy_stays c core at (Ok None, new) is = kept c core at new is
+  copy_stays c core at (Ok (Some back), new) is = placed (sent (with_core m c new) back) answer.Evicted (with_message (with_core m c new) back (kept c core at new is))
+
+  sent_back_kept : (core : CoreState) (line : ℕ) (r : Result LineCopy CacheError × Sets LineCopy) → (sent_back core line r).1.open_op ≡ core.open_op
+  sent_back_kept core line (Err e, cache) = refl
+  sent_back_kept core line (Ok copy, cache) = refl
+
+  evicted_stays : (c line : ℕ) (o : Option CoreState) → slice_get m.cores c ≡ o → Stays (evict_copy m c line o)
+  evicted_stays c line None at = same
+  evicted_stays c line (Some core) at = copy_stays c core at (core_table.evict core line) (sent_back_kept core line (evicted core.cache line (pinned_line core) (copy_of core.cache line)))
+
+  entry_stays : (b : ℕ) (r : Result Evict EvictError × BankState) → Stays (entry_evicted m b r)
+  entry_stays b (Err not_evicted.NotHere, bank) = same
+  entry_stays b (Err not_evicted.Busy, bank) = same
+  entry_stays b (Ok evict.Clean, bank) = record { ops = λ core. refl; records = refl }
+  entry_stays b (Ok (evict.Stored store), bank) = placed (sent (with_bank m b bank) store) answer.Evicted (record { ops = λ core. refl; records = refl })
+  entry_stays b (Ok (evict.Recalled recall), bank) = placed (sent (with_bank m b bank) recall) answer.Recalled (record { ops = λ core. refl; records = refl })
+
+  entry_evicted_stays : (b line : ℕ) (o : Option BankState) → Stays (evict_entry m b line o)
+  entry_evicted_stays b line None = same
+  entry_evicted_stays b line (Some bank) = entry_stays b (bank_table.evict bank line)
+
+  -- an issue
+  Ready : Op → Result (Unit {0}) IssueError × CoreState → Type 0
+  Ready op (Ok done, new) = new.open_op ≡ Some op
+  Ready op (Err e, new) = Unit {0}
+
+  issue_ready : (core : CoreState) (op : Op) (o : Option Op) → Ready op (core_table.issue_to core op o)
+  unfolding Ready
+  issue_ready core op (Some other) = tt
+  issue_ready core op None = cond_both (nat_lt core.issued (2 ^ 32 - 1)) (Ok tt, record core { open_op = Some op; issued = core.issued + 1 }) (Err not_issued.TooMany, core) (Ready op) (λ t. refl) (λ t. tt)
+
+  issued_so : (c : ℕ) (core : CoreState) → slice_get m.cores c ≡ Some core → (op : Op) (r : Result (Unit {0}) IssueError × CoreState) → Ready op r → Issues m c op (issued m c op r)
+  unfolding Ready
+  issued_so c core at op (Err not_issued.Busy, new) ready = inl same
+  issued_so c core at op (Err not_issued.TooMany, new) ready = inl same
+  issued_so c core at op (Ok done, new) ready =
+      let is = opened c core at new (Some op) ready in
+      inr (record { opened = record { here = is.here; there = is.there }; records = refl })
+
+  issues : (c : ℕ) (op : Op) (o : Option CoreState) → slice_get m.cores c ≡ o → Issues m c op (issue_at m c op o)
+  issues c op None at = inl same
+  issues c op (Some core) at = issued_so c core at op (core_table.issue core op) (issue_ready core op core.open_op)
+
+  -- an attempt
+  asks : (c : ℕ) (core : CoreState) → slice_get m.cores c ≡ Some core → (request : Message) → Tries m c (requested m c core request)
+  asks c core at request =
+      cond_both (has_place m) (answer.Requested, sent (with_core m c (record core { is_out = true })) request) (refused m refusal.NetworkFull) (Tries m c)
+      (λ t. inl (refl, with_message (with_core m c (record core { is_out = true })) request (kept c core at (record core { is_out = true }) refl))) (λ t. inl (refl, same))
+
+  tried_so : (c : ℕ) (core : CoreState) → slice_get m.cores c ≡ Some core → (op : Op) → core.open_op ≡ Some op → (r : Option Attempt × CoreState) → Closes r → Tries m c (attempted_op m c core op r)
+  tried_so c core at op opens (None, new) closes = inl (refl, record { ops = λ k. refl; records = refl })
+  tried_so c core at op opens (Some (attempted.Completed received ts), new) closes =
+      let is = opened c core at new None closes in
+      inr (record_of m c core op received ts, refl, record { core = refl; op = ap op_of at ∙ opens; closed = record { here = is.here; there = is.there }; records = refl })
+  tried_so c core at op opens (Some (attempted.NeedShared pts version), new) closes = asks c core at _
+  tried_so c core at op opens (Some (attempted.NeedExclusive version), new) closes = asks c core at _
+  tried_so c core at op opens (Some attempted.NoRoom, new) closes = inl (refl, same)
+  tried_so c core at op opens (Some attempted.Waiting, new) closes = inl (refl, same)
+  tried_so c core at op opens (Some attempted.Idle, new) closes = inl (refl, same)
+
+  tries : (c : ℕ) (o : Option CoreState) → slice_get m.cores c ≡ o → Tries m c (attempt_at m c o)
+  tries c None at = inl (refl, same)
+  tries c (Some core) at = by_open core.open_op refl
+    where
+      by_open : (o : Option Op) → core.open_op ≡ o → Tries m c (attempt_open m c core o)
+      by_open None opens = inl (refl, same)
+      by_open (Some op) opens = tried_so c core at op opens (core_table.attempt core) (attempt_closes core)
+
+  -- a stopped machine refuses them all
+  pub issue_does : (c : ℕ) (op : Op) → Issues m c op (transition m (Issue c op))
+  issue_does c op = cond_both m.is_stopped (refused m refusal.Stopped) (on_event m (Issue c op)) (Issues m c op) (λ t. inl same) (λ t. issues c op (slice_get m.cores c) refl)
+
+  pub attempt_does : (c : ℕ) → Tries m c (transition m (AttemptOf c))
+  attempt_does c = cond_both m.is_stopped (refused m refusal.Stopped) (on_event m (AttemptOf c)) (Tries m c) (λ t. inl (refl, same)) (λ t. tries c (slice_get m.cores c) refl)
+
+  quiet_unless : (event : Event) → Stays (on_event m event) → Stays (transition m event)
+  quiet_unless event stays = cond_both m.is_stopped (refused m refusal.Stopped) (on_event m event) Stays (λ t. same) (λ t. stays)
+
+  pub delivery_stays : (n : ℕ) → Stays (transition m (Deliver n))
+  delivery_stays n = quiet_unless (Deliver n) (delivered_stays n (at_number n m.messages))
+
+  pub cache_eviction_stays : (c line : ℕ) → Stays (transition m (EvictCache c line))
+  cache_eviction_stays c line = quiet_unless (EvictCache c line) (evicted_stays c line (slice_get m.cores c) refl)
+
+  pub bank_eviction_stays : (b line : ℕ) → Stays (transition m (EvictBank b line))
+  bank_eviction_stays b line = quiet_unless (EvictBank b line) (entry_evicted_stays b line (slice_get m.banks b))

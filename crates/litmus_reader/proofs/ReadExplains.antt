@@ -8,7 +8,6 @@ use Rattle.std.proofs.lemmas.List.Folds.{list_all-append}
 use Rattle.litmus_grammar.specs.declared.errors.Kind.{Kind}
 use Rattle.litmus_grammar.specs.declared.errors.Kind.TheVariants.{NoMemory, TooLarge, BadByte, BadHeader, BadInitial, DoubleInitial, BadTable, BadInstruction, ValueRange, MixedWidth, AddressAsValue, ValueAsAddress, BadCondition, CutShort}
 use Rattle.litmus_grammar.specs.declared.errors.LitmusError.{LitmusError}
-use Rattle.litmus_grammar.specs.Reading.{fails}
 use Rattle.litmus_grammar.proofs.Fronts.{front-all, whole-front, front-whole}
 use Rattle.litmus_parser.specs.Reachable.{is_allowed, line_feeds, inner_line_feeds, tail_of, good, whole_lines, reach}
 use Rattle.litmus_parser.proofs.Explains.{Explains, test_explains, told}
@@ -86,7 +85,7 @@ ended_explains : (C D : Kind → ℕ → Type 0) (end : LitmusError) (r : Result
     → ((test : Litmus) → r ≡ Ok test → is_cut_short end.kind ≡ false → C end.kind end.line) → Explains C (λ (test : Litmus). Unit {0}) (ended_by end r)
 ended_explains C D end (Ok test) h part short behind = test_explains C (λ (test : Litmus). Unit {0}) (is_cut_short end.kind) (Ok test) (Err end) (λ e. tt) (behind test refl)
 ended_explains C D end (Err fault) h part short behind =
-    test_explains C (λ (test : Litmus). Unit {0}) (is_cut_short fault.kind) (Err end) (Err fault) (λ e. short fault.line (subst (λ (kind : Kind). D kind fault.line) (cut_is fault.kind e) h))
+    test_explains C (λ (test : Litmus). Unit {0}) (is_cut_short fault.kind) _ _ (λ e. short fault.line (subst (λ (kind : Kind). D kind fault.line) (cut_is fault.kind e) h))
     (λ e. part fault.kind fault.line h (cut_isn't fault.kind e))
 
 module _ (text : List ℕ) (le : length text ≤ 65536) where
@@ -114,7 +113,7 @@ pub read_explains : (text : List ℕ) (e : LitmusError) → read_at text ≡ Err
 unfolding read_at
 read_explains text e is =
     told (Fault text) (λ (test : Litmus). Unit {0}) (read_at text) e
-    (test_explains (Fault text) (λ (test : Litmus). Unit {0}) (ltb 65536 (length text)) (fails TooLarge 1) (ended_by (reach text).1 (parts_at (good_lines text)))
+    (test_explains (Fault text) (λ (test : Litmus). Unit {0}) (ltb 65536 (length text)) _ _
     (λ more. too_large (ltb-true _ _ more)) (λ few. within_explains text (ltb-false _ _ few))) is
 
 pub fault-told : (text : List ℕ) (r : Result Test LitmusError) → Told test_of r (read_at text) → IfErr r (λ e. (e ≡ record { line = 0; kind = NoMemory }) ⊎ Fault text e.kind e.line)

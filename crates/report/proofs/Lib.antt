@@ -1,3 +1,4 @@
 pub mod CutOff
 pub mod Rows
 pub mod Sequential
+pub mod Refused

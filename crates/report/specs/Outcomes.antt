@@ -4,6 +4,7 @@ use Rattle.std.specs.List.{list_all, AllByRecursion}
 use Rattle.byte_streams.specs.Device.{Grows}
 use Rattle.byte_streams.specs.Whole.{GrowsByFront}
 use Rattle.command_line.specs.declared.options.LitmusOptions.{LitmusOptions}
+use Rattle.litmus_reader.specs.Faults.{Fault}
 use Rattle.litmus_reader.specs.Grammar.{IsTest}
 use Rattle.litmus_reader.specs.Litmus.{Litmus}
 use Rattle.litmus_report.specs.Ends.{ends_as}
@@ -48,6 +49,10 @@ pub record IsCutOff (options : LitmusOptions) (bytes : List ℕ) (old new : Opti
   pub runs : List RunEnd
   pub are_runs : AreRuns options bytes test runs
   pub front : GrowsByFront old new (litmus_text test runs)
+
+-- the bytes are the text of no test, and the fault has its kind's cause in its line
+abbrev pub IsNoTest : List ℕ → LitmusError → Type 0
+IsNoTest bytes e = ((test : Litmus) → IsTest bytes test → ⊥) × Fault bytes e.kind e.line
 
 -- why a text is refused: want of memory is no fault of it
 abbrev pub refusal_of : Kind → LitmusError → RunError

@@ -9,7 +9,7 @@ ghost use Rattle.litmus_report.specs.Ends.{ends_as};
 ghost use Rattle.machine_table.specs.SetUp.{is_good};
 ghost use Rattle.report.specs.SetUp.{config_of};
 ghost use Rattle.report.specs.Runs.{IsRun};
-ghost use Rattle.report.specs.Outcomes.{HasOutcome, IsCutOff, IsReported, refusal, rounds};
+ghost use Rattle.report.specs.Outcomes.{HasOutcome, IsCutOff, IsNoTest, IsReported, refusal, rounds};
 
 use crate::one_run::run_once;
 use crate::set_up::config_of;
@@ -56,6 +56,7 @@ pub fn run_litmus<S: Source, K: Sink>(
     ensures write { IsErrOf result RunError.Write → K.failures sink.old < K.failures sink.new }
     ensures cut_off { IsErrOf result RunError.Write → IfSome (S.remaining source.old) (λ bytes. IsCutOff options.now bytes (K.contents sink.old) (K.contents sink.new)) }
     ensures litmus { (e : LitmusError) → IsErrOf result (RunError.Litmus e) → IfSome (S.remaining source.old) (λ bytes. read_at bytes ≡ Err e) }
+    ensures fault { (e : LitmusError) → IsErrOf result (RunError.Litmus e) → IfSome (S.remaining source.old) (λ bytes. IsNoTest bytes e) }
     ensures bad_config { IsErrOf result RunError.BadConfig → IfSome (S.remaining source.old) (λ bytes. (test : Litmus) × IsTest bytes test × (is_good (config_of options.now test.threads) ≡ false)) }
     ensures nothing { IfErr result (λ e. e ≢ RunError.Write → sink.new ≡ sink.old) }
 {

@@ -1,5 +1,5 @@
 mod Found
-mod SeenNames
+pub mod SeenNames
 mod Sizes
 mod FoundAgain
 mod FaultParts

@@ -1,23 +1,26 @@
-use Rattle.std.proofs.Common.{◌≡◌, ℕ, ◌<◌, Bool, true, false, cond, List, [], ◌∷◌, length, Option, Some, None, IfSome, refl, sym, subst, arith}
+use Rattle.std.proofs.Common.{◌≡◌, ℕ, ◌<◌, Bool, true, false, cond, List, [], ◌∷◌, length, Option, Some, None, IfSome, refl, sym, ap, subst, ◌∙◌, arith}
 use Rattle.std.specs.List.{AllByRecursion, filter}
 use Rattle.std.proofs.lemmas.Bool.{ltb-true}
 use Rattle.std.proofs.lemmas.List.Sums.{length-filter}
 use Rattle.litmus_reader.specs.Litmus.{Litmus}
+use Rattle.litmus_reader.specs.Seen.{seen_in}
 use Rattle.litmus_reader.specs.Truth.{holds, value_of}
+use Rattle.litmus_reader.proofs.SeenNames.{truth-is}
 use Rattle.litmus_report.specs.Ends.{done_state, held, holds_in, is_held}
 use Rattle.run_ends.specs.declared.ends.End.{End}
 use Rattle.run_ends.specs.declared.ends.End.TheVariants.{AllDone, Stalled, TurnsUsed, Exhausted, NoMemory}
 use Rattle.run_ends.specs.declared.ends.RunEnd.{RunEnd}
-use Rattle.sequential_machine.specs.SequentialMachine.{IsOutcome}
+use Rattle.sequential_machine.specs.SequentialMachine.{State, Steps, IsOutcome, opening, value_at}
 use Rattle.report.specs.Outcomes.{HasOutcome}
 use Rattle.report.proofs.laws.a_yes_shows_an_outcome.Goals as goal
 
-module _ (test : Litmus) where
+module _ (test : Litmus) (seen : test.seen ≡ seen_in test.tree []) where
   abbrev Shows : Type 0
-  Shows = (values : List ℕ) × IsOutcome test values × (holds (value_of test.seen values) test.tree ≡ true)
+  Shows = (last : State) × Steps (opening test) last × ((t : ℕ) → t < test.threads → last.left t ≡ []) × (holds (value_at last) test.tree ≡ true)
 
   of_values : (state : Option (List ℕ)) (end : End) → IfSome state (IsOutcome test) → holds_in test (done_state end state) ≡ true → Shows
-  of_values (Some values) AllDone is h = (values, is, h)
+  of_values (Some values) AllDone is h =
+      (is.last, is.steps, is.finished, sym (truth-is (value_at is.last) test.seen test.tree seen) ∙ ap (λ vs. holds (value_of test.seen vs) test.tree) (sym is.values_are) ∙ h)
   of_values None AllDone is h = absurd cc
   of_values state Stalled is h = absurd cc
   of_values state TurnsUsed is h = absurd cc
@@ -33,4 +36,4 @@ module _ (test : Litmus) where
       by_test false h later = later (subst (λ b. 0 < length (cond b (run ∷ filter (is_held test) runs) (filter (is_held test) runs))) h some)
 
 pub returns : goal.returns
-returns c = λ test runs each yes_. first_held test runs each (subst (λ n. 0 < n) (sym (length-filter (is_held test) runs)) (ltb-true 0 (held test runs) yes_))
+returns c = λ text test runs is each yes_. first_held test is.seen runs each (subst (λ n. 0 < n) (sym (length-filter (is_held test) runs)) (ltb-true 0 (held test runs) yes_))

@@ -9,7 +9,8 @@ use Rattle.litmus_reader.specs.ThreadSteps.{Thread, settled, done_with}
 use Rattle.sequential_machine.specs.SequentialMachine.{State, cells_of, registers_opened, memory_opened, opening, with_at, Steps, none}
 use Rattle.sequential_machine.specs.Performed.{Performs}
 use Rattle.sequential_machine.proofs.Tables.{everywhere}
-use Rattle.sequential_machine.proofs.Stepping.{joined, StandsAt, settles, performs}
+use Rattle.sequential_machine.specs.Threads.{StandsAt}
+use Rattle.sequential_machine.proofs.Stepping.{joined, settles, performs}
 
 -- steps after which the memory is this one, and the first n threads stand so
 pub record Runs (n : ℕ) (s : State) (m : Memory) (threads : ℕ → Thread) : Type 0 where

@@ -1,5 +1,5 @@
 -- Steps of one thread: its instructions without memory, up to its next memory instruction, and a memory instruction.
-use Rattle.std.proofs.Common.{◌≡◌, ◌≢◌, ℕ, eqb, List, [], ◌∷◌, Option, Some, None, refl, sym, ap₂, ◌∙◌, subst}
+use Rattle.std.proofs.Common.{◌≡◌, ℕ, eqb, List, [], ◌∷◌, Option, Some, None, refl, sym, ap₂, ◌∙◌, subst}
 use Rattle.std.proofs.lemmas.Bool.{cond_both, cond-true, eqb-true, eq-eqb}
 use Rattle.physiological_order.specs.declared.operation.Op.{Op}
 use Rattle.physiological_order.specs.declared.operation.Op.TheVariants as op
@@ -8,32 +8,13 @@ use Rattle.litmus_parser.specs.declared.syntax.Cell.{Cell}
 use Rattle.litmus_parser.specs.declared.syntax.Instruction.{Instruction}
 use Rattle.litmus_parser.specs.declared.syntax.Instruction.TheVariants as does
 use Rattle.litmus_reader.specs.ThreadSteps.{Thread, value_in, after_local, goes_on, settled, operation_of, first_operation, next_of, received_by, behind_first, done_with}
+use Rattle.sequential_machine.specs.Threads.{Ready, StandsAt, Goes}
 use Rattle.sequential_machine.specs.SequentialMachine.{State, cells_of, memory_after, registers_after, after_one, next, Steps, none, more}
 use Rattle.sequential_machine.proofs.Tables.{here, elsewhere}
 
 pub joined : (s u v : State) → Steps s u → Steps u v → Steps s v
 joined s u v a none = a
 joined s u v a (more {u = w} b c) = more (joined s u w a b) c
-
--- the first of these is a memory instruction of the thread
-abbrev pub Ready : ℕ → List ℕ → List Cell → Type 0
-Ready t registers [] = Unit {0}
-Ready t registers (cell ∷ rest) = (cell.thread ≡ t) × (after_local cell.instruction registers ≡ None)
-
--- a thread of the machine stands where its next memory instruction comes next
-pub record StandsAt (s : State) (t : ℕ) (q : Thread) : Type 0 where
-  pub thread : q.thread ≡ t
-  pub registers : s.registers t ≡ q.registers
-  pub left : s.left t ≡ cells_of t q.rest
-  pub ready : Ready t q.registers q.rest
-
--- steps of one thread that come to this memory, and to where it stands so
-pub record Goes (s : State) (t : ℕ) (m : Memory) (q : Thread) : Type 0 where
-  pub end : State
-  pub steps : Steps s end
-  pub memory : end.memory ≡ m
-  pub others : (u : ℕ) → u ≢ t → (end.registers u ≡ s.registers u) × (end.left u ≡ s.left u)
-  pub stands : StandsAt end t q
 
 -- a step in front
 behind_one : (s : State) (t : ℕ) (cell : Cell) (rest : List Cell) (m : Memory) (q : Thread) → s.left t ≡ cell ∷ rest → Goes (after_one s t cell.instruction rest) t m q → Goes s t m q

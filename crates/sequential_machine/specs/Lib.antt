@@ -1,3 +1,4 @@
 pub mod SequentialMachine
 pub mod Performed
 pub mod Example
+pub mod Threads

@@ -1,15 +1,28 @@
 //! What legal histories of performed threads are: their proofs are their contracts, and their bodies are empty.
-ghost use Rattle.std.specs.Prelude.{◌≡◌, ◌<◌, ℕ, List, [], ◌∷◌, length, map, Some, slice_get};
+ghost use Rattle.std.specs.Prelude.{◌≡◌, ◌<◌, ℕ, List, [], ◌∷◌, length, map, None, Some, slice_get};
 ghost use Rattle.physiological_order.specs.declared.operation.Op.{Op};
 ghost use Rattle.physiological_order.specs.declared.operation.Record.{Record};
-ghost use Rattle.physiological_order.specs.Order.{Legal, Arrangement, replay_end};
+ghost use Rattle.physiological_order.specs.Order.{Legal, Arrangement, flat_after, flat_received, replay_end};
 ghost use Rattle.litmus_reader.specs.Litmus.{Litmus};
 ghost use Rattle.litmus_reader.specs.Grammar.{IsTest};
-ghost use Rattle.litmus_reader.specs.ThreadSteps.{Thread};
+ghost use Rattle.litmus_reader.specs.ThreadSteps.{Thread, done_with, next_of, settled};
 ghost use Rattle.litmus_reader.specs.Truth.{end_value};
-ghost use Rattle.sequential_machine.specs.SequentialMachine.{memory_opened, IsOutcome};
+ghost use Rattle.sequential_machine.specs.SequentialMachine.{State, cells_of, memory_opened, registers_opened, IsOutcome};
+ghost use Rattle.sequential_machine.specs.Threads.{Goes, StandsAt};
 ghost use Rattle.sequential_machine.specs.Performed.{ArePerformed};
 ghost use Rattle.sequential_machine.specs.Example.{store_buffering};
+
+/// A thread of a litmus test, taken as a program, is a thread of the machine. From where the test opens it, steps of its own
+/// come to where the program stands. The operation that the program gives next is that of the instruction which it does
+/// next; that step and further ones of its own come to where the program stands when it is told what memory gave. Where
+/// the program gives none, no instruction is left.
+pub fn programs_are_threads()
+    ensures opened { (test : Litmus) (s : State) (t : ℕ) → s.registers t ≡ registers_opened test t → s.left t ≡ cells_of t test.cells →
+        Goes s t s.memory (settled t (registers_opened test t) test.cells) }
+    ensures performed { (s : State) (t : ℕ) (program : Thread) (op : Op) → StandsAt s t program → next_of program ≡ Some op →
+        Goes s t (flat_after s.memory op) (done_with program (flat_received s.memory op)) }
+    ensures finished { (s : State) (t : ℕ) (program : Thread) → StandsAt s t program → next_of program ≡ None → s.left t ≡ [] }
+{}
 
 /// A legal history of a test in which each thread was performed to its end is a run of the sequential machine: the
 /// values that the test's names have in the end, with the memory that the records leave, one after the other in the

@@ -5,7 +5,7 @@ top=$(cd "$(dirname "$0")/.." && pwd)
 events=${1:-10000000}
 cores=${2:-2}
 words=${3:-64}
-(cd "$top/crates/machine_bench" && rt run -- 1000 "$cores" "$words" >/dev/null 2>&1)
+(cd "$top/crates/bench_machine" && rt run -- 1000 "$cores" "$words" >/dev/null 2>&1)
 for _ in 1 2 3; do
-    /usr/bin/time -f '%e s, %U s of processor, %M KB' "$top/crates/machine_bench/out/machine_bench" "$events" "$cores" "$words"
+    /usr/bin/time -f '%e s, %U s of processor, %M KB' "$top/crates/bench_machine/out/bench_machine" "$events" "$cores" "$words"
 done

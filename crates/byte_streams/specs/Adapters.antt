@@ -1,4 +1,4 @@
--- What stands behind a source or a sink, and how often it has failed.
+-- What is under a source or a sink, and how often it has failed.
 use Rattle.std.specs.Prelude.{ℕ}
 use Rattle.byte_streams.specs.declared.adapters.FromRead.{FromRead}
 use Rattle.byte_streams.specs.declared.adapters.ToWrite.{ToWrite}

@@ -7,7 +7,7 @@ abbrev pub ReadsAll : Option (List ℕ) → List ℕ → Type 0
 ReadsAll None bytes = Unit {0}
 ReadsAll (Some known) bytes = bytes ≡ known
 
--- some bytes came, and what remains is what stood behind them
+-- some bytes came, and what remains is what stood after them
 abbrev pub LosesSome : Option (List ℕ) → Option (List ℕ) → Type 0
 LosesSome old new = (came : List ℕ) × Loses old new came
 

@@ -49,7 +49,7 @@ pub struct ToWrite<W> {
 }
 
 impl<W> ToWrite<W> {
-    /// Bytes go behind what the writer holds, with no failure so far.
+    /// Bytes go after what the writer holds, with no failure so far.
     pub fn new(inner: W) -> ToWrite<W>
         ensures writer { writer_of result ≡ inner }
         ensures fresh { writes_failed result ≡ 0 }

@@ -9,6 +9,3 @@ mod whole;
 pub use adapters::{FromRead, ToWrite};
 pub use device::{DeviceError, Sink, Source};
 pub use whole::{ReadError, read_all, write_all};
-
-#[cfg(test)]
-mod tests;

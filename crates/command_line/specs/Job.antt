@@ -1,7 +1,8 @@
 -- What a job has of the words, and why words are refused.
-use Rattle.std.specs.Prelude.{◌≡◌, List, [], Some, codes}
-use Rattle.clap.specs.Words.{IsAmong, Row, Text, fault_of, first_of, kind_of, subcommand_of}
+use Rattle.std.specs.Prelude.{◌≡◌, ℕ, List, [], Some, codes}
+use Rattle.clap.specs.Words.{IsAmong, Row, Text, fault_of, first_of, subcommand_of}
 use Rattle.clap.specs.declared.builder.value_parser.ValueParser.{ValueParser}
+use Rattle.clap.specs.declared.error.kind.ErrorKind.{ErrorKind}
 use Rattle.command_line.specs.App.{IsRoundOnly, tardis_app}
 use Rattle.command_line.specs.Options.{Tells}
 use Rattle.command_line.specs.declared.words.Job.{Job}
@@ -9,15 +10,29 @@ use Rattle.command_line.specs.declared.words.Job.TheVariants.{Litmus}
 use Rattle.command_line.specs.declared.words.WordsError.{WordsError}
 use Rattle.command_line.specs.declared.words.WordsError.TheVariants.{NoMemory, Refused}
 
--- the options and the file are those that the words give
-abbrev pub Asks : List Row → Job → Type 0
-Asks rows (Litmus options file) = Tells rows options × ((path : Text) → first_of (codes "FILE") rows ≡ Some path → file.now ≡ path)
+-- the command, its options and its file are those that the words give
+abbrev pub Asks : Text → List Row → Job → Type 0
+Asks command rows (Litmus options file) =
+    (command ≡ codes "litmus")
+    × Tells rows options
+    × ((path : Text) → first_of (codes "FILE") rows ≡ Some path → file.now ≡ path)
 
 -- clap's rules find no fault in the words, which name the command that has the job's options and file
 abbrev pub IsAskedBy : List Text → Job → Type 0
-IsAskedBy words job = (p : ValueParser) × IsRoundOnly p × (fault_of (tardis_app p) words ≡ []) × (found : Text × List Row) × (subcommand_of (tardis_app p) words ≡ Some found) × Asks found.1 job
+IsAskedBy words job =
+    (p : ValueParser) × IsRoundOnly p × (fault_of (tardis_app p) words ≡ [])
+    × (found : Text × List Row) × (subcommand_of (tardis_app p) words ≡ Some found) × Asks found.0 found.1 job
 
--- words are refused only for a fault that clap's rules find in them, and the error has its kind
+-- clap's rules find a fault of this kind in the words
+abbrev pub IsFaulty : List Text → ErrorKind → Type 0
+IsFaulty words kind = (p : ValueParser) × IsRoundOnly p × IsAmong kind (fault_of (tardis_app p) words)
+
+-- words are refused only for a fault that clap's rules find in them
 abbrev pub IsRefusedFor : List Text → WordsError → Type 0
 IsRefusedFor words NoMemory = Unit {0}
-IsRefusedFor words (Refused error) = (p : ValueParser) × IsRoundOnly p × IsAmong (kind_of error) (fault_of (tardis_app p) words)
+IsRefusedFor words (Refused text) = (kind : ErrorKind) × IsFaulty words kind
+
+-- the numbers of the refusals
+abbrev pub words_number : WordsError → ℕ
+words_number (Refused text) = 1
+words_number NoMemory = 2

@@ -2,28 +2,28 @@
 use Rattle.std.specs.Prelude.{◌≡◌, ℕ, ◌≤◌, true, false, List, Some, codes}
 use Rattle.std.specs.Str.Parse.{IsNumeral, digits_value, without_leading_plus}
 use Rattle.clap.specs.Words.{Row, Text, one_of}
-use Rattle.command_line.specs.declared.options.LitmusOptions.{LitmusOptions}
+use Rattle.run_options.specs.declared.options.LitmusOptions.{LitmusOptions}
+use Rattle.run_options.specs.declared.options.MachineOptions.{MachineOptions}
+use Rattle.run_options.specs.declared.options.RunOptions.{RunOptions}
+use Rattle.run_options.specs.declared.options.Schedule.TheVariants.{Round}
 
--- the text is this number in decimal, with a plus in front or without one
+-- the text is this number in decimal, with a plus before it or without one
 abbrev pub Writes : Text → ℕ → Type 0
 Writes text n = IsNumeral 10 (without_leading_plus text) × (digits_value 10 (without_leading_plus text) ≡ n)
 
 -- the option's value lies between these, and is the number that was written wherever that does
 abbrev pub IsNumber : List Row → Text → ℕ → ℕ → ℕ → Type 0
 IsNumber rows name least most value =
-    (least ≤ value) × (value ≤ most) × ((text : Text) (n : ℕ) → one_of name rows ≡ Some text → Writes text n → least ≤ n → n ≤ most → value ≡ n)
+    (least ≤ value) × (value ≤ most)
+    × ((text : Text) (n : ℕ) → one_of name rows ≡ Some text → Writes text n → least ≤ n → n ≤ most → value ≡ n)
 
 abbrev pub IsAnyNumber : List Row → Text → ℕ → Type 0
 IsAnyNumber rows name value = IsNumber rows name 0 18446744073709551615 value
 
-abbrev pub Tells : List Row → LitmusOptions → Type 0
-Tells rows options =
-    IsNumber rows (codes "limit") 1 4294967295 options.limit
-    × IsNumber rows (codes "runs") 1 1000000 options.runs
-    × IsNumber rows (codes "workers") 1 16 options.workers
-    × (one_of (codes "private-write") rows ≡ Some (codes "true") → options.private_write ≡ true)
-    × (one_of (codes "private-write") rows ≡ Some (codes "false") → options.private_write ≡ false)
-    × IsAnyNumber rows (codes "lease") options.lease
+-- how the machine is built
+abbrev pub TellsMachine : List Row → MachineOptions → Type 0
+TellsMachine rows options =
+    IsAnyNumber rows (codes "lease") options.lease
     × IsAnyNumber rows (codes "time") options.time
     × IsAnyNumber rows (codes "banks") options.banks
     × IsAnyNumber rows (codes "sets") options.sets
@@ -32,3 +32,18 @@ Tells rows options =
     × IsAnyNumber rows (codes "bank-ways") options.bank_ways
     × IsAnyNumber rows (codes "line-words") options.line_words
     × IsAnyNumber rows (codes "messages") options.messages
+    × (one_of (codes "private-write") rows ≡ Some (codes "true") → options.private_write ≡ true)
+    × (one_of (codes "private-write") rows ≡ Some (codes "false") → options.private_write ≡ false)
+
+-- how a run goes; schedule round is the only one, and has no seed
+abbrev pub TellsRun : List Row → RunOptions → Type 0
+TellsRun rows options =
+    (options.schedule ≡ Round)
+    × (options.seed ≡ 0)
+    × IsNumber rows (codes "workers") 1 16 options.workers
+    × IsNumber rows (codes "limit") 1 4294967295 options.limit
+    × TellsMachine rows options.machine
+
+-- how often the test is run, and how
+abbrev pub Tells : List Row → LitmusOptions → Type 0
+Tells rows options = IsNumber rows (codes "runs") 1 1000000 options.runs × TellsRun rows options.run

@@ -89,8 +89,10 @@ fn private_write<'a>(alloc: Global) -> Arg<'a>
 /// A command with one more argument.
 fn with<'a>(command: Command<'a>, arg: Arg<'a>) -> Result<Command<'a>, AllocError>
     requires { arg.global ≡ false }
-    ensures app { IfOk result (λ c. app_of c ≡ with_rule (app_of command.entry) (rule_of arg.entry)) }
-    ensures globals { IfOk result (λ c. (fields_of c).has_globals ≡ (fields_of command.entry).has_globals) }
+    ensures app { IfOk result (λ c.
+        app_of c ≡ with_rule (app_of command.entry) (rule_of arg.entry)) }
+    ensures globals { IfOk result (λ c.
+        (fields_of c).has_globals ≡ (fields_of command.entry).has_globals) }
 {
     command.arg(arg)
 }
@@ -103,8 +105,10 @@ fn with_any<'a>(
     default: &'a str,
     help: &'a str,
 ) -> Result<Command<'a>, AllocError>
-    ensures app { IfOk result (λ c. app_of c ≡ with_rule (app_of command.entry) (number_rule name.entry.now default.entry.now any_number)) }
-    ensures globals { IfOk result (λ c. (fields_of c).has_globals ≡ (fields_of command.entry).has_globals) }
+    ensures app { IfOk result (λ c. app_of c
+        ≡ with_rule (app_of command.entry) (number_rule name.entry.now default.entry.now any_number)) }
+    ensures globals { IfOk result (λ c.
+        (fields_of c).has_globals ≡ (fields_of command.entry).has_globals) }
 {
     with(
         command,
@@ -114,8 +118,10 @@ fn with_any<'a>(
 
 /// A command with the options that say how often and in which order a test is run.
 fn with_run_options<'a>(command: Command<'a>, alloc: Global) -> Result<Command<'a>, AllocError>
-    ensures app { IfOk result (λ c. (p : _) × IsRoundOnly p × (app_of c ≡ with_rules (app_of command.entry) (run_rules p))) }
-    ensures globals { IfOk result (λ c. (fields_of c).has_globals ≡ (fields_of command.entry).has_globals) }
+    ensures app { IfOk result (λ c. (p : _) × IsRoundOnly p
+        × (app_of c ≡ with_rules (app_of command.entry) (run_rules p))) }
+    ensures globals { IfOk result (λ c.
+        (fields_of c).has_globals ≡ (fields_of command.entry).has_globals) }
 {
     let limit = value_parser!(u64).range(1..4294967296);
     let runs = value_parser!(u64).range(1..1000001);
@@ -130,7 +136,8 @@ fn with_run_options<'a>(command: Command<'a>, alloc: Global) -> Result<Command<'
 /// A command with the options that say how the machine is built.
 fn with_machine_options<'a>(command: Command<'a>, alloc: Global) -> Result<Command<'a>, AllocError>
     ensures app { IfOk result (λ c. app_of c ≡ with_rules (app_of command.entry) machine_rules) }
-    ensures globals { IfOk result (λ c. (fields_of c).has_globals ≡ (fields_of command.entry).has_globals) }
+    ensures globals { IfOk result (λ c.
+        (fields_of c).has_globals ≡ (fields_of command.entry).has_globals) }
 {
     let command = with_any(command, alloc, "lease", "10", LEASE)?;
     let command = with_any(command, alloc, "time", "0", TIME)?;

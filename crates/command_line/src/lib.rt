@@ -5,7 +5,6 @@ mod app;
 mod options;
 mod words;
 
-pub use options::{LitmusOptions, Schedule};
 pub use words::{Job, WordsError, read_words};
 
 #[cfg(test)]

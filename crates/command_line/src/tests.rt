@@ -1,6 +1,6 @@
 //! Command lines that are taken, with what they ask for, and command lines that are refused.
-use crate::{Job, LitmusOptions, Schedule, WordsError, read_words};
-use clap::error::ErrorKind;
+use crate::{Job, WordsError, read_words};
+use run_options::{LitmusOptions, MachineOptions, RunOptions, Schedule};
 use std::test::Fail;
 
 static PLAIN: [&str; 3] = ["tardis", "litmus", "sb.litmus"];
@@ -56,30 +56,13 @@ static REFUSED: [&[&str]; 17] = [
 
 static HELP: [&str; 3] = ["tardis", "litmus", "--help"];
 
-const DEFAULTS: LitmusOptions = LitmusOptions {
-    schedule: Schedule::Round,
-    limit: 100000,
-    runs: 1,
-    workers: 1,
-    private_write: false,
-    lease: 10,
-    time: 0,
-    banks: 1,
-    sets: 64,
-    ways: 4,
-    bank_sets: 256,
-    bank_ways: 8,
-    line_words: 1,
-    messages: 4096,
-};
-
 #[test]
 fn defaults(rt: HostRuntime) -> Result<(), Fail> {
     let job = read_words(rt.alloc(), PLAIN.as_slice())
         .ok()
         .ok_or("a job")?;
     let Job::Litmus(options, file) = job;
-    assert_eq!(rt; options, DEFAULTS);
+    assert_eq!(rt; options, LitmusOptions::DEFAULT);
     assert_eq!(rt; file, "sb.litmus");
     Ok(())
 }
@@ -89,20 +72,25 @@ fn all_options(rt: HostRuntime) -> Result<(), Fail> {
     let job = read_words(rt.alloc(), FULL.as_slice()).ok().ok_or("a job")?;
     let Job::Litmus(options, file) = job;
     let wanted = LitmusOptions {
-        schedule: Schedule::Round,
-        limit: 4294967295,
         runs: 1000000,
-        workers: 16,
-        private_write: true,
-        lease: 18446744073709551615,
-        time: 7,
-        banks: 2,
-        sets: 3,
-        ways: 5,
-        bank_sets: 6,
-        bank_ways: 9,
-        line_words: 8,
-        messages: 0,
+        run: RunOptions {
+            schedule: Schedule::Round,
+            seed: 0,
+            workers: 16,
+            limit: 4294967295,
+            machine: MachineOptions {
+                lease: 18446744073709551615,
+                time: 7,
+                banks: 2,
+                sets: 3,
+                ways: 5,
+                bank_sets: 6,
+                bank_ways: 9,
+                line_words: 8,
+                messages: 0,
+                private_write: true,
+            },
+        },
     };
     assert_eq!(rt; options, wanted);
     assert_eq!(rt; file, "mp.litmus");
@@ -113,18 +101,16 @@ fn all_options(rt: HostRuntime) -> Result<(), Fail> {
 fn refused(rt: HostRuntime) {
     for words in REFUSED.iter() {
         let is_refused =
-            matches!(read_words(rt.alloc(), words), Err(WordsError::Refused(error)) if error.use_stderr());
+            matches!(read_words(rt.alloc(), words), Err(WordsError::Refused(text)) if text.starts_with("error: "));
         assert!(rt; is_refused, "{words:?}");
     }
 }
 
 #[test]
 fn help_names_each_option(rt: HostRuntime) -> Result<(), Fail> {
-    let Err(WordsError::Refused(error)) = read_words(rt.alloc(), HELP.as_slice()) else {
+    let Err(WordsError::Refused(text)) = read_words(rt.alloc(), HELP.as_slice()) else {
         return Err(Fail::from("help is shown in place of a job"));
     };
-    assert_eq!(rt; error.kind(), ErrorKind::DisplayHelp);
-    let text = format!(in rt.alloc(); "{error}")?;
     for name in [
         "--schedule <schedule>",
         "--limit <limit>",
@@ -145,5 +131,16 @@ fn help_names_each_option(rt: HostRuntime) -> Result<(), Fail> {
     ] {
         assert!(rt; text.contains(name), "{name}");
     }
+    assert_eq!(rt; WordsError::Refused(text).number(), 1);
+    assert_eq!(rt; WordsError::NoMemory.number(), 2);
     Ok(())
+}
+
+#[test]
+fn help_is_no_job(rt: HostRuntime) {
+    for words in [&["tardis", "help"], &["tardis", "--help"]] {
+        let is_refused =
+            matches!(read_words(rt.alloc(), words.as_slice()), Err(WordsError::Refused(text)) if text.contains("Usage: tardis"));
+        assert!(rt; is_refused, "{words:?}");
+    }
 }

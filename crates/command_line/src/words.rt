@@ -1,12 +1,14 @@
 //! The words of a command line, and the job that they ask for.
 
-ghost use Rattle.std.specs.Prelude.{map, IfOk, IfErr};
-ghost use Rattle.command_line.specs.Job.{IsAskedBy, IsRefusedFor};
+ghost use Rattle.std.specs.Prelude.{◌≡◌, map, IfOk, IfErr, List};
+ghost use Rattle.clap.specs.Words.{Text, kind_of};
+ghost use Rattle.command_line.specs.Job.{IsAskedBy, IsFaulty, IsRefusedFor, words_number};
 
 use crate::app::command;
-use crate::options::{LitmusOptions, options_of};
+use crate::options::options_of;
 use clap::Error;
 use clap::error::ErrorKind;
+use run_options::LitmusOptions;
 use std::alloc::Global;
 
 /// What the words ask for.
@@ -19,10 +21,32 @@ pub enum Job<'a> {
 /// Why words are no job.
 #[derive(Debug, Drop)]
 pub enum WordsError {
-    /// The command line doesn't take the words, or they ask for help; the error has the text to show and the exit status.
-    Refused(Error),
+    /// The command line doesn't take the words, or they ask for help. This is the text to show, in whole lines.
+    Refused(String),
     /// Memory was refused.
     NoMemory,
+}
+
+impl WordsError {
+    /// Its number: 1 refused, 2 no memory.
+    pub fn number(&self) -> u8
+        ensures { result ≡ words_number self.now }
+    {
+        match self {
+            WordsError::Refused(_) => 1,
+            WordsError::NoMemory => 2,
+        }
+    }
+}
+
+/// The error with the text that clap shows.
+fn refused(alloc: Global, error: &Error) -> WordsError
+    ensures { (words : List Text) → IsFaulty words (kind_of error.now) → IsRefusedFor words result }
+{
+    match format!(in alloc; "{error}") {
+        Ok(text) => WordsError::Refused(text),
+        Err(_) => WordsError::NoMemory,
+    }
 }
 
 /// The command that the words name, with its options and its file. The first word is the program's own name.
@@ -36,7 +60,7 @@ pub fn read_words<'a>(alloc: Global, words: &'a [&'a str]) -> Result<Job<'a>, Wo
     let matches = match command.try_get_matches_from(words) {
         Ok(matches) => matches,
         Err(error) if error.kind() == ErrorKind::OutOfMemory => return Err(WordsError::NoMemory),
-        Err(error) => return Err(WordsError::Refused(error)),
+        Err(error) => return Err(refused(alloc, &error)),
     };
     let Some((_, inner)) = matches.subcommand() else {
         unreachable!()

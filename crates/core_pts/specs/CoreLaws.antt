@@ -1,5 +1,5 @@
 -- What every attempt and every recall keeps.
-use Rattle.std.specs.Prelude.{◌≡◌, ℕ, ◌<◌, ◌≤◌, ◌%◌, Bool, true, false, ◌&&◌, Option, Some, slice_index}
+use Rattle.std.specs.Prelude.{◌≡◌, ℕ, ◌<◌, ◌≤◌, ◌%◌, Bool, true, false, ◌&&◌, Option, Some, None, Ok, Err, ◌+◌, slice_index}
 use Rattle.physiological_order.specs.declared.operation.Op.{Op}
 use Rattle.physiological_order.specs.declared.operation.Op.TheVariants.{Load, Store, Swap}
 use Rattle.network.specs.declared.message.Node.{Node}
@@ -10,13 +10,16 @@ use Rattle.private_cache.specs.declared.line_copy.CopyState.TheVariants.{Shared,
 use Rattle.private_cache.specs.CopyTable.{copy_of}
 use Rattle.core_pts.specs.declared.attempt.Attempt.{Attempt}
 use Rattle.core_pts.specs.declared.attempt.Attempt.TheVariants.{Completed}
-use Rattle.core_pts.specs.CoreTable.{CoreState, line_of, pinned_line, attempt, core_table}
+use Rattle.core_pts.specs.declared.attempt.IssueError.TheVariants.{TooMany}
+use Rattle.core_pts.specs.CoreTable.{CoreState, line_of, pinned_line, attempt, core_table, issue}
 
 -- an attempt completes this operation on this copy: what it receives, its time, and the core afterwards
-pub record Completes (core : CoreState) (op : Op) (copy : LineCopy) (received : Option ℕ) (ts : ℕ) (after : CoreState) : Type 0 where
-  pub is_open : core.open_op ≡ Some op
-  pub is_there : copy_of core.cache (line_of core op) ≡ Some copy
-  pub answer : attempt core ≡ (Some (Completed received ts), after)
+pub record Completes
+    (core : CoreState) (op : Op) (copy : LineCopy) (received : Option ℕ) (ts : ℕ) (after : CoreState) : Type 0
+  where
+    pub is_open : core.open_op ≡ Some op
+    pub is_there : copy_of core.cache (line_of core op) ≡ Some copy
+    pub answer : attempt core ≡ (Some (Completed received ts), after)
 
 -- stores and swaps write their word
 abbrev pub is_write : Op → Bool
@@ -35,7 +38,9 @@ pub record HasCopy (core : CoreState) (received : Option ℕ) (ts : ℕ) (after 
   pub completes : Completes core op copy received ts after
 
 abbrev pub CompletesOnCopy : Type 0
-CompletesOnCopy = (core after : CoreState) (received : Option ℕ) (ts : ℕ) → attempt core ≡ (Some (Completed received ts), after) → HasCopy core received ts after
+CompletesOnCopy =
+    (core after : CoreState) (received : Option ℕ) (ts : ℕ) →
+    attempt core ≡ (Some (Completed received ts), after) → HasCopy core received ts after
 
 -- a load receives the copy's word, and so does a swap
 abbrev pub LoadReceivesWord : Type 0
@@ -104,6 +109,18 @@ WriteBackOfOpenLineHeld =
     (core : CoreState) (from to : Node) (line until : ℕ) → pinned_line core ≡ Some line →
     core_table core (record { from = from; to = to; line = line; body = WbReq until }) ≡ Some (Held, core)
 
+-- an idle core takes each operation up to number 4,294,967,295, and no other
+pub record IssuesUpToLast (core : CoreState) (op : Op) : Type 0 where
+  pub taken : core.issued < 4294967295 → (issue core op).0 ≡ Ok tt
+  pub opened : core.issued < 4294967295 → (issue core op).1.open_op ≡ Some op
+  pub counted : core.issued < 4294967295 → (issue core op).1.issued ≡ core.issued + 1
+  pub refused : 4294967295 ≤ core.issued → (issue core op).0 ≡ Err TooMany
+
+abbrev pub IdleCoreIssues : Type 0
+IdleCoreIssues = (core : CoreState) (op : Op) → core.open_op ≡ None → IssuesUpToLast core op
+
 -- an attempt that completes nothing changes nothing
 abbrev pub NothingCompletedKeeps : Type 0
-NothingCompletedKeeps = (core after : CoreState) (answer : Option Attempt) → attempt core ≡ (answer, after) → is_completed answer ≡ false → after ≡ core
+NothingCompletedKeeps =
+    (core after : CoreState) (answer : Option Attempt) →
+    attempt core ≡ (answer, after) → is_completed answer ≡ false → after ≡ core

@@ -14,6 +14,7 @@ use Rattle.line_sets.specs.SetTable.{Sets, empty_sets}
 use Rattle.private_cache.specs.declared.line_copy.LineCopy.{LineCopy}
 use Rattle.private_cache.specs.declared.cache.CacheError.{CacheError}
 use Rattle.private_cache.specs.declared.cache.Geometry.{Geometry}
+pub use Rattle.private_cache.specs.CopyTable.{is_pinned as is_on}
 use Rattle.private_cache.specs.CopyTable.{copy_of, place_for, with_used, with_changed, without_copy, evicted}
 use Rattle.timestamp_manager.specs.Lease.{fits}
 use Rattle.core_pts.specs.declared.config.CoreConfig.{CoreConfig}
@@ -21,7 +22,9 @@ use Rattle.core_pts.specs.declared.attempt.Attempt.{Attempt}
 use Rattle.core_pts.specs.declared.attempt.Attempt.TheVariants.{Completed, NeedShared, NeedExclusive, NoRoom, Waiting, Idle}
 use Rattle.core_pts.specs.declared.attempt.IssueError.{IssueError}
 use Rattle.core_pts.specs.declared.attempt.IssueError.TheVariants.{Busy, TooMany}
-use Rattle.core_pts.specs.OnCopy.{is_exclusive, serves, time_of, received_at, copy_after, words_of_copy, at_core, CoreReaction, Arrives, Grants, Returns, Drops, Holds, TooLate, NoCase}
+use Rattle.core_pts.specs.OnCopy.{is_exclusive, serves, time_of, received_at, copy_after, words_of_copy, at_core}
+use Rattle.core_pts.specs.declared.decision.CoreReaction.{CoreReaction}
+use Rattle.core_pts.specs.declared.decision.CoreReaction.TheVariants.{Arrives, Grants, Returns, Drops, Holds, TooLate, NoCase}
 
 pub record CoreState : Type 0 where
   -- its number, and the numbers that the machine was set up with
@@ -69,10 +72,6 @@ line_of_open core (Some op) = Some (line_of core op)
 abbrev pub pinned_line : CoreState → Option ℕ
 pinned_line core = line_of_open core core.open_op
 
-abbrev pub is_on : Option ℕ → ℕ → Bool
-is_on None line = false
-is_on (Some pinned) line = pinned == line
-
 -- a message of the core to the bank of a line
 abbrev pub to_bank : CoreState → ℕ → Body → Message
 to_bank core line body = record { from = Core core.number; to = Bank (line % core.banks); line = line; body = body }
@@ -80,7 +79,9 @@ to_bank core line body = record { from = Core core.number; to = Bank (line % cor
 -- an operation is issued
 abbrev pub issue_to : CoreState → Op → Option Op → Result (Unit {0}) IssueError × CoreState
 issue_to core op (Some other) = (Err Busy, core)
-issue_to core op None = if nat_lt core.issued (2 ^ 32 - 1) then (Ok tt, record core { open_op = Some op; issued = core.issued + 1 }) else (Err TooMany, core)
+issue_to core op None =
+    if nat_lt core.issued (2 ^ 32 - 1) then (Ok tt, record core { open_op = Some op; issued = core.issued + 1 })
+    else (Err TooMany, core)
 
 abbrev pub issue : CoreState → Op → Result (Unit {0}) IssueError × CoreState
 issue core op = issue_to core op core.open_op
@@ -91,17 +92,24 @@ need pts (Load a) version = NeedShared pts version
 need pts (Store a v) version = NeedExclusive version
 need pts (Swap a v) version = NeedExclusive version
 
--- the operation is completed at a time; nothing is answered where that doesn't fit: times are exhausted
+-- the operation is completed at a time; nothing is answered if that doesn't fit: times are exhausted
 abbrev pub completed_at : CoreState → Op → LineCopy → Option ℕ → Option Attempt × CoreState
 completed_at core op copy None = (None, core)
 completed_at core op copy (Some ts) = (
   Some (Completed (received_at (index_of core op) op copy) ts),
-  record core { pts = ts; open_op = None; is_out = false; cache = with_used core.cache (line_of core op) (copy_after (index_of core op) ts op copy) },
+  record core {
+    pts = ts;
+    open_op = None;
+    is_out = false;
+    cache = with_used core.cache (line_of core op) (copy_after (index_of core op) ts op copy);
+  },
 )
 
--- what is answered to an attempt where there is no copy, and where the copy doesn't serve the operation
+-- what is answered to an attempt if there is no copy, and if the copy doesn't serve the operation
 abbrev pub attempt_without : CoreState → Op → Attempt
-attempt_without core op = if core.is_out then Waiting else (if place_for core.cache (line_of core op) then need core.pts op None else NoRoom)
+attempt_without core op =
+    if core.is_out then Waiting
+    else (if place_for core.cache (line_of core op) then need core.pts op None else NoRoom)
 
 abbrev pub attempt_unserved : CoreState → Op → ℕ → Attempt
 attempt_unserved core op version = if core.is_out then Waiting else need core.pts op (Some version)
@@ -125,10 +133,13 @@ abbrev pub advance : CoreState → Option (Unit {0}) × CoreState
 advance core = if fits (core.pts + 1) then (Some tt, record core { pts = core.pts + 1 }) else (None, core)
 
 -- a copy is evicted: one that is owned is sent back
-abbrev pub sent_back : CoreState → ℕ → Result LineCopy CacheError × Sets LineCopy → Result (Option Message) CacheError × CoreState
+abbrev pub sent_back :
+    CoreState → ℕ → Result LineCopy CacheError × Sets LineCopy → Result (Option Message) CacheError × CoreState
 sent_back core line (Err e, cache) = (Err e, record core { cache = cache })
-sent_back core line (Ok copy, cache) =
-    (Ok (if is_exclusive copy.state then Some (to_bank core line (FlushRep (words_of_copy copy))) else None), record core { cache = cache })
+sent_back core line (Ok copy, cache) = (
+  Ok (if is_exclusive copy.state then Some (to_bank core line (FlushRep (words_of_copy copy))) else None),
+  record core { cache = cache },
+)
 
 abbrev pub evict : CoreState → ℕ → Result (Option Message) CacheError × CoreState
 evict core line = sent_back core line (evicted core.cache line (pinned_line core) (copy_of core.cache line))
@@ -140,17 +151,24 @@ kept_in core line (Some copy) = with_changed core.cache line copy
 
 -- what a delivered message makes of the core
 abbrev pub after_reaction : CoreState → ℕ → CoreReaction → Option (Reaction × CoreState)
-after_reaction core line (Arrives copy) = Some (Done None, record core { cache = with_used core.cache line copy; is_out = false })
-after_reaction core line (Grants copy) = Some (Done None, record core { cache = with_changed core.cache line copy; is_out = false })
-after_reaction core line (Returns kept sent) = Some (Done (Some (to_bank core line sent)), record core { cache = kept_in core line kept })
+after_reaction core line (Arrives copy) =
+    Some (Done None, record core { cache = with_used core.cache line copy; is_out = false })
+after_reaction core line (Grants copy) =
+    Some (Done None, record core { cache = with_changed core.cache line copy; is_out = false })
+after_reaction core line (Returns kept sent) =
+    Some (Done (Some (to_bank core line sent)), record core { cache = kept_in core line kept })
 after_reaction core line Drops = Some (Dropped, core)
 after_reaction core line Holds = Some (Held, core)
 after_reaction core line TooLate = None
 after_reaction core line NoCase = Some (Dropped, core)
 
+-- what the core decides at a message about a line
+abbrev pub decided : CoreState → ℕ → Body → CoreReaction
+decided core line body = at_core core.lease (is_on (pinned_line core) line) (copy_of core.cache line) body
+
 -- what a message about a line makes of the core
 abbrev pub after_body : CoreState → ℕ → Body → Option (Reaction × CoreState)
-after_body core line body = after_reaction core line (at_core core.lease (is_on (pinned_line core) line) (copy_of core.cache line) body)
+after_body core line body = after_reaction core line (decided core line body)
 
 abbrev pub core_table : CoreState → Message → Option (Reaction × CoreState)
 core_table core m = after_body core m.line m.body

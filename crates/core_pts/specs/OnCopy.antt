@@ -8,6 +8,8 @@ use Rattle.network.specs.declared.message.Body.TheVariants.{ShReq, ExReq, ShRep,
 use Rattle.private_cache.specs.declared.line_copy.LineCopy.{LineCopy}
 use Rattle.private_cache.specs.declared.line_copy.CopyState.{CopyState}
 use Rattle.private_cache.specs.declared.line_copy.CopyState.TheVariants.{Shared, Exclusive}
+use Rattle.core_pts.specs.declared.decision.CoreReaction.{CoreReaction}
+use Rattle.core_pts.specs.declared.decision.CoreReaction.TheVariants.{Arrives, Grants, Returns, Drops, Holds, TooLate, NoCase}
 use Rattle.private_cache.specs.CopyTable.{arrived, renewed, upgraded, downgraded}
 use Rattle.timestamp_manager.specs.Lease.{fits, returned_lease}
 
@@ -23,10 +25,11 @@ serves (Store a v) pts copy = is_exclusive copy.state
 serves (Swap a v) pts copy = is_exclusive copy.state
 
 -- the time of a store or swap: after all that may have read the old words; under private writes a core that wrote the
--- words itself needs no later time. Nothing where the sum doesn't fit
+-- words itself needs no later time. Nothing if the sum doesn't fit
 abbrev pub write_time : Bool → ℕ → LineCopy → Option ℕ
 write_time private_write pts copy =
-    if private_write && copy.written then Some (max pts copy.rts) else (if fits (copy.rts + 1) then Some (max pts (copy.rts + 1)) else None)
+    if private_write && copy.written then Some (max pts copy.rts)
+    else (if fits (copy.rts + 1) then Some (max pts (copy.rts + 1)) else None)
 
 -- the time of an operation that a copy serves
 abbrev pub time_of : Bool → ℕ → Op → LineCopy → Option ℕ
@@ -34,7 +37,7 @@ time_of private_write pts (Load a) copy = Some (max pts copy.wts)
 time_of private_write pts (Store a v) copy = write_time private_write pts copy
 time_of private_write pts (Swap a v) copy = write_time private_write pts copy
 
--- what an operation receives, where its word stands at this index of the line
+-- what an operation receives, if its word is at this index of the line
 abbrev pub received_at : ℕ → Op → LineCopy → Option ℕ
 received_at index (Load a) copy = Some (slice_index copy.words index)
 received_at index (Store a v) copy = None
@@ -54,24 +57,11 @@ copy_after index ts (Load a) copy = read_at ts copy
 copy_after index ts (Store a v) copy = written_at index ts v copy
 copy_after index ts (Swap a v) copy = written_at index ts v copy
 
--- what a core does at a message
-pub data CoreReaction : Type 0 where
-  -- a reply brings this copy, which becomes the most recently used; no request is out
-  Arrives : (copy : LineCopy) → CoreReaction
-  -- a reply changes the copy into this one; no request is out
-  Grants : (copy : LineCopy) → CoreReaction
-  -- the line goes back, and this copy stays, if any
-  Returns : (kept : Option LineCopy) (sent : Body) → CoreReaction
-  Drops : CoreReaction
-  Holds : CoreReaction
-  -- a sum of times doesn't fit
-  TooLate : CoreReaction
-  -- the table has no case
-  NoCase : CoreReaction
-
+-- a copy's words and times
 abbrev pub words_of_copy : LineCopy → TimedLine
 words_of_copy copy = record { wts = copy.wts; rts = copy.rts; words = copy.words }
 
+-- a reply changes the copy that is there
 abbrev pub with_copy : (LineCopy → LineCopy) → Option LineCopy → CoreReaction
 with_copy change None = NoCase
 with_copy change (Some copy) = Grants (change copy)
@@ -88,7 +78,8 @@ returned copy (Some rts) = Returns (Some (downgraded rts copy)) (WbRep (words_of
 
 abbrev pub written_back : ℕ → ℕ → Option LineCopy → CoreReaction
 written_back lease until None = Drops
-written_back lease until (Some copy) = if is_exclusive copy.state then returned copy (returned_lease copy.wts copy.rts until lease) else Drops
+written_back lease until (Some copy) =
+    if is_exclusive copy.state then returned copy (returned_lease copy.wts copy.rts until lease) else Drops
 
 -- a message at a core, by whether the open operation is on its line, and the copy of the line
 abbrev pub at_core : ℕ → Bool → Option LineCopy → Body → CoreReaction
@@ -106,3 +97,10 @@ at_core lease is_open copy DramLd = NoCase
 at_core lease is_open copy (DramLdRep words) = NoCase
 at_core lease is_open copy (DramSt words) = NoCase
 at_core lease is_open copy DramStRep = NoCase
+
+-- what a reaction writes has a place: a copy that arrives has a place in its set, and one that is changed is there
+abbrev pub finds_place : (there place : Bool) → CoreReaction → Bool
+finds_place there place (Arrives copy) = place
+finds_place there place (Grants copy) = there
+finds_place there place (Returns kept sent) = there
+finds_place there place _ = true

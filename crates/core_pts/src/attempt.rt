@@ -3,12 +3,12 @@
 /// What an attempt answers.
 #[derive(Clone, Copy, Debug, PartialEq, Eq)]
 pub enum Attempt {
-    /// The operation is completed: what it received, `None` for a store alone, and its time.
-    Completed { received: Option<u64>, ts: u64 },
+    /// The operation is completed: what it received, `None` for a store alone, and its timestamp.
+    Completed(Option<u64>, u64),
     /// A request to read is needed, with the core's time and the version of its copy, if it has one.
-    NeedShared { pts: u64, version: Option<u64> },
+    NeedShared(u64, Option<u64>),
     /// A request to own the line is needed, with the version of the core's copy, if it has one.
-    NeedExclusive { version: Option<u64> },
+    NeedExclusive(Option<u64>),
     /// A request is needed, but there is no copy of the line and its set is full.
     NoRoom,
     /// A request is out.
@@ -24,4 +24,19 @@ pub enum IssueError {
     Busy,
     /// 2: the core was issued 4,294,967,295 operations.
     TooMany,
+}
+
+impl IssueError {
+    ghost use Rattle.std.specs.Prelude.{◌≡◌};
+
+    /// The error's number.
+    pub fn number(&self) -> u32
+        ensures busy { self.now ≡ IssueError.Busy → result ≡ 1 }
+        ensures too_many { self.now ≡ IssueError.TooMany → result ≡ 2 }
+    {
+        match self {
+            IssueError::Busy => 1,
+            IssueError::TooMany => 2,
+        }
+    }
 }

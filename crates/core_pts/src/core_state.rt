@@ -35,7 +35,18 @@ impl Model for Core {
 
     ghost Value = { CoreState };
 
-    ghost view = { λ a. record { number = a.config.number; banks = a.config.banks; line_words = a.config.line_words; lease = a.config.lease; private_write = a.config.private_write; pts = a.pts; cache = a.cache; open_op = a.open_op; is_out = a.is_out; issued = a.issued } };
+    ghost view = { λ a. record {
+      number = a.config.number;
+      banks = a.config.banks;
+      line_words = a.config.line_words;
+      lease = a.config.lease;
+      private_write = a.config.private_write;
+      pts = a.pts;
+      cache = a.cache;
+      open_op = a.open_op;
+      is_out = a.is_out;
+      issued = a.issued;
+    } };
 
     ghost invariant = { λ a. IsSetUp a.config.banks a.config.line_words };
 }
@@ -98,7 +109,7 @@ impl Core {
         self.cache.find(line)
     }
 
-    /// The copy to evict to make room for a line: the least recently used one of its set, exactly where there is no
+    /// The copy to evict to make room for a line: the least recently used one of its set, exactly when there is no
     /// place for the line.
     pub fn victim(&self, line: LineNo) -> Option<LineNo>
         ensures line { result ≡ victim_for self.now.cache line }
@@ -111,7 +122,8 @@ impl Core {
 
     /// The lines of all copies, rising.
     pub fn lines(&self) -> Result<Vec<LineNo>, AllocError>
-        ensures lines { IfOk result (λ lines. IsPermutation (all_listed (λ _. true) self.now.cache.sets) lines.items) }
+        ensures lines { IfOk result (λ lines. IsPermutation (all_listed (λ _. true) self.now.cache.sets)
+            lines.items) }
         ensures rising { IfOk result (λ lines. IsSorted nat_cmp lines.items) }
     {
         self.cache.lines()
@@ -181,14 +193,11 @@ impl Core {
     pub(crate) fn is_pinned(&self, line: LineNo) -> bool
         ensures { result ≡ is_on (pinned_line self.now) line }
     {
-        match self.pinned_line() {
-            Some(pinned) => pinned == line,
-            None => false,
-        }
+        self.pinned_line() == Some(line)
     }
 
-    /// Opens an operation. An error leaves the core as it was: Busy exactly where an operation is open, else TooMany
-    /// exactly where the core was issued 4,294,967,295 operations.
+    /// Opens an operation. On an error the core is unchanged: Busy exactly when an operation is open, else TooMany
+    /// exactly when the core was issued 4,294,967,295 operations.
     pub fn issue(&mut self, op: Op) -> Result<(), IssueError>
         ensures { (result, self.new) ≡ issue self.old op }
     {
@@ -203,8 +212,8 @@ impl Core {
         Ok(())
     }
 
-    /// Attempts to complete the open operation. Each answer but Completed leaves the core as it was. Exhausted, which
-    /// leaves it too, exactly where the operation's time would be a sum that does not fit.
+    /// Attempts to complete the open operation. The core is unchanged unless the answer is Completed. Exhausted
+    /// exactly when the operation's time would be a sum that does not fit.
     pub fn attempt(&mut self) -> Result<Attempt, Exhausted>
         ensures { (result_ok result, self.new) ≡ attempt self.old }
     {
@@ -260,7 +269,7 @@ impl Core {
         self.pts = ts;
         self.open_op = None;
         self.is_out = false;
-        Attempt::Completed { received, ts }
+        Attempt::Completed(received, ts)
     }
 
     /// Marks the request of the open operation out.
@@ -270,7 +279,8 @@ impl Core {
         self.is_out = true;
     }
 
-    /// Raises the core's time by 1. Exhausted, which leaves the core as it was, exactly where that does not fit.
+    /// Raises the core's time by 1. Exhausted exactly when that does not fit; the core is then
+    /// unchanged.
     pub fn advance(&mut self) -> Result<(), Exhausted>
         ensures { (result_ok result, self.new) ≡ advance self.old }
     {
@@ -281,8 +291,8 @@ impl Core {
         Ok(())
     }
 
-    /// Takes out the copy of a line; a copy that the core owns is sent back by the message that is given. An error
-    /// leaves the core as it was: NotHere exactly where there is no copy, else Pinned exactly where the open operation
+    /// Takes out the copy of a line; a copy that the core owns is sent back by the message that is given. On an error
+    /// the core is unchanged: NotHere exactly when there is no copy, else Pinned exactly when the open operation
     /// is on the line. NoRoom is never answered.
     pub fn evict(&mut self, line: LineNo) -> Result<Option<Message>, CacheError>
         ensures result { (result, self.new) ≡ evict self.old line }
@@ -313,8 +323,8 @@ fn need(pts: u64, op: &Op, version: Option<u64>) -> Attempt
     ensures { result ≡ need pts op.now version }
 {
     match *op {
-        Op::Load(_) => Attempt::NeedShared { pts, version },
-        Op::Store(_, _) => Attempt::NeedExclusive { version },
-        Op::Swap(_, _) => Attempt::NeedExclusive { version },
+        Op::Load(_) => Attempt::NeedShared(pts, version),
+        Op::Store(_, _) => Attempt::NeedExclusive(version),
+        Op::Swap(_, _) => Attempt::NeedExclusive(version),
     }
 }

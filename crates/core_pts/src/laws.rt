@@ -1,5 +1,5 @@
 //! Laws of a core's table. The functions do nothing: their contracts are the laws.
-ghost use Rattle.core_pts.specs.CoreLaws.{CompletesOnCopy, FlushOfOpenLineHeld, LoadReceivesWord, NothingCompletedKeeps, PrivateWriteNotBefore, SharedReadInLease, SwapReceivesWord, TimeNeverFalls, WriteAfterReaders, WriteBackOfOpenLineHeld, WritesOwnedCopy};
+ghost use Rattle.core_pts.specs.CoreLaws.{CompletesOnCopy, FlushOfOpenLineHeld, IdleCoreIssues, LoadReceivesWord, NothingCompletedKeeps, PrivateWriteNotBefore, SharedReadInLease, SwapReceivesWord, TimeNeverFalls, WriteAfterReaders, WriteBackOfOpenLineHeld, WritesOwnedCopy};
 
 /// An attempt completes only the open operation, and only on a copy of its line; a load receives the copy's word, and
 /// so does a swap.
@@ -28,6 +28,11 @@ pub fn time_never_falls()
 pub fn open_line_stays()
     ensures flushes { FlushOfOpenLineHeld }
     ensures write_backs { WriteBackOfOpenLineHeld }
+{}
+
+/// A core without an open operation takes one, unless it was issued 4,294,967,295.
+pub fn idle_core_issues()
+    ensures { IdleCoreIssues }
 {}
 
 /// An attempt that completes nothing changes nothing.

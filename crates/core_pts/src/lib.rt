@@ -4,6 +4,7 @@
 pub mod attempt;
 pub mod config;
 pub mod core_state;
+pub mod decision;
 mod deliver;
 pub mod laws;
 mod on_copy;
@@ -14,6 +15,6 @@ pub use attempt::{Attempt, IssueError};
 pub use config::CoreConfig;
 pub use core_state::Core;
 pub use laws::{
-    completed_on_a_copy, nothing_completed_keeps, open_line_stays, time_never_falls,
-    writes_come_after_reads,
+    completed_on_a_copy, idle_core_issues, nothing_completed_keeps, open_line_stays,
+    time_never_falls, writes_come_after_reads,
 };

@@ -1,6 +1,5 @@
 //! What an operation does with a copy of its line: whether the copy serves it, when, and what is left.
 ghost use Rattle.std.specs.Prelude.{◌≡◌, ◌<◌};
-ghost use Rattle.private_cache.specs.CopyTable.{downgraded};
 ghost use Rattle.core_pts.specs.OnCopy.{copy_after, is_exclusive, read_at, received_at, serves, time_of, words_of_copy, write_time, written_at};
 
 use network::TimedLine;
@@ -28,7 +27,7 @@ pub(crate) fn serves(op: &Op, pts: u64, copy: &LineCopy) -> bool
     }
 }
 
-// The time of a store or swap, or nothing where it doesn't fit.
+// The time of a store or swap, or nothing if it doesn't fit.
 fn write_time(private_write: bool, pts: u64, copy: &LineCopy) -> Option<u64>
     ensures { result ≡ write_time private_write pts copy.now }
 {
@@ -41,7 +40,7 @@ fn write_time(private_write: bool, pts: u64, copy: &LineCopy) -> Option<u64>
     }
 }
 
-// The time of an operation that a copy serves, or nothing where it doesn't fit.
+// The time of an operation that a copy serves, or nothing if it doesn't fit.
 pub(crate) fn time_of(private_write: bool, pts: u64, op: &Op, copy: &LineCopy) -> Option<u64>
     ensures { result ≡ time_of private_write pts op.now copy.now }
 {
@@ -52,7 +51,7 @@ pub(crate) fn time_of(private_write: bool, pts: u64, op: &Op, copy: &LineCopy) -
     }
 }
 
-// What an operation receives, where its word stands at this index of the line.
+// What an operation receives, if its word is at this index of the line.
 pub(crate) fn received_at(index: usize, op: &Op, copy: &LineCopy) -> Option<u64>
     requires { index < 8 }
     ensures { result ≡ received_at index op.now copy.now }
@@ -113,18 +112,5 @@ pub(crate) fn words_of_copy(copy: &LineCopy) -> TimedLine
         wts: copy.wts,
         rts: copy.rts,
         words: copy.words,
-    }
-}
-
-// A copy that its core gives back and keeps reading up to a time.
-pub(crate) fn downgraded(rts: u64, copy: &LineCopy) -> LineCopy
-    ensures { result ≡ downgraded rts copy.now }
-{
-    LineCopy {
-        state: CopyState::Shared,
-        wts: copy.wts,
-        rts,
-        words: copy.words,
-        written: false,
     }
 }

@@ -4,8 +4,8 @@ ghost use Rattle.core_pts.specs.CoreTable.{core_has_case, is_shared_copy, waits_
 ghost use Rattle.private_cache.specs.CopyTable.{copy_of};
 
 use crate::laws::{
-    completed_on_a_copy, nothing_completed_keeps, open_line_stays, time_never_falls,
-    writes_come_after_reads,
+    completed_on_a_copy, idle_core_issues, nothing_completed_keeps, open_line_stays,
+    time_never_falls, writes_come_after_reads,
 };
 use crate::{Attempt, Core, CoreConfig, IssueError};
 use network::{Body, LineNo, Message, Node, Part, PartError, Reaction, TimedLine, Words};
@@ -19,6 +19,8 @@ use timestamp_manager::Exhausted;
 const X: LineNo = LineNo(0);
 
 const Y: LineNo = LineNo(1);
+
+const Z: LineNo = LineNo(2);
 
 fn word(number: u64) -> WordAddr {
     WordAddr::at(number % 64)
@@ -107,7 +109,7 @@ fn has_case(core: &Core, message: &Message) -> bool
 {
     let line = message.line;
     let this = core.to_bank(line, Body::FlushReq).from;
-    if !message.to.is_same(this) {
+    if message.to != this {
         return false;
     }
     match message.body {
@@ -121,27 +123,27 @@ fn has_case(core: &Core, message: &Message) -> bool
 
 // What core 0 would send at a message of bank 0, and what it does with it.
 #[derive(Clone, Copy, Debug, PartialEq, Eq)]
-struct Outcome {
+struct Handed {
     sends: Option<(Node, bool)>,
     answer: Result<Reaction, PartError>,
 }
 
-const CONSUMED: Outcome = Outcome {
+const CONSUMED: Handed = Handed {
     sends: None,
     answer: Ok(Reaction::Done(None)),
 };
 
-const DROPPED: Outcome = Outcome {
+const DROPPED: Handed = Handed {
     sends: None,
     answer: Ok(Reaction::Dropped),
 };
 
-const HELD: Outcome = Outcome {
+const HELD: Handed = Handed {
     sends: None,
     answer: Ok(Reaction::Held),
 };
 
-const EXHAUSTED: Outcome = Outcome {
+const EXHAUSTED: Handed = Handed {
     sends: None,
     answer: Err(PartError::Exhausted),
 };
@@ -157,23 +159,23 @@ fn from_core(body: Body) -> Message {
 }
 
 // Line x goes back by this message.
-fn returned(body: Body) -> Outcome {
-    Outcome {
+fn returned(body: Body) -> Handed {
+    Handed {
         sends: Some((Node::Bank(0), false)),
         answer: Ok(Reaction::Done(Some(from_core(body)))),
     }
 }
 
-// Hands core 0 a message of bank 0 about line x.
-fn hand<R: Abort>(rt: &R, core: &mut Core, body: Body) -> Outcome {
+// Hands core 0 a message of bank 0.
+fn hand<R: Abort>(rt: &R, core: &mut Core, line: LineNo, body: Body) -> Handed {
     let message = Message {
         from: Node::Bank(0),
         to: Node::Core(0),
-        line: X,
+        line,
         body,
     };
     assert!(rt; has_case(core, &message));
-    Outcome {
+    Handed {
         sends: core.sends(&message),
         answer: core.deliver(&message),
     }
@@ -185,11 +187,15 @@ enum Step {
     Issue(Op, Result<(), IssueError>),
     Attempt(Result<Attempt, Exhausted>),
     Requested,
-    Hand(Body, Outcome),
+    // A message about line x, and one about line y that is consumed.
+    Hand(Body, Handed),
+    HandY(Body),
     Advance(Result<(), Exhausted>),
     Evict(LineNo, Result<Option<Message>, CacheError>),
     OpenOp(Option<(Op, bool)>),
     CopyOfX(Option<LineCopy>),
+    // The copy to evict for line z.
+    VictimForZ(Option<LineNo>),
 }
 
 fn make<R: Abort>(rt: &R, core: &mut Core, step: Step) {
@@ -197,11 +203,13 @@ fn make<R: Abort>(rt: &R, core: &mut Core, step: Step) {
         Step::Issue(op, wanted) => assert_eq!(rt; core.issue(op), wanted),
         Step::Attempt(wanted) => assert_eq!(rt; core.attempt(), wanted),
         Step::Requested => core.requested(),
-        Step::Hand(body, wanted) => assert_eq!(rt; hand(rt, core, body), wanted),
+        Step::Hand(body, wanted) => assert_eq!(rt; hand(rt, core, X, body), wanted),
+        Step::HandY(body) => assert_eq!(rt; hand(rt, core, Y, body), CONSUMED),
         Step::Advance(wanted) => assert_eq!(rt; core.advance(), wanted),
         Step::Evict(line, wanted) => assert_eq!(rt; core.evict(line), wanted),
         Step::OpenOp(wanted) => assert_eq!(rt; core.open_op(), wanted),
         Step::CopyOfX(wanted) => assert_eq!(rt; core.copy(X).copied(), wanted),
+        Step::VictimForZ(wanted) => assert_eq!(rt; core.victim(Z), wanted),
     }
 }
 
@@ -220,22 +228,19 @@ fn answered(attempt: Attempt) -> Step {
 }
 
 fn needs_read(pts: u64, version: Option<u64>) -> Step {
-    answered(Attempt::NeedShared { pts, version })
+    answered(Attempt::NeedShared(pts, version))
 }
 
 fn needs_owning(version: Option<u64>) -> Step {
-    answered(Attempt::NeedExclusive { version })
+    answered(Attempt::NeedExclusive(version))
 }
 
 fn loaded(value: u64, ts: u64) -> Step {
-    answered(Attempt::Completed {
-        received: Some(value),
-        ts,
-    })
+    answered(Attempt::Completed(Some(value), ts))
 }
 
 fn stored(ts: u64) -> Step {
-    answered(Attempt::Completed { received: None, ts })
+    answered(Attempt::Completed(None, ts))
 }
 
 fn consumed(body: Body) -> Step {
@@ -315,6 +320,109 @@ fn a_hit_past_the_lease(rt: HostRuntime) -> Result<(), Fail> {
     Ok(())
 }
 
+// A load at the time of the words' version, if that is later than the core's; a store at the core's time, if that is
+// later than the end of the lease; and an owner's load, which leases the copy up to its time.
+#[test]
+fn times_of_operations(rt: HostRuntime) -> Result<(), Fail> {
+    let mut core = core_of(rt.alloc(), 2, false, 4)?;
+    load_shared(&rt, &mut core, 5, 9);
+    make_all(&rt, &mut core, &[Step::Advance(Ok(())); 8]);
+    let steps = [
+        issued(store_x(4)),
+        needs_owning(Some(5)),
+        Step::Requested,
+        consumed(Body::UpgradeRep { rts: 9 }),
+        stored(13),
+        Step::Advance(Ok(())),
+        Step::Advance(Ok(())),
+        issued(load_x()),
+        loaded(4, 15),
+        Step::CopyOfX(Some(copy(CopyState::Exclusive, 13, 15, 4, true))),
+        issued(store_x(6)),
+        stored(16),
+    ];
+    make_all(&rt, &mut core, &steps);
+    Ok(())
+}
+
+// A core whose set has two ways loads x, leased up to 10, and then y.
+fn load_two_lines<R: Abort>(rt: &R, core: &mut Core) {
+    load_shared(rt, core, 0, 10);
+    let steps = [
+        Step::VictimForZ(None),
+        issued(Op::Load(word(1))),
+        Step::Requested,
+        Step::HandY(Body::ShRep(timed(0, 40, 0))),
+        Step::VictimForZ(Some(X)),
+        loaded(0, 0),
+        Step::VictimForZ(Some(X)),
+    ];
+    make_all(rt, core, &steps);
+}
+
+// A renewal is no use of the copy, and the load that it serves is one.
+#[test]
+fn a_renewed_copy_in_the_order_of_use(rt: HostRuntime) -> Result<(), Fail> {
+    let mut core = core_of(rt.alloc(), 0, false, 2)?;
+    load_two_lines(&rt, &mut core);
+    make_all(&rt, &mut core, &[Step::Advance(Ok(())); 11]);
+    let steps = [
+        issued(load_x()),
+        needs_read(11, Some(0)),
+        Step::Requested,
+        consumed(Body::RenewRep { rts: 21 }),
+        Step::VictimForZ(Some(X)),
+        loaded(0, 11),
+        Step::VictimForZ(Some(Y)),
+    ];
+    make_all(&rt, &mut core, &steps);
+    Ok(())
+}
+
+// Neither a grant of the copy nor a write back is a use of it, and the store between them is one.
+#[test]
+fn an_upgraded_copy_in_the_order_of_use(rt: HostRuntime) -> Result<(), Fail> {
+    let mut core = core_of(rt.alloc(), 0, false, 2)?;
+    load_two_lines(&rt, &mut core);
+    let steps = [
+        issued(store_x(7)),
+        needs_owning(Some(0)),
+        Step::Requested,
+        consumed(Body::UpgradeRep { rts: 10 }),
+        Step::VictimForZ(Some(X)),
+        stored(11),
+        Step::VictimForZ(Some(Y)),
+        issued(Op::Load(word(1))),
+        loaded(0, 11),
+        Step::VictimForZ(Some(X)),
+        Step::Hand(
+            Body::WbReq { rts: 5 },
+            returned(Body::WbRep(timed(11, 21, 7))),
+        ),
+        Step::VictimForZ(Some(X)),
+    ];
+    make_all(&rt, &mut core, &steps);
+    Ok(())
+}
+
+// Other words of a line that is there arrive, which is a use.
+#[test]
+fn an_arrival_in_the_order_of_use(rt: HostRuntime) -> Result<(), Fail> {
+    let mut core = core_of(rt.alloc(), 0, false, 2)?;
+    load_two_lines(&rt, &mut core);
+    make_all(&rt, &mut core, &[Step::Advance(Ok(())); 11]);
+    let steps = [
+        issued(load_x()),
+        Step::Requested,
+        consumed(Body::ShRep(timed(12, 22, 9))),
+        Step::VictimForZ(Some(Y)),
+        Step::CopyOfX(Some(copy(CopyState::Shared, 12, 22, 9, false))),
+        loaded(9, 12),
+    ];
+    make_all(&rt, &mut core, &steps);
+    Ok(())
+}
+
 #[test]
 fn recalls(rt: HostRuntime) -> Result<(), Fail> {
     let mut core = core_of(rt.alloc(), 10, false, 4)?;
@@ -337,10 +445,10 @@ fn recalls(rt: HostRuntime) -> Result<(), Fail> {
 fn a_write_back(rt: HostRuntime) -> Result<(), Fail> {
     let mut core = core_of(rt.alloc(), 10, false, 4)?;
     store_owned(&rt, &mut core, 10, 11, 7);
-    let back = returned(Body::WbRep(timed(11, 21, 7)));
+    let back = returned(Body::WbRep(timed(11, 24, 7)));
     let steps = [
-        Step::Hand(Body::WbReq { rts: 21 }, back),
-        Step::CopyOfX(Some(copy(CopyState::Shared, 11, 21, 7, false))),
+        Step::Hand(Body::WbReq { rts: 24 }, back),
+        Step::CopyOfX(Some(copy(CopyState::Shared, 11, 24, 7, false))),
     ];
     make_all(&rt, &mut core, &steps);
     Ok(())
@@ -379,6 +487,8 @@ fn a_full_set(rt: HostRuntime) -> Result<(), Fail> {
         Step::Evict(Y, Err(CacheError::NotHere)),
         Step::Evict(X, Ok(None)),
         needs_read(0, None),
+        Step::Requested,
+        answered(Attempt::Waiting),
     ];
     make_all(&rt, &mut core, &steps);
     Ok(())
@@ -401,9 +511,9 @@ fn an_eviction_of_an_owned_line(rt: HostRuntime) -> Result<(), Fail> {
 
 #[test]
 fn the_last_times(rt: HostRuntime) -> Result<(), Fail> {
-    let opening = 18446744073709551605;
-    let mut core = core_of(rt.alloc(), opening, false, 4)?;
-    load_shared(&rt, &mut core, opening, u64::MAX);
+    let late = 18446744073709551605;
+    let mut core = core_of(rt.alloc(), late, false, 4)?;
+    load_shared(&rt, &mut core, late, u64::MAX);
     let steps = [
         issued(store_x(1)),
         Step::Requested,
@@ -435,11 +545,15 @@ fn long_lines(rt: HostRuntime) -> Result<(), Fail> {
     };
     let core = Core::new(rt.alloc(), config, Geometry { sets: 64, ways: 4 })?;
     assert_eq!(rt; core.line_of(Op::Load(word(31))), LineNo(3));
+    assert_eq!(rt; core.to_bank(LineNo(6), Body::FlushReq).to, Node::Bank(0));
     let message = core.to_bank(LineNo(3), Body::ExReq { version: None });
     assert_eq!(rt; message.from, Node::Core(5));
     assert_eq!(rt; message.to, Node::Bank(1));
     assert_eq!(rt; message.line, LineNo(3));
+    assert_eq!(rt; IssueError::Busy.number(), 1);
+    assert_eq!(rt; IssueError::TooMany.number(), 2);
     completed_on_a_copy();
+    idle_core_issues();
     writes_come_after_reads();
     time_never_falls();
     open_line_stays();

@@ -8,7 +8,7 @@ use number_map::NumberMap;
 use std::alloc::{AllocError, Global};
 use std::marker::Model;
 
-/// The words of each line, eight zeros where the line was never stored. Contracts see a finite map from the numbers of
+/// The words of each line, eight zeros if the line was never stored. Contracts see a finite map from the numbers of
 /// the lines that were.
 #[derive(Drop)]
 pub struct Dram {
@@ -48,7 +48,7 @@ impl Dram {
         }
     }
 
-    /// Sets the words of a line. Where memory is refused nothing changes; a line that was stored before needs none.
+    /// Sets the words of a line. If an allocation failed, nothing changes; a line that was stored before needs none.
     pub fn store(&mut self, line: LineNo, words: Words) -> Result<(), AllocError>
         ensures stored { OnOk result (self.new ≡ map.insert self.old line words) }
         ensures refused { OnErr result (self.new ≡ self.old) }
@@ -57,11 +57,12 @@ impl Dram {
         self.lines.insert(line.0, words)
     }
 
-    /// Sets one word of a line, at an index below 8. Where memory is refused nothing changes; a line that was stored
+    /// Sets one word of a line, at an index below 8. If an allocation failed, nothing changes; a line that was stored
     /// before needs none.
     pub fn set_word(&mut self, line: LineNo, index: usize, value: u64) -> Result<(), AllocError>
         requires { index < 8 }
-        ensures stored { OnOk result (self.new ≡ map.insert self.old line (slice_set (words_of self.old line) index value)) }
+        ensures stored { OnOk result (self.new ≡
+            map.insert self.old line (slice_set (words_of self.old line) index value)) }
         ensures refused { OnErr result (self.new ≡ self.old) }
         ensures known { IsSome (map.get self.old line) → IsOk result }
     {
@@ -73,7 +74,12 @@ impl Dram {
 
 /// The answer to a message, about the same line.
 fn answer_to(message: &Message, body: Body) -> Message
-    ensures { result ≡ record { from = message.now.to; to = message.now.from; line = message.now.line; body = body } }
+    ensures { result ≡ record {
+      from = message.now.to;
+      to = message.now.from;
+      line = message.now.line;
+      body = body;
+    } }
 {
     Message {
         from: message.to,
@@ -101,7 +107,8 @@ impl Part for Dram {
         ensures refused { OnErr result (self.new ≡ self.old) }
         ensures exhausted { result ≡ Err PartError.Exhausted → dram_table self.old message.now ≡ None }
         ensures fits { dram_table self.old message.now ≡ None → result ≡ Err PartError.Exhausted }
-        ensures wanted { result ≡ Err PartError.NoMemory → IsTrue (is_some (sent_by (dram_table self.old message.now))) }
+        ensures wanted { result ≡ Err PartError.NoMemory →
+            IsTrue (is_some (sent_by (dram_table self.old message.now))) }
         ensures memory { needs_memory self.old message.now ≡ false → IsOk result }
     {
         let body = match message.body {
@@ -171,6 +178,8 @@ mod tests {
         assert_eq!(rt; dram.deliver(&load), Ok(Reaction::Done(Some(loaded))));
         assert!(rt; dram.store(LineNo(4), words).is_ok());
         assert_eq!(rt; dram.load(LineNo(4)).get(7), 5);
+        assert_eq!(rt; dram.load(LineNo(4)).get(2), 0);
+        assert_eq!(rt; dram.load(LineNo(5)), Words::zeros());
         Ok(())
     }
 }

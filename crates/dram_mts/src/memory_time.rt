@@ -27,7 +27,7 @@ impl MemoryTime {
         MemoryTime { time }
     }
 
-    /// Raises the memory time to the time up to which a line that leaves was leased, where that is greater.
+    /// Raises the memory time to the time up to which a line that leaves was leased, if that is greater.
     pub fn raise(&mut self, rts: u64)
         ensures { self.new ≡ max self.old rts }
     {

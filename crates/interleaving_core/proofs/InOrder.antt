@@ -8,7 +8,6 @@ use Rattle.machine_table.specs.declared.event.Answer.TheVariants.{Issued, Comple
 use Rattle.machine_table.specs.declared.event.Refusal.{Refusal}
 use Rattle.machine_table.specs.declared.event.Refusal.TheVariants.{Busy, TooMany, NoSuch, NoRoom, Pinned, NetworkFull, NoMemory, Exhausted, Stopped}
 use Rattle.machine_table.specs.Machine.{Machine}
-use Rattle.machine_table.specs.Transition.{Outcome}
 use Rattle.machine_table.specs.Answered.{Answered, RefusedSo}
 use Rattle.machine_table.proofs.Cases.{every_answer}
 use Rattle.interleaving_core.specs.InOrder.{AreNumbered}
@@ -54,7 +53,7 @@ module _ (m after : Machine) (all : AreNumbered 0 m.records) where
 
 pub step_numbers : (m : Machine) (event : Event) (answer : Answer) (after : Machine) → AreNumbered 0 m.records → Stepped m event answer after → AreNumbered 0 after.records
 step_numbers m event answer after all (inl is) =
-    by_answer m after all answer (subst (λ (x : Outcome). Answered m x.0 x.1) (sym is) (every_answer m event))
+    by_answer m after all answer (subst (λ (x : Answer × Machine). Answered m x.0 x.1) (sym is) (every_answer m event))
 step_numbers m event answer after all (inr none) = kept m after all m none.1 refl
 
 -- numbers in order rise

@@ -4,7 +4,7 @@ use Rattle.std.specs.List.{slice_get}
 use Rattle.std.proofs.lemmas.Option.{slice_get_within}
 use Rattle.core_pts.specs.CoreTable.{CoreState}
 use Rattle.machine_table.specs.Machine.{Machine}
-use Rattle.machine_history.specs.Shape.{IsWhole}
+use Rattle.machine_theorem.specs.Shape.{IsWhole}
 
 pub core_below : (m : Machine) → IsWhole m → (c : ℕ) (core : CoreState) → slice_get m.cores c ≡ Some core → core.number < m.config.cores
 core_below m whole c core here =

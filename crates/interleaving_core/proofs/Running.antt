@@ -3,7 +3,7 @@ use Rattle.std.proofs.Common.{◌∙◌, List, [], ◌∷◌, ◌++◌, refl, su
 use Rattle.machine_table.specs.Machine.{Machine}
 use Rattle.machine_table.specs.declared.event.Event.{Event}
 use Rattle.machine_table.specs.declared.event.Answer.{Answer}
-use Rattle.machine_history.specs.Steps.{SetUpAs}
+use Rattle.machine_theorem.specs.Kept.{SetUpAs}
 use Rattle.interleaving_core.specs.Stepped.{Ran, Stepped}
 
 pub ran_more : (es : List Event) (answers : List Answer) (old mid new : Machine) (e : Event) (a : Answer) → Ran old es answers mid → Stepped mid e a new → Ran old (es ++ e ∷ []) (answers ++ a ∷ []) new
@@ -13,4 +13,4 @@ ran_more [] (y ∷ answers) old mid new e a never step = absurd never
 ran_more (x ∷ es) [] old mid new e a never step = absurd never
 
 pub set_up_on : (m n k : Machine) → SetUpAs m n → SetUpAs n k → SetUpAs m k
-set_up_on m n k first second = record { config = second.config ∙ first.config; opening = second.opening ∙ first.opening }
+set_up_on m n k first second = record { config = second.config ∙ first.config; opening = second.opening ∙ first.opening; cores = second.cores ∙ first.cores }

@@ -1,9 +1,9 @@
-pub mod Attempting
+pub mod Applied
+pub mod Endpoints
 pub mod Filling
 pub mod InOrder
-pub mod Joined
 pub mod LookUps
 pub mod Midway
-pub mod Rooms
+pub mod OpenNumbers
+pub mod Reserved
 pub mod Stepped
-pub mod Traffic

@@ -65,4 +65,4 @@ room_for m None = None
 room_for m (Some message) = if is_request message.body then room_at m message.line message.to else None
 
 abbrev pub make_room : Machine → ℕ → Option (ℕ × ℕ)
-make_room m number = room_for m (at_number number m.messages)
+make_room m number = room_for m (at_number number m.mail.messages)

@@ -5,8 +5,8 @@ use Rattle.physiological_order.specs.Order.{flat, Legal, Arrangement, replay_end
 use Rattle.machine_table.specs.declared.event.Event.{Event}
 use Rattle.machine_table.specs.declared.event.Answer.{Answer}
 use Rattle.machine_table.specs.Machine.{Machine}
-use Rattle.machine_history.specs.Standing.{rights, standing_value}
-use Rattle.machine_history.specs.Steps.{SetUpAs}
+use Rattle.machine_theorem.specs.Coherence.{owners, coherent}
+use Rattle.machine_theorem.specs.Kept.{SetUpAs}
 use Rattle.interleaving_core.specs.Stepped.{Ran}
 
 -- the machine after the first k events of a run, from which the others lead to its end: it is set up as at first, its
@@ -17,5 +17,5 @@ pub record IsMidway (m : Machine) (events : List Event) (answers : List Answer) 
   pub behind : Ran mid (drop k events) (drop k answers) after
   pub set_up : SetUpAs m mid
   pub legal : Legal (flat mid.opening) (λ core. slice_index_or mid.issued core []) mid.records
-  pub one_owner : (line : ℕ) → rights mid line ≤ 1
-  pub standing : (arranged : List Record) → Arrangement mid.records arranged → (word : ℕ) → standing_value mid word ≡ replay_end (flat mid.opening) (map (λ r. r.op) arranged) word
+  pub one_owner : (line : ℕ) → owners mid line ≤ 1
+  pub coherent : (arranged : List Record) → Arrangement mid.records arranged → (word : ℕ) → coherent mid word ≡ replay_end (flat mid.opening) (map (λ r. r.op) arranged) word

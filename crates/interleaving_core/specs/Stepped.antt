@@ -6,11 +6,11 @@ use Rattle.machine_table.specs.declared.event.Answer.{Answer}
 use Rattle.machine_table.specs.declared.event.Answer.TheVariants.{Issued, Refused}
 use Rattle.machine_table.specs.declared.event.Refusal.TheVariants.{NoMemory}
 use Rattle.machine_table.specs.Machine.{Machine}
-use Rattle.machine_table.specs.Transition.{Outcome, transition}
+use Rattle.machine_table.specs.Transition.{transition}
 
 -- memory is taken to open an operation and to send a message, and else for nothing
-abbrev pub TakesMemory : Machine → Outcome → Type 0
-TakesMemory m outcome = (outcome.0 ≡ Issued) ⊎ (m.next < outcome.1.next)
+abbrev pub TakesMemory : Machine → Answer × Machine → Type 0
+TakesMemory m next = (next.0 ≡ Issued) ⊎ (m.mail.next < next.1.mail.next)
 
 -- one event
 abbrev pub Stepped : Machine → Event → Answer → Machine → Type 0

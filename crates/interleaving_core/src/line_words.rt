@@ -1,11 +1,11 @@
-//! Who has a line's right, and where its words stand.
+//! Who owns a line, and where its words are.
 ghost use Rattle.std.specs.Prelude.{◌≡◌, ◌≤◌, ◌%◌, true, slice_get};
-ghost use Rattle.network.specs.Rights.{first_message, is_right_of, is_store_of};
+ghost use Rattle.network.specs.Search.{first_message, is_ownership_of, is_store_of};
 ghost use Rattle.private_cache.specs.CopyTable.{copy_of};
 ghost use Rattle.llc_bank.specs.BankTable.{core_of};
 ghost use Rattle.machine_table.specs.SetUp.{is_good};
-ghost use Rattle.machine_history.specs.Standing.{bank_words, cached_words, exclusive_copies, granted_words, owned_words, owner_words, rights, standing_value, standing_words, stored_words, words_with};
-ghost use Rattle.machine_history.specs.Steps.{Stands};
+ghost use Rattle.machine_theorem.specs.Coherence.{bank_words, cached_words, exclusive_copies, granted_words, owned_words, owner_words, owners, coherent, coherent_words, stored_words, words_with};
+ghost use Rattle.machine_theorem.specs.Kept.{Invariant};
 
 use crate::machine_state::MachineState;
 use core_pts::Core;
@@ -15,30 +15,30 @@ use physiological_order::WordAddr;
 use private_cache::CopyState;
 
 impl MachineState {
-    // The rights of a line: its Exclusive copies, and the grants and returns of it in flight.
-    pub(crate) fn rights(&self, line: LineNo) -> usize
-        requires { rights self.now line ≤ 1 }
-        ensures { result ≡ rights self.now line }
+    // How many own a line: the Exclusive copies of it, and the grants and returns of it in flight.
+    pub(crate) fn owners(&self, line: LineNo) -> usize
+        requires { owners self.now line ≤ 1 }
+        ensures { result ≡ owners self.now line }
     {
-        exclusive_copies(&self.cores, line) + self.traffic.flight.rights(line)
+        exclusive_copies(&self.cores, line) + self.flight.owners(line)
     }
 
-    // A word's value where its line stands.
-    pub(crate) fn standing_value(&self, addr: WordAddr) -> u64
-        requires stands { Stands self.now }
+    // A word's coherent value: where its line now is.
+    pub(crate) fn coherent(&self, addr: WordAddr) -> u64
+        requires invariant { Invariant self.now }
         requires good { is_good self.now.config ≡ true }
-        ensures { result ≡ standing_value self.now addr }
+        ensures { result ≡ coherent self.now addr }
     {
         let words = self.config.line_words as u64;
         let line = LineNo(addr.word() / words);
-        self.standing_words(line)
+        self.coherent_words(line)
             .get((addr.word() % words) as usize)
     }
 
-    // The words of a line where they stand.
-    fn standing_words(&self, line: LineNo) -> Words
-        requires { Stands self.now }
-        ensures { result ≡ standing_words self.now line }
+    // The words of a line where they now are.
+    fn coherent_words(&self, line: LineNo) -> Words
+        requires { Invariant self.now }
+        ensures { result ≡ coherent_words self.now line }
     {
         if let Some(words) = owner_words(&self.cores, line) {
             return words;
@@ -56,11 +56,11 @@ impl MachineState {
         self.drams[home].load(line)
     }
 
-    // The words that come with a line's right in flight.
+    // The words that come with a grant or a return of a line in flight.
     fn granted_words(&self, line: LineNo) -> Option<Words>
-        ensures { result ≡ granted_words self.now.cores line (first_message (is_right_of line) self.now.messages) }
+        ensures { result ≡ granted_words self.now.cores line (first_message (is_ownership_of line) self.now.mail.messages) }
     {
-        let message = self.traffic.flight.right_of(line)?;
+        let message = self.flight.ownership_of(line)?;
         self.words_with(message, line)
     }
 
@@ -97,9 +97,9 @@ impl MachineState {
 
     // The words of a store on its way to DRAM.
     fn stored_words(&self, line: LineNo) -> Option<Words>
-        ensures { result ≡ stored_words (first_message (is_store_of line) self.now.messages) }
+        ensures { result ≡ stored_words (first_message (is_store_of line) self.now.mail.messages) }
     {
-        match self.traffic.flight.store_of(line)?.body {
+        match self.flight.store_of(line)?.body {
             Body::DramSt(words) => Some(words),
             _ => None,
         }

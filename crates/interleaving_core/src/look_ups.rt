@@ -10,6 +10,11 @@ use physiological_order::{Op, Record};
 use std::alloc::{AllocError, Global};
 
 impl MachineState {
+    // The allocator that the machine was made with.
+    pub(crate) fn allocator(&self) -> Global {
+        *self.records.allocator()
+    }
+
     // The records by number.
     pub(crate) fn records(&self) -> &[Record]
         ensures { result.now ≡ self.now.records }
@@ -35,7 +40,7 @@ impl MachineState {
     pub(crate) fn make_room(&self, number: MsgNo) -> Option<(u32, LineNo)>
         ensures { result ≡ make_room self.now number }
     {
-        let message = self.traffic.flight.look(number)?;
+        let message = self.flight.look(number)?;
         if !is_request(&message.body) {
             return None;
         }
@@ -54,24 +59,24 @@ impl MachineState {
     }
 
     // The lines of a core's copies, rising.
-    pub(crate) fn copies(&self, alloc: Global, core: u32) -> Result<Vec<LineNo>, AllocError>
+    pub(crate) fn copies(&self, core: u32) -> Result<Vec<LineNo>, AllocError>
         ensures lines { IfOk result (λ lines. IsPermutation (copies self.now core) lines.items) }
         ensures rising { IfOk result (λ lines. IsSorted nat_cmp lines.items) }
     {
         match self.cores.get(core as usize) {
             Some(core) => core.lines(),
-            None => Ok(Vec::new(alloc)),
+            None => Ok(Vec::new(self.allocator())),
         }
     }
 
     // The lines that a bank has and that nothing is under way for, rising.
-    pub(crate) fn entries(&self, alloc: Global, bank: u32) -> Result<Vec<LineNo>, AllocError>
+    pub(crate) fn entries(&self, bank: u32) -> Result<Vec<LineNo>, AllocError>
         ensures lines { IfOk result (λ lines. IsPermutation (entries self.now bank) lines.items) }
         ensures rising { IfOk result (λ lines. IsSorted nat_cmp lines.items) }
     {
         match self.banks.get(bank as usize) {
             Some(bank) => bank.lines(),
-            None => Ok(Vec::new(alloc)),
+            None => Ok(Vec::new(self.allocator())),
         }
     }
 }

@@ -2,11 +2,11 @@
 ghost use Rattle.std.specs.Prelude.{◌≡◌};
 
 use crate::op_list::OpList;
-use crate::traffic::Traffic;
 use core_pts::Core;
 use dram_mts::Dram;
 use llc_bank::Bank;
 use machine_table::Config;
+use network::InFlight;
 use physiological_order::{Memory, Record};
 use std::marker::Model;
 
@@ -18,7 +18,7 @@ pub(crate) struct MachineState {
     pub(crate) cores: Vec<Core>,
     pub(crate) banks: Vec<Bank>,
     pub(crate) drams: Vec<Dram>,
-    pub(crate) traffic: Traffic,
+    pub(crate) flight: InFlight,
     pub(crate) issued: Vec<OpList>,
     pub(crate) records: Vec<Record>,
     pub(crate) is_stopped: bool,
@@ -30,14 +30,14 @@ impl Model for MachineState {
     ghost use Rattle.std.specs.FinMap as map;
     ghost use Rattle.std.specs.Ordering.{nat_cmp};
     ghost use Rattle.machine_table.specs.Machine.{Machine};
-    ghost use Rattle.interleaving_core.specs.Rooms.{IsFitted};
+    ghost use Rattle.interleaving_core.specs.Reserved.{IsFitted};
 
     ghost Value = { Machine };
 
     ghost coded = { Prim.hlevel (codes, map.code {R = nat_cmp} coded_ℕ coded_ℕ, map.code {R = nat_cmp} coded_ℕ (coded_list coded_ℕ)) };
 
-    ghost view = { λ a. record { config = a.config; opening = a.opening; cores = a.cores.items; banks = a.banks.items; drams = a.drams.items; messages = a.traffic.mail.messages; next = a.traffic.mail.next; issued = a.issued.items; records = a.records.items; counts = a.traffic.mail.counts; is_stopped = a.is_stopped } };
+    ghost view = { λ a. record { config = a.config; opening = a.opening; cores = a.cores.items; banks = a.banks.items; drams = a.drams.items; mail = a.flight.mail; issued = a.issued.items; records = a.records.items; is_stopped = a.is_stopped } };
 
-    // The messages in flight are those of this machine, and each open operation has room for its record.
-    ghost invariant = { λ a. IsFitted a.config a.traffic a.cores.items a.records.items (vec_capacity a.records) };
+    // The messages in flight are those of this machine, and there is capacity for the record of each open operation.
+    ghost invariant = { λ a. IsFitted a.config a.flight a.cores.items a.records.items (vec_capacity a.records) };
 }

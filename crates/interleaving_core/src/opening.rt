@@ -7,12 +7,11 @@ ghost use Rattle.interleaving_core.specs.Filling.{word_set};
 
 use crate::machine_state::MachineState;
 use crate::op_list::OpList;
-use crate::traffic::Traffic;
 use core_pts::{Core, CoreConfig};
 use dram_mts::Dram;
 use llc_bank::{Bank, BankConfig};
 use machine_table::Config;
-use network::LineNo;
+use network::{InFlight, LineNo};
 use physiological_order::{Memory, WordAddr};
 use private_cache::Geometry;
 use std::alloc::{AllocError, Global};
@@ -38,7 +37,7 @@ impl MachineState {
             cores,
             banks,
             drams,
-            traffic: Traffic::new(alloc, config.cores, config.banks, config.messages),
+            flight: InFlight::new(alloc, config.cores, config.banks, config.messages),
             issued,
             records: Vec::new(alloc),
             is_stopped: false,

@@ -1,17 +1,21 @@
 //! The machine that users drive, and what is always true of it.
 ghost use Rattle.std.specs.Prelude.{◌≡◌, ◌≢◌, ◌≤◌, ◌<◌, ◌++◌, ◌∷◌, vec_capacity, [], false, true, IfOk, IfErr, IfSome, IsTrue, OnErr, OnOk, IsPermutation, IsSorted, length, map, slice_get, slice_index_or, List, ℕ};
 ghost use Rattle.std.specs.Ordering.{nat_cmp};
-ghost use Rattle.physiological_order.specs.Order.{flat, Legal, Arrangement, replay_end};
+ghost use Rattle.physiological_order.specs.Order.{flat, Legal, Arrangement, of_core, replay_end};
 ghost use Rattle.physiological_order.specs.StaleHits.{RisesByNumber};
 ghost use Rattle.physiological_order.specs.declared.operation.Record.{Record};
 ghost use Rattle.network.specs.Numbered.{IsRising};
 ghost use Rattle.machine_table.specs.SetUp.{is_good};
+ghost use Rattle.machine_table.specs.Machine.{operation_of};
 ghost use Rattle.machine_table.specs.Opening.{at_start};
-ghost use Rattle.machine_history.specs.Standing.{rights, standing_value};
-ghost use Rattle.machine_history.specs.Steps.{SetUpAs, Stands};
+ghost use Rattle.protocol.specs.Issued.{IsIssued};
+ghost use Rattle.machine_theorem.specs.Coherence.{owners, coherent};
+ghost use Rattle.machine_theorem.specs.Kept.{SetUpAs, Invariant};
 ghost use Rattle.interleaving_core.specs.LookUps.{copies, entries, make_room, open_op, victim};
-ghost use Rattle.interleaving_core.specs.Rooms.{completes};
+ghost use Rattle.interleaving_core.specs.Reserved.{completes};
+ghost use Rattle.interleaving_core.specs.Midway.{IsMidway};
 ghost use Rattle.interleaving_core.specs.Stepped.{Stepped, Ran};
+ghost use Rattle.interleaving_core.specs.OpenNumbers.{number_of};
 
 use crate::machine_state::MachineState;
 use machine_table::{Answer, Config, Counts, Event, Refusal};
@@ -24,9 +28,21 @@ use std::marker::Model;
 #[derive(Clone, Copy, Debug, PartialEq, Eq)]
 pub enum OpenError {
     /// 1: a value of the configuration is out of its range.
-    BadConfig = 1,
-    /// 2: a growth was refused.
-    NoMemory = 2,
+    BadConfig,
+    /// 2: allocation failed.
+    NoMemory,
+}
+
+impl OpenError {
+    /// The error's number, as above.
+    pub fn number(self) -> u8
+        ensures { result ≡ number_of self }
+    {
+        match self {
+            OpenError::BadConfig => 1,
+            OpenError::NoMemory => 2,
+        }
+    }
 }
 
 /// A machine: its cores, its banks, the DRAM behind each bank and the messages in flight. Contracts see it as data. It is
@@ -42,7 +58,7 @@ impl Model for System {
     ghost use Rattle.std.specs.Ordering.{nat_cmp};
     ghost use Rattle.machine_table.specs.Machine.{Machine};
     ghost use Rattle.machine_table.specs.SetUp.{is_good};
-    ghost use Rattle.machine_history.specs.Steps.{Stands};
+    ghost use Rattle.machine_theorem.specs.Kept.{Invariant};
     ghost use Rattle.interleaving_core.specs.InOrder.{AreNumbered};
     ghost use Rattle.std.specs.Prelude.{◌≡◌, true};
 
@@ -54,7 +70,7 @@ impl Model for System {
 
     // It is well set up, its parts have their shape, and line by line it is one that the protocol reaches; its records
     // stand in the order of their numbers.
-    ghost invariant = { λ a. (is_good a.state.config ≡ true) × Stands a.state × AreNumbered 0 a.state.records };
+    ghost invariant = { λ a. (is_good a.state.config ≡ true) × Invariant a.state × AreNumbered 0 a.state.records };
 }
 
 impl System {
@@ -74,9 +90,9 @@ impl System {
         }
     }
 
-    /// One event. The answer and the machine afterwards are those of the machine's table, or the answer is NoMemory,
-    /// where a growth was refused, and the machine is as it was. That is only where the table issues an operation or
-    /// sends a message: nothing else takes memory.
+    /// One event. The answer and the machine afterwards are those of the machine's table; or allocation failed, the answer
+    /// is NoMemory, and the machine is unchanged. That comes only if the table issues an operation or sends a message:
+    /// nothing else takes memory.
     pub fn step(&mut self, event: Event) -> Answer
         ensures stepped { Stepped self.old event result self.new }
         ensures set_up { SetUpAs self.old self.new }
@@ -86,14 +102,16 @@ impl System {
         self.state.step(event)
     }
 
-    /// A list of events, one after the other, with their answers. Room for all answers is made first: where that is refused
-    /// nothing happened.
-    pub fn run(&mut self, alloc: Global, events: &[Event]) -> Result<Vec<Answer>, AllocError>
+    /// A list of events, one after the other, with their answers. After each beginning of the list the records are a legal
+    /// history, a line has at most one owner, and each word's coherent value is what the records leave. Memory for all
+    /// answers is reserved first: if that fails nothing happened.
+    pub fn run(&mut self, events: &[Event]) -> Result<Vec<Answer>, AllocError>
         ensures ran { IfOk result (λ answers. Ran self.old events.now answers.items self.new) }
+        ensures throughout { IfOk result (λ answers. (k : ℕ) → IsMidway self.old events.now answers.items self.new k) }
         ensures set_up { SetUpAs self.old self.new }
         ensures refused { OnErr result (self.new ≡ self.old) }
     {
-        let mut answers = Vec::with_capacity(alloc, events.len())?;
+        let mut answers = Vec::with_capacity(self.state.allocator(), events.len())?;
         for event in events {
             let answer = self.step(*event);
             add(&mut answers, answer);
@@ -105,7 +123,6 @@ impl System {
     pub fn cores(&self) -> u32
         ensures cores { result ≡ self.now.config.cores }
         ensures count { length self.now.cores ≡ result }
-        ensures stands { Stands self.now }
     {
         self.state.config.cores
     }
@@ -119,11 +136,12 @@ impl System {
     }
 
     /// The records of the completed operations by number. They are a legal history of the opening memory and of what the
-    /// cores were issued.
+    /// cores were issued. Each core was issued the operations of its records, in their order, and then its open one.
     pub fn records(&self) -> &[Record]
         ensures records { result.now ≡ self.now.records }
         ensures legal { Legal (flat self.now.opening) (λ core. slice_index_or self.now.issued core []) result.now }
         ensures rising { RisesByNumber result.now }
+        ensures issued { (core : ℕ) → IsIssued (slice_index_or self.now.issued core []) (of_core core self.now.records) (operation_of (slice_get self.now.cores core)) }
     {
         self.state.records()
     }
@@ -142,25 +160,25 @@ impl System {
     /// or else in a store on its way to DRAM, or else in DRAM. It is the value that the records leave, one after the
     /// other in the order of their times, on the opening memory.
     pub fn coherent(&self, addr: WordAddr) -> u64
-        ensures value { result ≡ standing_value self.now addr }
+        ensures value { result ≡ coherent self.now addr }
         ensures left { (arranged : List Record) → Arrangement self.now.records arranged → result ≡ replay_end (flat self.now.opening) (map (λ r. r.op) arranged) addr }
     {
-        self.state.standing_value(addr)
+        self.state.coherent(addr)
     }
 
     /// How many own a line: the Exclusive copies of it, and the grants and returns of it in flight. At most one does.
-    pub fn owners(&self, line: LineNo) -> usize
-        ensures owners { result ≡ rights self.now line }
+    pub fn owners(&self, line: LineNo) -> u32
+        ensures owners { result ≡ owners self.now line }
         ensures one { result ≤ 1 }
     {
-        self.state.rights(line)
+        self.state.owners(line) as u32
     }
 
     /// How many renewals, upgrades, flushes and write-backs were sent.
     pub fn counts(&self) -> Counts
-        ensures { result ≡ self.now.counts }
+        ensures { result ≡ self.now.mail.counts }
     {
-        self.state.traffic.counts()
+        self.state.flight.counts()
     }
 
     /// Whether an event was answered Exhausted: every later one is answered Stopped.
@@ -195,27 +213,27 @@ impl System {
     }
 
     /// The lines of a core's copies, rising; none for a core that isn't there.
-    pub fn copies(&self, alloc: Global, core: u32) -> Result<Vec<LineNo>, AllocError>
+    pub fn copies(&self, core: u32) -> Result<Vec<LineNo>, AllocError>
         ensures lines { IfOk result (λ lines. IsPermutation (copies self.now core) lines.items) }
         ensures rising { IfOk result (λ lines. IsSorted nat_cmp lines.items) }
     {
-        self.state.copies(alloc, core)
+        self.state.copies(core)
     }
 
     /// The lines that a bank has Shared or Exclusive, rising; none for a bank that isn't there.
-    pub fn entries(&self, alloc: Global, bank: u32) -> Result<Vec<LineNo>, AllocError>
+    pub fn entries(&self, bank: u32) -> Result<Vec<LineNo>, AllocError>
         ensures lines { IfOk result (λ lines. IsPermutation (entries self.now bank) lines.items) }
         ensures rising { IfOk result (λ lines. IsSorted nat_cmp lines.items) }
     {
-        self.state.entries(alloc, bank)
+        self.state.entries(bank)
     }
 
     /// The numbers of the messages in flight, rising.
     pub fn in_flight(&self) -> Result<Vec<MsgNo>, AllocError>
-        ensures numbers { IfOk result (λ numbers. numbers.items ≡ map (λ m. m.0) self.now.messages) }
-        ensures rising { IsRising 0 self.now.messages self.now.next }
+        ensures numbers { IfOk result (λ numbers. numbers.items ≡ map (λ m. m.0) self.now.mail.messages) }
+        ensures rising { IsRising 0 self.now.mail.messages self.now.mail.next }
     {
-        self.state.traffic.flight.numbers()
+        self.state.flight.numbers()
     }
 }
 

@@ -1,4 +1,5 @@
-pub mod Places
+pub mod LineNumbers
+pub mod Indices
 pub mod OrderLaws
 pub mod ReadySets
 pub mod TableLaws

@@ -25,7 +25,8 @@ find-without_same (p ∷ ps) l =
     (cases_eq p.0 l)
 
 -- a line put at the end
-find-push_new : {X : Type 0} (ps : List (ℕ × X)) (l : ℕ) (x : X) → find ps l ≡ None → find (ps ++ (l, x) ∷ []) l ≡ Some x
+find-push_new :
+    {X : Type 0} (ps : List (ℕ × X)) (l : ℕ) (x : X) → find ps l ≡ None → find (ps ++ (l, x) ∷ []) l ≡ Some x
 find-push_new [] l x h = cond-true (eqb l l) (Some x) None (eq-eqb l l refl)
 find-push_new (p ∷ ps) l x h =
     ⊎_elim
@@ -40,11 +41,13 @@ find-push_other (p ∷ ps) l j x ne = ap (λ o. cond (eqb p.0 j) (Some p.1) o) (
 pub find-put_last_same : {X : Type 0} (ps : List (ℕ × X)) (l : ℕ) (x : X) → find (put_last ps l x) l ≡ Some x
 find-put_last_same ps l x = find-push_new (without ps l) l x (find-without_same ps l)
 
-pub find-put_last_other : {X : Type 0} (ps : List (ℕ × X)) (l j : ℕ) (x : X) → j ≢ l → find (put_last ps l x) j ≡ find ps j
+pub find-put_last_other :
+    {X : Type 0} (ps : List (ℕ × X)) (l j : ℕ) (x : X) → j ≢ l → find (put_last ps l x) j ≡ find ps j
 find-put_last_other ps l j x ne = find-push_other (without ps l) l j x ne ∙ find-without_other ps l j ne
 
--- a line put in its place
-pub find-put_in_place_same : {X : Type 0} (ps : List (ℕ × X)) (l : ℕ) (x : X) → is_there ps l ≡ true → find (put_in_place ps l x) l ≡ Some x
+-- a line put in place
+pub find-put_in_place_same :
+    {X : Type 0} (ps : List (ℕ × X)) (l : ℕ) (x : X) → is_there ps l ≡ true → find (put_in_place ps l x) l ≡ Some x
 find-put_in_place_same [] l x h = cc
 find-put_in_place_same (p ∷ ps) l x h =
     ⊎_elim
@@ -55,7 +58,8 @@ find-put_in_place_same (p ∷ ps) l x h =
     ∙ find-put_in_place_same ps l x (sym (ap is_some (cond-false (eqb p.0 l) (Some p.1) (find ps l) e)) ∙ h))
     (cases_Bool (eqb p.0 l))
 
-pub find-put_in_place_other : {X : Type 0} (ps : List (ℕ × X)) (l j : ℕ) (x : X) → j ≢ l → find (put_in_place ps l x) j ≡ find ps j
+pub find-put_in_place_other :
+    {X : Type 0} (ps : List (ℕ × X)) (l j : ℕ) (x : X) → j ≢ l → find (put_in_place ps l x) j ≡ find ps j
 find-put_in_place_other [] l j x ne = refl
 find-put_in_place_other (p ∷ ps) l j x ne =
     ⊎_elim
@@ -71,15 +75,21 @@ pub length-without_le : {X : Type 0} (ps : List (ℕ × X)) (l : ℕ) → length
 length-without_le [] l = omega arith
 length-without_le (p ∷ ps) l = go (eqb p.0 l) (length-without_le ps l)
   where
-    go : (b : Bool) → length (without ps l) ≤ length ps → length (cond b (without ps l) (p ∷ without ps l)) ≤ length (p ∷ ps)
+    go :
+        (b : Bool) → length (without ps l) ≤ length ps →
+        length (cond b (without ps l) (p ∷ without ps l)) ≤ length (p ∷ ps)
     go true h = omega arith
     go false h = omega arith
 
-pub length-without_there : {X : Type 0} (ps : List (ℕ × X)) (l : ℕ) → is_there ps l ≡ true → length (without ps l) < length ps
+pub length-without_there :
+    {X : Type 0} (ps : List (ℕ × X)) (l : ℕ) → is_there ps l ≡ true → length (without ps l) < length ps
 length-without_there [] l h = cc
 length-without_there (p ∷ ps) l h = go (eqb p.0 l) (length-without_le ps l) (length-without_there ps l) h
   where
-    go : (b : Bool) → length (without ps l) ≤ length ps → (is_there ps l ≡ true → length (without ps l) < length ps) → is_some (cond b (Some p.1) (find ps l)) ≡ true → length (cond b (without ps l) (p ∷ without ps l)) < length (p ∷ ps)
+    go :
+        (b : Bool) → length (without ps l) ≤ length ps → (is_there ps l ≡ true → length (without ps l) < length ps) →
+        is_some (cond b (Some p.1) (find ps l)) ≡ true →
+        length (cond b (without ps l) (p ∷ without ps l)) < length (p ∷ ps)
     go true le rest i = omega arith
     go false le rest i = let lt = rest i in omega arith
 
@@ -87,7 +97,9 @@ pub length-put_in_place : {X : Type 0} (ps : List (ℕ × X)) (l : ℕ) (x : X) 
 length-put_in_place [] l x = refl
 length-put_in_place (p ∷ ps) l x = go (eqb p.0 l) (length-put_in_place ps l x)
   where
-    go : (b : Bool) → length (put_in_place ps l x) ≡ length ps → length (cond b ((l, x) ∷ ps) (p ∷ put_in_place ps l x)) ≡ length (p ∷ ps)
+    go :
+        (b : Bool) → length (put_in_place ps l x) ≡ length ps →
+        length (cond b ((l, x) ∷ ps) (p ∷ put_in_place ps l x)) ≡ length (p ∷ ps)
     go true h = refl
     go false h = omega arith
 
@@ -95,7 +107,8 @@ length-push : {X : Type 0} (ps : List (ℕ × X)) (p : ℕ × X) → length (ps 
 length-push [] p = omega arith
 length-push (q ∷ ps) p = omega (arith, length-push ps p)
 
-pub length-put_last_there : {X : Type 0} (ps : List (ℕ × X)) (l : ℕ) (x : X) → is_there ps l ≡ true → length (put_last ps l x) ≤ length ps
+pub length-put_last_there :
+    {X : Type 0} (ps : List (ℕ × X)) (l : ℕ) (x : X) → is_there ps l ≡ true → length (put_last ps l x) ≤ length ps
 length-put_last_there ps l x h = omega (arith, length-push (without ps l) (l, x), length-without_there ps l h)
 
 pub length-put_last_le : {X : Type 0} (ps : List (ℕ × X)) (l : ℕ) (x : X) → length (put_last ps l x) ≤ length ps + 1
@@ -113,11 +126,15 @@ pub IsDistinct-without : {X : Type 0} (ps : List (ℕ × X)) (l : ℕ) → IsDis
 IsDistinct-without [] l h = tt
 IsDistinct-without (p ∷ ps) l h = go (eqb p.0 l) (IsDistinct-without ps l h.1) (there_without ps l p.0 h.0)
   where
-    go : (b : Bool) → IsDistinct (without ps l) → is_there (without ps l) p.0 ≡ false → IsDistinct (cond b (without ps l) (p ∷ without ps l))
+    go :
+        (b : Bool) → IsDistinct (without ps l) → is_there (without ps l) p.0 ≡ false →
+        IsDistinct (cond b (without ps l) (p ∷ without ps l))
     go true rest i = rest
     go false rest i = (i, rest)
 
-IsDistinct-push : {X : Type 0} (ps : List (ℕ × X)) (l : ℕ) (x : X) → IsDistinct ps → is_there ps l ≡ false → IsDistinct (ps ++ (l, x) ∷ [])
+IsDistinct-push :
+    {X : Type 0} (ps : List (ℕ × X)) (l : ℕ) (x : X) → IsDistinct ps → is_there ps l ≡ false →
+    IsDistinct (ps ++ (l, x) ∷ [])
 IsDistinct-push [] l x h i = (refl, tt)
 IsDistinct-push (p ∷ ps) l x h i =
     ⊎_elim
@@ -127,24 +144,34 @@ IsDistinct-push (p ∷ ps) l x h i =
     (ap is_some (find-push_other ps l p.0 x ne) ∙ h.0, IsDistinct-push ps l x h.1 (sym (ap is_some (cond-false (eqb p.0 l) (Some p.1) (find ps l) e)) ∙ i)))
     (cases_Bool (eqb p.0 l))
 
-pub IsDistinct-put_last : {X : Type 0} (ps : List (ℕ × X)) (l : ℕ) (x : X) → IsDistinct ps → IsDistinct (put_last ps l x)
-IsDistinct-put_last ps l x h = IsDistinct-push (without ps l) l x (IsDistinct-without ps l h) (ap is_some (find-without_same ps l))
+pub IsDistinct-put_last :
+    {X : Type 0} (ps : List (ℕ × X)) (l : ℕ) (x : X) → IsDistinct ps → IsDistinct (put_last ps l x)
+IsDistinct-put_last ps l x h =
+    IsDistinct-push (without ps l) l x (IsDistinct-without ps l h) (ap is_some (find-without_same ps l))
 
-there_put_in_place : {X : Type 0} (ps : List (ℕ × X)) (l j : ℕ) (x : X) → is_there ps j ≡ false → is_there (put_in_place ps l x) j ≡ false
+there_put_in_place :
+    {X : Type 0} (ps : List (ℕ × X)) (l j : ℕ) (x : X) → is_there ps j ≡ false →
+    is_there (put_in_place ps l x) j ≡ false
 there_put_in_place [] l j x h = refl
 there_put_in_place (p ∷ ps) l j x h = go (eqb p.0 l) refl (eqb p.0 j) refl h (there_put_in_place ps l j x)
   where
-    go : (b : Bool) → eqb p.0 l ≡ b → (c : Bool) → eqb p.0 j ≡ c → is_some (cond c (Some p.1) (find ps j)) ≡ false → (is_there ps j ≡ false → is_there (put_in_place ps l x) j ≡ false) → is_there (cond b ((l, x) ∷ ps) (p ∷ put_in_place ps l x)) j ≡ false
+    go :
+        (b : Bool) → eqb p.0 l ≡ b → (c : Bool) → eqb p.0 j ≡ c → is_some (cond c (Some p.1) (find ps j)) ≡ false →
+        (is_there ps j ≡ false → is_there (put_in_place ps l x) j ≡ false) →
+        is_there (cond b ((l, x) ∷ ps) (p ∷ put_in_place ps l x)) j ≡ false
     go b e true f i rest = cc
     go true e false f i rest =
         let same : p.0 ≡ l = eqb-true p.0 l e in
         ap is_some (cond-false (eqb l j) (Some x) (find ps j) (rw (← same) f)) ∙ i
     go false e false f i rest = ap is_some (cond-false (eqb p.0 j) (Some p.1) (find (put_in_place ps l x) j) f) ∙ rest i
 
-pub IsDistinct-put_in_place : {X : Type 0} (ps : List (ℕ × X)) (l : ℕ) (x : X) → IsDistinct ps → IsDistinct (put_in_place ps l x)
+pub IsDistinct-put_in_place :
+    {X : Type 0} (ps : List (ℕ × X)) (l : ℕ) (x : X) → IsDistinct ps → IsDistinct (put_in_place ps l x)
 IsDistinct-put_in_place [] l x h = tt
 IsDistinct-put_in_place (p ∷ ps) l x h = go (eqb p.0 l) refl (IsDistinct-put_in_place ps l x h.1)
   where
-    go : (b : Bool) → eqb p.0 l ≡ b → IsDistinct (put_in_place ps l x) → IsDistinct (cond b ((l, x) ∷ ps) (p ∷ put_in_place ps l x))
+    go :
+        (b : Bool) → eqb p.0 l ≡ b → IsDistinct (put_in_place ps l x) →
+        IsDistinct (cond b ((l, x) ∷ ps) (p ∷ put_in_place ps l x))
     go true e rest = let same : p.0 ≡ l = eqb-true p.0 l e in (rw (← same) h.0, h.1)
     go false e rest = (there_put_in_place ps l p.0 x h.0, rest)

@@ -16,7 +16,7 @@ without (p ∷ ps) line = if p.0 == line then without ps line else p ∷ without
 abbrev pub put_last : {X : Type 0} → List (ℕ × X) → ℕ → X → List (ℕ × X)
 put_last ps line x = without ps line ++ (line, x) ∷ []
 
--- the line with this value, in its place in the order of use
+-- the line with this value, and the order of use stays
 abbrev pub put_in_place : {X : Type 0} → List (ℕ × X) → ℕ → X → List (ℕ × X)
 put_in_place [] line x = []
 put_in_place (p ∷ ps) line x = if p.0 == line then (line, x) ∷ ps else p ∷ put_in_place ps line x

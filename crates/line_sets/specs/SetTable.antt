@@ -12,7 +12,7 @@ pub record Sets (X : Type 0) : Type 0 where
 abbrev pub empty_sets : {X : Type 0} → ℕ → ℕ → Sets X
 empty_sets sets ways = record { ways = ways; sets = replicate sets [] }
 
--- the set of this number, empty where there is none
+-- the set of this number, empty if there is none
 abbrev pub set_at : {X : Type 0} → List (List (ℕ × X)) → ℕ → List (ℕ × X)
 set_at sets i = slice_index_or sets i []
 
@@ -36,9 +36,9 @@ drop_line sets i line = slice_set sets i (without (set_at sets i) line)
 abbrev pub has_room : {X : Type 0} → Sets X → ℕ → Bool
 has_room table i = nat_lt (length (set_at table.sets i)) table.ways
 
--- a line is in its set, or finds room there
-abbrev pub has_place : {X : Type 0} → Sets X → ℕ → ℕ → Bool
-has_place table i line = is_there (set_at table.sets i) line || has_room table i
+-- a line has a way in its set, or finds a free one
+abbrev pub has_way : {X : Type 0} → Sets X → ℕ → ℕ → Bool
+has_way table i line = is_there (set_at table.sets i) line || has_room table i
 
 -- the lines of all sets, set by set, of values that a test passes
 abbrev pub all_listed : {X : Type 0} → (X → Bool) → List (List (ℕ × X)) → List ℕ

@@ -4,8 +4,8 @@ ghost use Rattle.std.specs.Option.{option_copied};
 ghost use Rattle.std.specs.Vec.{vec_capacity};
 ghost use Rattle.line_sets.specs.Order.{find, is_there, put_in_place, put_last, without, IsDistinct};
 
-// The place of a line.
-fn place_of<V>(entries: &[(u64, V)], line: u64) -> Option<usize>
+// The index of a line.
+fn index_of<V>(entries: &[(u64, V)], line: u64) -> Option<usize>
     ensures { result ≡ position (λ (p : ℕ × V). p.0 == line) entries.now }
 {
     entries.iter().position(|entry| entry.0 == line)
@@ -15,7 +15,7 @@ fn place_of<V>(entries: &[(u64, V)], line: u64) -> Option<usize>
 pub fn find_entry<V>(entries: &[(u64, V)], line: u64) -> Option<&V>
     ensures { option_copied result ≡ find entries.now line }
 {
-    match place_of(entries, line) {
+    match index_of(entries, line) {
         Some(at) => Some(&entries[at].1),
         None => None,
     }
@@ -24,11 +24,12 @@ pub fn find_entry<V>(entries: &[(u64, V)], line: u64) -> Option<&V>
 // Puts a line that is there, or has room, and makes it the most recently used one.
 pub fn put_entry_last<V: Copy>(entries: &mut Vec<(u64, V)>, line: u64, value: V)
     requires distinct { IsDistinct entries.old.items }
-    requires room { IsTrue (is_there entries.old.items line) ⊎ (length entries.old.items < vec_capacity entries.old) }
+    requires capacity { IsTrue (is_there entries.old.items line) ⊎
+        (length entries.old.items < vec_capacity entries.old) }
     ensures items { entries.new.items ≡ put_last entries.old.items line value }
     ensures capacity { vec_capacity entries.new ≡ vec_capacity entries.old }
 {
-    let Some(at) = place_of(entries, line) else {
+    let Some(at) = index_of(entries, line) else {
         entries.push_reserved((line, value));
         return;
     };
@@ -46,7 +47,7 @@ pub fn replace_entry<V: Copy>(entries: &mut Vec<(u64, V)>, line: u64, value: V)
     ensures items { entries.new.items ≡ put_in_place entries.old.items line value }
     ensures capacity { vec_capacity entries.new ≡ vec_capacity entries.old }
 {
-    if let Some(at) = place_of(entries, line) {
+    if let Some(at) = index_of(entries, line) {
         entries[at] = (line, value);
     }
 }
@@ -58,7 +59,7 @@ pub fn remove_entry<V: Copy>(entries: &mut Vec<(u64, V)>, line: u64) -> Option<V
     ensures items { entries.new.items ≡ without entries.old.items line }
     ensures capacity { vec_capacity entries.new ≡ vec_capacity entries.old }
 {
-    let Some(at) = place_of(entries, line) else {
+    let Some(at) = index_of(entries, line) else {
         return None;
     };
     let (_line, value) = entries.remove(at);

@@ -1,7 +1,8 @@
 //! Which lines of a table are listed.
-ghost use Rattle.std.specs.Prelude.{◌≡◌, ◌++◌, Bool, OnOk};
+ghost use Rattle.std.specs.Prelude.{◌≡◌, ◌++◌, Bool, IfOk, OnOk};
 ghost use Rattle.line_sets.specs.Order.{listed};
 
+use network::LineNo;
 use std::alloc::AllocError;
 
 /// What is kept of a line, and whether it makes the line one of those that are listed.
@@ -23,4 +24,15 @@ pub fn push_listed<V: Listed>(lines: &mut Vec<u64>, entries: &[(u64, V)]) -> Res
         }
     }
     Ok(())
+}
+
+// Numbers as those of lines.
+pub fn line_numbers(numbers: Vec<u64>) -> Result<Vec<LineNo>, AllocError>
+    ensures { IfOk result (λ lines. lines.items ≡ numbers.items) }
+{
+    let alloc = *numbers.allocator();
+    numbers
+        .into_iter()
+        .map(|number| LineNo(number))
+        .collect(alloc)
 }

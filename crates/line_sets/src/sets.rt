@@ -3,10 +3,11 @@ ghost use Rattle.std.specs.Prelude.{◌≡◌, ◌<◌, ◌≤◌, IfOk, IsPermu
 ghost use Rattle.std.specs.Option.{option_copied};
 ghost use Rattle.line_sets.specs.Order.{is_there, IsDistinct};
 ghost use Rattle.std.specs.Ordering.{nat_cmp};
-ghost use Rattle.line_sets.specs.SetTable.{all_listed, drop_line, empty_sets, has_place, has_room, look, put, put_within, set_at};
+ghost use Rattle.line_sets.specs.SetTable.{all_listed, drop_line, empty_sets, has_way, has_room, look, put, put_within, set_at};
 
 use crate::entries::{find_entry, put_entry_last, remove_entry, replace_entry};
-use crate::listed::{Listed, push_listed};
+use crate::listed::{Listed, line_numbers, push_listed};
+use network::LineNo;
 use std::alloc::{AllocError, Global};
 use std::marker::Model;
 
@@ -89,7 +90,7 @@ impl<V: Copy> LineSets<V> {
     /// Puts a line that is in the set, or has room there, with this value, and makes it the most recently used one.
     pub fn insert(&mut self, set: usize, line: u64, value: V)
         requires in_table { set < length self.old.sets }
-        requires place { IsTrue (has_place self.old set line) }
+        requires way { IsTrue (has_way self.old set line) }
         ensures { self.new ≡ record self.old { sets = put self.old.sets set line value } }
     {
         put_entry_last(&mut self.sets[set], line, value);
@@ -104,7 +105,7 @@ impl<V: Copy> LineSets<V> {
         replace_entry(&mut self.sets[set], line, value);
     }
 
-    /// Takes a line out of its set and gives what was kept of it, or nothing where it isn't there.
+    /// Takes a line out of its set and gives what was kept of it, or nothing if it isn't there.
     pub fn remove(&mut self, set: usize, line: u64) -> Option<V>
         requires { set < length self.old.sets }
         ensures value { result ≡ look self.old.sets set line }
@@ -116,7 +117,16 @@ impl<V: Copy> LineSets<V> {
 
 impl<V: Copy + Listed> LineSets<V> {
     /// The lines of all sets whose values are listed, rising.
-    pub fn lines(&self) -> Result<Vec<u64>, AllocError>
+    pub fn lines(&self) -> Result<Vec<LineNo>, AllocError>
+        ensures lines { IfOk result (λ lines. IsPermutation (all_listed V.is_listed self.now.sets) lines.items) }
+        ensures rising { IfOk result (λ lines. IsSorted nat_cmp lines.items) }
+    {
+        let numbers = self.numbers()?;
+        line_numbers(numbers)
+    }
+
+    // The numbers of these lines.
+    fn numbers(&self) -> Result<Vec<u64>, AllocError>
         ensures lines { IfOk result (λ lines. IsPermutation (all_listed V.is_listed self.now.sets) lines.items) }
         ensures rising { IfOk result (λ lines. IsSorted nat_cmp lines.items) }
     {
@@ -165,7 +175,10 @@ mod tests {
         assert_eq!(rt; table.contents(1), [(5, Mark(11)), (9, Mark(7))].as_slice());
         assert_eq!(rt; table.find(1, 9), Some(&Mark(7)));
         assert_eq!(rt; table.find(0, 9), None);
-        assert_eq!(rt; table.lines()?.as_slice(), [5, 9].as_slice());
+        assert_eq!(rt;
+            table.lines()?.as_slice(),
+            [LineNo(5), LineNo(9)].as_slice()
+        );
         assert_eq!(rt; table.remove(1, 5), Some(Mark(11)));
         assert_eq!(rt; table.remove(1, 5), None);
         assert_eq!(rt; table.contents(1), [(9, Mark(7))].as_slice());

@@ -6,13 +6,13 @@ use Rattle.std.proofs.lemmas.List.{append-nil}
 use Rattle.std.proofs.lemmas.List.Sums.{prefix_len-le-length}
 use Rattle.std.specs.Prelude.{nat_le, not}
 use Rattle.std.specs.Str.{bytes_eq}
-use Rattle.litmus_grammar.specs.Pieces.{Piece, Word, Sign, LineEnd}
-use Rattle.litmus_grammar.specs.Naming.{place_of}
-use Rattle.litmus_grammar.specs.Spelling.{is_number, number_of, small_of, register_of, is_location}
-use Rattle.litmus_grammar.specs.declared.errors.Kind.{Kind}
-use Rattle.litmus_grammar.specs.declared.errors.Kind.TheVariants.{BadInitial, TooLarge, ValueRange}
-use Rattle.litmus_grammar.specs.Reading.{◌>>=◌, fails, next_at, word_at, sign_at, expect_at, end_line_at}
-use Rattle.litmus_grammar.proofs.Repeats.{repeat-takes}
+use Rattle.litmus_lexer.specs.Pieces.{Piece, Word, Sign, LineEnd}
+use Rattle.litmus_lexer.specs.Naming.{place_of}
+use Rattle.litmus_lexer.specs.Spelling.{is_number, number_of, small_of, register_of, is_location}
+use Rattle.litmus_lexer.specs.declared.errors.Kind.{Kind}
+use Rattle.litmus_lexer.specs.declared.errors.Kind.TheVariants.{BadInitial, TooLarge, ValueRange}
+use Rattle.litmus_lexer.specs.Reading.{◌>>=◌, fails, next_at, word_at, sign_at, expect_at, end_line_at}
+use Rattle.litmus_lexer.proofs.Repeats.{repeat-takes}
 use Rattle.litmus_parser.specs.Names.{Names, same_name}
 use Rattle.litmus_parser.specs.ReadingItems.{location_at, number_at, setting_at, register_item_at, location_item_at, item_of, item_at}
 use Rattle.litmus_parser.specs.ReadingBlock.{Block, separated, added, whole_item_at, entry_of, entry_at, unended, items_at, block_at}

@@ -1,33 +1,36 @@
 -- A part of a condition and further ones, each behind a sign, one after another.
 use Rattle.std.proofs.Common.{◌≡◌, ℕ, ◌+◌, ◌-◌, ◌<◌, ◌≤◌, Bool, true, false, List, Result, Ok, refl, sym, ap, ◌∙◌}
-use Rattle.litmus_grammar.specs.Pieces.{Piece}
-use Rattle.litmus_grammar.specs.declared.errors.LitmusError.{LitmusError}
-use Rattle.litmus_grammar.specs.declared.errors.ReadError.{ReadError}
-use Rattle.litmus_grammar.specs.declared.errors.ReadError.TheVariants.{Memory, Fault}
-use Rattle.litmus_grammar.specs.Reading.{◌>>=◌, Fails, Read, repeat_at}
-use Rattle.litmus_grammar.proofs.Repeats.{goes-on, fails-there, is-done, runs-out}
-use Rattle.litmus_parser.specs.Trees.{Tree, Both, Either}
-use Rattle.litmus_parser.specs.ReadingAtoms.{Sight, is_and, is_or}
-use Rattle.litmus_parser.specs.ReadingCondition.{Chain, joined_with, too_many_parts, chain_result, factor_at, and_factor_at, term_at, or_term_at, expression_at}
+use Rattle.litmus_lexer.specs.Pieces.{Piece}
+use Rattle.litmus_lexer.specs.declared.errors.LitmusError.{LitmusError}
+use Rattle.litmus_lexer.specs.declared.errors.ReadError.{ReadError}
+use Rattle.litmus_lexer.specs.declared.errors.ReadError.TheVariants.{Memory, Fault}
+use Rattle.litmus_lexer.specs.Reading.{◌>>=◌, Fails, Read, repeat_at}
+use Rattle.litmus_lexer.proofs.Repeats.{goes-on, fails-there, is-done, runs-out}
+use Rattle.litmus_parser.specs.Trees.{Tree}
+use Rattle.litmus_parser.specs.ReadingCondition.{Chain, joined_with, too_many_parts, chain_result, sign_of, join_of, part_at, next_part_at, chain_at}
+use Rattle.litmus_parser.specs.declared.expressions.Connective.{Connective}
+use Rattle.litmus_parser.specs.declared.expressions.Connective.TheVariants.{And, Or}
 use Rattle.litmus_parser.specs.declared.syntax.Item.{Item}
+use Rattle.litmus_parser.specs.GrammarCondition.{Sight}
 
 pub fails-on : {A B : Type 0} (e : ReadError) (r : Result A LitmusError) (g : A → Result B LitmusError) (total : Result B LitmusError) → Fails e r → (r >>= g) ≡ total → Fails e total
 fails-on Memory r g total h a = tt
 fails-on (Fault f) r g total h a = sym a ∙ ap (λ x. x >>= g) h
 
-pub first-term : (items : List Item) (threads depth : ℕ) (s : Sight) (line : ℕ) (pieces : List Piece) (t : Tree) (s' : Sight) (line' : ℕ) (pieces' : List Piece)
-    → term_at items threads depth s line pieces ≡ Ok ((t, s'), line', pieces')
-    → (repeat_at 256 (or_term_at items threads depth) too_many_parts (t, s', line', pieces') >>= chain_result) ≡ expression_at items threads depth s line pieces
-unfolding or_term_at
-first-term items threads depth s line pieces t s' line' pieces' h =
-    sym (ap (λ (r : Read (Tree × Sight)). r >>= λ first. repeat_at 256 (joined_with is_or Either (term_at items threads depth)) too_many_parts (first.0.0, first.0.1, first.1, first.2) >>= chain_result) h)
+pub first-part : (c : Connective) (items : List Item) (threads depth : ℕ) (s : Sight) (line : ℕ) (pieces : List Piece)
+    → (t : Tree) (s' : Sight) (line' : ℕ) (pieces' : List Piece)
+    → part_at c items threads depth s line pieces ≡ Ok ((t, s'), line', pieces')
+    → (repeat_at 256 (next_part_at c items threads depth) too_many_parts (t, s', line', pieces') >>= chain_result)
+    ≡ chain_at c items threads depth s line pieces
+unfolding next_part_at
+first-part c items threads depth s line pieces t s' line' pieces' h =
+    sym (ap (λ (r : Read (Tree × Sight)). r >>= λ first. repeat_at 256 (joined_with (sign_of c) (join_of c) (part_at c items threads depth)) too_many_parts
+    (first.0.0, first.0.1, first.1, first.2) >>= chain_result) h)
 
-pub first-factor : (items : List Item) (threads depth : ℕ) (s : Sight) (line : ℕ) (pieces : List Piece) (t : Tree) (s' : Sight) (line' : ℕ) (pieces' : List Piece)
-    → factor_at items threads depth s line pieces ≡ Ok ((t, s'), line', pieces')
-    → (repeat_at 256 (and_factor_at items threads depth) too_many_parts (t, s', line', pieces') >>= chain_result) ≡ term_at items threads depth s line pieces
-unfolding and_factor_at
-first-factor items threads depth s line pieces t s' line' pieces' h =
-    sym (ap (λ (r : Read (Tree × Sight)). r >>= λ first. repeat_at 256 (joined_with is_and Both (factor_at items threads depth)) too_many_parts (first.0.0, first.0.1, first.1, first.2) >>= chain_result) h)
+-- a part of a connective is read before the next part, and a chain after both
+abbrev pub level : Connective → ℕ
+level And = 0
+level Or = 3
 
 abbrev pub Step : Type 0
 Step = Chain → Result (Bool × Chain) LitmusError

@@ -1,20 +1,19 @@
 -- A condition that is in the grammar is read.
 use Rattle.std.proofs.Common.{◌≡◌, ◌≢◌, ℕ, zero, suc, ◌+◌, ◌-◌, ◌<◌, ◌≤◌, Bool, true, false, eqb, leb, List, [], ◌∷◌, Option, Some, None, Ok, refl, sym, ap, ◌∙◌, inl, inr, arith}
 use Rattle.std.proofs.lemmas.Bool.{lt-leb, ne_eqb}
-use Rattle.litmus_grammar.specs.Pieces.{Piece, Word, Sign, LineEnd}
-use Rattle.litmus_grammar.specs.Spelling.{register_of}
-use Rattle.litmus_grammar.specs.declared.errors.Kind.TheVariants.{BadCondition, BadTable}
-use Rattle.litmus_grammar.specs.Reading.{◌>>=◌, Read, found, next_at, word_at, expect_at, here_at, word_here_at, repeat_at}
-use Rattle.litmus_grammar.proofs.LocationWords.{location-no_thread}
+use Rattle.litmus_lexer.specs.Pieces.{Piece, Word, Sign, LineEnd}
+use Rattle.litmus_lexer.specs.Spelling.{register_of, is_and, is_or}
+use Rattle.litmus_lexer.specs.declared.errors.Kind.TheVariants.{BadCondition, BadTable}
+use Rattle.litmus_lexer.specs.Reading.{◌>>=◌, Read, found, next_at, word_at, expect_at, here_at, word_here_at, repeat_at}
+use Rattle.litmus_lexer.proofs.LocationWords.{location-no_thread}
 use Rattle.litmus_parser.specs.Names.{Names, address_of, is_there}
 use Rattle.litmus_parser.specs.Trees.{Tree, Is, Both, Either}
 use Rattle.litmus_parser.specs.ReadingItems.{number_at}
-use Rattle.litmus_parser.specs.ReadingTable.{quantifier_of}
-use Rattle.litmus_parser.specs.ReadingAtoms.{Sight, is_and, is_or, joined_at, register_name_at, location_name_at, name_at, atom_at}
+use Rattle.litmus_parser.specs.ReadingAtoms.{joined_at, register_name_at, location_name_at, name_at, atom_at}
 use Rattle.litmus_parser.specs.ReadingCondition.{Reader, joined_with, too_many_parts, chain_result, chained, in_parentheses, factor_of, too_deep, factor_at, term_at, expression_at}
 use Rattle.litmus_parser.specs.ReadingEnd.{keyword_at, further_at, whole_at, condition_at}
-use Rattle.litmus_parser.specs.GrammarWords.{Next}
-use Rattle.litmus_parser.specs.GrammarCondition.{IsNamed, IsAtom, and_word, or_word, Part, Chained, one, more, IsFactor, IsExpression, Ends, IsCondition}
+use Rattle.litmus_parser.specs.GrammarWords.{Next, Ends}
+use Rattle.litmus_parser.specs.GrammarCondition.{IsNamed, IsAtom, and_word, or_word, Part, Chained, one, more, IsFactor, IsExpression, IsCondition, Sight}
 use Rattle.litmus_parser.specs.declared.syntax.Item.{Item}
 use Rattle.litmus_parser.specs.declared.syntax.Name.{Name}
 use Rattle.litmus_parser.specs.declared.syntax.Name.TheVariants.{Register, Location}
@@ -22,6 +21,7 @@ use Rattle.litmus_parser.specs.declared.syntax.Quantifier.{Quantifier}
 use Rattle.litmus_parser.proofs.Chains.{next-is, none-left}
 use Rattle.litmus_parser.proofs.Onward.{Again, onward, onward_past, next_again, word_again, expect_again}
 use Rattle.litmus_parser.proofs.WordsAgain.{number_again, location_again}
+use Rattle.litmus_parser.specs.Keywords.{quantifier_of}
 
 -- the same registers hold the same addresses
 abbrev pub Agree : List Item → List Item → Type 0
@@ -90,7 +90,7 @@ Counts P = (s : Sight) (pieces : List Piece) (tree : Tree) (t : Sight) (rest : L
 abbrev pub Reads : (List Piece → Type 0) → Reader → Part → Type 0
 Reads F read P = (s : Sight) (line : ℕ) (pieces : List Piece) (tree : Tree) (t : Sight) (rest : List Piece) → F rest → P s pieces tree t rest → Again (read s line pieces) (tree, t) rest
 
-chain_counts : (P : Part) (sign : Piece) (join : Tree → Tree → Tree) → Counts P → Counts (Chained P sign join)
+pub chain_counts : (P : Part) (sign : Piece) (join : Tree → Tree → Tree) → Counts P → Counts (Chained P sign join)
 chain_counts P sign join counts s pieces tree t rest (one h) = counts s pieces tree t rest h
 chain_counts P sign join counts s pieces tree t rest (more {b = b} v qs rs c n h) =
     let first = chain_counts P sign join counts s pieces _ v qs c in
@@ -197,7 +197,7 @@ atom_counts items threads s pieces (Is name n) t rest (v, a, b, named, n1, n2, v
 atom_counts items threads s pieces (Both x y) t rest h = absurd h
 atom_counts items threads s pieces (Either x y) t rest h = absurd h
 
-factor_counts : (items : List Item) (threads depth : ℕ) → Counts (IsFactor items threads depth)
+pub factor_counts : (items : List Item) (threads depth : ℕ) → Counts (IsFactor items threads depth)
 factor_counts items threads zero s pieces tree t rest h = atom_counts items threads s pieces tree t rest h
 factor_counts items threads (suc depth) s pieces tree t rest (inl h) = atom_counts items threads s pieces tree t rest h
 factor_counts items threads (suc depth) s pieces tree t rest (inr (a, b, n1, h, n2)) =

@@ -1,26 +1,26 @@
 -- What is read as the condition is in the grammar.
 use Rattle.std.proofs.Common.{◌≡◌, ℕ, zero, suc, ◌+◌, Bool, true, false, cond, eqb, leb, List, [], ◌∷◌, Option, Some, None, Ok, refl, ap, subst, ◌∙◌, inl, inr}
 use Rattle.std.proofs.lemmas.Bool.{eqb-true, eqb-false, leb-false, and_parts}
-use Rattle.litmus_grammar.specs.Pieces.{Piece, Word, Sign, LineEnd}
-use Rattle.litmus_grammar.specs.Spelling.{small_of, register_of}
-use Rattle.litmus_grammar.specs.declared.errors.Kind.TheVariants.{BadCondition, BadTable, AddressAsValue}
-use Rattle.litmus_grammar.specs.Reading.{◌>>=◌, fails, behind, next_at, word_at, expect_at, word_here_at, repeat_at}
-use Rattle.litmus_grammar.proofs.Repeats.{repeat-takes}
+use Rattle.litmus_lexer.specs.Pieces.{Piece, Word, Sign, LineEnd}
+use Rattle.litmus_lexer.specs.Spelling.{small_of, register_of, is_and, is_or}
+use Rattle.litmus_lexer.specs.declared.errors.Kind.TheVariants.{BadCondition, BadTable, AddressAsValue}
+use Rattle.litmus_lexer.specs.Reading.{◌>>=◌, fails, behind, next_at, word_at, expect_at, word_here_at, repeat_at}
+use Rattle.litmus_lexer.proofs.Repeats.{repeat-takes}
 use Rattle.litmus_parser.specs.Names.{Names, address_of, is_there}
 use Rattle.litmus_parser.specs.Trees.{Tree, Is, Both, Either}
 use Rattle.litmus_parser.specs.ReadingItems.{location_at, number_at}
-use Rattle.litmus_parser.specs.ReadingTable.{quantifier_of}
-use Rattle.litmus_parser.specs.ReadingAtoms.{Sight, is_and, is_or, joined_at, register_name_at, location_name_at, name_of, name_at, atom_at}
+use Rattle.litmus_parser.specs.ReadingAtoms.{joined_at, register_name_at, location_name_at, name_of, name_at, atom_at}
 use Rattle.litmus_parser.specs.ReadingCondition.{Reader, Chain, joined_with, too_many_parts, chain_result, chained, in_parentheses, factor_of, too_deep, factor_at, term_at, expression_at}
 use Rattle.litmus_parser.specs.ReadingEnd.{keyword_at, further_at, unless_further, whole_at, condition_at}
-use Rattle.litmus_parser.specs.GrammarWords.{Next}
-use Rattle.litmus_parser.specs.GrammarCondition.{IsNamed, IsAtom, and_word, or_word, Part, Chained, one, more, IsFactor, IsExpression, Ends, IsCondition}
+use Rattle.litmus_parser.specs.GrammarWords.{Next, Ends}
+use Rattle.litmus_parser.specs.GrammarCondition.{IsNamed, IsAtom, and_word, or_word, Part, Chained, one, more, IsFactor, IsExpression, IsCondition, Sight}
 use Rattle.litmus_parser.specs.declared.syntax.Item.{Item}
 use Rattle.litmus_parser.specs.declared.syntax.Name.{Name}
 use Rattle.litmus_parser.specs.declared.syntax.Name.TheVariants.{Register, Location}
 use Rattle.litmus_parser.specs.declared.syntax.Quantifier.{Quantifier}
 use Rattle.litmus_parser.proofs.Steps.{bind_ok, found_ok, ok_is, then_ok, else_ok, next_takes, word_takes, expect_takes, word_here_takes}
 use Rattle.litmus_parser.proofs.BlockTakes.{location_takes, value_takes}
+use Rattle.litmus_parser.specs.Keywords.{quantifier_of}
 
 -- ---- atoms
 
@@ -50,7 +50,7 @@ register_name_takes items threads before tw thread line pieces names x first is_
       refl,
     )
 
-abbrev TakesName : List Item → ℕ → List Piece → Names → (Name × Names) × ℕ × List Piece → Type 0
+abbrev pub TakesName : List Item → ℕ → List Piece → Names → (Name × Names) × ℕ × List Piece → Type 0
 TakesName items threads before names y = IsNamed items threads before names y.0.0 y.0.1 y.2
 
 location_name_takes : (items : List Item) (threads : ℕ) (before : List Piece) (first : List ℕ) (names : Names) (line : ℕ) (pieces : List Piece) (x : (Name × Names) × ℕ × List Piece)
@@ -60,14 +60,14 @@ location_name_takes items threads before first names line pieces x n e =
     let l = bind_ok (location_at BadCondition first line names) (λ l. Ok ((Location l.0, l.1), line, pieces)) x e in
     subst (TakesName items threads before names) (ok_is ((Location l.0.0, l.0.1), line, pieces) x l.2) (first, n, location_takes BadCondition first line names l.0 l.1)
 
-name_of_takes : (items : List Item) (threads : ℕ) (before : List Piece) (o : Option ℕ) (first : List ℕ) (names : Names) (line : ℕ) (pieces : List Piece) (x : (Name × Names) × ℕ × List Piece)
+pub name_of_takes : (items : List Item) (threads : ℕ) (before : List Piece) (o : Option ℕ) (first : List ℕ) (names : Names) (line : ℕ) (pieces : List Piece) (x : (Name × Names) × ℕ × List Piece)
     → Next before (Word first) pieces → small_of 15 first ≡ o → name_of items threads o first names line pieces ≡ Ok x → TakesName items threads before names x
 name_of_takes items threads before (Some thread) first names line pieces x n s e =
     let r = bind_ok (register_name_at items threads thread line pieces) (λ r. Ok ((r.0, names), r.1, r.2)) x e in
     subst (TakesName items threads before names) (ok_is ((r.0.0, names), r.0.1, r.0.2) x r.2) (register_name_takes items threads before first thread line pieces names r.0 n s r.1)
 name_of_takes items threads before None first names line pieces x n s e = location_name_takes items threads before first names line pieces x n e
 
-abbrev TakesPart : Part → Sight → List Piece → (Tree × Sight) × ℕ × List Piece → Type 0
+abbrev pub TakesPart : Part → Sight → List Piece → (Tree × Sight) × ℕ × List Piece → Type 0
 TakesPart P s pieces y = P s pieces y.0.0 y.0.1 y.2
 
 atom_takes : (items : List Item) (threads : ℕ) (before : List Piece) (first : List ℕ) (s : Sight) (line : ℕ) (pieces : List Piece) (x : (Tree × Sight) × ℕ × List Piece)
@@ -93,17 +93,17 @@ atom_takes items threads before first s line pieces x n e =
 
 -- ---- chains
 
-abbrev IsSound : Reader → Part → Type 0
+abbrev pub IsSound : Reader → Part → Type 0
 IsSound read P = (s : Sight) (line : ℕ) (pieces : List Piece) (x : (Tree × Sight) × ℕ × List Piece) → read s line pieces ≡ Ok x → TakesPart P s pieces x
 
 joined_if : (b : Bool) (line : ℕ) (pieces : List Piece) (at : ℕ × List Piece) → cond b (Some (line, pieces)) None ≡ Some at → (b ≡ true) × (pieces ≡ at.1)
 joined_if true line pieces at e = (refl, let p : (let y : ℕ × List Piece = (line, pieces) in y) ≡ at = cc in ap (λ (y : ℕ × List Piece). y.1) p)
 joined_if false line pieces at e = absurd cc
 
-abbrev IsSignOf : (List ℕ → Bool) → Piece → Type 0
+abbrev pub IsSignOf : (List ℕ → Bool) → Piece → Type 0
 IsSignOf is_sign sign = (w : List ℕ) → is_sign w ≡ true → Word w ≡ sign
 
-joined_takes : (is_sign : List ℕ → Bool) (sign : Piece) → IsSignOf is_sign sign → (line : ℕ) (pieces : List Piece) (at : ℕ × List Piece) → joined_at is_sign line pieces ≡ Some at → Next pieces sign at.1
+pub joined_takes : (is_sign : List ℕ → Bool) (sign : Piece) → IsSignOf is_sign sign → (line : ℕ) (pieces : List Piece) (at : ℕ × List Piece) → joined_at is_sign line pieces ≡ Some at → Next pieces sign at.1
 unfolding joined_at
 joined_takes is_sign sign s line [] at e = absurd cc
 joined_takes is_sign sign s line (LineEnd ∷ pieces) at e = joined_takes is_sign sign s (line + 1) pieces at e
@@ -127,7 +127,7 @@ step_of_takes P sign join is_sign s read sound c (Some at) x j e =
     subst (Step P sign join c) (ok_is (true, (join c.0 r.0.0.0, r.0.0.1, r.0.1, r.0.2)) x r.2)
     (λ s' ps h. more c.1 c.3 at.1 h (joined_takes is_sign sign s c.2 c.3 at j) (sound c.1 at.0 at.1 r.0 r.1))
 
-chain_takes : (P : Part) (sign : Piece) (join : Tree → Tree → Tree) (is_sign : List ℕ → Bool) → IsSignOf is_sign sign → (read : Reader) → IsSound read P
+pub chain_takes : (P : Part) (sign : Piece) (join : Tree → Tree → Tree) (is_sign : List ℕ → Bool) → IsSignOf is_sign sign → (read : Reader) → IsSound read P
     → IsSound (chained is_sign join read) (Chained P sign join)
 chain_takes P sign join is_sign s read sound sight line pieces x e =
     let first = bind_ok (read sight line pieces) (λ first. repeat_at 256 (joined_with is_sign join read) too_many_parts (first.0.0, first.0.1, first.1, first.2) >>= chain_result) x e in
@@ -138,13 +138,13 @@ chain_takes P sign join is_sign s read sound sight line pieces x e =
     (λ a t k. absurd cc) 256 (first.0.0.0, first.0.0.1, first.0.1, first.0.2) c.0 c.1 in
     subst (TakesPart (Chained P sign join) sight pieces) (ok_is ((c.0.0, c.0.1), c.0.2, c.0.3) x c.2) (grows sight pieces (one (sound sight line pieces first.0 first.1)))
 
-ands : IsSignOf is_and and_word
+pub ands : IsSignOf is_and and_word
 ands [] e = absurd cc
 ands (a ∷ []) e = absurd cc
 ands (a ∷ b ∷ []) e = let p = and_parts (eqb a 47) (eqb b 92) e in rw (eqb-true a 47 p.0, eqb-true b 92 p.1) refl
 ands (a ∷ b ∷ c ∷ w) e = absurd cc
 
-ors : IsSignOf is_or or_word
+pub ors : IsSignOf is_or or_word
 ors [] e = absurd cc
 ors (a ∷ []) e = absurd cc
 ors (a ∷ b ∷ []) e = let p = and_parts (eqb a 92) (eqb b 47) e in rw (eqb-true a 92 p.0, eqb-true b 47 p.1) refl
@@ -175,7 +175,7 @@ paren_takes items threads depth read sound before s line pieces x n e =
     subst (TakesPart (IsFactor items threads (suc depth)) s before) (ok_is (inner.0.0, close.0.0, close.0.1) x close.2)
     (inr (pieces, inner.0.2, n, sound s line pieces inner.0 inner.1, expect_takes 41 BadCondition inner.0.1 inner.0.2 close.0 close.1))
 
-factor_takes : (items : List Item) (threads depth : ℕ) → IsSound (factor_at items threads depth) (IsFactor items threads depth)
+pub factor_takes : (items : List Item) (threads depth : ℕ) → IsSound (factor_at items threads depth) (IsFactor items threads depth)
 unfolding factor_at
 factor_takes items threads zero s line pieces x e =
     let b = bind_ok (next_at line pieces) (factor_of items threads too_deep s) x e in
@@ -188,7 +188,7 @@ factor_takes items threads (suc depth) s line pieces x e =
     (chain_takes (IsFactor items threads depth) and_word Both is_and ands (factor_at items threads depth) (factor_takes items threads depth)) in
     factor_begins items threads (suc depth) inner pieces s (λ line' pieces' x' n' e'. paren_takes items threads depth (expression_at items threads depth) sound pieces s line' pieces' x' n' e') b.0.0 b.0.1 b.0.2 x (next_takes line pieces b.0 b.1) b.2
 
-expression_takes : (items : List Item) (threads depth : ℕ) → IsSound (expression_at items threads depth) (IsExpression items threads depth)
+pub expression_takes : (items : List Item) (threads depth : ℕ) → IsSound (expression_at items threads depth) (IsExpression items threads depth)
 expression_takes items threads depth =
     chain_takes (Chained (IsFactor items threads depth) and_word Both) or_word Either is_or ors (term_at items threads depth)
     (chain_takes (IsFactor items threads depth) and_word Both is_and ands (factor_at items threads depth) (factor_takes items threads depth))

@@ -1,17 +1,17 @@
 -- A condition that is refused as such is refused at a piece, whatever follows that piece.
 use Rattle.std.proofs.Common.{◌≡◌, ◌≢◌, ℕ, zero, suc, ◌+◌, ◌⊎◌, Bool, true, false, cond, eqb, ltb, leb, List, [], ◌∷◌, ◌++◌, length, Option, Some, None, Result, Ok, Err, refl, sym, ap, subst, ◌∙◌, inl, inr, arith}
 use Rattle.std.proofs.lemmas.Bool.{cases_Bool}
-use Rattle.litmus_grammar.specs.Pieces.{Piece, Word, Sign, LineEnd}
-use Rattle.litmus_grammar.specs.Naming.{place_of}
-use Rattle.litmus_grammar.specs.Spelling.{is_number, number_of, small_of, register_of, is_location}
-use Rattle.litmus_grammar.specs.declared.errors.Kind.{Kind}
-use Rattle.litmus_grammar.specs.declared.errors.Kind.TheVariants.{TooLarge, ValueRange, AddressAsValue, BadCondition, CutShort}
-use Rattle.litmus_grammar.specs.declared.errors.LitmusError.{LitmusError}
-use Rattle.litmus_grammar.specs.Reading.{◌>>=◌, Read, fails, next_at, word_at, expect_at, repeat_at}
+use Rattle.litmus_lexer.specs.Pieces.{Piece, Word, Sign, LineEnd}
+use Rattle.litmus_lexer.specs.Naming.{place_of}
+use Rattle.litmus_lexer.specs.Spelling.{is_number, number_of, small_of, register_of, is_location, is_and, is_or}
+use Rattle.litmus_lexer.specs.declared.errors.Kind.{Kind}
+use Rattle.litmus_lexer.specs.declared.errors.Kind.TheVariants.{TooLarge, ValueRange, AddressAsValue, BadCondition, CutShort}
+use Rattle.litmus_lexer.specs.declared.errors.LitmusError.{LitmusError}
+use Rattle.litmus_lexer.specs.Reading.{◌>>=◌, Read, fails, next_at, word_at, expect_at, repeat_at}
 use Rattle.litmus_parser.specs.Names.{Names, address_of, is_there}
 use Rattle.litmus_parser.specs.Trees.{Tree, Is, Both, Either}
 use Rattle.litmus_parser.specs.ReadingItems.{location_at, number_at}
-use Rattle.litmus_parser.specs.ReadingAtoms.{Sight, is_and, is_or, joined_at, register_name_at, location_name_at, name_of, name_at, atom_at}
+use Rattle.litmus_parser.specs.ReadingAtoms.{joined_at, register_name_at, location_name_at, name_of, name_at, atom_at}
 use Rattle.litmus_parser.specs.ReadingCondition.{Reader, Chain, joined_with, too_many_parts, chain_result, chained, in_parentheses, factor_of, too_deep, factor_at, expression_at}
 use Rattle.litmus_parser.specs.ReadingEnd.{further_at, unless_further, whole_at}
 use Rattle.litmus_parser.specs.Places.{line_ends}
@@ -21,6 +21,7 @@ use Rattle.litmus_parser.specs.declared.syntax.Name.{Name}
 use Rattle.litmus_parser.specs.declared.syntax.Name.TheVariants.{Register, Location}
 use Rattle.litmus_parser.proofs.ConditionAgain.{expression_again, none_again, end-stops}
 use Rattle.litmus_parser.proofs.WaysOn.{Plain, Reading, Way, passes, refuses, at_once, other, Anything, anything, first_of, SameFirst, same_first, behind_front, bind_way, then_way, looser, done, stops, test_way, found_way, read, past, next_way, word_way, expect_way}
+use Rattle.litmus_parser.specs.GrammarCondition.{Sight}
 
 not_short : CutShort ≢ BadCondition
 not_short e = absurd cc

@@ -1,11 +1,10 @@
 -- A reading leads on, or its fault has its cause.
-use Rattle.std.proofs.Common.{◌≡◌, ℕ, zero, suc, ◌+◌, Bool, true, false, cond, eqb, List, [], ◌∷◌, ◌++◌, Option, Some, None, Result, Ok, Err, refl, sym, ap, subst, ◌∙◌, append_assoc, arith}
-use Rattle.std.proofs.lemmas.Bool.{eqb-true}
-use Rattle.litmus_grammar.specs.Pieces.{Piece, Word, Sign, LineEnd}
-use Rattle.litmus_grammar.specs.declared.errors.Kind.{Kind}
-use Rattle.litmus_grammar.specs.declared.errors.Kind.TheVariants.{CutShort}
-use Rattle.litmus_grammar.specs.declared.errors.LitmusError.{LitmusError}
-use Rattle.litmus_grammar.specs.Reading.{◌>>=◌, fails, found, as_word, as_sign, next_at, word_at, sign_at, expect_at, repeat_at}
+use Rattle.std.proofs.Common.{◌≡◌, ℕ, zero, suc, ◌+◌, Bool, true, false, cond, List, [], ◌∷◌, ◌++◌, Option, Some, None, Result, Ok, Err, refl, sym, ap, subst, ◌∙◌, append_assoc, arith}
+use Rattle.litmus_lexer.specs.Pieces.{Piece, Word, Sign, LineEnd}
+use Rattle.litmus_lexer.specs.declared.errors.Kind.{Kind}
+use Rattle.litmus_lexer.specs.declared.errors.Kind.TheVariants.{CutShort}
+use Rattle.litmus_lexer.specs.declared.errors.LitmusError.{LitmusError}
+use Rattle.litmus_lexer.specs.Reading.{◌>>=◌, found, repeat_at}
 use Rattle.litmus_parser.specs.Places.{Place, line_ends}
 
 -- ---- places
@@ -90,106 +89,7 @@ unfolding repeat_at
 repeat_counted C P Q step out more end zero s h = end s h
 repeat_counted C P Q step out more end (suc k) s h = next-turn C (P k) Q (repeat_at k step out) (repeat_counted C P Q step out more end k) (step s) (more k s h)
 
-pub repeat_explains : (C : Kind → ℕ → Type 0) {S : Type 0} (P Q : S → Type 0) (step : S → Result (Bool × S) LitmusError) (out : S → Result S LitmusError)
-    → ((s : S) → P s → Explains C (Onto P Q) (step s)) → ((s : S) → P s → Explains C Q (out s)) → (k : ℕ) (s : S) → P s → Explains C Q (repeat_at k step out s)
-repeat_explains C P Q step out more end k s h = repeat_counted C (λ k. P) Q step out (λ k. more) end k s h
-
 -- ---- pieces of a part that begins in a line; where they are all taken, the text is cut short
 
 abbrev pub EndsShort : (Kind → ℕ → Type 0) → ℕ → List Piece → Type 0
 EndsShort C line pieces = (n : ℕ) → Place line pieces n [] → C CutShort n
-
-abbrev pub Anywhere : (Kind → ℕ → Type 0) → ℕ → List Piece → Kind → Type 0
-Anywhere C line pieces kind = (n : ℕ) (rest : List Piece) → Place line pieces n rest → C kind n
-
--- ---- a place, and what is known of the pieces in front of it
-
-abbrev pub At : (List Piece → Type 0) → ℕ → List Piece → ℕ → List Piece → Type 0
-At G line pieces n rest = (p : Place line pieces n rest) × G p.front
-
--- what a line end doesn't change
-abbrev pub Keeps : (List Piece → Type 0) → Type 0
-Keeps G = (front : List Piece) → G front → G (front ++ LineEnd ∷ [])
-
--- over one piece, where H holds behind it
-pub past_word : (G H : List Piece → Type 0) (line : ℕ) (pieces : List Piece) (n : ℕ) (w : List ℕ) (rest : List Piece) → ((front : List Piece) → G front → H (front ++ Word w ∷ []))
-    → At G line pieces n (Word w ∷ rest) → At H line pieces n rest
-unfolding over_word beyond
-past_word G H line pieces n w rest go a = (over_word a.0, go a.0.front a.1)
-
-pub past_sign : (G H : List Piece → Type 0) (line : ℕ) (pieces : List Piece) (n b : ℕ) (rest : List Piece) → ((front : List Piece) → G front → H (front ++ Sign b ∷ []))
-    → At G line pieces n (Sign b ∷ rest) → At H line pieces n rest
-unfolding over_sign beyond
-past_sign G H line pieces n b rest go a = (over_sign a.0, go a.0.front a.1)
-
-pub next_keeps : (C : Kind → ℕ → Type 0) (line : ℕ) (pieces : List Piece) → EndsShort C line pieces → (G : List Piece → Type 0) → Keeps G
-    → (n : ℕ) (rest : List Piece) → At G line pieces n rest → Explains C (λ (x : Piece × ℕ × List Piece). At G line pieces x.1 (x.0 ∷ x.2)) (next_at n rest)
-unfolding next_at over_end beyond
-next_keeps C line pieces short G keeps n [] a = short n a.0
-next_keeps C line pieces short G keeps n (LineEnd ∷ rest) a = next_keeps C line pieces short G keeps (n + 1) rest (over_end a.0, keeps a.0.front a.1)
-next_keeps C line pieces short G keeps n (Word w ∷ rest) a = a
-next_keeps C line pieces short G keeps n (Sign b ∷ rest) a = a
-
-as_word_keeps : (C : Kind → ℕ → Type 0) (line : ℕ) (pieces : List Piece) (kind : Kind) → Anywhere C line pieces kind → (G : List Piece → Type 0)
-    → (p : Piece) (n : ℕ) (rest : List Piece) → At G line pieces n (p ∷ rest) → Explains C (λ (x : List ℕ × ℕ × List Piece). At G line pieces x.1 (Word x.0 ∷ x.2)) (as_word kind (p, n, rest))
-as_word_keeps C line pieces kind any G (Word w) n rest a = a
-as_word_keeps C line pieces kind any G (Sign b) n rest a = any n _ a.0
-as_word_keeps C line pieces kind any G LineEnd n rest a = any n _ a.0
-
-as_sign_keeps : (C : Kind → ℕ → Type 0) (line : ℕ) (pieces : List Piece) (kind : Kind) → Anywhere C line pieces kind → (G : List Piece → Type 0)
-    → (p : Piece) (n : ℕ) (rest : List Piece) → At G line pieces n (p ∷ rest) → Explains C (λ (x : ℕ × ℕ × List Piece). At G line pieces x.1 (Sign x.0 ∷ x.2)) (as_sign kind (p, n, rest))
-as_sign_keeps C line pieces kind any G (Word w) n rest a = any n _ a.0
-as_sign_keeps C line pieces kind any G (Sign b) n rest a = a
-as_sign_keeps C line pieces kind any G LineEnd n rest a = any n _ a.0
-
-pub word_keeps : (C : Kind → ℕ → Type 0) (line : ℕ) (pieces : List Piece) (kind : Kind) → EndsShort C line pieces → Anywhere C line pieces kind → (G : List Piece → Type 0) → Keeps G
-    → (n : ℕ) (rest : List Piece) → At G line pieces n rest → Explains C (λ (x : List ℕ × ℕ × List Piece). At G line pieces x.1 (Word x.0 ∷ x.2)) (word_at kind n rest)
-unfolding word_at
-word_keeps C line pieces kind short any G keeps n rest a =
-    bind_explains C (λ (x : Piece × ℕ × List Piece). At G line pieces x.1 (x.0 ∷ x.2)) (λ (x : List ℕ × ℕ × List Piece). At G line pieces x.1 (Word x.0 ∷ x.2)) (next_at n rest) (as_word kind)
-    (next_keeps C line pieces short G keeps n rest a) (λ x e q. as_word_keeps C line pieces kind any G x.0 x.1 x.2 q)
-
-pub sign_keeps : (C : Kind → ℕ → Type 0) (line : ℕ) (pieces : List Piece) (kind : Kind) → EndsShort C line pieces → Anywhere C line pieces kind → (G : List Piece → Type 0) → Keeps G
-    → (n : ℕ) (rest : List Piece) → At G line pieces n rest → Explains C (λ (x : ℕ × ℕ × List Piece). At G line pieces x.1 (Sign x.0 ∷ x.2)) (sign_at kind n rest)
-unfolding sign_at
-sign_keeps C line pieces kind short any G keeps n rest a =
-    bind_explains C (λ (x : Piece × ℕ × List Piece). At G line pieces x.1 (x.0 ∷ x.2)) (λ (x : ℕ × ℕ × List Piece). At G line pieces x.1 (Sign x.0 ∷ x.2)) (next_at n rest) (as_sign kind)
-    (next_keeps C line pieces short G keeps n rest a) (λ x e q. as_sign_keeps C line pieces kind any G x.0 x.1 x.2 q)
-
-pub expect_keeps : (C : Kind → ℕ → Type 0) (line : ℕ) (pieces : List Piece) (wanted : ℕ) (kind : Kind) → EndsShort C line pieces → Anywhere C line pieces kind → (G : List Piece → Type 0) → Keeps G
-    → (n : ℕ) (rest : List Piece) → At G line pieces n rest → Explains C (λ (x : ℕ × List Piece). At G line pieces x.0 (Sign wanted ∷ x.1)) (expect_at wanted kind n rest)
-unfolding expect_at
-expect_keeps C line pieces wanted kind short any G keeps n rest a =
-    bind_explains C (λ (x : ℕ × ℕ × List Piece). At G line pieces x.1 (Sign x.0 ∷ x.2)) (λ (x : ℕ × List Piece). At G line pieces x.0 (Sign wanted ∷ x.1)) (sign_at kind n rest)
-    (λ s. cond (eqb s.0 wanted) (Ok (s.1, s.2)) (fails kind s.1)) (sign_keeps C line pieces kind short any G keeps n rest a) (λ s e q.
-    test_explains C (λ (x : ℕ × List Piece). At G line pieces x.0 (Sign wanted ∷ x.1)) (eqb s.0 wanted) (Ok (s.1, s.2)) (fails kind s.1)
-    (λ t. subst (λ b. At G line pieces s.1 (Sign b ∷ s.2)) (eqb-true s.0 wanted t) q) (λ t. any s.1 _ q.0))
-
--- ---- the same, where nothing need be known of the pieces in front
-
-abbrev Nothing : List Piece → Type 0
-Nothing front = Unit {0}
-
-pub next_explains : (C : Kind → ℕ → Type 0) (line : ℕ) (pieces : List Piece) → EndsShort C line pieces
-    → (n : ℕ) (rest : List Piece) → Place line pieces n rest → Explains C (λ (x : Piece × ℕ × List Piece). Place line pieces x.1 (x.0 ∷ x.2)) (next_at n rest)
-next_explains C line pieces short n rest p =
-    weaker C (λ x. At Nothing line pieces x.1 (x.0 ∷ x.2)) (λ x. Place line pieces x.1 (x.0 ∷ x.2)) (next_at n rest) (λ x a. a.0) (next_keeps C line pieces short Nothing (λ front h. tt) n rest (p, tt))
-
-pub word_explains : (C : Kind → ℕ → Type 0) (line : ℕ) (pieces : List Piece) (kind : Kind) → EndsShort C line pieces → Anywhere C line pieces kind
-    → (n : ℕ) (rest : List Piece) → Place line pieces n rest → Explains C (λ (x : List ℕ × ℕ × List Piece). Place line pieces x.1 (Word x.0 ∷ x.2)) (word_at kind n rest)
-word_explains C line pieces kind short any n rest p =
-    weaker C (λ x. At Nothing line pieces x.1 (Word x.0 ∷ x.2)) (λ x. Place line pieces x.1 (Word x.0 ∷ x.2)) (word_at kind n rest) (λ x a. a.0)
-    (word_keeps C line pieces kind short any Nothing (λ front h. tt) n rest (p, tt))
-
-pub sign_explains : (C : Kind → ℕ → Type 0) (line : ℕ) (pieces : List Piece) (kind : Kind) → EndsShort C line pieces → Anywhere C line pieces kind
-    → (n : ℕ) (rest : List Piece) → Place line pieces n rest → Explains C (λ (x : ℕ × ℕ × List Piece). Place line pieces x.1 (Sign x.0 ∷ x.2)) (sign_at kind n rest)
-sign_explains C line pieces kind short any n rest p =
-    weaker C (λ x. At Nothing line pieces x.1 (Sign x.0 ∷ x.2)) (λ x. Place line pieces x.1 (Sign x.0 ∷ x.2)) (sign_at kind n rest) (λ x a. a.0)
-    (sign_keeps C line pieces kind short any Nothing (λ front h. tt) n rest (p, tt))
-
--- the sign stands in front of the answer
-pub expect_explains : (C : Kind → ℕ → Type 0) (line : ℕ) (pieces : List Piece) (wanted : ℕ) (kind : Kind) → EndsShort C line pieces → Anywhere C line pieces kind
-    → (n : ℕ) (rest : List Piece) → Place line pieces n rest → Explains C (λ (x : ℕ × List Piece). Place line pieces x.0 (Sign wanted ∷ x.1)) (expect_at wanted kind n rest)
-expect_explains C line pieces wanted kind short any n rest p =
-    weaker C (λ x. At Nothing line pieces x.0 (Sign wanted ∷ x.1)) (λ x. Place line pieces x.0 (Sign wanted ∷ x.1)) (expect_at wanted kind n rest) (λ x a. a.0)
-    (expect_keeps C line pieces wanted kind short any Nothing (λ front h. tt) n rest (p, tt))

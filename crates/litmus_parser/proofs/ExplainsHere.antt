@@ -1,9 +1,9 @@
 -- A reading within a line leads on, or its fault has its cause; and so where lines begin and end.
 use Rattle.std.proofs.Common.{◌≡◌, ℕ, ◌+◌, eqb, List, [], ◌∷◌, Ok, refl, subst, inl, inr}
 use Rattle.std.proofs.lemmas.Bool.{eqb-true}
-use Rattle.litmus_grammar.specs.Pieces.{Piece, Word, Sign, LineEnd}
-use Rattle.litmus_grammar.specs.declared.errors.Kind.{Kind}
-use Rattle.litmus_grammar.specs.Reading.{fails, as_word, as_wanted, here_at, word_here_at, expect_here_at, start_at, end_line_at}
+use Rattle.litmus_lexer.specs.Pieces.{Piece, Word, Sign, LineEnd}
+use Rattle.litmus_lexer.specs.declared.errors.Kind.{Kind}
+use Rattle.litmus_lexer.specs.Reading.{fails, as_word, as_wanted, here_at, word_here_at, expect_here_at, start_at, end_line_at}
 use Rattle.litmus_parser.specs.GrammarWords.{EndsLine}
 use Rattle.litmus_parser.specs.GrammarTable.{Begins}
 use Rattle.litmus_parser.specs.Places.{Place}
@@ -49,16 +49,6 @@ expect_here_explains C wanted kind n rest c =
 -- a place whose rest is known by an equation
 pub at_rest : {line : ℕ} {pieces : List Piece} {n : ℕ} {rest : List Piece} {m : ℕ} {other : List Piece} → m ≡ n → rest ≡ other → Place line pieces n rest → Place line pieces m other
 at_rest {line = line} {pieces = pieces} {n = n} e f p = rw e (subst (λ r. Place line pieces n r) f p)
-
--- ---- from a place: here, the place that is answered
-
-pub here_from : (C : Kind → ℕ → Type 0) (line : ℕ) (pieces : List Piece) (kind : Kind) (n : ℕ) (rest : List Piece) → C kind n → Place line pieces n rest
-    → Explains C (λ (x : Piece × ℕ × List Piece). Place line pieces x.1 (x.0 ∷ x.2)) (here_at kind n rest)
-unfolding here_at
-here_from C line pieces kind n [] c p = c
-here_from C line pieces kind n (LineEnd ∷ rest) c p = c
-here_from C line pieces kind n (Word w ∷ rest) c p = p
-here_from C line pieces kind n (Sign b ∷ rest) c p = p
 
 -- ---- lines
 

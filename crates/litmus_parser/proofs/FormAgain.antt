@@ -1,8 +1,8 @@
 -- What the grammar has as an instruction is read, and what it stands for is answered.
 use Rattle.std.proofs.Common.{◌≡◌, ℕ, true, List, ◌∷◌, Option, Some, None, Ok, refl, ◌∙◌}
 use Rattle.std.proofs.lemmas.Bool.{lt-ltb, le-ltb}
-use Rattle.litmus_grammar.specs.Pieces.{Piece, Word, Sign}
-use Rattle.litmus_grammar.specs.declared.errors.Kind.TheVariants.{BadInstruction}
+use Rattle.litmus_lexer.specs.Pieces.{Piece, Word, Sign}
+use Rattle.litmus_lexer.specs.declared.errors.Kind.TheVariants.{BadInstruction}
 use Rattle.litmus_parser.specs.Names.{address_of}
 use Rattle.litmus_parser.specs.Mnemonics.{mnemonic_of}
 use Rattle.litmus_parser.specs.ReadingForms.{register_at, based_at, offset_at, swapped_at, number_word_at, set_at, fence_at, li_at, ori_at, operands_at, form_at}

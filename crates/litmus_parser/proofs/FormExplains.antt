@@ -1,10 +1,10 @@
 -- An instruction is read within its line, or its fault is one of that line.
 use Rattle.std.proofs.Common.{◌≡◌, ℕ, eqb, List, ◌∷◌, min, Ok, Err, refl, ◌∙◌}
-use Rattle.litmus_grammar.specs.Pieces.{Piece, Word, Sign}
-use Rattle.litmus_grammar.specs.Spelling.{is_number, number_of, register_of}
-use Rattle.litmus_grammar.specs.declared.errors.Kind.{Kind}
-use Rattle.litmus_grammar.specs.declared.errors.Kind.TheVariants.{BadInstruction}
-use Rattle.litmus_grammar.specs.Reading.{◌>>=◌, Read, Passed, fails, word_here_at, expect_here_at}
+use Rattle.litmus_lexer.specs.Pieces.{Piece, Word, Sign}
+use Rattle.litmus_lexer.specs.Spelling.{is_number, number_of, register_of}
+use Rattle.litmus_lexer.specs.declared.errors.Kind.{Kind}
+use Rattle.litmus_lexer.specs.declared.errors.Kind.TheVariants.{BadInstruction}
+use Rattle.litmus_lexer.specs.Reading.{◌>>=◌, Read, Passed, fails, word_here_at, expect_here_at}
 use Rattle.litmus_parser.specs.Mnemonics.{mnemonic_of, is_zero, is_fence_set}
 use Rattle.litmus_parser.specs.Places.{Place}
 use Rattle.litmus_parser.specs.ReadingForms.{register_at, based_at, offset_at, swapped_at, number_word_at, set_at, fence_at, li_at, ori_at, operands_at, form_at}

@@ -1,10 +1,10 @@
 -- What is read as an instruction is in the grammar, and stands for what is answered.
 use Rattle.std.proofs.Common.{◌≡◌, ℕ, true, eqb, ltb, List, ◌∷◌, min, Option, Some, None, Ok, refl, sym, ap, subst, ◌∙◌}
 use Rattle.std.proofs.lemmas.Bool.{eqb-true, ltb-true, ltb-false}
-use Rattle.litmus_grammar.specs.Pieces.{Piece, Word, Sign}
-use Rattle.litmus_grammar.specs.Spelling.{is_number, number_of, register_of}
-use Rattle.litmus_grammar.specs.declared.errors.Kind.TheVariants.{BadInstruction}
-use Rattle.litmus_grammar.specs.Reading.{◌>>=◌, word_here_at, expect_here_at}
+use Rattle.litmus_lexer.specs.Pieces.{Piece, Word, Sign}
+use Rattle.litmus_lexer.specs.Spelling.{is_number, number_of, register_of}
+use Rattle.litmus_lexer.specs.declared.errors.Kind.TheVariants.{BadInstruction}
+use Rattle.litmus_lexer.specs.Reading.{◌>>=◌, word_here_at, expect_here_at}
 use Rattle.litmus_parser.specs.Names.{address_of, is_there}
 use Rattle.litmus_parser.specs.Mnemonics.{mnemonic_of, is_zero, is_fence_set}
 use Rattle.litmus_parser.specs.ReadingForms.{register_at, based_at, offset_at, swapped_at, number_word_at, set_at, fence_at, li_at, ori_at, operands_at, form_at}

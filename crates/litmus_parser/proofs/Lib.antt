@@ -1,3 +1,4 @@
+mod AfterLineEnds
 pub mod Chains
 pub mod Steps
 pub mod BlockTakes
@@ -15,12 +16,13 @@ pub mod Explains
 pub mod ExplainsHere
 pub mod Outcomes
 pub mod LocationExplains
-pub mod BlockPieces
+pub mod WantedExplains
 pub mod BlockExplains
 pub mod ConditionExplains
 pub mod WaysOn
 pub mod ConditionWays
 pub mod FormExplains
+pub mod ShapeExplains
 pub mod HeaderExplains
 pub mod VerdictExplains
 pub mod RowExplains

@@ -1,10 +1,10 @@
 -- What stands in front by the grammar is read, and the reading goes on behind it.
 use Rattle.std.proofs.Common.{◌≡◌, ℕ, ◌+◌, Bool, true, false, cond, eqb, List, [], ◌∷◌, Option, Some, Result, Ok, refl, ap, ◌∙◌}
 use Rattle.std.proofs.lemmas.Bool.{eq-eqb}
-use Rattle.litmus_grammar.specs.Pieces.{Piece, Word, Sign, LineEnd}
-use Rattle.litmus_grammar.specs.declared.errors.Kind.{Kind}
-use Rattle.litmus_grammar.specs.declared.errors.LitmusError.{LitmusError}
-use Rattle.litmus_grammar.specs.Reading.{◌>>=◌, found, Read, Passed, fails, as_word, as_sign, next_at, word_at, sign_at, expect_at}
+use Rattle.litmus_lexer.specs.Pieces.{Piece, Word, Sign, LineEnd}
+use Rattle.litmus_lexer.specs.declared.errors.Kind.{Kind}
+use Rattle.litmus_lexer.specs.declared.errors.LitmusError.{LitmusError}
+use Rattle.litmus_lexer.specs.Reading.{◌>>=◌, found, Read, Passed, fails, as_word, as_sign, next_at, word_at, sign_at, expect_at}
 use Rattle.litmus_parser.specs.GrammarWords.{Next}
 
 -- it is read as x, at some line, and the rest follows

@@ -1,10 +1,10 @@
 -- What is said of a reading, said of its answer; and faults of which more is known.
 use Rattle.std.proofs.Common.{◌≡◌, ℕ, List, [], Result, Ok, Err, refl, sym, subst, ◌∙◌}
-use Rattle.litmus_grammar.specs.Pieces.{Piece}
-use Rattle.litmus_grammar.specs.declared.errors.Kind.{Kind}
-use Rattle.litmus_grammar.specs.declared.errors.Kind.TheVariants.{CutShort}
-use Rattle.litmus_grammar.specs.declared.errors.LitmusError.{LitmusError}
-use Rattle.litmus_grammar.specs.Reading.{start_at}
+use Rattle.litmus_lexer.specs.Pieces.{Piece}
+use Rattle.litmus_lexer.specs.declared.errors.Kind.{Kind}
+use Rattle.litmus_lexer.specs.declared.errors.Kind.TheVariants.{CutShort}
+use Rattle.litmus_lexer.specs.declared.errors.LitmusError.{LitmusError}
+use Rattle.litmus_lexer.specs.Reading.{start_at}
 use Rattle.litmus_parser.specs.Places.{Place}
 use Rattle.litmus_parser.specs.GrammarTable.{Begins}
 use Rattle.litmus_parser.proofs.Explains.{Explains}

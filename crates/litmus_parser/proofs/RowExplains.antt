@@ -1,11 +1,12 @@
 -- A row is read, or its fault has its cause in its line.
 use Rattle.std.proofs.Common.{◌≡◌, ◌≢◌, ℕ, zero, suc, ◌+◌, ◌-◌, ◌<◌, true, List, [], ◌∷◌, ◌++◌, Option, Some, None, Ok, Err, refl, sym, ap, subst, ◌∙◌, append_assoc, arith}
+use Rattle.std.proofs.lemmas.Bool.{both_ways}
 use Rattle.std.proofs.lemmas.List.{append-nil}
-use Rattle.litmus_grammar.specs.Pieces.{Piece, Word, Sign, LineEnd}
-use Rattle.litmus_grammar.specs.declared.errors.Kind.{Kind}
-use Rattle.litmus_grammar.specs.declared.errors.Kind.TheVariants.{BadTable, BadInstruction}
-use Rattle.litmus_grammar.specs.declared.errors.LitmusError.{LitmusError}
-use Rattle.litmus_grammar.specs.Reading.{fails, behind, expect_here_at, end_line_at, passed_at, repeat_at}
+use Rattle.litmus_lexer.specs.Pieces.{Piece, Word, Sign, LineEnd}
+use Rattle.litmus_lexer.specs.declared.errors.Kind.{Kind}
+use Rattle.litmus_lexer.specs.declared.errors.Kind.TheVariants.{BadTable, BadInstruction}
+use Rattle.litmus_lexer.specs.declared.errors.LitmusError.{LitmusError}
+use Rattle.litmus_lexer.specs.Reading.{fails, behind, expect_here_at, end_line_at, passed_at, repeat_at}
 use Rattle.litmus_parser.specs.Places.{Place}
 use Rattle.litmus_parser.specs.ReadingForms.{form_at}
 use Rattle.litmus_parser.specs.Verdicts.{judged_at}
@@ -27,6 +28,7 @@ use Rattle.litmus_parser.proofs.TableTakes.{cell_takes}
 use Rattle.litmus_parser.proofs.TableAgain.{passed_again, cells_shape}
 use Rattle.litmus_parser.proofs.Steps.{passed_takes}
 use Rattle.litmus_parser.proofs.Outcomes.{otherwise}
+use Rattle.litmus_parser.proofs.ShapeExplains.{shape_stands, shape_again}
 use Rattle.litmus_parser.proofs.VerdictExplains.{Any, WidthFrom, width_beyond, judged_explains, width_onward}
 
 -- ---- one more cell
@@ -43,7 +45,7 @@ cells_end items threads (suc n) t u ps before cells more between after middle re
     let others = cells_end items threads n (t + 1) u h.3 h.2 h.1 more between after middle rest (omega (arith, e)) h.5 c in
     (h.0, h.1 ++ more, h.2, h.3, h.4, others, ap (λ (xs : List Cell). xs ++ more) h.6 ∙ append_assoc h.0 h.1 more)
 
--- behind all cells of a row with the right shape the line ends
+-- after all cells of a row with the right shape the line ends
 cells_ended : (items : List Item) (threads t : ℕ) (row : List Piece) (before : Option Width) (cells : List Cell) (after : Option Width) (rest : List Piece)
     → 0 < threads → t ≡ threads → AreCells items threads t 0 row before cells after rest → has_shape (threads - 1) row ≡ true → ends_line rest ≡ true
 cells_ended items zero t row before cells after rest lt e h shape = absurd (omega (arith, lt))
@@ -124,6 +126,7 @@ module _ (items : List Item) (threads line : ℕ) (pieces : List Piece) where
     start = cell.start;
     cells = cell.cells ++ more;
     row = subst (λ n. RowAt items threads line pieces cell.rows n cell.width cell.start) (sym on.0) cell.row;
+    few = cell.few;
     shaped = cell.shaped;
     stand = subst (λ k. AreCells items threads k 0 cell.start cell.width (cell.cells ++ more) x.1 x.3) (let e : suc t ≡ t + 1 = omega arith in e)
         (cells_end items threads t 0 t cell.start cell.width cell.cells more s.1 x.1 s.3 x.3 (omega arith) cell.stand is);
@@ -151,18 +154,18 @@ module _ (items : List Item) (threads line : ℕ) (pieces : List Piece) where
   line_ended n (Word w ∷ rest) e = absurd cc
   line_ended n (Sign b ∷ rest) e = absurd cc
 
-  -- behind rows that stand there
+  -- after rows that stand there
   abbrev pub Follows : Option Width → ℕ → List Piece → Type 0
   Follows width n rest = Place line pieces n rest × WidthFrom items threads line pieces width n rest
 
-  pub row_explains : (rows : ℕ) (s : Rows) → 0 < threads → RowAt items threads line pieces rows s.2 s.1 s.3 → WidthFrom items threads line pieces s.1 s.2 s.3
+  pub row_explains : (rows : ℕ) (s : Rows) → 0 < threads → rows < 1024 → RowAt items threads line pieces rows s.2 s.1 s.3 → WidthFrom items threads line pieces s.1 s.2 s.3
       → Explains C (λ (x : Rows). Follows x.1 x.2 x.3) (row_at items threads s)
   unfolding row_at columns_at
-  row_explains rows s lt row w =
+  row_explains rows s lt few row w =
       test_explains C (λ (x : Rows). Follows x.1 x.2 x.3) (has_shape (threads - 1) s.3) _ (fails BadTable s.2) (λ shaped.
       bind_explains C (Left 0) (λ (x : Rows). Follows x.1 x.2 x.3) (repeat_at threads (column_at items threads) ended (0, s.0, s.1, s.2, s.3)) _
       (repeat_counted C Left (Left 0) (column_at items threads) ended column_explains (λ c h. h) threads (0, s.0, s.1, s.2, s.3)
-      (omega arith, record { rows = rows; width = s.1; start = s.3; cells = []; row = row; shaped = shaped; stand = (refl, refl, refl); place = start s.2 s.3 }, w)) (λ c is h.
-      let ended_there = cells_ended items threads c.0 h.1.start h.1.width h.1.cells c.2 c.4 lt (omega (arith, h.0)) h.1.stand h.1.shaped in
+      (omega arith, record { rows = rows; width = s.1; start = s.3; cells = []; row = row; few = few; shaped = shape_stands (threads - 1) s.3 shaped; stand = (refl, refl, refl); place = start s.2 s.3 }, w)) (λ c is h.
+      let ended_there = cells_ended items threads c.0 h.1.start h.1.width h.1.cells c.2 c.4 lt (omega (arith, h.0)) h.1.stand (shape_again h.1.shaped) in
       bind_explains C (λ (x : ℕ × List Piece). Place c.3 c.4 x.0 x.1) (λ (x : Rows). Follows x.1 x.2 x.3) (end_line_at BadTable c.3 c.4) (λ next. Ok (c.1, c.2, next.0, next.1)) (line_ended c.3 c.4 ended_there) (λ next there p.
-      (beyond (beyond h.1.row.place h.1.place) p, width_beyond items threads line pieces c.2 c.3 c.4 next.0 next.1 h.2 p)))) (λ wrong. (rows, s.1, s.3, row, wrong))
+      (beyond (beyond h.1.row.place h.1.place) p, width_beyond items threads line pieces c.2 c.3 c.4 next.0 next.1 h.2 p)))) (λ wrong. (rows, s.1, s.3, row, few, λ shape. both_ways (has_shape (threads - 1) s.3) wrong (shape_again shape)))

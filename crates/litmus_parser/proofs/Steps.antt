@@ -1,10 +1,10 @@
 -- What one step of reading shows of the pieces in front.
 use Rattle.std.proofs.Common.{◌≡◌, ℕ, ◌+◌, Bool, true, false, cond, eqb, List, [], ◌∷◌, Option, Some, None, Result, Ok, Err, refl, sym, ap, subst, ◌∙◌, ◌⊎◌, inl, inr}
 use Rattle.std.proofs.lemmas.Bool.{eqb-true}
-use Rattle.litmus_grammar.specs.Pieces.{Piece, Word, Sign, LineEnd}
-use Rattle.litmus_grammar.specs.declared.errors.Kind.{Kind}
-use Rattle.litmus_grammar.specs.declared.errors.LitmusError.{LitmusError}
-use Rattle.litmus_grammar.specs.Reading.{◌>>=◌, fails, found, as_word, as_sign, as_wanted, next_at, word_at, sign_at, expect_at, here_at, word_here_at, expect_here_at, start_at, end_line_at, passed_at}
+use Rattle.litmus_lexer.specs.Pieces.{Piece, Word, Sign, LineEnd}
+use Rattle.litmus_lexer.specs.declared.errors.Kind.{Kind}
+use Rattle.litmus_lexer.specs.declared.errors.LitmusError.{LitmusError}
+use Rattle.litmus_lexer.specs.Reading.{◌>>=◌, fails, found, as_word, as_sign, as_wanted, next_at, word_at, sign_at, expect_at, here_at, word_here_at, expect_here_at, start_at, end_line_at, passed_at}
 use Rattle.litmus_parser.specs.GrammarWords.{Next, EndsLine}
 use Rattle.litmus_parser.specs.GrammarTable.{Begins}
 

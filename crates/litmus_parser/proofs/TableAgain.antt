@@ -5,14 +5,14 @@ use Rattle.std.proofs.lemmas.List.{append-nil}
 use Rattle.std.proofs.lemmas.Slice.Eq.{bytes_eq-Decides}
 use Rattle.std.specs.Prelude.{codes}
 use Rattle.std.specs.Str.{bytes_eq}
-use Rattle.litmus_grammar.specs.Pieces.{Piece, Word, Sign, LineEnd}
-use Rattle.litmus_grammar.specs.declared.errors.Kind.TheVariants.{BadInstruction, BadTable}
-use Rattle.litmus_grammar.specs.Reading.{here_at, word_here_at, passed_at, repeat_at}
-use Rattle.litmus_grammar.proofs.Repeats.{goes-on, is-done}
+use Rattle.litmus_lexer.specs.Pieces.{Piece, Word, Sign, LineEnd}
+use Rattle.litmus_lexer.specs.declared.errors.Kind.TheVariants.{BadInstruction, BadTable}
+use Rattle.litmus_lexer.specs.Reading.{here_at, word_here_at, passed_at, repeat_at}
+use Rattle.litmus_lexer.proofs.Repeats.{goes-on, is-done}
 use Rattle.litmus_parser.specs.Names.{address_of, is_there}
 use Rattle.litmus_parser.specs.Mnemonics.{mnemonic_of}
 use Rattle.litmus_parser.specs.ReadingRows.{Rows, ends_line, has_shape, instruction_at, cell_at, column_at, ended, columns_at, row_at}
-use Rattle.litmus_parser.specs.ReadingTable.{thread_named, separated, heading_at, too_many, headings_at, header_at, quantifier_of, quantifier_next, Table, next_row_at, too_long, table_at, rows_at}
+use Rattle.litmus_parser.specs.ReadingTable.{separated, heading_at, too_many, headings_at, header_at, quantifier_next, Table, next_row_at, too_long, table_at, rows_at}
 use Rattle.litmus_parser.specs.GrammarWords.{EndsLine}
 use Rattle.litmus_parser.specs.GrammarForms.{IsRegister, IsBased, IsOffset, IsSwapped, IsAnyNumber, IsFenceSet, IsForm, StandsFor}
 use Rattle.litmus_parser.specs.TableFaults.{end_of}
@@ -27,10 +27,12 @@ use Rattle.litmus_parser.specs.declared.forms.Form.{Form}
 use Rattle.litmus_parser.specs.declared.forms.Form.TheVariants as form
 use Rattle.litmus_parser.proofs.OnwardHere.{expect_here_again, end_line_again, start_again}
 use Rattle.litmus_parser.proofs.FormAgain.{form_again, judged_again}
+use Rattle.litmus_lexer.specs.Spelling.{thread_named}
+use Rattle.litmus_parser.specs.Keywords.{quantifier_of}
 
 -- ---- the header row
 
-heading_more_again : (t line : ℕ) (w : List ℕ) (ps : List Piece) → thread_named w ≡ Some t → t < 16 → heading_at (t, line, Word w ∷ Sign 124 ∷ ps) ≡ Ok (true, (t + 1, line, ps))
+pub heading_more_again : (t line : ℕ) (w : List ℕ) (ps : List Piece) → thread_named w ≡ Some t → t < 16 → heading_at (t, line, Word w ∷ Sign 124 ∷ ps) ≡ Ok (true, (t + 1, line, ps))
 unfolding heading_at word_here_at here_at separated
 heading_more_again t line w ps named few = rw (named, eq-eqb t t refl, lt-leb 16 t few) refl
 

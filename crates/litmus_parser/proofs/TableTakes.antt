@@ -2,14 +2,14 @@
 use Rattle.std.proofs.Common.{◌≡◌, ℕ, zero, suc, ◌+◌, ◌-◌, ◌<◌, Bool, true, false, cond, eqb, leb, List, [], ◌∷◌, ◌++◌, Option, Some, None, Ok, refl, sym, ap, subst, ◌∙◌, inl, inr, append_assoc}
 use Rattle.std.proofs.lemmas.Bool.{eqb-true, leb-false}
 use Rattle.std.proofs.lemmas.List.{append-nil}
-use Rattle.litmus_grammar.specs.Pieces.{Piece, Word, Sign, LineEnd}
-use Rattle.litmus_grammar.specs.declared.errors.Kind.TheVariants.{BadInstruction, BadTable, TooLarge}
-use Rattle.litmus_grammar.specs.Reading.{◌>>=◌, fails, behind, here_at, word_here_at, expect_here_at, start_at, end_line_at, passed_at, repeat_at}
-use Rattle.litmus_grammar.proofs.Repeats.{repeat-takes}
+use Rattle.litmus_lexer.specs.Pieces.{Piece, Word, Sign, LineEnd}
+use Rattle.litmus_lexer.specs.declared.errors.Kind.TheVariants.{BadInstruction, BadTable, TooLarge}
+use Rattle.litmus_lexer.specs.Reading.{◌>>=◌, fails, behind, here_at, word_here_at, expect_here_at, start_at, end_line_at, passed_at, repeat_at}
+use Rattle.litmus_lexer.proofs.Repeats.{repeat-takes}
 use Rattle.litmus_parser.specs.ReadingForms.{form_at}
 use Rattle.litmus_parser.specs.Verdicts.{judged_at}
 use Rattle.litmus_parser.specs.ReadingRows.{Rows, Columns, has_shape, instruction_at, cell_at, column_at, ended, columns_at, row_at}
-use Rattle.litmus_parser.specs.ReadingTable.{thread_named, is_thread, separated_by, separated, Headings, heading_at, too_many, headings_at, header_at, quantifier_next, Table, next_row_at, too_long, table_at, rows_at}
+use Rattle.litmus_parser.specs.ReadingTable.{is_thread, separated_by, separated, Headings, heading_at, too_many, headings_at, header_at, quantifier_next, Table, next_row_at, too_long, table_at, rows_at}
 use Rattle.litmus_parser.specs.GrammarWords.{EndsLine}
 use Rattle.litmus_parser.specs.GrammarForms.{IsForm}
 use Rattle.litmus_parser.specs.GrammarTable.{Begins, AreHeadings, last, more, IsHeaderRow, IsCell, AreCells, IsRow, AreRows, none, row}
@@ -17,6 +17,7 @@ use Rattle.litmus_parser.specs.declared.syntax.Item.{Item}
 use Rattle.litmus_parser.specs.declared.syntax.Cell.{Cell}
 use Rattle.litmus_parser.proofs.Steps.{bind_ok, ok_is, then_ok, else_ok, either_ok, here_takes, word_here_takes, expect_here_takes, end_line_takes, start_takes, passed_takes}
 use Rattle.litmus_parser.proofs.FormTakes.{form_takes, judged_takes}
+use Rattle.litmus_lexer.specs.Spelling.{thread_named}
 
 -- ---- cells
 

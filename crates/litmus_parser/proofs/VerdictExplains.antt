@@ -1,10 +1,10 @@
 -- What an instruction stands for, or the cause of its fault in its line.
 use Rattle.std.proofs.Common.{◌≡◌, ◌≢◌, ℕ, false, ltb, List, Option, Some, None, Ok, refl, inl, inr}
 use Rattle.std.proofs.lemmas.Bool.{ltb-true, ltb-false}
-use Rattle.litmus_grammar.specs.Pieces.{Piece}
-use Rattle.litmus_grammar.specs.declared.errors.Kind.{Kind}
-use Rattle.litmus_grammar.specs.declared.errors.Kind.TheVariants.{MixedWidth, ValueRange, AddressAsValue}
-use Rattle.litmus_grammar.specs.Reading.{fails}
+use Rattle.litmus_lexer.specs.Pieces.{Piece}
+use Rattle.litmus_lexer.specs.declared.errors.Kind.{Kind}
+use Rattle.litmus_lexer.specs.declared.errors.Kind.TheVariants.{MixedWidth, ValueRange, AddressAsValue}
+use Rattle.litmus_lexer.specs.Reading.{fails}
 use Rattle.litmus_parser.specs.Names.{address_of, is_there}
 use Rattle.litmus_parser.specs.Places.{Place}
 use Rattle.litmus_parser.specs.Verdicts.{same_width, kept_at, value_register_at, or_no_address, base_at, judged_at}

@@ -1,10 +1,10 @@
 -- What a reading does is told by the pieces that it took and one more: it passes them, or it is refused at the last of them, whatever follows.
 use Rattle.std.proofs.Common.{◌≡◌, ◌≢◌, ℕ, ◌+◌, Bool, true, false, cond, eqb, List, [], ◌∷◌, ◌++◌, Option, Some, None, Result, Ok, Err, refl, sym, ap, subst, ◌∙◌, ◌⊎◌, inl, inr, append_assoc, append-nil, arith}
-use Rattle.litmus_grammar.specs.Pieces.{Piece, Word, Sign, LineEnd}
-use Rattle.litmus_grammar.specs.declared.errors.Kind.{Kind}
-use Rattle.litmus_grammar.specs.declared.errors.Kind.TheVariants.{CutShort}
-use Rattle.litmus_grammar.specs.declared.errors.LitmusError.{LitmusError}
-use Rattle.litmus_grammar.specs.Reading.{◌>>=◌, fails, found, as_word, as_sign, next_at, word_at, sign_at, expect_at}
+use Rattle.litmus_lexer.specs.Pieces.{Piece, Word, Sign, LineEnd}
+use Rattle.litmus_lexer.specs.declared.errors.Kind.{Kind}
+use Rattle.litmus_lexer.specs.declared.errors.Kind.TheVariants.{CutShort}
+use Rattle.litmus_lexer.specs.declared.errors.LitmusError.{LitmusError}
+use Rattle.litmus_lexer.specs.Reading.{◌>>=◌, fails, found, as_word, as_sign, next_at, word_at, sign_at, expect_at}
 use Rattle.litmus_parser.specs.Places.{line_ends}
 use Rattle.litmus_parser.proofs.Explains.{line-ends-append}
 

@@ -1,12 +1,12 @@
 -- Numbers and locations that stand in front by the grammar are read.
 use Rattle.std.proofs.Common.{◌≡◌, ℕ, ◌<◌, ◌≤◌, true, false, cond, ltb, leb, List, length, Ok, refl, subst, inl, inr, arith}
 use Rattle.std.proofs.lemmas.Bool.{lt-ltb, le-ltb, lt-leb}
-use Rattle.litmus_grammar.specs.Pieces.{Piece, Word}
-use Rattle.litmus_grammar.specs.Naming.{place_of}
-use Rattle.litmus_grammar.specs.Spelling.{is_number, number_of}
-use Rattle.litmus_grammar.specs.declared.errors.Kind.{Kind}
-use Rattle.litmus_grammar.specs.declared.errors.Kind.TheVariants.{ValueRange}
-use Rattle.litmus_grammar.specs.Reading.{Read, fails, word_at}
+use Rattle.litmus_lexer.specs.Pieces.{Piece, Word}
+use Rattle.litmus_lexer.specs.Naming.{place_of}
+use Rattle.litmus_lexer.specs.Spelling.{is_number, number_of}
+use Rattle.litmus_lexer.specs.declared.errors.Kind.{Kind}
+use Rattle.litmus_lexer.specs.declared.errors.Kind.TheVariants.{ValueRange}
+use Rattle.litmus_lexer.specs.Reading.{Read, fails, word_at}
 use Rattle.litmus_parser.specs.Names.{Names}
 use Rattle.litmus_parser.specs.ReadingItems.{location_at, number_at}
 use Rattle.litmus_parser.specs.GrammarWords.{Next, IsValue, IsNumbered}

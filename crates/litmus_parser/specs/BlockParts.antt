@@ -1,9 +1,12 @@
 -- How far an initial block stands, and what the grammar has next there.
 use Rattle.std.specs.Prelude.{◌≡◌, ◌≢◌, ℕ, ◌==◌, ◌||◌, Bool, false, not, List, [], ◌∷◌, ◌++◌, Option, Some, None}
 use Rattle.std.specs.List.{list_any}
-use Rattle.litmus_grammar.specs.Pieces.{Piece, Word, Sign, LineEnd}
-use Rattle.litmus_grammar.specs.Spelling.{is_number, small_of, register_of, is_location}
+use Rattle.litmus_lexer.specs.declared.limits.TheConstants.{LAST_THREAD}
+use Rattle.litmus_lexer.specs.declared.signs.TheConstants.{CLOSING_BRACE, COLON, EQUALS, OPENING_BRACE, SEMICOLON}
+use Rattle.litmus_lexer.specs.Pieces.{Piece, Word, Sign, LineEnd}
+use Rattle.litmus_lexer.specs.Spelling.{is_number, small_of, register_of, is_location}
 use Rattle.litmus_parser.specs.Names.{Names, same_name, is_there}
+use Rattle.litmus_parser.specs.Places.{Place}
 use Rattle.litmus_parser.specs.GrammarWords.{Next, IsNumbered}
 use Rattle.litmus_parser.specs.GrammarBlock.{IsItem}
 use Rattle.litmus_parser.specs.declared.syntax.Item.{Item}
@@ -40,53 +43,62 @@ is_settable None = false
 -- whether the piece is one that is wanted
 abbrev pub fits : Wanted → Piece → Bool
 -- {
-fits OpeningBrace piece = is_sign 123 piece
+fits OpeningBrace piece = is_sign OPENING_BRACE piece
 -- a thread from 0 to 15 or a location, with which an item begins; or }
-fits ItemOrBrace piece = is_word (λ w. is_there (small_of 15 w) || is_location w) piece || is_sign 125 piece
+fits ItemOrBrace piece = is_word (λ w. is_there (small_of LAST_THREAD w) || is_location w) piece || is_sign CLOSING_BRACE piece
 -- :
-fits Colon piece = is_sign 58 piece
+fits Colon piece = is_sign COLON piece
 -- a register from x1 to x31
 fits RegisterWord piece = is_word (λ w. is_settable (register_of w)) piece
 -- =
-fits RegisterEquals piece = is_sign 61 piece
+fits RegisterEquals piece = is_sign EQUALS piece
 -- a number or a location
 fits RegisterValue piece = is_word (λ w. is_number w || is_location w) piece
 -- =
-fits LocationEquals piece = is_sign 61 piece
+fits LocationEquals piece = is_sign EQUALS piece
 -- a number
 fits LocationValue piece = is_word is_number piece
 -- ; or }
-fits SemicolonOrBrace piece = is_sign 59 piece || is_sign 125 piece
+fits SemicolonOrBrace piece = is_sign SEMICOLON piece || is_sign CLOSING_BRACE piece
 
--- behind the opening brace these items stand up to this place, each ended by ; and none setting a name that an earlier one set
+-- after the opening brace these items stand up to this place, each ended by ; and none setting a name that an earlier one set
 pub data StandItems (pieces : List Piece) : List Item → Names → List Piece → Type 0 where
-  no_item : {rest : List Piece} → Next pieces (Sign 123) rest → StandItems pieces [] [] rest
+  no_item : {rest : List Piece} → Next pieces (Sign OPENING_BRACE) rest → StandItems pieces [] [] rest
   one_more : {items : List Item} {before after : Names} {here rest : List Piece} (item : Item) (behind : List Piece) → StandItems pieces items before here → IsItem here before item.name item.setting after behind
-      → list_any (λ other. same_name other.name item.name) items ≡ false → Next behind (Sign 59) rest → StandItems pieces (items ++ item ∷ []) after rest
+      → list_any (λ other. same_name other.name item.name) items ≡ false → Next behind (Sign SEMICOLON) rest → StandItems pieces (items ++ item ∷ []) after rest
+
+-- the next piece, after line ends, is a word in line n
+abbrev pub BeginsIn : ℕ → List Piece → ℕ → List Piece → Type 0
+BeginsIn line pieces n here = (w : List ℕ) × (rest : List Piece) × Next here (Word w) rest × Place line pieces n (Word w ∷ rest)
+
+-- of a block whose pieces begin in this line, each item begins in its own line
+pub data InLines (line : ℕ) (pieces : List Piece) : List Item → Type 0 where
+  none : InLines line pieces []
+  further : {items : List Item} {names : Names} {here : List Piece} (item : Item) → InLines line pieces items → StandItems pieces items names here → BeginsIn line pieces item.line here → InLines line pieces (items ++ item ∷ [])
 
 -- of an item that begins here all parts stand up to the place where this is wanted
 pub data ItemUpTo (names : Names) (here : List Piece) : Wanted → List Piece → Type 0 where
   -- nothing yet
   at_item : ItemUpTo names here ItemOrBrace here
   -- T
-  thread_there : {rest : List Piece} (w : List ℕ) (t : ℕ) → Next here (Word w) rest → small_of 15 w ≡ Some t → ItemUpTo names here Colon rest
+  thread_there : {rest : List Piece} (w : List ℕ) (t : ℕ) → Next here (Word w) rest → small_of LAST_THREAD w ≡ Some t → ItemUpTo names here Colon rest
   -- T:
-  colon_there : {place rest : List Piece} → ItemUpTo names here Colon place → Next place (Sign 58) rest → ItemUpTo names here RegisterWord rest
+  colon_there : {place rest : List Piece} → ItemUpTo names here Colon place → Next place (Sign COLON) rest → ItemUpTo names here RegisterWord rest
   -- T:xR
   register_there : {place rest : List Piece} (w : List ℕ) (r : ℕ) → ItemUpTo names here RegisterWord place → Next place (Word w) rest → register_of w ≡ Some r → r ≢ 0 → ItemUpTo names here RegisterEquals rest
   -- T:xR=
-  equals_there : {place rest : List Piece} → ItemUpTo names here RegisterEquals place → Next place (Sign 61) rest → ItemUpTo names here RegisterValue rest
+  equals_there : {place rest : List Piece} → ItemUpTo names here RegisterEquals place → Next place (Sign EQUALS) rest → ItemUpTo names here RegisterValue rest
   -- L
   location_there : {rest : List Piece} (w : List ℕ) (l : ℕ) (after : Names) → Next here (Word w) rest → IsNumbered w names l after → ItemUpTo names here LocationEquals rest
   -- L=
-  equals_behind : {place rest : List Piece} → ItemUpTo names here LocationEquals place → Next place (Sign 61) rest → ItemUpTo names here LocationValue rest
+  equals_behind : {place rest : List Piece} → ItemUpTo names here LocationEquals place → Next place (Sign EQUALS) rest → ItemUpTo names here LocationValue rest
 
 -- of a block all parts stand up to the place where this is wanted
 pub data BlockUpTo (pieces : List Piece) : Wanted → List Piece → Type 0 where
   -- nothing yet
   at_block : BlockUpTo pieces OpeningBrace pieces
-  -- items and, behind them, the beginning of one
+  -- items and, after them, the beginning of one
   in_item : {items : List Item} {names : Names} {here place : List Piece} {wanted : Wanted} → StandItems pieces items names here → ItemUpTo names here wanted place → BlockUpTo pieces wanted place
-  -- items and, behind them, one of a name that they don't set
+  -- items and, after them, one of a name that they don't set
   behind_item : {items : List Item} {before : Names} {here place : List Piece} (item : Item) (after : Names) → StandItems pieces items before here → IsItem here before item.name item.setting after place
       → list_any (λ other. same_name other.name item.name) items ≡ false → BlockUpTo pieces SemicolonOrBrace place

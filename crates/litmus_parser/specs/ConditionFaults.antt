@@ -1,70 +1,91 @@
 -- Why a condition is refused: for each kind of fault its cause, and the line where that stands.
-use Rattle.std.specs.Prelude.{◌≡◌, ◌≢◌, ℕ, ◌+◌, ◌<◌, ◌≤◌, ◌==◌, ◌||◌, ◌⊎◌, Bool, true, if◌then◌else◌, List, [], ◌∷◌, ◌++◌, Some}
-use Rattle.litmus_grammar.specs.Pieces.{Piece, Word, Sign, LineEnd}
-use Rattle.litmus_grammar.specs.Spelling.{small_of, register_of}
-use Rattle.litmus_grammar.specs.declared.errors.Kind.{Kind}
-use Rattle.litmus_grammar.specs.declared.errors.Kind.TheVariants.{TooLarge, ValueRange, AddressAsValue, BadCondition, CutShort}
+use Rattle.std.specs.Prelude.{◌≡◌, ◌≢◌, ℕ, ◌≤◌, ◌⊎◌, true, false, List, [], ◌∷◌, ◌++◌, Some}
+use Rattle.litmus_lexer.specs.declared.limits.TheConstants.{MOST_ATOMS, MOST_DEPTH, VALUE_BOUND}
+use Rattle.litmus_lexer.specs.declared.signs.TheConstants.{OPENING_PARENTHESIS}
+use Rattle.litmus_lexer.specs.Pieces.{Piece, Word, Sign, LineEnd}
+use Rattle.litmus_lexer.specs.Spelling.{is_number, number_of, register_of}
+use Rattle.litmus_lexer.specs.declared.errors.Kind.{Kind}
+use Rattle.litmus_lexer.specs.declared.errors.Kind.TheVariants.{TooLarge, ValueRange, AddressAsValue, BadCondition, CutShort}
 use Rattle.litmus_parser.specs.Names.{Names, address_of, is_there}
-use Rattle.litmus_parser.specs.ReadingTable.{quantifier_of}
+use Rattle.litmus_parser.specs.Keywords.{quantifier_of}
 use Rattle.litmus_parser.specs.Trees.{Tree}
-use Rattle.litmus_parser.specs.ReadingAtoms.{Sight, is_and, is_or}
-use Rattle.litmus_parser.specs.GrammarWords.{Next}
-use Rattle.litmus_parser.specs.GrammarCondition.{IsExpression, Ends}
-use Rattle.litmus_parser.specs.Places.{Place, HasNumberAbove}
-use Rattle.litmus_parser.specs.LocationFaults.{HasLocationTooMany}
+use Rattle.litmus_parser.specs.GrammarWords.{Next, Ends}
+use Rattle.litmus_parser.specs.GrammarCondition.{Sight, and_word, or_word, IsExpression}
+use Rattle.litmus_parser.specs.Places.{Place}
+use Rattle.litmus_parser.specs.LocationFaults.{IsOneTooMany}
+use Rattle.litmus_parser.specs.ConditionParts.{Wanted, Factor, RegisterOf, Value, fits, ExpressionUpTo}
 use Rattle.litmus_parser.specs.declared.syntax.Item.{Item}
+use Rattle.litmus_parser.specs.declared.syntax.Quantifier.{Quantifier}
 
 -- the pieces are an expression up to the end of the text; the names are those of the locations known before
 abbrev pub IsWhole : List Item → ℕ → Names → List Piece → Type 0
-IsWhole items threads names pieces = (tree : Tree) × (after : Sight) × (rest : List Piece) × IsExpression items threads 64 (names, 0) pieces tree after rest × Ends rest
+IsWhole items threads names pieces = (tree : Tree) × (after : Sight) × (rest : List Piece) × IsExpression items threads MOST_DEPTH (names, 0) pieces tree after rest × Ends rest
 
 -- in line n stands a piece up to which no expression goes: whatever follows it, the pieces are none
 abbrev pub HasNoWayOn : List Item → ℕ → Names → ℕ → List Piece → ℕ → Type 0
 HasNoWayOn items threads names line pieces n = (x : Piece) × (rest : List Piece) × (p : Place line pieces n (x ∷ rest)) × (x ≢ LineEnd)
     × ((others : List Piece) → IsWhole items threads names (p.front ++ x ∷ others) → ⊥)
 
--- how often a sign stands among the pieces
-unfoldable pub count_of : ℕ → List Piece → ℕ
-count_of b [] = 0
-count_of b (LineEnd ∷ pieces) = count_of b pieces
-count_of b (Word w ∷ pieces) = count_of b pieces
-count_of b (Sign c ∷ pieces) = (if c == b then 1 else 0) + count_of b pieces
+-- the expression stands up to a place where this is wanted, and the next piece is this one, in line n
+pub record PieceAt (items : List Item) (threads : ℕ) (names : Names) (line : ℕ) (pieces : List Piece) (n : ℕ) (wanted : Wanted) (piece : Piece) : Type 0 where
+  pub there : List Piece
+  pub rest : List Piece
+  pub stands : ExpressionUpTo items threads MOST_DEPTH (names, 0) pieces wanted there
+  pub next : Next there piece rest
+  pub place : Place line pieces n (piece ∷ rest)
 
--- whether an atom or a parenthesis is due behind these pieces: so it is behind /\, \/ and (, and line ends change nothing
-unfoldable pub is_due : Bool → List Piece → Bool
-is_due before [] = before
-is_due before (LineEnd ∷ pieces) = is_due before pieces
-is_due before (Word w ∷ pieces) = is_due (is_and w || is_or w) pieces
-is_due before (Sign b ∷ pieces) = is_due (b == 40) pieces
+-- that piece isn't one that is wanted
+abbrev pub HasWrongPiece : List Item → ℕ → Names → ℕ → List Piece → ℕ → Type 0
+HasWrongPiece items threads names line pieces n = (wanted : Wanted) × (piece : Piece) × PieceAt items threads names line pieces n wanted piece × (fits threads wanted piece ≡ false)
 
--- the same from the beginning of an expression, where one is due
-abbrev pub IsDue : List Piece → Type 0
-IsDue front = is_due true front ≡ true
+-- after an expression a further piece stands in line n, and isn't a sign with which it goes on
+pub record HasMoreAfter (items : List Item) (threads : ℕ) (names : Names) (line : ℕ) (pieces : List Piece) (n : ℕ) : Type 0 where
+  pub tree : Tree
+  pub after : Sight
+  pub there : List Piece
+  pub piece : Piece
+  pub rest : List Piece
+  pub is : IsExpression items threads MOST_DEPTH (names, 0) pieces tree after there
+  pub next : Next there piece rest
+  pub place : Place line pieces n (piece ∷ rest)
+  pub no_and : piece ≢ and_word
+  pub no_or : piece ≢ or_word
 
--- in line n stands the xR of T:xR, a register that the initial block sets to an address
-abbrev pub HasAddressRegister : List Item → ℕ → ℕ → List Piece → ℕ → Type 0
-HasAddressRegister items threads line pieces n = (tw rw : List ℕ) × (t r m : ℕ) × (a b rest : List Piece)
-    × Place line pieces m (Word tw ∷ a) × Next a (Sign 58) b × Next b (Word rw) rest × Place line pieces n (Word rw ∷ rest)
-    × (small_of 15 tw ≡ Some t) × (t < threads) × (register_of rw ≡ Some r) × (is_there (address_of t r items) ≡ true)
+-- the expression stands up to a place where a further piece is wanted, and there is none up to the end of the text, which is in line n
+abbrev pub EndsEarly : List Item → ℕ → Names → ℕ → List Piece → ℕ → Type 0
+EndsEarly items threads names line pieces n = (wanted : Wanted) × (there : List Piece) × ExpressionUpTo items threads MOST_DEPTH (names, 0) pieces wanted there × Ends there × Place line pieces n []
 
--- a 257th atom is due at a word of line n: the 256 in front of it have a sign = each
-abbrev pub HasAtomTooMany : ℕ → List Piece → ℕ → Type 0
-HasAtomTooMany line pieces n = (w : List ℕ) × (rest : List Piece) × (p : Place line pieces n (Word w ∷ rest)) × IsDue p.front × (256 ≤ count_of 61 p.front)
+-- a value is wanted, and a number above 2147483647 comes next
+abbrev pub HasValueAbove : List Item → ℕ → Names → ℕ → List Piece → ℕ → Type 0
+HasValueAbove items threads names line pieces n = (w : List ℕ) × PieceAt items threads names line pieces n Value (Word w) × (is_number w ≡ true) × (VALUE_BOUND ≤ number_of w)
 
--- a parenthesis is opened in line n where 64 are open: so many more signs ( than ) stand in front of it
-abbrev pub IsTooDeep : ℕ → List Piece → ℕ → Type 0
-IsTooDeep line pieces n = (rest : List Piece) × (p : Place line pieces n (Sign 40 ∷ rest)) × IsDue p.front × (count_of 40 p.front ≡ count_of 41 p.front + 64)
+-- the register of a thread is wanted, and one comes next that the initial block sets to an address
+abbrev pub HasAddressRegister : List Item → ℕ → Names → ℕ → List Piece → ℕ → Type 0
+HasAddressRegister items threads names line pieces n = (t r : ℕ) × (w : List ℕ) × PieceAt items threads names line pieces n (RegisterOf t) (Word w)
+    × (register_of w ≡ Some r) × (is_there (address_of t r items) ≡ true)
+
+-- a factor is wanted, and a word comes next: a location that is one too many, or any one after 256 atoms
+abbrev pub HasOneTooMany : List Item → ℕ → Names → ℕ → List Piece → ℕ → Type 0
+HasOneTooMany items threads names line pieces n = (depth : ℕ) × (before : Sight) × (w : List ℕ) × PieceAt items threads names line pieces n (Factor depth before) (Word w)
+    × (IsOneTooMany w before.0 ⊎ (MOST_ATOMS ≤ before.1))
+
+-- a factor without parentheses is wanted, since 64 are open, and ( comes next
+abbrev pub IsTooDeep : List Item → ℕ → Names → ℕ → List Piece → ℕ → Type 0
+IsTooDeep items threads names line pieces n = (before : Sight) × PieceAt items threads names line pieces n (Factor 0 before) (Sign OPENING_PARENTHESIS)
 
 -- the causes in an expression that begins in this line; the names are the locations of the initial block
 abbrev pub ExpressionCause : List Item → ℕ → Names → ℕ → List Piece → Kind → ℕ → Type 0
-ExpressionCause items threads names line pieces BadCondition n = HasNoWayOn items threads names line pieces n
-ExpressionCause items threads names line pieces CutShort n = Place line pieces n []
-ExpressionCause items threads names line pieces ValueRange n = HasNumberAbove 2147483647 line pieces n
-ExpressionCause items threads names line pieces AddressAsValue n = HasAddressRegister items threads line pieces n
-ExpressionCause items threads names line pieces TooLarge n = HasLocationTooMany names line pieces n ⊎ HasAtomTooMany line pieces n ⊎ IsTooDeep line pieces n
+-- a piece there isn't one that the grammar has after what stands before it; and there is one up to which no expression goes
+ExpressionCause items threads names line pieces BadCondition n =
+    (HasWrongPiece items threads names line pieces n ⊎ HasMoreAfter items threads names line pieces n) × HasNoWayOn items threads names line pieces n
+-- the pieces are the beginning of an expression, and end there
+ExpressionCause items threads names line pieces CutShort n = EndsEarly items threads names line pieces n
+ExpressionCause items threads names line pieces ValueRange n = HasValueAbove items threads names line pieces n
+ExpressionCause items threads names line pieces AddressAsValue n = HasAddressRegister items threads names line pieces n
+ExpressionCause items threads names line pieces TooLarge n = HasOneTooMany items threads names line pieces n ⊎ IsTooDeep items threads names line pieces n
 ExpressionCause items threads names line pieces kind n = ⊥
 
--- the condition begins with its keyword, and the cause stands behind it
+-- the condition begins with its keyword, and the cause stands after it
 abbrev pub ConditionCause : List Item → ℕ → Names → ℕ → List Piece → Kind → ℕ → Type 0
-ConditionCause items threads names line pieces kind n = (w : List ℕ) × (expression : List Piece)
-    × (pieces ≡ Word w ∷ expression) × (is_there (quantifier_of w) ≡ true) × ExpressionCause items threads names line expression kind n
+ConditionCause items threads names line pieces kind n = (w : List ℕ) × (expression : List Piece) × (quantifier : Quantifier)
+    × (pieces ≡ Word w ∷ expression) × (quantifier_of w ≡ Some quantifier) × ExpressionCause items threads names line expression kind n

@@ -1,7 +1,9 @@
 -- The grammar of instructions, within a line.
 use Rattle.std.specs.Prelude.{◌≡◌, ℕ, ◌<◌, ◌≤◌, min, true, false, List, ◌∷◌, Option, Some, None}
-use Rattle.litmus_grammar.specs.Pieces.{Piece, Word, Sign}
-use Rattle.litmus_grammar.specs.Spelling.{is_number, number_of, register_of}
+use Rattle.litmus_lexer.specs.declared.limits.TheConstants.{MOST_ORI, VALUE_BOUND}
+use Rattle.litmus_lexer.specs.declared.signs.TheConstants.{CLOSING_PARENTHESIS, COMMA, OPENING_PARENTHESIS}
+use Rattle.litmus_lexer.specs.Pieces.{Piece, Word, Sign}
+use Rattle.litmus_lexer.specs.Spelling.{is_number, number_of, register_of}
 use Rattle.litmus_parser.specs.Names.{address_of, is_there}
 use Rattle.litmus_parser.specs.Mnemonics.{mnemonic_of, is_zero, is_fence_set}
 use Rattle.litmus_parser.specs.declared.syntax.Width.{Width}
@@ -18,19 +20,19 @@ IsRegister pieces r rest = (w : List ℕ) × (pieces ≡ Word w ∷ rest) × (re
 
 -- (xB)
 abbrev pub IsBased : List Piece → ℕ → List Piece → Type 0
-IsBased pieces b rest = (a : List Piece) × (pieces ≡ Sign 40 ∷ a) × IsRegister a b (Sign 41 ∷ rest)
+IsBased pieces b rest = (a : List Piece) × (pieces ≡ Sign OPENING_PARENTHESIS ∷ a) × IsRegister a b (Sign CLOSING_PARENTHESIS ∷ rest)
 
 -- xR,0(xB)
 abbrev pub IsOffset : List Piece → ℕ → ℕ → List Piece → Type 0
-IsOffset pieces r b rest = (zero : List ℕ) × (a : List Piece) × IsRegister pieces r (Sign 44 ∷ Word zero ∷ a) × (is_zero zero ≡ true) × IsBased a b rest
+IsOffset pieces r b rest = (zero : List ℕ) × (a : List Piece) × IsRegister pieces r (Sign COMMA ∷ Word zero ∷ a) × (is_zero zero ≡ true) × IsBased a b rest
 
 -- xD,xS,(xB)
 abbrev pub IsSwapped : List Piece → ℕ → ℕ → ℕ → List Piece → Type 0
-IsSwapped pieces d s b rest = (a c : List Piece) × IsRegister pieces d (Sign 44 ∷ a) × IsRegister a s (Sign 44 ∷ c) × IsBased c b rest
+IsSwapped pieces d s b rest = (a c : List Piece) × IsRegister pieces d (Sign COMMA ∷ a) × IsRegister a s (Sign COMMA ∷ c) × IsBased c b rest
 
--- a number, where all above 2147483647 count as 2147483648
+-- a number; all that are no value count as the bound of values
 abbrev pub IsAnyNumber : List Piece → ℕ → List Piece → Type 0
-IsAnyNumber pieces n rest = (w : List ℕ) × (pieces ≡ Word w ∷ rest) × (is_number w ≡ true) × (n ≡ min (number_of w) 2147483648)
+IsAnyNumber pieces n rest = (w : List ℕ) × (pieces ≡ Word w ∷ rest) × (is_number w ≡ true) × (n ≡ min (number_of w) VALUE_BOUND)
 
 abbrev pub IsFenceSet : List Piece → List Piece → Type 0
 IsFenceSet pieces rest = (w : List ℕ) × (pieces ≡ Word w ∷ rest) × (is_fence_set w ≡ true)
@@ -40,9 +42,9 @@ abbrev pub IsForm : List Piece → Form → List Piece → Type 0
 IsForm pieces (form.Load width d b) rest = (m : List ℕ) × (a : List Piece) × (pieces ≡ Word m ∷ a) × (mnemonic_of m ≡ Some (word.Load width)) × IsOffset a d b rest
 IsForm pieces (form.Store width s b) rest = (m : List ℕ) × (a : List Piece) × (pieces ≡ Word m ∷ a) × (mnemonic_of m ≡ Some (word.Store width)) × IsOffset a s b rest
 IsForm pieces (form.Swap width d s b) rest = (m : List ℕ) × (a : List Piece) × (pieces ≡ Word m ∷ a) × (mnemonic_of m ≡ Some (word.Swap width)) × IsSwapped a d s b rest
-IsForm pieces (form.Li d n) rest = (m : List ℕ) × (a c : List Piece) × (pieces ≡ Word m ∷ a) × (mnemonic_of m ≡ Some word.Li) × IsRegister a d (Sign 44 ∷ c) × IsAnyNumber c n rest
-IsForm pieces (form.Ori d n) rest = (m : List ℕ) × (a c e : List Piece) × (pieces ≡ Word m ∷ a) × (mnemonic_of m ≡ Some word.Ori) × IsRegister a d (Sign 44 ∷ c) × IsRegister c 0 (Sign 44 ∷ e) × IsAnyNumber e n rest
-IsForm pieces form.Fence rest = (m : List ℕ) × (a c : List Piece) × (pieces ≡ Word m ∷ a) × (mnemonic_of m ≡ Some word.Fence) × IsFenceSet a (Sign 44 ∷ c) × IsFenceSet c rest
+IsForm pieces (form.Li d n) rest = (m : List ℕ) × (a c : List Piece) × (pieces ≡ Word m ∷ a) × (mnemonic_of m ≡ Some word.Li) × IsRegister a d (Sign COMMA ∷ c) × IsAnyNumber c n rest
+IsForm pieces (form.Ori d n) rest = (m : List ℕ) × (a c e : List Piece) × (pieces ≡ Word m ∷ a) × (mnemonic_of m ≡ Some word.Ori) × IsRegister a d (Sign COMMA ∷ c) × IsRegister c 0 (Sign COMMA ∷ e) × IsAnyNumber e n rest
+IsForm pieces form.Fence rest = (m : List ℕ) × (a c : List Piece) × (pieces ≡ Word m ∷ a) × (mnemonic_of m ≡ Some word.Fence) × IsFenceSet a (Sign COMMA ∷ c) × IsFenceSet c rest
 
 -- the first memory instruction gives the test its width, and each further one has it
 abbrev pub HasWidth : Option Width → Width → Option Width → Type 0
@@ -53,11 +55,11 @@ HasWidth (Some first) own after = (first ≡ own) × (after ≡ Some own)
 abbrev pub HoldsValue : List Item → ℕ → ℕ → Type 0
 HoldsValue items t r = is_there (address_of t r items) ≡ false
 
--- what a form of a thread stands for: numbers fit, the width is kept, and address registers are where addresses are wanted, and only there
+-- what a form of a thread stands for: numbers fit, the width is kept, and a register holds an address exactly where an address is wanted
 abbrev pub StandsFor : List Item → ℕ → Option Width → Form → Instruction → Option Width → Type 0
 StandsFor items t before (form.Load width d b) i after = (l : ℕ) × (i ≡ Load d l) × HasWidth before width after × HoldsValue items t d × (address_of t b items ≡ Some l)
 StandsFor items t before (form.Store width s b) i after = (l : ℕ) × (i ≡ Store s l) × HasWidth before width after × HoldsValue items t s × (address_of t b items ≡ Some l)
 StandsFor items t before (form.Swap width d s b) i after = (l : ℕ) × (i ≡ Swap d s l) × HasWidth before width after × HoldsValue items t d × HoldsValue items t s × (address_of t b items ≡ Some l)
-StandsFor items t before (form.Li d n) i after = (i ≡ Set d n) × (n < 2147483648) × HoldsValue items t d × (after ≡ before)
-StandsFor items t before (form.Ori d n) i after = (i ≡ Set d n) × (n ≤ 2047) × HoldsValue items t d × (after ≡ before)
+StandsFor items t before (form.Li d n) i after = (i ≡ Set d n) × (n < VALUE_BOUND) × HoldsValue items t d × (after ≡ before)
+StandsFor items t before (form.Ori d n) i after = (i ≡ Set d n) × (n ≤ MOST_ORI) × HoldsValue items t d × (after ≡ before)
 StandsFor items t before form.Fence i after = (i ≡ Fence) × (after ≡ before)

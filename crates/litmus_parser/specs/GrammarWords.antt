@@ -1,11 +1,12 @@
--- The grammar of litmus texts: pieces in front, and what follows them.
+-- The grammar of litmus texts: the pieces that come first, and what follows them.
 use Rattle.std.specs.Prelude.{◌≡◌, ℕ, ◌<◌, ◌⊎◌, true, List, [], ◌∷◌, ◌++◌, length}
-use Rattle.litmus_grammar.specs.Pieces.{Piece, Word, Sign, LineEnd}
-use Rattle.litmus_grammar.specs.Naming.{place_of}
-use Rattle.litmus_grammar.specs.Spelling.{is_number, number_of, is_location}
+use Rattle.litmus_lexer.specs.declared.limits.TheConstants.{MOST_LOCATIONS, VALUE_BOUND}
+use Rattle.litmus_lexer.specs.Pieces.{Piece, Word, Sign, LineEnd}
+use Rattle.litmus_lexer.specs.Naming.{place_of}
+use Rattle.litmus_lexer.specs.Spelling.{is_number, number_of, is_location}
 use Rattle.litmus_parser.specs.Names.{Names}
 
--- behind line ends, which count as blanks, the piece comes next, and the rest follows
+-- after line ends, which count as blanks, the piece comes next, and the rest follows
 abbrev pub Next : List Piece → Piece → List Piece → Type 0
 Next [] piece rest = ⊥
 Next (LineEnd ∷ pieces) piece rest = Next pieces piece rest
@@ -16,11 +17,18 @@ Next (Sign b ∷ pieces) piece rest = (Sign b ≡ piece) × (pieces ≡ rest)
 abbrev pub EndsLine : List Piece → List Piece → Type 0
 EndsLine pieces rest = (pieces ≡ LineEnd ∷ rest) ⊎ ((pieces ≡ []) × (rest ≡ []))
 
+-- only line ends are left
+abbrev pub Ends : List Piece → Type 0
+Ends [] = Unit {0}
+Ends (LineEnd ∷ pieces) = Ends pieces
+Ends (Word w ∷ pieces) = ⊥
+Ends (Sign b ∷ pieces) = ⊥
+
 -- a number below 2147483648
 abbrev pub IsValue : List ℕ → ℕ → Type 0
-IsValue word n = (is_number word ≡ true) × (n ≡ number_of word) × (n < 2147483648)
+IsValue word n = (is_number word ≡ true) × (n ≡ number_of word) × (n < VALUE_BOUND)
 
--- a location has the number of its place among those named before; a new one, if they are below 64, comes behind them
+-- a location has its index among those named before; a new one, if they are below 64, comes after them
 abbrev pub IsNumbered : List ℕ → Names → ℕ → Names → Type 0
 IsNumbered word before number after = (is_location word ≡ true) × (number ≡ place_of word before)
-    × (((number < length before) × (after ≡ before)) ⊎ ((number ≡ length before) × (length before < 64) × (after ≡ before ++ word ∷ [])))
+    × (((number < length before) × (after ≡ before)) ⊎ ((number ≡ length before) × (length before < MOST_LOCATIONS) × (after ≡ before ++ word ∷ [])))

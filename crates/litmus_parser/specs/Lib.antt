@@ -4,6 +4,7 @@ pub mod Names
 pub mod ReadingItems
 pub mod ReadingBlock
 pub mod Mnemonics
+pub mod Keywords
 pub mod ReadingForms
 pub mod Verdicts
 pub mod ReadingRows
@@ -21,6 +22,7 @@ pub mod GrammarForms
 pub mod GrammarTable
 pub mod GrammarCondition
 pub mod BlockParts
+pub mod ConditionParts
 pub mod BlockFaults
 pub mod ConditionFaults
 pub mod TableFaults

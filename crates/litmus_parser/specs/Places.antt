@@ -1,7 +1,7 @@
 -- Places in a text: what stands in front of one, and in which line it is.
 use Rattle.std.specs.Prelude.{◌≡◌, ℕ, ◌+◌, ◌<◌, true, List, [], ◌∷◌, ◌++◌}
-use Rattle.litmus_grammar.specs.Pieces.{Piece, Word, Sign, LineEnd}
-use Rattle.litmus_grammar.specs.Spelling.{is_number, number_of}
+use Rattle.litmus_lexer.specs.Pieces.{Piece, Word, Sign, LineEnd}
+use Rattle.litmus_lexer.specs.Spelling.{is_number, number_of}
 
 -- how many lines end in these pieces
 unfoldable pub line_ends : List Piece → ℕ

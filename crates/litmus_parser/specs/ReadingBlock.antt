@@ -1,10 +1,12 @@
 -- Reading the initial block, with the first fault.
 use Rattle.std.specs.Prelude.{ℕ, ◌==◌, Bool, true, false, if◌then◌else◌, List, [], ◌∷◌, ◌++◌, Result, Ok}
 use Rattle.std.specs.List.{list_any}
-use Rattle.litmus_grammar.specs.Pieces.{Piece, Word, Sign, LineEnd}
-use Rattle.litmus_grammar.specs.declared.errors.Kind.TheVariants.{BadInitial, DoubleInitial, CutShort}
-use Rattle.litmus_grammar.specs.declared.errors.LitmusError.{LitmusError}
-use Rattle.litmus_grammar.specs.Reading.{◌>>=◌, fails, next_at, sign_at, expect_at, end_line_at, repeat_at}
+use Rattle.litmus_lexer.specs.declared.limits.TheConstants.{MOST_BYTES}
+use Rattle.litmus_lexer.specs.declared.signs.TheConstants.{CLOSING_BRACE, OPENING_BRACE, SEMICOLON}
+use Rattle.litmus_lexer.specs.Pieces.{Piece, Word, Sign, LineEnd}
+use Rattle.litmus_lexer.specs.declared.errors.Kind.TheVariants.{BadInitial, DoubleInitial, CutShort}
+use Rattle.litmus_lexer.specs.declared.errors.LitmusError.{LitmusError}
+use Rattle.litmus_lexer.specs.Reading.{◌>>=◌, fails, next_at, sign_at, expect_at, end_line_at, repeat_at}
 use Rattle.litmus_parser.specs.Names.{Names, same_name}
 use Rattle.litmus_parser.specs.ReadingItems.{item_at}
 use Rattle.litmus_parser.specs.declared.syntax.Item.{Item}
@@ -13,13 +15,13 @@ use Rattle.litmus_parser.specs.declared.syntax.Item.{Item}
 abbrev pub Block : Type 0
 Block = List Item × Names × ℕ × List Piece
 
--- behind an item: whether a further one may follow
+-- after an item: whether a further one may follow
 unfoldable pub separated : ℕ → List Piece → Result (Bool × ℕ × List Piece) LitmusError
 separated line pieces = do
   s ← sign_at BadInitial line pieces
-  if s.0 == 59 then Ok (true, s.1, s.2) else if s.0 == 125 then Ok (false, s.1, s.2) else fails BadInitial s.1
+  if s.0 == SEMICOLON then Ok (true, s.1, s.2) else if s.0 == CLOSING_BRACE then Ok (false, s.1, s.2) else fails BadInitial s.1
 
--- an item behind the earlier ones, unless one of them sets the same name
+-- an item after the earlier ones, unless one of them sets the same name
 unfoldable pub added : List Item → Item → Result (List Item) LitmusError
 added items item = if list_any (λ other. same_name other.name item.name) items then fails DoubleInitial item.line else Ok (items ++ item ∷ [])
 
@@ -32,7 +34,7 @@ whole_item_at first block = do
 
 abbrev pub entry_of : List Item → Names → Piece × ℕ × List Piece → Result (Bool × Block) LitmusError
 entry_of items names (Word first, line, pieces) = whole_item_at first (items, names, line, pieces)
-entry_of items names (Sign b, line, pieces) = if b == 125 then Ok (false, (items, names, line, pieces)) else fails BadInitial line
+entry_of items names (Sign b, line, pieces) = if b == CLOSING_BRACE then Ok (false, (items, names, line, pieces)) else fails BadInitial line
 entry_of items names (LineEnd, line, pieces) = fails BadInitial line
 
 -- an item and what parts it from the next one, or the closing brace
@@ -44,12 +46,12 @@ unended block = fails CutShort block.2
 
 -- items up to the closing brace; a text has no more of them than bytes
 unfoldable pub items_at : Names → ℕ → List Piece → Result Block LitmusError
-items_at names line pieces = repeat_at 65536 entry_at unended ([], names, line, pieces)
+items_at names line pieces = repeat_at MOST_BYTES entry_at unended ([], names, line, pieces)
 
 -- { items } and the line's end
 unfoldable pub block_at : Names → ℕ → List Piece → Result Block LitmusError
 block_at names line pieces = do
-  brace ← expect_at 123 BadInitial line pieces
+  brace ← expect_at OPENING_BRACE BadInitial line pieces
   b ← items_at names brace.0 brace.1
   next ← end_line_at BadInitial b.2 b.3
   Ok (b.0, b.1, next.0, next.1)

@@ -1,15 +1,16 @@
 -- Reading the condition up to the end of the text, with the first fault.
 use Rattle.std.specs.Prelude.{ℕ, ◌+◌, List, [], ◌∷◌, Option, Some, None, Result, Ok}
-use Rattle.litmus_grammar.specs.Pieces.{Piece, Word, Sign, LineEnd}
-use Rattle.litmus_grammar.specs.declared.errors.Kind.TheVariants.{BadTable, BadCondition}
-use Rattle.litmus_grammar.specs.declared.errors.LitmusError.{LitmusError}
-use Rattle.litmus_grammar.specs.Reading.{◌>>=◌, Read, fails, found, word_here_at}
+use Rattle.litmus_lexer.specs.declared.limits.TheConstants.{MOST_DEPTH}
+use Rattle.litmus_lexer.specs.Pieces.{Piece, Word, Sign, LineEnd}
+use Rattle.litmus_lexer.specs.declared.errors.Kind.TheVariants.{BadTable, BadCondition}
+use Rattle.litmus_lexer.specs.declared.errors.LitmusError.{LitmusError}
+use Rattle.litmus_lexer.specs.Reading.{◌>>=◌, Read, fails, found, word_here_at}
 use Rattle.litmus_parser.specs.Names.{Names}
 use Rattle.litmus_parser.specs.Trees.{Tree}
-use Rattle.litmus_parser.specs.ReadingTable.{quantifier_of}
 use Rattle.litmus_parser.specs.ReadingCondition.{expression_at}
 use Rattle.litmus_parser.specs.declared.syntax.Item.{Item}
 use Rattle.litmus_parser.specs.declared.syntax.Quantifier.{Quantifier}
+use Rattle.litmus_parser.specs.Keywords.{quantifier_of}
 
 unfoldable pub keyword_at : ℕ → List Piece → Read Quantifier
 keyword_at line pieces = do
@@ -27,10 +28,10 @@ abbrev pub unless_further : {A : Type 0} → Option ℕ → A → Result A Litmu
 unless_further (Some line) x = fails BadCondition line
 unless_further None x = Ok x
 
--- an expression with parentheses at most 64 deep, and nothing behind it
+-- an expression with parentheses at most 64 deep, and nothing after it
 unfoldable pub whole_at : List Item → ℕ → Names → ℕ → List Piece → Result (Tree × Names) LitmusError
 whole_at items threads names line pieces = do
-  e ← expression_at items threads 64 (names, 0) line pieces
+  e ← expression_at items threads MOST_DEPTH (names, 0) line pieces
   unless_further (further_at e.1 e.2) (e.0.0, e.0.1.0)
 
 unfoldable pub condition_at : List Item → ℕ → Names → ℕ → List Piece → Result (Quantifier × Tree × Names) LitmusError

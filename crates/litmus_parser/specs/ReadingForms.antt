@@ -1,9 +1,11 @@
 -- Reading instructions as they are written, within a line.
 use Rattle.std.specs.Prelude.{ℕ, ◌==◌, min, if◌then◌else◌, List, Ok}
-use Rattle.litmus_grammar.specs.Pieces.{Piece}
-use Rattle.litmus_grammar.specs.Spelling.{is_number, number_of, register_of}
-use Rattle.litmus_grammar.specs.declared.errors.Kind.TheVariants.{BadInstruction}
-use Rattle.litmus_grammar.specs.Reading.{◌>>=◌, Read, Passed, fails, found, word_here_at, expect_here_at}
+use Rattle.litmus_lexer.specs.declared.limits.TheConstants.{VALUE_BOUND}
+use Rattle.litmus_lexer.specs.declared.signs.TheConstants.{CLOSING_PARENTHESIS, COMMA, OPENING_PARENTHESIS}
+use Rattle.litmus_lexer.specs.Pieces.{Piece}
+use Rattle.litmus_lexer.specs.Spelling.{is_number, number_of, register_of}
+use Rattle.litmus_lexer.specs.declared.errors.Kind.TheVariants.{BadInstruction}
+use Rattle.litmus_lexer.specs.Reading.{◌>>=◌, Read, Passed, fails, found, word_here_at, expect_here_at}
 use Rattle.litmus_parser.specs.Mnemonics.{mnemonic_of, is_zero, is_fence_set}
 use Rattle.litmus_parser.specs.declared.forms.Mnemonic.{Mnemonic}
 use Rattle.litmus_parser.specs.declared.forms.Mnemonic.TheVariants as word
@@ -18,16 +20,16 @@ register_at line pieces = do
 -- (xB)
 unfoldable pub based_at : ℕ → List Piece → Read ℕ
 based_at line pieces = do
-  paren ← expect_here_at 40 BadInstruction line pieces
+  paren ← expect_here_at OPENING_PARENTHESIS BadInstruction line pieces
   base ← register_at paren.0 paren.1
-  close ← expect_here_at 41 BadInstruction base.1 base.2
+  close ← expect_here_at CLOSING_PARENTHESIS BadInstruction base.1 base.2
   Ok (base.0, close.0, close.1)
 
 -- xR,0(xB)
 unfoldable pub offset_at : ℕ → List Piece → Read (ℕ × ℕ)
 offset_at line pieces = do
   first ← register_at line pieces
-  comma ← expect_here_at 44 BadInstruction first.1 first.2
+  comma ← expect_here_at COMMA BadInstruction first.1 first.2
   zero ← word_here_at BadInstruction comma.0 comma.1
   if is_zero zero.0 then (do
     base ← based_at zero.1 zero.2
@@ -37,23 +39,23 @@ offset_at line pieces = do
 unfoldable pub swapped_at : ℕ → List Piece → Read (ℕ × ℕ × ℕ)
 swapped_at line pieces = do
   target ← register_at line pieces
-  comma ← expect_here_at 44 BadInstruction target.1 target.2
+  comma ← expect_here_at COMMA BadInstruction target.1 target.2
   source ← register_at comma.0 comma.1
-  second ← expect_here_at 44 BadInstruction source.1 source.2
+  second ← expect_here_at COMMA BadInstruction source.1 source.2
   base ← based_at second.0 second.1
   Ok ((target.0, source.0, base.0), base.1, base.2)
 
--- a number of any size: what is too large for every place counts as 2147483648
+-- a number of any size: what is no value counts as the bound of values
 unfoldable pub number_word_at : ℕ → List Piece → Read ℕ
 number_word_at line pieces = do
   w ← word_here_at BadInstruction line pieces
-  if is_number w.0 then Ok (min (number_of w.0) 2147483648, w.1, w.2) else fails BadInstruction w.1
+  if is_number w.0 then Ok (min (number_of w.0) VALUE_BOUND, w.1, w.2) else fails BadInstruction w.1
 
 -- xD,N
 unfoldable pub li_at : ℕ → List Piece → Read (ℕ × ℕ)
 li_at line pieces = do
   target ← register_at line pieces
-  comma ← expect_here_at 44 BadInstruction target.1 target.2
+  comma ← expect_here_at COMMA BadInstruction target.1 target.2
   value ← number_word_at comma.0 comma.1
   Ok ((target.0, value.0), value.1, value.2)
 
@@ -61,10 +63,10 @@ li_at line pieces = do
 unfoldable pub ori_at : ℕ → List Piece → Read (ℕ × ℕ)
 ori_at line pieces = do
   target ← register_at line pieces
-  comma ← expect_here_at 44 BadInstruction target.1 target.2
+  comma ← expect_here_at COMMA BadInstruction target.1 target.2
   zero ← register_at comma.0 comma.1
   if zero.0 == 0 then (do
-    second ← expect_here_at 44 BadInstruction zero.1 zero.2
+    second ← expect_here_at COMMA BadInstruction zero.1 zero.2
     value ← number_word_at second.0 second.1
     Ok ((target.0, value.0), value.1, value.2)) else fails BadInstruction zero.1
 
@@ -77,7 +79,7 @@ set_at line pieces = do
 unfoldable pub fence_at : ℕ → List Piece → Passed
 fence_at line pieces = do
   first ← set_at line pieces
-  comma ← expect_here_at 44 BadInstruction first.0 first.1
+  comma ← expect_here_at COMMA BadInstruction first.0 first.1
   set_at comma.0 comma.1
 
 unfoldable pub operands_at : Mnemonic → ℕ → List Piece → Read Form

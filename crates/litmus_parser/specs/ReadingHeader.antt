@@ -1,9 +1,10 @@
 -- Reading the lines before the initial block, with the first fault.
 use Rattle.std.specs.Prelude.{ℕ, ◌+◌, ◌==◌, Bool, true, false, if◌then◌else◌, List, length, Result, Ok}
-use Rattle.litmus_grammar.specs.FirstLines.{title_of, before_line_feed, behind_line_feed, begins_block, is_header_line}
-use Rattle.litmus_grammar.specs.declared.errors.Kind.TheVariants.{CutShort, BadHeader}
-use Rattle.litmus_grammar.specs.declared.errors.LitmusError.{LitmusError}
-use Rattle.litmus_grammar.specs.Reading.{◌>>=◌, fails, found, repeat_at}
+use Rattle.litmus_lexer.specs.declared.limits.TheConstants.{MOST_BYTES}
+use Rattle.litmus_lexer.specs.FirstLines.{title_of, before_line_feed, behind_line_feed, begins_block, is_header_line}
+use Rattle.litmus_lexer.specs.declared.errors.Kind.TheVariants.{CutShort, BadHeader}
+use Rattle.litmus_lexer.specs.declared.errors.LitmusError.{LitmusError}
+use Rattle.litmus_lexer.specs.Reading.{◌>>=◌, fails, found, repeat_at}
 
 -- the line and the bytes that are left
 abbrev pub Lines : Type 0
@@ -25,10 +26,10 @@ cut_short at = fails CutShort at.0
 
 -- header lines up to the initial block; there are no more of them than bytes
 unfoldable pub header_at : Lines → Result Lines LitmusError
-header_at at = repeat_at 65536 header_line_at cut_short at
+header_at at = repeat_at MOST_BYTES header_line_at cut_short at
 
-unfoldable pub opening_at : List ℕ → Result (List ℕ × Lines) LitmusError
-opening_at text = do
+unfoldable pub preamble_at : List ℕ → Result (List ℕ × Lines) LitmusError
+preamble_at text = do
   first ← first_line_at text
   body ← header_at first.1
   Ok (first.0, body)

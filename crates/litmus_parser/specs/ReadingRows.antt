@@ -1,9 +1,10 @@
 -- Reading the rows of the table, with the first fault.
 use Rattle.std.specs.Prelude.{ℕ, ◌+◌, ◌-◌, ◌==◌, ◌&&◌, Bool, true, false, if◌then◌else◌, List, [], ◌∷◌, ◌++◌, Option, Result, Ok}
-use Rattle.litmus_grammar.specs.Pieces.{Piece, Word, Sign, LineEnd}
-use Rattle.litmus_grammar.specs.declared.errors.Kind.TheVariants.{BadTable, BadInstruction}
-use Rattle.litmus_grammar.specs.declared.errors.LitmusError.{LitmusError}
-use Rattle.litmus_grammar.specs.Reading.{◌>>=◌, fails, behind, expect_here_at, end_line_at, passed_at, repeat_at}
+use Rattle.litmus_lexer.specs.declared.signs.TheConstants.{BAR, SEMICOLON}
+use Rattle.litmus_lexer.specs.Pieces.{Piece, Word, Sign, LineEnd}
+use Rattle.litmus_lexer.specs.declared.errors.Kind.TheVariants.{BadTable, BadInstruction}
+use Rattle.litmus_lexer.specs.declared.errors.LitmusError.{LitmusError}
+use Rattle.litmus_lexer.specs.Reading.{◌>>=◌, fails, behind, expect_here_at, end_line_at, passed_at, repeat_at}
 use Rattle.litmus_parser.specs.ReadingForms.{form_at}
 use Rattle.litmus_parser.specs.Verdicts.{judged_at}
 use Rattle.litmus_parser.specs.declared.syntax.Width.{Width}
@@ -16,14 +17,14 @@ ends_line (LineEnd ∷ pieces) = true
 ends_line (Word w ∷ pieces) = false
 ends_line (Sign b ∷ pieces) = false
 
--- so many |, then a ;, and nothing behind it in the line
+-- so many |, then a ;, and nothing after it in the line
 unfoldable pub has_shape : ℕ → List Piece → Bool
 has_shape bars [] = false
 has_shape bars (LineEnd ∷ pieces) = false
 has_shape bars (Word w ∷ pieces) = has_shape bars pieces
 has_shape bars (Sign b ∷ pieces) =
-    if b == 59 then bars == 0 && ends_line pieces
-    else if b == 124 then (if bars == 0 then false else has_shape (bars - 1) pieces)
+    if b == SEMICOLON then bars == 0 && ends_line pieces
+    else if b == BAR then (if bars == 0 then false else has_shape (bars - 1) pieces)
     else has_shape bars pieces
 
 -- the instructions so far, the width so far, the line and the pieces that are left
@@ -47,7 +48,7 @@ Columns = ℕ × List Cell × Option Width × ℕ × List Piece
 
 unfoldable pub column_at : List Item → ℕ → Columns → Result (Bool × Columns) LitmusError
 column_at items threads c = do
-  r ← cell_at items c.0 (if c.0 + 1 == threads then 59 else 124) (c.1, c.2, c.3, c.4)
+  r ← cell_at items c.0 (if c.0 + 1 == threads then SEMICOLON else BAR) (c.1, c.2, c.3, c.4)
   Ok (true, (c.0 + 1, r.0, r.1, r.2, r.3))
 
 abbrev pub ended : Columns → Result Columns LitmusError

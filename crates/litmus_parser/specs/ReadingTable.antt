@@ -1,25 +1,20 @@
 -- Reading the table, with the first fault.
-use Rattle.std.specs.Prelude.{ℕ, ◌+◌, ◌==◌, nat_le, Bool, true, false, if◌then◌else◌, List, [], ◌∷◌, Option, Some, None, Result, Ok, codes}
-use Rattle.std.specs.Str.{bytes_eq}
-use Rattle.litmus_grammar.specs.Pieces.{Piece, Word, Sign, LineEnd}
-use Rattle.litmus_grammar.specs.Spelling.{small_of}
-use Rattle.litmus_grammar.specs.declared.errors.Kind.TheVariants.{TooLarge, BadTable}
-use Rattle.litmus_grammar.specs.declared.errors.LitmusError.{LitmusError}
-use Rattle.litmus_grammar.specs.Reading.{◌>>=◌, Read, fails, here_at, word_here_at, start_at, end_line_at, repeat_at}
+use Rattle.std.specs.Prelude.{ℕ, ◌+◌, ◌==◌, nat_le, Bool, true, false, if◌then◌else◌, List, [], ◌∷◌, Option, Some, None, Result, Ok}
+use Rattle.litmus_lexer.specs.declared.limits.TheConstants.{MOST_ROWS, MOST_THREADS}
+use Rattle.litmus_lexer.specs.declared.signs.TheConstants.{BAR, SEMICOLON}
+use Rattle.litmus_lexer.specs.Pieces.{Piece, Word, Sign, LineEnd}
+use Rattle.litmus_lexer.specs.Spelling.{thread_named}
+use Rattle.litmus_lexer.specs.declared.errors.Kind.TheVariants.{TooLarge, BadTable}
+use Rattle.litmus_lexer.specs.declared.errors.LitmusError.{LitmusError}
+use Rattle.litmus_lexer.specs.Reading.{◌>>=◌, Read, fails, here_at, word_here_at, start_at, end_line_at, repeat_at}
 use Rattle.litmus_parser.specs.Names.{is_there}
+use Rattle.litmus_parser.specs.Keywords.{quantifier_of}
 use Rattle.litmus_parser.specs.ReadingRows.{row_at}
 use Rattle.litmus_parser.specs.declared.syntax.Width.{Width}
 use Rattle.litmus_parser.specs.declared.syntax.Item.{Item}
 use Rattle.litmus_parser.specs.declared.syntax.Name.{Name}
 use Rattle.litmus_parser.specs.declared.syntax.Name.TheVariants.{Register, Location}
 use Rattle.litmus_parser.specs.declared.syntax.Cell.{Cell}
-use Rattle.litmus_parser.specs.declared.syntax.Quantifier.{Quantifier}
-use Rattle.litmus_parser.specs.declared.syntax.Quantifier.TheVariants.{Exists, NotExists, Forall}
-
--- P and the number of a thread, without a zero in front
-abbrev pub thread_named : List ℕ → Option ℕ
-thread_named [] = None
-thread_named (first ∷ number) = if first == 80 then small_of 16 number else None
 
 abbrev pub is_thread : Option ℕ → ℕ → Bool
 is_thread None thread = false
@@ -29,11 +24,11 @@ abbrev pub separated_by : Piece × ℕ × List Piece → Result (Bool × ℕ × 
 separated_by (Word w, line, pieces) = fails BadTable line
 separated_by (LineEnd, line, pieces) = fails BadTable line
 separated_by (Sign b, line, pieces) =
-    if b == 124 then Ok (true, line, pieces)
-    else if b == 59 then (end_line_at BadTable line pieces >>= λ next. Ok (false, next.0, next.1))
+    if b == BAR then Ok (true, line, pieces)
+    else if b == SEMICOLON then (end_line_at BadTable line pieces >>= λ next. Ok (false, next.0, next.1))
     else fails BadTable line
 
--- behind a heading: whether a further one follows
+-- after a heading: whether a further one follows
 unfoldable pub separated : ℕ → List Piece → Result (Bool × ℕ × List Piece) LitmusError
 separated line pieces = here_at BadTable line pieces >>= separated_by
 
@@ -45,7 +40,7 @@ unfoldable pub heading_at : Headings → Result (Bool × Headings) LitmusError
 heading_at h = do
   w ← word_here_at BadTable h.1 h.2
   if is_thread (thread_named w.0) h.0 then
-      (if nat_le 16 h.0 then fails TooLarge w.1 else (do
+      (if nat_le MOST_THREADS h.0 then fails TooLarge w.1 else (do
         s ← separated w.1 w.2
         Ok (s.0, (h.0 + 1, s.1, s.2)))) else fails BadTable w.1
 
@@ -53,7 +48,7 @@ abbrev pub too_many : Headings → Result Headings LitmusError
 too_many h = fails TooLarge h.1
 
 unfoldable pub headings_at : ℕ → List Piece → Result Headings LitmusError
-headings_at line pieces = repeat_at 17 heading_at too_many (0, line, pieces)
+headings_at line pieces = repeat_at (MOST_THREADS + 1) heading_at too_many (0, line, pieces)
 
 unfoldable pub header_at : ℕ → List Piece → Result Headings LitmusError
 header_at line pieces = start_at line pieces >>= λ at. headings_at at.0 at.1
@@ -67,14 +62,6 @@ unfoldable pub absent_line : ℕ → List Item → Option ℕ
 absent_line threads [] = None
 absent_line threads (item ∷ items) = if is_absent threads item.name then Some item.line else absent_line threads items
 
--- what a keyword asks
-abbrev pub quantifier_of : List ℕ → Option Quantifier
-quantifier_of w =
-    if bytes_eq w (codes "exists") then Some Exists
-    else if bytes_eq w (codes "~exists") then Some NotExists
-    else if bytes_eq w (codes "forall") then Some Forall
-    else None
-
 unfoldable pub quantifier_next : List Piece → Bool
 quantifier_next [] = false
 quantifier_next (LineEnd ∷ pieces) = false
@@ -85,12 +72,12 @@ quantifier_next (Word w ∷ pieces) = is_there (quantifier_of w)
 abbrev pub Table : Type 0
 Table = ℕ × List Cell × Option Width × ℕ × List Piece
 
--- a row, or the place where the condition begins
+-- a row, or the position at which the condition begins
 unfoldable pub next_row_at : List Item → ℕ → Table → Result (Bool × Table) LitmusError
 next_row_at items threads t = do
   at ← start_at t.3 t.4
   if quantifier_next at.1 then Ok (false, (t.0 + 1, t.1, t.2, at.0, at.1))
-      else if nat_le 1024 t.0 then fails TooLarge at.0
+      else if nat_le MOST_ROWS t.0 then fails TooLarge at.0
       else (do
         r ← row_at items threads (t.1, t.2, at.0, at.1)
         Ok (true, (t.0 + 1, r.0, r.1, r.2, r.3)))
@@ -99,8 +86,8 @@ abbrev pub too_long : Table → Result Table LitmusError
 too_long t = fails TooLarge t.3
 
 unfoldable pub table_at : List Item → ℕ → List Cell → ℕ → List Piece → Result Table LitmusError
-table_at items threads cells line pieces = repeat_at 1025 (next_row_at items threads) too_long (0, cells, None, line, pieces)
+table_at items threads cells line pieces = repeat_at (MOST_ROWS + 1) (next_row_at items threads) too_long (0, cells, None, line, pieces)
 
--- the rows up to the place where the condition begins
+-- the rows up to the condition
 unfoldable pub rows_at : List Item → ℕ → List Cell → ℕ → List Piece → Read (List Cell)
 rows_at items threads cells line pieces = table_at items threads cells line pieces >>= λ t. Ok (t.1, t.3, t.4)

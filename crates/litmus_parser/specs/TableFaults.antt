@@ -1,12 +1,15 @@
 -- The causes of faults in the header row and in the rows of the table: what stands in the line.
-use Rattle.std.specs.Prelude.{◌≡◌, ◌≢◌, ℕ, ◌+◌, ◌-◌, ◌<◌, ◌==◌, ◌⊎◌, true, false, if◌then◌else◌, List, ◌∷◌, [], Option, Some, None}
-use Rattle.litmus_grammar.specs.Pieces.{Piece, Word, Sign}
-use Rattle.litmus_grammar.specs.declared.errors.Kind.{Kind}
-use Rattle.litmus_grammar.specs.declared.errors.Kind.TheVariants.{TooLarge, BadTable, BadInstruction, ValueRange, MixedWidth, AddressAsValue, ValueAsAddress, CutShort}
+use Rattle.std.specs.Prelude.{◌≡◌, ◌≢◌, ℕ, ◌+◌, ◌-◌, ◌<◌, ◌≤◌, ◌==◌, ◌⊎◌, true, if◌then◌else◌, List, ◌∷◌, [], Option, Some, None}
+use Rattle.litmus_lexer.specs.declared.limits.TheConstants.{MOST_ORI, MOST_ROWS, MOST_THREADS, VALUE_BOUND}
+use Rattle.litmus_lexer.specs.declared.signs.TheConstants.{BAR, SEMICOLON}
+use Rattle.litmus_lexer.specs.Pieces.{Piece, Word, Sign}
+use Rattle.litmus_lexer.specs.Spelling.{thread_named}
+use Rattle.litmus_lexer.specs.declared.errors.Kind.{Kind}
+use Rattle.litmus_lexer.specs.declared.errors.Kind.TheVariants.{TooLarge, BadTable, BadInstruction, ValueRange, MixedWidth, AddressAsValue, ValueAsAddress, CutShort}
 use Rattle.litmus_parser.specs.Names.{address_of, is_there}
 use Rattle.litmus_parser.specs.Places.{Place}
-use Rattle.litmus_parser.specs.ReadingRows.{has_shape}
-use Rattle.litmus_parser.specs.ReadingTable.{thread_named, quantifier_next}
+use Rattle.litmus_parser.specs.GrammarWords.{EndsLine}
+use Rattle.litmus_parser.specs.Keywords.{BeginsCondition}
 use Rattle.litmus_parser.specs.GrammarForms.{IsForm}
 use Rattle.litmus_parser.specs.GrammarTable.{Begins, IsHeaderRow, AreCells, IsRow}
 use Rattle.litmus_parser.specs.declared.syntax.Width.{Width}
@@ -15,16 +18,25 @@ use Rattle.litmus_parser.specs.declared.syntax.Cell.{Cell}
 use Rattle.litmus_parser.specs.declared.forms.Form.{Form}
 use Rattle.litmus_parser.specs.declared.forms.Form.TheVariants as form
 
--- behind blank lines, a line begins here, and it is line n
+-- after blank lines, a line begins here, and it is line n
 abbrev pub LineAt : ℕ → List Piece → ℕ → List Piece → Type 0
 LineAt line pieces n start = Begins pieces start × Place line pieces n start
 
+-- so many headings stand from P0 on up to this place, each with | after it
+pub data StandHeadings (first : List Piece) : ℕ → List Piece → Type 0 where
+  no_heading : StandHeadings first 0 first
+  one_more : {t : ℕ} {rest : List Piece} (w : List ℕ) → StandHeadings first t (Word w ∷ Sign BAR ∷ rest) → thread_named w ≡ Some t → StandHeadings first (t + 1) rest
+
+-- after sixteen headings a seventeenth begins
+abbrev pub HasSeventeenth : List Piece → Type 0
+HasSeventeenth row = (w : List ℕ) × (rest : List Piece) × StandHeadings row MOST_THREADS (Word w ∷ rest) × (thread_named w ≡ Some MOST_THREADS)
+
 -- the cause of a fault of the header row in line n
 abbrev pub HeaderCause : ℕ → List Piece → Kind → ℕ → Type 0
--- its line is line n, and it is no header row
-HeaderCause line pieces BadTable n = (row : List Piece) × LineAt line pieces n row × ((threads : ℕ) (rest : List Piece) → IsHeaderRow pieces threads rest → ⊥)
--- its line is line n, in which the heading of a seventeenth thread stands
-HeaderCause line pieces TooLarge n = (row rest : List Piece) × (w : List ℕ) × LineAt line pieces n row × Place n row n (Word w ∷ rest) × (thread_named w ≡ Some 16)
+-- its line is line n, and it is no header row, for another reason than a seventeenth heading
+HeaderCause line pieces BadTable n = (row : List Piece) × LineAt line pieces n row × ((threads : ℕ) (rest : List Piece) → IsHeaderRow pieces threads rest → ⊥) × (HasSeventeenth row → ⊥)
+-- its line is line n, in which a seventeenth heading begins
+HeaderCause line pieces TooLarge n = (row : List Piece) × LineAt line pieces n row × HasSeventeenth row
 -- no line begins up to the end of the text, which is in line n
 HeaderCause line pieces CutShort n = ((row : List Piece) → Begins pieces row → ⊥) × Place line pieces n []
 HeaderCause line pieces kind n = ⊥
@@ -35,28 +47,36 @@ pub data StandRows (items : List Item) (threads : ℕ) (pieces : List Piece) : �
   row : {n : ℕ} {w v : Option Width} {ps rest : List Piece} (qs : List Piece) (cells : List Cell) → StandRows items threads pieces n w ps → Begins ps qs → IsRow items threads qs w cells v rest
       → StandRows items threads pieces (n + 1) v rest
 
--- behind so many rows a line begins here, not with the condition, and it is line n
+-- the shape of a row: words and signs, among them so many |, up to its only ;, with which its line ends
+pub data HasShape : ℕ → List Piece → Type 0 where
+  ends : {rest after : List Piece} → EndsLine rest after → HasShape 0 (Sign SEMICOLON ∷ rest)
+  bar : {bars : ℕ} {rest : List Piece} → HasShape bars rest → HasShape (bars + 1) (Sign BAR ∷ rest)
+  word : {bars : ℕ} {rest : List Piece} (w : List ℕ) → HasShape bars rest → HasShape bars (Word w ∷ rest)
+  sign : {bars : ℕ} {rest : List Piece} (b : ℕ) → b ≢ SEMICOLON → b ≢ BAR → HasShape bars rest → HasShape bars (Sign b ∷ rest)
+
+-- after so many rows a line begins here, not with the condition, and it is line n
 pub record RowAt (items : List Item) (threads line : ℕ) (pieces : List Piece) (rows n : ℕ) (before : Option Width) (start : List Piece) : Type 0 where
   pub above : List Piece
   pub stand : StandRows items threads pieces rows before above
   pub begins : Begins above start
-  pub no_condition : quantifier_next start ≡ false
+  pub no_condition : BeginsCondition start → ⊥
   pub place : Place line pieces n start
 
--- of a row with the right shape, in line n, the cells of the threads below t stand in front of this place
+-- of one of 1024 rows at most, with the right shape, in line n, the cells of the threads below t stand before this place
 pub record CellAt (items : List Item) (threads line : ℕ) (pieces : List Piece) (t n : ℕ) (before : Option Width) (here : List Piece) : Type 0 where
   pub rows : ℕ
   pub width : Option Width
   pub start : List Piece
   pub cells : List Cell
   pub row : RowAt items threads line pieces rows n width start
-  pub shaped : has_shape (threads - 1) start ≡ true
+  pub few : rows < MOST_ROWS
+  pub shaped : HasShape (threads - 1) start
   pub stand : AreCells items threads t 0 start width cells before here
   pub place : Place n start n here
 
 -- what ends the cell of a thread
 abbrev pub end_of : ℕ → ℕ → ℕ
-end_of threads t = if t + 1 == threads then 59 else 124
+end_of threads t = if t + 1 == threads then SEMICOLON else BAR
 
 -- the cell of thread t, in line n, is this instruction
 pub record FormAt (items : List Item) (threads line : ℕ) (pieces : List Piece) (t n : ℕ) (form : Form) : Type 0 where
@@ -69,8 +89,8 @@ pub record FormAt (items : List Item) (threads line : ℕ) (pieces : List Piece)
 
 -- a number is too large for its place
 abbrev pub TooGreat : Form → Type 0
-TooGreat (form.Li d number) = 2147483647 < number
-TooGreat (form.Ori d number) = 2047 < number
+TooGreat (form.Li d number) = VALUE_BOUND ≤ number
+TooGreat (form.Ori d number) = MOST_ORI < number
 TooGreat f = ⊥
 
 -- the width of a load, a store or a swap
@@ -98,11 +118,11 @@ HasAddressIn f r = ⊥
 
 -- the cause of a fault of the rows in line n
 abbrev pub RowsCause : List Item → ℕ → ℕ → List Piece → Kind → ℕ → Type 0
--- behind rows a further one begins, and has not the shape of a row
-RowsCause items threads line pieces BadTable n = (rows : ℕ) × (before : Option Width) × (start : List Piece) × RowAt items threads line pieces rows n before start × (has_shape (threads - 1) start ≡ false)
--- behind 1024 rows a further row begins
-RowsCause items threads line pieces TooLarge n = (before : Option Width) × (start : List Piece) × RowAt items threads line pieces 1024 n before start
--- behind rows no line begins up to the end of the text, which is in line n
+-- after less than 1024 rows a further one begins, and has not the shape of a row
+RowsCause items threads line pieces BadTable n = (rows : ℕ) × (before : Option Width) × (start : List Piece) × RowAt items threads line pieces rows n before start × (rows < MOST_ROWS) × (HasShape (threads - 1) start → ⊥)
+-- after 1024 rows a further row begins
+RowsCause items threads line pieces TooLarge n = (before : Option Width) × (start : List Piece) × RowAt items threads line pieces MOST_ROWS n before start
+-- after rows no line begins up to the end of the text, which is in line n
 RowsCause items threads line pieces CutShort n = (rows : ℕ) × (before : Option Width) × (above : List Piece)
     × StandRows items threads pieces rows before above × ((start : List Piece) → Begins above start → ⊥) × Place line pieces n []
 -- a cell is neither blank nor an instruction
@@ -110,7 +130,7 @@ RowsCause items threads line pieces BadInstruction n = (t : ℕ) × (before : Op
     × ((rest : List Piece) → here ≢ Sign (end_of threads t) ∷ rest) × ((form : Form) (rest : List Piece) → IsForm here form (Sign (end_of threads t) ∷ rest) → ⊥)
 -- an instruction has a number that is too large for its place
 RowsCause items threads line pieces ValueRange n = (t : ℕ) × (form : Form) × FormAt items threads line pieces t n form × TooGreat form
--- an instruction has another width than one in front of it, in line m
+-- an instruction has another width than one before it, in line m
 RowsCause items threads line pieces MixedWidth n = (t s m : ℕ) × (form other : Form) × (own first : Width)
     × (there : FormAt items threads line pieces s m other) × (here : FormAt items threads line pieces t n form) × Place m there.rest n here.here
     × (width_of form ≡ Some own) × (width_of other ≡ Some first) × (first ≢ own)

@@ -1,8 +1,9 @@
 -- What an instruction may say: its numbers, its width, its registers.
 use Rattle.std.specs.Prelude.{ℕ, nat_lt, Bool, true, false, if◌then◌else◌, List, Option, Some, None, Result, Ok}
-use Rattle.litmus_grammar.specs.declared.errors.Kind.TheVariants.{MixedWidth, ValueRange, AddressAsValue, ValueAsAddress}
-use Rattle.litmus_grammar.specs.declared.errors.LitmusError.{LitmusError}
-use Rattle.litmus_grammar.specs.Reading.{◌>>=◌, fails}
+use Rattle.litmus_lexer.specs.declared.limits.TheConstants.{MOST_ORI, VALUE_BOUND}
+use Rattle.litmus_lexer.specs.declared.errors.Kind.TheVariants.{MixedWidth, ValueRange, AddressAsValue, ValueAsAddress}
+use Rattle.litmus_lexer.specs.declared.errors.LitmusError.{LitmusError}
+use Rattle.litmus_lexer.specs.Reading.{◌>>=◌, fails}
 use Rattle.litmus_parser.specs.Names.{address_of, is_there}
 use Rattle.litmus_parser.specs.declared.syntax.Width.{Width}
 use Rattle.litmus_parser.specs.declared.syntax.Width.TheVariants.{Single, Double}
@@ -54,7 +55,7 @@ judged_at items thread width (form.Swap own target source base) line = do
   b ← base_at items thread base line
   Ok (Swap d s b, w)
 judged_at items thread width (form.Li target value) line =
-    if nat_lt value 2147483648 then (value_register_at items thread target line >>= λ d. Ok (Set d value, width)) else fails ValueRange line
+    if nat_lt value VALUE_BOUND then (value_register_at items thread target line >>= λ d. Ok (Set d value, width)) else fails ValueRange line
 judged_at items thread width (form.Ori target value) line =
-    if nat_lt 2047 value then fails ValueRange line else (value_register_at items thread target line >>= λ d. Ok (Set d value, width))
+    if nat_lt MOST_ORI value then fails ValueRange line else (value_register_at items thread target line >>= λ d. Ok (Set d value, width))
 judged_at items thread width form.Fence line = Ok (Fence, width)

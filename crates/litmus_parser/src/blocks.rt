@@ -1,27 +1,27 @@
 //! The initial block.
 
 ghost use Rattle.std.specs.Prelude.{◌≡◌};
-ghost use Rattle.litmus_grammar.specs.Reading.{Gives};
-ghost use Rattle.litmus_grammar.specs.Pieces.{pieces_of};
+ghost use Rattle.litmus_lexer.specs.Views.{view_read};
+ghost use Rattle.litmus_lexer.specs.Reading.{Gives};
 ghost use Rattle.litmus_parser.specs.ReadingBlock.{entry_at, block_at, separated, added, whole_item_at, items_at};
 
 use crate::items::{is_set, item};
 use crate::syntax::Item;
-use litmus_grammar::{
-    Cursor, Kind, LitmusError, Locations, MOST_BYTES, ReadError, Token, end_line, expect, next,
-    sign,
+use litmus_lexer::{
+    CLOSING_BRACE, Cursor, Kind, Locations, MOST_BYTES, OPENING_BRACE, ReadError, SEMICOLON, Token,
+    end_line, expect, next, sign,
 };
 use std::alloc::Global;
 
-/// Whether an item may follow: the place behind a `;` or a `}`.
+/// Whether an item may follow: the position after a `;` or a `}`.
 #[tactic(auto, unfolding(crate::specs::ReadingBlock::separated))]
 fn separator<'a>(cursor: Cursor<'a>) -> Result<(bool, Cursor<'a>), ReadError>
-    ensures { Gives (λ r. (r.0, r.1.line, pieces_of r.1.rest.now)) result (separated cursor.entry.line (pieces_of cursor.entry.rest.now)) }
+    ensures { Gives view_read result (separated cursor.entry.line cursor.entry.pieces) }
 {
     let (found, after) = sign(cursor, Kind::BadInitial)?;
     match found {
-        b';' => Ok((true, after)),
-        b'}' => Ok((false, after)),
+        SEMICOLON => Ok((true, after)),
+        CLOSING_BRACE => Ok((false, after)),
         _ => Err(after.fault(Kind::BadInitial)),
     }
 }
@@ -32,10 +32,7 @@ fn add(items: &mut Vec<Item>, item: Item) -> Result<(), ReadError>
     ensures { Gives (λ _. items.new.items) result (added items.old.items item) }
 {
     if is_set(items, item.name) {
-        return Err(ReadError::Fault(LitmusError {
-            line: item.line,
-            kind: Kind::DoubleInitial,
-        }));
+        return Err(ReadError::at(item.line, Kind::DoubleInitial));
     }
     items.push(item)?;
     Ok(())
@@ -49,8 +46,9 @@ fn whole_item<'a>(
     first: &[u8],
     cursor: Cursor<'a>,
 ) -> Result<(bool, Cursor<'a>), ReadError>
-    ensures { Gives (λ r. (r.0, (items.new.items, locations.new, r.1.line, pieces_of r.1.rest.now))) result
-        (whole_item_at first.now (items.old.items, locations.old, cursor.entry.line, pieces_of cursor.entry.rest.now)) }
+    ensures { Gives (λ r. (r.0, (items.new.items, locations.new, r.1.line, r.1.pieces))) result
+        (whole_item_at first.now
+        (items.old.items, locations.old, cursor.entry.line, cursor.entry.pieces)) }
 {
     let (item, after) = item(locations, first, cursor)?;
     add(items, item)?;
@@ -58,32 +56,32 @@ fn whole_item<'a>(
     Ok((more, after))
 }
 
-/// One item with the separator behind it, or the end of the block; and whether an item may follow.
+/// One item and the separator after it, or the closing brace; and whether an item may follow.
 #[tactic(auto, unfolding(crate::specs::ReadingBlock::entry_at))]
 fn entry<'a>(
     items: &mut Vec<Item>,
     locations: &mut Locations,
     cursor: Cursor<'a>,
 ) -> Result<(bool, Cursor<'a>), ReadError>
-    ensures { Gives (λ r. (r.0, (items.new.items, locations.new, r.1.line, pieces_of r.1.rest.now))) result
-        (entry_at (items.old.items, locations.old, cursor.entry.line, pieces_of cursor.entry.rest.now)) }
+    ensures { Gives (λ r. (r.0, (items.new.items, locations.new, r.1.line, r.1.pieces))) result
+        (entry_at (items.old.items, locations.old, cursor.entry.line, cursor.entry.pieces)) }
 {
     let (token, after) = next(cursor)?;
     match token {
         Token::Word(first) => whole_item(items, locations, first, after),
-        Token::Sign(b'}') => Ok((false, after)),
+        Token::Sign(CLOSING_BRACE) => Ok((false, after)),
         _ => Err(after.fault(Kind::BadInitial)),
     }
 }
 
-/// The items up to the closing brace, and the place behind it.
+/// The items up to the closing brace, and the position after it.
 fn items<'a>(
     alloc: Global,
     locations: &mut Locations,
     cursor: Cursor<'a>,
 ) -> Result<(Vec<Item>, Cursor<'a>), ReadError>
-    ensures { Gives (λ r. (r.0.items, locations.new, r.1.line, pieces_of r.1.rest.now)) result
-        (items_at locations.old cursor.entry.line (pieces_of cursor.entry.rest.now)) }
+    ensures { Gives (λ r. (r.0.items, locations.new, r.1.line, r.1.pieces)) result
+        (items_at locations.old cursor.entry.line cursor.entry.pieces) }
 {
     let mut items = Vec::new(alloc);
     let mut at = cursor;
@@ -97,16 +95,17 @@ fn items<'a>(
     Err(at.fault(Kind::CutShort))
 }
 
-/// The items of the initial block, and the line behind it.
+/// The items of the initial block, and the line after it.
 #[tactic(auto, unfolding(crate::specs::ReadingBlock::block_at))]
 pub fn block<'a>(
     alloc: Global,
     locations: &mut Locations,
     cursor: Cursor<'a>,
 ) -> Result<(Vec<Item>, Cursor<'a>), ReadError>
-    ensures { Gives (λ r. (r.0.items, locations.new, r.1.line, pieces_of r.1.rest.now)) result (block_at locations.old cursor.entry.line (pieces_of cursor.entry.rest.now)) }
+    ensures { Gives (λ r. (r.0.items, locations.new, r.1.line, r.1.pieces)) result
+        (block_at locations.old cursor.entry.line cursor.entry.pieces) }
 {
-    let after = expect(cursor, b'{', Kind::BadInitial)?;
+    let after = expect(cursor, OPENING_BRACE, Kind::BadInitial)?;
     let (items, after) = items(alloc, locations, after)?;
     let after = end_line(after, Kind::BadInitial)?;
     Ok((items, after))

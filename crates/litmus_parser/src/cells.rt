@@ -1,14 +1,16 @@
 //! The rows of the table, cell by cell.
 
 ghost use Rattle.std.specs.Prelude.{◌≡◌, ◌<◌, ◌+◌, ◌++◌, [], ◌∷◌, Ok, true};
-ghost use Rattle.litmus_grammar.specs.Reading.{Gives};
-ghost use Rattle.litmus_grammar.specs.Pieces.{pieces_of};
+ghost use Rattle.litmus_lexer.specs.Reading.{Gives};
+ghost use Rattle.litmus_lexer.specs.Pieces.{pieces_of};
 ghost use Rattle.litmus_parser.specs.ReadingRows.{ends_line, has_shape, instruction_at, cell_at, column_at, columns_at, row_at};
 
 use crate::forms::read_form;
-use crate::judging::judge;
+use crate::instructions::judge;
 use crate::syntax::{Cell, Item, Width};
-use litmus_grammar::{Cursor, Kind, ReadError, Token, end_line, expect_here, next_token, passed};
+use litmus_lexer::{
+    BAR, Cursor, Kind, ReadError, SEMICOLON, Token, end_line, expect_here, next_token, passed,
+};
 
 fn ends_line(text: &[u8]) -> bool
     ensures { result ≡ ends_line (pieces_of text.now) }
@@ -16,7 +18,7 @@ fn ends_line(text: &[u8]) -> bool
     matches!(next_token(text), None | Some((Token::LineEnd, _)))
 }
 
-/// Whether a line has so many `|`, then a `;`, and nothing behind it.
+/// Whether a line has so many `|`, then a `;`, and nothing after it.
 #[tactic(auto, unfolding(crate::specs::ReadingRows::has_shape))]
 fn has_shape(bars: u8, text: &[u8]) -> bool
     ensures { result ≡ has_shape bars (pieces_of text.now) }
@@ -26,8 +28,8 @@ fn has_shape(bars: u8, text: &[u8]) -> bool
     while let Some((token, after)) = next_token(rest) {
         match token {
             Token::LineEnd => return false,
-            Token::Sign(b';') => return left == 0 && ends_line(after),
-            Token::Sign(b'|') => {
+            Token::Sign(SEMICOLON) => return left == 0 && ends_line(after),
+            Token::Sign(BAR) => {
                 if left == 0 {
                     return false;
                 }
@@ -54,15 +56,16 @@ fn instruction<'a>(
     cells: &mut Vec<Cell>,
     thread: u8,
     width: Option<Width>,
-    end: u8,
+    closing: u8,
     cursor: Cursor<'a>,
 ) -> Result<(Option<Width>, Cursor<'a>), ReadError>
-    ensures { Gives (λ r. (cells.new.items, r.0, r.1.line, pieces_of r.1.rest.now)) result
-        (instruction_at items.now thread end (cells.old.items, width, cursor.entry.line, pieces_of cursor.entry.rest.now)) }
+    ensures { Gives (λ r. (cells.new.items, r.0, r.1.line, r.1.pieces)) result
+        (instruction_at items.now thread closing
+        (cells.old.items, width, cursor.entry.line, cursor.entry.pieces)) }
 {
     let (form, after) = read_form(cursor)?;
-    let after = expect_here(after, end, Kind::BadInstruction)?;
-    let (instruction, width) = judge(items, thread, width, form, after)?;
+    let after = expect_here(after, closing, Kind::BadInstruction)?;
+    let (instruction, width) = judge(items, thread, width, form, &after)?;
     push_cell(
         cells,
         Cell {
@@ -80,19 +83,20 @@ fn cell<'a>(
     cells: &mut Vec<Cell>,
     thread: u8,
     width: Option<Width>,
-    end: u8,
+    closing: u8,
     cursor: Cursor<'a>,
 ) -> Result<(Option<Width>, Cursor<'a>), ReadError>
-    ensures { Gives (λ r. (cells.new.items, r.0, r.1.line, pieces_of r.1.rest.now)) result
-        (cell_at items.now thread end (cells.old.items, width, cursor.entry.line, pieces_of cursor.entry.rest.now)) }
+    ensures { Gives (λ r. (cells.new.items, r.0, r.1.line, r.1.pieces)) result
+        (cell_at items.now thread closing
+        (cells.old.items, width, cursor.entry.line, cursor.entry.pieces)) }
 {
-    match passed(cursor, end) {
+    match passed(&cursor, closing) {
         Some(after) => Ok((width, after)),
-        None => instruction(items, cells, thread, width, end, cursor),
+        None => instruction(items, cells, thread, width, closing, cursor),
     }
 }
 
-/// The cell of a thread, with `|` behind it, or `;` for the last one.
+/// The cell of a thread, with `|` after it, or `;` for the last one.
 #[tactic(auto, unfolding(crate::specs::ReadingRows::column_at))]
 fn column<'a>(
     items: &[Item],
@@ -103,11 +107,16 @@ fn column<'a>(
     cursor: Cursor<'a>,
 ) -> Result<(Option<Width>, Cursor<'a>), ReadError>
     requires { thread < threads }
-    ensures { Gives (λ r. (true, (thread + 1, cells.new.items, r.0, r.1.line, pieces_of r.1.rest.now))) result
-        (column_at items.now threads (thread, cells.old.items, width, cursor.entry.line, pieces_of cursor.entry.rest.now)) }
+    ensures { Gives (λ r. (true, (thread + 1, cells.new.items, r.0, r.1.line, r.1.pieces))) result
+        (column_at items.now threads
+        (thread, cells.old.items, width, cursor.entry.line, cursor.entry.pieces)) }
 {
-    let end = if thread + 1 == threads { b';' } else { b'|' };
-    let (width, after) = cell(items, cells, thread, width, end, cursor)?;
+    let closing = if thread + 1 == threads {
+        SEMICOLON
+    } else {
+        BAR
+    };
+    let (width, after) = cell(items, cells, thread, width, closing, cursor)?;
     Ok((width, after))
 }
 
@@ -119,8 +128,9 @@ fn columns<'a>(
     width: Option<Width>,
     cursor: Cursor<'a>,
 ) -> Result<(Option<Width>, Cursor<'a>), ReadError>
-    ensures { Gives (λ r. (threads, cells.new.items, r.0, r.1.line, pieces_of r.1.rest.now)) result
-        (columns_at items.now threads (0, cells.old.items, width, cursor.entry.line, pieces_of cursor.entry.rest.now)) }
+    ensures { Gives (λ r. (threads, cells.new.items, r.0, r.1.line, r.1.pieces)) result
+        (columns_at items.now threads
+        (0, cells.old.items, width, cursor.entry.line, cursor.entry.pieces)) }
 {
     let mut width = width;
     let mut at = cursor;
@@ -141,10 +151,11 @@ pub fn row<'a>(
     width: Option<Width>,
     cursor: Cursor<'a>,
 ) -> Result<(Option<Width>, Cursor<'a>), ReadError>
-    ensures { Gives (λ r. (cells.new.items, r.0, r.1.line, pieces_of r.1.rest.now)) result
-        (row_at items.now threads (cells.old.items, width, cursor.entry.line, pieces_of cursor.entry.rest.now)) }
+    ensures { Gives (λ r. (cells.new.items, r.0, r.1.line, r.1.pieces)) result
+        (row_at items.now threads
+        (cells.old.items, width, cursor.entry.line, cursor.entry.pieces)) }
 {
-    if !has_shape(threads.saturating_sub(1), cursor.rest) {
+    if !has_shape(threads.saturating_sub(1), cursor.rest()) {
         return Err(cursor.fault(Kind::BadTable));
     }
     let (width, after) = columns(items, cells, threads, width, cursor)?;

@@ -2,14 +2,15 @@
 
 ghost use Rattle.std.specs.Prelude.{◌≡◌};
 ghost use Rattle.std.specs.Str.{bytes_eq};
-ghost use Rattle.litmus_grammar.specs.Reading.{Gives};
-ghost use Rattle.litmus_grammar.specs.Pieces.{pieces_of};
+ghost use Rattle.litmus_lexer.specs.Views.{view_read, view_position};
+ghost use Rattle.litmus_lexer.specs.Reading.{Gives};
 ghost use Rattle.litmus_parser.specs.Mnemonics.{mnemonic_of, swap_width, is_zero, is_fence_set};
 ghost use Rattle.litmus_parser.specs.ReadingForms.{register_at, based_at, offset_at, swapped_at, number_word_at, set_at, fence_at, li_at, ori_at, operands_at, form_at};
 
 use crate::syntax::Width;
-use litmus_grammar::{
-    Cursor, Kind, ReadError, expect_here, is_number, number, register, word_here,
+use litmus_lexer::{
+    CLOSING_PARENTHESIS, COMMA, Cursor, Kind, OPENING_PARENTHESIS, ReadError, expect_here,
+    is_number, number, register, word_here,
 };
 
 /// What the first word of an instruction names.
@@ -23,7 +24,7 @@ pub enum Mnemonic {
     Fence,
 }
 
-/// An instruction as it is written; a number above 2147483647 stands as 2147483648.
+/// An instruction as it is written; a number above every value is `VALUE_BOUND`.
 #[derive(Clone, Copy, Debug, PartialEq, Eq)]
 pub enum Form {
     Load(Width, u8, u8),
@@ -99,7 +100,7 @@ fn is_fence_set(word: &[u8]) -> bool
 
 #[tactic(auto, unfolding(crate::specs::ReadingForms::register_at))]
 fn read_register<'a>(cursor: Cursor<'a>) -> Result<(u8, Cursor<'a>), ReadError>
-    ensures { Gives (λ r. (r.0, r.1.line, pieces_of r.1.rest.now)) result (register_at cursor.entry.line (pieces_of cursor.entry.rest.now)) }
+    ensures { Gives view_read result (register_at cursor.entry.line cursor.entry.pieces) }
 {
     let (name, after) = word_here(cursor, Kind::BadInstruction)?;
     match register(name) {
@@ -111,21 +112,21 @@ fn read_register<'a>(cursor: Cursor<'a>) -> Result<(u8, Cursor<'a>), ReadError>
 /// `xB` in parentheses.
 #[tactic(auto, unfolding(crate::specs::ReadingForms::based_at))]
 fn based<'a>(cursor: Cursor<'a>) -> Result<(u8, Cursor<'a>), ReadError>
-    ensures { Gives (λ r. (r.0, r.1.line, pieces_of r.1.rest.now)) result (based_at cursor.entry.line (pieces_of cursor.entry.rest.now)) }
+    ensures { Gives view_read result (based_at cursor.entry.line cursor.entry.pieces) }
 {
-    let after = expect_here(cursor, b'(', Kind::BadInstruction)?;
+    let after = expect_here(cursor, OPENING_PARENTHESIS, Kind::BadInstruction)?;
     let (base, after) = read_register(after)?;
-    let after = expect_here(after, b')', Kind::BadInstruction)?;
+    let after = expect_here(after, CLOSING_PARENTHESIS, Kind::BadInstruction)?;
     Ok((base, after))
 }
 
 /// `xR,0(xB)`.
 #[tactic(auto, unfolding(crate::specs::ReadingForms::offset_at))]
 fn offset<'a>(cursor: Cursor<'a>) -> Result<((u8, u8), Cursor<'a>), ReadError>
-    ensures { Gives (λ r. (r.0, r.1.line, pieces_of r.1.rest.now)) result (offset_at cursor.entry.line (pieces_of cursor.entry.rest.now)) }
+    ensures { Gives view_read result (offset_at cursor.entry.line cursor.entry.pieces) }
 {
     let (first, after) = read_register(cursor)?;
-    let after = expect_here(after, b',', Kind::BadInstruction)?;
+    let after = expect_here(after, COMMA, Kind::BadInstruction)?;
     let (zero, after) = word_here(after, Kind::BadInstruction)?;
     if !is_zero(zero) {
         return Err(after.fault(Kind::BadInstruction));
@@ -137,12 +138,12 @@ fn offset<'a>(cursor: Cursor<'a>) -> Result<((u8, u8), Cursor<'a>), ReadError>
 /// `xD,xS,(xB)`.
 #[tactic(auto, unfolding(crate::specs::ReadingForms::swapped_at))]
 fn swapped<'a>(cursor: Cursor<'a>) -> Result<((u8, u8, u8), Cursor<'a>), ReadError>
-    ensures { Gives (λ r. (r.0, r.1.line, pieces_of r.1.rest.now)) result (swapped_at cursor.entry.line (pieces_of cursor.entry.rest.now)) }
+    ensures { Gives view_read result (swapped_at cursor.entry.line cursor.entry.pieces) }
 {
     let (target, after) = read_register(cursor)?;
-    let after = expect_here(after, b',', Kind::BadInstruction)?;
+    let after = expect_here(after, COMMA, Kind::BadInstruction)?;
     let (source, after) = read_register(after)?;
-    let after = expect_here(after, b',', Kind::BadInstruction)?;
+    let after = expect_here(after, COMMA, Kind::BadInstruction)?;
     let (base, after) = based(after)?;
     Ok(((target, source, base), after))
 }
@@ -150,7 +151,7 @@ fn swapped<'a>(cursor: Cursor<'a>) -> Result<((u8, u8, u8), Cursor<'a>), ReadErr
 /// A number of any size.
 #[tactic(auto, unfolding(crate::specs::ReadingForms::number_word_at))]
 fn read_number<'a>(cursor: Cursor<'a>) -> Result<(u32, Cursor<'a>), ReadError>
-    ensures { Gives (λ r. (r.0, r.1.line, pieces_of r.1.rest.now)) result (number_word_at cursor.entry.line (pieces_of cursor.entry.rest.now)) }
+    ensures { Gives view_read result (number_word_at cursor.entry.line cursor.entry.pieces) }
 {
     let (digits, after) = word_here(cursor, Kind::BadInstruction)?;
     if !is_number(digits) {
@@ -162,10 +163,10 @@ fn read_number<'a>(cursor: Cursor<'a>) -> Result<(u32, Cursor<'a>), ReadError>
 /// `xD,N`.
 #[tactic(auto, unfolding(crate::specs::ReadingForms::li_at))]
 fn li<'a>(cursor: Cursor<'a>) -> Result<((u8, u32), Cursor<'a>), ReadError>
-    ensures { Gives (λ r. (r.0, r.1.line, pieces_of r.1.rest.now)) result (li_at cursor.entry.line (pieces_of cursor.entry.rest.now)) }
+    ensures { Gives view_read result (li_at cursor.entry.line cursor.entry.pieces) }
 {
     let (target, after) = read_register(cursor)?;
-    let after = expect_here(after, b',', Kind::BadInstruction)?;
+    let after = expect_here(after, COMMA, Kind::BadInstruction)?;
     let (value, after) = read_number(after)?;
     Ok(((target, value), after))
 }
@@ -173,15 +174,15 @@ fn li<'a>(cursor: Cursor<'a>) -> Result<((u8, u32), Cursor<'a>), ReadError>
 /// `xD,x0,N`.
 #[tactic(auto, unfolding(crate::specs::ReadingForms::ori_at))]
 fn ori<'a>(cursor: Cursor<'a>) -> Result<((u8, u32), Cursor<'a>), ReadError>
-    ensures { Gives (λ r. (r.0, r.1.line, pieces_of r.1.rest.now)) result (ori_at cursor.entry.line (pieces_of cursor.entry.rest.now)) }
+    ensures { Gives view_read result (ori_at cursor.entry.line cursor.entry.pieces) }
 {
     let (target, after) = read_register(cursor)?;
-    let after = expect_here(after, b',', Kind::BadInstruction)?;
+    let after = expect_here(after, COMMA, Kind::BadInstruction)?;
     let (zero, after) = read_register(after)?;
     if zero != 0 {
         return Err(after.fault(Kind::BadInstruction));
     }
-    let after = expect_here(after, b',', Kind::BadInstruction)?;
+    let after = expect_here(after, COMMA, Kind::BadInstruction)?;
     let (value, after) = read_number(after)?;
     Ok(((target, value), after))
 }
@@ -189,7 +190,7 @@ fn ori<'a>(cursor: Cursor<'a>) -> Result<((u8, u32), Cursor<'a>), ReadError>
 /// `r`, `w` or `rw`.
 #[tactic(auto, unfolding(crate::specs::ReadingForms::set_at))]
 fn fence_set<'a>(cursor: Cursor<'a>) -> Result<Cursor<'a>, ReadError>
-    ensures { Gives (λ r. (r.line, pieces_of r.rest.now)) result (set_at cursor.entry.line (pieces_of cursor.entry.rest.now)) }
+    ensures { Gives view_position result (set_at cursor.entry.line cursor.entry.pieces) }
 {
     let (word, after) = word_here(cursor, Kind::BadInstruction)?;
     if is_fence_set(word) {
@@ -202,18 +203,18 @@ fn fence_set<'a>(cursor: Cursor<'a>) -> Result<Cursor<'a>, ReadError>
 /// `A,B` of a fence.
 #[tactic(auto, unfolding(crate::specs::ReadingForms::fence_at))]
 fn fence<'a>(cursor: Cursor<'a>) -> Result<Cursor<'a>, ReadError>
-    ensures { Gives (λ r. (r.line, pieces_of r.rest.now)) result (fence_at cursor.entry.line (pieces_of cursor.entry.rest.now)) }
+    ensures { Gives view_position result (fence_at cursor.entry.line cursor.entry.pieces) }
 {
     let after = fence_set(cursor)?;
-    let after = expect_here(after, b',', Kind::BadInstruction)?;
+    let after = expect_here(after, COMMA, Kind::BadInstruction)?;
     let after = fence_set(after)?;
     Ok(after)
 }
 
-/// The operands behind a mnemonic.
+/// The operands of a mnemonic.
 #[tactic(auto, unfolding(crate::specs::ReadingForms::operands_at))]
 fn operands<'a>(mnemonic: Mnemonic, cursor: Cursor<'a>) -> Result<(Form, Cursor<'a>), ReadError>
-    ensures { Gives (λ r. (r.0, r.1.line, pieces_of r.1.rest.now)) result (operands_at mnemonic cursor.entry.line (pieces_of cursor.entry.rest.now)) }
+    ensures { Gives view_read result (operands_at mnemonic cursor.entry.line cursor.entry.pieces) }
 {
     match mnemonic {
         Mnemonic::Load(width) => {
@@ -246,7 +247,7 @@ fn operands<'a>(mnemonic: Mnemonic, cursor: Cursor<'a>) -> Result<(Form, Cursor<
 /// An instruction as it is written.
 #[tactic(auto, unfolding(crate::specs::ReadingForms::form_at))]
 pub fn read_form<'a>(cursor: Cursor<'a>) -> Result<(Form, Cursor<'a>), ReadError>
-    ensures { Gives (λ r. (r.0, r.1.line, pieces_of r.1.rest.now)) result (form_at cursor.entry.line (pieces_of cursor.entry.rest.now)) }
+    ensures { Gives view_read result (form_at cursor.entry.line cursor.entry.pieces) }
 {
     let (word, after) = word_here(cursor, Kind::BadInstruction)?;
     let Some(mnemonic) = mnemonic_named(word) else {

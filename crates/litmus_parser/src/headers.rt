@@ -1,20 +1,23 @@
 //! The lines before the initial block.
 
-ghost use Rattle.std.specs.Prelude.{◌≡◌, ◌≤◌, ℕ, length};
-ghost use Rattle.litmus_grammar.specs.Reading.{Gives};
-ghost use Rattle.litmus_parser.specs.ReadingHeader.{first_line_at, header_line_at, header_at, opening_at};
+ghost use Rattle.std.specs.Prelude.{◌≡◌, ◌≢◌, ◌≤◌, ℕ, length, IfErr};
+ghost use Rattle.litmus_lexer.specs.declared.errors.ReadError.TheVariants.{Memory};
+ghost use Rattle.litmus_lexer.specs.Reading.{Gives};
+ghost use Rattle.litmus_parser.specs.ReadingHeader.{first_line_at, header_line_at, header_at, preamble_at};
 
-use litmus_grammar::{
-    Cursor, Kind, MOST_BYTES, ReadError, begins_block, is_header_line, read_title, split_line,
+use litmus_lexer::{
+    HeaderLines, Kind, MOST_BYTES, ReadError, begins_block, is_header_line, read_title, split_line,
 };
 
 /// The name in the first line, and the second line.
 #[tactic(auto, unfolding(crate::specs::ReadingHeader::first_line_at))]
-fn first_line<'a>(text: &'a [u8]) -> Result<(&'a [u8], Cursor<'a>), ReadError>
-    requires { length text.now ≤ 65536 }
-    ensures { Gives (λ r. (r.0.now, (r.1.line, r.1.rest.now))) result (first_line_at text.now) }
+fn first_line<'a>(text: &'a [u8]) -> Result<(&'a [u8], HeaderLines<'a>), ReadError>
+    requires { length text.now ≤ MOST_BYTES }
+    ensures read { Gives (λ r. (r.0.now, (r.1.line, r.1.rest.now))) result (first_line_at text.now) }
+    // It takes no memory.
+    ensures sure { IfErr result (λ e. e ≢ Memory) }
 {
-    let start = Cursor {
+    let start = HeaderLines {
         line: 1,
         rest: text,
     };
@@ -23,16 +26,19 @@ fn first_line<'a>(text: &'a [u8]) -> Result<(&'a [u8], Cursor<'a>), ReadError>
     }
     let (line, rest) = split_line(text);
     match read_title(line) {
-        Some(name) => Ok((name, Cursor { line: 2, rest })),
+        Some(name) => Ok((name, HeaderLines { line: 2, rest })),
         None => Err(start.fault(Kind::BadHeader)),
     }
 }
 
-/// The line behind a header line, or the line where the initial block begins; and whether it was
-/// a header line.
+/// The line after a header line, or the first line of the initial block; and whether it was a
+/// header line.
 #[tactic(auto, unfolding(crate::specs::ReadingHeader::header_line_at))]
-fn header_line<'a>(cursor: Cursor<'a>) -> Result<(bool, Cursor<'a>), ReadError>
-    ensures { Gives (λ r. (r.0, (r.1.line, r.1.rest.now))) result (header_line_at (cursor.entry.line, cursor.entry.rest.now)) }
+fn header_line<'a>(cursor: HeaderLines<'a>) -> Result<(bool, HeaderLines<'a>), ReadError>
+    ensures read { Gives (λ r. (r.0, (r.1.line, r.1.rest.now))) result
+        (header_line_at (cursor.entry.line, cursor.entry.rest.now)) }
+    // It takes no memory.
+    ensures sure { IfErr result (λ e. e ≢ Memory) }
 {
     if cursor.rest.is_empty() {
         return Err(cursor.fault(Kind::CutShort));
@@ -46,16 +52,19 @@ fn header_line<'a>(cursor: Cursor<'a>) -> Result<(bool, Cursor<'a>), ReadError>
     }
     Ok((
         true,
-        Cursor {
+        HeaderLines {
             line: cursor.line + 1,
             rest,
         },
     ))
 }
 
-/// The line where the initial block begins.
-fn header<'a>(cursor: Cursor<'a>) -> Result<Cursor<'a>, ReadError>
-    ensures { Gives (λ r. (r.line, r.rest.now)) result (header_at (cursor.entry.line, cursor.entry.rest.now)) }
+/// The first line of the initial block.
+fn header<'a>(cursor: HeaderLines<'a>) -> Result<HeaderLines<'a>, ReadError>
+    ensures read { Gives (λ r. (r.line, r.rest.now)) result
+        (header_at (cursor.entry.line, cursor.entry.rest.now)) }
+    // It takes no memory.
+    ensures sure { IfErr result (λ e. e ≢ Memory) }
 {
     let mut at = cursor;
     for _ in 0..MOST_BYTES {
@@ -68,11 +77,13 @@ fn header<'a>(cursor: Cursor<'a>) -> Result<Cursor<'a>, ReadError>
     Err(at.fault(Kind::CutShort))
 }
 
-/// The name of the test, and the line where the initial block begins.
-#[tactic(auto, unfolding(crate::specs::ReadingHeader::opening_at))]
-pub fn opening<'a>(text: &'a [u8]) -> Result<(&'a [u8], Cursor<'a>), ReadError>
-    requires { length text.now ≤ 65536 }
-    ensures { Gives (λ r. (r.0.now, (r.1.line, r.1.rest.now))) result (opening_at text.now) }
+/// The name of the test, and the first line of the initial block.
+#[tactic(auto, unfolding(crate::specs::ReadingHeader::preamble_at))]
+pub fn preamble<'a>(text: &'a [u8]) -> Result<(&'a [u8], HeaderLines<'a>), ReadError>
+    requires { length text.now ≤ MOST_BYTES }
+    ensures read { Gives (λ r. (r.0.now, (r.1.line, r.1.rest.now))) result (preamble_at text.now) }
+    // It takes no memory.
+    ensures sure { IfErr result (λ e. e ≢ Memory) }
 {
     let (name, second) = first_line(text)?;
     let body = header(second)?;

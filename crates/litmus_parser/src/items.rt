@@ -2,26 +2,22 @@
 
 ghost use Rattle.std.specs.Prelude.{◌≡◌, IfOk, ◌<◌, length};
 ghost use Rattle.std.specs.List.{list_any};
-ghost use Rattle.litmus_grammar.specs.Reading.{Gives};
-ghost use Rattle.litmus_grammar.specs.Pieces.{pieces_of};
+ghost use Rattle.litmus_lexer.specs.Views.{view_read, view_as};
+ghost use Rattle.litmus_lexer.specs.Reading.{Gives};
 ghost use Rattle.litmus_parser.specs.Names.{same_name, address_of, is_there};
 ghost use Rattle.litmus_parser.specs.ReadingItems.{location_at, number_at, setting_at, register_item_at, location_item_at, item_at};
 
 use crate::syntax::{Item, Name, Setting};
-use litmus_grammar::{
-    Cursor, Kind, Locations, MOST_LOCATIONS, ReadError, TOO_LARGE, expect, is_location, is_number,
-    number, register, small, word,
+use litmus_lexer::{
+    COLON, Cursor, EQUALS, Kind, LAST_THREAD, Locations, MOST_LOCATIONS, ReadError, VALUE_BOUND,
+    expect, is_location, is_number, number, register, small, word,
 };
 
 /// Whether two names are the same.
 pub fn same_name(a: Name, b: Name) -> bool
     ensures { result ≡ same_name a b }
 {
-    match (a, b) {
-        (Name::Register(s, q), Name::Register(t, r)) => s == t && q == r,
-        (Name::Location(l), Name::Location(m)) => l == m,
-        _ => false,
-    }
+    a == b
 }
 
 /// Whether one of the items sets the name.
@@ -57,22 +53,23 @@ pub fn is_address(items: &[Item], thread: u8, register: u8) -> bool
     address_of(items, thread, register).is_some()
 }
 
-/// The number of the location that a word names, which is new where it was not named before.
+/// The number of the location that a word names, which is new if it was not named before.
 #[tactic(auto, unfolding(crate::specs::ReadingItems::location_at))]
 pub fn location(
     locations: &mut Locations,
     word: &[u8],
-    at: Cursor<'_>,
+    at: &Cursor<'_>,
     kind: Kind,
 ) -> Result<u8, ReadError>
-    ensures { Gives (λ number. (number, locations.new)) result (location_at kind word.now at.entry.line locations.old) }
+    ensures { Gives (λ number. (number, locations.new)) result
+        (location_at kind word.now at.now.line locations.old) }
 {
     if !is_location(word) {
         return Err(at.fault(kind));
     }
-    let place = locations.place(word);
-    if place < locations.len() {
-        return Ok(place as u8);
+    let index = locations.index(word);
+    if index < locations.len() {
+        return Ok(index as u8);
     }
     let number = locations.len();
     if number >= MOST_LOCATIONS {
@@ -82,18 +79,17 @@ pub fn location(
     Ok(number as u8)
 }
 
-/// A number that fits a place where values stand.
+/// A number that is a value.
 #[tactic(auto, unfolding(crate::specs::ReadingItems::number_at))]
 pub fn value<'a>(cursor: Cursor<'a>, kind: Kind) -> Result<(u32, Cursor<'a>), ReadError>
-    ensures read { Gives (λ r. (r.0, r.1.line, pieces_of r.1.rest.now)) result (number_at kind cursor.entry.line (pieces_of cursor.entry.rest.now)) }
-    ensures shorter { IfOk result (λ r. length r.1.rest.now < length cursor.entry.rest.now) }
+    ensures { Gives view_read result (number_at kind cursor.entry.line cursor.entry.pieces) }
 {
     let (digits, after) = word(cursor, kind)?;
     if !is_number(digits) {
         return Err(after.fault(kind));
     }
     let value = number(digits);
-    if value == TOO_LARGE {
+    if value == VALUE_BOUND {
         return Err(after.fault(Kind::ValueRange));
     }
     Ok((value, after))
@@ -104,18 +100,19 @@ fn setting<'a>(
     locations: &mut Locations,
     cursor: Cursor<'a>,
 ) -> Result<(Setting, Cursor<'a>), ReadError>
-    ensures { Gives (λ r. ((r.0, locations.new), r.1.line, pieces_of r.1.rest.now)) result (setting_at locations.old cursor.entry.line (pieces_of cursor.entry.rest.now)) }
+    ensures { Gives (view_as (λ read. (read, locations.new))) result
+        (setting_at locations.old cursor.entry.line cursor.entry.pieces) }
 {
     let (word, after) = word(cursor, Kind::BadInitial)?;
     if is_number(word) {
         let value = number(word);
-        if value == TOO_LARGE {
+        if value == VALUE_BOUND {
             return Err(after.fault(Kind::ValueRange));
         }
         return Ok((Setting::Number(value), after));
     }
-    let place = location(locations, word, after, Kind::BadInitial)?;
-    Ok((Setting::Address(place), after))
+    let number = location(locations, word, &after, Kind::BadInitial)?;
+    Ok((Setting::Address(number), after))
 }
 
 /// The rest of an item that begins with a thread's number.
@@ -125,9 +122,11 @@ fn register_item<'a>(
     thread: u8,
     cursor: Cursor<'a>,
 ) -> Result<(Item, Cursor<'a>), ReadError>
-    ensures { Gives (λ r. ((r.0, locations.new), r.1.line, pieces_of r.1.rest.now)) result (register_item_at thread locations.old cursor.entry.line (pieces_of cursor.entry.rest.now)) }
+    ensures { Gives (view_as (λ read. (read, locations.new))) result
+        (register_item_at thread locations.old cursor.entry.line cursor.entry.pieces) }
 {
-    let after = expect(cursor, b':', Kind::BadInitial)?;
+    let line = cursor.line();
+    let after = expect(cursor, COLON, Kind::BadInitial)?;
     let (word, after) = word(after, Kind::BadInitial)?;
     let Some(register) = register(word) else {
         return Err(after.fault(Kind::BadInitial));
@@ -135,11 +134,11 @@ fn register_item<'a>(
     if register == 0 {
         return Err(after.fault(Kind::BadInitial));
     }
-    let after = expect(after, b'=', Kind::BadInitial)?;
+    let after = expect(after, EQUALS, Kind::BadInitial)?;
     let (setting, after) = setting(locations, after)?;
     Ok((
         Item {
-            line: cursor.line,
+            line,
             name: Name::Register(thread, register),
             setting,
         },
@@ -154,15 +153,17 @@ fn location_item<'a>(
     first: &[u8],
     cursor: Cursor<'a>,
 ) -> Result<(Item, Cursor<'a>), ReadError>
-    ensures { Gives (λ r. ((r.0, locations.new), r.1.line, pieces_of r.1.rest.now)) result (location_item_at first.now locations.old cursor.entry.line (pieces_of cursor.entry.rest.now)) }
+    ensures { Gives (view_as (λ read. (read, locations.new))) result
+        (location_item_at first.now locations.old cursor.entry.line cursor.entry.pieces) }
 {
-    let place = location(locations, first, cursor, Kind::BadInitial)?;
-    let after = expect(cursor, b'=', Kind::BadInitial)?;
+    let line = cursor.line();
+    let number = location(locations, first, &cursor, Kind::BadInitial)?;
+    let after = expect(cursor, EQUALS, Kind::BadInitial)?;
     let (value, after) = value(after, Kind::BadInitial)?;
     Ok((
         Item {
-            line: cursor.line,
-            name: Name::Location(place),
+            line,
+            name: Name::Location(number),
             setting: Setting::Number(value),
         },
         after,
@@ -176,9 +177,10 @@ pub fn item<'a>(
     first: &[u8],
     cursor: Cursor<'a>,
 ) -> Result<(Item, Cursor<'a>), ReadError>
-    ensures { Gives (λ r. ((r.0, locations.new), r.1.line, pieces_of r.1.rest.now)) result (item_at first.now locations.old cursor.entry.line (pieces_of cursor.entry.rest.now)) }
+    ensures { Gives (view_as (λ read. (read, locations.new))) result
+        (item_at first.now locations.old cursor.entry.line cursor.entry.pieces) }
 {
-    match small(first, 15) {
+    match small(first, LAST_THREAD) {
         Some(thread) => register_item(locations, thread, cursor),
         None => location_item(locations, first, cursor),
     }

@@ -1,40 +1,40 @@
 //! The table: the header row and the rows.
 
 ghost use Rattle.std.specs.Prelude.{◌≡◌, ◌≤◌, ◌+◌, [], IfOk};
-ghost use Rattle.litmus_grammar.specs.Reading.{Gives};
-ghost use Rattle.litmus_grammar.specs.Pieces.{pieces_of};
-ghost use Rattle.litmus_parser.specs.ReadingTable.{thread_named, quantifier_of, is_absent, absent_line, separated, heading_at, headings_at, header_at, quantifier_next, next_row_at, table_at, rows_at};
+ghost use Rattle.litmus_lexer.specs.Views.{view_read, view_as};
+ghost use Rattle.litmus_lexer.specs.Reading.{Gives};
+ghost use Rattle.litmus_lexer.specs.Spelling.{thread_named};
+ghost use Rattle.litmus_parser.specs.Keywords.{quantifier_of};
+ghost use Rattle.litmus_parser.specs.ReadingTable.{is_absent, absent_line, separated, heading_at, headings_at, header_at, quantifier_next, next_row_at, table_at, rows_at};
 
 use crate::cells::row;
 use crate::forms::is;
 use crate::syntax::{Cell, Item, Name, Quantifier, Width};
-use litmus_grammar::{
-    Cursor, Kind, ReadError, Token, end_line, here, next_token, small, start, word_here,
+use litmus_lexer::{
+    BAR, Cursor, Kind, MOST_ROWS, MOST_THREADS, ReadError, SEMICOLON, Token, end_line, here, small,
+    start, word_here,
 };
 use std::alloc::Global;
-
-/// How many rows a table may have.
-const MOST_ROWS: u16 = 1024;
 
 /// The number of the thread that a heading names, at most 16.
 fn thread_named(word: &[u8]) -> Option<u8>
     ensures { result ≡ thread_named word.now }
 {
     match word {
-        [b'P', number @ ..] => small(number, 16),
+        [b'P', number @ ..] => small(number, MOST_THREADS),
         _ => None,
     }
 }
 
-/// Whether a further heading follows: the place behind a `|`, or the line behind a `;`.
+/// Whether a further heading follows: the position after a `|`, or the line after a `;`.
 #[tactic(auto, unfolding(crate::specs::ReadingTable::separated))]
 fn separator<'a>(cursor: Cursor<'a>) -> Result<(bool, Cursor<'a>), ReadError>
-    ensures { Gives (λ r. (r.0, r.1.line, pieces_of r.1.rest.now)) result (separated cursor.entry.line (pieces_of cursor.entry.rest.now)) }
+    ensures { Gives view_read result (separated cursor.entry.line cursor.entry.pieces) }
 {
     let (token, after) = here(cursor, Kind::BadTable)?;
     match token {
-        Token::Sign(b'|') => Ok((true, after)),
-        Token::Sign(b';') => {
+        Token::Sign(BAR) => Ok((true, after)),
+        Token::Sign(SEMICOLON) => {
             let after = end_line(after, Kind::BadTable)?;
             Ok((false, after))
         }
@@ -42,16 +42,17 @@ fn separator<'a>(cursor: Cursor<'a>) -> Result<(bool, Cursor<'a>), ReadError>
     }
 }
 
-/// The heading of a thread and the sign behind it, and whether a further heading follows.
+/// The heading of a thread and the sign after it, and whether a further heading follows.
 #[tactic(auto, unfolding(crate::specs::ReadingTable::heading_at))]
 fn heading<'a>(thread: u8, cursor: Cursor<'a>) -> Result<(bool, Cursor<'a>), ReadError>
-    ensures { Gives (λ r. (r.0, (thread + 1, r.1.line, pieces_of r.1.rest.now))) result (heading_at (thread, cursor.entry.line, pieces_of cursor.entry.rest.now)) }
+    ensures { Gives (λ r. (r.0, (thread + 1, r.1.line, r.1.pieces))) result
+        (heading_at (thread, cursor.entry.line, cursor.entry.pieces)) }
 {
     let (word, after) = word_here(cursor, Kind::BadTable)?;
     if thread_named(word) != Some(thread) {
         return Err(after.fault(Kind::BadTable));
     }
-    if thread >= 16 {
+    if thread >= MOST_THREADS {
         return Err(after.fault(Kind::TooLarge));
     }
     let (more, after) = separator(after)?;
@@ -60,11 +61,11 @@ fn heading<'a>(thread: u8, cursor: Cursor<'a>) -> Result<(bool, Cursor<'a>), Rea
 
 /// The headings `P0 | P1 | .. ;`: how many threads there are.
 fn headings<'a>(cursor: Cursor<'a>) -> Result<(u8, Cursor<'a>), ReadError>
-    ensures read { Gives (λ r. (r.0, r.1.line, pieces_of r.1.rest.now)) result (headings_at cursor.entry.line (pieces_of cursor.entry.rest.now)) }
+    ensures read { Gives view_read result (headings_at cursor.entry.line cursor.entry.pieces) }
     ensures few { IfOk result (λ r. r.0 ≤ 17) }
 {
     let mut at = cursor;
-    for thread in 0..17u8 {
+    for thread in 0..MOST_THREADS + 1 {
         let (more, after) = heading(thread, at)?;
         at = after;
         if !more {
@@ -74,10 +75,10 @@ fn headings<'a>(cursor: Cursor<'a>) -> Result<(u8, Cursor<'a>), ReadError>
     Err(at.fault(Kind::TooLarge))
 }
 
-/// The header row, behind blank lines.
+/// The header row, after blank lines.
 #[tactic(auto, unfolding(crate::specs::ReadingTable::header_at))]
 pub fn header_row<'a>(cursor: Cursor<'a>) -> Result<(u8, Cursor<'a>), ReadError>
-    ensures { Gives (λ r. (r.0, r.1.line, pieces_of r.1.rest.now)) result (header_at cursor.entry.line (pieces_of cursor.entry.rest.now)) }
+    ensures { Gives view_read result (header_at cursor.entry.line cursor.entry.pieces) }
 {
     let after = start(cursor)?;
     let (threads, after) = headings(after)?;
@@ -126,10 +127,10 @@ pub fn quantifier_named(word: &[u8]) -> Option<Quantifier>
 
 /// Whether the condition's keyword comes next.
 #[tactic(auto, unfolding(crate::specs::ReadingTable::quantifier_next))]
-fn begins_condition(cursor: Cursor<'_>) -> bool
-    ensures { result ≡ quantifier_next (pieces_of cursor.entry.rest.now) }
+fn begins_condition(cursor: &Cursor<'_>) -> bool
+    ensures { result ≡ quantifier_next cursor.now.pieces }
 {
-    match next_token(cursor.rest) {
+    match cursor.piece() {
         Some((Token::Word(word), _)) => quantifier_named(word).is_some(),
         _ => false,
     }
@@ -145,11 +146,12 @@ fn next_row<'a>(
     width: Option<Width>,
     cursor: Cursor<'a>,
 ) -> Result<(bool, Option<Width>, Cursor<'a>), ReadError>
-    ensures { Gives (λ r. (r.0, (count + 1, cells.new.items, r.1, r.2.line, pieces_of r.2.rest.now))) result
-        (next_row_at items.now threads (count, cells.old.items, width, cursor.entry.line, pieces_of cursor.entry.rest.now)) }
+    ensures { Gives (λ r. (r.0, (count + 1, cells.new.items, r.1, r.2.line, r.2.pieces))) result
+        (next_row_at items.now threads
+        (count, cells.old.items, width, cursor.entry.line, cursor.entry.pieces)) }
 {
     let at = start(cursor)?;
-    if begins_condition(at) {
+    if begins_condition(&at) {
         return Ok((false, width, at));
     }
     if count >= MOST_ROWS {
@@ -165,12 +167,12 @@ fn rows_into<'a>(
     threads: u8,
     cursor: Cursor<'a>,
 ) -> Result<(u16, Option<Width>, Cursor<'a>), ReadError>
-    ensures { Gives (λ r. (r.0, cells.new.items, r.1, r.2.line, pieces_of r.2.rest.now)) result
-        (table_at items.now threads cells.old.items cursor.entry.line (pieces_of cursor.entry.rest.now)) }
+    ensures { Gives (λ r. (r.0, cells.new.items, r.1, r.2.line, r.2.pieces)) result
+        (table_at items.now threads cells.old.items cursor.entry.line cursor.entry.pieces) }
 {
     let mut width = None;
     let mut at = cursor;
-    for count in 0..1025u16 {
+    for count in 0..MOST_ROWS + 1 {
         let (more, kept, after) = next_row(items, cells, threads, count, width, at)?;
         width = kept;
         at = after;
@@ -181,7 +183,7 @@ fn rows_into<'a>(
     Err(at.fault(Kind::TooLarge))
 }
 
-/// The instructions of all rows in reading order, and the place where the condition begins.
+/// The instructions of all rows in reading order, and the position at which the condition begins.
 #[tactic(auto, unfolding(crate::specs::ReadingTable::rows_at))]
 pub fn rows<'a>(
     alloc: Global,
@@ -189,8 +191,8 @@ pub fn rows<'a>(
     threads: u8,
     cursor: Cursor<'a>,
 ) -> Result<(Vec<Cell>, Cursor<'a>), ReadError>
-    ensures { Gives (λ r. (r.0.items, r.1.line, pieces_of r.1.rest.now)) result
-        (rows_at items.now threads [] cursor.entry.line (pieces_of cursor.entry.rest.now)) }
+    ensures { Gives (view_as (λ cells. cells.items)) result
+        (rows_at items.now threads [] cursor.entry.line cursor.entry.pieces) }
 {
     let mut cells = Vec::new(alloc);
     let (_, _, after) = rows_into(items, &mut cells, threads, cursor)?;

@@ -3,15 +3,15 @@ use Rattle.std.proofs.Common.{◌≡◌, ℕ, ◌+◌, ◌≤◌, Bool, true, fa
 use Rattle.std.specs.Prelude.{IfOk}
 use Rattle.std.specs.List.{list_all, prefix_len, AllByRecursion}
 use Rattle.std.proofs.lemmas.Bool.{eqb-true, ltb-false, leb-false}
-use Rattle.litmus_grammar.specs.Pieces.{Piece, pieces_of}
-use Rattle.litmus_grammar.specs.FirstLines.{IsTitle, title_of, is_header_line, begins_block, before_line_feed, behind_line_feed}
-use Rattle.litmus_grammar.specs.declared.errors.Kind.TheVariants.{CutShort, BadHeader, BadByte}
-use Rattle.litmus_grammar.specs.declared.errors.LitmusError.{LitmusError}
-use Rattle.litmus_grammar.specs.Reading.{◌>>=◌, fails, found}
-use Rattle.litmus_grammar.proofs.Repeats.{repeat-takes}
-use Rattle.litmus_grammar.proofs.Titles.{title-takes}
-use Rattle.litmus_grammar.proofs.Fronts.{whole-front}
-use Rattle.litmus_parser.specs.ReadingHeader.{Lines, first_line_at, header_line_at, cut_short, opening_at}
+use Rattle.litmus_lexer.specs.Pieces.{Piece, pieces_of}
+use Rattle.litmus_lexer.specs.FirstLines.{IsTitle, title_of, is_header_line, begins_block, before_line_feed, behind_line_feed}
+use Rattle.litmus_lexer.specs.declared.errors.Kind.TheVariants.{CutShort, BadHeader, BadByte}
+use Rattle.litmus_lexer.specs.declared.errors.LitmusError.{LitmusError}
+use Rattle.litmus_lexer.specs.Reading.{◌>>=◌, fails, found}
+use Rattle.litmus_lexer.proofs.Repeats.{repeat-takes}
+use Rattle.litmus_lexer.proofs.Titles.{title-takes}
+use Rattle.litmus_lexer.proofs.Fronts.{whole-front}
+use Rattle.litmus_parser.specs.ReadingHeader.{Lines, first_line_at, header_line_at, cut_short, preamble_at}
 use Rattle.litmus_parser.specs.ReadingHeader as heads
 use Rattle.litmus_parser.specs.ReadingBlock.{block_at}
 use Rattle.litmus_parser.specs.ReadingTable.{is_absent, absent_line, header_at, rows_at}
@@ -63,8 +63,8 @@ unfolding heads.header_at
 header_take s t e =
     repeat-takes header_line_at cut_short Headed (λ s s' t k r. header_more s s' t (header_line_takes s (true, s') k) r) (λ s t k. header_last s t (header_line_takes s (false, t) k)) (λ s t k. absurd cc) 65536 s t e
 
-opening_takes : (text : List ℕ) (x : List ℕ × Lines) → opening_at text ≡ Ok x → IsTitle (before_line_feed text) x.0 × IsHeader (behind_line_feed text) x.1.1
-unfolding opening_at first_line_at
+opening_takes : (text : List ℕ) (x : List ℕ × Lines) → preamble_at text ≡ Ok x → IsTitle (before_line_feed text) x.0 × IsHeader (behind_line_feed text) x.1.1
+unfolding preamble_at first_line_at
 opening_takes text x e =
     let first = bind_ok (first_line_at text) (λ first. heads.header_at first.1 >>= λ body. Ok (first.0, body)) x e in
     let some = else_ok (eqb (length text) 0) _ (found BadHeader (title_of (before_line_feed text)) 1 (λ name. Ok (name, (2, behind_line_feed text)))) first.0 first.1 in
@@ -113,7 +113,7 @@ table_takes items line pieces x e =
 pub parts_take : (text : List ℕ) (test : Litmus) → length text ≤ 65536 → list_all is_allowed text ≡ true → parts_at text ≡ Ok test → IsTest text test
 unfolding parts_at
 parts_take text test le allowed e =
-    let o = bind_ok (opening_at text) _ test e in
+    let o = bind_ok (preamble_at text) _ test e in
     let b = bind_ok (block_at [] o.0.1.0 (pieces_of o.0.1.1)) _ test o.2 in
     let t = bind_ok (table_at b.0.0 b.0.2 b.0.3) _ test b.2 in
     let c = bind_ok (condition_at b.0.0 t.0.0 b.0.1 t.0.2 t.0.3) (λ c. Ok (record { name = o.0.0; locations = c.2; items = settings_of b.0.0; threads = t.0.0; cells = t.0.1; quantifier = c.0; tree = c.1; seen = seen_in c.1 [] })) test t.2 in

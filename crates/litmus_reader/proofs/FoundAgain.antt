@@ -2,17 +2,17 @@
 use Rattle.std.proofs.Common.{◌≡◌, ℕ, zero, suc, ◌+◌, ◌<◌, ◌≤◌, true, false, eqb, ltb, List, [], ◌∷◌, length, Some, None, Result, Ok, refl, subst, arith}
 use Rattle.std.specs.List.{prefix_len, AllByRecursion}
 use Rattle.std.proofs.lemmas.Bool.{ne_eqb, eq-eqb, le-ltb, lt-leb}
-use Rattle.litmus_grammar.specs.Pieces.{Piece, Word, pieces_of}
-use Rattle.litmus_grammar.specs.FirstLines.{IsTitle, title_of, is_header_line, begins_block, before_line_feed, behind_line_feed}
-use Rattle.litmus_grammar.specs.declared.errors.LitmusError.{LitmusError}
-use Rattle.litmus_grammar.specs.Reading.{repeat_at}
-use Rattle.litmus_grammar.proofs.Fronts.{front-whole}
-use Rattle.litmus_grammar.proofs.Titles.{title-again}
-use Rattle.litmus_grammar.proofs.LinesAgain.{header_line-no_block, block-some, length-behind_line_feed, length-pieces}
-use Rattle.litmus_grammar.proofs.RepeatsAgain.{repeat-more, repeat-last}
-use Rattle.litmus_parser.specs.ReadingHeader.{Lines, first_line_at, header_line_at, cut_short, opening_at}
+use Rattle.litmus_lexer.specs.Pieces.{Piece, Word, pieces_of}
+use Rattle.litmus_lexer.specs.FirstLines.{IsTitle, title_of, is_header_line, begins_block, before_line_feed, behind_line_feed}
+use Rattle.litmus_lexer.specs.declared.errors.LitmusError.{LitmusError}
+use Rattle.litmus_lexer.specs.Reading.{repeat_at}
+use Rattle.litmus_lexer.proofs.Fronts.{front-whole}
+use Rattle.litmus_lexer.proofs.Titles.{title-again}
+use Rattle.litmus_lexer.proofs.LinesAgain.{header_line-no_block, block-some, length-behind_line_feed, length-pieces}
+use Rattle.litmus_lexer.proofs.RepeatsAgain.{repeat-more, repeat-last}
+use Rattle.litmus_parser.specs.ReadingHeader.{Lines, first_line_at, header_line_at, cut_short, preamble_at}
 use Rattle.litmus_parser.specs.ReadingHeader as heads
-use Rattle.litmus_parser.specs.ReadingTable.{is_absent, absent_line, quantifier_of, quantifier_next}
+use Rattle.litmus_parser.specs.ReadingTable.{is_absent, absent_line, quantifier_next}
 use Rattle.litmus_parser.specs.Reachable.{is_allowed}
 use Rattle.litmus_parser.specs.GrammarTable.{IsHeaderRow, AreRows}
 use Rattle.litmus_parser.specs.declared.syntax.Name.{Name}
@@ -28,6 +28,7 @@ use Rattle.litmus_reader.specs.TestViews.{test_of}
 use Rattle.litmus_reader.specs.ReadingTest.{table_at, parts_at, read_at, Told}
 use Rattle.litmus_reader.specs.Grammar.{IsHeader, ends, more, IsThere, IsTest}
 use Rattle.litmus_reader.specs.declared.contents.Test.{Test}
+use Rattle.litmus_parser.specs.Keywords.{quantifier_of}
 
 -- ---- the first lines
 
@@ -59,13 +60,13 @@ lines_again (suc k) line {text} le (more h rest) =
     let r = lines_again k (line + 1) (omega (arith, le, some, length-behind_line_feed text)) rest in
     (r.0, repeat-more header_line_at cut_short k (line, text) (line + 1, behind_line_feed text) _ (header_line_again line text some h) r.1)
 
-title-some : (text name : List ℕ) → IsTitle (before_line_feed text) name → 0 < length text
+pub title-some : (text name : List ℕ) → IsTitle (before_line_feed text) name → 0 < length text
 unfolding title_of
 title-some [] name t = let none : None ≡ Some name = title-again [] name t in absurd cc
 title-some (b ∷ text) name t = omega arith
 
-pub opening_again : (text name body : List ℕ) → length text ≤ 65536 → IsTitle (before_line_feed text) name → IsHeader (behind_line_feed text) body → (line : ℕ) × (opening_at text ≡ Ok (name, (line, body)))
-unfolding opening_at first_line_at heads.header_at
+pub opening_again : (text name body : List ℕ) → length text ≤ 65536 → IsTitle (before_line_feed text) name → IsHeader (behind_line_feed text) body → (line : ℕ) × (preamble_at text ≡ Ok (name, (line, body)))
+unfolding preamble_at first_line_at heads.header_at
 opening_again text name body le title header =
     let some : eqb (length text) 0 ≡ false = ne_eqb _ _ (omega (arith, title-some text name title)) in
     let r = lines_again 65536 2 (omega (arith, le, length-behind_line_feed text)) header in

@@ -4,3 +4,4 @@ mod Sizes
 mod FoundAgain
 mod FaultParts
 mod ReadExplains
+mod OpeningItems

@@ -1,23 +1,27 @@
 -- A fault of a text has its kind's cause in its line.
-use Rattle.std.proofs.Common.{◌≡◌, ◌≢◌, ℕ, ◌+◌, ◌-◌, ◌≤◌, Bool, true, false, cond, eqb, ltb, List, ◌++◌, length, take, drop, Result, Ok, Err, refl, sym, ap, subst, ◌∙◌, inl, inr, arith}
+use Rattle.std.proofs.Common.{◌≡◌, ◌≢◌, ℕ, ◌+◌, ◌-◌, ◌<◌, ◌≤◌, Bool, true, false, cond, eqb, ltb, List, ◌++◌, length, take, drop, Result, Ok, Err, refl, sym, ap, subst, ◌∙◌, inl, inr, arith}
 use Rattle.std.specs.Prelude.{◌⊎◌, IfErr}
 use Rattle.std.specs.List.{list_all, prefix_len}
-use Rattle.std.proofs.lemmas.Bool.{eqb-true, eq-eqb, ltb-true, ltb-false, and_parts, false_from_ne_true, both_ways}
+use Rattle.std.proofs.lemmas.Bool.{cases_Bool, eqb-true, eq-eqb, ltb-true, ltb-false, and_parts, false_from_ne_true, both_ways}
 use Rattle.std.proofs.lemmas.List.{take-append-drop, length-take}
 use Rattle.std.proofs.lemmas.List.Folds.{list_all-append}
-use Rattle.litmus_grammar.specs.declared.errors.Kind.{Kind}
-use Rattle.litmus_grammar.specs.declared.errors.Kind.TheVariants.{NoMemory, TooLarge, BadByte, BadHeader, BadInitial, DoubleInitial, BadTable, BadInstruction, ValueRange, MixedWidth, AddressAsValue, ValueAsAddress, BadCondition, CutShort}
-use Rattle.litmus_grammar.specs.declared.errors.LitmusError.{LitmusError}
-use Rattle.litmus_grammar.proofs.Fronts.{front-all, whole-front, front-whole}
+use Rattle.litmus_lexer.specs.declared.errors.Kind.{Kind}
+use Rattle.litmus_lexer.specs.declared.errors.Kind.TheVariants.{NoMemory, TooLarge, BadByte, BadHeader, BadInitial, DoubleInitial, BadTable, BadInstruction, ValueRange, MixedWidth, AddressAsValue, ValueAsAddress, BadCondition, CutShort}
+use Rattle.litmus_lexer.specs.declared.errors.LitmusError.{LitmusError}
+use Rattle.litmus_lexer.specs.declared.errors.ReadError.{ReadError}
+use Rattle.litmus_lexer.specs.declared.errors.ReadError.TheVariants.{Memory, Fault as ReadFault}
+use Rattle.litmus_lexer.specs.Reading.{Fails}
+use Rattle.litmus_lexer.proofs.Fronts.{front-all, whole-front, front-whole}
+use Rattle.litmus_parser.specs.ReadingHeader.{preamble_at}
 use Rattle.litmus_parser.specs.Reachable.{is_allowed, line_feeds, inner_line_feeds, tail_of, good, whole_lines, reach}
 use Rattle.litmus_parser.proofs.Explains.{Explains, test_explains, told}
 use Rattle.litmus_reader.specs.Litmus.{Litmus}
 use Rattle.litmus_reader.specs.TestViews.{test_of}
-use Rattle.litmus_reader.specs.ReadingTest.{parts_at, is_cut_short, ended_by, read_at, Told}
-use Rattle.litmus_reader.specs.Faults.{FaultIn, good_lines, Fault, too_large, in_part, bad_byte, cut_short}
+use Rattle.litmus_reader.specs.ReadingTest.{parts_at, is_cut_short, ended_by, read_at, Told, ToldSurely}
+use Rattle.litmus_reader.specs.Faults.{FaultBefore, FaultIn, good_lines, Fault, too_large, in_part, bad_byte, cut_short}
 use Rattle.litmus_reader.specs.declared.contents.Test.{Test}
 use Rattle.litmus_reader.proofs.Found.{parts_take}
-use Rattle.litmus_reader.proofs.FaultParts.{parts_explain}
+use Rattle.litmus_reader.proofs.FaultParts.{above_refused, parts_explain}
 
 -- ---- how far a text can be read
 
@@ -29,7 +33,7 @@ all-taken p n xs h =
 not-all : (text : List ℕ) → eqb (prefix_len is_allowed text) (length text) ≡ false → list_all is_allowed text ≡ false
 not-all text shorter = false_from_ne_true (list_all is_allowed text) (λ all. both_ways (eqb (prefix_len is_allowed text) (length text)) shorter (eq-eqb _ _ (front-whole is_allowed text all)))
 
--- either every byte is allowed, or the lines in front of the first that isn't are reached
+-- either every byte is allowed, or the lines before the first that isn't are reached
 abbrev Reaches : List ℕ → List ℕ × LitmusError → Type 0
 Reaches text r =
     ((list_all is_allowed text ≡ true) × (r.0 ≡ text) × (r.1 ≡ record { line = 1 + inner_line_feeds text; kind = CutShort }))
@@ -79,7 +83,7 @@ cut_is CutShort e = refl
 cut_isn't : (kind : Kind) → is_cut_short kind ≡ false → kind ≢ CutShort
 cut_isn't kind e same = both_ways (is_cut_short kind) e (ap is_cut_short same)
 
--- where the text ends too early the fault of its end is told, and so is a byte that isn't allowed behind a whole test
+-- where the text ends too early the fault of its end is told, and so is a byte that isn't allowed after a whole test
 ended_explains : (C D : Kind → ℕ → Type 0) (end : LitmusError) (r : Result Litmus LitmusError) → Explains D (λ (test : Litmus). Unit {0}) r
     → ((kind : Kind) (n : ℕ) → D kind n → kind ≢ CutShort → C kind n) → ((n : ℕ) → D CutShort n → C end.kind end.line)
     → ((test : Litmus) → r ≡ Ok test → is_cut_short end.kind ≡ false → C end.kind end.line) → Explains C (λ (test : Litmus). Unit {0}) (ended_by end r)
@@ -107,6 +111,11 @@ module _ (text : List ℕ) (le : length text ≤ 65536) where
   within_explains =
       ended_explains (Fault text) (FaultIn (good_lines text)) (reach text).1 (parts_at (good_lines text)) (parts_explain (good_lines text) (omega (arith, le, good-within text))) (λ kind n fault other. in_part le fault other) end_short end_behind
 
+-- a reading that takes no memory fails with the text's fault
+pub no-memory : {X : Type 0} (e : ReadError) (read : Result X LitmusError) → Fails e read → e ≢ Memory → (fault : LitmusError) → read ≡ Err fault → e ≡ ReadFault fault
+no-memory Memory read h sure fault is = absurd (sure refl)
+no-memory (ReadFault d) read h sure fault is = let same = sym h ∙ is in cc
+
 -- ---- the whole
 
 pub read_explains : (text : List ℕ) (e : LitmusError) → read_at text ≡ Err e → Fault text e.kind e.line
@@ -120,3 +129,24 @@ pub fault-told : (text : List ℕ) (r : Result Test LitmusError) → Told test_o
 fault-told text (Ok test) h = tt
 fault-told text (Err e) (inl memory) = inl memory
 fault-told text (Err e) (inr fault) = inr (read_explains text e fault)
+
+-- a text with a fault before its initial block is told its fault, and never that memory ran out
+pub early-told : (text : List ℕ) (r : Result Test LitmusError) → (65536 < length text → r ≡ Err (record { line = 1; kind = TooLarge })) → ((e : LitmusError) → preamble_at (reach text).0 ≡ Err e → ToldSurely test_of r (read_at text))
+    → (kind : Kind) (n : ℕ) → FaultBefore (good_lines text) kind n → IfErr r (λ e. Fault text e.kind e.line)
+early-told text r large sure kind n fault =
+    elim (cases_Bool (ltb 65536 (length text))) [
+      | inl more ↦ told-large text r (ltb-true _ _ more) (large (ltb-true _ _ more))
+      | inr few ↦ let le : length text ≤ 65536 = ltb-false _ _ few in
+          let refused = above_refused (good_lines text) kind n (omega (arith, le, good-within text)) fault in
+          told-sure text r (sure refused.0 refused.1)
+    ]
+  where
+    told-large : (text : List ℕ) (r : Result Test LitmusError) → 65536 < length text → r ≡ Err (record { line = 1; kind = TooLarge }) → IfErr r (λ e. Fault text e.kind e.line)
+    told-large text (Ok test) more is = tt
+    told-large text (Err e) more is =
+        let same : e ≡ record { line = 1; kind = TooLarge } = cc in
+        subst (λ (x : LitmusError). Fault text x.kind x.line) (sym same) (too_large more)
+
+    told-sure : (text : List ℕ) (r : Result Test LitmusError) → ToldSurely test_of r (read_at text) → IfErr r (λ e. Fault text e.kind e.line)
+    told-sure text (Ok test) h = tt
+    told-sure text (Err e) h = read_explains text e h

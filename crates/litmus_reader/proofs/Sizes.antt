@@ -1,8 +1,8 @@
 -- How many threads a test has.
 use Rattle.std.proofs.Common.{ℕ, ◌<◌, ◌≤◌, List, Result, Ok, Err, arith}
 use Rattle.std.specs.Prelude.{IfOk}
-use Rattle.litmus_grammar.specs.Pieces.{Piece}
-use Rattle.litmus_grammar.specs.declared.errors.LitmusError.{LitmusError}
+use Rattle.litmus_lexer.specs.Pieces.{Piece}
+use Rattle.litmus_lexer.specs.declared.errors.LitmusError.{LitmusError}
 use Rattle.litmus_parser.specs.GrammarTable.{AreHeadings, last, more}
 use Rattle.litmus_reader.specs.Grammar.{IsTest}
 use Rattle.litmus_reader.specs.TestViews.{test_of}

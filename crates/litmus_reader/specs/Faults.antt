@@ -1,19 +1,21 @@
 -- Why a text is refused: in which part it can't go on, what is wrong there, and in which line.
 use Rattle.std.specs.Prelude.{◌≡◌, ◌≢◌, ℕ, ◌+◌, ◌<◌, ◌≤◌, ◌⊎◌, true, false, List, [], ◌∷◌, ◌++◌, length, None}
-use Rattle.std.specs.List.{list_all, All, AllByRecursion}
-use Rattle.litmus_grammar.specs.Pieces.{Piece, pieces_of}
-use Rattle.litmus_grammar.specs.FirstLines.{IsTitle, is_header_line, begins_block, before_line_feed, behind_line_feed}
-use Rattle.litmus_grammar.specs.declared.errors.Kind.{Kind}
-use Rattle.litmus_grammar.specs.declared.errors.Kind.TheVariants.{TooLarge, BadByte, BadHeader, BadInitial, CutShort}
+use Rattle.std.specs.List.{list_all, AllByRecursion}
+use Rattle.litmus_lexer.specs.declared.limits.TheConstants.{MOST_BYTES}
+use Rattle.litmus_lexer.specs.Pieces.{Piece, pieces_of}
+use Rattle.litmus_lexer.specs.FirstLines.{IsTitle, is_header_line, begins_block, before_line_feed, behind_line_feed}
+use Rattle.litmus_lexer.specs.declared.errors.Kind.{Kind}
+use Rattle.litmus_lexer.specs.declared.errors.Kind.TheVariants.{TooLarge, BadByte, BadHeader, BadInitial, CutShort}
 use Rattle.litmus_parser.specs.Names.{Names}
 use Rattle.litmus_parser.specs.Places.{Place}
 use Rattle.litmus_parser.specs.Trees.{Tree}
 use Rattle.litmus_parser.specs.Reachable.{is_allowed, line_feeds, inner_line_feeds, good, reach}
-use Rattle.litmus_parser.specs.ReadingTable.{quantifier_next}
+use Rattle.litmus_parser.specs.Keywords.{BeginsCondition}
 use Rattle.litmus_parser.specs.GrammarBlock.{IsBlock}
 use Rattle.litmus_parser.specs.GrammarTable.{IsHeaderRow, AreRows}
 use Rattle.litmus_parser.specs.GrammarCondition.{IsCondition}
-use Rattle.litmus_parser.specs.BlockFaults.{ItemStands, BlockCause}
+use Rattle.litmus_parser.specs.BlockParts.{InLines}
+use Rattle.litmus_parser.specs.BlockFaults.{BlockCause}
 use Rattle.litmus_parser.specs.TableFaults.{HeaderCause, RowsCause}
 use Rattle.litmus_parser.specs.ConditionFaults.{ConditionCause}
 use Rattle.litmus_parser.specs.declared.syntax.Name.TheVariants.{Register}
@@ -38,13 +40,13 @@ pub record IsHeaded (text : List ℕ) (n : ℕ) (body : List ℕ) : Type 0 where
 abbrev pub OpensBlock : List ℕ → ℕ → List ℕ → Type 0
 OpensBlock text n body = IsHeaded text n body × (begins_block (before_line_feed body) ≡ true)
 
--- the initial block leads to line n; its items are these, each in the line that it has
+-- the initial block leads to line n; its items are these, each of which begins in the line that it has
 pub record HasBlock (text : List ℕ) (items : List Item) (names : Names) (n : ℕ) (rest : List Piece) : Type 0 where
   pub first : ℕ
   pub body : List ℕ
   pub opens : OpensBlock text first body
   pub block : IsBlock (pieces_of body) items names rest
-  pub lines : All (ItemStands first (pieces_of body)) items
+  pub lines : InLines first (pieces_of body) items
   pub place : Place first (pieces_of body) n rest
 
 -- then the header row leads to line n
@@ -63,7 +65,7 @@ pub record HasRows (text : List ℕ) (items : List Item) (names : Names) (thread
   pub header : HasHeaderRow text items names threads first pieces
   pub there : AllByRecursion (λ item. IsThere threads item.name) items
   pub rows : AreRows items threads 0 pieces None cells rest
-  pub keyword : quantifier_next rest ≡ true
+  pub keyword : BeginsCondition rest
   pub place : Place first pieces n rest
 
 -- the first item for a thread that isn't there stands in line n
@@ -79,41 +81,45 @@ pub record HasAbsentThread (items : List Item) (threads n : ℕ) : Type 0 where
   pub absent : threads ≤ thread
   pub line_is : n ≡ item.line
 
+-- What is wrong before the initial block, and in which line.
+pub data FaultBefore (text : List ℕ) : Kind → ℕ → Type 0 where
+  -- there is nothing
+  empty : text ≡ [] → FaultBefore text CutShort 1
+  -- the first line
+  first_line : 0 < length text → ((name : List ℕ) → IsTitle (before_line_feed text) name → ⊥) → FaultBefore text BadHeader 1
+  -- a line that is no header line, and doesn't begin the initial block
+  header_line : {n : ℕ} {body : List ℕ} → IsHeaded text n body → 0 < length body → is_header_line (before_line_feed body) ≡ false → begins_block (before_line_feed body) ≡ false → FaultBefore text BadHeader n
+  -- nothing stands after the header lines
+  header_ends : {n : ℕ} → IsHeaded text n [] → FaultBefore text CutShort n
+
 -- The part in which a text can't go on: what stands before it is in the grammar, it is not, and here is why, and in which line.
 pub data FaultIn (text : List ℕ) : Kind → ℕ → Type 0 where
-  -- there is nothing
-  empty : text ≡ [] → FaultIn text CutShort 1
-  -- the first line
-  first_line : 0 < length text → ((name : List ℕ) → IsTitle (before_line_feed text) name → ⊥) → FaultIn text BadHeader 1
-  -- a line that is no header line, and doesn't begin the initial block
-  header_line : {n : ℕ} {body : List ℕ} → IsHeaded text n body → 0 < length body → is_header_line (before_line_feed body) ≡ false → begins_block (before_line_feed body) ≡ false → FaultIn text BadHeader n
-  -- nothing stands behind the header lines
-  header_ends : {n : ℕ} → IsHeaded text n [] → FaultIn text CutShort n
+  above : {kind : Kind} {n : ℕ} → FaultBefore text kind n → FaultIn text kind n
   block : {kind : Kind} {first n : ℕ} {body : List ℕ} → OpensBlock text first body
       → ((items : List Item) (names : Names) (rest : List Piece) → IsBlock (pieces_of body) items names rest → ⊥) → BlockCause first (pieces_of body) kind n → FaultIn text kind n
   header_row : {kind : Kind} {items : List Item} {names : Names} {first n : ℕ} {pieces : List Piece} → HasBlock text items names first pieces
       → ((threads : ℕ) (rest : List Piece) → IsHeaderRow pieces threads rest → ⊥) → HeaderCause first pieces kind n → FaultIn text kind n
   absent_thread : {items : List Item} {names : Names} {threads first n : ℕ} {pieces : List Piece} → HasHeaderRow text items names threads first pieces → HasAbsentThread items threads n → FaultIn text BadInitial n
   rows : {kind : Kind} {items : List Item} {names : Names} {threads first n : ℕ} {pieces : List Piece} → HasHeaderRow text items names threads first pieces → AllByRecursion (λ item. IsThere threads item.name) items
-      → ((cells : List Cell) (rest : List Piece) → AreRows items threads 0 pieces None cells rest → quantifier_next rest ≡ true → ⊥) → RowsCause items threads first pieces kind n → FaultIn text kind n
+      → ((cells : List Cell) (rest : List Piece) → AreRows items threads 0 pieces None cells rest → BeginsCondition rest → ⊥) → RowsCause items threads first pieces kind n → FaultIn text kind n
   condition : {kind : Kind} {items : List Item} {names : Names} {threads first n : ℕ} {pieces : List Piece} → HasRows text items names threads first pieces
       → ((quantifier : Quantifier) (tree : Tree) (after : Names) → IsCondition items threads pieces names quantifier tree after → ⊥) → ConditionCause items threads names first pieces kind n → FaultIn text kind n
 
--- the lines in front of the one with the first byte that isn't allowed, or the whole text if there is none
+-- the lines before the one with the first byte that isn't allowed, or the whole text if there is none
 abbrev pub good_lines : List ℕ → List ℕ
 good_lines text = (reach text).0
 
--- the text is a test, or has no other fault than that it ends too early
+-- the text is a test, or the beginning of one, after which more is wanted
 abbrev pub GoesOn : List ℕ → Type 0
 GoesOn text = ((test : Litmus) × IsTest text test) ⊎ ((n : ℕ) × FaultIn text CutShort n)
 
 -- The cause of a kind of fault, in line n of a text.
 pub data Fault (text : List ℕ) : Kind → ℕ → Type 0 where
   -- the text is longer than 65536 bytes
-  too_large : 65536 < length text → Fault text TooLarge 1
+  too_large : MOST_BYTES < length text → Fault text TooLarge 1
   -- a part of its good lines has a fault
-  in_part : {kind : Kind} {n : ℕ} → length text ≤ 65536 → FaultIn (good_lines text) kind n → kind ≢ CutShort → Fault text kind n
-  -- a byte isn't allowed; the first such one stands in this line, and the lines in front of it have no fault of their own
-  bad_byte : length text ≤ 65536 → list_all is_allowed text ≡ false → GoesOn (good_lines text) → Fault text BadByte (1 + line_feeds (good text))
+  in_part : {kind : Kind} {n : ℕ} → length text ≤ MOST_BYTES → FaultIn (good_lines text) kind n → kind ≢ CutShort → Fault text kind n
+  -- a byte isn't allowed; the first such one stands in this line, and the lines before it have no fault of their own
+  bad_byte : length text ≤ MOST_BYTES → list_all is_allowed text ≡ false → GoesOn (good_lines text) → Fault text BadByte (1 + line_feeds (good text))
   -- every byte is allowed, but they end too early; the line is the last
-  cut_short : {n : ℕ} → length text ≤ 65536 → list_all is_allowed text ≡ true → FaultIn text CutShort n → Fault text CutShort (1 + inner_line_feeds text)
+  cut_short : {n : ℕ} → length text ≤ MOST_BYTES → list_all is_allowed text ≡ true → FaultIn text CutShort n → Fault text CutShort (1 + inner_line_feeds text)

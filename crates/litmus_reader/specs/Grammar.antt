@@ -1,8 +1,9 @@
 -- The grammar of litmus texts.
 use Rattle.std.specs.Prelude.{◌≡◌, ℕ, ◌<◌, ◌≤◌, true, List, [], length, None}
 use Rattle.std.specs.List.{list_all, AllByRecursion}
-use Rattle.litmus_grammar.specs.Pieces.{Piece, pieces_of}
-use Rattle.litmus_grammar.specs.FirstLines.{IsTitle, is_header_line, begins_block, before_line_feed, behind_line_feed}
+use Rattle.litmus_lexer.specs.declared.limits.TheConstants.{MOST_BYTES}
+use Rattle.litmus_lexer.specs.Pieces.{Piece, pieces_of}
+use Rattle.litmus_lexer.specs.FirstLines.{IsTitle, is_header_line, begins_block, before_line_feed, behind_line_feed}
 use Rattle.litmus_parser.specs.Names.{Names}
 use Rattle.litmus_parser.specs.Reachable.{is_allowed}
 use Rattle.litmus_parser.specs.GrammarBlock.{IsBlock}
@@ -26,7 +27,7 @@ IsThere threads (Location l) = Unit {0}
 
 -- A line with the name; header lines; then, in pieces, the initial block, the table and the condition.
 pub record IsTest (text : List ℕ) (test : Litmus) : Type 0 where
-  pub length_is : length text ≤ 65536
+  pub length_is : length text ≤ MOST_BYTES
   pub allowed : list_all is_allowed text ≡ true
   pub title : IsTitle (before_line_feed text) test.name
   pub body : List ℕ
@@ -34,11 +35,11 @@ pub record IsTest (text : List ℕ) (test : Litmus) : Type 0 where
   -- the items with their lines
   pub items : List Item
   pub items_are : test.items ≡ settings_of items
-  -- the locations that the initial block names, and the pieces behind it
+  -- the locations that the initial block names, and the pieces after it
   pub named : Names
   pub table : List Piece
   pub block : IsBlock (pieces_of body) items named table
-  -- the pieces behind the header row, and behind the rows
+  -- the pieces after the header row, and after the rows
   pub body_rows : List Piece
   pub rest : List Piece
   pub header_row : IsHeaderRow table test.threads body_rows

@@ -13,7 +13,7 @@ settings_of = map (λ item. (item.name, item.setting))
 
 pub record Litmus : Type 0 where
   pub name : List ℕ
-  -- in the order in which they are first named: a location's number is its place
+  -- in the order in which they are first named: a location's number is its index
   pub locations : List (List ℕ)
   -- what the initial block sets, in its order
   pub items : List (Name × Setting)

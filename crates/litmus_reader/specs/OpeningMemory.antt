@@ -1,5 +1,5 @@
 -- The memory that a test opens.
-use Rattle.std.specs.Prelude.{ℕ, List, [], ◌∷◌}
+use Rattle.std.specs.Prelude.{ℕ, Bool, true, false, List, [], ◌∷◌}
 use Rattle.std.specs.FinMap as finite
 use Rattle.std.specs.Ordering.{nat_cmp}
 use Rattle.litmus_parser.specs.declared.syntax.Name.{Name}
@@ -9,6 +9,11 @@ use Rattle.litmus_parser.specs.declared.syntax.Setting.TheVariants.{Number, Addr
 
 abbrev pub Words : Type 0
 Words = finite.FinMap nat_cmp ℕ
+
+-- the name is a location
+abbrev pub is_of_location : Name → Bool
+is_of_location (Location l) = true
+is_of_location (Register t r) = false
 
 -- an item that sets a location sets its word
 abbrev pub with_word : Name → Setting → Words → Words

@@ -1,11 +1,12 @@
 -- Reading a whole text, with its first fault.
 use Rattle.std.specs.Prelude.{◌≡◌, ℕ, ◌⊎◌, nat_lt, Bool, true, false, if◌then◌else◌, List, [], length, Option, Some, None, Result, Ok, Err}
-use Rattle.litmus_grammar.specs.Pieces.{Piece, pieces_of}
-use Rattle.litmus_grammar.specs.declared.errors.Kind.{Kind}
-use Rattle.litmus_grammar.specs.declared.errors.Kind.TheVariants.{NoMemory, TooLarge, BadInitial, CutShort}
-use Rattle.litmus_grammar.specs.declared.errors.LitmusError.{LitmusError}
-use Rattle.litmus_grammar.specs.Reading.{◌>>=◌, fails}
-use Rattle.litmus_parser.specs.ReadingHeader.{opening_at}
+use Rattle.litmus_lexer.specs.declared.limits.TheConstants.{MOST_BYTES}
+use Rattle.litmus_lexer.specs.Pieces.{Piece, pieces_of}
+use Rattle.litmus_lexer.specs.declared.errors.Kind.{Kind}
+use Rattle.litmus_lexer.specs.declared.errors.Kind.TheVariants.{NoMemory, TooLarge, BadInitial, CutShort}
+use Rattle.litmus_lexer.specs.declared.errors.LitmusError.{LitmusError}
+use Rattle.litmus_lexer.specs.Reading.{◌>>=◌, fails}
+use Rattle.litmus_parser.specs.ReadingHeader.{preamble_at}
 use Rattle.litmus_parser.specs.ReadingBlock.{block_at}
 use Rattle.litmus_parser.specs.ReadingTable.{header_at, absent_line, rows_at}
 use Rattle.litmus_parser.specs.ReadingEnd.{condition_at}
@@ -19,7 +20,7 @@ abbrev pub unless_absent : {A : Type 0} → Option ℕ → Result A LitmusError 
 unless_absent None read = read
 unless_absent (Some line) read = fails BadInitial line
 
--- items for threads that are not there are tested where the header row was read
+-- items for threads that are not there are tested once the header row is read
 unfoldable pub table_at : List Item → ℕ → List Piece → Result (ℕ × List Cell × ℕ × List Piece) LitmusError
 table_at items line pieces = do
   h ← header_at line pieces
@@ -27,7 +28,7 @@ table_at items line pieces = do
 
 unfoldable pub parts_at : List ℕ → Result Litmus LitmusError
 parts_at text = do
-  o ← opening_at text
+  o ← preamble_at text
   b ← block_at [] o.1.0 (pieces_of o.1.1)
   t ← table_at b.0 b.2 b.3
   c ← condition_at b.0 t.0 b.1 t.2 t.3
@@ -37,15 +38,20 @@ abbrev pub is_cut_short : Kind → Bool
 is_cut_short CutShort = true
 is_cut_short kind = false
 
--- where a text ends too early, the fault is the one of its end; and nothing but its end may stand behind the condition
+-- if a text ends too early, the fault is the one of its end; and nothing but its end may come after the condition
 abbrev pub ended_by : LitmusError → Result Litmus LitmusError → Result Litmus LitmusError
 ended_by end (Ok test) = if is_cut_short end.kind then Ok test else Err end
 ended_by end (Err fault) = if is_cut_short fault.kind then Err end else Err fault
 
 unfoldable pub read_at : List ℕ → Result Litmus LitmusError
-read_at text = if nat_lt 65536 (length text) then fails TooLarge 1 else ended_by (reach text).1 (parts_at (reach text).0)
+read_at text = if nat_lt MOST_BYTES (length text) then fails TooLarge 1 else ended_by (reach text).1 (parts_at (reach text).0)
 
 -- what a function answered, seen by view, is what is read, unless memory ran out
 abbrev pub Told : {X : Type 0} → (X → Litmus) → Result X LitmusError → Result Litmus LitmusError → Type 0
 Told view (Ok test) read = read ≡ Ok (view test)
 Told view (Err e) read = (e ≡ record { line = 0; kind = NoMemory }) ⊎ (read ≡ Err e)
+
+-- the same without fail
+abbrev pub ToldSurely : {X : Type 0} → (X → Litmus) → Result X LitmusError → Result Litmus LitmusError → Type 0
+ToldSurely view (Ok test) read = read ≡ Ok (view test)
+ToldSurely view (Err e) read = read ≡ Err e

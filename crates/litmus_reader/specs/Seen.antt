@@ -8,7 +8,7 @@ use Rattle.litmus_parser.specs.declared.syntax.Name.{Name}
 abbrev pub with_name : List Name → Name → List Name
 with_name names name = if list_any (λ other. same_name other name) names then names else names ++ name ∷ []
 
--- those of a tree behind those seen before
+-- those of a tree after those seen before
 abbrev pub seen_in : Tree → List Name → List Name
 seen_in (Is name value) names = with_name names name
 seen_in (Both a b) names = seen_in b (seen_in a names)

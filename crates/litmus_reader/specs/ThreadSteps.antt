@@ -39,7 +39,7 @@ abbrev pub goes_on : {A B : Type 0} → Option A → (A → B) → B → B
 goes_on (Some x) f stop = f x
 goes_on None f stop = stop
 
--- a thread where its next memory instruction comes next
+-- a thread whose next instruction is a memory instruction, or which has finished
 unfoldable pub settled : ℕ → List ℕ → List Cell → Thread
 settled thread registers [] = record { thread = thread; registers = registers; rest = [] }
 settled thread registers (cell ∷ rest) =

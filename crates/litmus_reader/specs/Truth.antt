@@ -15,13 +15,13 @@ abbrev pub end_value : List Thread → List ℕ → Name → ℕ
 end_value threads memory (Register t r) = register_in (slice_get threads t) r
 end_value threads memory (Location l) = or_zero (slice_get memory l)
 
--- the value that stands at a name's first place
+-- the value at the first index of a name
 unfoldable pub value_of : List Name → List ℕ → Name → ℕ
 value_of [] values name = 0
 value_of (other ∷ names) [] name = 0
 value_of (other ∷ names) (value ∷ values) name = if same_name other name then value else value_of names values name
 
--- the truth of an expression, where each name has a value
+-- the truth of an expression, given the value of each name
 abbrev pub holds : (Name → ℕ) → Tree → Bool
 holds value (Is name n) = value name == n
 holds value (Both a b) = holds value a && holds value b

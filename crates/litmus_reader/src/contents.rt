@@ -5,7 +5,7 @@ ghost use Rattle.litmus_reader.specs.TestViews.{test_of};
 ghost use Rattle.litmus_reader.specs.ThreadSteps.{settled, opened};
 
 use crate::threads::ThreadState;
-use litmus_grammar::Locations;
+use litmus_lexer::Locations;
 use litmus_parser::{Cell, Expr, Item, Name, Quantifier};
 use std::alloc::Global;
 
@@ -61,16 +61,19 @@ impl Test {
         self.locations.len()
     }
 
-    /// The name of the location of this number, where there is one: a letter or `_` with letters, digits and `_` behind it.
+    /// The name of the location of this number, if there is one: a letter or `_`, then letters,
+    /// digits and `_`.
     pub fn location(&self, number: u8) -> Option<&[u8]>
-        ensures { option_map (λ name. name.now) result ≡ slice_get (test_of self.now).locations number }
+        ensures { option_map (λ name. name.now) result
+            ≡ slice_get (test_of self.now).locations number }
     {
         self.locations.name(usize::from(number))
     }
 
     /// A thread as the test opens it; one that is not there has finished.
     pub fn start(&self, thread: u8) -> ThreadState<'_>
-        ensures { result ≡ settled thread (opened thread (test_of self.now).items (replicate 32 0)) (test_of self.now).cells }
+        ensures { result ≡ settled thread (opened thread (test_of self.now).items (replicate 32 0))
+            (test_of self.now).cells }
     {
         ThreadState::open(thread, &self.items, &self.cells)
     }

@@ -12,7 +12,7 @@ use litmus_parser::{Expr, Name, same_name};
 use std::alloc::AllocError;
 use std::marker::Model;
 
-/// The values that the names in a condition have where a run has ended.
+/// The values that the names in a condition have after a run.
 #[derive(Drop)]
 pub struct EndState {
     values: Vec<u64>,
@@ -35,7 +35,7 @@ impl EndState {
     }
 }
 
-/// A register's value in its thread, or a location's in memory; 0 where it is not there.
+/// A register's value in its thread, or a location's in memory; 0 if it is not there.
 fn end_value(threads: &[ThreadState<'_>], memory: &[u64], name: Name) -> u64
     ensures { result ≡ end_value threads.now memory.now name }
 {
@@ -58,7 +58,7 @@ fn push_value(values: &mut Vec<u64>, value: u64) -> Result<(), AllocError>
     Ok(())
 }
 
-/// The value that goes with a name, or 0 where the name is not seen.
+/// The value that goes with a name, or 0 if the name is not seen.
 #[tactic(auto, unfolding(crate::specs::Truth::value_of))]
 fn value_of(seen: &[Name], values: &[u64], name: Name) -> u64
     ensures { result ≡ value_of seen.now values.now name }
@@ -94,7 +94,8 @@ impl Test {
         threads: &[ThreadState<'_>],
         memory: &[u64],
     ) -> Result<Vec<u64>, AllocError>
-        ensures { IfOk result (λ values. values.items ≡ map (end_value threads.now memory.now) (test_of self.now).seen) }
+        ensures { IfOk result (λ values.
+            values.items ≡ map (end_value threads.now memory.now) (test_of self.now).seen) }
     {
         let mut values = Vec::new(self.alloc);
         let mut left = self.seen();
@@ -108,10 +109,13 @@ impl Test {
     /// The end state of a run: asks for each thread's state, in the order of the threads, and for
     /// each location's value by the location's number.
     pub fn end(&self, threads: &[ThreadState<'_>], memory: &[u64]) -> Result<EndState, AllocError>
-        ensures values { IfOk result (λ state. state ≡ map (end_value threads.now memory.now) (test_of self.now).seen) }
-        // The expression holds in it where it holds of the registers and the memory.
-        ensures truth { (test_of self.now).seen ≡ seen_in (test_of self.now).tree [] → IfOk result (λ state.
-            holds (value_of (test_of self.now).seen state) (test_of self.now).tree ≡ holds (end_value threads.now memory.now) (test_of self.now).tree) }
+        ensures values { IfOk result (λ state.
+            state ≡ map (end_value threads.now memory.now) (test_of self.now).seen) }
+        // The expression holds in it exactly when it holds of the registers and the memory.
+        ensures truth { (test_of self.now).seen ≡ seen_in (test_of self.now).tree [] →
+            IfOk result (λ state.
+            holds (value_of (test_of self.now).seen state) (test_of self.now).tree
+            ≡ holds (end_value threads.now memory.now) (test_of self.now).tree) }
     {
         let values = self.end_values(threads, memory)?;
         Ok(EndState { values })
@@ -119,7 +123,8 @@ impl Test {
 
     /// Whether the condition's expression holds in an end state of this test.
     pub fn state_holds(&self, state: &EndState) -> bool
-        ensures { result ≡ holds (value_of (test_of self.now).seen state.now) (test_of self.now).tree }
+        ensures { result ≡
+            holds (value_of (test_of self.now).seen state.now) (test_of self.now).tree }
     {
         holds(&self.expr, &self.seen, &state.values)
     }

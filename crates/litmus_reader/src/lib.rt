@@ -9,7 +9,7 @@ mod threads;
 
 pub use contents::Test;
 pub use ends::EndState;
-pub use litmus_grammar::{Kind, LitmusError};
+pub use litmus_lexer::{Kind, LitmusError};
 pub use litmus_parser::{Name, Quantifier};
 pub use reading::read;
 pub use threads::ThreadState;

@@ -1,43 +1,41 @@
 //! Reading a whole text.
 
-ghost use Rattle.std.specs.Prelude.{◌≡◌, ◌<◌, ◌≤◌, ◌⊎◌, [], Ok, Err, IfOk, IfErr, OnOk, length};
+ghost use Rattle.std.specs.Prelude.{◌≡◌, ◌<◌, ◌≤◌, ◌⊎◌, ℕ, [], Ok, Err, IfOk, IfErr, OnOk, length};
 ghost use Rattle.std.specs.List.{list_any};
-ghost use Rattle.litmus_grammar.specs.Reading.{Gives};
+ghost use Rattle.litmus_lexer.specs.Reading.{Gives};
 ghost use Rattle.litmus_parser.specs.Names.{same_name};
-ghost use Rattle.litmus_grammar.specs.Pieces.{pieces_of};
 ghost use Rattle.litmus_parser.specs.TreeViews.{tree_of};
 ghost use Rattle.litmus_reader.specs.Litmus.{Litmus};
 ghost use Rattle.litmus_reader.specs.TestViews.{test_of};
 ghost use Rattle.litmus_reader.specs.Seen.{seen_in, with_name};
-ghost use Rattle.litmus_reader.specs.ReadingTest.{table_at, parts_at, is_cut_short, read_at, Told};
+ghost use Rattle.litmus_reader.specs.ReadingTest.{table_at, parts_at, is_cut_short, read_at, Told, ToldSurely};
 ghost use Rattle.litmus_reader.specs.Grammar.{IsTest};
-ghost use Rattle.litmus_reader.specs.Faults.{Fault};
-ghost use Rattle.litmus_grammar.specs.declared.errors.Kind.TheVariants.{NoMemory};
+ghost use Rattle.litmus_reader.specs.Faults.{FaultBefore, good_lines, Fault};
+ghost use Rattle.litmus_lexer.specs.declared.errors.Kind.TheVariants.{NoMemory};
+ghost use Rattle.litmus_parser.specs.ReadingHeader.{preamble_at};
 
 use crate::contents::Test;
-use litmus_grammar::{Cursor, Kind, LitmusError, Locations, MOST_BYTES, ReadError};
+use litmus_lexer::{Cursor, Kind, LitmusError, Locations, MOST_BYTES, MOST_THREADS, ReadError};
 use litmus_parser::{
-    Cell, Expr, Item, Name, absent_line, block, condition, header_row, opening, reach, rows,
+    Cell, Expr, Item, Name, absent_line, block, condition, header_row, preamble, reach, rows,
     same_name,
 };
 use std::alloc::{AllocError, Global};
 
-/// The table behind the initial block: how many threads there are, their instructions, and the
-/// place where the condition begins.
+/// The table after the initial block: how many threads there are, their instructions, and the
+/// position at which the condition begins.
 #[tactic(auto, unfolding(crate::specs::ReadingTest::table_at))]
 fn table<'a>(
     alloc: Global,
     items: &[Item],
     cursor: Cursor<'a>,
 ) -> Result<(u8, Vec<Cell>, Cursor<'a>), ReadError>
-    ensures { Gives (λ r. (r.0, r.1.items, r.2.line, pieces_of r.2.rest.now)) result (table_at items.now cursor.entry.line (pieces_of cursor.entry.rest.now)) }
+    ensures { Gives (λ r. (r.0, r.1.items, r.2.line, r.2.pieces)) result
+        (table_at items.now cursor.entry.line cursor.entry.pieces) }
 {
     let (threads, after) = header_row(cursor)?;
     if let Some(line) = absent_line(items, threads) {
-        return Err(ReadError::Fault(LitmusError {
-            line,
-            kind: Kind::BadInitial,
-        }));
+        return Err(ReadError::at(line, Kind::BadInitial));
     }
     let (cells, after) = rows(alloc, items, threads, after)?;
     Ok((threads, cells, after))
@@ -75,12 +73,14 @@ fn see(seen: &mut Vec<Name>, expr: &Expr) -> Result<(), AllocError>
 /// The parts of a text, one after the other.
 #[tactic(auto, unfolding(crate::specs::ReadingTest::parts_at))]
 fn parts(alloc: Global, text: &[u8]) -> Result<Test, ReadError>
-    requires { length text.now ≤ 65536 }
-    ensures { Gives test_of result (parts_at text.now) }
+    requires { length text.now ≤ MOST_BYTES }
+    ensures read { Gives test_of result (parts_at text.now) }
+    ensures early { (e : LitmusError) → preamble_at text.now ≡ Err e →
+        result ≡ Err (ReadError.Fault e) }
 {
-    let (name, body) = opening(text)?;
+    let (name, body) = preamble(text)?;
     let mut locations = Locations::new(alloc);
-    let (items, after) = block(alloc, &mut locations, body)?;
+    let (items, after) = block(alloc, &mut locations, Cursor::new(body))?;
     let (threads, cells, after) = table(alloc, &items, after)?;
     let (quantifier, expr) = condition(alloc, &items, threads, &mut locations, after)?;
     let name = Vec::from_slice(alloc, name)?;
@@ -108,7 +108,10 @@ fn is_cut_short(kind: Kind) -> bool
 #[tactic(auto, unfolding(crate::specs::ReadingTest::read_at))]
 fn read_whole(alloc: Global, text: &[u8]) -> Result<Test, LitmusError>
     ensures told { Told test_of result (read_at text.now) }
-    ensures large { 65536 < length text.now → result ≡ Err (record { line = 1; kind = Kind.TooLarge }) }
+    ensures large { MOST_BYTES < length text.now →
+        result ≡ Err (record { line = 1; kind = Kind.TooLarge }) }
+    ensures sure { (e : LitmusError) → preamble_at (good_lines text.now) ≡ Err e →
+        ToldSurely test_of result (read_at text.now) }
 {
     if text.len() > MOST_BYTES {
         return Err(LitmusError {
@@ -116,13 +119,13 @@ fn read_whole(alloc: Global, text: &[u8]) -> Result<Test, LitmusError>
             kind: Kind::TooLarge,
         });
     }
-    let (lines, end) = reach(text);
+    let (lines, beyond) = reach(text);
     match parts(alloc, lines) {
         Ok(test) => {
-            if is_cut_short(end.kind) {
+            if is_cut_short(beyond.kind) {
                 Ok(test)
             } else {
-                Err(end)
+                Err(beyond)
             }
         }
         Err(ReadError::Memory) => Err(LitmusError {
@@ -131,7 +134,7 @@ fn read_whole(alloc: Global, text: &[u8]) -> Result<Test, LitmusError>
         }),
         Err(ReadError::Fault(fault)) => {
             if is_cut_short(fault.kind) {
-                Err(end)
+                Err(beyond)
             } else {
                 Err(fault)
             }
@@ -142,18 +145,24 @@ fn read_whole(alloc: Global, text: &[u8]) -> Result<Test, LitmusError>
 /// Reads the text of a litmus test, at most 65,536 bytes.
 ///
 /// A text that is refused is answered by its first fault, front to back: the line, counted from
-/// 1, and the kind. Where a growth was refused the answer is `NoMemory` with line 0.
+/// 1, and the kind. If allocation fails the answer is `NoMemory` with line 0.
 pub fn read(alloc: Global, text: &[u8]) -> Result<Test, LitmusError>
     // What is read is what the text says.
     ensures found { IfOk result (λ test. IsTest text.now (test_of test)) }
     // Every text of the grammar is read, as the test that it stands for, unless memory ran out.
     ensures only { (test : Litmus) → IsTest text.now test → Told test_of result (Ok test) }
     // It has 1 to 16 threads.
-    ensures few { IfOk result (λ test. (0 < (test_of test).threads) × ((test_of test).threads ≤ 16)) }
+    ensures few { IfOk result (λ test.
+        (0 < (test_of test).threads) × ((test_of test).threads ≤ MOST_THREADS)) }
     // A fault has its kind's cause in its line, unless memory ran out.
-    ensures fault { IfErr result (λ e. (e ≡ record { line = 0; kind = NoMemory }) ⊎ Fault text.now e.kind e.line) }
+    ensures fault { IfErr result (λ e.
+        (e ≡ record { line = 0; kind = NoMemory }) ⊎ Fault text.now e.kind e.line) }
+    // A text with a fault before its initial block is told its fault: that takes no memory.
+    ensures early { (kind : Kind) (n : ℕ) → FaultBefore (good_lines text.now) kind n →
+        IfErr result (λ e. Fault text.now e.kind e.line) }
     // A text that is too long wants no memory.
-    ensures large { 65536 < length text.now → result ≡ Err (record { line = 1; kind = Kind.TooLarge }) }
+    ensures large { MOST_BYTES < length text.now →
+        result ≡ Err (record { line = 1; kind = Kind.TooLarge }) }
     // The test or the first fault, front to back, unless memory ran out.
     ensures told { Told test_of result (read_at text.now) }
 {

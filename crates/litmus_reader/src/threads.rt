@@ -47,7 +47,8 @@ fn write(registers: &mut [u64; 32], register: u8, value: u64)
 /// Does a thread's instructions up to its next memory instruction: what is left from there on.
 #[tactic(auto, unfolding(crate::specs::ThreadSteps::settled))]
 fn settle<'a>(thread: u8, registers: &mut [u64; 32], cells: &'a [Cell]) -> &'a [Cell]
-    ensures { settled thread registers.old cells.now ≡ record { thread = thread; registers = registers.new; rest = result.now } }
+    ensures { settled thread registers.old cells.now ≡
+        record { thread = thread; registers = registers.new; rest = result.now } }
 {
     let mut rest = cells;
     while let Some((cell, after)) = rest.split_first() {
@@ -91,7 +92,8 @@ pub(crate) fn address(location: u8) -> WordAddr
 impl<'a> ThreadState<'a> {
     /// A thread as the test opens it.
     pub(crate) fn open(thread: u8, items: &[Item], cells: &'a [Cell]) -> ThreadState<'a>
-        ensures { result ≡ settled thread (opened thread (settings_of items.now) (replicate 32 0)) cells.now }
+        ensures { result ≡
+            settled thread (opened thread (settings_of items.now) (replicate 32 0)) cells.now }
     {
         let mut registers = [0; 32];
         open_registers(thread, items, &mut registers);
@@ -103,7 +105,7 @@ impl<'a> ThreadState<'a> {
         }
     }
 
-    /// The thread's next operation, the same until `done`; `None` where it has finished.
+    /// The thread's next operation, the same until `done`; `None` if it has finished.
     pub fn next(&self) -> Option<Op>
         ensures { result ≡ next_of self.now }
     {

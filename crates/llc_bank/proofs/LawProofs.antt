@@ -17,14 +17,16 @@ use Rattle.llc_bank.specs.declared.decision.Eviction.TheVariants.{NotThere, IsBu
 use Rattle.llc_bank.specs.OnEntry.{at_bank, evicted, leased, read_answer}
 use Rattle.llc_bank.specs.BankTable.{BankState, after_decision, after_eviction, core_of, decided, entry_of, set_of, with_changed}
 use Rattle.llc_bank.specs.BankLaws.{EvictionsRaiseTime, FillsAtMemoryTime, GrantsUnownedLines, IsLeased, LoadsAbsentLines, ReadersAreLeased, Sends, WordsGoToOtherVersions, carries_line, lease_told, version_in}
-use Rattle.llc_bank.proofs.Outcomes.{Outcome, SentBy, entry-changed, entry-used, outcome-at, same_reaction, sends-by}
+use Rattle.llc_bank.proofs.SentMessages.{Sending, SentBy, entry-changed, entry-used, sending-at, same_reaction, sends-by}
 
-outcome : (bank after : BankState) (m sent : Message) → Sends bank m sent after → Outcome bank m sent after (core_of m.from) (entry_of bank m.line)
-outcome bank after m sent s = outcome-at bank after m sent bank.lease bank.mts (has_room bank.table (set_of bank m.line)) (core_of m.from) (entry_of bank m.line) m.body (sends-by bank after m sent s)
+sending :
+    (bank after : BankState) (m sent : Message) → Sends bank m sent after →
+    Sending bank m sent after (core_of m.from) (entry_of bank m.line)
+sending bank after m sent s = sending-at bank after m sent bank.lease bank.mts (has_room bank.table (set_of bank m.line)) (core_of m.from) (entry_of bank m.line) m.body (sends-by bank after m sent s)
 
 pub grants_unowned_lines : GrantsUnownedLines
 grants_unowned_lines bank after m sent sets s g =
-    let granted = (outcome bank after m sent s).grant g in
+    let granted = (sending bank after m sent s).grant g in
     record {
       shared = granted.0;
       requester = ap (λ x. x.to) granted.1.0;
@@ -33,7 +35,7 @@ grants_unowned_lines bank after m sent sets s g =
     }
 
 pub loads_absent_lines : LoadsAbsentLines
-loads_absent_lines bank after m sent s h = (outcome bank after m sent s).load h
+loads_absent_lines bank after m sent s h = (sending bank after m sent s).load h
 
 -- evictions
 raised : (bank : BankState) (line : ℕ) (x : Eviction) → bank.mts ≤ (after_eviction bank line x).1.mts
@@ -43,7 +45,9 @@ raised bank line (Drops rts) = omega arith
 raised bank line (Stores rts words) = omega arith
 raised bank line (AsksBack owner) = omega arith
 
-lease_covered : (bank : BankState) (line : ℕ) (dirty : Bool) (timed : TimedLine) → timed.rts ≤ (after_eviction bank line (evicted (Some (Shared dirty timed)))).1.mts
+lease_covered :
+    (bank : BankState) (line : ℕ) (dirty : Bool) (timed : TimedLine) →
+    timed.rts ≤ (after_eviction bank line (evicted (Some (Shared dirty timed)))).1.mts
 lease_covered bank line true timed = omega arith
 lease_covered bank line false timed = omega arith
 
@@ -54,7 +58,10 @@ evictions_raise_time bank line = record {
 }
 
 -- what is decided of a known entry at a known message
-decided-at : (bank : BankState) (m : Message) (entry : Option Entry) (body : Body) → entry_of bank m.line ≡ entry → m.body ≡ body → decided bank m ≡ at_bank bank.lease bank.mts (has_room bank.table (set_of bank m.line)) (core_of m.from) entry body
+decided-at :
+    (bank : BankState) (m : Message) (entry : Option Entry) (body : Body) → entry_of bank m.line ≡ entry →
+    m.body ≡ body →
+    decided bank m ≡ at_bank bank.lease bank.mts (has_room bank.table (set_of bank m.line)) (core_of m.from) entry body
 decided-at bank m entry body e b =
     ap (λ x. at_bank bank.lease bank.mts (has_room bank.table (set_of bank m.line)) (core_of m.from) (entry_of bank m.line) x) b
     ∙ ap (λ o. at_bank bank.lease bank.mts (has_room bank.table (set_of bank m.line)) (core_of m.from) o body) e
@@ -74,11 +81,15 @@ words-read : (renews : Bool) (line : TimedLine) → carries_line (read_answer re
 words-read true line = refl
 words-read false line = refl
 
-words-grant : (renews : Bool) (line : TimedLine) → carries_line (cond renews (UpgradeRep line.rts) (ExRep line)) ≡ not renews
+words-grant :
+    (renews : Bool) (line : TimedLine) → carries_line (cond renews (UpgradeRep line.rts) (ExRep line)) ≡ not renews
 words-grant true line = refl
 words-grant false line = refl
 
-reader-leased : (bank after : BankState) (m sent : Message) (pts : ℕ) (version : Option ℕ) (dirty : Bool) (line : TimedLine) (given : Option (ℕ × Bool)) → 0 < length bank.table.sets → shared_lease line.wts line.rts pts version bank.lease ≡ given → SentBy bank m sent after (leased dirty line given) → IsLeased bank m sent after pts dirty line
+reader-leased :
+    (bank after : BankState) (m sent : Message) (pts : ℕ) (version : Option ℕ) (dirty : Bool) (line : TimedLine) (given : Option (ℕ × Bool)) →
+    0 < length bank.table.sets → shared_lease line.wts line.rts pts version bank.lease ≡ given →
+    SentBy bank m sent after (leased dirty line given) → IsLeased bank m sent after pts dirty line
 reader-leased bank after m sent pts version dirty line None sets e s = absurd s
 reader-leased bank after m sent pts version dirty line (Some given) sets e s =
     let told : lease_told sent.body ≡ given.0 = ap (λ x. lease_told x.body) s.0 ∙ told-read given.1 (record line { rts = given.0 }) in
@@ -88,7 +99,10 @@ reader-leased bank after m sent pts version dirty line (Some given) sets e s =
       leased = rw (told, s.1) (entry-used bank m.line (Shared dirty (record line { rts = given.0 })) sets);
     }
 
-sent-at : (bank after : BankState) (m sent : Message) (entry : Option Entry) (body : Body) → entry_of bank m.line ≡ entry → m.body ≡ body → Sends bank m sent after → SentBy bank m sent after (at_bank bank.lease bank.mts (has_room bank.table (set_of bank m.line)) (core_of m.from) entry body)
+sent-at :
+    (bank after : BankState) (m sent : Message) (entry : Option Entry) (body : Body) → entry_of bank m.line ≡ entry →
+    m.body ≡ body → Sends bank m sent after →
+    SentBy bank m sent after (at_bank bank.lease bank.mts (has_room bank.table (set_of bank m.line)) (core_of m.from) entry body)
 sent-at bank after m sent entry body e b s = rw (← decided-at bank m entry body e b) (sends-by bank after m sent s)
 
 pub readers_are_leased : ReadersAreLeased
@@ -96,17 +110,26 @@ readers_are_leased bank after m sent pts version dirty line sets e b s =
     reader-leased bank after m sent pts version dirty line (shared_lease line.wts line.rts pts version bank.lease) sets refl (sent-at bank after m sent (Some (Shared dirty line)) (ShReq pts version) e b s)
 
 -- words
-renews-at : (b renews : Bool) (time : ℕ) (given : ℕ × Bool) → cond b (Some (time, renews)) None ≡ Some given → given.1 ≡ renews
+renews-at :
+    (b renews : Bool) (time : ℕ) (given : ℕ × Bool) → cond b (Some (time, renews)) None ≡ Some given →
+    given.1 ≡ renews
 renews-at true renews time given h = cc
 renews-at false renews time given h = cc
 
-read-words : (bank after : BankState) (m sent : Message) (lease pts : ℕ) (version : Option ℕ) (dirty : Bool) (line : TimedLine) (given : Option (ℕ × Bool)) → shared_lease line.wts line.rts pts version lease ≡ given → SentBy bank m sent after (leased dirty line given) → carries_line sent.body ≡ not (is_version line.wts version)
+read-words :
+    (bank after : BankState) (m sent : Message) (lease pts : ℕ) (version : Option ℕ) (dirty : Bool) (line : TimedLine) (given : Option (ℕ × Bool)) →
+    shared_lease line.wts line.rts pts version lease ≡ given → SentBy bank m sent after (leased dirty line given) →
+    carries_line sent.body ≡ not (is_version line.wts version)
 read-words bank after m sent lease pts version dirty line None e s = absurd s
 read-words bank after m sent lease pts version dirty line (Some given) e s =
     let renews : given.1 ≡ is_version line.wts version = renews-at _ _ _ given e in
     ap (λ x. carries_line x.body) s.0 ∙ words-read given.1 (record line { rts = given.0 }) ∙ ap not renews
 
-words-at : (bank after : BankState) (m sent : Message) (lease mts : ℕ) (room : Bool) (core : ℕ) (version : Option ℕ) (dirty : Bool) (line : TimedLine) (body : Body) → version_in body ≡ Some version → SentBy bank m sent after (at_bank lease mts room core (Some (Shared dirty line)) body) → carries_line sent.body ≡ not (is_version line.wts version)
+words-at :
+    (bank after : BankState) (m sent : Message) (lease mts : ℕ) (room : Bool) (core : ℕ) (version : Option ℕ) (dirty : Bool) (line : TimedLine) (body : Body) →
+    version_in body ≡ Some version →
+    SentBy bank m sent after (at_bank lease mts room core (Some (Shared dirty line)) body) →
+    carries_line sent.body ≡ not (is_version line.wts version)
 words-at bank after m sent lease mts room core version dirty line (ShReq pts v) h s =
     let same : v ≡ version = cc in
     read-words bank after m sent lease pts v dirty line (shared_lease line.wts line.rts pts v lease) refl s ∙ ap (λ x. not (is_version line.wts x)) same

@@ -1,5 +1,4 @@
 pub mod LawProofs
-pub mod Lines
-pub mod Outcomes
+pub mod SentMessages
 pub mod RoomMade
 pub mod Sound

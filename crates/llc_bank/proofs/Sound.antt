@@ -11,7 +11,11 @@ use Rattle.llc_bank.specs.BankTable.{BankState, set_of}
 use Rattle.llc_bank.specs.OwnSets.{InOwnSets, IsSound}
 
 -- a change of one line in its own set
-own : (banks : ℕ) (sets new : List (List (ℕ × Entry))) (line : ℕ) → length new ≡ length sets → ((k j : ℕ) → j ≢ line → look new k j ≡ look sets k j) → ((k j : ℕ) → k ≢ (line / banks) % length sets → look new k j ≡ look sets k j) → InOwnSets banks sets → InOwnSets banks new
+own :
+    (banks : ℕ) (sets new : List (List (ℕ × Entry))) (line : ℕ) → length new ≡ length sets →
+    ((k j : ℕ) → j ≢ line → look new k j ≡ look sets k j) →
+    ((k j : ℕ) → k ≢ (line / banks) % length sets → look new k j ≡ look sets k j) → InOwnSets banks sets →
+    InOwnSets banks new
 own banks sets new line len others other_sets h = λ k j there.
     let as_before : look new k j ≡ look sets k j → (j / banks) % length new ≡ k = λ same. rw len (h k j (sym (ap is_some same) ∙ there)) in
     ⊎_elim
@@ -26,7 +30,10 @@ own banks sets new line len others other_sets h = λ k j there.
 pub below : (line n : ℕ) → 0 < n → line % n < n
 below line n h = omega arith
 
-pub sound-put : (banks : ℕ) (table new : Sets Entry) (set line : ℕ) (entry : Entry) → IsSound banks table → set ≡ (line / banks) % length table.sets → new ≡ record table { sets = put table.sets set line entry } → IsSound banks new
+pub sound-put :
+    (banks : ℕ) (table new : Sets Entry) (set line : ℕ) (entry : Entry) → IsSound banks table →
+    set ≡ (line / banks) % length table.sets → new ≡ record table { sets = put table.sets set line entry } →
+    IsSound banks new
 sound-put banks table new set line entry sound is e =
     let home : ℕ = (line / banks) % length table.sets in
     let i : home < length table.sets = below (line / banks) (length table.sets) sound.some_sets in
@@ -41,7 +48,10 @@ sound-put banks table new set line entry sound is e =
           sound.own_sets;
     })
 
-pub sound-put_within : (banks : ℕ) (table new : Sets Entry) (set line : ℕ) (entry : Entry) → IsSound banks table → set ≡ (line / banks) % length table.sets → new ≡ record table { sets = put_within table.sets set line entry } → IsSound banks new
+pub sound-put_within :
+    (banks : ℕ) (table new : Sets Entry) (set line : ℕ) (entry : Entry) → IsSound banks table →
+    set ≡ (line / banks) % length table.sets → new ≡ record table { sets = put_within table.sets set line entry } →
+    IsSound banks new
 sound-put_within banks table new set line entry sound is e =
     let home : ℕ = (line / banks) % length table.sets in
     let i : home < length table.sets = below (line / banks) (length table.sets) sound.some_sets in
@@ -56,7 +66,10 @@ sound-put_within banks table new set line entry sound is e =
           sound.own_sets;
     })
 
-pub sound-drop_line : (banks : ℕ) (table new : Sets Entry) (set line : ℕ) → IsSound banks table → set ≡ (line / banks) % length table.sets → new ≡ record table { sets = drop_line table.sets set line } → IsSound banks new
+pub sound-drop_line :
+    (banks : ℕ) (table new : Sets Entry) (set line : ℕ) → IsSound banks table →
+    set ≡ (line / banks) % length table.sets → new ≡ record table { sets = drop_line table.sets set line } →
+    IsSound banks new
 sound-drop_line banks table new set line sound is e =
     let home : ℕ = (line / banks) % length table.sets in
     let i : home < length table.sets = below (line / banks) (length table.sets) sound.some_sets in
@@ -77,7 +90,9 @@ empty_at zero i = refl
 empty_at (suc n) zero = refl
 empty_at (suc n) (suc i) = empty_at n i
 
-pub sound-empty : (banks : ℕ) (new : Sets Entry) (sets ways : ℕ) → 0 < banks → 0 < sets → 0 < ways → new ≡ empty_sets sets ways → IsSound banks new
+pub sound-empty :
+    (banks : ℕ) (new : Sets Entry) (sets ways : ℕ) → 0 < banks → 0 < sets → 0 < ways → new ≡ empty_sets sets ways →
+    IsSound banks new
 sound-empty banks new sets ways b s w e =
     rw e (record {
       some_banks = b;
@@ -87,5 +102,7 @@ sound-empty banks new sets ways b s w e =
     })
 
 -- the set that the code works out
-pub home_set : (banks : ℕ) (table : Sets Entry) (bank : BankState) (set line number : ℕ) → banks ≡ bank.banks → table ≡ bank.table → number ≡ line → set ≡ set_of bank line → set ≡ (number / banks) % length table.sets
+pub home_set :
+    (banks : ℕ) (table : Sets Entry) (bank : BankState) (set line number : ℕ) → banks ≡ bank.banks →
+    table ≡ bank.table → number ≡ line → set ≡ set_of bank line → set ≡ (number / banks) % length table.sets
 home_set banks table bank set line number b t n s = rw (b, t, n) s

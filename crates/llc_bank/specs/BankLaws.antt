@@ -49,25 +49,35 @@ pub record IsGranted (bank : BankState) (m sent : Message) (after : BankState) :
   pub line : sent.line ≡ m.line
   pub owned : entry_of after m.line ≡ Some (Exclusive (core_of m.from))
 
--- a line is granted only where no core owns it
+-- a line is granted only if no core owns it
 abbrev pub GrantsUnownedLines : Type 0
-GrantsUnownedLines = (bank after : BankState) (m sent : Message) → 0 < length bank.table.sets → Sends bank m sent after → is_grant sent.body ≡ true → IsGranted bank m sent after
+GrantsUnownedLines =
+    (bank after : BankState) (m sent : Message) → 0 < length bank.table.sets → Sends bank m sent after →
+    is_grant sent.body ≡ true → IsGranted bank m sent after
 
--- a line is loaded only where the bank doesn't have it: not while it is being stored
+-- a line is loaded only if the bank doesn't have it: not while it is being stored
 abbrev pub LoadsAbsentLines : Type 0
-LoadsAbsentLines = (bank after : BankState) (m sent : Message) → Sends bank m sent after → is_load sent.body ≡ true → entry_of bank m.line ≡ None
+LoadsAbsentLines =
+    (bank after : BankState) (m sent : Message) → Sends bank m sent after →
+    is_load sent.body ≡ true → entry_of bank m.line ≡ None
 
 -- the memory time never falls, and covers the lease of a line that leaves or is stored
 pub record RaisesTime (bank : BankState) (line : ℕ) : Type 0 where
   pub before : bank.mts ≤ (evict bank line).1.mts
-  pub leased : (dirty : Bool) (timed : TimedLine) → entry_of bank line ≡ Some (Shared dirty timed) → timed.rts ≤ (evict bank line).1.mts
+  pub leased :
+      (dirty : Bool) (timed : TimedLine) → entry_of bank line ≡ Some (Shared dirty timed) →
+      timed.rts ≤ (evict bank line).1.mts
 
 abbrev pub EvictionsRaiseTime : Type 0
 EvictionsRaiseTime = (bank : BankState) (line : ℕ) → RaisesTime bank line
 
 -- a line that comes from DRAM has its words, and both its times are the memory time
 abbrev pub FillsAtMemoryTime : Type 0
-FillsAtMemoryTime = (bank after : BankState) (m : Message) (words : List ℕ) (reaction : Reaction) → 0 < length bank.table.sets → entry_of bank m.line ≡ Some Loading → m.body ≡ DramLdRep words → bank_table bank m ≡ Some (reaction, after) → entry_of after m.line ≡ Some (Shared false (record { wts = bank.mts; rts = bank.mts; words = words }))
+FillsAtMemoryTime =
+    (bank after : BankState) (m : Message) (words : List ℕ) (reaction : Reaction) →
+    0 < length bank.table.sets → entry_of bank m.line ≡ Some Loading → m.body ≡ DramLdRep words →
+    bank_table bank m ≡ Some (reaction, after) →
+    entry_of after m.line ≡ Some (Shared false (record { wts = bank.mts; rts = bank.mts; words = words }))
 
 -- the lease that a reader is told, 0 by any other message
 abbrev pub lease_told : Body → ℕ
@@ -77,12 +87,17 @@ lease_told _ = 0
 
 -- a reader is told a lease that never falls, and covers a whole lease from the last write and from the reader's time;
 -- the line is leased so far then
-pub record IsLeased (bank : BankState) (m sent : Message) (after : BankState) (pts : ℕ) (dirty : Bool) (line : TimedLine) : Type 0 where
-  pub covers : Covers line.wts line.rts pts bank.lease (lease_told sent.body)
-  pub leased : entry_of after m.line ≡ Some (Shared dirty (record line { rts = lease_told sent.body }))
+pub record IsLeased
+    (bank : BankState) (m sent : Message) (after : BankState) (pts : ℕ) (dirty : Bool) (line : TimedLine) : Type 0
+  where
+    pub covers : Covers line.wts line.rts pts bank.lease (lease_told sent.body)
+    pub leased : entry_of after m.line ≡ Some (Shared dirty (record line { rts = lease_told sent.body }))
 
 abbrev pub ReadersAreLeased : Type 0
-ReadersAreLeased = (bank after : BankState) (m sent : Message) (pts : ℕ) (version : Option ℕ) (dirty : Bool) (line : TimedLine) → 0 < length bank.table.sets → entry_of bank m.line ≡ Some (Shared dirty line) → m.body ≡ ShReq pts version → Sends bank m sent after → IsLeased bank m sent after pts dirty line
+ReadersAreLeased =
+    (bank after : BankState) (m sent : Message) (pts : ℕ) (version : Option ℕ) (dirty : Bool) (line : TimedLine) →
+    0 < length bank.table.sets → entry_of bank m.line ≡ Some (Shared dirty line) → m.body ≡ ShReq pts version →
+    Sends bank m sent after → IsLeased bank m sent after pts dirty line
 
 -- the version that a request names, if it is a request
 abbrev pub version_in : Body → Option (Option ℕ)
@@ -96,7 +111,10 @@ carries_line (ShRep line) = true
 carries_line (ExRep line) = true
 carries_line _ = false
 
--- a request of a line that no core owns is answered without words exactly where it names the line's version; so one
+-- a request of a line that no core owns is answered without words exactly when it names the line's version; so one
 -- that names none is always sent them
 abbrev pub WordsGoToOtherVersions : Type 0
-WordsGoToOtherVersions = (bank after : BankState) (m sent : Message) (version : Option ℕ) (dirty : Bool) (line : TimedLine) → entry_of bank m.line ≡ Some (Shared dirty line) → version_in m.body ≡ Some version → Sends bank m sent after → carries_line sent.body ≡ not (is_version line.wts version)
+WordsGoToOtherVersions =
+    (bank after : BankState) (m sent : Message) (version : Option ℕ) (dirty : Bool) (line : TimedLine) →
+    entry_of bank m.line ≡ Some (Shared dirty line) → version_in m.body ≡ Some version → Sends bank m sent after →
+    carries_line sent.body ≡ not (is_version line.wts version)

@@ -36,7 +36,7 @@ pub record BankState : Type 0 where
 abbrev pub set_of : BankState → ℕ → ℕ
 set_of bank line = (line / bank.banks) % length bank.table.sets
 
--- the entry of a line, none where it is absent
+-- the entry of a line, none if it is absent
 abbrev pub entry_of : BankState → ℕ → Option Entry
 entry_of bank line = look bank.table.sets (set_of bank line) line
 
@@ -64,7 +64,7 @@ from_bank bank line to body = record { from = Bank bank.number; to = to; line = 
 abbrev pub to_dram : BankState → ℕ → Body → Message
 to_dram bank line body = from_bank bank line (Dram bank.number) body
 
--- the core that a node is, 0 where it is none
+-- the core that a node is, 0 if it is none
 abbrev pub core_of : Node → ℕ
 core_of (Core c) = c
 core_of _ = 0
@@ -73,8 +73,10 @@ core_of _ = 0
 abbrev pub after_decision : BankState → Message → Decision → Option (Reaction × BankState)
 after_decision bank m Waits = Some (Held, bank)
 after_decision bank m Loads = Some (HeldAfter (to_dram bank m.line DramLd), with_used bank m.line Loading)
-after_decision bank m (Recalls owner sent) = Some (HeldAfter (from_bank bank m.line (Core owner) sent), with_changed bank m.line (Recalling owner))
-after_decision bank m (Grants entry sent) = Some (Done (Some (from_bank bank m.line m.from sent)), with_used bank m.line entry)
+after_decision bank m (Recalls owner sent) =
+    Some (HeldAfter (from_bank bank m.line (Core owner) sent), with_changed bank m.line (Recalling owner))
+after_decision bank m (Grants entry sent) =
+    Some (Done (Some (from_bank bank m.line m.from sent)), with_used bank m.line entry)
 after_decision bank m (Becomes entry) = Some (Done None, with_changed bank m.line entry)
 after_decision bank m Leaves = Some (Done None, without_entry bank m.line)
 after_decision bank m TooLate = None
@@ -82,7 +84,9 @@ after_decision bank m NoCase = Some (Dropped, bank)
 
 -- what the bank decides at a message
 abbrev pub decided : BankState → Message → Decision
-decided bank m = at_bank bank.lease bank.mts (has_room bank.table (set_of bank m.line)) (core_of m.from) (entry_of bank m.line) m.body
+decided bank m =
+    at_bank bank.lease bank.mts (has_room bank.table (set_of bank m.line)) (core_of m.from)
+    (entry_of bank m.line) m.body
 
 -- the bank's table
 abbrev pub bank_table : BankState → Message → Option (Reaction × BankState)
@@ -130,15 +134,25 @@ bank_has_case bank m = is_this_bank bank.number m.to && comes_to_bank m.from (en
 
 -- a bank without entries, set up so
 abbrev pub empty_bank : BankConfig → BankState
-empty_bank config = record { number = config.number; banks = config.banks; lease = config.lease; mts = config.opening_time; table = empty_sets config.sets config.ways }
+empty_bank config = record {
+  number = config.number;
+  banks = config.banks;
+  lease = config.lease;
+  mts = config.opening_time;
+  table = empty_sets config.sets config.ways;
+}
 
 -- what an eviction of a line answers, and the bank afterwards
 abbrev pub after_eviction : BankState → ℕ → Eviction → Result Evict EvictError × BankState
 after_eviction bank line NotThere = (Err NotHere, bank)
 after_eviction bank line IsBusy = (Err Busy, bank)
 after_eviction bank line (Drops rts) = (Ok Clean, record (without_entry bank line) { mts = max bank.mts rts })
-after_eviction bank line (Stores rts words) = (Ok (Stored (to_dram bank line (DramSt words))), record (with_changed bank line Storing) { mts = max bank.mts rts })
-after_eviction bank line (AsksBack owner) = (Ok (Recalled (from_bank bank line (Core owner) FlushReq)), with_changed bank line (Recalling owner))
+after_eviction bank line (Stores rts words) = (
+  Ok (Stored (to_dram bank line (DramSt words))),
+  record (with_changed bank line Storing) { mts = max bank.mts rts },
+)
+after_eviction bank line (AsksBack owner) =
+    (Ok (Recalled (from_bank bank line (Core owner) FlushReq)), with_changed bank line (Recalling owner))
 
 -- an eviction of a line
 abbrev pub evict : BankState → ℕ → Result Evict EvictError × BankState
@@ -173,9 +187,10 @@ or_else (Some line) other = Some line
 abbrev pub chosen : List (ℕ × Entry) → Option ℕ
 chosen entries = or_else (first_of is_shared entries) (first_of is_settled entries)
 
--- the line to evict for a request of a line that waits for room, where nothing is under way in its set
+-- the line to evict for a request of a line that waits for room, if nothing is under way in its set
 abbrev pub make_room : BankState → ℕ → Option ℕ
 make_room bank line =
     let set = set_of bank line in
-    if is_some (entry_of bank line) || has_room bank.table set || not (all_settled (set_at bank.table.sets set)) then None
+    if is_some (entry_of bank line) || has_room bank.table set || not (all_settled (set_at bank.table.sets set))
+    then None
     else chosen (set_at bank.table.sets set)

@@ -11,7 +11,7 @@ use Rattle.llc_bank.specs.declared.decision.Eviction.{Eviction}
 use Rattle.llc_bank.specs.declared.decision.Eviction.TheVariants.{NotThere, IsBusy, Drops, Stores, AsksBack}
 use Rattle.timestamp_manager.specs.Lease.{if_fits, is_version, shared_lease}
 
--- what a reader of a line that is leased so is sent: a renewal where it has the version, the line where it hasn't
+-- what a reader of a line that is leased so is sent: a renewal if it has the version, the line if it hasn't
 abbrev pub read_answer : (renews : Bool) → TimedLine → Body
 read_answer renews line = if renews then RenewRep line.rts else ShRep line
 
@@ -35,7 +35,8 @@ loaded room = if room then Loads else Waits
 abbrev pub shared_request : (lease : ℕ) (room : Bool) (pts : ℕ) → Option ℕ → Option Entry → Decision
 shared_request lease room pts version None = loaded room
 shared_request lease room pts version (Some Loading) = Waits
-shared_request lease room pts version (Some (Shared dirty line)) = leased dirty line (shared_lease line.wts line.rts pts version lease)
+shared_request lease room pts version (Some (Shared dirty line)) =
+    leased dirty line (shared_lease line.wts line.rts pts version lease)
 shared_request lease room pts version (Some (Exclusive owner)) = asked_back owner (if_fits (pts + lease))
 shared_request lease room pts version (Some (Recalling owner)) = Waits
 shared_request lease room pts version (Some Storing) = Waits
@@ -44,7 +45,8 @@ shared_request lease room pts version (Some Storing) = Waits
 abbrev pub exclusive_request : (room : Bool) (core : ℕ) → Option ℕ → Option Entry → Decision
 exclusive_request room core version None = loaded room
 exclusive_request room core version (Some Loading) = Waits
-exclusive_request room core version (Some (Shared dirty line)) = Grants (Exclusive core) (if is_version line.wts version then UpgradeRep line.rts else ExRep line)
+exclusive_request room core version (Some (Shared dirty line)) =
+    Grants (Exclusive core) (if is_version line.wts version then UpgradeRep line.rts else ExRep line)
 exclusive_request room core version (Some (Exclusive owner)) = Recalls owner FlushReq
 exclusive_request room core version (Some (Recalling owner)) = Waits
 exclusive_request room core version (Some Storing) = Waits
@@ -93,10 +95,10 @@ evicted (Some (Exclusive owner)) = AsksBack owner
 evicted (Some (Recalling owner)) = IsBusy
 evicted (Some Storing) = IsBusy
 
--- what a decision writes has a place: an entry that is there is changed, and one that is loaded finds room
-abbrev pub finds_place : (there room : Bool) → Decision → Bool
-finds_place there room Loads = room
-finds_place there room (Recalls owner sent) = there
-finds_place there room (Grants entry sent) = there
-finds_place there room (Becomes entry) = there
-finds_place there room _ = true
+-- what a decision writes has a way: an entry that is there is changed, and one that is loaded finds room
+abbrev pub finds_way : (there room : Bool) → Decision → Bool
+finds_way there room Loads = room
+finds_way there room (Recalls owner sent) = there
+finds_way there room (Grants entry sent) = there
+finds_way there room (Becomes entry) = there
+finds_way there room _ = true

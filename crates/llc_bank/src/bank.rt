@@ -2,8 +2,8 @@
 ghost use Rattle.std.specs.Prelude.{◌≡◌, ◌≢◌, ◌≤◌, ◌<◌, length, IfOk, IfSome, IsOk, IsPermutation, IsSorted, IsSome, IsTrue, is_some, Err, None, OnErr, Some};
 ghost use Rattle.std.specs.Ordering.{nat_cmp};
 ghost use Rattle.std.specs.Option.{option_copied};
-ghost use Rattle.line_sets.specs.SetTable.{all_listed, has_place, has_room};
-ghost use Rattle.llc_bank.specs.OnEntry.{finds_place};
+ghost use Rattle.line_sets.specs.SetTable.{all_listed, has_room, has_way};
+ghost use Rattle.llc_bank.specs.OnEntry.{finds_way};
 ghost use Rattle.llc_bank.specs.Settled.{is_settled};
 ghost use Rattle.llc_bank.specs.BankTable.{core_of};
 
@@ -18,7 +18,7 @@ use std::alloc::{AllocError, Global};
 use std::marker::Model;
 
 /// The entries of a bank by set, and its memory time. A line belongs to the set of its number over the number of banks,
-/// and that over the number of sets; each set stands from the least recently used entry to the most recently used one.
+/// and that over the number of sets. A set lists its entries from the least recently used one to the latest used one.
 /// Contracts see a `BankState`.
 #[derive(Drop)]
 pub struct Bank {
@@ -35,7 +35,13 @@ impl Model for Bank {
 
     ghost Value = { BankState };
 
-    ghost view = { λ bank. record { number = bank.number; banks = bank.banks; lease = bank.lease; mts = bank.mts; table = bank.table } };
+    ghost view = { λ bank. record {
+      number = bank.number;
+      banks = bank.banks;
+      lease = bank.lease;
+      mts = bank.mts;
+      table = bank.table;
+    } };
 
     ghost invariant = { λ bank. IsSound bank.banks bank.table };
 }
@@ -82,7 +88,7 @@ impl Bank {
         (line.0 / self.banks as u64 % self.table.sets() as u64) as usize
     }
 
-    /// What the bank keeps of a line, `None` where it does not have it.
+    /// What the bank keeps of a line, `None` if it does not have it.
     pub fn entry(&self, line: LineNo) -> Option<&Entry>
         ensures value { option_copied result ≡ entry_of self.now line }
         ensures sound { IsSound self.now.banks self.now.table }
@@ -99,7 +105,7 @@ impl Bank {
 
     // Sets the entry of a line that is there, or has room, and makes it the most recently used of its set.
     fn use_entry(&mut self, line: LineNo, entry: Entry)
-        requires { IsTrue (has_place self.old.table (set_of self.old line) line) }
+        requires { IsTrue (has_way self.old.table (set_of self.old line) line) }
         ensures { self.new ≡ with_used self.old line entry }
     {
         let set = self.set_of(line);
@@ -145,7 +151,8 @@ impl Bank {
     // What the bank does at a message.
     fn decided(&self, message: &Message) -> Decision
         ensures decision { result ≡ decided self.now message.now }
-        ensures place { IsTrue (finds_place (is_some (entry_of self.now message.now.line)) (has_room self.now.table (set_of self.now message.now.line)) result) }
+        ensures way { IsTrue (finds_way (is_some (entry_of self.now message.now.line)) (has_room
+            self.now.table (set_of self.now message.now.line)) result) }
     {
         decide(
             self.lease,
@@ -159,7 +166,7 @@ impl Bank {
 
     /// Evicts a line. A Shared line raises the memory time to the time up to which it is leased; a clean one is gone
     /// then, and a dirty one is sent to DRAM. The owner of an Exclusive line is asked to give it back, and the line
-    /// stays. NotHere exactly where the bank does not have the line; Busy exactly where it is being loaded, recalled or
+    /// stays. NotHere exactly when the bank does not have the line; Busy exactly when it is being loaded, recalled or
     /// stored.
     pub fn evict(&mut self, line: LineNo) -> Result<Evict, EvictError>
         ensures { (result, self.new) ≡ evict self.old line }
@@ -184,7 +191,7 @@ impl Bank {
         }
     }
 
-    /// The node that `evict` would send a message to, if any, without doing it. NotHere and Busy exactly where `evict`
+    /// The node that `evict` would send a message to, if any, without doing it. NotHere and Busy exactly when `evict`
     /// answers them.
     pub fn evicts(&self, line: LineNo) -> Result<Option<Node>, EvictError>
         ensures { result ≡ evict_sends (evict self.now line).0 }
@@ -198,9 +205,9 @@ impl Bank {
         }
     }
 
-    /// The line to evict for a request of a line that waits for room: `None` where the bank has the line, where its set
-    /// has room, and where a line of the set is being loaded, recalled or stored. Else the least recently used line of
-    /// the set that no core owns, or the least recently used one where cores own them all; its eviction is not refused.
+    /// The line to evict for a request of a line that waits for room: `None` if the bank has the line, if its set
+    /// has room, and if a line of the set is being loaded, recalled or stored. Else the least recently used line of
+    /// the set that no core owns, or the least recently used one if cores own them all; its eviction is not refused.
     pub fn make_room(&self, line: LineNo) -> Option<LineNo>
         ensures line { result ≡ make_room self.now line }
         ensures same_set { IfSome result (λ victim. set_of self.now victim ≡ set_of self.now line) }
@@ -227,26 +234,15 @@ impl Bank {
 
     /// The lines that are Shared or Exclusive, rising.
     pub fn lines(&self) -> Result<Vec<LineNo>, AllocError>
-        ensures lines { IfOk result (λ lines. IsPermutation (all_listed is_settled self.now.table.sets) lines.items) }
+        ensures lines { IfOk result (λ lines. IsPermutation (all_listed is_settled self.now.table.sets)
+            lines.items) }
         ensures rising { IfOk result (λ lines. IsSorted nat_cmp lines.items) }
     {
-        let lines = self.table.lines()?;
-        line_numbers(lines)
+        self.table.lines()
     }
 }
 
-// Numbers as those of lines.
-fn line_numbers(numbers: Vec<u64>) -> Result<Vec<LineNo>, AllocError>
-    ensures { IfOk result (λ lines. lines.items ≡ numbers.items) }
-{
-    let alloc = *numbers.allocator();
-    numbers
-        .into_iter()
-        .map(|number| LineNo(number))
-        .collect(alloc)
-}
-
-// The core that a node is, 0 where it is none.
+// The core that a node is, 0 if it is none.
 fn core_of(node: Node) -> u32
     ensures { result ≡ core_of node }
 {
@@ -279,7 +275,8 @@ impl Part for Bank {
         ensures refused { OnErr result (self.new ≡ self.old) }
         ensures exhausted { result ≡ Err PartError.Exhausted → bank_table self.old message.now ≡ None }
         ensures fits { bank_table self.old message.now ≡ None → result ≡ Err PartError.Exhausted }
-        ensures wanted { result ≡ Err PartError.NoMemory → IsTrue (is_some (sent_by (bank_table self.old message.now))) }
+        ensures wanted { result ≡ Err PartError.NoMemory →
+            IsTrue (is_some (sent_by (bank_table self.old message.now))) }
         ensures memory { result ≢ Err PartError.NoMemory }
     {
         let line = message.line;

@@ -8,7 +8,7 @@ use network::{Message, TimedLine};
 pub enum Entry {
     /// The words are asked of DRAM.
     Loading,
-    /// The bank has the line; `dirty` where a core gave it back since it came from DRAM.
+    /// The bank has the line; `dirty` if a core gave it back since it came from DRAM.
     Shared { dirty: bool, line: TimedLine },
     /// A core owns the line.
     Exclusive { owner: u32 },
@@ -65,4 +65,19 @@ pub enum EvictError {
     NotHere,
     /// 2: the line is being loaded, recalled or stored.
     Busy,
+}
+
+impl EvictError {
+    ghost use Rattle.std.specs.Prelude.{◌≡◌};
+
+    /// The error's number.
+    pub fn number(&self) -> u32
+        ensures not_here { self.now ≡ EvictError.NotHere → result ≡ 1 }
+        ensures busy { self.now ≡ EvictError.Busy → result ≡ 2 }
+    {
+        match self {
+            EvictError::NotHere => 1,
+            EvictError::Busy => 2,
+        }
+    }
 }

@@ -1,12 +1,12 @@
 //! Laws of banks. The functions do nothing: their contracts are the laws.
 ghost use Rattle.llc_bank.specs.BankLaws.{EvictionsRaiseTime, FillsAtMemoryTime, GrantsUnownedLines, LoadsAbsentLines, ReadersAreLeased, WordsGoToOtherVersions};
 
-/// A bank grants a line only where no core owns it, and to the requester, who owns it from then on.
+/// A bank grants a line only if no core owns it, and to the requester, who owns it from then on.
 pub fn grants_unowned_lines()
     ensures { GrantsUnownedLines }
 {}
 
-/// A bank loads a line from DRAM only where it does not have it: never while the line is being stored.
+/// A bank loads a line from DRAM only if it does not have it: never while the line is being stored.
 pub fn loads_absent_lines()
     ensures { LoadsAbsentLines }
 {}
@@ -27,7 +27,7 @@ pub fn readers_are_leased()
     ensures { ReadersAreLeased }
 {}
 
-/// A request of a line that no core owns is answered without words exactly where it names the line's version; one that
+/// A request of a line that no core owns is answered without words exactly when it names the line's version; one that
 /// names none is always sent them.
 pub fn words_go_to_other_versions()
     ensures { WordsGoToOtherVersions }

@@ -9,6 +9,7 @@ use Rattle.llc_bank.specs.declared.config.BankConfig.{BankConfig}
 use Rattle.llc_bank.specs.BankTable.{BankState, empty_bank}
 use Rattle.dram_mts.specs.Lines.{words_of}
 use Rattle.machine_table.specs.declared.config.Config.{Config}
+use Rattle.network.specs.Mail.{no_mail}
 use Rattle.machine_table.specs.Machine.{Machine}
 
 -- the set-up of the core and of the bank of a number
@@ -52,10 +53,8 @@ at_start c opening = record {
   cores = cores_from c 0 c.cores;
   banks = banks_from c 0 c.banks;
   drams = drams_from c (entries opening) 0 c.banks;
-  messages = [];
-  next = 0;
+  mail = no_mail;
   issued = replicate c.cores [];
   records = [];
-  counts = record { renewals = 0; upgrades = 0; flushes = 0; write_backs = 0 };
   is_stopped = false;
 }

@@ -1,4 +1,6 @@
 //! The events of a machine and its answers.
+ghost use Rattle.std.specs.Prelude.{◌≡◌};
+ghost use Rattle.machine_table.specs.RefusalNumbers.{number_of};
 
 use network::{LineNo, MsgNo};
 use physiological_order::{Op, Record};
@@ -10,7 +12,7 @@ pub enum Event {
     Issue(u32, Op),
     /// A core tries to complete its open operation, or sends the request that it needs.
     Attempt(u32),
-    /// A message in flight reaches its end.
+    /// A message in flight is delivered to the part that it goes to.
     Deliver(MsgNo),
     /// A copy of a line leaves a core's cache.
     EvictCache(u32, LineNo),
@@ -20,27 +22,46 @@ pub enum Event {
     Advance(u32),
 }
 
-/// Why an event changed nothing (but `Exhausted`, which stops the machine). `refusal as u8` is the refusal's number.
+/// Why an event changed nothing (but `Exhausted`, which stops the machine).
 #[derive(Clone, Copy, Debug, PartialEq, Eq)]
 pub enum Refusal {
     /// An operation is open; the entry is being loaded, recalled or stored.
-    Busy = 1,
+    Busy,
     /// The core was issued 4,294,967,295 operations.
-    TooMany = 2,
+    TooMany,
     /// There is no such core, bank, message in flight, copy or entry.
-    NoSuch = 3,
+    NoSuch,
     /// A request is needed, there is no copy of the line, and its set is full.
-    NoRoom = 4,
+    NoRoom,
     /// The open operation is on the line.
-    Pinned = 5,
-    /// There is no place for one more message in flight, or message numbers are used up.
-    NetworkFull = 6,
-    /// A growth was refused.
-    NoMemory = 7,
+    Pinned,
+    /// As many messages are in flight as may be, or message numbers are used up.
+    NetworkFull,
+    /// Allocation failed.
+    NoMemory,
     /// A sum of times does not fit 64 bits.
-    Exhausted = 8,
+    Exhausted,
     /// An earlier event was answered `Exhausted`.
-    Stopped = 9,
+    Stopped,
+}
+
+impl Refusal {
+    /// The refusal's number, 1 to 9 in the order above: docs/PROTOCOL.md lists them.
+    pub fn number(self) -> u8
+        ensures { result ≡ number_of self }
+    {
+        match self {
+            Refusal::Busy => 1,
+            Refusal::TooMany => 2,
+            Refusal::NoSuch => 3,
+            Refusal::NoRoom => 4,
+            Refusal::Pinned => 5,
+            Refusal::NetworkFull => 6,
+            Refusal::NoMemory => 7,
+            Refusal::Exhausted => 8,
+            Refusal::Stopped => 9,
+        }
+    }
 }
 
 /// What an event is answered.
@@ -55,7 +76,7 @@ pub enum Answer {
     Waiting,
     /// No operation is open.
     Idle,
-    /// The message is consumed, and answered where its kind is answered.
+    /// The message is consumed, and answered if its kind is answered.
     Delivered,
     /// The message is consumed and had no effect.
     Dropped,
@@ -69,13 +90,4 @@ pub enum Answer {
     Recalled,
     Advanced,
     Refused(Refusal),
-}
-
-/// How many renewals, upgrades, flushes and write-backs were sent.
-#[derive(Clone, Copy, Debug, PartialEq, Eq)]
-pub struct Counts {
-    pub renewals: u128,
-    pub upgrades: u128,
-    pub flushes: u128,
-    pub write_backs: u128,
 }

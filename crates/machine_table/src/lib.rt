@@ -7,4 +7,5 @@ pub mod event;
 pub mod laws;
 
 pub use config::Config;
-pub use event::{Answer, Counts, Event, Refusal};
+pub use event::{Answer, Event, Refusal};
+pub use network::Counts;

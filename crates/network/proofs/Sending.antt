@@ -5,7 +5,7 @@ use Rattle.std.proofs.lemmas.Bool.Decides.{nat_tests}
 use Rattle.std.proofs.lemmas.Option.{slice_get_within}
 use Rattle.network.specs.declared.message.Message.{Message}
 use Rattle.network.specs.Numbered.{IsRising, at_number, without_number, still_there, given}
-use Rattle.network.specs.Routes.{has_ends, AllHaveEnds}
+use Rattle.network.specs.Routes.{has_endpoints, AllHaveEndpoints}
 use Rattle.network.proofs.Rising.{at_number-below, number_at-within, number_at-slice_get}
 
 module _ {X : Type 0} where
@@ -94,23 +94,23 @@ module _ {X : Type 0} where
       elim (test x) as (λ b. IsRising low (cond b (x ∷ filter test xs) (filter test xs)) high) [ true ↦ (rising.0, rest) | false ↦ IsRising-lower (x.0 + 1) low high (filter test xs) rest (omega (arith, rising.0)) ]
 
 -- what is found has the ends of its kind
-pub AllHaveEnds-at_number : (cores banks n : ℕ) (m : Message) (xs : List (ℕ × Message)) → AllHaveEnds cores banks xs → at_number n xs ≡ Some m → IsTrue (has_ends cores banks m)
-AllHaveEnds-at_number cores banks n m [] all some = cc
-AllHaveEnds-at_number cores banks n m (x ∷ xs) all some = elim (nat_eq x.0 n) as (λ b. cond b (Some x.1) (at_number n xs) ≡ Some m → IsTrue (has_ends cores banks m)) [ true ↦ λ here. let is : x.1 ≡ m = cc in subst (λ y. IsTrue (has_ends cores banks y)) is all.0 | false ↦ λ later. AllHaveEnds-at_number cores banks n m xs all.1 later ] some
+pub AllHaveEndpoints-at_number : (cores banks n : ℕ) (m : Message) (xs : List (ℕ × Message)) → AllHaveEndpoints cores banks xs → at_number n xs ≡ Some m → IsTrue (has_endpoints cores banks m)
+AllHaveEndpoints-at_number cores banks n m [] all some = cc
+AllHaveEndpoints-at_number cores banks n m (x ∷ xs) all some = elim (nat_eq x.0 n) as (λ b. cond b (Some x.1) (at_number n xs) ≡ Some m → IsTrue (has_endpoints cores banks m)) [ true ↦ λ here. let is : x.1 ≡ m = cc in subst (λ y. IsTrue (has_endpoints cores banks y)) is all.0 | false ↦ λ later. AllHaveEndpoints-at_number cores banks n m xs all.1 later ] some
 
-pub AllHaveEnds-append : (cores banks n : ℕ) (m : Message) (xs : List (ℕ × Message)) → AllHaveEnds cores banks xs → IsTrue (has_ends cores banks m) → AllHaveEnds cores banks (xs ++ (n, m) ∷ [])
-AllHaveEnds-append cores banks n m [] all here = (here, tt)
-AllHaveEnds-append cores banks n m (x ∷ xs) all here = (all.0, AllHaveEnds-append cores banks n m xs all.1 here)
+pub AllHaveEndpoints-append : (cores banks n : ℕ) (m : Message) (xs : List (ℕ × Message)) → AllHaveEndpoints cores banks xs → IsTrue (has_endpoints cores banks m) → AllHaveEndpoints cores banks (xs ++ (n, m) ∷ [])
+AllHaveEndpoints-append cores banks n m [] all here = (here, tt)
+AllHaveEndpoints-append cores banks n m (x ∷ xs) all here = (all.0, AllHaveEndpoints-append cores banks n m xs all.1 here)
 
-pub AllHaveEnds-without_number : (cores banks n : ℕ) (xs : List (ℕ × Message)) → AllHaveEnds cores banks xs → AllHaveEnds cores banks (without_number n xs)
-AllHaveEnds-without_number cores banks n [] all = tt
-AllHaveEnds-without_number cores banks n (x ∷ xs) all = elim (nat_eq x.0 n) as (λ b. AllHaveEnds cores banks (cond b xs (x ∷ without_number n xs))) [ true ↦ all.1 | false ↦ (all.0, AllHaveEnds-without_number cores banks n xs all.1) ]
+pub AllHaveEndpoints-without_number : (cores banks n : ℕ) (xs : List (ℕ × Message)) → AllHaveEndpoints cores banks xs → AllHaveEndpoints cores banks (without_number n xs)
+AllHaveEndpoints-without_number cores banks n [] all = tt
+AllHaveEndpoints-without_number cores banks n (x ∷ xs) all = elim (nat_eq x.0 n) as (λ b. AllHaveEndpoints cores banks (cond b xs (x ∷ without_number n xs))) [ true ↦ all.1 | false ↦ (all.0, AllHaveEndpoints-without_number cores banks n xs all.1) ]
 
 -- the same of what is found, or not, by a reference
-pub ends_if_found : (cores banks n : ℕ) (r : Option Message) (xs : List (ℕ × Message)) → AllHaveEnds cores banks xs → r ≡ at_number n xs → IfSome r (λ m. IsTrue (has_ends cores banks m))
+pub ends_if_found : (cores banks n : ℕ) (r : Option Message) (xs : List (ℕ × Message)) → AllHaveEndpoints cores banks xs → r ≡ at_number n xs → IfSome r (λ m. IsTrue (has_endpoints cores banks m))
 ends_if_found cores banks n None xs all is = tt
-ends_if_found cores banks n (Some m) xs all is = AllHaveEnds-at_number cores banks n m xs all (sym is)
+ends_if_found cores banks n (Some m) xs all is = AllHaveEndpoints-at_number cores banks n m xs all (sym is)
 
-pub ends_if_seen : (cores banks n : ℕ) (r : Option (Bor Message)) (xs : List (ℕ × Message)) → AllHaveEnds cores banks xs → option_copied r ≡ at_number n xs → IfSome r (λ m. IsTrue (has_ends cores banks m.now))
+pub ends_if_seen : (cores banks n : ℕ) (r : Option (Bor Message)) (xs : List (ℕ × Message)) → AllHaveEndpoints cores banks xs → option_copied r ≡ at_number n xs → IfSome r (λ m. IsTrue (has_endpoints cores banks m.now))
 ends_if_seen cores banks n None xs all is = tt
-ends_if_seen cores banks n (Some m) xs all is = AllHaveEnds-at_number cores banks n m.now xs all (sym is)
+ends_if_seen cores banks n (Some m) xs all is = AllHaveEndpoints-at_number cores banks n m.now xs all (sym is)

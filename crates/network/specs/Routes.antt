@@ -34,10 +34,10 @@ has_route cores banks from to (DramLdRep words) = is_bank_to_dram banks to from
 has_route cores banks from to DramStRep = is_bank_to_dram banks to from
 
 -- whether a message goes between nodes that its kind goes between, where there are so many cores and banks
-abbrev pub has_ends : ℕ → ℕ → Message → Bool
-has_ends cores banks m = has_route cores banks m.from m.to m.body
+abbrev pub has_endpoints : ℕ → ℕ → Message → Bool
+has_endpoints cores banks m = has_route cores banks m.from m.to m.body
 
 -- each of the messages has the ends of its kind
-abbrev pub AllHaveEnds : ℕ → ℕ → List (ℕ × Message) → Type 0
-AllHaveEnds cores banks [] = Unit {0}
-AllHaveEnds cores banks (x ∷ xs) = IsTrue (has_ends cores banks x.1) × AllHaveEnds cores banks xs
+abbrev pub AllHaveEndpoints : ℕ → ℕ → List (ℕ × Message) → Type 0
+AllHaveEndpoints cores banks [] = Unit {0}
+AllHaveEndpoints cores banks (x ∷ xs) = IsTrue (has_endpoints cores banks x.1) × AllHaveEndpoints cores banks xs

@@ -1,10 +1,11 @@
 //! The messages in flight, by number.
 ghost use Rattle.std.specs.Prelude.{◌≡◌, ◌+◌, ◌<◌, ◌≤◌, ◌^◌, ◌++◌, ◌∷◌, [], false, IsTrue, IfOk, IfErr, IfSome, OnOk, OnErr, IsOk, Option, None, Some, option_copied, option_map, length, map};
-ghost use Rattle.network.specs.Numbered.{IsRising, at_number, without_number};
-ghost use Rattle.network.specs.Routes.{has_ends};
-ghost use Rattle.network.specs.Rights.{count_messages, first_message, is_between, is_right_of, is_store_of};
-ghost use Rattle.network.specs.Flight.{has_number, has_place};
+ghost use Rattle.network.specs.Numbered.{IsRising, at_number};
+ghost use Rattle.network.specs.Routes.{has_endpoints};
+ghost use Rattle.network.specs.Search.{count_messages, first_message, is_between, is_ownership_of, is_store_of};
+ghost use Rattle.network.specs.Mail.{has_capacity, has_number, no_mail, sent, taken};
 
+use crate::counts::Counts;
 use crate::message::{Message, Node};
 use crate::numbers::{LineNo, MsgNo};
 use crate::slots::{
@@ -20,12 +21,13 @@ use std::marker::Model;
 pub enum SendError {
     /// 1: as many messages as may be are in flight, or the numbers are used up.
     Full,
-    /// 2: a growth was refused.
+    /// 2: allocation failed.
     NoMemory,
 }
 
 /// The messages in flight, each with the number that it got when it was sent. Contracts see the list of both by rising
-/// number, the number that the next one gets, and how many can be sent before memory is asked for.
+/// number, the number that the next one gets, how many of the counted kinds were sent, and how many messages can be sent
+/// before memory is asked for.
 #[derive(Drop)]
 pub struct InFlight {
     cores: u32,
@@ -34,6 +36,8 @@ pub struct InFlight {
     next: u64,
     // how many slots still have their message
     count: u32,
+    // how many of the counted kinds were sent
+    counts: Counts,
     slots: Vec<Slot>,
 }
 
@@ -44,9 +48,9 @@ impl Model for InFlight {
 
     ghost Value = { Flight };
 
-    ghost view = { λ a. record { cores = a.cores; banks = a.banks; capacity = a.capacity; next = a.next; messages = still_there a.slots.items; room = vec_capacity a.slots - vec_len a.slots } };
+    ghost view = { λ a. record { cores = a.cores; banks = a.banks; capacity = a.capacity; reserved = vec_capacity a.slots - vec_len a.slots; mail = record { messages = still_there a.slots.items; next = a.next; counts = a.counts } } };
 
-    ghost invariant = { λ a. IsKept a.cores a.banks a.capacity a.next a.count a.slots.items };
+    ghost invariant = { λ a. IsKept a.cores a.banks a.capacity a.next a.count a.counts a.slots.items };
 }
 
 impl InFlight {
@@ -58,7 +62,7 @@ impl InFlight {
         requires banks_fit { banks ≤ 8 }
         requires some_capacity { 1 ≤ capacity }
         requires capacity_fits { capacity ≤ 65536 }
-        ensures { result ≡ record { cores = cores; banks = banks; capacity = capacity; next = 0; messages = []; room = result.room } }
+        ensures { result ≡ record { cores = cores; banks = banks; capacity = capacity; reserved = result.reserved; mail = no_mail } }
     {
         InFlight {
             cores,
@@ -66,56 +70,57 @@ impl InFlight {
             capacity,
             next: 0,
             count: 0,
+            counts: Counts::zeros(),
             slots: Vec::new(alloc),
         }
     }
 
     /// Whether the numbers are not used up: the last one, 2^64 - 1, is given to no message.
     pub fn has_number(&self) -> bool
-        ensures { result ≡ has_number self.now }
+        ensures { result ≡ has_number self.now.mail }
     {
         self.next < u64::MAX
     }
 
-    /// Whether there is a place for one more message. Never are more in flight than may be.
-    pub fn has_place(&self) -> bool
-        ensures value { result ≡ has_place self.now }
-        ensures bound { length self.now.messages ≤ self.now.capacity }
+    /// Whether one more message can be sent. Never are more in flight than may be.
+    pub fn has_capacity(&self) -> bool
+        ensures value { result ≡ has_capacity self.now.capacity self.now.mail }
+        ensures bound { length self.now.mail.messages ≤ self.now.capacity }
     {
         self.count < self.capacity && self.next < u64::MAX
     }
 
     /// The message with this number, if it is in flight.
     pub fn look(&self, number: MsgNo) -> Option<&Message>
-        ensures value { option_copied result ≡ at_number number self.now.messages }
-        ensures ends { IfSome result (λ message. IsTrue (has_ends self.now.cores self.now.banks message.now)) }
+        ensures value { option_copied result ≡ at_number number self.now.mail.messages }
+        ensures endpoints { IfSome result (λ message. IsTrue (has_endpoints self.now.cores self.now.banks message.now)) }
     {
         message_of(&self.slots, number.0)
     }
 
     /// Makes room for one more message, so that the next `send` is not refused for memory.
     pub fn reserve(&mut self) -> Result<(), AllocError>
-        ensures after { self.new ≡ record self.old { room = self.new.room } }
-        ensures ok { OnOk result (0 < self.new.room) }
-        ensures room { self.old.room ≤ self.new.room }
+        ensures after { self.new ≡ record self.old { reserved = self.new.reserved } }
+        ensures ok { OnOk result (0 < self.new.reserved) }
+        ensures reserved { self.old.reserved ≤ self.new.reserved }
         ensures refused { OnErr result (self.new ≡ self.old) }
-        ensures had { 0 < self.old.room → IsOk result }
+        ensures had { 0 < self.old.reserved → IsOk result }
     {
         reserve_slot(&mut self.slots)
     }
 
-    /// Sends a message, which has the ends of its kind: it gets the next number. Else the message is given back, and
+    /// Sends a message, which has the endpoints of its kind: it gets the next number. Else the message is given back, and
     /// nothing changes: Full goes before NoMemory.
     pub fn send(&mut self, message: Message) -> Result<MsgNo, (SendError, Message)>
-        requires { IsTrue (has_ends self.old.cores self.old.banks message) }
-        ensures number { IfOk result (λ number. number ≡ self.old.next) }
-        ensures after { OnOk result (self.new ≡ record self.old { next = self.old.next + 1; messages = self.old.messages ++ (self.old.next, message) ∷ []; room = self.new.room }) }
-        ensures room { OnOk result (self.old.room ≤ self.new.room + 1) }
+        requires { IsTrue (has_endpoints self.old.cores self.old.banks message) }
+        ensures number { IfOk result (λ number. number ≡ self.old.mail.next) }
+        ensures after { OnOk result (self.new ≡ record self.old { reserved = self.new.reserved; mail = sent self.old.mail message }) }
+        ensures reserved { OnOk result (self.old.reserved ≤ self.new.reserved + 1) }
         ensures refused { OnErr result (self.new ≡ self.old) }
         ensures returned { IfErr result (λ refusal. refusal.1 ≡ message) }
-        ensures full { has_place self.old ≡ false → result ≡ Err (SendError.Full, message) }
-        ensures not_full { IfErr result (λ refusal. refusal.0 ≡ SendError.Full → has_place self.old ≡ false) }
-        ensures had { 0 < self.old.room → IfErr result (λ refusal. refusal.0 ≡ SendError.Full) }
+        ensures full { has_capacity self.old.capacity self.old.mail ≡ false → result ≡ Err (SendError.Full, message) }
+        ensures not_full { IfErr result (λ refusal. refusal.0 ≡ SendError.Full → has_capacity self.old.capacity self.old.mail ≡ false) }
+        ensures had { 0 < self.old.reserved → IfErr result (λ refusal. refusal.0 ≡ SendError.Full) }
     {
         if self.count >= self.capacity {
             return Err((SendError::Full, message));
@@ -127,18 +132,20 @@ impl InFlight {
             return Err((SendError::NoMemory, message));
         }
         let number = self.next;
+        let counts = self.counts.with(&message.body);
         self.slots.push_reserved((number, Some(message)));
         self.next = number + 1;
         self.count += 1;
+        self.counts = counts;
         Ok(MsgNo(number))
     }
 
-    /// Takes the message with this number, if it is in flight. This takes no memory, and keeps the room.
+    /// Takes the message with this number, if it is in flight. This takes no memory, and keeps what is reserved.
     pub fn take(&mut self, number: MsgNo) -> Option<Message>
-        ensures value { result ≡ at_number number self.old.messages }
-        ensures after { self.new ≡ record self.old { messages = without_number number self.old.messages; room = self.new.room } }
-        ensures room { self.old.room ≤ self.new.room }
-        ensures ends { IfSome result (λ message. IsTrue (has_ends self.old.cores self.old.banks message)) }
+        ensures value { result ≡ at_number number self.old.mail.messages }
+        ensures after { self.new ≡ record self.old { reserved = self.new.reserved; mail = taken self.old.mail number } }
+        ensures reserved { self.old.reserved ≤ self.new.reserved }
+        ensures endpoints { IfSome result (λ message. IsTrue (has_endpoints self.old.cores self.old.banks message)) }
     {
         let message = take_message(&mut self.slots, number.0)?;
         self.count -= 1;
@@ -146,9 +153,16 @@ impl InFlight {
         Some(message)
     }
 
+    /// How many of the counted kinds were sent.
+    pub fn counts(&self) -> Counts
+        ensures { result ≡ self.now.mail.counts }
+    {
+        self.counts
+    }
+
     /// The number of the first message, in the order of sending, from the one node to the other.
     pub fn oldest(&self, from: Node, to: Node) -> Option<MsgNo>
-        ensures { result ≡ option_map (λ x. x.0) (first_message (is_between from to) self.now.messages) }
+        ensures { result ≡ option_map (λ x. x.0) (first_message (is_between from to) self.now.mail.messages) }
     {
         let (number, _) = first_wanted(&self.slots, &Wanted::Between(from, to))?;
         Some(MsgNo(number))
@@ -156,30 +170,30 @@ impl InFlight {
 
     /// The numbers of the messages in flight, rising.
     pub fn numbers(&self) -> Result<Vec<MsgNo>, AllocError>
-        ensures numbers { IfOk result (λ numbers. numbers.items ≡ map (λ x. x.0) self.now.messages) }
-        ensures rising { IsRising 0 self.now.messages self.now.next }
+        ensures numbers { IfOk result (λ numbers. numbers.items ≡ map (λ x. x.0) self.now.mail.messages) }
+        ensures rising { IsRising 0 self.now.mail.messages self.now.mail.next }
     {
         numbers_of(*self.slots.allocator(), &self.slots)
     }
 
-    /// How many messages carry the line's right.
-    pub fn rights(&self, line: LineNo) -> usize
-        ensures { result ≡ count_messages (is_right_of line) self.now.messages }
+    /// How many messages carry the line's ownership.
+    pub fn owners(&self, line: LineNo) -> usize
+        ensures { result ≡ count_messages (is_ownership_of line) self.now.mail.messages }
     {
-        count_wanted(&self.slots, &Wanted::RightOf(line))
+        count_wanted(&self.slots, &Wanted::OwnershipOf(line))
     }
 
-    /// The first message, in the order of sending, that carries the line's right.
-    pub fn right_of(&self, line: LineNo) -> Option<&Message>
-        ensures { option_copied result ≡ option_map (λ x. x.1) (first_message (is_right_of line) self.now.messages) }
+    /// The first message, in the order of sending, that carries the line's ownership.
+    pub fn ownership_of(&self, line: LineNo) -> Option<&Message>
+        ensures { option_copied result ≡ option_map (λ x. x.1) (first_message (is_ownership_of line) self.now.mail.messages) }
     {
-        let (_, message) = first_wanted(&self.slots, &Wanted::RightOf(line))?;
+        let (_, message) = first_wanted(&self.slots, &Wanted::OwnershipOf(line))?;
         Some(message)
     }
 
     /// The first message, in the order of sending, that stores the line's words in DRAM.
     pub fn store_of(&self, line: LineNo) -> Option<&Message>
-        ensures { option_copied result ≡ option_map (λ x. x.1) (first_message (is_store_of line) self.now.messages) }
+        ensures { option_copied result ≡ option_map (λ x. x.1) (first_message (is_store_of line) self.now.mail.messages) }
     {
         let (_, message) = first_wanted(&self.slots, &Wanted::StoreOf(line))?;
         Some(message)
@@ -217,10 +231,10 @@ mod tests {
         assert_eq!(rt; flight.send(request), Ok(MsgNo(0)));
         assert_eq!(rt; flight.send(grant), Ok(MsgNo(1)));
         assert_eq!(rt; flight.send(store), Ok(MsgNo(2)));
-        assert!(rt; flight.has_number() && !flight.has_place());
+        assert!(rt; flight.has_number() && !flight.has_capacity());
         assert_eq!(rt; flight.send(request), Err((SendError::Full, request)));
-        assert_eq!(rt; flight.rights(LineNo(7)), 1);
-        assert_eq!(rt; flight.right_of(LineNo(7)), Some(&grant));
+        assert_eq!(rt; flight.owners(LineNo(7)), 1);
+        assert_eq!(rt; flight.ownership_of(LineNo(7)), Some(&grant));
         assert_eq!(rt; flight.store_of(LineNo(7)), Some(&store));
         assert_eq!(rt; flight.take(MsgNo(1)), Some(grant));
         assert_eq!(rt; flight.take(MsgNo(1)), None);

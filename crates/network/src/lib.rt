@@ -2,7 +2,8 @@
 //! docs/PROTOCOL.md tells which message says what.
 #![tactic(auto)]
 
-pub mod ends;
+pub mod counts;
+pub mod endpoints;
 pub mod in_flight;
 pub mod message;
 pub mod numbers;
@@ -11,7 +12,8 @@ mod slots;
 mod wanted;
 pub mod words;
 
-pub use ends::has_ends;
+pub use counts::Counts;
+pub use endpoints::has_endpoints;
 pub use in_flight::{InFlight, SendError};
 pub use message::{Body, Message, Node, TimedLine};
 pub use numbers::{LineNo, MsgNo};

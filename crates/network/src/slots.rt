@@ -1,7 +1,7 @@
 //! Slots of numbered messages in the order of sending, some of which are empty.
 ghost use Rattle.std.specs.Prelude.{◌≡◌, ◌-◌, ◌<◌, ◌≤◌, ◌^◌, ℕ, None, Some, IfSome, IfNone, IfOk, OnOk, OnErr, IsOk, option_copied, option_map, length, map, slice_get, vec_capacity, vec_len};
 ghost use Rattle.network.specs.Asked.{is_wanted};
-ghost use Rattle.network.specs.Rights.{first_message, count_messages, kept_if, with_message};
+ghost use Rattle.network.specs.Search.{first_message, count_messages, kept_if, with_message};
 ghost use Rattle.network.specs.Numbered.{IsRising, at_number, number_at, still_there, without_number};
 
 use crate::message::Message;

@@ -1,6 +1,6 @@
 //! The messages that are looked for among those in flight.
 ghost use Rattle.std.specs.Prelude.{◌≡◌};
-ghost use Rattle.network.specs.Rights.{is_between, is_right_of, is_same_node, is_store_of, carries_right};
+ghost use Rattle.network.specs.Search.{is_between, is_ownership_of, is_same_node, is_store_of, carries_ownership};
 ghost use Rattle.network.specs.Asked.{is_wanted};
 
 use crate::message::{Body, Message, Node};
@@ -12,7 +12,7 @@ pub(crate) enum Wanted {
     /// A message from the one node to the other.
     Between(Node, Node),
     /// A message that carries the line's right.
-    RightOf(LineNo),
+    OwnershipOf(LineNo),
     /// A store of the line's words in DRAM.
     StoreOf(LineNo),
 }
@@ -33,8 +33,8 @@ impl Node {
 
 impl Body {
     /// Whether a message that says this carries its line's right: a grant of the line, or a return of it.
-    pub fn carries_right(&self) -> bool
-        ensures { result ≡ carries_right self.now }
+    pub fn carries_ownership(&self) -> bool
+        ensures { result ≡ carries_ownership self.now }
     {
         match self {
             Body::ExRep(_) | Body::UpgradeRep { .. } | Body::FlushRep(_) | Body::WbRep(_) => true,
@@ -50,7 +50,8 @@ impl Wanted {
     {
         match *self {
             Wanted::Between(from, to) => message.from.is_same(from) && message.to.is_same(to),
-            Wanted::RightOf(line) => message.line.0 == line.0 && message.body.carries_right(),
+            Wanted::OwnershipOf(line) => message.line.0 == line.0
+                && message.body.carries_ownership(),
             Wanted::StoreOf(line) => message.line.0 == line.0
                 && matches!(message.body, Body::DramSt(_)),
         }

@@ -1,8 +1,13 @@
 pub mod Arranged
+pub mod Checked
+pub mod Deals
 pub mod History
 pub mod Kept
 pub mod Latest
+pub mod Looked
+pub mod Merges
 pub mod Numbered
+pub mod Picked
 pub mod Replayed
 pub mod Rising
 pub mod Sorted

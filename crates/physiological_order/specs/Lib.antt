@@ -1,8 +1,10 @@
 pub mod Completion
+pub mod Counting
 pub mod Example
 pub mod Faults
 pub mod LatestWrites
 pub mod Order
+pub mod Picking
 pub mod StaleHits
 pub mod Walking
 pub mod Words

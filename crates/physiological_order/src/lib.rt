@@ -4,22 +4,26 @@
 
 pub mod arranging;
 pub mod checking;
+mod dealing;
 pub mod laws;
 pub mod memory;
-pub mod numbering;
+mod merging;
+mod numbering;
 pub mod operation;
 pub mod replaying;
 pub mod stale;
+pub mod steps;
 pub mod verdict;
-pub mod walk;
+mod walk;
 pub mod word_addr;
 
 pub use arranging::arrange;
-pub use checking::check;
+pub use checking::{check, check_counted};
 pub use memory::Memory;
 pub use operation::{Op, Record};
 pub use replaying::replay;
-pub use stale::{rises_by_number, stale_hits};
+pub use stale::{rises_by_number, stale_hits, stale_hits_counted};
+pub use steps::Steps;
 pub use verdict::Verdict;
 pub use word_addr::WordAddr;
 

@@ -1,7 +1,7 @@
 //! A flat memory of words.
-ghost use Rattle.std.specs.Prelude.{◌≡◌, OnErr, OnOk, IfOk};
+ghost use Rattle.std.specs.Prelude.{◌≡◌, ℕ, OnErr, OnOk, IfOk, IsOk, IsSome};
 ghost use Rattle.std.specs.FinMap as finite;
-ghost use Rattle.physiological_order.specs.Order.{flat, flat_received};
+ghost use Rattle.physiological_order.specs.Order.{address, flat, flat_received};
 ghost use Rattle.physiological_order.specs.Words.{words_after};
 
 use crate::operation::Op;
@@ -50,20 +50,24 @@ impl Memory {
         self.words.get(addr.word()).unwrap_or(0)
     }
 
-    /// Sets the word.
+    /// Sets the word; one that was set before takes no memory.
     pub fn set(&mut self, addr: WordAddr, value: u64) -> Result<(), AllocError>
         ensures set { OnOk result (self.new ≡ finite.insert self.old addr value) }
         ensures refused { OnErr result (self.new ≡ self.old) }
+        ensures known { IsSome (finite.get self.old addr) → IsOk result }
     {
         self.words.insert(addr.word(), value)?;
         Ok(())
     }
 
-    /// Does the operation, and gives what it receives: the word's value before it, or `None` for a store.
+    /// Does the operation, and gives what it receives: the word's value before it, or `None` for a store. A load takes
+    /// no memory, nor does a store or a swap of a word that was set before.
     pub fn perform(&mut self, op: Op) -> Result<Option<u64>, AllocError>
         ensures received { IfOk result (λ received. received ≡ flat_received (flat self.old) op) }
         ensures performed { OnOk result (self.new ≡ words_after self.old op) }
         ensures refused { OnErr result (self.new ≡ self.old) }
+        ensures load { (a : ℕ) → op ≡ Op.Load a → IsOk result }
+        ensures known { IsSome (finite.get self.old (address op)) → IsOk result }
     {
         match op {
             Op::Load(addr) => Ok(Some(self.get(addr))),

@@ -1,4 +1,6 @@
 //! Operations on memory words, and the records that completed ones leave.
+ghost use Rattle.std.specs.Prelude.{◌≡◌, ◌<◌, ◌^◌};
+ghost use Rattle.physiological_order.specs.Order.{address};
 
 use crate::word_addr::WordAddr;
 
@@ -11,6 +13,25 @@ pub enum Op {
     Store(WordAddr, u64),
     /// Receives the word's value and sets the word to the given one, in one step.
     Swap(WordAddr, u64),
+}
+
+impl Op {
+    /// The address of the operation's word.
+    pub fn addr(self) -> WordAddr
+        ensures { result ≡ address self }
+    {
+        match self {
+            Op::Load(addr) | Op::Store(addr, _) | Op::Swap(addr, _) => addr,
+        }
+    }
+
+    /// The number of the operation's word, counted from address 0.
+    pub fn word(self) -> u64
+        ensures number { result ≡ address self }
+        ensures bound { address self < 2 ^ 61 }
+    {
+        self.addr().word()
+    }
 }
 
 /// What a completed operation leaves.

@@ -14,7 +14,8 @@ pub fn replay(
     opening: &Memory,
     operations: &[Op],
 ) -> Result<(Vec<Option<u64>>, Memory), AllocError>
-    ensures received { IfOk result (λ replayed. replayed.0.items ≡ order.replay (order.flat opening.now) operations.now) }
+    ensures received { IfOk result (λ replayed.
+        replayed.0.items ≡ order.replay (order.flat opening.now) operations.now) }
     ensures left { IfOk result (λ replayed. (word : ℕ) →
         order.flat replayed.1 word ≡ order.replay_end (order.flat opening.now) operations.now word) }
     ensures words { IfOk result (λ replayed. replayed.1 ≡ words_end opening.now operations.now) }

@@ -1,10 +1,11 @@
 //! Loads that received a value older than the newest one completed.
-ghost use Rattle.std.specs.Prelude.{◌≡◌, ◌↔◌, IsTrue, OnOk, IfOk};
-ghost use Rattle.std.specs.FinMap as finite;
+ghost use Rattle.std.specs.Prelude.{◌≡◌, ◌↔◌, ◌+◌, ◌*◌, ◌≤◌, length, IsTrue, OnOk, IfOk};
+ghost use Rattle.physiological_order.specs.Counting.{after_steps, looks, looks_of};
 ghost use Rattle.physiological_order.specs.StaleHits.{RisesByNumber, stale_count};
 ghost use Rattle.physiological_order.specs.LatestWrites.{later_than, raised, stale_by, latest_after};
 
 use crate::operation::{Op, Record};
+use crate::steps::Steps;
 use number_map::NumberMap;
 use std::alloc::{AllocError, Global};
 
@@ -21,10 +22,25 @@ pub fn stale_hits(alloc: Global, records: &[Record]) -> Result<u64, AllocError>
     requires { RisesByNumber records.now }
     ensures { IfOk result (λ count. count ≡ stale_count records.now) }
 {
+    stale_hits_counted(alloc, &mut Steps::new(), records)
+}
+
+/// What `stale_hits` answers, with its looks into the map of the greatest store times counted: one for each load, and
+/// two for each store or swap, so at most 2 * n for n records.
+pub fn stale_hits_counted(
+    alloc: Global,
+    steps: &mut Steps,
+    records: &[Record],
+) -> Result<u64, AllocError>
+    requires { RisesByNumber records.now }
+    ensures count { IfOk result (λ count. count ≡ stale_count records.now) }
+    ensures looks { OnOk result (steps.new ≡ after_steps steps.old (looks records.now)) }
+    ensures bound { steps.new ≤ steps.old + 2 * length records.now }
+{
     let mut latest = NumberMap::new(alloc);
     let mut count = 0;
     for record in records {
-        if visit(&mut latest, record)? {
+        if visit(steps, &mut latest, record)? {
             count += 1;
         }
     }
@@ -32,18 +48,23 @@ pub fn stale_hits(alloc: Global, records: &[Record]) -> Result<u64, AllocError>
 }
 
 /// Whether the record is a load with a later write of its word before it; a write is kept as the latest of its word.
-fn visit(latest: &mut NumberMap<u64>, visited: &Record) -> Result<bool, AllocError>
-    ensures stale { IfOk result (λ stale. stale ≡ stale_by latest.old visited.now.op visited.now.ts) }
-    ensures kept { OnOk result (latest.new ≡ latest_after latest.old visited.now.op visited.now.ts) }
+fn visit(
+    steps: &mut Steps,
+    latest: &mut NumberMap<u64>,
+    visited: &Record,
+) -> Result<bool, AllocError>
+    ensures stale { IfOk result (λ stale.
+        stale ≡ stale_by latest.old visited.now.op visited.now.ts) }
+    ensures kept { OnOk result
+        (latest.new ≡ latest_after latest.old visited.now.op visited.now.ts) }
+    ensures counted { steps.new ≡ after_steps steps.old (looks_of visited.now.op) }
 {
+    let word = visited.op.word();
+    let before = steps.look(latest, word);
     match visited.op {
-        Op::Load(addr) => Ok(is_later(latest.get(addr.word()), visited.ts)),
-        Op::Store(addr, _) => {
-            raise(latest, addr.word(), visited.ts)?;
-            Ok(false)
-        }
-        Op::Swap(addr, _) => {
-            raise(latest, addr.word(), visited.ts)?;
+        Op::Load(_) => Ok(is_later(before, visited.ts)),
+        Op::Store(_, _) | Op::Swap(_, _) => {
+            steps.write(latest, word, raised_to(before, visited.ts))?;
             Ok(false)
         }
     }
@@ -59,13 +80,12 @@ fn is_later(latest: Option<u64>, ts: u64) -> bool
     }
 }
 
-/// Raises the latest time of a write to the word.
-fn raise(latest: &mut NumberMap<u64>, word: u64, ts: u64) -> Result<(), AllocError>
-    ensures ok { OnOk result (latest.new ≡ finite.insert latest.old word (raised (finite.get latest.old word) ts)) }
+/// The later of a time, if there is one, and another.
+fn raised_to(latest: Option<u64>, ts: u64) -> u64
+    ensures { result ≡ raised latest ts }
 {
-    let time = match latest.get(word) {
+    match latest {
         None => ts,
         Some(time) => time.max(ts),
-    };
-    latest.insert(word, time)
+    }
 }

@@ -1,6 +1,7 @@
 //! Each call on histories that are worked out by hand.
 use crate::{
-    Memory, Op, Record, Verdict, WordAddr, arrange, check, replay, rises_by_number, stale_hits,
+    Memory, Op, Record, Steps, Verdict, WordAddr, arrange, check, check_counted, replay,
+    rises_by_number, stale_hits, stale_hits_counted,
 };
 use std::alloc::{AllocError, Global};
 use std::process::Abort;
@@ -222,6 +223,15 @@ fn a_stale_hit_is_legal_and_counted(rt: HostRuntime) -> Result<(), Fail> {
     same(&rt, verdict(rt.alloc(), &issued, &records)?, Verdict::Legal);
     assert!(rt; rises_by_number(&records));
     assert_eq!(rt; stale_hits(rt.alloc(), &records)?, 1);
+    // Two are compared with the one before on their core; the lanes of cores 1 and 0 are merged by two comparisons, and
+    // that of core 2 with them by three. Three loads look once each, a store and a swap look and write.
+    let mut steps = Steps::new();
+    let opening = Memory::new(rt.alloc());
+    let counted = check_counted(rt.alloc(), &mut steps, &opening, &issued, &records)?;
+    same(&rt, counted, Verdict::Legal);
+    assert_eq!(rt; steps.made(), 7);
+    assert_eq!(rt; stale_hits_counted(rt.alloc(), &mut steps, &records)?, 1);
+    assert_eq!(rt; steps.made(), 14);
     Ok(())
 }
 

@@ -1,7 +1,8 @@
-//! The walk along an arrangement to its first record with a fault.
+//! The walk along arranged records to the first one with a fault.
 ghost use Rattle.std.specs.Prelude.{◌≡◌, ◌↔◌, length, IsTrue, IfOk};
 ghost use Rattle.physiological_order.specs.Order.{flat};
 ghost use Rattle.physiological_order.specs.Faults.{issued_by, WalksTo};
+ghost use Rattle.physiological_order.specs.Picking.{picked, Within};
 ghost use Rattle.physiological_order.specs.Walking.{IsNext};
 
 use crate::memory::Memory;
@@ -9,18 +10,23 @@ use crate::operation::{Op, Record};
 use crate::verdict::Verdict;
 use std::alloc::{AllocError, Global};
 
-/// The verdict on records that stand arranged: the first fault along the list, program order before value.
-pub fn walk(
+/// The verdict on records picked by indexes, which stand arranged: the first fault along the indexes, program order
+/// before value.
+pub(crate) fn walk(
     alloc: Global,
     opening: &Memory,
     issued: &[Vec<Op>],
-    arranged: &[Record],
+    records: &[Record],
+    indexes: &[usize],
 ) -> Result<Verdict, AllocError>
-    ensures { IfOk result (WalksTo (flat opening.now) (issued_by issued.now) arranged.now) }
+    requires { Within records.now indexes.now }
+    ensures { IfOk result
+        (WalksTo (flat opening.now) (issued_by issued.now) (picked records.now indexes.now)) }
 {
     let mut memory = opening.try_clone()?;
     let mut places = vec![in alloc; 0u64; issued.len()]?;
-    for record in arranged {
+    for index in indexes {
+        let record = &records[*index];
         if !is_next(issued, &places, record) {
             return Ok(Verdict::OutOfProgramOrder(record.number));
         }

@@ -13,7 +13,10 @@ use Rattle.private_cache.specs.CopyTable.{set_of, copy_of, place_for, without_co
 use Rattle.private_cache.specs.OwnSets.{InOwnSets, IsSound}
 
 -- a change of one line in its own set
-own : (sets new : List (List (ℕ × LineCopy))) (line : ℕ) → length new ≡ length sets → ((k j : ℕ) → j ≢ line → look new k j ≡ look sets k j) → ((k j : ℕ) → k ≢ line % length sets → look new k j ≡ look sets k j) → InOwnSets sets → InOwnSets new
+own :
+    (sets new : List (List (ℕ × LineCopy))) (line : ℕ) → length new ≡ length sets →
+    ((k j : ℕ) → j ≢ line → look new k j ≡ look sets k j) →
+    ((k j : ℕ) → k ≢ line % length sets → look new k j ≡ look sets k j) → InOwnSets sets → InOwnSets new
 own sets new line len others other_sets h = λ k j there.
     let as_before : look new k j ≡ look sets k j → j % length new ≡ k = λ same. rw len (h k j (sym (ap is_some same) ∙ there)) in
     ⊎_elim
@@ -28,7 +31,9 @@ own sets new line len others other_sets h = λ k j there.
 below : (line n : ℕ) → 0 < n → line % n < n
 below line n h = omega arith
 
-pub sound-put : (cache new : Sets LineCopy) (set line : ℕ) (copy : LineCopy) → IsSound cache → set ≡ set_of cache line → new ≡ record cache { sets = put cache.sets set line copy } → IsSound new
+pub sound-put :
+    (cache new : Sets LineCopy) (set line : ℕ) (copy : LineCopy) → IsSound cache → set ≡ set_of cache line →
+    new ≡ record cache { sets = put cache.sets set line copy } → IsSound new
 sound-put cache new set line copy sound is e =
     let i : line % length cache.sets < length cache.sets = below line (length cache.sets) sound.some_sets in
     let len : length (put cache.sets (set_of cache line) line copy) ≡ length cache.sets = length-put cache.sets (set_of cache line) line copy in
@@ -41,7 +46,9 @@ sound-put cache new set line copy sound is e =
           sound.own_sets;
     })
 
-pub sound-put_within : (cache new : Sets LineCopy) (set line : ℕ) (copy : LineCopy) → IsSound cache → set ≡ set_of cache line → new ≡ record cache { sets = put_within cache.sets set line copy } → IsSound new
+pub sound-put_within :
+    (cache new : Sets LineCopy) (set line : ℕ) (copy : LineCopy) → IsSound cache → set ≡ set_of cache line →
+    new ≡ record cache { sets = put_within cache.sets set line copy } → IsSound new
 sound-put_within cache new set line copy sound is e =
     let i : line % length cache.sets < length cache.sets = below line (length cache.sets) sound.some_sets in
     let len : length (put_within cache.sets (set_of cache line) line copy) ≡ length cache.sets = length-put_within cache.sets (set_of cache line) line copy in
@@ -54,7 +61,9 @@ sound-put_within cache new set line copy sound is e =
           sound.own_sets;
     })
 
-pub sound-drop_line : (cache new : Sets LineCopy) (set line : ℕ) → IsSound cache → set ≡ set_of cache line → new ≡ record cache { sets = drop_line cache.sets set line } → IsSound new
+pub sound-drop_line :
+    (cache new : Sets LineCopy) (set line : ℕ) → IsSound cache → set ≡ set_of cache line →
+    new ≡ record cache { sets = drop_line cache.sets set line } → IsSound new
 sound-drop_line cache new set line sound is e =
     let i : line % length cache.sets < length cache.sets = below line (length cache.sets) sound.some_sets in
     let len : length (drop_line cache.sets (set_of cache line) line) ≡ length cache.sets = length-drop_line cache.sets (set_of cache line) line in
@@ -73,7 +82,8 @@ empty_at zero i = refl
 empty_at (suc n) zero = refl
 empty_at (suc n) (suc i) = empty_at n i
 
-pub sound-empty : (new : Sets LineCopy) (sets ways : ℕ) → 0 < sets → 0 < ways → new ≡ empty_sets sets ways → IsSound new
+pub sound-empty :
+    (new : Sets LineCopy) (sets ways : ℕ) → 0 < sets → 0 < ways → new ≡ empty_sets sets ways → IsSound new
 sound-empty new sets ways s w e =
     rw e (record {
       some_sets = rw (length-replicate {A = List (ℕ × LineCopy)} sets []) s;
@@ -89,13 +99,20 @@ first-there (p ∷ ps) line e =
     ap is_some (cond-true _ (Some p.1) (find ps line) (eq-eqb p.0 line same))
 
 -- a victim has a copy, and without it there is a place for the line
-pub victim-copy : (cache : Sets LineCopy) (line victim : ℕ) → IsSound cache → first_line (set_at cache.sets (set_of cache line)) ≡ Some victim → (set_of cache victim ≡ set_of cache line) × (is_some (copy_of cache victim) ≡ true)
+pub victim-copy :
+    (cache : Sets LineCopy) (line victim : ℕ) → IsSound cache →
+    first_line (set_at cache.sets (set_of cache line)) ≡ Some victim →
+    (set_of cache victim ≡ set_of cache line) × (is_some (copy_of cache victim) ≡ true)
 victim-copy cache line victim sound e =
     let there : is_there (set_at cache.sets (set_of cache line)) victim ≡ true = first-there (set_at cache.sets (set_of cache line)) victim e in
     let same : set_of cache victim ≡ set_of cache line = sound.own_sets (set_of cache line) victim there in
     (same, rw same there)
 
-pub victim-place : (cache : Sets LineCopy) (line victim : ℕ) → IsSound cache → length (set_at cache.sets (set_of cache line)) ≤ cache.ways → first_line (set_at cache.sets (set_of cache line)) ≡ Some victim → IsTrue (place_for (without_copy cache victim) line)
+pub victim-place :
+    (cache : Sets LineCopy) (line victim : ℕ) → IsSound cache →
+    length (set_at cache.sets (set_of cache line)) ≤ cache.ways →
+    first_line (set_at cache.sets (set_of cache line)) ≡ Some victim →
+    IsTrue (place_for (without_copy cache victim) line)
 victim-place cache line victim sound fits e =
     let there : is_there (set_at cache.sets (set_of cache line)) victim ≡ true = first-there (set_at cache.sets (set_of cache line)) victim e in
     let same : set_of cache victim ≡ set_of cache line = sound.own_sets (set_of cache line) victim there in
@@ -110,7 +127,8 @@ victim-place cache line victim sound fits e =
     (rw (len, at) (lt-ltb (length (without (set_at cache.sets (set_of cache line)) victim)) cache.ways less))
 
 -- the first entry of a set
-pub first-line : (ps xs : List (ℕ × LineCopy)) (p : ℕ × LineCopy) → xs ≡ ps → Some p ≡ slice_get xs 0 → first_line ps ≡ Some p.0
+pub first-line :
+    (ps xs : List (ℕ × LineCopy)) (p : ℕ × LineCopy) → xs ≡ ps → Some p ≡ slice_get xs 0 → first_line ps ≡ Some p.0
 first-line [] xs p e h = let z : Some p ≡ None = h ∙ ap (λ (qs : List (ℕ × LineCopy)). slice_get qs 0) e in cc
 first-line (q ∷ ps) xs p e h = let z : Some p ≡ Some q = h ∙ ap (λ (qs : List (ℕ × LineCopy)). slice_get qs 0) e in cc
 
@@ -119,7 +137,10 @@ pub record IsVictim (cache : Sets LineCopy) (line victim : ℕ) : Type 0 where
   pub there : is_some (copy_of cache victim) ≡ true
   pub makes_place : IsTrue (place_for (without_copy cache victim) line)
 
-pub victim-first : (table cache : Sets LineCopy) (line set : ℕ) (xs : List (ℕ × LineCopy)) (p : ℕ × LineCopy) → table ≡ cache → IsSound table → set ≡ set_of cache line → xs ≡ set_at table.sets set → length xs ≤ table.ways → Some p ≡ slice_get xs 0 → IsVictim cache line p.0
+pub victim-first :
+    (table cache : Sets LineCopy) (line set : ℕ) (xs : List (ℕ × LineCopy)) (p : ℕ × LineCopy) → table ≡ cache →
+    IsSound table → set ≡ set_of cache line → xs ≡ set_at table.sets set → length xs ≤ table.ways →
+    Some p ≡ slice_get xs 0 → IsVictim cache line p.0
 victim-first table cache line set xs p view sound number lines within read =
     let sound_cache : IsSound cache = rw (← view) sound in
     let same : xs ≡ set_at cache.sets (set_of cache line) = rw (← number, ← view) lines in

@@ -4,11 +4,11 @@ use Rattle.line_sets.specs.Order.{is_there}
 use Rattle.line_sets.specs.SetTable.{Sets, set_at}
 use Rattle.private_cache.specs.declared.line_copy.LineCopy.{LineCopy}
 
--- a line stands in no other set than that of its number over the number of sets
+-- a line is in no other set than that of its number over the number of sets
 abbrev pub InOwnSets : List (List (ℕ × LineCopy)) → Type 0
 InOwnSets sets = (set line : ℕ) → is_there (set_at sets set) line ≡ true → line % length sets ≡ set
 
--- a cache has a set and a way, and its lines stand in their own sets
+-- a cache has a set and a way, and its lines are in their own sets
 pub record IsSound (cache : Sets LineCopy) : Type 0 where
   pub some_sets : 0 < length cache.sets
   pub some_ways : 0 < cache.ways

@@ -31,6 +31,23 @@ pub enum CacheError {
     Pinned,
 }
 
+impl CacheError {
+    ghost use Rattle.std.specs.Prelude.{◌≡◌};
+
+    /// The error's number.
+    pub fn number(&self) -> u32
+        ensures no_room { self.now ≡ CacheError.NoRoom → result ≡ 1 }
+        ensures not_here { self.now ≡ CacheError.NotHere → result ≡ 2 }
+        ensures pinned { self.now ≡ CacheError.Pinned → result ≡ 3 }
+    {
+        match self {
+            CacheError::NoRoom => 1,
+            CacheError::NotHere => 2,
+            CacheError::Pinned => 3,
+        }
+    }
+}
+
 /// The copies of lines that a core has, by set: a line belongs to the set of its number over the number of sets.
 /// Contracts see the ways and the sets, each from the least recently used copy to the most recently used one.
 #[derive(Drop)]
@@ -87,7 +104,7 @@ impl Cache {
         self.find(line).is_some() || self.table.has_room(self.set_of(line))
     }
 
-    /// Takes in a line that arrives, not written yet and now the most recently used of its set. NoRoom exactly where
+    /// Takes in a line that arrives, not written yet and now the most recently used of its set. NoRoom exactly when
     /// there is no place for it.
     pub fn fill(
         &mut self,
@@ -100,30 +117,22 @@ impl Cache {
         if !self.place(line) {
             return Err(CacheError::NoRoom);
         }
-        let copy = LineCopy {
-            state,
-            wts: timed.wts,
-            rts: timed.rts,
-            words: timed.words,
-            written: false,
-        };
-        let set = self.set_of(line);
-        self.table.insert(set, line.0, copy);
+        self.put(line, LineCopy::arrived(state, timed));
         Ok(())
     }
 
-    /// Leases the copy of a line up to a time. NotHere exactly where there is no copy.
+    /// Leases the copy of a line up to a time. NotHere exactly when there is no copy.
     pub fn renew(&mut self, line: LineNo, rts: u64) -> Result<(), CacheError>
         ensures { (result, self.new) ≡ changed self.old line (renewed rts) (copy_of self.old line) }
     {
         let Some(copy) = self.find(line).copied() else {
             return Err(CacheError::NotHere);
         };
-        self.change(line, LineCopy { rts, ..copy });
+        self.change(line, copy.renewed(rts));
         Ok(())
     }
 
-    /// Makes the copy of a line Exclusive, not written yet, which others may read up to a time. NotHere exactly where
+    /// Makes the copy of a line Exclusive, not written yet, which others may read up to a time. NotHere exactly when
     /// there is no copy.
     pub fn upgrade(&mut self, line: LineNo, rts: u64) -> Result<(), CacheError>
         ensures { (result, self.new) ≡ changed self.old line (upgraded rts) (copy_of self.old line) }
@@ -131,35 +140,32 @@ impl Cache {
         let Some(copy) = self.find(line).copied() else {
             return Err(CacheError::NotHere);
         };
-        let upgraded = LineCopy {
-            state: CopyState::Exclusive,
-            rts,
-            written: false,
-            ..copy
-        };
-        self.change(line, upgraded);
+        self.change(line, copy.upgraded(rts));
         Ok(())
     }
 
-    /// Makes the copy of a line Shared, leased up to a time. NotHere exactly where there is no copy.
+    /// Makes the copy of a line Shared, leased up to a time. NotHere exactly when there is no copy.
     pub fn downgrade(&mut self, line: LineNo, rts: u64) -> Result<(), CacheError>
         ensures { (result, self.new) ≡ changed self.old line (downgraded rts) (copy_of self.old line) }
     {
         let Some(copy) = self.find(line).copied() else {
             return Err(CacheError::NotHere);
         };
-        let downgraded = LineCopy {
-            state: CopyState::Shared,
-            rts,
-            written: false,
-            ..copy
-        };
-        self.change(line, downgraded);
+        self.change(line, copy.downgraded(rts));
         Ok(())
     }
 
-    // Changes the copy of a line that is there, and keeps the order of use.
-    fn change(&mut self, line: LineNo, copy: LineCopy)
+    /// Puts a copy of a line that has a copy, or room for one, and makes it the most recently used of its set.
+    pub fn put(&mut self, line: LineNo, copy: LineCopy)
+        requires { IsTrue (place_for self.old line) }
+        ensures { self.new ≡ with_used self.old line copy }
+    {
+        let set = self.set_of(line);
+        self.table.insert(set, line.0, copy);
+    }
+
+    /// Changes the copy of a line that has one, and keeps the order of use.
+    pub fn change(&mut self, line: LineNo, copy: LineCopy)
         requires { IsSome (copy_of self.old line) }
         ensures { self.new ≡ with_changed self.old line copy }
     {
@@ -168,19 +174,18 @@ impl Cache {
     }
 
     /// Leaves this copy of a line after an operation on it, and makes it the most recently used of its set. NotHere
-    /// exactly where there is no copy.
+    /// exactly when there is no copy.
     pub fn complete(&mut self, line: LineNo, after: LineCopy) -> Result<(), CacheError>
         ensures { (result, self.new) ≡ completed self.old line after (copy_of self.old line) }
     {
         if self.find(line).is_none() {
             return Err(CacheError::NotHere);
         }
-        let set = self.set_of(line);
-        self.table.insert(set, line.0, after);
+        self.put(line, after);
         Ok(())
     }
 
-    /// Takes out the copy of a line and gives it. NotHere exactly where there is no copy; else Pinned exactly where the
+    /// Takes out the copy of a line and gives it. NotHere exactly when there is no copy; else Pinned exactly when the
     /// line is the pinned one.
     pub fn evict(&mut self, line: LineNo, pinned: Option<LineNo>) -> Result<LineCopy, CacheError>
         ensures { (result, self.new) ≡ evicted self.old line pinned (copy_of self.old line) }
@@ -188,7 +193,7 @@ impl Cache {
         let Some(copy) = self.find(line).copied() else {
             return Err(CacheError::NotHere);
         };
-        if is_pinned(pinned, line) {
+        if pinned == Some(line) {
             return Err(CacheError::Pinned);
         }
         let set = self.set_of(line);
@@ -196,7 +201,7 @@ impl Cache {
         Ok(copy)
     }
 
-    /// The copy to evict to make room for a line: the least recently used one of its set, exactly where there is no
+    /// The copy to evict to make room for a line: the least recently used one of its set, exactly when there is no
     /// place for the line.
     pub fn victim(&self, line: LineNo) -> Option<LineNo>
         ensures line { result ≡ victim_for self.now line }
@@ -216,29 +221,7 @@ impl Cache {
         ensures lines { IfOk result (λ lines. IsPermutation (all_listed (λ _. true) self.now.sets) lines.items) }
         ensures rising { IfOk result (λ lines. IsSorted nat_cmp lines.items) }
     {
-        let lines = self.table.lines()?;
-        line_numbers(lines)
-    }
-}
-
-// Numbers as those of lines.
-fn line_numbers(numbers: Vec<u64>) -> Result<Vec<LineNo>, AllocError>
-    ensures { IfOk result (λ lines. lines.items ≡ numbers.items) }
-{
-    let alloc = *numbers.allocator();
-    numbers
-        .into_iter()
-        .map(|number| LineNo(number))
-        .collect(alloc)
-}
-
-// Whether a line is the pinned one.
-fn is_pinned(pinned: Option<LineNo>, line: LineNo) -> bool
-    ensures { result ≡ is_pinned pinned line }
-{
-    match pinned {
-        Some(pinned) => pinned == line,
-        None => false,
+        self.table.lines()
     }
 }
 
@@ -294,6 +277,38 @@ mod tests {
         assert_eq!(rt; cache.complete(X, owned), Ok(()));
         assert_eq!(rt; cache.victim(Z), Some(Y));
         Ok(())
+    }
+
+    // Line X is there already and arrives again.
+    #[test]
+    fn an_arrival_is_a_use(rt: HostRuntime) -> Result<(), std::test::Fail> {
+        let mut cache = full(rt.alloc())?;
+        assert_eq!(rt; cache.fill(X, CopyState::Exclusive, timed(5, 6)), Ok(()));
+        assert_eq!(rt;
+            cache.find(X),
+            Some(&copy(CopyState::Exclusive, 5, 6, false))
+        );
+        assert_eq!(rt; cache.victim(Z), Some(Y));
+        Ok(())
+    }
+
+    // Two sets of one way: lines 3 and 5 share a set, and line 8 is in the other one.
+    #[test]
+    fn lines_go_round_the_sets(rt: HostRuntime) -> Result<(), std::test::Fail> {
+        let mut cache = Cache::new(rt.alloc(), Geometry { sets: 2, ways: 1 })?;
+        assert_eq!(rt; cache.fill(X, CopyState::Shared, timed(1, 11)), Ok(()));
+        assert!(rt; cache.place(Y));
+        assert_eq!(rt; cache.fill(Y, CopyState::Shared, timed(2, 12)), Ok(()));
+        assert_eq!(rt; cache.victim(Z), Some(X));
+        assert_eq!(rt; cache.victim(LineNo(0)), Some(Y));
+        Ok(())
+    }
+
+    #[test]
+    fn numbers_of_errors(rt: HostRuntime) {
+        assert_eq!(rt; CacheError::NoRoom.number(), 1);
+        assert_eq!(rt; CacheError::NotHere.number(), 2);
+        assert_eq!(rt; CacheError::Pinned.number(), 3);
     }
 
     #[test]

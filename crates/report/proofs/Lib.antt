@@ -1,4 +1,3 @@
-pub mod CutOff
 pub mod Rows
 pub mod Sequential
 pub mod Refused

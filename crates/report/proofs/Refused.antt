@@ -1,50 +1,63 @@
 -- A text that is refused is no test.
-use Rattle.std.proofs.Common.{◌≡◌, ◌≢◌, ℕ, List, Option, Some, None, Ok, Err, IfSome, IsErrOf, ap, subst, ◌⊎◌, inl, inr}
+use Rattle.std.proofs.Common.{◌≡◌, ◌≢◌, ℕ, List, [], Option, Some, None, Ok, Err, ap, refl, subst, ◌⊎◌, inl, inr}
 use Rattle.byte_streams.specs.Whole.{ReadsAll}
-use Rattle.litmus_grammar.specs.declared.errors.Kind.{Kind}
-use Rattle.litmus_grammar.specs.declared.errors.Kind.TheVariants.{NoMemory as LackOfMemory, TooLarge, BadByte, BadHeader, BadInitial, DoubleInitial, BadTable, BadInstruction, ValueRange, MixedWidth, AddressAsValue, ValueAsAddress, BadCondition, CutShort}
-use Rattle.litmus_grammar.specs.declared.errors.LitmusError.{LitmusError}
+use Rattle.litmus_lexer.specs.declared.errors.Kind.{Kind}
+use Rattle.litmus_lexer.specs.declared.errors.Kind.TheVariants.{NoMemory as LackOfMemory, TooLarge, BadByte, BadHeader, BadInitial, DoubleInitial, BadTable, BadInstruction, ValueRange, MixedWidth, AddressAsValue, ValueAsAddress, BadCondition, CutShort}
+use Rattle.litmus_lexer.specs.declared.errors.LitmusError.{LitmusError}
 use Rattle.litmus_reader.specs.Faults.{Fault}
 use Rattle.litmus_reader.specs.Grammar.{IsTest}
 use Rattle.litmus_reader.specs.Litmus.{Litmus}
-use Rattle.litmus_reader.specs.ReadingTest.{Told}
+use Rattle.litmus_reader.specs.ReadingTest.{Told, read_at}
 use Rattle.litmus_reader.specs.TestViews.{test_of}
-use Rattle.report.specs.declared.running.RunError.TheVariants.{Litmus as Refused}
-use Rattle.report.specs.Outcomes.{IsNoTest, refusal, refusal_of}
+use Rattle.run_options.specs.declared.options.LitmusOptions.{LitmusOptions}
+use Rattle.run_results.specs.declared.results.RunError.{RunError}
+use Rattle.run_results.specs.declared.results.RunError.TheVariants.{Read, Write, NoMemory, Litmus as Refused, BadConfig}
+use Rattle.report.specs.Answers.{OfBytes}
+use Rattle.report.specs.Devices.{IsReadError}
+use Rattle.report.specs.Litmus.{HasNoReport, IsFault, refusal, refusal_of}
 
-pub same_error : {T E : Type 0} (x y : E) → IsErrOf {T = T} {E = E} (Err x) y → x ≡ y
-same_error x y is = cc
+module _ (options : LitmusOptions) (text : List ℕ) (error : LitmusError) where
+  -- an answer of reading that isn't want of memory
+  or_memory : (P : Type 0) → error.kind ≢ LackOfMemory → (error ≡ record { line = 0; kind = LackOfMemory }) ⊎ P → P
+  or_memory P found (inl none) = absurd (found (ap (λ (e : LitmusError). e.kind) none))
+  or_memory P found (inr is) = is
 
--- only a fault is told, and it is this one
-told_fault : (kind : Kind) (error e : LitmusError) → refusal_of kind error ≡ Refused e → (kind ≢ LackOfMemory) × (error ≡ e)
-told_fault LackOfMemory error e is = absurd cc
-told_fault TooLarge error e is = (λ k. absurd cc, cc)
-told_fault BadByte error e is = (λ k. absurd cc, cc)
-told_fault BadHeader error e is = (λ k. absurd cc, cc)
-told_fault BadInitial error e is = (λ k. absurd cc, cc)
-told_fault DoubleInitial error e is = (λ k. absurd cc, cc)
-told_fault BadTable error e is = (λ k. absurd cc, cc)
-told_fault BadInstruction error e is = (λ k. absurd cc, cc)
-told_fault ValueRange error e is = (λ k. absurd cc, cc)
-told_fault MixedWidth error e is = (λ k. absurd cc, cc)
-told_fault AddressAsValue error e is = (λ k. absurd cc, cc)
-told_fault ValueAsAddress error e is = (λ k. absurd cc, cc)
-told_fault BadCondition error e is = (λ k. absurd cc, cc)
-told_fault CutShort error e is = (λ k. absurd cc, cc)
+  refused_as : (kind : Kind) → (kind ≢ LackOfMemory → IsFault text error) → HasNoReport options text (refusal_of kind error)
+  refused_as LackOfMemory is = tt
+  refused_as TooLarge is = is (λ e. absurd cc)
+  refused_as BadByte is = is (λ e. absurd cc)
+  refused_as BadHeader is = is (λ e. absurd cc)
+  refused_as BadInitial is = is (λ e. absurd cc)
+  refused_as DoubleInitial is = is (λ e. absurd cc)
+  refused_as BadTable is = is (λ e. absurd cc)
+  refused_as BadInstruction is = is (λ e. absurd cc)
+  refused_as ValueRange is = is (λ e. absurd cc)
+  refused_as MixedWidth is = is (λ e. absurd cc)
+  refused_as AddressAsValue is = is (λ e. absurd cc)
+  refused_as ValueAsAddress is = is (λ e. absurd cc)
+  refused_as BadCondition is = is (λ e. absurd cc)
+  refused_as CutShort is = is (λ e. absurd cc)
 
-module _ (text : List ℕ) (error : LitmusError) (found : error.kind ≢ LackOfMemory) where
-  faulty : (error ≡ record { line = 0; kind = LackOfMemory }) ⊎ Fault text error.kind error.line → Fault text error.kind error.line
-  faulty (inl none) = absurd (found (ap (λ (e : LitmusError). e.kind) none))
-  faulty (inr fault) = fault
+  pub refused : (error ≡ record { line = 0; kind = LackOfMemory }) ⊎ Fault text error.kind error.line
+      → ((test : Litmus) → IsTest text test → Told test_of (Err error) (Ok test)) → Told test_of (Err error) (read_at text) → HasNoReport options text (refusal error)
+  refused fault only told = refused_as error.kind (λ found. (
+    or_memory _ found told,
+    (λ test is. let bad : Ok test ≡ Err error = or_memory _ found (only test is) in absurd cc, or_memory _ found fault),
+    found,
+  ))
 
-  not_read : (test : Litmus) → Told test_of (Err error) (Ok test) → ⊥
-  not_read test (inl none) = found (ap (λ (e : LitmusError). e.kind) none)
-  not_read test (inr is) = absurd cc
+some_bytes : (known : Option (List ℕ)) → OfBytes known (λ bytes. Unit {0})
+some_bytes None = ([], tt, tt)
+some_bytes (Some bytes) = (bytes, refl, tt)
 
-pub refused : (known : Option (List ℕ)) (bytes read : List ℕ) (error e : LitmusError) → ReadsAll known bytes → read ≡ bytes → refusal error ≡ Refused e →
-    (error ≡ record { line = 0; kind = LackOfMemory }) ⊎ Fault read error.kind error.line → ((test : Litmus) → IsTest read test → Told test_of (Err error) (Ok test)) → IfSome known (λ b. IsNoTest b e)
-refused None bytes read error e all same is fault only = tt
-refused (Some known) bytes read error e all same is fault only =
-    let told = told_fault error.kind error e is in
-    subst (λ b. IsNoTest b e) all (subst (λ b. IsNoTest b e) same
-    (subst (IsNoTest read) told.1 (λ test t. not_read read error told.0 test (only test t), faulty read error told.0 fault)))
+-- want of memory says nothing of the bytes
+pub unread : (known : Option (List ℕ)) (options : LitmusOptions) (before after : ℕ) (e : RunError) → IsReadError before after e → e ≢ Read → OfBytes known (λ bytes. HasNoReport options bytes e)
+unread known options before after Read is other = absurd (other refl)
+unread known options before after NoMemory is other = some_bytes known
+unread known options before after Write is other = absurd is
+unread known options before after (Refused e) is other = absurd is
+unread known options before after BadConfig is other = absurd is
+
+-- and a fault speaks of those that were read
+pub unreported : (known : Option (List ℕ)) (options : LitmusOptions) (bytes text : List ℕ) (e : RunError) → ReadsAll known bytes → text ≡ bytes → HasNoReport options text e → OfBytes known (λ b. HasNoReport options b e)
+unreported known options bytes text e all same is = (bytes, all, subst (λ b. HasNoReport options b e) same is)

@@ -13,7 +13,7 @@ use Rattle.litmus_reader.specs.Truth.{end_value}
 use Rattle.machine_table.specs.declared.config.Config.{Config}
 use Rattle.machine_table.specs.Machine.{Machine}
 use Rattle.machine_table.specs.Opening.{at_start, cores_from}
-use Rattle.machine_history.specs.Standing.{standing_value}
+use Rattle.machine_theorem.specs.Coherence.{coherent}
 use Rattle.interleaving_core.specs.LookUps.{open_op, open_op_of}
 use Rattle.run_ends.specs.declared.ends.End.{End}
 use Rattle.run_ends.specs.declared.ends.End.TheVariants.{AllDone, Stalled, TurnsUsed, Exhausted, NoMemory}
@@ -30,10 +30,10 @@ thread_from test start zero k below = absurd (omega (arith, below))
 thread_from test start (suc n) zero below = ap (λ i. Some (started test i)) (omega arith)
 thread_from test start (suc n) (suc k) below = thread_from test (start + 1) n k (omega (arith, below)) ∙ ap (λ i. Some (started test i)) (omega arith)
 
-value_from : (m : Machine) (start n k : ℕ) → k < n → slice_get (values_from m start n) k ≡ Some (standing_value m (start + k))
+value_from : (m : Machine) (start n k : ℕ) → k < n → slice_get (values_from m start n) k ≡ Some (coherent m (start + k))
 value_from m start zero k below = absurd (omega (arith, below))
-value_from m start (suc n) zero below = ap (λ i. Some (standing_value m i)) (omega arith)
-value_from m start (suc n) (suc k) below = value_from m (start + 1) n k (omega (arith, below)) ∙ ap (λ i. Some (standing_value m i)) (omega arith)
+value_from m start (suc n) zero below = ap (λ i. Some (coherent m i)) (omega arith)
+value_from m start (suc n) (suc k) below = value_from m (start + 1) n k (omega (arith, below)) ∙ ap (λ i. Some (coherent m i)) (omega arith)
 
 -- no core opens with an operation
 nothing_open : (config : Config) (start n k : ℕ) → open_op_of (slice_get (cores_from config start n) k) ≡ None
@@ -81,10 +81,10 @@ module _ (test : Litmus) (config : Config) (m : Machine) (threads : List Thread)
   }
 
   -- and the words are those that the records leave
-  pub left : (arranged : List Record) → ((word : ℕ) → standing_value m word ≡ replay_end (memory_opened test) (map (λ r. r.op) arranged) word) →
+  pub left : (arranged : List Record) → ((word : ℕ) → coherent m word ≡ replay_end (memory_opened test) (map (λ r. r.op) arranged) word) →
       (l : ℕ) → l < length test.locations → slice_get (values_from m 0 (length test.locations)) l ≡ Some (replay_end (memory_opened test) (map (λ r. r.op) arranged) l)
-  left arranged standing l below =
-      value_from m 0 (length test.locations) l below ∙ ap (λ i. Some (standing_value m i)) (omega arith) ∙ ap Some (standing l)
+  left arranged leaves l below =
+      value_from m 0 (length test.locations) l below ∙ ap (λ i. Some (coherent m i)) (omega arith) ∙ ap Some (leaves l)
 
 -- only a run that is all done has a state
 pub state_of : (test : Litmus) (end : End) (threads : List Thread) (m : Machine) (P : List ℕ → Type 0) →

@@ -1,3 +1,5 @@
 pub mod SetUp
 pub mod Runs
-pub mod Outcomes
+pub mod Answers
+pub mod Devices
+pub mod Litmus

@@ -10,7 +10,7 @@ use Rattle.machine_table.specs.declared.config.Config.{Config}
 use Rattle.machine_table.specs.declared.event.Event.{Event}
 use Rattle.machine_table.specs.Machine.{Machine}
 use Rattle.machine_table.specs.Opening.{at_start}
-use Rattle.machine_history.specs.Standing.{standing_value}
+use Rattle.machine_theorem.specs.Coherence.{coherent}
 use Rattle.run_ends.specs.declared.ends.End.{End}
 use Rattle.run_ends.specs.declared.ends.End.TheVariants.{AllDone}
 use Rattle.run_ends.specs.declared.ends.RunEnd.{RunEnd}
@@ -32,7 +32,7 @@ threads_from test t (suc n) = started test t ∷ threads_from test (t + 1) n
 -- the values of so many words from this one on, where they stand
 abbrev pub values_from : Machine → ℕ → ℕ → List ℕ
 values_from m word zero = []
-values_from m word (suc n) = standing_value m word ∷ values_from m (word + 1) n
+values_from m word (suc n) = coherent m word ∷ values_from m (word + 1) n
 
 -- what the condition's names have at the end, where all threads are done
 abbrev pub state_at : Litmus → End → List Thread → Machine → Option (List ℕ)
@@ -49,4 +49,4 @@ pub record IsRun (test : Litmus) (config : Config) (limit : ℕ) (run : RunEnd) 
   pub state : run.state ≡ state_at test run.end threads machine
   pub completed : run.completed ≡ length machine.records
   pub stale : run.stale ≡ stale_count machine.records
-  pub counts : run.counts ≡ machine.counts
+  pub counts : run.counts ≡ machine.mail.counts

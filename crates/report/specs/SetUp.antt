@@ -1,10 +1,10 @@
 -- The machine that options ask for.
 use Rattle.std.specs.Prelude.{ℕ, nat_le, Bool, ◌&&◌}
-use Rattle.command_line.specs.declared.options.LitmusOptions.{LitmusOptions}
+use Rattle.run_options.specs.declared.options.MachineOptions.{MachineOptions}
 use Rattle.machine_table.specs.declared.config.Config.{Config}
 
 -- a core for each thread
-abbrev pub config_of : LitmusOptions → ℕ → Config
+abbrev pub config_of : MachineOptions → ℕ → Config
 config_of options threads = record {
   cores = threads;
   banks = options.banks;
@@ -20,7 +20,7 @@ config_of options threads = record {
 }
 
 -- no number of the machine's parts is past what any machine has
-abbrev pub fits : LitmusOptions → Bool
+abbrev pub fits : MachineOptions → Bool
 fits options =
     nat_le options.banks 65536 && nat_le options.sets 65536 && nat_le options.ways 65536 && nat_le options.bank_sets 65536
     && nat_le options.bank_ways 65536 && nat_le options.line_words 65536 && nat_le options.messages 65536

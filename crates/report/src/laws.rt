@@ -5,16 +5,19 @@ ghost use Rattle.litmus_parser.specs.declared.syntax.Quantifier.TheVariants.{Exi
 ghost use Rattle.litmus_reader.specs.Grammar.{IsTest};
 ghost use Rattle.litmus_reader.specs.Litmus.{Litmus};
 ghost use Rattle.litmus_reader.specs.Truth.{holds};
-ghost use Rattle.litmus_report.specs.Ends.{ended, held};
-ghost use Rattle.litmus_report.specs.Text.{is_yes};
+ghost use Rattle.report_text.specs.Ends.{ended, held};
+ghost use Rattle.report_text.specs.Text.{is_yes};
 ghost use Rattle.run_ends.specs.declared.ends.End.TheVariants.{AllDone};
 ghost use Rattle.run_ends.specs.declared.ends.RunEnd.{RunEnd};
 ghost use Rattle.sequential_machine.specs.SequentialMachine.{State, Steps, opening, value_at};
-ghost use Rattle.report.specs.Outcomes.{HasOutcome};
+ghost use Rattle.report.specs.Litmus.{HasOutcome};
 
 /// A yes to `exists` shows a state in which steps of the sequential machine leave no thread an instruction, and in which
 /// the condition's expression is true.
 pub fn a_yes_shows_an_outcome()
-    ensures { (text : List ℕ) (test : Litmus) (runs : List RunEnd) → IsTest text test → AllByRecursion (HasOutcome test) runs → is_yes Exists (held test runs) (ended AllDone runs) ≡ true →
-        (last : State) × Steps (opening test) last × ((t : ℕ) → t < test.threads → last.left t ≡ []) × (holds (value_at last) test.tree ≡ true) }
+    ensures { (text : List ℕ) (test : Litmus) (runs : List RunEnd) → IsTest text test →
+        AllByRecursion (HasOutcome test) runs →
+        is_yes Exists (held test runs) (ended AllDone runs) ≡ true →
+        (last : State) × Steps (opening test) last
+        × ((t : ℕ) → t < test.threads → last.left t ≡ []) × (holds (value_at last) test.tree ≡ true) }
 {}

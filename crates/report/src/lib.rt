@@ -1,12 +1,14 @@
 //! Runs a litmus test from its text to the text of its report.
 #![tactic(auto)]
 
+mod devices;
 pub mod laws;
+mod litmus;
 mod one_run;
-mod running;
 mod set_up;
 
-pub use running::{Done, RunError, run_litmus};
-
-#[cfg(test)]
-mod tests;
+pub use litmus::run_litmus;
+pub use report_text::litmus_text;
+pub use run_ends::{End, RunEnd};
+pub use run_options::{LitmusOptions, MachineOptions, RunOptions, Schedule};
+pub use run_results::{Done, RunError, exit_status};

@@ -3,12 +3,12 @@ ghost use Rattle.std.specs.Prelude.{◌≡◌, ◌≤◌, ◌<◌, ℕ, true, le
 ghost use Rattle.litmus_reader.specs.Grammar.{IsTest};
 ghost use Rattle.litmus_reader.specs.TestViews.{test_of};
 ghost use Rattle.machine_table.specs.SetUp.{is_good};
-ghost use Rattle.report.specs.Outcomes.{HasOutcome};
+ghost use Rattle.report.specs.Litmus.{HasOutcome};
 ghost use Rattle.report.specs.Runs.{IsRun, state_at, threads_from, values_from};
 
 use interleaving_core::{Config, System};
 use litmus_reader::{EndState, Test, ThreadState};
-use machine_history::laws::every_history_is_legal;
+use machine_theorem::laws::every_history_is_legal;
 use physiological_order::{WordAddr, stale_hits};
 use run_ends::{End, RunEnd};
 use sequential_machine::laws::performed_histories_are_sequential;
@@ -26,7 +26,8 @@ pub(crate) fn run_once(
     requires good { is_good config ≡ true }
     requires cores { config.cores ≡ (test_of test.now).threads }
     ensures run { IfOk result (IsRun (test_of test.now) config limit) }
-    ensures outcome { IfOk result (λ run. (text : List ℕ) → IsTest text (test_of test.now) → HasOutcome (test_of test.now) run) }
+    ensures outcome { IfOk result (λ run.
+        (text : List ℕ) → IsTest text (test_of test.now) → HasOutcome (test_of test.now) run) }
 {
     every_history_is_legal();
     performed_histories_are_sequential();
@@ -50,7 +51,8 @@ pub(crate) fn run_once(
 
 // The threads as the test opens them.
 fn start_threads<'a>(alloc: Global, test: &'a Test) -> Result<Vec<ThreadState<'a>>, AllocError>
-    ensures { IfOk result (λ threads. threads.items ≡ threads_from (test_of test.now) 0 (test_of test.now).threads) }
+    ensures { IfOk result (λ threads. threads.items ≡
+        threads_from (test_of test.now) 0 (test_of test.now).threads) }
 {
     let mut threads = Vec::new(alloc);
     for thread in 0..test.threads() {
@@ -67,7 +69,8 @@ fn end_state(
     threads: &[ThreadState<'_>],
     system: &System,
 ) -> Result<Option<EndState>, AllocError>
-    ensures { IfOk result (λ state. state ≡ state_at (test_of test.now) end threads.now system.now) }
+    ensures { IfOk result (λ state. state ≡
+        state_at (test_of test.now) end threads.now system.now) }
 {
     match end {
         End::AllDone => {

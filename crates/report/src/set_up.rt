@@ -3,12 +3,13 @@ ghost use Rattle.std.specs.Prelude.{◌≡◌, ◌<◌, ◌^◌, false, true, If
 ghost use Rattle.machine_table.specs.SetUp.{is_good};
 ghost use Rattle.report.specs.SetUp.{config_of, fits};
 
-use command_line::LitmusOptions;
 use interleaving_core::Config;
+use run_options::MachineOptions;
 
 /// The configuration with these numbers, where no value is out of its range.
-pub(crate) fn config_of(options: &LitmusOptions, threads: u32) -> Option<Config>
-    ensures good { IfSome result (λ config. (config ≡ config_of options.now threads) × (is_good config ≡ true)) }
+pub(crate) fn config_of(options: &MachineOptions, threads: u32) -> Option<Config>
+    ensures good { IfSome result (λ config.
+        (config ≡ config_of options.now threads) × (is_good config ≡ true)) }
     ensures bad { result ≡ None → is_good (config_of options.now threads) ≡ false }
 {
     if !fits(options) {
@@ -31,7 +32,7 @@ pub(crate) fn config_of(options: &LitmusOptions, threads: u32) -> Option<Config>
 }
 
 // Whether no number of a machine's parts is past what any machine has.
-fn fits(options: &LitmusOptions) -> bool
+fn fits(options: &MachineOptions) -> bool
     ensures { result ≡ fits options.now }
 {
     options.banks <= 65_536

@@ -1,8 +1,8 @@
 pub mod Tables
-pub mod Stepping
+pub mod ThreadSteps
 pub mod Runs
 pub mod Places
 pub mod Names
 pub mod Outcomes
-pub mod Turns
+pub mod Steps
 pub mod NeverBoth

@@ -10,7 +10,7 @@ use Rattle.litmus_reader.specs.ThreadSteps.{value_in, written, opened}
 use Rattle.sequential_machine.specs.SequentialMachine.{State, cells_of, opening, memory_after, registers_after, after_one, Step, next, Steps, none, more, IsOutcome}
 use Rattle.sequential_machine.specs.Example.{cell, store_buffering}
 use Rattle.sequential_machine.proofs.Tables.{here, elsewhere}
-use Rattle.sequential_machine.proofs.Turns.{unset}
+use Rattle.sequential_machine.proofs.Steps.{unset}
 
 -- how far a thread is
 data Place : Type 0 where

@@ -15,7 +15,7 @@ use Rattle.litmus_reader.specs.Grammar.{IsTest}
 use Rattle.sequential_machine.specs.SequentialMachine.{State, memory_opened, value_at, IsOutcome}
 use Rattle.sequential_machine.specs.Performed.{Performs, ArePerformed}
 use Rattle.sequential_machine.specs.Threads.{StandsAt}
-use Rattle.sequential_machine.proofs.Stepping.{none_left}
+use Rattle.sequential_machine.proofs.ThreadSteps.{none_left}
 use Rattle.sequential_machine.proofs.Runs.{start, whole}
 use Rattle.sequential_machine.proofs.Places.{each_permutation, same_of_core}
 use Rattle.sequential_machine.proofs.Names.{IsThere, names_there}

@@ -10,7 +10,7 @@ use Rattle.sequential_machine.specs.SequentialMachine.{State, cells_of, register
 use Rattle.sequential_machine.specs.Performed.{Performs}
 use Rattle.sequential_machine.proofs.Tables.{everywhere}
 use Rattle.sequential_machine.specs.Threads.{StandsAt}
-use Rattle.sequential_machine.proofs.Stepping.{joined, settles, performs}
+use Rattle.sequential_machine.proofs.ThreadSteps.{joined, settles, performs}
 
 -- steps after which the memory is this one, and the first n threads stand so
 pub record Runs (n : ℕ) (s : State) (m : Memory) (threads : ℕ → Thread) : Type 0 where

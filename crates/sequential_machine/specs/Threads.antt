@@ -10,14 +10,14 @@ abbrev pub Ready : ℕ → List ℕ → List Cell → Type 0
 Ready t registers [] = Unit {0}
 Ready t registers (cell ∷ rest) = (cell.thread ≡ t) × (after_local cell.instruction registers ≡ None)
 
--- a thread of the machine stands where its next memory instruction comes next
+-- a thread of the machine that has come to its next memory instruction
 pub record StandsAt (s : State) (t : ℕ) (q : Thread) : Type 0 where
   pub thread : q.thread ≡ t
   pub registers : s.registers t ≡ q.registers
   pub left : s.left t ≡ cells_of t q.rest
   pub ready : Ready t q.registers q.rest
 
--- steps of one thread that come to this memory, and to where it stands so
+-- steps of one thread that come to this memory and to this thread
 pub record Goes (s : State) (t : ℕ) (m : Memory) (q : Thread) : Type 0 where
   pub end : State
   pub steps : Steps s end

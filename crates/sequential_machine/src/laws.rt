@@ -1,4 +1,4 @@
-//! What legal histories of performed threads are: their proofs are their contracts, and their bodies are empty.
+//! Laws of legal histories of performed threads: each states what is proved, and has no code.
 ghost use Rattle.std.specs.Prelude.{◌≡◌, ◌<◌, ℕ, List, [], ◌∷◌, length, map, None, Some, slice_get};
 ghost use Rattle.physiological_order.specs.declared.operation.Op.{Op};
 ghost use Rattle.physiological_order.specs.declared.operation.Record.{Record};
@@ -12,30 +12,38 @@ ghost use Rattle.sequential_machine.specs.Threads.{Goes, StandsAt};
 ghost use Rattle.sequential_machine.specs.Performed.{ArePerformed};
 ghost use Rattle.sequential_machine.specs.Example.{store_buffering};
 
-/// A thread of a litmus test, taken as a program, is a thread of the machine. From where the test opens it, steps of its own
-/// come to where the program stands. The operation that the program gives next is that of the instruction which it does
-/// next; that step and further ones of its own come to where the program stands when it is told what memory gave. Where
-/// the program gives none, no instruction is left.
+/// A thread of a litmus test, taken as a program, is a thread of the machine. From its initial
+/// state, steps of its own come to the program's state. The operation that the program gives next
+/// is that of the instruction which it does next; that step and further ones of its own come to
+/// the program's state after it is told what memory gave. If the program gives none, no
+/// instruction is left.
 pub fn programs_are_threads()
-    ensures opened { (test : Litmus) (s : State) (t : ℕ) → s.registers t ≡ registers_opened test t → s.left t ≡ cells_of t test.cells →
+    ensures opened { (test : Litmus) (s : State) (t : ℕ)
+        → s.registers t ≡ registers_opened test t → s.left t ≡ cells_of t test.cells →
         Goes s t s.memory (settled t (registers_opened test t) test.cells) }
-    ensures performed { (s : State) (t : ℕ) (program : Thread) (op : Op) → StandsAt s t program → next_of program ≡ Some op →
+    ensures performed { (s : State) (t : ℕ) (program : Thread) (op : Op)
+        → StandsAt s t program → next_of program ≡ Some op →
         Goes s t (flat_after s.memory op) (done_with program (flat_received s.memory op)) }
-    ensures finished { (s : State) (t : ℕ) (program : Thread) → StandsAt s t program → next_of program ≡ None → s.left t ≡ [] }
+    ensures finished { (s : State) (t : ℕ) (program : Thread)
+        → StandsAt s t program → next_of program ≡ None → s.left t ≡ [] }
 {}
 
-/// A legal history of a test in which each thread was performed to its end is a run of the sequential machine: the
-/// values that the test's names have in the end, with the memory that the records leave, one after the other in the
-/// order of their times, are an outcome of it.
+/// A legal history of a test in which each thread was performed to its end is a run of the
+/// sequential machine: the values that the test's names have after it, with the memory after the
+/// records in the order of their times, are an outcome of it.
 pub fn performed_histories_are_sequential()
-    ensures { (text : List ℕ) (test : Litmus) (issued : ℕ → List Op) (records arranged : List Record) (threads : List Thread) (memory : List ℕ) →
-        IsTest text test → Legal (memory_opened test) issued records → Arrangement records arranged → ArePerformed test issued records threads →
-        ((l : ℕ) → l < length test.locations → slice_get memory l ≡ Some (replay_end (memory_opened test) (map (λ r. r.op) arranged) l)) →
+    ensures { (text : List ℕ) (test : Litmus) (issued : ℕ → List Op) (records arranged : List Record)
+        (threads : List Thread) (memory : List ℕ) →
+        IsTest text test → Legal (memory_opened test) issued records →
+        Arrangement records arranged → ArePerformed test issued records threads →
+        ((l : ℕ) → l < length test.locations → slice_get memory l ≡
+        Some (replay_end (memory_opened test) (map (λ r. r.op) arranged) l)) →
         IsOutcome test (map (end_value threads memory) test.seen) }
 {}
 
-/// The machine does run, and by turns: of two threads that each store 1 and then load the other's location, both may
-/// receive the 1, or one of them the 0 that was there, but never both.
+/// The machine does run, its threads in any order: of two threads that each store 1 and then load
+/// the other's location, both may receive the 1, or one of them the 0 that was there, but never
+/// both.
 pub fn store_buffering_runs()
     ensures both { IsOutcome store_buffering (1 ∷ 1 ∷ []) }
     ensures one { IsOutcome store_buffering (0 ∷ 1 ∷ []) }

@@ -18,7 +18,8 @@ is_version wts (Some version) = version == wts
 -- write and of one from the reader's time, whichever is latest. A reader that has the line's version needs no words
 abbrev pub shared_lease : (wts rts pts : ℕ) → Option ℕ → (lease : ℕ) → Option (ℕ × Bool)
 shared_lease wts rts pts version lease =
-    if fits (wts + lease) && fits (pts + lease) then Some (max (max rts (wts + lease)) (pts + lease), is_version wts version)
+    if fits (wts + lease) && fits (pts + lease)
+    then Some (max (max rts (wts + lease)) (pts + lease), is_version wts version)
     else None
 
 -- an owner that gives its line back and keeps a copy to read: the lease goes on to the end of what it was, of a lease

@@ -9,17 +9,35 @@ pub record Covers (wts rts pts lease given : ℕ) : Type 0 where
   pub from_reader : pts + lease ≤ given
 
 abbrev pub SharedLeaseCovers : Type 0
-SharedLeaseCovers = (wts rts pts lease : ℕ) (version : Option ℕ) (given : ℕ × Bool) → shared_lease wts rts pts version lease ≡ Some given → Covers wts rts pts lease given.0
+SharedLeaseCovers =
+    (wts rts pts lease : ℕ) (version : Option ℕ) (given : ℕ × Bool) →
+    shared_lease wts rts pts version lease ≡ Some given → Covers wts rts pts lease given.0
+
+-- it goes no further: not past a time that none of the three passes
+abbrev pub SharedLeaseIsShortest : Type 0
+SharedLeaseIsShortest =
+    (wts rts pts lease : ℕ) (version : Option ℕ) (given : ℕ × Bool) →
+    shared_lease wts rts pts version lease ≡ Some given →
+    (time : ℕ) → rts ≤ time → wts + lease ≤ time → pts + lease ≤ time → given.0 ≤ time
 
 -- a reader without a copy is always sent the words
 abbrev pub AbsentNeverRenews : Type 0
-AbsentNeverRenews = (wts rts pts lease : ℕ) (given : ℕ × Bool) → shared_lease wts rts pts None lease ≡ Some given → given.1 ≡ false
+AbsentNeverRenews =
+    (wts rts pts lease : ℕ) (given : ℕ × Bool) → shared_lease wts rts pts None lease ≡ Some given → given.1 ≡ false
 
--- the lease of a line that is given back never falls, and covers a whole lease from the last write and the time asked for
+-- the lease of a line that is given back never falls, and covers a whole lease from the last write and the time asked
+-- for
 pub record Reaches (wts rts until lease given : ℕ) : Type 0 where
   pub before : rts ≤ given
   pub from_write : wts + lease ≤ given
   pub asked : until ≤ given
 
 abbrev pub ReturnedLeaseReaches : Type 0
-ReturnedLeaseReaches = (wts rts until lease given : ℕ) → returned_lease wts rts until lease ≡ Some given → Reaches wts rts until lease given
+ReturnedLeaseReaches =
+    (wts rts until lease given : ℕ) → returned_lease wts rts until lease ≡ Some given → Reaches wts rts until lease given
+
+-- it goes no further: not past a time that none of the three passes
+abbrev pub ReturnedLeaseIsShortest : Type 0
+ReturnedLeaseIsShortest =
+    (wts rts until lease given : ℕ) → returned_lease wts rts until lease ≡ Some given →
+    (time : ℕ) → rts ≤ time → wts + lease ≤ time → until ≤ time → given ≤ time

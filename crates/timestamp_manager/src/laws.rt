@@ -1,15 +1,17 @@
 //! Laws of leases. The functions do nothing: their contracts are the laws.
-ghost use Rattle.timestamp_manager.specs.LeaseLaws.{AbsentNeverRenews, ReturnedLeaseReaches, SharedLeaseCovers};
+ghost use Rattle.timestamp_manager.specs.LeaseLaws.{AbsentNeverRenews, ReturnedLeaseIsShortest, ReturnedLeaseReaches, SharedLeaseCovers, SharedLeaseIsShortest};
 
-/// A lease never falls, and covers a whole lease from the last write and from the reader's time; a reader without a
-/// copy is never answered by a renewal.
+/// A lease never falls, and covers a whole lease from the last write and from the reader's time; it goes no further. A
+/// reader without a copy is never answered by a renewal.
 pub fn shared_leases_cover()
     ensures covers { SharedLeaseCovers }
+    ensures shortest { SharedLeaseIsShortest }
     ensures absent { AbsentNeverRenews }
 {}
 
 /// The lease of a line that is given back never falls, and covers a whole lease from the last write and the time that
-/// was asked for.
+/// was asked for; it goes no further.
 pub fn returned_leases_reach()
-    ensures { ReturnedLeaseReaches }
+    ensures reaches { ReturnedLeaseReaches }
+    ensures shortest { ReturnedLeaseIsShortest }
 {}

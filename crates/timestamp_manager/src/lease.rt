@@ -11,7 +11,7 @@ pub struct Exhausted;
 /// version, or none. Answers the time to which the line is leased then, the latest of `rts`, `wts + lease` and
 /// `pts + lease`, and whether that alone renews the reader's copy, which has the line's version.
 ///
-/// Exhausted exactly where `wts + lease` or `pts + lease` does not fit.
+/// Exhausted exactly when `wts + lease` or `pts + lease` does not fit.
 pub fn on_shared(
     wts: u64,
     rts: u64,
@@ -40,7 +40,7 @@ pub fn on_exclusive(wts: u64, version: Option<u64>) -> bool
 
 /// The time to which an owner is asked to lease its line when a reader at time `pts` wants it: `pts + lease`.
 ///
-/// Exhausted exactly where the sum does not fit.
+/// Exhausted exactly when the sum does not fit.
 pub fn recall_until(pts: u64, lease: u64) -> Result<u64, Exhausted>
     ensures { result_ok result ≡ if_fits (pts + lease) }
 {
@@ -50,7 +50,7 @@ pub fn recall_until(pts: u64, lease: u64) -> Result<u64, Exhausted>
 /// An owner gives back a line written at `wts` and leased to `rts`, and is asked to lease it at least to `until`: the
 /// time to which its copy may be read from now on, the latest of `rts`, `wts + lease` and `until`.
 ///
-/// Exhausted exactly where `wts + lease` does not fit.
+/// Exhausted exactly when `wts + lease` does not fit.
 pub fn downgrade(wts: u64, rts: u64, until: u64, lease: u64) -> Result<u64, Exhausted>
     ensures { result_ok result ≡ returned_lease wts rts until lease }
 {
@@ -88,6 +88,8 @@ mod tests {
         assert_eq!(rt; recall_until(7, 10), Ok(17));
         assert_eq!(rt; recall_until(u64::MAX, 1), Err(Exhausted));
         assert_eq!(rt; downgrade(3, 5, 30, 10), Ok(30));
+        assert_eq!(rt; downgrade(3, 40, 30, 10), Ok(40));
+        assert_eq!(rt; downgrade(30, 35, 3, 10), Ok(40));
         assert_eq!(rt; downgrade(u64::MAX, u64::MAX, 3, 1), Err(Exhausted));
         shared_leases_cover();
         returned_leases_reach();

@@ -5,12 +5,12 @@ use Rattle.machine_table.specs.declared.event.Answer.{Answer}
 use Rattle.machine_table.specs.declared.event.Answer.TheVariants.{Refused}
 use Rattle.machine_table.specs.declared.event.Refusal.TheVariants.{Exhausted as TimesEnd}
 use Rattle.machine_table.specs.Machine.{Machine}
-use Rattle.machine_table.specs.Transition.{Outcome, transition}
+use Rattle.machine_table.specs.Transition.{transition}
 use Rattle.run_ends.specs.declared.ends.End.{End}
 use Rattle.run_ends.specs.declared.ends.End.TheVariants as end
 use Rattle.worker_driver.specs.declared.plan.Plan.{Plan}
 use Rattle.worker_driver.specs.Acts.{Acts}
-use Rattle.worker_driver.specs.Schedule.{OutOfTimes, Position, Does, move, answered, answered_at, is_exhausted}
+use Rattle.worker_driver.specs.Schedule.{OutOfTimes, Position, Does, choose, answered, answered_at, is_exhausted}
 use Rattle.worker_driver.specs.Follows.{Follows, does, Ended}
 use Rattle.worker_driver.specs.Noting.{Log, IsNoted, Noted, Point, at, position, Leads, Stops}
 
@@ -18,25 +18,25 @@ module _ {P : Type 0} (acts : Acts P) (plan : Plan) (start : Position P) where
   -- the position that an answered event leads to
   lands : (p : Point P) (rounds : ℕ) (event : Event) (answer : Answer) (m : Machine) (log : Log) →
       (answer, m) ≡ transition p.machine event → IsNoted p.log event answer log →
-      Follows acts plan start p.log.events (position p rounds) → move acts plan (position p rounds) ≡ Does event →
+      Follows acts plan start p.log.events (position p rounds) → choose acts plan (position p rounds) ≡ Does event →
       Follows acts plan start log.events (if is_exhausted answer then position (at m p.programs log OutOfTimes) rounds else answered_at acts
       (position (at m p.programs log p.stage) rounds) answer p.stage)
   lands p rounds event answer m log stepped noted before next =
       let done = does before next in
-      let by_answer = subst (λ (o : Outcome). Follows acts plan start (p.log.events ++ event ∷ []) (answered acts (position p rounds) o)) (sym
+      let by_answer = subst (λ (o : Answer × Machine). Follows acts plan start (p.log.events ++ event ∷ []) (answered acts (position p rounds) o)) (sym
       stepped) done in
-      rw (noted.events, noted.has_moved) by_answer
+      rw (noted.events, noted.has_progressed) by_answer
 
   pub did : (p : Point P) (rounds : ℕ) (event : Event) (answer : Answer) (m : Machine) (log : Log) →
       Noted p.machine p.log event (Ok answer) m log →
-      Follows acts plan start p.log.events (position p rounds) → move acts plan (position p rounds) ≡ Does event →
+      Follows acts plan start p.log.events (position p rounds) → choose acts plan (position p rounds) ≡ Does event →
       Follows acts plan start log.events (answered_at acts (position (at m p.programs log p.stage) rounds) answer p.stage)
   did p rounds event answer m log noted before next =
       rw noted.1 at (lands p rounds event answer m log noted.0 noted.2 before next)
 
   pub stopped : (p : Point P) (rounds : ℕ) (event : Event) (e : End) (m : Machine) (log : Log) →
       Noted p.machine p.log event (Err e) m log →
-      Follows acts plan start p.log.events (position p rounds) → move acts plan (position p rounds) ≡ Does event →
+      Follows acts plan start p.log.events (position p rounds) → choose acts plan (position p rounds) ≡ Does event →
       Ended acts plan start log.events m p.programs e
   stopped p rounds event end.Exhausted m log noted before next = record {
     last = position (at m p.programs log OutOfTimes) rounds;

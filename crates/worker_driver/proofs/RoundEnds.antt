@@ -32,12 +32,12 @@ module _ {P : Type 0} (acts : Acts P) (plan : Plan) (start : Position P) (m : Ma
       }
 
   pub begun : Follows acts plan start log.events (position (at m programs log RoundStart) made) → are_over acts m programs plan.cores ≡ false →
-      made < plan.limit → Follows acts plan start log.events (position (at m programs (record log { has_moved = false }) (Issuing 0)) made)
+      made < plan.limit → Follows acts plan start log.events (position (at m programs (record log { has_progressed = false }) (Issuing 0)) made)
   begun before over below =
       let more : (made == plan.limit) ≡ false = ne_eqb made plan.limit (λ same. omega (arith, below, same)) in
       goes before (ap (begin plan (position (at m programs log RoundStart) made)) over ∙ rw more refl)
 
-  pub stalled : Follows acts plan start log.events (position (at m programs log (Delivering [])) made) → log.has_moved ≡ false →
+  pub stalled : Follows acts plan start log.events (position (at m programs log (Delivering [])) made) → log.has_progressed ≡ false →
       Ended acts plan start log.events m programs end.Stalled
   stalled before still = record {
     last = position (at m programs log (Delivering [])) made;
@@ -47,6 +47,6 @@ module _ {P : Type 0} (acts : Acts P) (plan : Plan) (start : Position P) (m : Ma
     ends = inl (rw still refl);
   }
 
-  pub round_over : Follows acts plan start log.events (position (at m programs log (Delivering [])) made) → log.has_moved ≡ true →
+  pub round_over : Follows acts plan start log.events (position (at m programs log (Delivering [])) made) → log.has_progressed ≡ true →
       Follows acts plan start log.events (position (at m programs log RoundStart) (made + 1))
-  round_over before moved = goes before (rw moved refl)
+  round_over before progressed = goes before (rw progressed refl)

@@ -5,14 +5,14 @@ use Rattle.physiological_order.specs.declared.operation.Op.{Op}
 use Rattle.machine_table.specs.declared.event.Event.{Event}
 use Rattle.machine_table.specs.declared.event.Answer.{Answer}
 use Rattle.machine_table.specs.Machine.{Machine}
-use Rattle.machine_table.specs.Transition.{Outcome, transition}
+use Rattle.machine_table.specs.Transition.{transition}
 use Rattle.machine_table.specs.Runs.{after_all}
 use Rattle.interleaving_core.specs.LookUps.{open_op, make_room}
 use Rattle.run_ends.specs.declared.ends.End.{End}
 use Rattle.run_ends.specs.declared.ends.End.TheVariants.{AllDone, Stalled, TurnsUsed, Exhausted, NoMemory}
 use Rattle.worker_driver.specs.declared.plan.Plan.{Plan}
 use Rattle.worker_driver.specs.Acts.{Acts, next_in}
-use Rattle.worker_driver.specs.Schedule.{Stage, RoundStart, Issuing, Attempting, Evicting, AttemptingAgain, Delivering, MakingRoom, OutOfTimes, Position, Move, Does, Goes, Ends, move, move_at, begin, issue, attempt, evict, evict_bank, in_flight, victim_for, answered, answered_at, is_move, is_exhausted, are_over}
+use Rattle.worker_driver.specs.Schedule.{Stage, RoundStart, Issuing, Attempting, Evicting, AttemptingAgain, Delivering, MakingRoom, OutOfTimes, Position, Choice, Does, Goes, Ends, choose, choose_at, begin, issue, attempt, evict, evict_bank, in_flight, victim_for, answered, answered_at, is_progress, is_exhausted, are_over}
 use Rattle.worker_driver.specs.Follows.{Follows, stays, goes, does, Ended}
 use Rattle.worker_driver.proofs.Over.{each_over}
 
@@ -33,14 +33,14 @@ module _ {P : Type 0} (acts : Acts P) (plan : Plan) where
   stage_keeps d answer (MakingRoom n left) = refl
   stage_keeps d answer OutOfTimes = refl
 
-  answered_machine : (d : Position P) (o : Outcome) → (answered acts d o).machine ≡ o.1
+  answered_machine : (d : Position P) (o : Answer × Machine) → (answered acts d o).machine ≡ o.1
   answered_machine d (answer, m) =
-      let e = record d { machine = m; has_moved = d.has_moved || is_move answer } in
+      let e = record d { machine = m; has_progressed = d.has_progressed || is_progress answer } in
       cond_both (is_exhausted answer) (record e { stage = OutOfTimes }) (answered_at acts e answer d.stage) (λ x. x.machine ≡ m) (λ t. refl) (λ
       t. stage_keeps e answer d.stage)
 
   -- a place without an event keeps the machine and the programs
-  Keeps : Position P → Move P → Type 0
+  Keeps : Position P → Choice P → Type 0
   Keeps d (Goes e) = (e.machine ≡ d.machine) × (e.programs ≡ d.programs)
   Keeps d (Does event) = Unit {0}
   Keeps d (Ends e) = Unit {0}
@@ -48,7 +48,7 @@ module _ {P : Type 0} (acts : Acts P) (plan : Plan) where
   begin_keeps : (d : Position P) (over : Bool) → Keeps d (begin plan d over)
   unfolding Keeps
   begin_keeps d true = tt
-  begin_keeps d false = cond_both (d.rounds == plan.limit) (Ends TurnsUsed) (Goes (record d { stage = Issuing 0; has_moved = false })) (Keeps d) (λ t.
+  begin_keeps d false = cond_both (d.rounds == plan.limit) (Ends TurnsUsed) (Goes (record d { stage = Issuing 0; has_progressed = false })) (Keeps d) (λ t.
       tt) (λ t. (refl, refl))
 
   issue_keeps : (d : Position P) (core : ℕ) (o : Option (Op × Bool)) (next : Option Op) → Keeps d (issue d core o next)
@@ -72,7 +72,7 @@ module _ {P : Type 0} (acts : Acts P) (plan : Plan) where
   evict_bank_keeps d left None = (refl, refl)
   evict_bank_keeps d left (Some x) = tt
 
-  move_keeps : (d : Position P) (stage : Stage) → Keeps d (move_at acts plan d stage)
+  move_keeps : (d : Position P) (stage : Stage) → Keeps d (choose_at acts plan d stage)
   unfolding Keeps
   move_keeps d RoundStart = begin_keeps d (are_over acts d.machine d.programs plan.cores)
   move_keeps d (Issuing core) = cond_both (nat_lt core plan.cores)
@@ -81,13 +81,13 @@ module _ {P : Type 0} (acts : Acts P) (plan : Plan) where
   move_keeps d (Attempting core) = attempt_keeps d core (open_op d.machine core)
   move_keeps d (Evicting core) = evict_keeps d core (victim_for plan d.machine core (open_op d.machine core))
   move_keeps d (AttemptingAgain core) = tt
-  move_keeps d (Delivering []) = cond_both d.has_moved (Goes (record d { stage = RoundStart; rounds = d.rounds + 1 })) (Ends Stalled) (Keeps d) (λ t.
+  move_keeps d (Delivering []) = cond_both d.has_progressed (Goes (record d { stage = RoundStart; rounds = d.rounds + 1 })) (Ends Stalled) (Keeps d) (λ t.
       (refl, refl)) (λ t. tt)
   move_keeps d (Delivering (n ∷ left)) = tt
   move_keeps d (MakingRoom n left) = evict_bank_keeps d left (make_room d.machine n)
   move_keeps d OutOfTimes = tt
 
-  pub goes_keeps : (d e : Position P) → move acts plan d ≡ Goes e → (e.machine ≡ d.machine) × (e.programs ≡ d.programs)
+  pub goes_keeps : (d e : Position P) → choose acts plan d ≡ Goes e → (e.machine ≡ d.machine) × (e.programs ≡ d.programs)
   unfolding Keeps
   goes_keeps d e next = subst (Keeps d) next (move_keeps d d.stage)
 
@@ -101,7 +101,7 @@ module _ {P : Type 0} (acts : Acts P) (plan : Plan) where
       ∙ sym (after_more start.machine taken event)
 
   -- whether the end is that all is done
-  says_done : Move P → Bool
+  says_done : Choice P → Bool
   says_done (Ends AllDone) = true
   says_done (Ends Stalled) = false
   says_done (Ends TurnsUsed) = false
@@ -116,7 +116,7 @@ module _ {P : Type 0} (acts : Acts P) (plan : Plan) where
   begin_says d false done = absurd (true≢false (sym done ∙ cond_both (d.rounds == plan.limit) (Ends TurnsUsed) (Goes (record d {
     stage = Issuing
         0;
-    has_moved = false;
+    has_progressed = false;
   })) (λ x. says_done x ≡ false) (λ t. refl) (λ t. refl)))
 
   issue_says : (d : Position P) (core : ℕ) (o : Option (Op × Bool)) (next : Option Op) → says_done (issue d core o next) ≡ false
@@ -143,7 +143,7 @@ module _ {P : Type 0} (acts : Acts P) (plan : Plan) where
   never : {A : Type 0} {b : Bool} → b ≡ true → b ≡ false → A
   never here not_here = absurd (true≢false (sym here ∙ not_here))
 
-  move_says : (d : Position P) (stage : Stage) → says_done (move_at acts plan d stage) ≡ true → are_over acts d.machine d.programs plan.cores ≡ true
+  move_says : (d : Position P) (stage : Stage) → says_done (choose_at acts plan d stage) ≡ true → are_over acts d.machine d.programs plan.cores ≡ true
   unfolding says_done
   move_says d RoundStart done = begin_says d (are_over acts d.machine d.programs plan.cores) done
   move_says d (Issuing core) done = never done (cond_both (nat_lt core plan.cores)
@@ -152,7 +152,7 @@ module _ {P : Type 0} (acts : Acts P) (plan : Plan) where
   move_says d (Attempting core) done = never done (attempt_says d core (open_op d.machine core))
   move_says d (Evicting core) done = never done (evict_says d core (victim_for plan d.machine core (open_op d.machine core)))
   move_says d (AttemptingAgain core) done = absurd (false≢true done)
-  move_says d (Delivering []) done = never done (cond_both d.has_moved (Goes (record d { stage = RoundStart; rounds = d.rounds + 1 })) (Ends
+  move_says d (Delivering []) done = never done (cond_both d.has_progressed (Goes (record d { stage = RoundStart; rounds = d.rounds + 1 })) (Ends
       Stalled) (λ x. says_done x ≡ false) (λ t. refl) (λ t. refl))
   move_says d (Delivering (n ∷ left)) done = absurd (false≢true done)
   move_says d (MakingRoom n left) done = never done (evict_bank_says d left (make_room d.machine n))
@@ -163,7 +163,7 @@ module _ {P : Type 0} (acts : Acts P) (plan : Plan) where
   none_of (Some x) none = absurd (false≢true none)
 
   -- all done means that no core has an open operation and no program a next one
-  pub nothing_left : (d : Position P) → move acts plan d ≡ Ends AllDone → (core : ℕ) → core < plan.cores →
+  pub nothing_left : (d : Position P) → choose acts plan d ≡ Ends AllDone → (core : ℕ) → core < plan.cores →
       (open_op d.machine core ≡ None) × (next_in acts d.programs core ≡ None)
   unfolding says_done
   nothing_left d all core below =

@@ -14,21 +14,18 @@ use Rattle.machine_table.specs.declared.event.Event.TheVariants.{Issue, Attempt,
 use Rattle.machine_table.specs.declared.event.Answer.{Answer}
 use Rattle.machine_table.specs.declared.event.Answer.TheVariants as answer
 use Rattle.machine_table.specs.Machine.{Machine}
-use Rattle.machine_table.specs.Transition.{Outcome, transition}
-use Rattle.line_machine.proofs.Headline.{Opened, reached_ok}
-use Rattle.machine_history.specs.View.{core_seen, set_up, view}
-use Rattle.machine_history.specs.Steps.{Stands}
-use Rattle.machine_history.proofs.Events.{any_events}
-use Rattle.machine_history.proofs.SetUps.{after_all_same}
+use Rattle.machine_table.specs.Transition.{transition}
+use Rattle.protocol.specs.Issued.{IsIssued, listed}
+use Rattle.machine_theorem.proofs.SetUps.{after_all_same}
 use Rattle.interleaving_core.specs.LookUps.{open_op, open_op_of, make_room}
 use Rattle.run_ends.specs.declared.ends.End.{End}
 use Rattle.run_ends.specs.declared.ends.End.TheVariants.{Stalled, TurnsUsed}
 use Rattle.worker_driver.specs.declared.plan.Plan.{Plan}
 use Rattle.worker_driver.specs.Acts.{Acts, next_in}
-use Rattle.worker_driver.specs.Schedule.{Stage, RoundStart, Issuing, Attempting, Evicting, AttemptingAgain, Delivering, MakingRoom, OutOfTimes, Position, Move, Does, Goes, Ends, move, move_at, begin, issue, attempt, evict, evict_bank, in_flight, victim_for, after, answered, answered_at, at_stage, told, is_move, is_exhausted, are_over}
+use Rattle.worker_driver.specs.Schedule.{Stage, RoundStart, Issuing, Attempting, Evicting, AttemptingAgain, Delivering, MakingRoom, OutOfTimes, Position, Choice, Does, Goes, Ends, choose, choose_at, begin, issue, attempt, evict, evict_bank, in_flight, victim_for, after, answered, answered_at, at_stage, told, is_progress, is_exhausted, are_over}
 use Rattle.worker_driver.specs.Follows.{Follows, stays, goes, does, Ended}
 use Rattle.worker_driver.specs.Told.{still_open, AreServed}
-use Rattle.worker_driver.proofs.InProgram.{in_program, listed, issued_is, behind}
+use Rattle.worker_driver.proofs.InProgram.{behind}
 use Rattle.worker_driver.proofs.TableSteps.{op_of, op_at, IsQuiet, Opens, IsDone, Tries, is_completion, issue_does, attempt_does, delivery_stays, cache_eviction_stays, bank_eviction_stays}
 use Rattle.worker_driver.proofs.Serving.{Serving, served_none, served_quiet, served_issue, served_done}
 use Rattle.worker_driver.proofs.RunLaws.{goes_keeps, made_by, run_makes}
@@ -72,33 +69,21 @@ if_open m core K is = by_core (slice_get m.cores core) is
     by_core None is = tt
     by_core (Some state) is = by_op state.is_out state.open_op is
 
--- of a machine that stands
-module _ (m : Machine) (s : Stands m) (core : ℕ) where
-  abbrev ops : List Op
-  ops = get_or m.issued core []
+-- each core of a machine was issued the operations of its records, and the open one
+abbrev pub Issues : Machine → Type 0
+Issues m = (core : ℕ) → IsIssued (get_or m.issued core []) (of_core core m.records) (op_at m core)
 
-  of_program : Stand 0 ops (of_core core m.records)
-  of_program = in_program (set_up m) s.whole.some_words (view m) s.reached core
-
-  seen : (o : Option CoreState) → (core_seen o).open_op ≡ op_of o
-  seen None = refl
-  seen (Some state) = refl
-
-  all_issued : ops ≡ map (λ r. r.op) (of_core core m.records) ++ listed (op_at m core)
-  all_issued = issued_is (of_core core m.records) ops (op_at m core) of_program
-      (subst (Opened ops (length (of_core core m.records))) (seen (slice_get m.cores core)) ((reached_ok (set_up m) s.whole.some_words (view m) s.reached).cores core).opened)
-
--- between two machines that stand, where nothing was open at the first
-module _ (m after : Machine) (s : Stands m) (t : Stands after) (added : List Record) (more : after.records ≡ m.records ++ added) (core : ℕ) (none : op_at m core ≡ None) where
+-- between two such machines, if nothing was open at the first
+module _ (m after : Machine) (s : Issues m) (t : Issues after) (added : List Record) (more : after.records ≡ m.records ++ added) (core : ℕ) (none : op_at m core ≡ None) where
   parts : of_core core after.records ≡ of_core core m.records ++ of_core core added
   parts = ap (of_core core) more ∙ filter-append (λ (r : Record). r.core == core) m.records added
 
   first : get_or m.issued core [] ≡ map (λ r. r.op) (of_core core m.records)
-  first = all_issued m s core ∙ ap (λ (o : Option Op). map (λ r. r.op) (of_core core m.records) ++ listed o) none ∙ append-nil (map (λ r. r.op) (of_core core m.records))
+  first = (s core).all ∙ ap (λ (o : Option Op). map (λ r. r.op) (of_core core m.records) ++ listed o) none ∙ append-nil (map (λ r. r.op) (of_core core m.records))
 
   issued_more : get_or after.issued core [] ≡ get_or m.issued core [] ++ (map (λ r. r.op) (of_core core added) ++ still_open (open_op after core))
   issued_more =
-      all_issued after t core
+      (t core).all
       ∙ ap (λ (rs : List Record). map (λ r. r.op) rs ++ listed (op_at after core)) parts
       ∙ ap (λ (os : List Op). os ++ listed (op_at after core)) (map-append (λ (r : Record). r.op) (of_core core m.records) (of_core core added))
       ∙ append_assoc (map (λ r. r.op) (of_core core m.records)) (map (λ r. r.op) (of_core core added)) (listed (op_at after core))
@@ -109,7 +94,7 @@ module _ (m after : Machine) (s : Stands m) (t : Stands after) (added : List Rec
   added_in_order =
       let count : 0 + length (of_core core m.records) ≡ length (get_or m.issued core []) = omega (arith, ap length first, length-map {B = Op} (of_core core m.records) (λ (r : Record). r.op)) in
       subst (λ (n : ℕ). Stand n (get_or after.issued core []) (of_core core added)) count
-      (behind (of_core core m.records) (of_core core added) 0 (get_or after.issued core []) (subst (Stand 0 (get_or after.issued core [])) parts (of_program after t core)))
+      (behind (of_core core m.records) (of_core core added) 0 (get_or after.issued core []) (subst (Stand 0 (get_or after.issued core [])) parts (t core).in_order))
 
 module _ {P : Type 0} (acts : Acts P) (plan : Plan) (start : Position P) where
   -- a program is told of completions alone
@@ -132,22 +117,22 @@ module _ {P : Type 0} (acts : Acts P) (plan : Plan) (start : Position P) where
   Kept m programs = Serving acts start.machine start.programs m programs
 
   -- where an answer leads
-  lands : (d : Position P) (s : Stage) (o : Outcome) → (is_exhausted o.0 ≡ true → Kept o.1 d.programs) →
+  lands : (d : Position P) (s : Stage) (o : Answer × Machine) → (is_exhausted o.0 ≡ true → Kept o.1 d.programs) →
       ((e : Position P) → e.machine ≡ o.1 → e.programs ≡ d.programs → Kept (answered_at acts e o.0 s).machine (answered_at acts e o.0 s).programs) →
       Kept (answered acts (at_stage d s) o).machine (answered acts (at_stage d s) o).programs
   lands d s (a, m) out on =
-      let e : Position P = record d { machine = m; stage = s; has_moved = d.has_moved || is_move a } in
+      let e : Position P = record d { machine = m; stage = s; has_progressed = d.has_progressed || is_progress a } in
       cond_both (is_exhausted a) (at_stage e OutOfTimes) (answered_at acts e a s) (λ x. Kept x.machine x.programs) out (λ t. on e refl refl)
 
   module _ (d : Position P) (so_far : Kept d.machine d.programs) (count : length d.machine.cores ≡ start.machine.config.cores) where
     -- an event leads to where it is so again
-    Onward : Stage → Move P → Type 0
+    Onward : Stage → Choice P → Type 0
     Onward s (Does event) = Kept (after acts (at_stage d s) event).machine (after acts (at_stage d s) event).programs
     Onward s (Goes e) = Unit {0}
     Onward s (Ends e) = Unit {0}
 
     -- nothing is opened or completed, and no program told
-    quietly : (s : Stage) (o : Outcome) → IsQuiet d.machine o.1 →
+    quietly : (s : Stage) (o : Answer × Machine) → IsQuiet d.machine o.1 →
         ((e : Position P) → ((answered_at acts e o.0 s).machine ≡ e.machine) × ((answered_at acts e o.0 s).programs ≡ e.programs)) →
         Kept (answered acts (at_stage d s) o).machine (answered acts (at_stage d s) o).programs
     quietly s o quiet same =
@@ -167,7 +152,7 @@ module _ {P : Type 0} (acts : Acts P) (plan : Plan) (start : Position P) where
     issue_onward core (Some x) next is = tt
 
     tells : (s : Stage) (core : ℕ) → ((e : Position P) (a : Answer) → ((answered_at acts e a s).machine ≡ e.machine) × ((answered_at acts e a s).programs ≡ told acts e.programs core a)) →
-        (o : Outcome) → Tries d.machine core o → Kept (answered acts (at_stage d s) o).machine (answered acts (at_stage d s) o).programs
+        (o : Answer × Machine) → Tries d.machine core o → Kept (answered acts (at_stage d s) o).machine (answered acts (at_stage d s) o).programs
     tells s core same o is = ⊎_elim
         (λ (silent : (is_completion o.0 ≡ false) × IsQuiet d.machine o.1).
         let on = served_quiet acts start.machine start.programs d.machine o.1 d.programs so_far silent.1 in
@@ -195,9 +180,9 @@ module _ {P : Type 0} (acts : Acts P) (plan : Plan) (start : Position P) where
     begin_onward : (over : Bool) → Onward RoundStart (begin plan d over)
     unfolding Onward
     begin_onward true = tt
-    begin_onward false = cond_both (d.rounds == plan.limit) (Ends TurnsUsed) (Goes (record d { stage = Issuing 0; has_moved = false })) (Onward RoundStart) (λ t. tt) (λ t. tt)
+    begin_onward false = cond_both (d.rounds == plan.limit) (Ends TurnsUsed) (Goes (record d { stage = Issuing 0; has_progressed = false })) (Onward RoundStart) (λ t. tt) (λ t. tt)
 
-    onward : (s : Stage) → Onward s (move_at acts plan d s)
+    onward : (s : Stage) → Onward s (choose_at acts plan d s)
     unfolding Onward
     onward RoundStart = begin_onward (are_over acts d.machine d.programs plan.cores)
     onward (Issuing core) = cond_both (nat_lt core plan.cores)
@@ -206,33 +191,30 @@ module _ {P : Type 0} (acts : Acts P) (plan : Plan) (start : Position P) where
     onward (Attempting core) = attempt_onward core (open_op d.machine core)
     onward (Evicting core) = evict_onward core (victim_for plan d.machine core (open_op d.machine core))
     onward (AttemptingAgain core) = tells (AttemptingAgain core) core (λ e a. (refl, refl)) (transition d.machine (Attempt core)) (attempt_does d.machine core)
-    onward (Delivering []) = cond_both d.has_moved (Goes (record d { stage = RoundStart; rounds = d.rounds + 1 })) (Ends Stalled) (Onward (Delivering [])) (λ t. tt) (λ t. tt)
+    onward (Delivering []) = cond_both d.has_progressed (Goes (record d { stage = RoundStart; rounds = d.rounds + 1 })) (Ends Stalled) (Onward (Delivering [])) (λ t. tt) (λ t. tt)
     onward (Delivering (n ∷ left)) = quietly (Delivering (n ∷ left)) (transition d.machine (Deliver n)) (delivery_stays d.machine n) (λ e. (refl, refl))
     onward (MakingRoom n left) = evict_bank_onward n left (make_room d.machine n)
     onward OutOfTimes = tt
 
-    pub goes_on : (event : Event) → move acts plan d ≡ Does event → Kept (after acts d event).machine (after acts d event).programs
+    pub goes_on : (event : Event) → choose acts plan d ≡ Does event → Kept (after acts d event).machine (after acts d event).programs
     unfolding Onward
     goes_on event next = subst (Onward d.stage) next (onward d.stage)
 
-  follows_kept : Stands start.machine → (d : Position P) (events : List Event) → Follows acts plan start events d → Kept d.machine d.programs
-  follows_kept stands d events stays = served_none acts start.machine start.programs
-  follows_kept stands d events (goes {events = taken} {d = before} {e = e} follows next) =
+  follows_kept : length start.machine.cores ≡ start.machine.config.cores → (d : Position P) (events : List Event) → Follows acts plan start events d → Kept d.machine d.programs
+  follows_kept count d events stays = served_none acts start.machine start.programs
+  follows_kept count d events (goes {events = taken} {d = before} {e = e} follows next) =
       let same = goes_keeps acts plan before e next in
-      rw (same.0, same.1) (follows_kept stands before taken follows)
-  follows_kept stands d events (does {events = taken} {d = before} {event = event} follows next) =
+      rw (same.0, same.1) (follows_kept count before taken follows)
+  follows_kept count d events (does {events = taken} {d = before} {event = event} follows next) =
       let made = made_by acts plan start before taken follows in
-      let all = any_events start.machine stands taken in
-      let so = subst Stands (sym made) all in
-      let set_up_as = after_all_same start.machine taken in
-      goes_on before (follows_kept stands before taken follows)
-      (so.whole.core_count ∙ ap (λ (m : Machine). m.config.cores) made ∙ ap (λ c. c.cores) set_up_as.config) event next
+      let same = after_all_same start.machine taken in
+      goes_on before (follows_kept count before taken follows)
+      (ap (λ (m : Machine). length m.cores) made ∙ same.cores ∙ count) event next
 
-  pub all_served : Stands start.machine → (events : List Event) (m : Machine) (programs : List P) (e : End) → Ended acts plan start events m programs e →
+  pub all_served : length start.machine.cores ≡ start.machine.config.cores → Issues start.machine → (events : List Event) (m : Machine) (programs : List P) (e : End) → Issues m → Ended acts plan start events m programs e →
       AreServed acts start.machine m start.programs programs
-  all_served stands events m programs e ended =
-      let kept : Kept m programs = rw (ended.machine_is, ended.programs_are) at (follows_kept stands ended.last events ended.follows) in
-      let stands_after : Stands m = subst Stands (sym (run_makes acts plan start events m programs e ended)) (any_events start.machine stands events) in
+  all_served count issued events m programs e issued_after ended =
+      let kept : Kept m programs = rw (ended.machine_is, ended.programs_are) at (follows_kept count ended.last events ended.follows) in
       record {
         added = kept.added;
         records = kept.records;
@@ -240,8 +222,8 @@ module _ {P : Type 0} (acts : Acts P) (plan : Plan) (start : Position P) where
         each = λ core below none.
             let closed = none_open start.machine core none in
             record {
-              issued = issued_more start.machine m stands stands_after kept.added kept.records core closed;
-              in_order = added_in_order start.machine m stands stands_after kept.added kept.records core closed;
+              issued = issued_more start.machine m issued issued_after kept.added kept.records core closed;
+              in_order = added_in_order start.machine m issued issued_after kept.added kept.records core closed;
               told = λ p at.
                   let gone = kept.gone core closed p at in
                   (gone.0, gone.1, gone.2, if_open m core (λ op. acts.next gone.0 ≡ Some op) gone.3);

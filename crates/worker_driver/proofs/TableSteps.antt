@@ -1,5 +1,5 @@
 -- What each event that a run makes does to the open operations and the records.
-use Rattle.std.proofs.Common.{◌≡◌, ◌≢◌, ◌⊎◌, ℕ, ◌+◌, ◌-◌, ◌^◌, nat_lt, Bool, true, false, cond, List, [], ◌∷◌, ◌++◌, set, Option, Some, None, Result, Ok, Err, inl, inr, refl, sym, ap, ◌∙◌, subst, ⊎_elim}
+use Rattle.std.proofs.Common.{◌≡◌, ◌≢◌, ◌⊎◌, ℕ, ◌+◌, ◌-◌, ◌^◌, nat_lt, Bool, true, false, cond, List, [], ◌∷◌, ◌++◌, length, set, Option, Some, None, Result, Ok, Err, inl, inr, refl, sym, ap, ◌∙◌, subst, ⊎_elim}
 use Rattle.std.specs.Prelude.{slice_get}
 use Rattle.std.specs.Ordering.{nat_cmp}
 use Rattle.std.specs.FinMap.{FinMap}
@@ -11,7 +11,7 @@ use Rattle.network.specs.declared.message.Node.TheVariants.{Core, Bank, Dram}
 use Rattle.network.specs.declared.message.Message.{Message}
 use Rattle.network.specs.declared.part.Reaction.{Reaction}
 use Rattle.network.specs.declared.part.Reaction.TheVariants.{Done, Dropped, Held, HeldAfter}
-use Rattle.network.specs.Numbered.{at_number, without_number}
+use Rattle.network.specs.Numbered.{at_number}
 use Rattle.line_sets.specs.SetTable.{Sets}
 use Rattle.private_cache.specs.declared.line_copy.LineCopy.{LineCopy}
 use Rattle.private_cache.specs.declared.cache.CacheError.{CacheError}
@@ -21,7 +21,9 @@ use Rattle.core_pts.specs.declared.attempt.Attempt.{Attempt}
 use Rattle.core_pts.specs.declared.attempt.Attempt.TheVariants as attempted
 use Rattle.core_pts.specs.declared.attempt.IssueError.{IssueError}
 use Rattle.core_pts.specs.declared.attempt.IssueError.TheVariants as not_issued
-use Rattle.core_pts.specs.OnCopy.{CoreReaction, Arrives, Grants, Returns, Drops, Holds, TooLate, NoCase, at_core}
+use Rattle.core_pts.specs.OnCopy.{at_core}
+use Rattle.core_pts.specs.declared.decision.CoreReaction.{CoreReaction}
+use Rattle.core_pts.specs.declared.decision.CoreReaction.TheVariants.{Arrives, Grants, Returns, Drops, Holds, TooLate, NoCase}
 use Rattle.core_pts.specs.CoreTable as core_table
 use Rattle.core_pts.specs.CoreTable.{CoreState, after_reaction, is_on, pinned_line, sent_back}
 use Rattle.llc_bank.specs.declared.entry.Evict.{Evict}
@@ -36,9 +38,12 @@ use Rattle.machine_table.specs.declared.event.Event.TheVariants.{Issue, Attempt 
 use Rattle.machine_table.specs.declared.event.Answer.{Answer}
 use Rattle.machine_table.specs.declared.event.Answer.TheVariants as answer
 use Rattle.machine_table.specs.declared.event.Refusal.TheVariants as refusal
-use Rattle.machine_table.specs.Machine.{Machine, has_number, has_place, sent, sent_beside, with_core, with_bank, with_dram}
-use Rattle.machine_table.specs.Transition.{Outcome, refused, with_place, issued, issue_at, requested, record_of, attempted_op, attempt_open, attempt_at, reacted, deliver_core, deliver_bank, deliver_dram, deliver_to, deliver_message, copy_evicted, evict_copy, entry_evicted, evict_entry, on_event, transition}
-use Rattle.machine_history.proofs.Lookups.{get-set_same, get-set_other}
+use Rattle.network.specs.declared.message.Body.{Body}
+use Rattle.network.specs.Mail.{has_capacity, has_number, sent}
+use Rattle.machine_table.specs.Machine.{Machine, with_core, with_bank, with_dram}
+use Rattle.machine_table.specs.Change.{Change, Keeps, Makes, record_of, attempt_open, attempted_op, requests, reacted, copy_evicted, entry_evicted}
+use Rattle.machine_table.specs.Transition.{changed, refused, issued, issue_at, attempt_at, deliver_core, deliver_bank, deliver_dram, deliver_to, deliver_message, evict_copy, evict_entry, on_event, transition}
+use Rattle.machine_theorem.proofs.Lookups.{get-set_same, get-set_other}
 use Rattle.interleaving_core.proofs.Closing.{Closes, attempt_closes}
 
 -- a core's open operation
@@ -76,14 +81,14 @@ is_completion (answer.Completed done) = true
 is_completion _ = false
 
 -- what an issue and an attempt may come to
-abbrev pub Issues : Machine → ℕ → Op → Outcome → Type 0
+abbrev pub Issues : Machine → ℕ → Op → Answer × Machine → Type 0
 Issues m c op o = IsQuiet m o.1 ⊎ Opens m c op o.1
 
-abbrev pub Tries : Machine → ℕ → Outcome → Type 0
+abbrev pub Tries : Machine → ℕ → Answer × Machine → Type 0
 Tries m c o = ((is_completion o.0 ≡ false) × IsQuiet m o.1) ⊎ ((done : Record) × (o.0 ≡ answer.Completed done) × IsDone m c done o.1)
 
 module _ (m : Machine) where
-  abbrev Stays : Outcome → Type 0
+  abbrev Stays : Answer × Machine → Type 0
   Stays o = IsQuiet m o.1
 
   same : IsQuiet m m
@@ -105,31 +110,30 @@ module _ (m : Machine) where
           records = refl;
         }
 
-  -- an answer that is given where there is a place
-  placed : (after : Machine) (a : Answer) → IsQuiet m after → Stays (with_place m a after)
-  placed after a quiet = cond_both (has_place m) (a, after) (refused m refusal.NetworkFull) Stays (λ t. quiet) (λ t. same)
-
-  with_message : (after : Machine) (message : Message) → IsQuiet m after → IsQuiet m (sent after message)
-  with_message after message quiet = record { ops = quiet.ops; records = quiet.records }
+  -- a change that is made if a test says so
+  tested : {S : Type 0} (put : S → Machine) (b : Bool) (done : Change S) (why : Answer) → Stays (changed m put done) → Stays (changed m put (cond b done (Keeps why)))
+  tested put true done why quiet = quiet
+  tested put false done why quiet = same
 
   -- what is known of the part that a message makes
   Part : {S : Type 0} → (S → Type 0) → Option (Reaction × S) → Type 0
   Part K None = Unit {0}
   Part K (Some (reaction, part)) = K part
 
-  reacted_stays : {S : Type 0} (n : ℕ) (put : Machine → S → Machine) (K : S → Type 0) → ((part : S) → K part → IsQuiet m (put m part)) → (r : Option (Reaction × S)) → Part K r → Stays (reacted m n put r)
+  reacted_stays : {S : Type 0} (n : ℕ) (put : S → Machine) (K : S → Type 0) → ((part : S) → K part → IsQuiet m (put part)) → (r : Option (Reaction × S)) → Part K r →
+      Stays (changed m put (reacted m.config.messages m.mail n r))
   unfolding Part
   reacted_stays n put K puts None is = record { ops = λ core. refl; records = refl }
   reacted_stays n put K puts (Some (Held, part)) is = same
   reacted_stays n put K puts (Some (Dropped, part)) is = record { ops = λ core. refl; records = refl }
   reacted_stays n put K puts (Some (Done None, part)) is = record { ops = (puts part is).ops; records = (puts part is).records }
   reacted_stays n put K puts (Some (Done (Some reply), part)) is =
-      cond_both (has_number m) (answer.Delivered, sent_beside (put m part) (without_number n m.messages) reply) (refused m refusal.NetworkFull) Stays
-      (λ t. record { ops = (puts part is).ops; records = (puts part is).records }) (λ t. same)
-  reacted_stays n put K puts (Some (HeldAfter started, part)) is = placed (sent (put m part) started) answer.Started (with_message (put m part) started (puts part is))
+      tested put (has_number m.mail) _ _ (record { ops = (puts part is).ops; records = (puts part is).records })
+  reacted_stays n put K puts (Some (HeldAfter started, part)) is =
+      tested put (has_capacity m.config.messages m.mail) _ _ (record { ops = (puts part is).ops; records = (puts part is).records })
 
   -- a message that has no case is refused
-  if_case : (b : Bool) (o : Outcome) → Stays o → Stays (cond b o (refused m refusal.NoSuch))
+  if_case : (b : Bool) (o : Answer × Machine) → Stays o → Stays (cond b o (refused m refusal.NoSuch))
   if_case b o stays = cond_both b o (refused m refusal.NoSuch) Stays (λ t. stays) (λ t. same)
 
   reaction_part : (core : CoreState) (line : ℕ) (r : CoreReaction) → Part (λ new. new.open_op ≡ core.open_op) (after_reaction core line r)
@@ -150,21 +154,21 @@ module _ (m : Machine) where
   core_stays : (n : ℕ) (message : Message) (c : ℕ) (o : Option CoreState) → slice_get m.cores c ≡ o → Stays (deliver_core m n message c o)
   core_stays n message c None at = same
   core_stays n message c (Some core) at =
-      if_case (core_table.core_has_case core message) (reacted m n (λ machine part. with_core machine c part) (core_table.core_table core message))
-      (reacted_stays n (λ machine part. with_core machine c part) (λ new. new.open_op ≡ core.open_op) (λ new is. kept c core at new is) (core_table.core_table core message)
+      if_case (core_table.core_has_case core message) (changed m (with_core m c) (reacted m.config.messages m.mail n (core_table.core_table core message)))
+      (reacted_stays n (with_core m c) (λ new. new.open_op ≡ core.open_op) (λ new is. kept c core at new is) (core_table.core_table core message)
       (reaction_part core message.line (at_core core.lease (is_on (pinned_line core) message.line) (copy_of core.cache message.line) message.body)))
 
   bank_stays : (n : ℕ) (message : Message) (b : ℕ) (o : Option BankState) → Stays (deliver_bank m n message b o)
   bank_stays n message b None = same
   bank_stays n message b (Some bank) =
-      if_case (bank_table.bank_has_case bank message) (reacted m n (λ machine part. with_bank machine b part) (bank_table.bank_table bank message))
-      (reacted_stays n (λ machine part. with_bank machine b part) (λ part. Unit {0}) (λ part is. record { ops = λ core. refl; records = refl }) (bank_table.bank_table bank message) (any_part (bank_table.bank_table bank message)))
+      if_case (bank_table.bank_has_case bank message) (changed m (with_bank m b) (reacted m.config.messages m.mail n (bank_table.bank_table bank message)))
+      (reacted_stays n (with_bank m b) (λ part. Unit {0}) (λ part is. record { ops = λ core. refl; records = refl }) (bank_table.bank_table bank message) (any_part (bank_table.bank_table bank message)))
 
   dram_stays : (n : ℕ) (message : Message) (b : ℕ) (o : Option (FinMap nat_cmp (List ℕ))) → Stays (deliver_dram m n message b o)
   dram_stays n message b None = same
   dram_stays n message b (Some dram) =
-      if_case (dram_has_case dram message) (reacted m n (λ machine part. with_dram machine b part) (dram_table dram message))
-      (reacted_stays n (λ machine part. with_dram machine b part) (λ part. Unit {0}) (λ part is. record { ops = λ core. refl; records = refl }) (dram_table dram message) (any_part (dram_table dram message)))
+      if_case (dram_has_case dram message) (changed m (with_dram m b) (reacted m.config.messages m.mail n (dram_table dram message)))
+      (reacted_stays n (with_dram m b) (λ part. Unit {0}) (λ part is. record { ops = λ core. refl; records = refl }) (dram_table dram message) (any_part (dram_table dram message)))
 
   delivered_stays : (n : ℕ) (o : Option Message) → Stays (deliver_message m n o)
   delivered_stays n None = same
@@ -175,12 +179,13 @@ module _ (m : Machine) where
       by_node (Bank b) = bank_stays n message b (slice_get m.banks b)
       by_node (Dram b) = dram_stays n message b (slice_get m.drams b)
 
-  copy_stays : (c : ℕ) (core : CoreState) → slice_get m.cores c ≡ Some core → (r : Result (Option Message) CacheError × CoreState) → r.1.open_op ≡ core.open_op → Stays (copy_evicted m c r)
+  copy_stays : (c : ℕ) (core : CoreState) → slice_get m.cores c ≡ Some core → (r : Result (Option Message) CacheError × CoreState) → r.1.open_op ≡ core.open_op → Stays (changed m (with_core m c) (copy_evicted m.config.messages m.mail r))
   copy_stays c core at (Err NotHere, new) is = same
   copy_stays c core at (Err NoRoom, new) is = same
   copy_stays c core at (Err Pinned, new) is = same
   copy_stays c core at (Ok None, new) is = kept c core at new is
-  copy_stays c core at (Ok (Some back), new) is = placed (sent (with_core m c new) back) answer.Evicted (with_message (with_core m c new) back (kept c core at new is))
+  copy_stays c core at (Ok (Some back), new) is =
+      let quiet = kept c core at new is in tested (with_core m c) (has_capacity m.config.messages m.mail) _ _ (record { ops = quiet.ops; records = refl })
 
   sent_back_kept : (core : CoreState) (line : ℕ) (r : Result LineCopy CacheError × Sets LineCopy) → (sent_back core line r).1.open_op ≡ core.open_op
   sent_back_kept core line (Err e, cache) = refl
@@ -190,12 +195,12 @@ module _ (m : Machine) where
   evicted_stays c line None at = same
   evicted_stays c line (Some core) at = copy_stays c core at (core_table.evict core line) (sent_back_kept core line (evicted core.cache line (pinned_line core) (copy_of core.cache line)))
 
-  entry_stays : (b : ℕ) (r : Result Evict EvictError × BankState) → Stays (entry_evicted m b r)
+  entry_stays : (b : ℕ) (r : Result Evict EvictError × BankState) → Stays (changed m (with_bank m b) (entry_evicted m.config.messages m.mail r))
   entry_stays b (Err not_evicted.NotHere, bank) = same
   entry_stays b (Err not_evicted.Busy, bank) = same
   entry_stays b (Ok evict.Clean, bank) = record { ops = λ core. refl; records = refl }
-  entry_stays b (Ok (evict.Stored store), bank) = placed (sent (with_bank m b bank) store) answer.Evicted (record { ops = λ core. refl; records = refl })
-  entry_stays b (Ok (evict.Recalled recall), bank) = placed (sent (with_bank m b bank) recall) answer.Recalled (record { ops = λ core. refl; records = refl })
+  entry_stays b (Ok (evict.Stored store), bank) = tested (with_bank m b) (has_capacity m.config.messages m.mail) _ _ (record { ops = λ core. refl; records = refl })
+  entry_stays b (Ok (evict.Recalled recall), bank) = tested (with_bank m b) (has_capacity m.config.messages m.mail) _ _ (record { ops = λ core. refl; records = refl })
 
   entry_evicted_stays : (b line : ℕ) (o : Option BankState) → Stays (evict_entry m b line o)
   entry_evicted_stays b line None = same
@@ -224,18 +229,23 @@ module _ (m : Machine) where
   issues c op (Some core) at = issued_so c core at op (core_table.issue core op) (issue_ready core op core.open_op)
 
   -- an attempt
-  asks : (c : ℕ) (core : CoreState) → slice_get m.cores c ≡ Some core → (request : Message) → Tries m c (requested m c core request)
-  asks c core at request =
-      cond_both (has_place m) (answer.Requested, sent (with_core m c (record core { is_out = true })) request) (refused m refusal.NetworkFull) (Tries m c)
-      (λ t. inl (refl, with_message (with_core m c (record core { is_out = true })) request (kept c core at (record core { is_out = true }) refl))) (λ t. inl (refl, same))
+  asks : (c : ℕ) (core : CoreState) → slice_get m.cores c ≡ Some core → (op : Op) (body : Body) → Tries m c (changed m (with_core m c) (requests m.config.messages m.mail core op body))
+  asks c core at op body =
+      let quiet = kept c core at (record core { is_out = true }) refl in
+      by_test (has_capacity m.config.messages m.mail) quiet
+    where
+      by_test : (b : Bool) → IsQuiet m (with_core m c (record core { is_out = true })) →
+          Tries m c (changed m (with_core m c) (cond b (Makes answer.Requested (record core { is_out = true }) (sent m.mail (core_table.to_bank core (core_table.line_of core op) body))) (Keeps (answer.Refused refusal.NetworkFull))))
+      by_test true quiet = inl (refl, record { ops = quiet.ops; records = refl })
+      by_test false quiet = inl (refl, same)
 
-  tried_so : (c : ℕ) (core : CoreState) → slice_get m.cores c ≡ Some core → (op : Op) → core.open_op ≡ Some op → (r : Option Attempt × CoreState) → Closes r → Tries m c (attempted_op m c core op r)
+  tried_so : (c : ℕ) (core : CoreState) → slice_get m.cores c ≡ Some core → (op : Op) → core.open_op ≡ Some op → (r : Option Attempt × CoreState) → Closes r → Tries m c (changed m (with_core m c) (attempted_op c (length m.records) m.config.messages m.mail core op r))
   tried_so c core at op opens (None, new) closes = inl (refl, record { ops = λ k. refl; records = refl })
   tried_so c core at op opens (Some (attempted.Completed received ts), new) closes =
       let is = opened c core at new None closes in
-      inr (record_of m c core op received ts, refl, record { core = refl; op = ap op_of at ∙ opens; closed = record { here = is.here; there = is.there }; records = refl })
-  tried_so c core at op opens (Some (attempted.NeedShared pts version), new) closes = asks c core at _
-  tried_so c core at op opens (Some (attempted.NeedExclusive version), new) closes = asks c core at _
+      inr (record_of c (length m.records) core op received ts, refl, record { core = refl; op = ap op_of at ∙ opens; closed = record { here = is.here; there = is.there }; records = refl })
+  tried_so c core at op opens (Some (attempted.NeedShared pts version), new) closes = asks c core at op _
+  tried_so c core at op opens (Some (attempted.NeedExclusive version), new) closes = asks c core at op _
   tried_so c core at op opens (Some attempted.NoRoom, new) closes = inl (refl, same)
   tried_so c core at op opens (Some attempted.Waiting, new) closes = inl (refl, same)
   tried_so c core at op opens (Some attempted.Idle, new) closes = inl (refl, same)
@@ -244,7 +254,7 @@ module _ (m : Machine) where
   tries c None at = inl (refl, same)
   tries c (Some core) at = by_open core.open_op refl
     where
-      by_open : (o : Option Op) → core.open_op ≡ o → Tries m c (attempt_open m c core o)
+      by_open : (o : Option Op) → core.open_op ≡ o → Tries m c (changed m (with_core m c) (attempt_open c (length m.records) m.config.messages m.mail core o))
       by_open None opens = inl (refl, same)
       by_open (Some op) opens = tried_so c core at op opens (core_table.attempt core) (attempt_closes core)
 
@@ -259,7 +269,7 @@ module _ (m : Machine) where
   quiet_unless event stays = cond_both m.is_stopped (refused m refusal.Stopped) (on_event m event) Stays (λ t. same) (λ t. stays)
 
   pub delivery_stays : (n : ℕ) → Stays (transition m (Deliver n))
-  delivery_stays n = quiet_unless (Deliver n) (delivered_stays n (at_number n m.messages))
+  delivery_stays n = quiet_unless (Deliver n) (delivered_stays n (at_number n m.mail.messages))
 
   pub cache_eviction_stays : (c line : ℕ) → Stays (transition m (EvictCache c line))
   cache_eviction_stays c line = quiet_unless (EvictCache c line) (evicted_stays c line (slice_get m.cores c) refl)

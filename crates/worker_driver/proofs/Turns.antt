@@ -11,7 +11,7 @@ use Rattle.run_ends.specs.declared.ends.End.{End}
 use Rattle.run_ends.specs.declared.ends.End.TheVariants.{NoMemory}
 use Rattle.worker_driver.specs.declared.plan.Plan.{Plan}
 use Rattle.worker_driver.specs.Acts.{Acts, next_in}
-use Rattle.worker_driver.specs.Schedule.{Stage, Issuing, Attempting, Evicting, AttemptingAgain, Delivering, MakingRoom, Position, Does, Goes, move, answered_at, at_stage, issue, attempt, evict, evict_bank, victim_for, told, is_held, is_no_room, in_flight}
+use Rattle.worker_driver.specs.Schedule.{Stage, Issuing, Attempting, Evicting, AttemptingAgain, Delivering, MakingRoom, Position, Does, Goes, choose, answered_at, at_stage, issue, attempt, evict, evict_bank, victim_for, told, is_held, is_no_room, in_flight}
 use Rattle.worker_driver.specs.Follows.{Follows, goes}
 use Rattle.worker_driver.specs.Noting.{Log, Noted, Point, at, position, Leads, Stops}
 use Rattle.worker_driver.proofs.Following.{did, stopped}
@@ -19,7 +19,7 @@ use Rattle.worker_driver.proofs.Following.{did, stopped}
 module _ {P : Type 0} (acts : Acts P) (plan : Plan) where
   -- the event that comes next at a point
   Next : Point P → Event → Type 0
-  Next p event = (rounds : ℕ) → move acts plan (position p rounds) ≡ Does event
+  Next p event = (rounds : ℕ) → choose acts plan (position p rounds) ≡ Does event
 
   -- by an event that is answered, where the answer leads to the place
   leads_by : (p : Point P) (event : Event) (answer : Answer) (m : Machine) (programs : List P) (log : Log) (stage : Stage) →
@@ -39,14 +39,14 @@ module _ {P : Type 0} (acts : Acts P) (plan : Plan) where
 
   -- without an event
   leads_over : (m : Machine) (programs : List P) (log : Log) (from to : Stage) →
-      ((rounds : ℕ) → move acts plan (position (at m programs log from) rounds) ≡ Goes (position (at m programs log to) rounds)) →
+      ((rounds : ℕ) → choose acts plan (position (at m programs log from) rounds) ≡ Goes (position (at m programs log to) rounds)) →
       Leads acts plan (at m programs log from) (at m programs log to)
   leads_over m programs log from to next start rounds before = goes before (next rounds)
 
   module _ (m : Machine) (programs : List P) (log : Log) (core : ℕ) where
     -- a core's turn
     turn : core < plan.cores → (rounds : ℕ) →
-        move acts plan (position (at m programs log (Issuing core)) rounds)
+        choose acts plan (position (at m programs log (Issuing core)) rounds)
         ≡ issue (position (at m programs log (Issuing core)) rounds) core (open_op m core) (next_in acts programs core)
     turn below rounds = rw (lt-ltb core plan.cores below) refl
 

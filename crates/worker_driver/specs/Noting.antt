@@ -10,25 +10,25 @@ use Rattle.run_ends.specs.declared.ends.End.{End}
 use Rattle.run_ends.specs.declared.ends.End.TheVariants.{AllDone, Stalled, TurnsUsed, Exhausted, NoMemory}
 use Rattle.worker_driver.specs.declared.plan.Plan.{Plan}
 use Rattle.worker_driver.specs.Acts.{Acts}
-use Rattle.worker_driver.specs.Schedule.{Stage, Position, is_move, is_exhausted}
+use Rattle.worker_driver.specs.Schedule.{Stage, Position, is_progress, is_exhausted}
 use Rattle.worker_driver.specs.Follows.{Follows, Ended}
 
--- the events so far, whether an answer of this round was a move, and how many more can be noted before memory is asked
+-- the events so far, whether an answer of this round was progress, and how many more can be noted before memory is asked
 -- for
 pub record Log : Type 0 where
   pub events : List Event
-  pub has_moved : Bool
-  pub room : ℕ
+  pub has_progressed : Bool
+  pub reserved : ℕ
 
 -- an answered event is noted
 pub record IsNoted (log : Log) (event : Event) (answer : Answer) (after : Log) : Type 0 where
   pub events : after.events ≡ log.events ++ event ∷ []
-  pub has_moved : after.has_moved ≡ (log.has_moved || is_move answer)
+  pub has_progressed : after.has_progressed ≡ (log.has_progressed || is_progress answer)
 
 -- nothing is noted
 pub record IsSame (log after : Log) : Type 0 where
   pub events : after.events ≡ log.events
-  pub has_moved : after.has_moved ≡ log.has_moved
+  pub has_progressed : after.has_progressed ≡ log.has_progressed
 
 abbrev pub is_no_memory : Answer → Bool
 is_no_memory (Refused NoMemoryAnswer) = true
@@ -59,7 +59,7 @@ at m programs log stage = record { machine = m; programs = programs; log = log; 
 -- its position, after so many rounds
 abbrev pub position : {P : Type 0} → Point P → ℕ → Position P
 position p rounds =
-    record { machine = p.machine; programs = p.programs; stage = p.stage; has_moved = p.log.has_moved; rounds = rounds }
+    record { machine = p.machine; programs = p.programs; stage = p.stage; has_progressed = p.log.has_progressed; rounds = rounds }
 
 -- a run that follows the schedule to the one point follows it to the other
 abbrev pub Leads : {P : Type 0} → Acts P → Plan → Point P → Point P → Type 0

@@ -1,7 +1,7 @@
 //! The events that a run made, each noted as it is answered.
 ghost use Rattle.std.specs.Prelude.{◌≡◌, ◌<◌, ◌++◌, ◌∷◌, [], false, ◌||◌, OnErr, OnOk};
 ghost use Rattle.worker_driver.specs.Noting.{Noted, is_no_memory};
-ghost use Rattle.worker_driver.specs.Schedule.{is_exhausted, is_held, is_move, is_no_room};
+ghost use Rattle.worker_driver.specs.Schedule.{is_exhausted, is_held, is_progress, is_no_room};
 
 use interleaving_core::{Answer, Event, Refusal, System};
 use machine_table::laws::every_answer_keeps_its_word;
@@ -10,11 +10,11 @@ use run_ends::End;
 use std::alloc::{AllocError, Global};
 use std::marker::Model;
 
-// The events of a run so far, and whether one of them was a move in this round.
+// The events of a run so far, and whether one of them was progress in this round.
 #[derive(Drop)]
 pub(crate) struct Log {
     events: Vec<Event>,
-    has_moved: bool,
+    has_progressed: bool,
 }
 
 impl Model for Log {
@@ -23,12 +23,12 @@ impl Model for Log {
 
     ghost Value = { Log };
 
-    ghost view = { λ a. record { events = a.events.items; has_moved = a.has_moved; room = vec_capacity a.events - vec_len a.events } };
+    ghost view = { λ a. record { events = a.events.items; has_progressed = a.has_progressed; reserved = vec_capacity a.events - vec_len a.events } };
 }
 
 // Whether an answer is more than Waiting, Held or a refusal.
-fn is_move(answer: &Answer) -> bool
-    ensures { result ≡ is_move answer.now }
+fn is_progress(answer: &Answer) -> bool
+    ensures { result ≡ is_progress answer.now }
 {
     !matches!(*answer, Answer::Waiting | Answer::Held | Answer::Refused(_))
 }
@@ -61,26 +61,26 @@ impl Log {
     // Nothing is noted; this takes no memory yet.
     pub(crate) fn new(alloc: Global) -> Log
         ensures events { result.events ≡ [] }
-        ensures moved { result.has_moved ≡ false }
+        ensures progressed { result.has_progressed ≡ false }
     {
         Log {
             events: Vec::new(alloc),
-            has_moved: false,
+            has_progressed: false,
         }
     }
 
     // A round begins.
     pub(crate) fn begin_round(&mut self)
-        ensures { self.new ≡ record self.old { has_moved = false } }
+        ensures { self.new ≡ record self.old { has_progressed = false } }
     {
-        self.has_moved = false;
+        self.has_progressed = false;
     }
 
-    // Whether an answer of this round was a move.
-    pub(crate) fn has_moved(&self) -> bool
-        ensures { result ≡ self.now.has_moved }
+    // Whether an answer of this round was progress.
+    pub(crate) fn has_progressed(&self) -> bool
+        ensures { result ≡ self.now.has_progressed }
     {
-        self.has_moved
+        self.has_progressed
     }
 
     // The events.
@@ -90,25 +90,25 @@ impl Log {
         self.events
     }
 
-    // Room for one more event.
+    // Reserves memory for one more event.
     fn reserve(&mut self) -> Result<(), AllocError>
         ensures events { self.new.events ≡ self.old.events }
-        ensures moved { self.new.has_moved ≡ self.old.has_moved }
-        ensures ok { OnOk result (0 < self.new.room) }
+        ensures progressed { self.new.has_progressed ≡ self.old.has_progressed }
+        ensures ok { OnOk result (0 < self.new.reserved) }
     {
         self.events.reserve(1)
     }
 
-    // An answered event is added where there is room.
+    // An answered event is added, for which memory was reserved.
     fn note(&mut self, event: &Event, answer: &Answer)
-        requires { 0 < self.old.room }
+        requires { 0 < self.old.reserved }
         ensures events { self.new.events ≡ self.old.events ++ event.now ∷ [] }
-        ensures moved { self.new.has_moved ≡ (self.old.has_moved || is_move answer.now) }
+        ensures progressed { self.new.has_progressed ≡ (self.old.has_progressed || is_progress answer.now) }
     {
         // The check finds the parts of an event only where the function names an operation's type.
         let _op: Option<Op> = None;
         self.events.push_reserved(*event);
-        self.has_moved = self.has_moved || is_move(answer);
+        self.has_progressed = self.has_progressed || is_progress(answer);
     }
 }
 

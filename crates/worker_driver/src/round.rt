@@ -57,7 +57,7 @@ fn attempt<P: Program>(
     Ok(())
 }
 
-// A copy makes a place for the line of a core's open operation, which is then tried again.
+// A copy goes so that there is a way for the line of a core's open operation, which is then tried again.
 fn evict<P: Program>(
     plan: Plan,
     system: &mut System,
@@ -106,10 +106,10 @@ fn deliver<P: Program>(
     if !is_held(&answer) {
         return Ok(());
     }
-    let Some(place) = system.make_room(number) else {
+    let Some(victim) = system.make_room(number) else {
         return Ok(());
     };
-    step(log, system, &Event::EvictBank(place.0, place.1))?;
+    step(log, system, &Event::EvictBank(victim.0, victim.1))?;
     Ok(())
 }
 

@@ -23,7 +23,7 @@ pub struct Driven {
 }
 
 /// Drives the machine by the schedule of rounds, one program a core, until every program is done, a round went by
-/// without a move, `limit` rounds were made, times are exhausted or a growth is refused. The events are those that the
+/// without progress, `limit` rounds were made, times are exhausted or allocation failed. The events are those that the
 /// schedule has, each by the machine and the programs as they then are, and so is the end, unless it is NoMemory. What
 /// was given to the machine is in the list, and nothing else. Whatever the end, each core was issued what its program
 /// gave, in order, and the program was told what each completed operation received, in order.
@@ -45,7 +45,9 @@ pub fn drive_round<P: Program>(
         limit,
     };
     let mut log = Log::new(alloc);
+    let _before = system.records();
     let end = rounds(plan, system, programs, &mut log);
+    let _after = system.records();
     Driven {
         end,
         events: log.into_events(),
@@ -56,7 +58,7 @@ pub fn drive_round<P: Program>(
 fn rounds<P: Program>(plan: Plan, system: &mut System, programs: &mut [P], log: &mut Log) -> End
     requires words { 0 < plan.line_words }
     requires nothing_yet { log.old.events ≡ [] }
-    requires not_moved { log.old.has_moved ≡ false }
+    requires no_progress_yet { log.old.has_progressed ≡ false }
     ensures { Ended P.acts plan (opening system.old programs.old) log.new.events system.new programs.new result }
 {
     for _made in 0..plan.limit {
@@ -67,7 +69,7 @@ fn rounds<P: Program>(plan: Plan, system: &mut System, programs: &mut [P], log: 
         if let Err(end) = round(plan, system, programs, log) {
             return end;
         }
-        if !log.has_moved() {
+        if !log.has_progressed() {
             return End::Stalled;
         }
     }

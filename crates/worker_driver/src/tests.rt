@@ -86,7 +86,7 @@ fn store_buffering(rt: HostRuntime) -> Result<(), Fail> {
     Ok(())
 }
 
-// Without a place for a second message the bank can't load the line: the second round makes no move.
+// Without capacity for a second message the bank can't load the line: the second round makes no progress.
 #[test]
 fn ends(rt: HostRuntime) -> Result<(), Fail> {
     let load = [Op::Load(WordAddr::at(0))];

@@ -1,12 +1,14 @@
-use Rattle.std.proofs.Common.{◌≡◌, ◌∙◌, sym, codes, true, false, true≢false}
+use Rattle.std.proofs.Common.{◌≡◌, ◌∙◌, sym, codes, map, true, false, true≢false}
 use Rattle.clap.specs.Words.{found_of}
 use Rattle.clap.specs.declared.error.kind.ErrorKind.TheVariants.{OutOfMemory}
 use Rattle.command_line.proofs.Found.{found_is, file_is, no_fault, has_fault}
+use Rattle.command_line.proofs.HelpIsRefused.{litmus_is_named}
 use Rattle.command_line.proofs.words.read_words.Goals as goal
 
 pub returns-in-Err-2-clause-refused : goal.returns-in-Err-2-clause-refused
 returns-in-Err-2-clause-refused c =
-    let e = c.in-Ok.ensures.app in (
+    let e = c.in-Ok.ensures.app in
+    c.refused.ensures (map (λ w. w.now) c.args.words.now) (
       e.0,
       e.1,
       has_fault _ e.0 _ c.in-Err.error e.2 c.in-Err.ensures.kinds (λ h.
@@ -19,4 +21,5 @@ pub returns-clause-job : goal.returns-clause-job
 returns-clause-job c =
     let e = c.in-Ok.ensures.app in
     let found = found_is _ e.0 _ _ _ _ e.2 c.in-Ok-try_get_matches_from.ensures.matches c.in-Some.ensures.name c.in-Some.ensures.rows in
-    (e.0, e.1, no_fault _ e.0 _ e.2 c.in-Ok-try_get_matches_from.ensures.kinds, _, found, (c.options_of.ensures, λ path is. file_is (found_of c.in-Some.inner.now) (codes "FILE") path _ _ _ c.get_str.ensures c.unwrap_or-file.ensures is))
+    let passes = no_fault _ e.0 _ e.2 c.in-Ok-try_get_matches_from.ensures.kinds in
+    (e.0, e.1, passes, _, found, (litmus_is_named e.0 (map (λ w. w.now) c.args.words.now) _ _ passes found, c.options_of.ensures, λ path is. file_is (found_of c.in-Some.inner.now) (codes "FILE") path _ _ _ c.get_str.ensures c.unwrap_or-file.ensures is))

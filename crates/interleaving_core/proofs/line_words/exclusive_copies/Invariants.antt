@@ -1,5 +1,5 @@
 use Rattle.std.proofs.Common.{◌≡◌, ◌+◌, ◌≤◌, length}
-use Rattle.machine_history.specs.Standing.{exclusive_copies}
+use Rattle.machine_theorem.specs.Coherence.{exclusive_copies}
 use Rattle.interleaving_core.proofs.line_words.exclusive_copies.Given as goal
 
 abbrev pub invariant-loop-core : goal.invariant-loop-core

@@ -1,5 +1,5 @@
 use Rattle.std.proofs.Common.{◌≡◌, length}
-use Rattle.machine_history.specs.Standing.{owner_words}
+use Rattle.machine_theorem.specs.Coherence.{owner_words}
 use Rattle.interleaving_core.proofs.line_words.owner_words.Given as goal
 
 abbrev pub invariant-loop-core : goal.invariant-loop-core

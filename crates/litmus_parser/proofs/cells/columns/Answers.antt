@@ -1,9 +1,8 @@
 use Rattle.std.proofs.Common.{◌≡◌, ◌-◌, ℕ, ◌∙◌, ap, arith, refl, Ok}
 use Rattle.std.proofs.lemmas.Result.{err_from_is_err_and}
-use Rattle.litmus_grammar.proofs.Repeats.{goes-on, fails-there, runs-out}
+use Rattle.litmus_lexer.proofs.Repeats.{goes-on, fails-there, runs-out}
 use Rattle.litmus_parser.specs.ReadingRows.{column_at, ended, columns_at}
 use Rattle.litmus_parser.proofs.cells.columns.Goals as goal
-use Rattle.litmus_grammar.specs.Pieces.{pieces_of}
 
 pub loop-thread-init : goal.loop-thread-init
 unfolding columns_at
@@ -21,4 +20,4 @@ pub returns : goal.returns
 returns c =
     let last : c.loop-thread.thread ≡ c.args.threads = omega (arith, c.loop-thread-test.false, c.loop-thread.auto.thread-end) in
     runs-out (column_at c.args.items.now c.args.threads) ended c.args.threads c.loop-thread.thread _ _ c.loop-thread-test.false c.loop-thread.invariant
-    ∙ ap (λ (n : ℕ). Ok (n, c.loop-thread.cells.items, c.loop-thread.width, c.loop-thread.at.line, pieces_of c.loop-thread.at.rest.now)) last
+    ∙ ap (λ (n : ℕ). Ok (n, c.loop-thread.cells.items, c.loop-thread.width, c.loop-thread.at.line, c.loop-thread.at.pieces)) last

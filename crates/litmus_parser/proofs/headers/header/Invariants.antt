@@ -1,5 +1,5 @@
 use Rattle.std.proofs.Common.{◌≡◌, ◌-◌}
-use Rattle.litmus_grammar.specs.Reading.{repeat_at}
+use Rattle.litmus_lexer.specs.Reading.{repeat_at}
 use Rattle.litmus_parser.specs.ReadingHeader.{header_line_at, cut_short, header_at}
 use Rattle.litmus_parser.proofs.headers.header.Given as goal
 

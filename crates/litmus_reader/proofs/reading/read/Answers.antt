@@ -1,6 +1,6 @@
 use Rattle.litmus_reader.proofs.Found.{found-told}
 use Rattle.litmus_reader.proofs.FoundAgain.{only-told}
-use Rattle.litmus_reader.proofs.ReadExplains.{fault-told}
+use Rattle.litmus_reader.proofs.ReadExplains.{fault-told, early-told}
 use Rattle.litmus_reader.proofs.Sizes.{threads-few}
 use Rattle.litmus_reader.proofs.reading.read.Goals as goal
 
@@ -15,3 +15,6 @@ returns-clause-only c = only-told _ _ c.read_whole.ensures.told
 
 pub returns-clause-fault : goal.returns-clause-fault
 returns-clause-fault c = fault-told _ _ c.read_whole.ensures.told
+
+pub returns-clause-early : goal.returns-clause-early
+returns-clause-early c = early-told _ _ c.read_whole.ensures.large c.read_whole.ensures.sure

@@ -1,7 +1,7 @@
 use Rattle.std.proofs.Common.{◌≡◌, ◌+◌, ◌≤◌, drop}
 use Rattle.network.specs.Asked.{is_wanted}
 use Rattle.network.specs.Numbered.{still_there}
-use Rattle.network.specs.Rights.{count_messages}
+use Rattle.network.specs.Search.{count_messages}
 use Rattle.network.proofs.slots.count_wanted.Given as goal
 
 abbrev pub invariant-loop-slot : goal.invariant-loop-slot

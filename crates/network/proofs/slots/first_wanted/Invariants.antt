@@ -1,7 +1,7 @@
 use Rattle.std.proofs.Common.{◌≡◌, drop}
 use Rattle.network.specs.Asked.{is_wanted}
 use Rattle.network.specs.Numbered.{still_there}
-use Rattle.network.specs.Rights.{first_message}
+use Rattle.network.specs.Search.{first_message}
 use Rattle.network.proofs.slots.first_wanted.Given as goal
 
 abbrev pub invariant-loop-slot : goal.invariant-loop-slot

@@ -10,7 +10,7 @@ use Rattle.litmus_reader.specs.ThreadSteps.{Thread}
 use Rattle.machine_table.specs.Machine.{Machine}
 use Rattle.machine_table.specs.Opening.{at_start}
 use Rattle.machine_table.specs.Runs.{after_all}
-use Rattle.machine_history.specs.Standing.{standing_value}
+use Rattle.machine_theorem.specs.Coherence.{coherent}
 use Rattle.sequential_machine.specs.SequentialMachine.{IsOutcome, memory_opened}
 use Rattle.worker_driver.specs.Follows.{Ended, opening, plan_of}
 use Rattle.worker_driver.specs.Told.{AreServed}
@@ -29,7 +29,7 @@ drive_round-driven-requires c = record {
 pub returns-clause-run : goal.returns-clause-run
 returns-clause-run c =
     let m : Machine = c.drive_round-driven.new.system in
-    let first = c.in-Ok.ensures.opened ∙ ap (at_start c.args.config) c.in_ok-memory.ensures in
+    let first = c.in-Ok.ensures.opened ∙ ap (at_start c.args.config) c.in_ok-memory.ensures.memory in
     record {
       events = c.drive_round-driven.result.events.items;
       machine = m;
@@ -52,15 +52,15 @@ returns-clause-outcome c = λ text is.
     let m : Machine = c.drive_round-driven.new.system in
     let threads : List Thread = c.drive_round-driven.new.programs in
     let events = c.drive_round-driven.result.events.items in
-    let first = c.in-Ok.ensures.opened ∙ ap (at_start config) c.in_ok-memory.ensures in
+    let first = c.in-Ok.ensures.opened ∙ ap (at_start config) c.in_ok-memory.ensures.memory in
     let after : m ≡ after_all (at_start config words) events = c.drive_round-driven.ensures.machine ∙ ap (λ (k : Machine). after_all k events) first in
     let served = subst (λ (ts : List Thread). AreServed thread_acts (at_start config words) m ts threads) (c.as_mut_slice-threads.ensures.value ∙ c.in_ok-started.ensures)
     (subst (λ (k : Machine). AreServed thread_acts k m c.as_mut_slice-threads.result.now threads) first c.drive_round-driven.ensures.served) in
     let legal = subst (λ (k : Machine). Legal (memory_opened test) (λ core. slice_index_or k.issued core []) k.records) (sym after) (c.every_history_is_legal.ensures.legal config words events c.requires.good) in
-    let standing = subst (λ (k : Machine). (arranged : List Record) → Arrangement k.records arranged → (word : ℕ) → standing_value k word ≡ replay_end (memory_opened test) (map (λ r. r.op) arranged) word) (sym after)
-    (c.every_history_is_legal.ensures.standing config words events c.requires.good) in
+    let left_in = subst (λ (k : Machine). (arranged : List Record) → Arrangement k.records arranged → (word : ℕ) → coherent k word ≡ replay_end (memory_opened test) (map (λ r. r.op) arranged) word) (sym after)
+    (c.every_history_is_legal.ensures.coherent config words events c.requires.good) in
     subst (λ s. IfSome s (IsOutcome test)) (sym c.in_ok-state.ensures)
     (state_of test c.drive_round-driven.result.end threads m (IsOutcome test) (λ all.
     c.performed_histories_are_sequential.ensures text test _ m.records legal.arranged threads _ is legal legal.arrangement
     (performed test config m threads c.requires.cores served (λ core below. c.drive_round-driven.ensures.all_done all core (subst (λ (k : Machine). core < k.config.cores) (sym first) below)))
-    (left test config m threads c.requires.cores served legal.arranged (standing legal.arranged legal.arrangement))))
+    (left test config m threads c.requires.cores served legal.arranged (left_in legal.arranged legal.arrangement))))

@@ -1,7 +1,7 @@
 use Rattle.std.proofs.Common.{ℕ, List, refl, subst}
 use Rattle.litmus_reader.specs.ThreadSteps.{settled}
 use Rattle.sequential_machine.specs.Threads.{Goes}
-use Rattle.sequential_machine.proofs.Stepping.{settles, performs, none_left}
+use Rattle.sequential_machine.proofs.ThreadSteps.{settles, performs, none_left}
 use Rattle.sequential_machine.proofs.laws.programs_are_threads.Goals as goal
 
 pub returns-clause-opened : goal.returns-clause-opened

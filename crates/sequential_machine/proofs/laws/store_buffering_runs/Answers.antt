@@ -1,4 +1,4 @@
-use Rattle.sequential_machine.proofs.Turns.{both_receive_one, one_receives_zero}
+use Rattle.sequential_machine.proofs.Steps.{both_receive_one, one_receives_zero}
 use Rattle.sequential_machine.proofs.NeverBoth.{never_both}
 use Rattle.sequential_machine.proofs.laws.store_buffering_runs.Goals as goal
 

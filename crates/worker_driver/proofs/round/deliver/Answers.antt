@@ -38,7 +38,7 @@ returns-in_err-step-clause-stops g c programs left =
     (held g.P.Program.acts a.plan a.system.now programs a.log.now a.number left c.in_ok-answer.answer c.step.new.system c.step.new.log
     c.in_ok-answer.ensures (search rules))
     c.step-2.new.system programs c.step-2.new.log c.in_err-step.field-0.0
-    (room_stops g.P.Program.acts a.plan c.step.new.system programs c.step.new.log a.number left c.in-Some.place.0 c.in-Some.place.1
+    (room_stops g.P.Program.acts a.plan c.step.new.system programs c.step.new.log a.number left c.in-Some.victim.0 c.in-Some.victim.1
     c.in_err-step.field-0.0 c.step-2.new.system c.step-2.new.log (search rules) c.in_err-step.ensures))
 
 pub returns-clause-goes_on : goal.returns-clause-goes_on
@@ -49,5 +49,5 @@ returns-clause-goes_on g c programs left =
     (held g.P.Program.acts a.plan a.system.now programs a.log.now a.number left c.in_ok-answer.answer c.step.new.system c.step.new.log
     c.in_ok-answer.ensures (search rules))
     (at c.step-2.new.system programs c.step-2.new.log (Delivering left))
-    (room_made g.P.Program.acts a.plan c.step.new.system programs c.step.new.log a.number left c.in-Some.place.0 c.in-Some.place.1
+    (room_made g.P.Program.acts a.plan c.step.new.system programs c.step.new.log a.number left c.in-Some.victim.0 c.in-Some.victim.1
     c.in_ok-step.field-0 c.step-2.new.system c.step-2.new.log (search rules) c.in_ok-step.ensures)

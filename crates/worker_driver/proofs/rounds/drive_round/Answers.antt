@@ -1,4 +1,4 @@
-use Rattle.std.proofs.Common.{arith}
+use Rattle.std.proofs.Common.{◌∙◌, arith}
 use Rattle.worker_driver.specs.Follows.{opening}
 use Rattle.worker_driver.proofs.RunLaws.{run_makes, run_leaves_nothing}
 use Rattle.worker_driver.proofs.Served.{all_served}
@@ -21,4 +21,5 @@ pub returns-clause-served : goal.returns-clause-served
 returns-clause-served g c =
     let a = c.args in
     let n = c.rounds-end.new in
-    all_served g.P.Program.acts (record { cores = c.cores.result; line_words = c.line_words.result; limit = a.limit }) (opening a.system.now a.programs.now) c.cores.ensures.stands n.log.events n.system n.programs c.rounds-end.result c.rounds-end.ensures
+    all_served g.P.Program.acts (record { cores = c.cores.result; line_words = c.line_words.result; limit = a.limit }) (opening a.system.now a.programs.now)
+    (c.cores.ensures.count ∙ c.cores.ensures.cores) (c.records-before.ensures.issued) n.log.events n.system n.programs c.rounds-end.result c.records-after.ensures.issued c.rounds-end.ensures

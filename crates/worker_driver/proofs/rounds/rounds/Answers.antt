@@ -6,7 +6,7 @@ use Rattle.worker_driver.proofs.RoundEnds.{all_done, turns_used, begun, stalled,
 use Rattle.worker_driver.proofs.rounds.rounds.Goals as goal
 
 pub loop-made-init : goal.loop-made-init
-loop-made-init g c = rw (c.requires.nothing_yet, c.requires.not_moved) stays
+loop-made-init g c = rw (c.requires.nothing_yet, c.requires.no_progress_yet) stays
 
 pub returns-then-are_over : goal.returns-then-are_over
 returns-then-are_over g c =
@@ -26,8 +26,8 @@ returns-in-Err g c =
     c.if-are_over.ensures.over) c.loop-made-test.true) in
     c.in-Err.ensures.stops start l._made began
 
-pub returns-then-not-has_moved : goal.returns-then-not-has_moved
-returns-then-not-has_moved g c =
+pub returns-then-not-has_progressed : goal.returns-then-not-has_progressed
+returns-then-not-has_progressed g c =
     let a = c.args in
     let l = c.loop-made in
     let b = c.begin_round.new.self in
@@ -37,7 +37,7 @@ returns-then-not-has_moved g c =
     rw (c.begin_round.ensures, c.are_over.ensures.same) (begun g.P.Program.acts a.plan start l.system l.programs l.log l._made l.invariant (sym
     c.if-are_over.ensures.over) c.loop-made-test.true) in
     stalled g.P.Program.acts a.plan start n.system n.programs n.log l._made (c.in_default.ensures.goes_on start l._made began) (sym
-    c.if-not-has_moved.ensures)
+    c.if-not-has_progressed.ensures)
 
 pub loop-made-preserved : goal.loop-made-preserved
 loop-made-preserved g c =
@@ -50,7 +50,7 @@ loop-made-preserved g c =
     rw (c.begin_round.ensures, c.are_over.ensures.same) (begun g.P.Program.acts a.plan start l.system l.programs l.log l._made l.invariant (sym
     c.if-are_over.ensures.over) c.loop-made-test.true) in
     round_over g.P.Program.acts a.plan start n.system n.programs n.log l._made (c.in_default.ensures.goes_on start l._made began) (sym
-    c.if-not-has_moved.ensures)
+    c.if-not-has_progressed.ensures)
 
 pub returns-then-are_over-2 : goal.returns-then-are_over-2
 returns-then-are_over-2 g c =

@@ -5,9 +5,9 @@ use Rattle.core_pts.specs.CoreTable.{CoreState}
 use Rattle.machine_table.specs.declared.event.Answer.TheVariants.{Issued}
 use Rattle.machine_table.specs.Machine.{Machine}
 use Rattle.machine_table.specs.Transition.{issue_at}
-use Rattle.machine_history.specs.Steps.{Stands}
+use Rattle.machine_theorem.specs.Kept.{Invariant}
 use Rattle.interleaving_core.specs.contracts.machine_state.MachineState.{the_view}
-use Rattle.interleaving_core.proofs.Changes.{issue_changes}
+use Rattle.interleaving_core.proofs.Issued.{issue_changes}
 use Rattle.interleaving_core.proofs.Owed.{no_open, owed_within}
 use Rattle.interleaving_core.proofs.machine_state.MachineState.issue.Goals as goal
 
@@ -19,7 +19,7 @@ invariant_of-self-2 c =
       cores_are = c.self.invariant.cores_are;
       banks_are = c.self.invariant.banks_are;
       capacity_is = c.self.invariant.capacity_is;
-      room = omega (arith, same, most, c.in_ok-make_places.ensures.ok, c.len-2.ensures);
+      reserved = omega (arith, same, most, c.in_ok-reserve.ensures.ok, c.len-2.ensures);
     }
 
 pub returns-clause-done : goal.returns-clause-done
@@ -32,9 +32,9 @@ returns-clause-done c =
     let free = ap (λ (x : CoreState). x.open_op) (sym tested) ∙ no_open c.index.result.now.open_op c.index.result.now.is_out (ap is_some (sym c.open_op.ensures) ∙ sym c.is_some.ensures ∙ c.if-is_some.false) in
     let number = ap (λ (x : CoreState). x.issued) counted in
     let few = lt-ltb c.index_mut-2.result.now.issued 4294967295 (omega (arith, number, c.issued.ensures, c.if-issued-ge4294967295.false)) in
-    let shape = (subst Stands (sym c.self.view_is) c.requires).whole in
+    let shape = (subst Invariant (sym c.self.view_is) c.requires).whole in
     let lists = slice_get_read c.self.inside.issued.items (length c.self.inside.issued.items) c.args.core c.index_mut.result.now refl (omega (arith, within, shape.lists, shape.core_count)) c.index_mut.ensures.value in
     let longer = c.in_ok-push.ensures.pushed ∙ ap (λ os. os ++ c.args.op ∷ []) (sym (get_or_from_slice_get c.self.inside.issued.items c.args.core c.index_mut.result.now [] lists)) in
-    ap (λ rs. (Issued, record m { cores = set m.cores c.args.core c.issue-issued.new.self; issued = set m.issued c.args.core c.push.new.self; records = rs })) c.make_places.ensures.items
+    ap (λ rs. (Issued, record m { cores = set m.cores c.args.core c.issue-issued.new.self; issued = set m.issued c.args.core c.push.new.self; records = rs })) c.reserve.ensures.items
     ∙ issue_changes m c.args.core c.index_mut-2.result.now here c.args.op c.issue-issued.new.self _ c.push.new.self free few c.issue-issued.ensures longer
     ∙ ap (λ (n : Machine). issue_at n c.args.core c.args.op (slice_get n.cores c.args.core)) c.self.view_is

@@ -1,6 +1,6 @@
 use Rattle.std.proofs.Common.{ap, ◌∙◌, arith, length}
-use Rattle.interleaving_core.specs.Rooms.{owed}
-use Rattle.interleaving_core.specs.Traffic.{Traffic}
+use Rattle.interleaving_core.specs.Reserved.{owed}
+use Rattle.network.specs.Flight.{Flight}
 use Rattle.interleaving_core.proofs.Owed.{none_at_first}
 use Rattle.interleaving_core.proofs.machine_state.MachineState.open.Goals as goal
 
@@ -9,8 +9,8 @@ invariant_of-result c =
     let none = ap owed c.in_ok-cores.ensures ∙ none_at_first c.args.config 0 c.args.config.cores in
     let empty = ap length c.new-2.ensures.items in
     record {
-      cores_are = ap (λ (t : Traffic). t.cores) c.new.ensures;
-      banks_are = ap (λ (t : Traffic). t.banks) c.new.ensures;
-      capacity_is = ap (λ (t : Traffic). t.capacity) c.new.ensures;
-      room = omega (arith, none, empty);
+      cores_are = ap (λ (t : Flight). t.cores) c.new.ensures;
+      banks_are = ap (λ (t : Flight). t.banks) c.new.ensures;
+      capacity_is = ap (λ (t : Flight). t.capacity) c.new.ensures;
+      reserved = omega (arith, none, empty);
     }

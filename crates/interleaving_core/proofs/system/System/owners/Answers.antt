@@ -1,9 +1,12 @@
 use Rattle.std.proofs.Common.{arith}
-use Rattle.machine_history.proofs.History.{one_right}
+use Rattle.machine_theorem.proofs.History.{one_owner}
 use Rattle.interleaving_core.proofs.system.System.owners.Goals as goal
 
-pub rights-requires : goal.rights-requires
-rights-requires c = one_right _ c.self.invariant.1 c.args.line
+pub owners-requires : goal.owners-requires
+owners-requires c = one_owner _ c.self.invariant.1 c.args.line
 
 pub returns-clause-one : goal.returns-clause-one
-returns-clause-one c = let one = one_right _ c.self.invariant.1 c.args.line in omega (arith, one, c.rights.ensures)
+returns-clause-one c = let one = one_owner _ c.self.invariant.1 c.args.line in omega (arith, one, c.owners.ensures)
+
+pub overflow_cast-result : goal.overflow_cast-result
+overflow_cast-result c = let one = one_owner _ c.self.invariant.1 c.args.line in omega (arith, one, c.owners.ensures)

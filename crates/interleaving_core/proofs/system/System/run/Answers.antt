@@ -1,9 +1,11 @@
 use Rattle.std.proofs.Common.{◌++◌, [], ◌∷◌, List, length, length-append, take, refl, ap, sym, subst, ◌∙◌, arith}
-use Rattle.std.proofs.lemmas.List.{take_more}
+use Rattle.std.proofs.lemmas.List.{take_all, take_more}
 use Rattle.machine_table.specs.declared.event.Answer.{Answer}
 use Rattle.machine_table.specs.declared.event.Event.{Event}
-use Rattle.machine_history.proofs.SetUps.{set_up_same}
+use Rattle.machine_theorem.proofs.SetUps.{set_up_same}
 use Rattle.interleaving_core.specs.Stepped.{Ran}
+use Rattle.machine_theorem.specs.Kept.{Invariant}
+use Rattle.interleaving_core.proofs.Throughout.{throughout}
 use Rattle.interleaving_core.proofs.Running.{ran_more, set_up_on}
 use Rattle.interleaving_core.proofs.system.System.run.Goals as goal
 
@@ -29,3 +31,8 @@ loop-event-preserved c =
       set_up = set_up_on _ _ _ c.loop-event.invariant.set_up c.step-answer.ensures.set_up;
       many = omega (arith, one, more, c.loop-event.invariant.many, c.add.ensures.room, c.loop-event-test.true);
     }
+
+pub returns-clause-throughout : goal.returns-clause-throughout
+returns-clause-throughout c = λ k.
+    throughout c.args.self.now c.loop-event.self c.args.events.now c.loop-event.answers.items (subst Invariant c.self.view_is c.self.invariant.1)
+    (subst (λ (es : List Event). Ran c.args.self.now es c.loop-event.answers.items c.loop-event.self) (take_all c.loop-event.event-index c.args.events.now c.loop-event-test.false) c.loop-event.invariant.ran) k

@@ -1,15 +1,15 @@
 use Rattle.std.proofs.Common.{ap, subst, ◌∙◌}
 use Rattle.machine_table.specs.Machine.{Machine}
 use Rattle.machine_table.specs.SetUp.{is_good}
-use Rattle.machine_history.specs.Steps.{SetUpAs}
+use Rattle.machine_theorem.specs.Kept.{SetUpAs}
 use Rattle.interleaving_core.proofs.InOrder.{step_numbers}
-use Rattle.interleaving_core.proofs.Standing.{step_set_up, step_stands}
+use Rattle.interleaving_core.proofs.Coherence.{step_set_up, step_invariant}
 use Rattle.interleaving_core.proofs.system.System.step.Goals as goal
 
 pub invariant_of-self : goal.invariant_of-self
 invariant_of-self c = (
   ap is_good (step_set_up _ c.args.event _ _ c.step.ensures.stepped).config ∙ c.self.invariant.0,
-  step_stands _ c.args.event _ _ c.self.invariant.1 c.step.ensures.stepped,
+  step_invariant _ c.args.event _ _ c.self.invariant.1 c.step.ensures.stepped,
   step_numbers _ c.args.event _ _ c.self.invariant.2 c.step.ensures.stepped,
 )
 

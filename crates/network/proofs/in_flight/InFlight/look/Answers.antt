@@ -8,5 +8,5 @@ message_of-requires c = rw c.deref.ensures.value (IsRising-higher 0 c.self.insid
 pub returns-clause-value : goal.returns-clause-value
 returns-clause-value c = rw (← c.self.view_is, ← c.number.view_is, ← c.deref.ensures.value) c.message_of.ensures
 
-pub returns-clause-ends : goal.returns-clause-ends
-returns-clause-ends c = rw (← c.self.view_is) (ends_if_seen _ _ c.number.inside.0 c.message_of.result _ c.self.invariant.ends (rw (← c.deref.ensures.value) c.message_of.ensures))
+pub returns-clause-endpoints : goal.returns-clause-endpoints
+returns-clause-endpoints c = rw (← c.self.view_is) (ends_if_seen _ _ c.number.inside.0 c.message_of.result _ c.self.invariant.endpoints (rw (← c.deref.ensures.value) c.message_of.ensures))

@@ -7,10 +7,10 @@ use Rattle.network.proofs.in_flight.InFlight.send.Goals as goal
 pub invariant_of-self-2 : goal.invariant_of-self-2
 invariant_of-self-2 c =
     let pushed : c.push_reserved.new.self.items ≡ c.self.inside.slots.items ++ (c.self.inside.next, Some c.args.message) ∷ [] = rw (← c.reserve_slot.ensures.items) c.push_reserved.ensures.items in
-    IsKept-send c.self.inside.cores c.self.inside.banks c.self.inside.capacity c.self.inside.next c.self.inside.count c.args.message c.self.inside.slots.items c.push_reserved.new.self.items c.self.invariant pushed (omega arith) (omega arith) (rw (← c.self.view_is) at c.requires)
+    rw c.with-counts.ensures (IsKept-send c.self.inside.cores c.self.inside.banks c.self.inside.capacity c.self.inside.next c.self.inside.count c.self.inside.counts c.args.message c.self.inside.slots.items c.push_reserved.new.self.items c.self.invariant pushed (omega arith) (omega arith) (rw (← c.self.view_is) at c.requires))
 
 pub returns-clause-after : goal.returns-clause-after
 returns-clause-after c =
     let pushed : c.push_reserved.new.self.items ≡ c.self.inside.slots.items ++ (c.self.inside.next, Some c.args.message) ∷ [] = rw (← c.reserve_slot.ensures.items) c.push_reserved.ensures.items in
     let there : still_there c.push_reserved.new.self.items ≡ still_there c.self.inside.slots.items ++ (c.self.inside.next, c.args.message) ∷ [] = ap still_there pushed ∙ still_there-append c.self.inside.next c.args.message c.self.inside.slots.items in
-    rw (← c.self.view_is) (rw there refl)
+    rw (← c.self.view_is, c.with-counts.ensures) (rw there refl)

@@ -1,0 +1,50 @@
+-- What a change of one part makes of the part and the messages in flight, and what its answer makes of the machine.
+use Rattle.std.specs.Prelude.{◌≡◌, ℕ, Bool, true, false, List, [], ◌∷◌, ◌++◌, Option, Some, None, if◌then◌else◌}
+use Rattle.physiological_order.specs.declared.operation.Record.{Record}
+use Rattle.network.specs.declared.message.Node.{Node}
+use Rattle.network.specs.declared.part.Reaction.{Reaction}
+use Rattle.network.specs.declared.part.Reaction.TheVariants.{Done, Dropped, Held, HeldAfter}
+use Rattle.network.specs.Mail.{Mail, has_capacity, has_number, sent, taken, answered}
+use Rattle.machine_table.specs.declared.event.Answer.{Answer}
+use Rattle.machine_table.specs.declared.event.Answer.TheVariants as answer
+use Rattle.machine_table.specs.declared.event.Refusal.TheVariants.{Exhausted}
+use Rattle.machine_table.specs.Change.{Change, Keeps, Exhausts, Drops, Makes, Completes}
+
+-- the answer, and the part and the messages in flight afterwards
+abbrev pub applied : {S : Type 0} → S → Mail → Change S → Answer × S × Mail
+applied part mail (Keeps why) = (why, part, mail)
+applied part mail Exhausts = (answer.Refused Exhausted, part, mail)
+applied part mail (Drops left) = (answer.Dropped, part, left)
+applied part mail (Makes done after sent) = (done, after, sent)
+applied part mail (Completes done after) = (answer.Completed done, after, mail)
+
+-- a completion adds its record
+abbrev pub with_record : List Record → Answer → List Record
+with_record records (answer.Completed done) = records ++ done ∷ []
+with_record records _ = records
+
+-- exhausted times stop the machine
+abbrev pub stops : Answer → Bool
+stops (answer.Refused Exhausted) = true
+stops _ = false
+
+-- whether what a part would send can be sent: an answer takes the place of the delivered message
+abbrev pub can_send : ℕ → Mail → Option (Node × Bool) → Bool
+can_send capacity mail None = true
+can_send capacity mail (Some sends) = if sends.1 then has_capacity capacity mail else has_number mail
+
+-- what a reaction to a delivered message is answered, and the messages in flight afterwards
+abbrev pub settled : Mail → ℕ → Reaction → Answer × Mail
+settled mail n Held = (answer.Held, mail)
+settled mail n Dropped = (answer.Dropped, taken mail n)
+settled mail n (Done None) = (answer.Delivered, taken mail n)
+settled mail n (Done (Some reply)) = (answer.Delivered, answered mail n reply)
+settled mail n (HeldAfter started) = (answer.Started, sent mail started)
+
+-- a message that is held or dropped leaves the part unchanged
+abbrev pub IsQuiet : {S : Type 0} → S → Option (Reaction × S) → Type 0
+IsQuiet part None = Unit {0}
+IsQuiet part (Some (Held, after)) = after ≡ part
+IsQuiet part (Some (Dropped, after)) = after ≡ part
+IsQuiet part (Some (Done reply, after)) = Unit {0}
+IsQuiet part (Some (HeldAfter started, after)) = Unit {0}

@@ -1,0 +1,183 @@
+//! Events of one core or one bank: what they make of it and of the messages in flight.
+ghost use Rattle.std.specs.Prelude.{◌≡◌, ◌<◌, ◌+◌, ◌++◌, ◌∷◌, [], false, true, IfOk, IsOk, IsTrue, OnErr, length, Some, vec_capacity};
+ghost use Rattle.core_pts.specs.CoreTable.{advance, evict, is_on, pinned_line};
+ghost use Rattle.network.specs.Mail.{Mail};
+ghost use Rattle.llc_bank.specs.BankTable as bank_table;
+ghost use Rattle.interleaving_core.specs.LookUps.{is_request};
+ghost use Rattle.machine_table.specs.Change.{advanced, attempt, copy_evicted, entry_evicted, requests};
+ghost use Rattle.interleaving_core.specs.Applied.{applied};
+ghost use Rattle.interleaving_core.specs.Endpoints.{BackHasEndpoints, EvictedHasEndpoints, is_sent_back};
+ghost use Rattle.interleaving_core.specs.Reserved.{completes};
+
+use crate::reactions::send;
+use core_pts::{Attempt, Core, nothing_completed_keeps};
+use llc_bank::{Bank, Evict, EvictError};
+use machine_table::{Answer, Refusal};
+use network::{Body, InFlight, LineNo};
+use physiological_order::{Op, Record};
+use private_cache::{CacheError, CopyState};
+use std::alloc::AllocError;
+use timestamp_manager::Exhausted;
+
+/// A core of this number attempts its open operation, where so many operations were completed before. A completion takes
+/// no memory.
+pub(crate) fn attempt(
+    core: &mut Core,
+    flight: &mut InFlight,
+    number: u32,
+    count: usize,
+) -> Result<Answer, AllocError>
+    requires number { core.old.number < flight.old.cores }
+    requires banks { core.old.banks ≡ flight.old.banks }
+    ensures done { IfOk result (λ answer. (answer, core.new, flight.new.mail) ≡ applied core.old flight.old.mail (attempt number count flight.old.capacity flight.old.mail core.old)) }
+    ensures set_up { flight.new ≡ record flight.old { reserved = flight.new.reserved; mail = flight.new.mail } }
+    ensures refused { OnErr result (core.new ≡ core.old) }
+    ensures kept { OnErr result (flight.new.mail ≡ flight.old.mail) }
+    ensures completed { IsTrue (completes core.old) → IsOk result }
+    ensures memory { OnErr result (flight.old.mail.next < (applied core.old flight.old.mail (attempt number count flight.old.capacity flight.old.mail core.old)).2.next) }
+{
+    nothing_completed_keeps();
+    let Some((op, _)) = core.open_op() else {
+        return Ok(Answer::Idle);
+    };
+    let issued = core.issued();
+    match core.attempt() {
+        Err(Exhausted) => Ok(Answer::Refused(Refusal::Exhausted)),
+        Ok(Attempt::Completed(received, ts)) => Ok(Answer::Completed(Record {
+            core: number,
+            place: issued.saturating_sub(1),
+            op,
+            received,
+            ts,
+            number: count as u64,
+        })),
+        Ok(Attempt::NeedShared(pts, version)) => {
+            request(core, flight, &op, Body::ShReq { pts, version })
+        }
+        Ok(Attempt::NeedExclusive(version)) => request(core, flight, &op, Body::ExReq { version }),
+        Ok(Attempt::NoRoom) => Ok(Answer::Refused(Refusal::NoRoom)),
+        Ok(Attempt::Waiting) => Ok(Answer::Waiting),
+        Ok(Attempt::Idle) => Ok(Answer::Idle),
+    }
+}
+
+/// A core asks the bank of an operation's line.
+fn request(
+    core: &mut Core,
+    flight: &mut InFlight,
+    op: &Op,
+    body: Body,
+) -> Result<Answer, AllocError>
+    requires request { IsTrue (is_request body) }
+    requires number { core.old.number < flight.old.cores }
+    requires banks { core.old.banks ≡ flight.old.banks }
+    ensures done { IfOk result (λ answer. (answer, core.new, flight.new.mail) ≡ applied core.old flight.old.mail (requests flight.old.capacity flight.old.mail core.old op.now body)) }
+    ensures memory { OnErr result (flight.old.mail.next < (applied core.old flight.old.mail (requests flight.old.capacity flight.old.mail core.old op.now body)).2.next) }
+    ensures set_up { flight.new ≡ record flight.old { reserved = flight.new.reserved; mail = flight.new.mail } }
+    ensures refused { OnErr result (core.new ≡ core.old) }
+    ensures kept { OnErr result (flight.new.mail ≡ flight.old.mail) }
+{
+    if !flight.has_capacity() {
+        return Ok(Answer::Refused(Refusal::NetworkFull));
+    }
+    flight.reserve()?;
+    let message = core.to_bank(core.line_of(*op), body);
+    send(flight, message);
+    core.requested();
+    Ok(Answer::Requested)
+}
+
+/// A core's time goes on by one.
+pub(crate) fn advance(core: &mut Core) -> Answer
+    ensures { (mail : Mail) → (result, core.new, mail) ≡ applied core.old mail (advanced mail (advance core.old)) }
+{
+    match core.advance() {
+        Err(Exhausted) => Answer::Refused(Refusal::Exhausted),
+        Ok(()) => Answer::Advanced,
+    }
+}
+
+/// A copy of a line leaves a core's cache. A copy that the core owns is sent back.
+pub(crate) fn evict_copy(
+    core: &mut Core,
+    flight: &mut InFlight,
+    line: LineNo,
+) -> Result<Answer, AllocError>
+    requires endpoints { BackHasEndpoints flight.old.cores flight.old.banks (evict core.old line).0 }
+    ensures done { IfOk result (λ answer. (answer, core.new, flight.new.mail) ≡ applied core.old flight.old.mail (copy_evicted flight.old.capacity flight.old.mail (evict core.old line))) }
+    ensures memory { OnErr result (flight.old.mail.next < (applied core.old flight.old.mail (copy_evicted flight.old.capacity flight.old.mail (evict core.old line))).2.next) }
+    ensures set_up { flight.new ≡ record flight.old { reserved = flight.new.reserved; mail = flight.new.mail } }
+    ensures refused { OnErr result (core.new ≡ core.old) }
+    ensures kept { OnErr result (flight.new.mail ≡ flight.old.mail) }
+{
+    if sends_back(core, line) {
+        if !flight.has_capacity() {
+            return Ok(Answer::Refused(Refusal::NetworkFull));
+        }
+        flight.reserve()?;
+    }
+    match core.evict(line) {
+        Err(CacheError::NotHere) => Ok(Answer::Refused(Refusal::NoSuch)),
+        Err(CacheError::NoRoom) => Ok(Answer::Refused(Refusal::NoSuch)),
+        Err(CacheError::Pinned) => Ok(Answer::Refused(Refusal::Pinned)),
+        Ok(None) => Ok(Answer::Evicted),
+        Ok(Some(back)) => {
+            send(flight, back);
+            Ok(Answer::Evicted)
+        }
+    }
+}
+
+/// A line leaves a bank, or its owner is asked to give it back for that.
+pub(crate) fn evict_entry(
+    bank: &mut Bank,
+    flight: &mut InFlight,
+    line: LineNo,
+) -> Result<Answer, AllocError>
+    requires endpoints { EvictedHasEndpoints flight.old.cores flight.old.banks (bank_table.evict bank.old line).0 }
+    ensures done { IfOk result (λ answer. (answer, bank.new, flight.new.mail) ≡ applied bank.old flight.old.mail (entry_evicted flight.old.capacity flight.old.mail (bank_table.evict bank.old line))) }
+    ensures memory { OnErr result (flight.old.mail.next < (applied bank.old flight.old.mail (entry_evicted flight.old.capacity flight.old.mail (bank_table.evict bank.old line))).2.next) }
+    ensures set_up { flight.new ≡ record flight.old { reserved = flight.new.reserved; mail = flight.new.mail } }
+    ensures refused { OnErr result (bank.new ≡ bank.old) }
+    ensures kept { OnErr result (flight.new.mail ≡ flight.old.mail) }
+{
+    if let Ok(Some(_)) = bank.evicts(line) {
+        if !flight.has_capacity() {
+            return Ok(Answer::Refused(Refusal::NetworkFull));
+        }
+        flight.reserve()?;
+    }
+    match bank.evict(line) {
+        Err(EvictError::NotHere) => Ok(Answer::Refused(Refusal::NoSuch)),
+        Err(EvictError::Busy) => Ok(Answer::Refused(Refusal::Busy)),
+        Ok(Evict::Clean) => Ok(Answer::Evicted),
+        Ok(Evict::Stored(store)) => {
+            send(flight, store);
+            Ok(Answer::Evicted)
+        }
+        Ok(Evict::Recalled(recall)) => {
+            send(flight, recall);
+            Ok(Answer::Recalled)
+        }
+    }
+}
+
+// Whether an eviction of a line's copy sends it back.
+fn sends_back(core: &Core, line: LineNo) -> bool
+    ensures { result ≡ is_sent_back (evict core.now line).0 }
+{
+    let Some(copy) = core.copy(line) else {
+        return false;
+    };
+    matches!(copy.state, CopyState::Exclusive) && !is_pinned(core, line)
+}
+
+// Whether the open operation is on a line.
+fn is_pinned(core: &Core, line: LineNo) -> bool
+    ensures { result ≡ is_on (pinned_line core.now) line }
+{
+    match core.open_op() {
+        Some((op, _)) => core.line_of(op) == line,
+        None => false,
+    }
+}

@@ -1,0 +1,120 @@
+//! A message in flight is handed to the part that it goes to.
+ghost use Rattle.std.specs.Prelude.{◌≡◌, ◌<◌, ◌≤◌, IfOk, IsSome, IsTrue, OnErr, Some};
+ghost use Rattle.network.specs.Mail.{answered, has_capacity, has_number, sent, taken};
+ghost use Rattle.network.specs.Numbered.{at_number};
+ghost use Rattle.network.specs.Routes.{has_endpoints};
+ghost use Rattle.network.specs.Sent.{sent_by, sent_in};
+ghost use Rattle.machine_table.specs.Change.{reacted};
+ghost use Rattle.interleaving_core.specs.Applied.{IsQuiet, applied, can_send, settled};
+ghost use Rattle.interleaving_core.specs.Endpoints.{ReactionHasEndpoints, SendsWithEndpoints};
+
+use machine_table::{Answer, Refusal};
+use network::{InFlight, Message, MsgNo, Node, Part, PartError, Reaction};
+use std::alloc::AllocError;
+
+/// Hands a message to its part. NetworkFull, if what the part would send can't be sent, and Exhausted leave the part
+/// and the messages unchanged; an error does so too, and comes only if a message would be sent.
+pub(crate) fn react<P: Part>(
+    part: &mut P,
+    flight: &mut InFlight,
+    number: MsgNo,
+    message: &Message,
+) -> Result<Answer, AllocError>
+    requires there { at_number number flight.old.mail.messages ≡ Some message.now }
+    requires case { IsTrue (P.has_case part.old message.now) }
+    requires quiet { IsQuiet part.old (P.table part.old message.now) }
+    requires endpoints { IsTrue (can_send flight.old.capacity flight.old.mail (sent_by (P.table part.old message.now))) → ReactionHasEndpoints flight.old.cores flight.old.banks (P.table part.old message.now) }
+    ensures done { IfOk result (λ answer. (answer, part.new, flight.new.mail) ≡ applied part.old flight.old.mail (reacted flight.old.capacity flight.old.mail number (P.table part.old message.now))) }
+    ensures memory { OnErr result (flight.old.mail.next < (applied part.old flight.old.mail (reacted flight.old.capacity flight.old.mail number (P.table part.old message.now))).2.next) }
+    ensures refused { OnErr result (part.new ≡ part.old) }
+    ensures set_up { flight.new ≡ record flight.old { reserved = flight.new.reserved; mail = flight.new.mail } }
+    ensures kept { OnErr result (flight.new.mail ≡ flight.old.mail) }
+{
+    let sends = part.sends(message);
+    if !can_send(flight, sends) {
+        return Ok(Answer::Refused(Refusal::NetworkFull));
+    }
+    if sends.is_some() {
+        flight.reserve()?;
+    }
+    match part.deliver(message) {
+        Err(PartError::Exhausted) => Ok(Answer::Refused(Refusal::Exhausted)),
+        Err(PartError::NoMemory) => Err(AllocError),
+        Ok(reaction) => Ok(settle(flight, number, reaction)),
+    }
+}
+
+// Whether what a part would send can be sent: an answer takes the place of the delivered message.
+fn can_send(flight: &InFlight, sends: Option<(Node, bool)>) -> bool
+    ensures { result ≡ can_send flight.now.capacity flight.now.mail sends }
+{
+    match sends {
+        None => true,
+        Some((_, true)) => flight.has_capacity(),
+        Some((_, false)) => flight.has_number(),
+    }
+}
+
+// What a reaction to a delivered message is answered, and what becomes of the messages in flight.
+fn settle(flight: &mut InFlight, number: MsgNo, reaction: Reaction) -> Answer
+    requires there { IsSome (at_number number flight.old.mail.messages) }
+    requires endpoints { SendsWithEndpoints flight.old.cores flight.old.banks reaction }
+    requires capacity { IsTrue (can_send flight.old.capacity flight.old.mail (sent_in reaction)) }
+    requires reserved { IsSome (sent_in reaction) → 0 < flight.old.reserved }
+    ensures answer { (result, flight.new.mail) ≡ settled flight.old.mail number reaction }
+    ensures set_up { flight.new ≡ record flight.old { reserved = flight.new.reserved; mail = flight.new.mail } }
+{
+    match reaction {
+        Reaction::Held => Answer::Held,
+        Reaction::Dropped => {
+            take(flight, number);
+            Answer::Dropped
+        }
+        Reaction::Done(None) => {
+            take(flight, number);
+            Answer::Delivered
+        }
+        Reaction::Done(Some(reply)) => {
+            answer(flight, number, reply);
+            Answer::Delivered
+        }
+        Reaction::HeldAfter(started) => {
+            send(flight, started);
+            Answer::Started
+        }
+    }
+}
+
+/// Sends a message for which there is capacity, and memory was reserved.
+pub(crate) fn send(flight: &mut InFlight, message: Message)
+    requires endpoints { IsTrue (has_endpoints flight.old.cores flight.old.banks message) }
+    requires capacity { IsTrue (has_capacity flight.old.capacity flight.old.mail) }
+    requires reserved { 0 < flight.old.reserved }
+    ensures { flight.new ≡ record flight.old { reserved = flight.new.reserved; mail = sent flight.old.mail message } }
+{
+    match flight.send(message) {
+        Ok(_) => (),
+        Err(_) => unreachable!(),
+    }
+}
+
+// Takes a message that is in flight.
+fn take(flight: &mut InFlight, number: MsgNo)
+    ensures after { flight.new ≡ record flight.old { reserved = flight.new.reserved; mail = taken flight.old.mail number } }
+    ensures reserved { flight.old.reserved ≤ flight.new.reserved }
+{
+    let _message = flight.take(number);
+}
+
+// Takes a message that is in flight, and sends another in its place.
+fn answer(flight: &mut InFlight, number: MsgNo, message: Message)
+    requires there { IsSome (at_number number flight.old.mail.messages) }
+    requires endpoints { IsTrue (has_endpoints flight.old.cores flight.old.banks message) }
+    requires number { IsTrue (has_number flight.old.mail) }
+    requires reserved { 0 < flight.old.reserved }
+    ensures { flight.new ≡ record flight.old { reserved = flight.new.reserved; mail = answered flight.old.mail number message } }
+{
+    let _more = flight.has_capacity();
+    take(flight, number);
+    send(flight, message);
+}

@@ -1,0 +1,216 @@
+//! One event of the machine.
+ghost use Rattle.std.specs.Prelude.{◌≡◌, ◌≢◌, ℕ, IfOk, IfSome, IsOk, IsTrue, OnErr, Some, slice_get};
+ghost use Rattle.network.specs.Numbered.{at_number};
+ghost use Rattle.machine_table.specs.Transition.{advance_at, attempt_at, deliver_core, deliver_bank, deliver_dram, deliver_message, evict_copy, evict_entry, issue_at, transition};
+ghost use Rattle.machine_theorem.specs.Kept.{Invariant};
+ghost use Rattle.interleaving_core.specs.Reserved.{completes};
+ghost use Rattle.interleaving_core.specs.Stepped.{Stepped, TakesMemory};
+
+use crate::machine_state::MachineState;
+use crate::operations;
+use crate::reactions::react;
+use crate::records::{keep, reserve, stop};
+use machine_table::{Answer, Event, Refusal};
+use network::{LineNo, Message, MsgNo, Node};
+use physiological_order::Op;
+use std::alloc::AllocError;
+
+impl MachineState {
+    // An operation is opened at a core. Capacity for its record is reserved here.
+    fn issue(&mut self, core: u32, op: Op) -> Result<Answer, AllocError>
+        requires { Invariant self.old }
+        ensures done { IfOk result (λ answer. (answer, self.new) ≡ issue_at self.old core op (slice_get self.old.cores core)) }
+        ensures refused { OnErr result (self.new ≡ self.old) }
+        ensures wanted { OnErr result (TakesMemory self.old (issue_at self.old core op (slice_get self.old.cores core))) }
+    {
+        let at = core as usize;
+        if at >= self.cores.len() {
+            return Ok(Answer::Refused(Refusal::NoSuch));
+        }
+        if self.cores[at].open_op().is_some() {
+            return Ok(Answer::Refused(Refusal::Busy));
+        }
+        if self.cores[at].issued() >= u32::MAX {
+            return Ok(Answer::Refused(Refusal::TooMany));
+        }
+        reserve(&mut self.records, self.cores.len())?;
+        self.issued[at].push(&op)?;
+        let _issued = self.cores[at].issue(op);
+        Ok(Answer::Issued)
+    }
+
+    // A core tries to complete its open operation. A completion takes no memory.
+    fn attempt(&mut self, core: u32) -> Result<Answer, AllocError>
+        requires { Invariant self.old }
+        ensures done { IfOk result (λ answer. (answer, self.new) ≡ attempt_at self.old core (slice_get self.old.cores core)) }
+        ensures refused { OnErr result (self.new ≡ self.old) }
+        ensures wanted { OnErr result (TakesMemory self.old (attempt_at self.old core (slice_get self.old.cores core))) }
+        ensures completed { IfSome (slice_get self.old.cores core) (λ c. IsTrue (completes c) → IsOk result) }
+    {
+        let at = core as usize;
+        if at >= self.cores.len() {
+            return Ok(Answer::Refused(Refusal::NoSuch));
+        }
+        let count = self.records.len();
+        let answer = operations::attempt(&mut self.cores[at], &mut self.flight, core, count)?;
+        keep(&mut self.records, &answer);
+        stop(&mut self.is_stopped, &answer);
+        Ok(answer)
+    }
+
+    // A core's time goes on by one.
+    fn advance(&mut self, core: u32) -> Answer
+        ensures { (result, self.new) ≡ advance_at self.old core (slice_get self.old.cores core) }
+    {
+        let at = core as usize;
+        if at >= self.cores.len() {
+            return Answer::Refused(Refusal::NoSuch);
+        }
+        let answer = operations::advance(&mut self.cores[at]);
+        stop(&mut self.is_stopped, &answer);
+        answer
+    }
+
+    // A copy of a line leaves a core's cache.
+    fn evict_cache(&mut self, core: u32, line: LineNo) -> Result<Answer, AllocError>
+        requires { Invariant self.old }
+        ensures done { IfOk result (λ answer. (answer, self.new) ≡ evict_copy self.old core line (slice_get self.old.cores core)) }
+        ensures refused { OnErr result (self.new ≡ self.old) }
+        ensures wanted { OnErr result (TakesMemory self.old (evict_copy self.old core line (slice_get self.old.cores core))) }
+    {
+        let at = core as usize;
+        if at >= self.cores.len() {
+            return Ok(Answer::Refused(Refusal::NoSuch));
+        }
+        let answer = operations::evict_copy(&mut self.cores[at], &mut self.flight, line)?;
+        stop(&mut self.is_stopped, &answer);
+        Ok(answer)
+    }
+
+    // A line leaves a bank, or is recalled for that.
+    fn evict_bank(&mut self, bank: u32, line: LineNo) -> Result<Answer, AllocError>
+        requires { Invariant self.old }
+        ensures done { IfOk result (λ answer. (answer, self.new) ≡ evict_entry self.old bank line (slice_get self.old.banks bank)) }
+        ensures refused { OnErr result (self.new ≡ self.old) }
+        ensures wanted { OnErr result (TakesMemory self.old (evict_entry self.old bank line (slice_get self.old.banks bank))) }
+    {
+        let at = bank as usize;
+        if at >= self.banks.len() {
+            return Ok(Answer::Refused(Refusal::NoSuch));
+        }
+        let answer = operations::evict_entry(&mut self.banks[at], &mut self.flight, line)?;
+        stop(&mut self.is_stopped, &answer);
+        Ok(answer)
+    }
+
+    // A message in flight is delivered.
+    fn deliver(&mut self, number: MsgNo) -> Result<Answer, AllocError>
+        requires { Invariant self.old }
+        ensures done { IfOk result (λ answer. (answer, self.new) ≡ deliver_message self.old number (at_number number self.old.mail.messages)) }
+        ensures refused { OnErr result (self.new ≡ self.old) }
+        ensures wanted { OnErr result (TakesMemory self.old (deliver_message self.old number (at_number number self.old.mail.messages))) }
+    {
+        let Some(message) = self.flight.look(number).copied() else {
+            return Ok(Answer::Refused(Refusal::NoSuch));
+        };
+        match message.to {
+            Node::Core(core) => self.deliver_core(number, &message, core),
+            Node::Bank(bank) => self.deliver_bank(number, &message, bank),
+            Node::Dram(bank) => self.deliver_dram(number, &message, bank),
+        }
+    }
+
+    // A message reaches a core.
+    fn deliver_core(
+        &mut self,
+        number: MsgNo,
+        message: &Message,
+        core: u32,
+    ) -> Result<Answer, AllocError>
+        requires invariant { Invariant self.old }
+        requires there { at_number number self.old.mail.messages ≡ Some message.now }
+        requires to { message.now.to ≡ Node.Core core }
+        ensures done { IfOk result (λ answer. (answer, self.new) ≡ deliver_core self.old number message.now core (slice_get self.old.cores core)) }
+        ensures refused { OnErr result (self.new ≡ self.old) }
+        ensures wanted { OnErr result (TakesMemory self.old (deliver_core self.old number message.now core (slice_get self.old.cores core))) }
+    {
+        let at = core as usize;
+        if at >= self.cores.len() {
+            return Ok(Answer::Refused(Refusal::NoSuch));
+        }
+        let answer = react(&mut self.cores[at], &mut self.flight, number, message)?;
+        stop(&mut self.is_stopped, &answer);
+        Ok(answer)
+    }
+
+    // A message reaches a bank.
+    fn deliver_bank(
+        &mut self,
+        number: MsgNo,
+        message: &Message,
+        bank: u32,
+    ) -> Result<Answer, AllocError>
+        requires invariant { Invariant self.old }
+        requires there { at_number number self.old.mail.messages ≡ Some message.now }
+        requires to { message.now.to ≡ Node.Bank bank }
+        ensures done { IfOk result (λ answer. (answer, self.new) ≡ deliver_bank self.old number message.now bank (slice_get self.old.banks bank)) }
+        ensures refused { OnErr result (self.new ≡ self.old) }
+        ensures wanted { OnErr result (TakesMemory self.old (deliver_bank self.old number message.now bank (slice_get self.old.banks bank))) }
+    {
+        let at = bank as usize;
+        if at >= self.banks.len() {
+            return Ok(Answer::Refused(Refusal::NoSuch));
+        }
+        let answer = react(&mut self.banks[at], &mut self.flight, number, message)?;
+        stop(&mut self.is_stopped, &answer);
+        Ok(answer)
+    }
+
+    // A message reaches the DRAM behind a bank.
+    fn deliver_dram(
+        &mut self,
+        number: MsgNo,
+        message: &Message,
+        bank: u32,
+    ) -> Result<Answer, AllocError>
+        requires invariant { Invariant self.old }
+        requires there { at_number number self.old.mail.messages ≡ Some message.now }
+        requires to { message.now.to ≡ Node.Dram bank }
+        ensures done { IfOk result (λ answer. (answer, self.new) ≡ deliver_dram self.old number message.now bank (slice_get self.old.drams bank)) }
+        ensures refused { OnErr result (self.new ≡ self.old) }
+        ensures wanted { OnErr result (TakesMemory self.old (deliver_dram self.old number message.now bank (slice_get self.old.drams bank))) }
+    {
+        let at = bank as usize;
+        if at >= self.drams.len() {
+            return Ok(Answer::Refused(Refusal::NoSuch));
+        }
+        let answer = react(&mut self.drams[at], &mut self.flight, number, message)?;
+        stop(&mut self.is_stopped, &answer);
+        Ok(answer)
+    }
+
+    /// One event. The answer and the machine afterwards are those of the machine's table, or, where the table issues an
+    /// operation or sends a message, the answer is NoMemory and the machine is as it was.
+    pub(crate) fn step(&mut self, event: Event) -> Answer
+        requires { Invariant self.old }
+        ensures stepped { Stepped self.old event result self.new }
+        ensures advanced { (core : ℕ) → event ≡ Event.Advance core → result ≢ Answer.Refused Refusal.NoMemory }
+        ensures completed { (c : ℕ) → event ≡ Event.Attempt c → IfSome (slice_get self.old.cores c) (λ core. IsTrue (completes core) → result ≢ Answer.Refused Refusal.NoMemory) }
+    {
+        if self.is_stopped {
+            return Answer::Refused(Refusal::Stopped);
+        }
+        let answer = match event {
+            Event::Issue(core, op) => self.issue(core, op),
+            Event::Attempt(core) => self.attempt(core),
+            Event::Deliver(number) => self.deliver(number),
+            Event::EvictCache(core, line) => self.evict_cache(core, line),
+            Event::EvictBank(bank, line) => self.evict_bank(bank, line),
+            Event::Advance(core) => Ok(self.advance(core)),
+        };
+        match answer {
+            Ok(answer) => answer,
+            Err(AllocError) => Answer::Refused(Refusal::NoMemory),
+        }
+    }
+}

@@ -1,0 +1,12 @@
+pub mod ArenaLends
+pub mod Arenas
+pub mod BlockLends
+pub mod CellLends
+pub mod CellLists
+pub mod ChainLends
+pub mod Chains
+pub mod ErrorNumbers
+pub mod Filled
+pub mod ListLaws
+pub mod Ownership
+pub mod Rings

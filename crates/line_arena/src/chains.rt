@@ -1,0 +1,333 @@
+//! The lists of cells. Each is linked both ways inside the block, from its head and back to it.
+//!
+//! The end of the list l has the number `capacity + l`, so what is before the first cell and after the last one has a
+//! number too. The free cells that were used are one more list, the last. Its cells hold no value.
+ghost use Rattle.std.specs.Prelude.{◌≡◌, ℕ, ◌+◌, ◌^◌, ◌<◌, ◌≤◌, [], ◌∷◌, ◌++◌, if◌then◌else◌, nat_lt, length, get_or, slice_set, map, replicate, IfOk, IfSome, OnSome, IfNone, IsNone, is_some, ◌↔◌, Option, Some, None};
+ghost use Rattle.std.specs.Borrow.{sem};
+ghost use Rattle.line_arena.specs.declared.node.Node.{Node};
+ghost use Rattle.line_arena.specs.Filled.{IsFilled};
+ghost use Rattle.line_arena.specs.Rings.{no_head, node, at, edit, with_next, with_prev};
+ghost use Rattle.line_arena.specs.CellLists.{look_up, without, append_to};
+ghost use Rattle.line_arena.specs.Chains.{AreEmpty, total, rings_of, emptied, IsTied, SameUse, SameSizes};
+ghost use Rattle.line_arena.specs.Arenas.{IsArena, Lacks, Suits, shown, model, free_cells};
+
+use crate::block::Block;
+use crate::node::{Head, Node, Position};
+use std::alloc::{AllocError, Global};
+
+/// The block of cells and the heads of the lists.
+pub struct Chains<T> {
+    pub(crate) block: Block<Node<T>>,
+    pub(crate) heads: Vec<Head>,
+    pub(crate) capacity: u32,
+    // The cells from this one on were never used.
+    pub(crate) used: u32,
+}
+
+/// `inside` if the place is a cell, and `outside` if it is the end of a list.
+fn choose(place: u32, capacity: u32, inside: u32, outside: u32) -> u32
+    ensures { result ≡ (if nat_lt place capacity then inside else outside) }
+{
+    if place < capacity { inside } else { outside }
+}
+
+/// Writes the next cell of a cell. The end of a list has none.
+fn set_next<T>(block: &mut Block<Node<T>>, capacity: u32, cell: u32, to: u32)
+    requires { cell < capacity → IsFilled block.old cell }
+    ensures { block.new ≡ edit capacity (with_next to) block.old cell }
+{
+    if cell < capacity {
+        block.get_mut(cell as usize).next = to;
+    }
+}
+
+/// Writes the cell before a cell. The end of a list has none.
+fn set_prev<T>(block: &mut Block<Node<T>>, capacity: u32, cell: u32, to: u32)
+    requires { cell < capacity → IsFilled block.old cell }
+    ensures { block.new ≡ edit capacity (with_prev to) block.old cell }
+{
+    if cell < capacity {
+        block.get_mut(cell as usize).prev = to;
+    }
+}
+
+/// Writes all links of a cell.
+fn set_links<T>(block: &mut Block<Node<T>>, cell: u32, prev: u32, next: u32, list: u32)
+    requires { IsFilled block.old cell }
+    ensures { block.new ≡ slice_set block.old cell (Some (node prev next list (at block.old cell).item)) }
+{
+    let node = block.get_mut(cell as usize);
+    node.prev = prev;
+    node.next = next;
+    node.list = list;
+}
+
+/// The heads of empty lists. The end of the first one has the number `end`.
+fn empty_heads(alloc: Global, end: u32, count: u32) -> Result<Vec<Head>, AllocError>
+    requires { end + count < 2 ^ 32 }
+    ensures { IfOk result (λ v. AreEmpty end count v.items) }
+{
+    let mut heads = Vec::with_capacity(alloc, count as usize)?;
+    let mut at = 0;
+    while at < count {
+        heads.push_reserved(Head {
+            first: end + at,
+            last: end + at,
+            count: 0,
+        });
+        at += 1;
+    }
+    Ok(heads)
+}
+
+impl<T> Chains<T> {
+    ghost use Rattle.line_arena.specs.ChainLends.{lends_value};
+
+    /// Cells that were never used, and empty lists. No cell is written.
+    pub(crate) fn new(alloc: Global, cells: u32, lists: u32) -> Result<Chains<T>, AllocError>
+        requires { (cells ≤ 2 ^ 24) × (lists ≤ 2 ^ 21) }
+        ensures tied { IfOk result (λ c. IsTied c) }
+        ensures fields { IfOk result (λ c. (c.capacity ≡ cells) × (c.used ≡ 0)
+            × (c.block ≡ replicate cells None) × (length c.heads.items ≡ lists)) }
+        ensures empty { IfOk result (λ c. (rings_of c ≡ replicate lists []) × (total c.heads.items ≡ 0)) }
+    {
+        let heads = empty_heads(alloc, cells, lists)?;
+        let block = Block::new(alloc, cells as usize)?;
+        Ok(Chains {
+            block,
+            heads,
+            capacity: cells,
+            used: 0,
+        })
+    }
+
+    /// Drops what the used cells hold, and gives the block back.
+    pub(crate) fn clear(self)
+    where
+        T: Drop,
+        requires { ((y : ℕ) → y < self.used → IsFilled self.block y)
+            × ((y : ℕ) → self.used ≤ y → get_or self.block y None ≡ None) }
+    {
+        let Chains {
+            mut block,
+            heads: _,
+            capacity: _,
+            used,
+        } = self;
+        let mut at = 0;
+        while at < used {
+            drop(block.take(at as usize));
+            at += 1;
+        }
+        block.release();
+    }
+
+    /// Takes a cell off its list. The node stays in the block, with what it holds.
+    fn unhook(&mut self, cell: u32)
+        requires tied { IsTied self.old }
+        requires cell { IsFilled self.old.block cell }
+        ensures tied { IsTied (emptied cell self.new) }
+        ensures value { look_up cell (rings_of self.old) ≡ Some (at self.new.block cell).item }
+        ensures lists { rings_of (emptied cell self.new) ≡ map (without cell) (rings_of self.old) }
+        ensures total { total self.new.heads.items + 1 ≡ total self.old.heads.items }
+        ensures uses { SameUse cell self.old (emptied cell self.new) × IsFilled self.new.block cell }
+        ensures sizes { SameSizes self.old self.new }
+    {
+        let links = self.position(cell);
+        set_next(&mut self.block, self.capacity, links.prev, links.next);
+        set_prev(&mut self.block, self.capacity, links.next, links.prev);
+        let head = self.heads[links.list as usize];
+        self.heads[links.list as usize] = Head {
+            first: choose(links.prev, self.capacity, head.first, links.next),
+            last: choose(links.next, self.capacity, head.last, links.prev),
+            count: head.count - 1,
+        };
+    }
+
+    /// Puts a cell whose node is on no list at the end of one. The node stays in the block, with what it holds.
+    fn hook(&mut self, list: u32, cell: u32)
+        requires tied { IsTied (emptied cell self.old) }
+        requires list { list < length self.old.heads.items }
+        requires cell { (cell < self.old.capacity) × IsFilled self.old.block cell }
+        requires room { total self.old.heads.items < 2 ^ 24 }
+        ensures tied { IsTied self.new }
+        ensures rings { rings_of self.new
+            ≡ append_to list (cell, (at self.old.block cell).item) (rings_of (emptied cell self.old)) }
+        ensures total { total self.new.heads.items ≡ total self.old.heads.items + 1 }
+        ensures uses { SameUse cell (emptied cell self.old) self.new × IsFilled self.new.block cell }
+        ensures sizes { SameSizes self.old self.new }
+    {
+        let head = self.heads[list as usize];
+        set_links(&mut self.block, cell, head.last, self.capacity + list, list);
+        set_next(&mut self.block, self.capacity, head.last, cell);
+        self.heads[list as usize] = Head {
+            first: choose(head.last, self.capacity, head.first, cell),
+            last: cell,
+            count: head.count + 1,
+        };
+    }
+
+    /// Takes a used cell off its list, and its item out of it.
+    pub(crate) fn lift(&mut self, spare: u32, cell: u32) -> Option<T>
+        requires arena { IsArena spare self.old }
+        requires cell { IsFilled self.old.block cell }
+        ensures lacks { Lacks spare cell self.new }
+        ensures value { look_up cell (rings_of self.old) ≡ Some result }
+        ensures lists { rings_of self.new ≡ map (without cell) (rings_of self.old) }
+        ensures sizes { (self.new.capacity ≡ self.old.capacity) × (self.new.used ≡ self.old.used) }
+    {
+        self.unhook(cell);
+        self.block.take(cell as usize).item
+    }
+
+    /// Writes a cell that is on no list, with this item, and puts it at the end of a list.
+    pub(crate) fn fill(&mut self, spare: u32, list: u32, cell: u32, item: Option<T>)
+        requires lacks { Lacks spare cell self.old }
+        requires list { list ≤ spare }
+        requires item { Suits spare list item }
+        ensures arena { IsArena spare self.new }
+        ensures lists { rings_of self.new ≡ append_to list (cell, item) (rings_of self.old) }
+        ensures sizes { (self.new.capacity ≡ self.old.capacity) × (self.new.used ≡ self.old.used) }
+    {
+        // `hook` writes the links.
+        let node = Node {
+            prev: 0,
+            next: 0,
+            list,
+            item,
+        };
+        self.block.put(cell as usize, node);
+        self.hook(list, cell);
+    }
+
+    /// Moves a cell with its value from its list to the end of one of the caller's.
+    pub(crate) fn relink(&mut self, spare: u32, list: u32, cell: u32)
+        requires arena { IsArena spare self.old }
+        requires list { list < spare }
+        requires cell { IsFilled self.old.block cell }
+        requires value { (v : T) × (look_up cell (rings_of self.old) ≡ Some (Some v)) }
+        ensures arena { IsArena spare self.new }
+        ensures lists { IfSome (look_up cell (rings_of self.old)) (λ item.
+            rings_of self.new ≡ append_to list (cell, item) (map (without cell) (rings_of self.old))) }
+        ensures sizes { (self.new.capacity ≡ self.old.capacity) × (self.new.used ≡ self.old.used) }
+    {
+        self.unhook(cell);
+        self.hook(list, cell);
+    }
+
+    /// Where a used cell is.
+    fn position(&self, cell: u32) -> Position
+        requires { IsFilled self.now.block cell }
+        ensures { get_or self.now.block cell None
+            ≡ Some (node result.prev result.next result.list (at self.now.block cell).item) }
+    {
+        let node = self.block.get(cell as usize);
+        Position {
+            prev: node.prev,
+            next: node.next,
+            list: node.list,
+        }
+    }
+
+    /// A cell that was used and is free.
+    fn reuse(&mut self, spare: u32) -> u32
+        requires arena { IsArena spare self.old }
+        requires some { 0 < (get_or self.old.heads.items spare no_head).count }
+        ensures lacks { Lacks spare result self.new }
+        ensures same { (shown spare (rings_of self.new) ≡ shown spare (rings_of self.old))
+            × (self.new.capacity ≡ self.old.capacity) }
+    {
+        let cell = self.heads[spare as usize].last;
+        let item = self.lift(spare, cell);
+        let None = item else { unreachable!() };
+        cell
+    }
+
+    /// A cell that was never used.
+    fn unused(&mut self, spare: u32) -> u32
+        requires arena { IsArena spare self.old }
+        requires some { self.old.used < self.old.capacity }
+        ensures lacks { Lacks spare result self.new }
+        ensures same { (shown spare (rings_of self.new) ≡ shown spare (rings_of self.old))
+            × (self.new.capacity ≡ self.old.capacity) }
+    {
+        let cell = self.used;
+        self.used = cell + 1;
+        cell
+    }
+
+    /// How many cells are free.
+    pub(crate) fn free(&self, spare: u32) -> u32
+        requires { IsArena spare self.now }
+        ensures { result ≡ free_cells (model spare self.now) }
+    {
+        self.heads[spare as usize].count + (self.capacity - self.used)
+    }
+
+    /// A free cell, if there is one.
+    pub(crate) fn take_free(&mut self, spare: u32) -> Option<u32>
+        requires { IsArena spare self.old }
+        ensures lacks { IfSome result (λ x. Lacks spare x self.new) }
+        ensures same { OnSome result ((shown spare (rings_of self.new) ≡ shown spare (rings_of self.old))
+            × (self.new.capacity ≡ self.old.capacity)) }
+        ensures none { IfNone result (self.new ≡ self.old) }
+        ensures full { IsNone result ↔ (free_cells (model spare self.old) ≡ 0) }
+    {
+        if self.heads[spare as usize].count > 0 {
+            return Some(self.reuse(spare));
+        }
+        if self.used < self.capacity {
+            return Some(self.unused(spare));
+        }
+        None
+    }
+
+    /// How many cells a list has.
+    pub(crate) fn count(&self, list: u32) -> u32
+        requires { list < length self.now.heads.items }
+        ensures { result ≡ (get_or self.now.heads.items list no_head).count }
+    {
+        self.heads[list as usize].count
+    }
+
+    /// The first cell of a list, or the number of its end.
+    pub(crate) fn first(&self, list: u32) -> u32
+        requires { list < length self.now.heads.items }
+        ensures { result ≡ (get_or self.now.heads.items list no_head).first }
+    {
+        self.heads[list as usize].first
+    }
+
+    /// The cell after a used one, or the number of the end of its list.
+    pub(crate) fn next(&self, cell: u32) -> u32
+        requires { IsFilled self.now.block cell }
+        ensures { (n : Node T) → get_or self.now.block cell None ≡ Some n → result ≡ n.next }
+    {
+        self.block.get(cell as usize).next
+    }
+
+    /// Whether a used cell has a value.
+    pub(crate) fn is_full(&self, cell: u32) -> bool
+        requires { IsFilled self.now.block cell }
+        ensures { (n : Node T) → get_or self.now.block cell None ≡ Some n → result ≡ is_some n.item }
+    {
+        self.block.get(cell as usize).item.is_some()
+    }
+
+    /// The value of a cell that has one.
+    pub(crate) fn value(&self, cell: u32) -> &T
+        requires { (n : Node T) × (v : T) × (get_or self.now.block cell None ≡ Some n) × (n.item ≡ Some v) }
+        ensures { (n : Node T) → get_or self.now.block cell None ≡ Some n → n.item ≡ Some result.now }
+    {
+        self.block.get(cell as usize).item.as_ref().unwrap()
+    }
+
+    /// The value of a cell that has one, to write to.
+    pub(crate) fn value_mut(&mut self, cell: u32) -> &mut T
+        requires { (n : Node T) × (v : T) × (get_or self.old.block cell None ≡ Some n) × (n.item ≡ Some v) }
+        ensures* writes_back { sem 𝓛 (lends_value T.row self.entry cell result) }
+        ensures value { (n : Node T) → get_or self.old.block cell None ≡ Some n → n.item ≡ Some result.now }
+    {
+        self.block.get_mut(cell as usize).item.as_mut().unwrap()
+    }
+}

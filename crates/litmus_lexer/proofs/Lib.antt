@@ -1,0 +1,10 @@
+pub mod Pieces
+pub mod LineEnds
+pub mod Lines
+pub mod Fronts
+pub mod Titles
+pub mod NameIndex
+pub mod Repeats
+pub mod LinesAgain
+pub mod RepeatsAgain
+pub mod LocationWords

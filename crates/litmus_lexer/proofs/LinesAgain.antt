@@ -1,0 +1,60 @@
+-- What the lines in front of the initial block and the pieces of a text are, as far as reading them anew needs it.
+use Rattle.std.proofs.Common.{◌≡◌, ℕ, ◌-◌, ◌<◌, ◌≤◌, Bool, true, false, cond, eqb, ◌||◌, List, [], ◌∷◌, length, drop, refl, arith}
+use Rattle.std.specs.List.{prefix_len}
+use Rattle.std.specs.Prelude.{not}
+use Rattle.std.proofs.lemmas.Bool.{eqb-true, ne_eqb, false_from_ne_true, both_ways}
+use Rattle.std.proofs.lemmas.List.{length-drop}
+use Rattle.litmus_lexer.specs.Pieces.{Piece, Word, Sign, LineEnd, is_blank, is_joined, grown, lone_piece, pieces_of}
+use Rattle.litmus_lexer.specs.FirstLines.{begins_with, is_quoted, is_setting, is_header_line, begins_block, behind, before_line_feed, without_first, behind_line_feed}
+
+-- ---- header lines
+
+brace-alone : (text : List ℕ) → begins_with 123 text ≡ true → (eqb (length text) 0 || is_quoted text || is_setting text) ≡ false
+brace-alone [] e = absurd cc
+brace-alone (first ∷ rest) e =
+    let some : eqb (length (first ∷ rest)) 0 ≡ false = ne_eqb _ _ (omega arith) in
+    rw (eqb-true first 123 e, some) refl
+
+block-no_header_line : (line : List ℕ) → begins_block line ≡ true → is_header_line line ≡ false
+block-no_header_line line e = brace-alone (behind is_blank line) e
+
+-- a header line doesn't begin the initial block
+pub header_line-no_block : (line : List ℕ) → is_header_line line ≡ true → begins_block line ≡ false
+header_line-no_block line h = false_from_ne_true (begins_block line) (λ e. both_ways (is_header_line line) (block-no_header_line line e) h)
+
+-- where the initial block begins there are bytes
+pub block-some : (text : List ℕ) → begins_block (before_line_feed text) ≡ true → 0 < length text
+block-some [] e = absurd cc
+block-some (b ∷ text) e = omega arith
+
+-- ---- lengths
+
+length-without_first : (text : List ℕ) → length (without_first text) ≡ length text - 1
+length-without_first [] = refl
+length-without_first (b ∷ text) = omega arith
+
+pub length-behind_line_feed : (text : List ℕ) → length (behind_line_feed text) ≤ length text - 1
+length-behind_line_feed text =
+    let n : ℕ = prefix_len (λ b. not (eqb b 10)) text in
+    omega (arith, length-without_first (drop n text), length-drop n text)
+
+length-grown : (b : ℕ) (pieces : List Piece) → length (grown b pieces) ≡ length pieces
+length-grown b [] = refl
+length-grown b (Word w ∷ pieces) = refl
+length-grown b (Sign c ∷ pieces) = refl
+length-grown b (LineEnd ∷ pieces) = refl
+
+within-if : (t : Bool) (x y : List Piece) (n : ℕ) → length x ≤ n → length y ≤ n → length (cond t x y) ≤ n
+within-if true x y n h k = h
+within-if false x y n h k = k
+
+-- a text has no more pieces than bytes
+pub length-pieces : (text : List ℕ) → length (pieces_of text) ≤ length text
+unfolding pieces_of
+length-pieces [] = omega arith
+length-pieces (b ∷ text) =
+    let i = length-pieces text in
+    let g = length-grown b (pieces_of text) in
+    let n : ℕ = length (b ∷ text) in
+    within-if (is_blank b) (pieces_of text) (cond (is_joined b text) (grown b (pieces_of text)) (lone_piece b ∷ pieces_of text)) n (omega (arith, i))
+    (within-if (is_joined b text) (grown b (pieces_of text)) (lone_piece b ∷ pieces_of text) n (omega (arith, i, g)) (omega (arith, i)))

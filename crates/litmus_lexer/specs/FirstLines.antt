@@ -1,0 +1,87 @@
+-- The first line of a text and its header lines, by their bytes.
+use Rattle.std.specs.Prelude.{◌≡◌, ℕ, ◌<◌, ◌≤◌, ◌==◌, ◌&&◌, ◌||◌, nat_lt, not, Bool, true, false, if◌then◌else◌, List, [], ◌∷◌, ◌++◌, length, take, drop, Option, Some, None, codes, option_and_then}
+use Rattle.std.specs.List.{list_all, prefix_len}
+use Rattle.litmus_lexer.specs.declared.signs.TheConstants.{EQUALS, OPENING_BRACE}
+use Rattle.litmus_lexer.specs.declared.limits.TheConstants.{LONGEST_TITLE}
+use Rattle.litmus_lexer.specs.Pieces.{between, is_blank}
+use Rattle.litmus_lexer.specs.Spelling.{is_name_byte}
+
+-- letters, digits and _ + . - [ ]
+abbrev pub is_title_byte : ℕ → Bool
+is_title_byte b = between 48 57 b || between 65 90 b || between 97 122 b || b == 95 || b == 43 || b == 46 || b == 45 || b == 91 || b == 93
+
+-- RISCV, blanks, and the name of the test, with blanks around
+pub record IsTitle (line name : List ℕ) : Type 0 where
+  pub front : List ℕ
+  pub gap : List ℕ
+  pub back : List ℕ
+  pub spelled : line ≡ front ++ (codes "RISCV" ++ (gap ++ (name ++ back)))
+  pub front_is : list_all is_blank front ≡ true
+  pub gap_is : (list_all is_blank gap ≡ true) × (0 < length gap)
+  pub name_is : (list_all is_title_byte name ≡ true) × (0 < length name) × (length name ≤ LONGEST_TITLE)
+  pub back_is : list_all is_blank back ≡ true
+
+-- the same, read from the front
+abbrev pub behind_riscv : List ℕ → Option (List ℕ)
+behind_riscv (a ∷ b ∷ c ∷ d ∷ e ∷ rest) = if a == 82 && b == 73 && c == 83 && d == 67 && e == 86 then Some rest else None
+behind_riscv line = None
+
+abbrev pub name_in : List ℕ → Option (List ℕ)
+name_in line =
+    if prefix_len is_title_byte line == 0 then None
+    else if nat_lt LONGEST_TITLE (prefix_len is_title_byte line) then None
+    else if prefix_len is_blank (drop (prefix_len is_title_byte line) line) == length (drop (prefix_len is_title_byte line) line) then Some (take (prefix_len is_title_byte line) line)
+    else None
+
+abbrev pub name_behind : List ℕ → Option (List ℕ)
+name_behind line = if prefix_len is_blank line == 0 then None else name_in (drop (prefix_len is_blank line) line)
+
+unfoldable pub title_of : List ℕ → Option (List ℕ)
+title_of line = option_and_then name_behind (behind_riscv (drop (prefix_len is_blank line) line))
+
+-- a text after the bytes of this kind that it begins with
+abbrev pub behind : (ℕ → Bool) → List ℕ → List ℕ
+behind p text = drop (prefix_len p text) text
+
+abbrev pub is_key : List ℕ → Bool
+is_key [] = false
+is_key (first ∷ rest) = between 65 90 first || between 97 122 first
+
+abbrev pub are_blanks : List ℕ → Bool
+are_blanks text = prefix_len is_blank text == length text
+
+abbrev pub closes_quote : List ℕ → Bool
+closes_quote [] = false
+closes_quote (quote ∷ rest) = are_blanks rest
+
+-- a string between two " with no other ", and blanks after it
+abbrev pub is_quoted : List ℕ → Bool
+is_quoted [] = false
+is_quoted (first ∷ text) = if first == 34 then closes_quote (behind (λ b. not (b == 34)) text) else false
+
+abbrev pub begins_with : ℕ → List ℕ → Bool
+begins_with b [] = false
+begins_with b (first ∷ rest) = first == b
+
+-- a letter followed by letters, digits and _, then blanks, then = and anything
+abbrev pub is_setting : List ℕ → Bool
+is_setting text = is_key text && begins_with EQUALS (behind is_blank (behind is_name_byte text))
+
+-- blank, a string, or key=value
+abbrev pub is_header_line : List ℕ → Bool
+is_header_line line = length (behind is_blank line) == 0 || is_quoted (behind is_blank line) || is_setting (behind is_blank line)
+
+-- the initial block begins with {
+abbrev pub begins_block : List ℕ → Bool
+begins_block line = begins_with OPENING_BRACE (behind is_blank line)
+
+-- a text before its first line feed, and after it
+abbrev pub before_line_feed : List ℕ → List ℕ
+before_line_feed text = take (prefix_len (λ b. not (b == 10)) text) text
+
+abbrev pub without_first : List ℕ → List ℕ
+without_first [] = []
+without_first (first ∷ rest) = rest
+
+abbrev pub behind_line_feed : List ℕ → List ℕ
+behind_line_feed text = without_first (behind (λ b. not (b == 10)) text)

@@ -1,0 +1,9 @@
+pub mod Pieces
+pub mod TokenPieces
+pub mod Positions
+pub mod Kinds
+pub mod Spelling
+pub mod Naming
+pub mod FirstLines
+pub mod Reading
+pub mod Views

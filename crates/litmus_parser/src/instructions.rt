@@ -1,0 +1,111 @@
+//! What an instruction may say: its numbers, its width, its registers.
+
+ghost use Rattle.std.specs.Prelude.{◌≡◌};
+ghost use Rattle.litmus_lexer.specs.Reading.{Gives};
+ghost use Rattle.litmus_parser.specs.Verdicts.{kept_at, value_register_at, base_at, judged_at};
+
+use crate::forms::Form;
+use crate::items::{address_of, is_address};
+use crate::syntax::{Instruction, Item, Width};
+use litmus_lexer::{Cursor, Kind, MOST_ORI, ReadError, VALUE_BOUND};
+
+/// The width of the text after a memory instruction of this width.
+#[tactic(auto, unfolding(crate::specs::Verdicts::kept_at))]
+fn kept(width: Option<Width>, own: Width, at: &Cursor<'_>) -> Result<Option<Width>, ReadError>
+    ensures { Gives (λ w. w) result (kept_at width own at.now.line) }
+{
+    match width {
+        None => Ok(Some(own)),
+        Some(first) => {
+            if first == own {
+                Ok(width)
+            } else {
+                Err(at.fault(Kind::MixedWidth))
+            }
+        }
+    }
+}
+
+/// The register, unless it is an address register.
+#[tactic(auto, unfolding(crate::specs::Verdicts::value_register_at))]
+fn value_register(
+    items: &[Item],
+    thread: u8,
+    register: u8,
+    at: &Cursor<'_>,
+) -> Result<u8, ReadError>
+    ensures { Gives (λ r. r) result (value_register_at items.now thread register at.now.line) }
+{
+    if is_address(items, thread, register) {
+        return Err(at.fault(Kind::AddressAsValue));
+    }
+    Ok(register)
+}
+
+/// The location that an address register holds.
+#[tactic(auto, unfolding(crate::specs::Verdicts::base_at))]
+fn base_location(items: &[Item], thread: u8, register: u8, at: &Cursor<'_>) -> Result<u8, ReadError>
+    ensures { Gives (λ r. r) result (base_at items.now thread register at.now.line) }
+{
+    match address_of(items, thread, register) {
+        Some(location) => Ok(location),
+        None => Err(at.fault(Kind::ValueAsAddress)),
+    }
+}
+
+/// The instruction that a thread's form stands for, and the width of the text after it: the
+/// number is tested first, then the width, then the registers from the left.
+#[tactic(auto, unfolding(crate::specs::Verdicts::judged_at))]
+pub fn judge(
+    items: &[Item],
+    thread: u8,
+    width: Option<Width>,
+    form: Form,
+    at: &Cursor<'_>,
+) -> Result<(Instruction, Option<Width>), ReadError>
+    ensures { Gives (λ r. r) result (judged_at items.now thread width form at.now.line) }
+{
+    match form {
+        Form::Load(own, target, base) => {
+            let width = kept(width, own, at)?;
+            let target = value_register(items, thread, target, at)?;
+            let location = base_location(items, thread, base, at)?;
+            Ok((Instruction::Load { target, location }, width))
+        }
+        Form::Store(own, source, base) => {
+            let width = kept(width, own, at)?;
+            let source = value_register(items, thread, source, at)?;
+            let location = base_location(items, thread, base, at)?;
+            Ok((Instruction::Store { source, location }, width))
+        }
+        Form::Swap(own, target, source, base) => {
+            let width = kept(width, own, at)?;
+            let target = value_register(items, thread, target, at)?;
+            let source = value_register(items, thread, source, at)?;
+            let location = base_location(items, thread, base, at)?;
+            Ok((
+                Instruction::Swap {
+                    target,
+                    source,
+                    location,
+                },
+                width,
+            ))
+        }
+        Form::Li(target, value) => {
+            if value >= VALUE_BOUND {
+                return Err(at.fault(Kind::ValueRange));
+            }
+            let target = value_register(items, thread, target, at)?;
+            Ok((Instruction::Set { target, value }, width))
+        }
+        Form::Ori(target, value) => {
+            if value > MOST_ORI {
+                return Err(at.fault(Kind::ValueRange));
+            }
+            let target = value_register(items, thread, target, at)?;
+            Ok((Instruction::Set { target, value }, width))
+        }
+        Form::Fence => Ok((Instruction::Fence, width)),
+    }
+}

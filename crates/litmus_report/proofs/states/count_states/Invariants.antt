@@ -1,7 +1,0 @@
-use Rattle.std.proofs.Common.{◌≡◌, take}
-use Rattle.litmus_report.specs.States.{counted, done_states, tallied}
-use Rattle.litmus_report.proofs.states.count_states.Given as goal
-
--- the end states so far
-abbrev pub invariant-loop-run : goal.invariant-loop-run
-invariant-loop-run l = counted l.states.entries ≡ tallied (done_states (take l.run-index l.runs))

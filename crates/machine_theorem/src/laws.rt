@@ -1,0 +1,104 @@
+//! What every event and every list of events keeps.
+ghost use Rattle.std.specs.Prelude.{◌≡◌, ◌≢◌, ◌≤◌, ℕ, Bool, true, List, [], Some, map, slice_get, slice_index_or};
+ghost use Rattle.std.specs.List.{AllByRecursion};
+ghost use Rattle.std.specs.Ordering.{nat_cmp};
+ghost use Rattle.std.specs.FinMap.{FinMap};
+ghost use Rattle.physiological_order.specs.declared.operation.Record.{Record};
+ghost use Rattle.physiological_order.specs.Order.{flat, Legal, Arrangement, replay_end, of_core};
+ghost use Rattle.network.specs.Mail.{Mail};
+ghost use Rattle.machine_table.specs.declared.config.Config.{Config};
+ghost use Rattle.machine_table.specs.SetUp.{is_good};
+ghost use Rattle.machine_table.specs.Opening.{at_start};
+ghost use Rattle.machine_table.specs.declared.event.Event.{Event};
+ghost use Rattle.network.specs.declared.message.Message.{Message};
+ghost use Rattle.network.specs.Numbered.{at_number};
+ghost use Rattle.machine_table.specs.declared.event.Event.TheVariants.{Deliver};
+ghost use Rattle.machine_table.specs.declared.event.Answer.TheVariants.{Refused};
+ghost use Rattle.machine_table.specs.declared.event.Refusal.TheVariants.{NoSuch};
+ghost use Rattle.protocol.specs.Issued.{IsIssued};
+ghost use Rattle.machine_table.specs.Machine.{Machine, operation_of};
+ghost use Rattle.machine_table.specs.Transition.{transition};
+ghost use Rattle.machine_table.specs.Runs.{after_all};
+ghost use Rattle.machine_theorem.specs.Bags.{SameBag, bag_of};
+ghost use Rattle.machine_theorem.specs.Cases.{has_case};
+ghost use Rattle.machine_theorem.specs.PrivateWrites.{private_cores, private_writes, private_records};
+ghost use Rattle.machine_theorem.specs.StaleHit.{two_cores, stale_hit, stale_records};
+ghost use Rattle.machine_theorem.specs.Coherence.{owners, coherent};
+ghost use Rattle.machine_theorem.specs.Kept.{SetUpAs, Invariant};
+
+/// A machine has the invariant if its parts have their shape and it is, seen line by line, one that the protocol reaches.
+/// What any event makes of such a machine has it as well, and no event changes how it was set up.
+pub fn events_keep_the_invariant()
+    ensures invariant { (m : Machine) (event : Event) → Invariant m → Invariant (transition m event).1 }
+    ensures set_up { (m : Machine) (event : Event) → SetUpAs m (transition m event).1 }
+{}
+
+/// A machine that is well set up has the invariant as it opens, whatever the opening memory.
+pub fn openings_have_the_invariant()
+    ensures { (config : Config) (opening : FinMap nat_cmp ℕ) → is_good config ≡ true → Invariant (at_start config opening) }
+{}
+
+/// The invariant doesn't depend on the order and the numbers of the messages in flight, on how many there may be, on the
+/// counts, and on the stop.
+pub fn renumberings_keep_the_invariant()
+    ensures { (m : Machine) (capacity : ℕ) (mail : Mail) (is_stopped : Bool) → Invariant m →
+        SameBag (bag_of m.mail.messages) (bag_of mail.messages) →
+        Invariant (record m {
+          config = record (m.config) { messages = capacity };
+          mail = mail;
+          is_stopped = is_stopped;
+        }) }
+{}
+
+/// Of every machine with the invariant: its records are a legal history of its opening memory and of what its cores were
+/// issued; each core was issued what it completed, in this order, and then its open operation; a line has at most one
+/// owner; a word's coherent value is the one that the records leave; and each message in flight has its case.
+pub fn machines_with_the_invariant_are_consistent()
+    ensures legal { (m : Machine) → Invariant m → Legal (flat m.opening) (λ core. slice_index_or m.issued core []) m.records }
+    ensures issued { (m : Machine) → Invariant m → (core : ℕ) →
+        IsIssued (slice_index_or m.issued core []) (of_core core m.records) (operation_of (slice_get m.cores core)) }
+    ensures owners { (m : Machine) → Invariant m → (line : ℕ) → owners m line ≤ 1 }
+    ensures coherent { (m : Machine) → Invariant m → (arranged : List Record) → Arrangement m.records arranged → (word : ℕ) →
+        coherent m word ≡ replay_end (flat m.opening) (map (λ r. r.op) arranged) word }
+    ensures cases { (m : Machine) → Invariant m → AllByRecursion (λ message. has_case m message.1 ≡ true) m.mail.messages }
+{}
+
+/// After any list of events, refused ones included, of a machine that was well set up: the records are a legal history
+/// of the opening memory and the lists that the cores were issued; a line has at most one owner, and grants and returns
+/// in flight count; and a word's coherent value is the one that the records leave, one after the other in the order of
+/// their times, on the opening memory. And the part that a message in flight goes to has a case for it, with
+/// a place for the line that it brings: a delivery of it is never answered that there is no such thing.
+pub fn every_history_is_legal()
+    ensures legal { (config : Config) (opening : FinMap nat_cmp ℕ) (events : List Event) → is_good config ≡ true →
+        let m = after_all (at_start config opening) events in
+        Legal (flat opening) (λ core. slice_index_or m.issued core []) m.records }
+    ensures owners { (config : Config) (opening : FinMap nat_cmp ℕ) (events : List Event) → is_good config ≡ true →
+        (line : ℕ) → owners (after_all (at_start config opening) events) line ≤ 1 }
+    ensures coherent { (config : Config) (opening : FinMap nat_cmp ℕ) (events : List Event) → is_good config ≡ true →
+        let m = after_all (at_start config opening) events in
+        (arranged : List Record) → Arrangement m.records arranged → (word : ℕ) →
+        coherent m word ≡ replay_end (flat opening) (map (λ r. r.op) arranged) word }
+    ensures cases { (config : Config) (opening : FinMap nat_cmp ℕ) (events : List Event) → is_good config ≡ true →
+        let m = after_all (at_start config opening) events in
+        AllByRecursion (λ message. has_case m message.1 ≡ true) m.mail.messages }
+    ensures found { (config : Config) (opening : FinMap nat_cmp ℕ) (events : List Event) → is_good config ≡ true →
+        let m = after_all (at_start config opening) events in
+        (number : ℕ) (message : Message) → at_number number m.mail.messages ≡ Some message →
+        (transition m (Deliver number)).0 ≢ Refused NoSuch }
+{}
+
+/// A run by the table, whatever the opening memory: a core reads a word, another writes it, and the first reads the
+/// opening value once more, at a time before the write.
+pub fn stale_hits_happen()
+    ensures good { is_good two_cores ≡ true }
+    ensures records { (opening : FinMap nat_cmp ℕ) →
+        (after_all (at_start two_cores opening) stale_hit).records ≡ stale_records (flat opening 0) }
+{}
+
+/// A run by the table under private writes, whatever the opening memory: a core writes a word twice at one time, and then
+/// reads what it wrote last.
+pub fn private_writes_happen()
+    ensures good { is_good private_cores ≡ true }
+    ensures records { (opening : FinMap nat_cmp ℕ) →
+        (after_all (at_start private_cores opening) private_writes).records ≡ private_records 2 }
+{}

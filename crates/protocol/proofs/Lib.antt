@@ -1,0 +1,12 @@
+pub mod Bags
+pub mod Lease
+pub mod Lines
+pub mod Moved
+pub mod Cores
+pub mod Completed
+pub mod Headline
+pub mod Owners
+pub mod Coherent
+pub mod Blocked
+pub mod Cases
+pub mod InProgram

@@ -1,9 +1,0 @@
-pub mod Bags
-pub mod Parts
-pub mod Renumbered
-pub mod MoveEvents
-pub mod Shown
-pub mod ReachedStates
-pub mod Reactions
-pub mod EventMoves
-pub mod Histories

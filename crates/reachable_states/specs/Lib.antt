@@ -1,5 +1,0 @@
-pub mod Consistent
-pub mod Events
-pub mod Moved
-pub mod Moves
-pub mod States

@@ -1,0 +1,25 @@
+-- What is answered by a call that reads all of a source and writes one text to a sink.
+use Rattle.std.specs.Prelude.{◌≡◌, ◌<◌, ℕ, List, Option, Result, Err}
+use Rattle.byte_streams.specs.Device.{Grows}
+use Rattle.byte_streams.specs.Whole.{GrowsByFront, ReadsAll}
+use Rattle.run_results.specs.declared.results.Done.{Done}
+use Rattle.run_results.specs.declared.results.RunError.{RunError}
+use Rattle.run_results.specs.declared.results.RunError.TheVariants.{Read, Write}
+
+-- some text that is right went out, and nothing else
+abbrev pub IsReported : (List ℕ → Type 0) → Option (List ℕ) → Option (List ℕ) → Type 0
+IsReported IsRight old new = (text : List ℕ) × IsRight text × Grows old new text
+
+-- a beginning of some text that is right went out
+abbrev pub IsCutOff : (List ℕ → Type 0) → Option (List ℕ) → Option (List ℕ) → Type 0
+IsCutOff IsRight old new = (text : List ℕ) × IsRight text × GrowsByFront old new text
+
+-- this holds of bytes that are all the source's, where those are known
+abbrev pub OfBytes : Option (List ℕ) → (List ℕ → Type 0) → Type 0
+OfBytes known P = (bytes : List ℕ) × ReadsAll known bytes × P bytes
+
+-- failures of the source and of the sink are counted exactly where they are told
+abbrev pub AreCounted : Result Done RunError → (read read' written written' : ℕ) → Type 0
+AreCounted (Err Read) read read' written written' = (read < read') × (written' ≡ written)
+AreCounted (Err Write) read read' written written' = (read' ≡ read) × (written < written')
+AreCounted came read read' written written' = (read' ≡ read) × (written' ≡ written)

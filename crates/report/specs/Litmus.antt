@@ -1,0 +1,70 @@
+-- The report on a litmus text, and why a text has none.
+use Rattle.std.specs.Prelude.{◌≡◌, ◌≢◌, ℕ, min, Bool, true, false, List, length, Err, IfSome}
+use Rattle.std.specs.List.{list_all, AllByRecursion}
+use Rattle.litmus_lexer.specs.declared.errors.Kind.{Kind}
+use Rattle.litmus_lexer.specs.declared.errors.Kind.TheVariants.{NoMemory as LackOfMemory}
+use Rattle.litmus_lexer.specs.declared.errors.LitmusError.{LitmusError}
+use Rattle.litmus_reader.specs.Faults.{Fault}
+use Rattle.litmus_reader.specs.Grammar.{IsTest}
+use Rattle.litmus_reader.specs.Litmus.{Litmus}
+use Rattle.litmus_reader.specs.ReadingTest.{read_at}
+use Rattle.machine_table.specs.SetUp.{is_good}
+use Rattle.report_text.specs.Ends.{ends_as}
+use Rattle.report_text.specs.Text.{litmus_text}
+use Rattle.run_ends.specs.declared.ends.End.TheVariants.{AllDone}
+use Rattle.run_ends.specs.declared.ends.RunEnd.{RunEnd}
+use Rattle.run_options.specs.declared.options.LitmusOptions.{LitmusOptions}
+use Rattle.run_results.specs.declared.results.RunError.{RunError}
+use Rattle.run_results.specs.declared.results.RunError.TheVariants.{Read, Write, NoMemory, Litmus as Refused, BadConfig}
+use Rattle.sequential_machine.specs.SequentialMachine.{IsOutcome}
+use Rattle.report.specs.Runs.{IsRun}
+use Rattle.report.specs.SetUp.{config_of}
+
+-- the most rounds of a run
+abbrev pub rounds : LitmusOptions → ℕ
+rounds options = min options.run.limit 4294967295
+
+-- the end state of a run that has one is an outcome of the sequential machine
+abbrev pub HasOutcome : Litmus → RunEnd → Type 0
+HasOutcome test run = IfSome run.state (IsOutcome test)
+
+-- the bytes are the text of a test, and these are its runs on a good machine, as many as the options ask for
+pub record AreRuns (options : LitmusOptions) (bytes : List ℕ) (test : Litmus) (runs : List RunEnd) : Type 0 where
+  pub is_test : IsTest bytes test
+  pub good : is_good (config_of options.run.machine test.threads) ≡ true
+  pub count : length runs ≡ options.runs
+  pub each : AllByRecursion (IsRun test (config_of options.run.machine test.threads) (rounds options)) runs
+  pub outcomes : AllByRecursion (HasOutcome test) runs
+
+-- the text reports on such runs, and says whether all of them ended all done
+pub record IsLitmusReport (options : LitmusOptions) (bytes : List ℕ) (all_done : Bool) (text : List ℕ) : Type 0 where
+  pub test : Litmus
+  pub runs : List RunEnd
+  pub are_runs : AreRuns options bytes test runs
+  pub text_is : text ≡ litmus_text test runs
+  pub done : all_done ≡ list_all (ends_as AllDone) runs
+
+-- the bytes are the text of no test, and the fault has its kind's cause in its line
+abbrev pub IsNoTest : List ℕ → LitmusError → Type 0
+IsNoTest bytes e = ((test : Litmus) → IsTest bytes test → ⊥) × Fault bytes e.kind e.line
+
+-- the fault that reading tells of the bytes: want of memory is none
+abbrev pub IsFault : List ℕ → LitmusError → Type 0
+IsFault bytes e = (read_at bytes ≡ Err e) × IsNoTest bytes e × (e.kind ≢ LackOfMemory)
+
+-- why bytes have no report
+abbrev pub HasNoReport : LitmusOptions → List ℕ → RunError → Type 0
+HasNoReport options bytes (Refused e) = IsFault bytes e
+HasNoReport options bytes BadConfig =
+    (test : Litmus) × IsTest bytes test × (is_good (config_of options.run.machine test.threads) ≡ false)
+HasNoReport options bytes NoMemory = Unit {0}
+HasNoReport options bytes Read = ⊥
+HasNoReport options bytes Write = ⊥
+
+-- why a text is refused: want of memory is no fault of it
+abbrev pub refusal_of : Kind → LitmusError → RunError
+refusal_of LackOfMemory error = NoMemory
+refusal_of kind error = Refused error
+
+abbrev pub refusal : LitmusError → RunError
+refusal error = refusal_of error.kind error

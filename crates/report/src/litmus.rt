@@ -1,0 +1,129 @@
+//! From a source with a litmus text to a sink for its report.
+ghost use Rattle.std.specs.Prelude.{◌≡◌, ◌≢◌, IfErr, IfOk, IsErrOf, List, false, true, length, ℕ};
+ghost use Rattle.std.specs.List.{AllByRecursion, list_all};
+ghost use Rattle.litmus_reader.specs.Grammar.{IsTest};
+ghost use Rattle.litmus_reader.specs.TestViews.{test_of};
+ghost use Rattle.machine_table.specs.SetUp.{is_good};
+ghost use Rattle.report_text.specs.Ends.{ends_as};
+ghost use Rattle.report.specs.Answers.{AreCounted, IsCutOff, IsReported, OfBytes};
+ghost use Rattle.report.specs.Litmus.{HasNoReport, HasOutcome, IsLitmusReport, refusal, rounds};
+ghost use Rattle.report.specs.Runs.{IsRun};
+
+use crate::devices::{bytes_of, put_out};
+use crate::one_run::run_once;
+use crate::set_up::config_of;
+use byte_streams::{Sink, Source};
+use interleaving_core::Config;
+use litmus_reader::{Kind, LitmusError, Test, read};
+use report_text::litmus_text;
+use run_ends::{End, RunEnd};
+use run_options::LitmusOptions;
+use run_results::{Done, RunError};
+use std::alloc::{AllocError, Global};
+
+/// Reads a litmus test to the end of the source, runs it as the options say, and writes the report of the runs. Each end
+/// state in the report is an outcome of the sequential machine. Read goes before Litmus, that before BadConfig, and Write
+/// comes last; by an error but Write the sink is unchanged.
+pub fn run_litmus<S: Source, K: Sink>(
+    alloc: Global,
+    source: &mut S,
+    sink: &mut K,
+    options: &LitmusOptions,
+) -> Result<Done, RunError>
+    ensures reported { IfOk result (λ done. OfBytes (S.remaining source.old) (λ bytes.
+        IsReported (IsLitmusReport options.now bytes done.all_done)
+        (K.contents sink.old) (K.contents sink.new))) }
+
+    // Why there is no report, or not all of it.
+    ensures refused { IfErr result (λ e. e ≢ RunError.Read → e ≢ RunError.Write →
+        OfBytes (S.remaining source.old) (λ bytes. HasNoReport options.now bytes e)) }
+    ensures cut_off { IsErrOf result RunError.Write → OfBytes (S.remaining source.old) (λ bytes.
+        (all_done : _) × IsCutOff (IsLitmusReport options.now bytes all_done)
+        (K.contents sink.old) (K.contents sink.new)) }
+
+    // Failures are told, and nothing else is written.
+    ensures counted { AreCounted result
+        (S.failures source.old) (S.failures source.new)
+        (K.failures sink.old) (K.failures sink.new) }
+    ensures nothing { IfErr result (λ e. e ≢ RunError.Write → sink.new ≡ sink.old) }
+{
+    let bytes = bytes_of(alloc, source)?;
+    let report = report_of(alloc, &bytes, options)?;
+    let done = Done {
+        all_done: report.all_done,
+    };
+    put_out(sink, &report.text, done)
+}
+
+// A report's text, and whether every run ended all done.
+#[derive(Drop)]
+struct Report {
+    text: Vec<u8>,
+    all_done: bool,
+}
+
+// The report on the litmus test that these bytes are.
+fn report_of(alloc: Global, bytes: &[u8], options: &LitmusOptions) -> Result<Report, RunError>
+    ensures report { IfOk result (λ report.
+        IsLitmusReport options.now bytes.now report.all_done report.text.items) }
+    ensures refused { IfErr result (HasNoReport options.now bytes.now) }
+{
+    let test = match read(alloc, bytes) {
+        Ok(test) => test,
+        Err(error) => return Err(refusal(error)),
+    };
+    let Some(config) = config_of(&options.run.machine, test.threads() as u32) else {
+        return Err(RunError::BadConfig);
+    };
+    let Ok(runs) = run_often(alloc, &test, config, options) else {
+        return Err(RunError::NoMemory);
+    };
+    match litmus_text(alloc, &test, &runs) {
+        Ok(text) => Ok(Report {
+            text,
+            all_done: are_all_done(&runs),
+        }),
+        Err(AllocError) => Err(RunError::NoMemory),
+    }
+}
+
+// Why a text is refused: want of memory is no fault of it.
+fn refusal(error: LitmusError) -> RunError
+    ensures { result ≡ refusal error }
+{
+    if matches!(error.kind, Kind::NoMemory) {
+        RunError::NoMemory
+    } else {
+        RunError::Litmus(error)
+    }
+}
+
+// The runs that the options ask for.
+fn run_often(
+    alloc: Global,
+    test: &Test,
+    config: Config,
+    options: &LitmusOptions,
+) -> Result<Vec<RunEnd>, AllocError>
+    requires good { is_good config ≡ true }
+    requires cores { config.cores ≡ (test_of test.now).threads }
+    ensures count { IfOk result (λ runs. length runs.items ≡ options.now.runs) }
+    ensures each { IfOk result (λ runs.
+        AllByRecursion (IsRun (test_of test.now) config (rounds options.now)) runs.items) }
+    ensures outcomes { IfOk result (λ runs. (text : List ℕ) → IsTest text (test_of test.now) →
+        AllByRecursion (HasOutcome (test_of test.now)) runs.items) }
+{
+    let limit = options.run.limit.min(u64::from(u32::MAX)) as u32;
+    let mut runs = Vec::new(alloc);
+    for _ in 0..options.runs {
+        runs.push(run_once(alloc, test, config, limit)?)?;
+    }
+    Ok(runs)
+}
+
+// Whether every run ended all done.
+fn are_all_done(runs: &[RunEnd]) -> bool
+    ensures { result ≡ list_all (ends_as End.AllDone) runs.now }
+{
+    runs.iter().all(|run| matches!(run.end, End::AllDone))
+}

@@ -1,0 +1,49 @@
+-- The text that reports on the runs of a test.
+use Rattle.std.specs.Prelude.{ℕ, ◌==◌, nat_lt, Bool, if◌then◌else◌, List, ◌++◌, length, codes}
+use Rattle.std.specs.List.{flat_map}
+use Rattle.litmus_parser.specs.declared.syntax.Quantifier.{Quantifier}
+use Rattle.litmus_parser.specs.declared.syntax.Quantifier.TheVariants.{Exists, NotExists, Forall}
+use Rattle.litmus_reader.specs.Litmus.{Litmus}
+use Rattle.run_ends.specs.declared.ends.End.TheVariants.{AllDone, Stalled, TurnsUsed, Exhausted, NoMemory}
+use Rattle.run_ends.specs.declared.ends.RunEnd.{RunEnd}
+use Rattle.report_text.specs.declared.sums.Sums.{Sums}
+use Rattle.report_text.specs.Ends.{ended, held}
+use Rattle.report_lines.specs.Lines.{counts_text, field, word_line}
+use Rattle.report_text.specs.Lines.{state_line, quantifier_text}
+use Rattle.report_text.specs.States.{State, done_states, tallied}
+use Rattle.report_text.specs.Sums.{sums_of}
+
+-- the test, and how many runs ended in which way
+abbrev pub ends_text : Litmus → List RunEnd → List ℕ
+ends_text test runs = word_line (codes "test") test.name
+    ++ field (codes "threads") test.threads
+    ++ field (codes "runs") (length runs)
+    ++ field (codes "all-done") (ended AllDone runs)
+    ++ field (codes "stalled") (ended Stalled runs)
+    ++ field (codes "limit") (ended TurnsUsed runs)
+    ++ field (codes "exhausted") (ended Exhausted runs)
+    ++ field (codes "memory") (ended NoMemory runs)
+
+-- how many end states there are, and a line for each
+abbrev pub states_text : Litmus → List (ℕ × State) → List ℕ
+states_text test states = field (codes "states") (length states) ++ flat_map (state_line test) states
+
+-- exists: in some run; ~exists: in none; forall: in all that are all done
+abbrev pub is_yes : Quantifier → ℕ → ℕ → Bool
+is_yes Exists held all_done = nat_lt 0 held
+is_yes NotExists held all_done = held == 0
+is_yes Forall held all_done = held == all_done
+
+-- the condition, in how many runs its expression holds, and the verdict
+abbrev pub condition_text : Litmus → List RunEnd → List ℕ
+condition_text test runs = word_line (codes "condition") (quantifier_text test.quantifier)
+    ++ field (codes "held") (held test runs)
+    ++ word_line (codes "verdict") (if is_yes test.quantifier (held test runs) (ended AllDone runs) then codes "yes" else codes "no")
+
+abbrev pub sums_text : Sums → List ℕ
+sums_text sums = field (codes "completed") sums.completed
+    ++ counts_text sums.counts
+    ++ field (codes "stale-hits") sums.stale
+
+unfoldable pub litmus_text : Litmus → List RunEnd → List ℕ
+litmus_text test runs = ends_text test runs ++ states_text test (tallied (done_states runs)) ++ condition_text test runs ++ sums_text (sums_of runs)

@@ -1,0 +1,92 @@
+//! The lines that only this text has: each is put after the text so far.
+
+ghost use Rattle.std.specs.Prelude.{◌≡◌, ◌++◌, ◌∷◌, OnOk, map};
+ghost use Rattle.litmus_reader.specs.TestViews.{test_of};
+ghost use Rattle.report_text.specs.Lines.{name_text, register_text, state_line, value_text, values_text, quantifier_text};
+
+use itoa::Buffer;
+use litmus_reader::{Name, Quantifier, Test};
+use std::alloc::AllocError;
+
+/// The condition's first word, as it is written.
+pub(crate) fn quantifier_text(quantifier: Quantifier) -> &'static [u8]
+    ensures { result.now ≡ quantifier_text quantifier }
+{
+    match quantifier {
+        Quantifier::Exists => b"exists",
+        Quantifier::NotExists => b"~exists",
+        Quantifier::Forall => b"forall",
+    }
+}
+
+fn put_register(out: &mut Vec<u8>, thread: u8, register: u8) -> Result<(), AllocError>
+    ensures { OnOk result (out.new.items ≡ out.old.items ++ register_text thread register) }
+{
+    let mut digits = Buffer::new();
+    out.extend_from_slice(digits.format(thread).as_bytes())?;
+    out.extend_from_slice(b":x")?;
+    out.extend_from_slice(digits.format(register).as_bytes())?;
+    Ok(())
+}
+
+/// A name of the condition: `T:xR` or the name of a location.
+fn put_name(out: &mut Vec<u8>, test: &Test, name: Name) -> Result<(), AllocError>
+    ensures { OnOk result (out.new.items ≡
+        out.old.items ++ name_text (test_of test.now).locations name) }
+{
+    match name {
+        Name::Register(thread, register) => put_register(out, thread, register)?,
+        Name::Location(number) => {
+            out.extend_from_slice(test.location(number).unwrap_or(b""))?;
+        }
+    }
+    Ok(())
+}
+
+/// A space, a name of the condition, `=` and its value.
+fn put_value(out: &mut Vec<u8>, test: &Test, name: Name, value: u64) -> Result<(), AllocError>
+    ensures { OnOk result (out.new.items ≡
+        out.old.items ++ value_text (test_of test.now).locations name value) }
+{
+    let mut digits = Buffer::new();
+    out.push(b' ')?;
+    put_name(out, test, name)?;
+    out.push(b'=')?;
+    out.extend_from_slice(digits.format(value).as_bytes())?;
+    Ok(())
+}
+
+/// The condition's names with their values, in order.
+fn put_values(out: &mut Vec<u8>, test: &Test, values: &[u64]) -> Result<(), AllocError>
+    ensures { OnOk result (out.new.items ≡
+        out.old.items ++ values_text (test_of test.now).locations (test_of test.now).seen values.now) }
+{
+    let mut names = test.seen();
+    let mut left = values;
+    while let Some((name, more_names)) = names.split_first() {
+        let Some((value, more)) = left.split_first() else {
+            return Ok(());
+        };
+        put_value(out, test, *name, *value)?;
+        names = more_names;
+        left = more;
+    }
+    Ok(())
+}
+
+/// An end state: how often it was met, and the condition's names with their values.
+pub(crate) fn put_state(
+    out: &mut Vec<u8>,
+    test: &Test,
+    count: u64,
+    values: &[u64],
+) -> Result<(), AllocError>
+    ensures { OnOk result (out.new.items ≡
+        out.old.items ++ state_line (test_of test.now) (count, values.now)) }
+{
+    let mut digits = Buffer::new();
+    out.extend_from_slice(digits.format(count).as_bytes())?;
+    put_values(out, test, values)?;
+    out.push(b'\n')?;
+    Ok(())
+}

@@ -1,0 +1,56 @@
+//! The end states of the runs that are all done, each with how often it was met, in the order in which they were first met.
+
+ghost use Rattle.std.specs.Prelude.{◌≡◌, ◌<◌, ◌-◌, ◌^◌, OnOk, IfOk, option_map};
+ghost use Rattle.report_text.specs.Ends.{done_state};
+ghost use Rattle.report_text.specs.States.{counted, count_of, done_states, one_more, tallied};
+
+use indexmap::IndexMap;
+use run_ends::{End, RunEnd};
+use std::alloc::{AllocError, Global};
+
+/// The values of the condition's names, where a run is all done.
+fn done_state(run: &RunEnd) -> Option<&[u64]>
+    ensures { option_map (λ values. values.now) result ≡ done_state run.now.end run.now.state }
+{
+    match (run.end, &run.state) {
+        (End::AllDone, Some(state)) => Some(state.values()),
+        _ => None,
+    }
+}
+
+/// How many runs with this end state are counted.
+fn count_so_far(states: &IndexMap<&[u64], u64>, values: &[u64]) -> u64
+    ensures { result ≡ count_of values.now (counted states.now.entries) }
+{
+    match states.get(values) {
+        Some(count) => *count,
+        None => 0,
+    }
+}
+
+/// One more run with this end state.
+fn count_one<'a>(states: &mut IndexMap<&'a [u64], u64>, values: &'a [u64]) -> Result<(), AllocError>
+    requires { count_of values.now (counted states.old.entries) < 2 ^ 64 - 1 }
+    ensures { OnOk result (counted states.new.entries ≡
+        one_more values.now (counted states.old.entries)) }
+{
+    let count = count_so_far(states, values);
+    states.insert(values, count + 1)?;
+    Ok(())
+}
+
+/// The end states of the runs that are all done, in first-seen order, with how often each was met.
+pub(crate) fn count_states(
+    alloc: Global,
+    runs: &[RunEnd],
+) -> Result<IndexMap<&[u64], u64>, AllocError>
+    ensures { IfOk result (λ states. counted states.entries ≡ tallied (done_states runs.now)) }
+{
+    let mut states = IndexMap::new(alloc);
+    for run in runs {
+        if let Some(values) = done_state(run) {
+            count_one(&mut states, values)?;
+        }
+    }
+    Ok(states)
+}

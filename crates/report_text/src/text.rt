@@ -1,0 +1,99 @@
+//! The whole text, part by part.
+
+ghost use Rattle.std.specs.Prelude.{◌≡◌, ◌++◌, OnOk, IfOk};
+ghost use Rattle.litmus_reader.specs.TestViews.{test_of};
+ghost use Rattle.report_text.specs.States.{counted};
+ghost use Rattle.report_text.specs.Text.{ends_text, states_text, is_yes, condition_text, sums_text, litmus_text};
+
+use crate::ends::{ended, held};
+use crate::lines::{put_state, quantifier_text};
+use crate::states::count_states;
+use crate::sums::{Sums, sums_of};
+use indexmap::IndexMap;
+use litmus_reader::{Quantifier, Test};
+use report_lines::{put_counts, put_field, put_word};
+use run_ends::{End, RunEnd};
+use std::alloc::{AllocError, Global};
+
+/// The test's name and threads, and how many runs ended in which way.
+fn put_ends(out: &mut Vec<u8>, test: &Test, runs: &[RunEnd]) -> Result<(), AllocError>
+    ensures { OnOk result (out.new.items ≡ out.old.items ++ ends_text (test_of test.now) runs.now) }
+{
+    put_word(out, b"test", test.name())?;
+    put_field(out, b"threads", test.threads() as u128)?;
+    put_field(out, b"runs", runs.len() as u128)?;
+    put_field(out, b"all-done", ended(runs, End::AllDone) as u128)?;
+    put_field(out, b"stalled", ended(runs, End::Stalled) as u128)?;
+    put_field(out, b"limit", ended(runs, End::TurnsUsed) as u128)?;
+    put_field(out, b"exhausted", ended(runs, End::Exhausted) as u128)?;
+    put_field(out, b"memory", ended(runs, End::NoMemory) as u128)
+}
+
+/// How many end states there are, and a line for each.
+fn put_states(
+    out: &mut Vec<u8>,
+    test: &Test,
+    states: &IndexMap<&[u64], u64>,
+) -> Result<(), AllocError>
+    ensures { OnOk result (out.new.items ≡
+        out.old.items ++ states_text (test_of test.now) (counted states.now.entries)) }
+{
+    put_field(out, b"states", states.len() as u128)?;
+    let mut index = 0;
+    while let Some((values, count)) = states.get_index(index) {
+        put_state(out, test, *count, *values)?;
+        index += 1;
+    }
+    Ok(())
+}
+
+/// Whether the condition is met by so many runs of these in which its expression holds.
+fn is_yes(quantifier: Quantifier, held: usize, all_done: usize) -> bool
+    ensures { result ≡ is_yes quantifier held all_done }
+{
+    match quantifier {
+        Quantifier::Exists => held > 0,
+        Quantifier::NotExists => held == 0,
+        Quantifier::Forall => held == all_done,
+    }
+}
+
+/// The condition, in how many runs its expression holds, and the verdict.
+fn put_condition(out: &mut Vec<u8>, test: &Test, runs: &[RunEnd]) -> Result<(), AllocError>
+    ensures { OnOk result (out.new.items ≡
+        out.old.items ++ condition_text (test_of test.now) runs.now) }
+{
+    let held = held(test, runs);
+    put_word(out, b"condition", quantifier_text(test.condition()))?;
+    put_field(out, b"held", held as u128)?;
+    if is_yes(test.condition(), held, ended(runs, End::AllDone)) {
+        return put_word(out, b"verdict", b"yes");
+    }
+    put_word(out, b"verdict", b"no")
+}
+
+/// The sums over all runs.
+fn put_sums(out: &mut Vec<u8>, sums: Sums) -> Result<(), AllocError>
+    ensures { OnOk result (out.new.items ≡ out.old.items ++ sums_text sums) }
+{
+    put_field(out, b"completed", sums.completed)?;
+    put_counts(out, sums.counts)?;
+    put_field(out, b"stale-hits", sums.stale)
+}
+
+/// The text that reports on the runs of a test, in lines that end with a line feed: how the runs ended; the end states of
+/// the runs that are all done, in the order in which they were first met, each with how often it was met and the values of
+/// the condition's names; in how many of these runs the condition's expression holds, and the verdict; and sums over all
+/// runs, where 2^128 - 1 stands for a greater one.
+#[tactic(auto, unfolding(crate::specs::Text::litmus_text))]
+pub fn litmus_text(alloc: Global, test: &Test, runs: &[RunEnd]) -> Result<Vec<u8>, AllocError>
+    ensures { IfOk result (λ text. text.items ≡ litmus_text (test_of test.now) runs.now) }
+{
+    let states = count_states(alloc, runs)?;
+    let mut out = Vec::new(alloc);
+    put_ends(&mut out, test, runs)?;
+    put_states(&mut out, test, &states)?;
+    put_condition(&mut out, test, runs)?;
+    put_sums(&mut out, sums_of(runs))?;
+    Ok(out)
+}

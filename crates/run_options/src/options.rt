@@ -1,0 +1,91 @@
+//! What the options of a run say. A number without a range here is any of 64 bits; what no machine can have, as no banks, is
+//! for the machine's configuration to refuse.
+
+/// The order in which a run takes its events.
+#[derive(Clone, Copy, Debug, PartialEq, Eq)]
+pub enum Schedule {
+    /// In rounds: each core in turn, and then each message in flight.
+    Round,
+}
+
+/// How the machine is built.
+#[derive(Clone, Copy, Debug, PartialEq, Eq)]
+pub struct MachineOptions {
+    /// How far a lease goes past the times that it covers.
+    pub lease: u64,
+    /// The time of every core and bank before the first event.
+    pub time: u64,
+    /// How many banks there are.
+    pub banks: u64,
+    /// How many sets a private cache has.
+    pub sets: u64,
+    /// How many lines a private set holds.
+    pub ways: u64,
+    /// How many sets a bank has.
+    pub bank_sets: u64,
+    /// How many lines a bank's set holds.
+    pub bank_ways: u64,
+    /// How many words a line has.
+    pub line_words: u64,
+    /// How many messages can be in flight.
+    pub messages: u64,
+    /// Whether a core that wrote a line stores to it again without a later time.
+    pub private_write: bool,
+}
+
+impl MachineOptions {
+    /// The machine that is built if no option says otherwise.
+    pub const DEFAULT: MachineOptions = MachineOptions {
+        lease: 10,
+        time: 0,
+        banks: 1,
+        sets: 64,
+        ways: 4,
+        bank_sets: 256,
+        bank_ways: 8,
+        line_words: 1,
+        messages: 4096,
+        private_write: false,
+    };
+}
+
+/// How one run goes, on which machine.
+#[derive(Clone, Copy, Debug, PartialEq, Eq)]
+pub struct RunOptions {
+    /// The order of events.
+    pub schedule: Schedule,
+    /// What a seeded schedule draws from. Schedule round draws nothing.
+    pub seed: u64,
+    /// How many threads share the work, 1 to 16. Schedule round uses one.
+    pub workers: u64,
+    /// How many rounds a run has at most, 1 to 4294967295.
+    pub limit: u64,
+    pub machine: MachineOptions,
+}
+
+impl RunOptions {
+    /// A run if no option says otherwise.
+    pub const DEFAULT: RunOptions = RunOptions {
+        schedule: Schedule::Round,
+        seed: 0,
+        workers: 1,
+        limit: 100_000,
+        machine: MachineOptions::DEFAULT,
+    };
+}
+
+/// The runs of a litmus test.
+#[derive(Clone, Copy, Debug, PartialEq, Eq)]
+pub struct LitmusOptions {
+    /// How often the test is run, 1 to 1000000.
+    pub runs: u64,
+    pub run: RunOptions,
+}
+
+impl LitmusOptions {
+    /// The runs of a litmus test if no option says otherwise.
+    pub const DEFAULT: LitmusOptions = LitmusOptions {
+        runs: 1,
+        run: RunOptions::DEFAULT,
+    };
+}

@@ -1,0 +1,59 @@
+//! The line on standard error that says why there is no report.
+
+ghost use Rattle.std.specs.Prelude.{◌≡◌, ◌+◌, ◌++◌, ◌≤◌, length};
+ghost use Rattle.run_results.specs.ErrorLine.{error_line, fault_line};
+
+use crate::kinds::{kind_name, kind_number};
+use crate::results::RunError;
+use arrayvec::ArrayVec;
+use itoa::Buffer;
+use litmus_lexer::LitmusError;
+
+/// A line of at most 64 bytes, which takes no memory: the want of memory is told too.
+pub type ErrorLine = ArrayVec<u8, 64>;
+
+// More bytes after those of the line.
+fn put(line: &mut ErrorLine, bytes: &[u8])
+    requires { length line.old.items + length bytes.now ≤ 64 }
+    ensures { line.new.items ≡ line.old.items ++ bytes.now }
+{
+    let _fits = line.try_extend_from_slice(bytes);
+}
+
+// The line that has these bytes.
+fn line_of(bytes: &[u8]) -> ErrorLine
+    requires { length bytes.now ≤ 64 }
+    ensures { result.items ≡ bytes.now }
+{
+    let mut line = ErrorLine::new();
+    put(&mut line, bytes);
+    line
+}
+
+// The line of a text's fault: where it is, and its kind by number and name.
+fn fault_line(fault: &LitmusError) -> ErrorLine
+    ensures { result.items ≡ fault_line fault.now }
+{
+    let mut digits = Buffer::new();
+    let mut line = line_of(b"tardis: line ");
+    put(&mut line, digits.format(fault.line).as_bytes());
+    put(&mut line, b": ");
+    put(&mut line, digits.format(kind_number(fault.kind)).as_bytes());
+    put(&mut line, b" ");
+    put(&mut line, kind_name(fault.kind));
+    put(&mut line, b"\n");
+    line
+}
+
+/// The line of an error, with its line feed.
+pub fn error_line(error: &RunError) -> ErrorLine
+    ensures { result.items ≡ error_line error.now }
+{
+    match error {
+        RunError::Read => line_of(b"tardis: read failed\n"),
+        RunError::Write => line_of(b"tardis: write failed\n"),
+        RunError::NoMemory => line_of(b"tardis: no memory\n"),
+        RunError::Litmus(fault) => fault_line(fault),
+        RunError::BadConfig => line_of(b"tardis: bad configuration\n"),
+    }
+}

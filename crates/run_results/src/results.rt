@@ -1,0 +1,65 @@
+//! The results, their numbers and their exit statuses.
+
+ghost use Rattle.std.specs.Prelude.{◌≡◌};
+ghost use Rattle.run_results.specs.Results.{run_number, status_of};
+
+use litmus_lexer::LitmusError;
+use thiserror::Error;
+
+/// What came of a run of the program that gave its report.
+#[derive(Clone, Copy, Debug, PartialEq, Eq)]
+pub struct Done {
+    /// Whether every run ended all done.
+    pub all_done: bool,
+}
+
+/// Why there is no report.
+#[derive(Clone, Copy, Debug, PartialEq, Eq, Error)]
+pub enum RunError {
+    /// A call of the source failed.
+    #[error("reading failed")]
+    Read,
+    /// A call of the sink failed; what went out is a beginning of the report.
+    #[error("writing failed")]
+    Write,
+    /// An allocation failed.
+    #[error("no memory")]
+    NoMemory,
+    /// The text is no litmus test: its first fault.
+    #[error("line {line}: {kind:?}", line = .0.line, kind = .0.kind)]
+    Litmus(LitmusError),
+    /// A value of the machine's configuration is out of its range.
+    #[error("bad configuration")]
+    BadConfig,
+}
+
+impl RunError {
+    /// Its number: 1 reading, 2 writing, 3 no memory, 4 a litmus text, 6 a configuration.
+    pub fn number(&self) -> u8
+        ensures { result ≡ run_number self.now }
+    {
+        match self {
+            RunError::Read => 1,
+            RunError::Write => 2,
+            RunError::NoMemory => 3,
+            RunError::Litmus(_) => 4,
+            RunError::BadConfig => 6,
+        }
+    }
+}
+
+/// The exit status: 0 all done, 1 a run ended otherwise or there was no memory, 2 the text is refused, 3 the configuration
+/// is, 4 reading or writing failed.
+pub fn exit_status(came: &Result<Done, RunError>) -> u8
+    ensures { result ≡ status_of came.now }
+{
+    match came {
+        Ok(done) if done.all_done => 0,
+        Ok(_) => 1,
+        Err(RunError::NoMemory) => 1,
+        Err(RunError::Litmus(_)) => 2,
+        Err(RunError::BadConfig) => 3,
+        Err(RunError::Read) => 4,
+        Err(RunError::Write) => 4,
+    }
+}

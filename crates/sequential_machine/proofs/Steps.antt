@@ -1,0 +1,61 @@
+-- Steps of threads in the order of a list, and two such runs of the example.
+use Rattle.std.proofs.Common.{◌≡◌, ℕ, zero, suc, ◌<◌, List, [], ◌∷◌, Option, refl, sym, ap, arith}
+use Rattle.std.specs.Prelude.{unwrap_or}
+use Rattle.std.specs.FinMap.{get-empty}
+use Rattle.std.specs.Ordering.{nat_cmp}
+use Rattle.litmus_parser.specs.declared.syntax.Cell.{Cell}
+use Rattle.litmus_reader.specs.OpeningMemory.{words_opened}
+use Rattle.litmus_reader.specs.ThreadSteps.{opened}
+use Rattle.sequential_machine.specs.SequentialMachine.{State, memory_opened, opening, after_one, next, Steps, none, more, IsOutcome}
+use Rattle.sequential_machine.specs.Example.{store_buffering}
+use Rattle.sequential_machine.proofs.ThreadSteps.{joined}
+
+abbrev after_first : State → ℕ → List Cell → State
+after_first s t [] = s
+after_first s t (cell ∷ rest) = after_one s t cell.instruction rest
+
+-- each thread of the list does its next instruction
+abbrev by_turns : State → List ℕ → State
+by_turns s [] = s
+by_turns s (t ∷ ts) = by_turns (after_first s t (s.left t)) ts
+
+first_step : (s : State) (t : ℕ) (cells : List Cell) → s.left t ≡ cells → Steps s (after_first s t cells)
+first_step s t [] e = none
+first_step s t (cell ∷ rest) e = more none (next t cell rest e)
+
+turns : (s : State) (ts : List ℕ) → Steps s (by_turns s ts)
+turns s [] = none
+turns s (t ∷ ts) =
+    let after = after_first s t (s.left t) in
+    joined s after (by_turns after ts) (first_step s t (s.left t) refl) (turns after ts)
+
+-- both threads store before they load
+abbrev stores_first : List ℕ
+stores_first = 0 ∷ 1 ∷ 0 ∷ 1 ∷ 0 ∷ 1 ∷ []
+
+-- one thread is through before the other begins
+abbrev one_first : List ℕ
+one_first = 0 ∷ 0 ∷ 0 ∷ 1 ∷ 1 ∷ 1 ∷ []
+
+through : (t : ℕ) → t < 2 → (by_turns (opening store_buffering) stores_first).left t ≡ []
+through zero lt = refl
+through (suc zero) lt = refl
+through (suc (suc t)) lt = absurd (omega arith)
+
+through_too : (t : ℕ) → t < 2 → (by_turns (opening store_buffering) one_first).left t ≡ []
+through_too zero lt = refl
+through_too (suc zero) lt = refl
+through_too (suc (suc t)) lt = absurd (omega arith)
+
+pub both_receive_one : IsOutcome store_buffering (1 ∷ 1 ∷ [])
+unfolding words_opened opened
+both_receive_one = record { last = by_turns (opening store_buffering) stores_first; steps = turns (opening store_buffering) stores_first; finished = through; values_are = refl }
+
+-- every word opens as 0
+pub unset : (a : ℕ) → memory_opened store_buffering a ≡ 0
+unfolding words_opened
+unset a = ap (λ (o : Option ℕ). unwrap_or o 0) (get-empty nat_cmp a)
+
+pub one_receives_zero : IsOutcome store_buffering (0 ∷ 1 ∷ [])
+unfolding words_opened opened
+one_receives_zero = record { last = by_turns (opening store_buffering) one_first; steps = turns (opening store_buffering) one_first; finished = through_too; values_are = ap (λ (n : ℕ). n ∷ 1 ∷ []) (sym (unset 1)) }

@@ -1,0 +1,26 @@
+//! The files of the host.
+
+ghost use Rattle.std.specs.Prelude.{None};
+
+use byte_streams::{DeviceError, FromRead};
+use program::Files;
+use std::fs::File;
+
+/// The host's files, of which nothing is known before they are read.
+#[derive(Clone, Copy)]
+pub(crate) struct HostFiles<'a> {
+    pub(crate) rt: &'a HostRuntime,
+}
+
+impl Files for HostFiles<'_> {
+    type File = FromRead<File>;
+
+    ghost bytes = { λ _ _. None };
+
+    fn open(&self, name: &str) -> Result<FromRead<File>, DeviceError> {
+        match File::open(self.rt, name) {
+            Ok(file) => Ok(FromRead::new(file)),
+            Err(_) => Err(DeviceError),
+        }
+    }
+}

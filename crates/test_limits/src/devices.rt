@@ -1,0 +1,136 @@
+//! A source and a sink that take one byte a call, and some that fail in mid-stream.
+use crate::running::report_from;
+use crate::texts::{BYTES, with_bytes};
+use report::{Done, RunError};
+use std::io;
+use std::io::{Read, Write};
+use std::test::Fail;
+
+const STORE_BUFFERING: &[u8] = b"RISCV SB
+{ 0:x5=1; 0:x6=x; 0:x8=y; 1:x5=1; 1:x6=y; 1:x8=x; }
+ P0          | P1          ;
+ sw x5,0(x6) | sw x5,0(x6) ;
+ lw x7,0(x8) | lw x7,0(x8) ;
+exists (0:x7=0 /\\ 1:x7=0)
+";
+
+// Both stores and then both loads complete at time 1, and each store's line goes back once for the other core's load.
+const REPORT: &[u8] = b"test SB
+threads 2
+runs 1
+all-done 1
+stalled 0
+limit 0
+exhausted 0
+memory 0
+states 1
+1 0:x7=1 1:x7=1
+condition exists
+held 0
+verdict no
+completed 4
+renewals 0
+upgrades 0
+flushes 0
+write-backs 2
+stale-hits 0
+";
+
+/// A reader or writer that moves one byte a call, and fails after so many calls.
+#[derive(Drop)]
+struct Slow<T> {
+    inner: T,
+    calls: u32,
+}
+
+impl<T> Slow<T> {
+    fn calls(&mut self) -> io::Result<()> {
+        if self.calls == 0 {
+            return Err(io::Error::from(io::ErrorKind::BrokenPipe));
+        }
+        self.calls -= 1;
+        Ok(())
+    }
+}
+
+impl<T: Read> Read for Slow<T> {
+    fn read(&mut self, buffer: &mut [u8]) -> io::Result<usize> {
+        self.calls()?;
+        let most = buffer.len().min(1);
+        self.inner.read(&mut buffer[..most])
+    }
+}
+
+impl<T: Write> Write for Slow<T> {
+    fn write(&mut self, bytes: &[u8]) -> io::Result<usize> {
+        self.calls()?;
+        let most = bytes.len().min(1);
+        self.inner.write(&bytes[..most])
+    }
+
+    fn flush(&mut self) -> io::Result<()> {
+        Ok(())
+    }
+}
+
+#[test]
+fn one_byte_a_call(rt: HostRuntime) -> Result<(), Fail> {
+    let mut out = Vec::new(rt.alloc());
+    let reader = Slow {
+        inner: STORE_BUFFERING,
+        calls: 1000,
+    };
+    let writer = Slow {
+        inner: &mut out,
+        calls: 1000,
+    };
+    let done = report_from(rt.alloc(), reader, writer, 1);
+    assert_eq!(rt; done, Ok(Done { all_done: true }));
+    assert!(rt; out.as_slice() == REPORT);
+    Ok(())
+}
+
+#[test]
+fn the_longest_text_one_byte_a_call(rt: HostRuntime) -> Result<(), Fail> {
+    let text = with_bytes(rt.alloc(), BYTES)?;
+    let reader = Slow {
+        inner: text.as_bytes(),
+        calls: 70_000,
+    };
+    let mut out = Vec::new(rt.alloc());
+    let done = report_from(rt.alloc(), reader, &mut out, 1);
+    assert_eq!(rt; done, Ok(Done { all_done: true }));
+    Ok(())
+}
+
+// A call of the reader fails, each in turn: nothing is written.
+#[test]
+fn a_reader_that_fails(rt: HostRuntime) -> Result<(), Fail> {
+    for calls in 0..STORE_BUFFERING.len() as u32 {
+        let mut out = Vec::new(rt.alloc());
+        let reader = Slow {
+            inner: STORE_BUFFERING,
+            calls,
+        };
+        let done = report_from(rt.alloc(), reader, &mut out, 1);
+        assert_eq!(rt; done, Err(RunError::Read), "after {calls} calls");
+        assert_eq!(rt; out.len(), 0, "after {calls} calls");
+    }
+    Ok(())
+}
+
+// A call of the writer fails, each in turn: the beginning of the report went out.
+#[test]
+fn a_writer_that_fails(rt: HostRuntime) -> Result<(), Fail> {
+    for calls in 0..REPORT.len() {
+        let mut out = Vec::new(rt.alloc());
+        let writer = Slow {
+            inner: &mut out,
+            calls: calls as u32,
+        };
+        let done = report_from(rt.alloc(), STORE_BUFFERING, writer, 1);
+        assert_eq!(rt; done, Err(RunError::Write), "after {calls} calls");
+        assert!(rt; out.as_slice() == &REPORT[..calls], "after {calls} calls");
+    }
+    Ok(())
+}

@@ -1,0 +1,125 @@
+//! Reports of many runs.
+use crate::running::gives;
+use litmus_reader::{Test, read};
+use machine_table::Counts;
+use report_text::litmus_text;
+use run_ends::{End, RunEnd};
+use std::alloc::{AllocError, Global};
+use std::test::Fail;
+
+const STORE_BUFFERING: &[u8] = b"RISCV SB
+{ 0:x5=1; 0:x6=x; 0:x8=y; 1:x5=1; 1:x6=y; 1:x8=x; }
+ P0          | P1          ;
+ sw x5,0(x6) | sw x5,0(x6) ;
+ lw x7,0(x8) | lw x7,0(x8) ;
+exists (0:x7=0 /\\ 1:x7=0)
+";
+
+// The schedule of rounds makes each run the same again: a thousand times four operations and two write-backs.
+const REPORT: &[u8] = b"test SB
+threads 2
+runs 1000
+all-done 1000
+stalled 0
+limit 0
+exhausted 0
+memory 0
+states 1
+1000 0:x7=1 1:x7=1
+condition exists
+held 0
+verdict no
+completed 4000
+renewals 0
+upgrades 0
+flushes 0
+write-backs 2000
+stale-hits 0
+";
+
+#[test]
+fn a_thousand_runs(rt: HostRuntime) -> Result<(), Fail> {
+    assert!(rt; gives(rt.alloc(), STORE_BUFFERING, 1000, REPORT));
+    Ok(())
+}
+
+const ONE_WORD: &[u8] = b"RISCV L\n{ }\nP0 ;\nexists x=7\n";
+
+// How often each of so many end states is met, but for the first, which is met once more.
+const EACH: u64 = 2;
+
+const STATES: u64 = 499;
+
+// A run that ended all done with this value of x, and counted each thing differently.
+fn ended_with(alloc: Global, test: &Test, value: u64) -> Result<RunEnd, AllocError> {
+    let mut threads = Vec::new(alloc);
+    threads.push(test.start(0))?;
+    let state = test.end(&threads, &[value])?;
+    Ok(RunEnd {
+        end: End::AllDone,
+        state: Some(state),
+        completed: 1,
+        stale: 2,
+        counts: Counts {
+            renewals: 3,
+            upgrades: 4,
+            flushes: 5,
+            write_backs: 6,
+        },
+    })
+}
+
+// A run that has no end state.
+fn ended_otherwise(end: End) -> RunEnd {
+    RunEnd {
+        end,
+        state: None,
+        completed: 10,
+        stale: 0,
+        counts: Counts {
+            renewals: 0,
+            upgrades: 0,
+            flushes: 0,
+            write_backs: 0,
+        },
+    }
+}
+
+// A thousand runs: 999 all done, which meet 499 end states, the first of them three times; and one that stalled.
+fn many(alloc: Global, test: &Test) -> Result<Vec<RunEnd>, AllocError> {
+    let mut runs = Vec::new(alloc);
+    for _ in 0..EACH {
+        for value in 0..STATES {
+            runs.push(ended_with(alloc, test, value)?)?;
+        }
+    }
+    runs.push(ended_otherwise(End::Stalled))?;
+    runs.push(ended_with(alloc, test, 0)?)?;
+    Ok(runs)
+}
+
+// The report on them. x is 7 in two of the runs. Sums: 999 times each run's counts, and 10 operations of the stalled
+// one.
+fn wanted(alloc: Global) -> Result<String, AllocError> {
+    let mut text = String::new(alloc);
+    text.push_str("test L\nthreads 1\nruns 1000\nall-done 999\nstalled 1\nlimit 0\n")?;
+    text.push_str("exhausted 0\nmemory 0\nstates 499\n3 x=0\n")?;
+    for value in 1..STATES {
+        let line = format!(in alloc; "2 x={value}\n")?;
+        text.push_str(&line)?;
+    }
+    text.push_str("condition exists\nheld 2\nverdict yes\ncompleted 1009\nrenewals 2997\n")?;
+    text.push_str("upgrades 3996\nflushes 4995\nwrite-backs 5994\nstale-hits 1998\n")?;
+    Ok(text)
+}
+
+#[test]
+fn many_end_states(rt: HostRuntime) -> Result<(), Fail> {
+    let test = read(rt.alloc(), ONE_WORD).ok().ok_or("it is read")?;
+    let runs = many(rt.alloc(), &test)?;
+    assert_eq!(rt; runs.len(), 1000);
+    let text = litmus_text(rt.alloc(), &test, &runs)?;
+    let wanted = wanted(rt.alloc())?;
+    assert!(rt; text.as_slice() == wanted.as_bytes());
+    Ok(())
+}

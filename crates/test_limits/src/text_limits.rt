@@ -1,0 +1,288 @@
+//! Each limit of a text, reached and passed by one.
+use crate::running::{fault, gives};
+use crate::texts::{
+    BYTES, put_registers, with_atoms, with_bytes, with_cells, with_lines, with_locations,
+    with_locations_seen, with_name, with_parentheses, with_registers, with_rows, with_threads,
+};
+use litmus_reader::{Kind, Test, read};
+use physiological_order::WordAddr;
+use std::alloc::{AllocError, Global};
+use std::test::Fail;
+
+// Texts at their limits.
+fn at_limits(alloc: Global) -> Result<[String; 10], Fail> {
+    Ok([
+        with_bytes(alloc, BYTES)?,
+        with_lines(alloc, BYTES - 28, "exists x=0")?,
+        with_name(alloc, 128)?,
+        with_threads(alloc, 16)?,
+        with_rows(alloc, 1024)?,
+        with_locations(alloc, 64, 30)?,
+        with_locations_seen(alloc, 64)?,
+        with_atoms(alloc, 256, "0")?,
+        with_parentheses(alloc, 64)?,
+        with_lines(alloc, 0, "exists x=0")?,
+    ])
+}
+
+// Texts past their limits, each with the line and the kind of its fault.
+fn past_limits(alloc: Global) -> Result<[(String, usize, Kind); 12], Fail> {
+    Ok([
+        (with_bytes(alloc, BYTES + 1)?, 1, Kind::TooLarge),
+        (
+            with_lines(alloc, BYTES - 27, "exists x=0")?,
+            1,
+            Kind::TooLarge,
+        ),
+        (
+            with_lines(alloc, BYTES - 28, "exists x=a")?,
+            65_512,
+            Kind::BadCondition,
+        ),
+        (with_name(alloc, 129)?, 1, Kind::BadHeader),
+        (with_name(alloc, 0)?, 1, Kind::BadHeader),
+        (with_rows(alloc, 1025)?, 1028, Kind::TooLarge),
+        (with_locations(alloc, 65, 30)?, 67, Kind::TooLarge),
+        (with_locations(alloc, 1, 31)?, 3, Kind::BadInitial),
+        (with_locations_seen(alloc, 65)?, 69, Kind::TooLarge),
+        (with_atoms(alloc, 257, "0")?, 261, Kind::TooLarge),
+        (with_parentheses(alloc, 65)?, 69, Kind::TooLarge),
+        (with_threads(alloc, 0)?, 3, Kind::BadTable),
+    ])
+}
+
+#[test]
+fn texts_at_their_limits_are_read(rt: HostRuntime) -> Result<(), Fail> {
+    let texts = at_limits(rt.alloc())?;
+    assert_eq!(rt; texts[0].len(), BYTES);
+    assert_eq!(rt; texts[1].len(), BYTES);
+    for (index, text) in texts.iter().enumerate() {
+        assert_eq!(rt; fault(rt.alloc(), text.as_bytes()), None, "text {index}");
+    }
+    Ok(())
+}
+
+#[test]
+fn texts_past_their_limits_are_refused(rt: HostRuntime) -> Result<(), Fail> {
+    let texts = past_limits(rt.alloc())?;
+    for (index, (text, line, kind)) in texts.iter().enumerate() {
+        assert_eq!(rt;
+            fault(rt.alloc(), text.as_bytes()),
+            Some((*line, *kind)),
+            "text {index}"
+        );
+    }
+    Ok(())
+}
+
+// A heading of a 17th thread, whose items would be refused before it.
+#[test]
+fn a_seventeenth_thread_is_refused(rt: HostRuntime) {
+    let text =
+        b"RISCV L\n{ }\nP0|P1|P2|P3|P4|P5|P6|P7|P8|P9|P10|P11|P12|P13|P14|P15|P16;\nexists x=0\n";
+    assert_eq!(rt; fault(rt.alloc(), text), Some((3, Kind::TooLarge)));
+}
+
+// What the first, the last and the next word of a test's 64 locations open as.
+fn values(test: &Test) -> Result<[u64; 3], AllocError> {
+    let memory = test.opening()?;
+    Ok([
+        memory.get(WordAddr::at(0)),
+        memory.get(WordAddr::at(63)),
+        memory.get(WordAddr::at(64)),
+    ])
+}
+
+// Whether a test has 64 locations, the last one of this name.
+fn has_last(test: &Test, name: &[u8]) -> bool {
+    test.locations() == 64 && test.location(63) == Some(name) && test.location(64).is_none()
+}
+
+#[test]
+fn a_test_of_many_locations(rt: HostRuntime) -> Result<(), Fail> {
+    let text = with_locations(rt.alloc(), 64, 30)?;
+    let test = read(rt.alloc(), text.as_bytes()).ok().ok_or("it is read")?;
+    assert!(rt; has_last(&test, b"llllllllllllllllllllllllllllll73"));
+    assert!(rt; values(&test)? == [1, 64, 0]);
+    Ok(())
+}
+
+#[test]
+fn a_test_with_a_long_name(rt: HostRuntime) -> Result<(), Fail> {
+    let text = with_name(rt.alloc(), 128)?;
+    let test = read(rt.alloc(), text.as_bytes()).ok().ok_or("it is read")?;
+    assert_eq!(rt; test.name().len(), 128);
+    Ok(())
+}
+
+// Sixteen threads that share no line send nothing but requests and grants.
+const THREADS: &[u8] = b"test L
+threads 16
+runs 1
+all-done 1
+stalled 0
+limit 0
+exhausted 0
+memory 0
+states 1
+1 l0=1 l1=2 l2=3 l3=4 l4=5 l5=6 l6=7 l7=8 l8=9 l9=10 l10=11 l11=12 l12=13 l13=14 l14=15 l15=16
+condition forall
+held 1
+verdict yes
+completed 16
+renewals 0
+upgrades 0
+flushes 0
+write-backs 0
+stale-hits 0
+";
+
+// One load a row, all at time 0.
+const ROWS: &[u8] = b"test L
+threads 16
+runs 1
+all-done 1
+stalled 0
+limit 0
+exhausted 0
+memory 0
+states 1
+1 15:x7=6
+condition exists
+held 1
+verdict yes
+completed 1024
+renewals 0
+upgrades 0
+flushes 0
+write-backs 0
+stale-hits 0
+";
+
+// A condition of 256 atoms that are true.
+const ATOMS: &[u8] = b"test L
+threads 1
+runs 1
+all-done 1
+stalled 0
+limit 0
+exhausted 0
+memory 0
+states 1
+1 x=0
+condition forall
+held 1
+verdict yes
+completed 0
+renewals 0
+upgrades 0
+flushes 0
+write-backs 0
+stale-hits 0
+";
+
+// A condition of 256 atoms whose last one is false.
+const LAST_ATOM: &[u8] = b"test L
+threads 1
+runs 1
+all-done 1
+stalled 0
+limit 0
+exhausted 0
+memory 0
+states 1
+1 x=0
+condition forall
+held 0
+verdict no
+completed 0
+renewals 0
+upgrades 0
+flushes 0
+write-backs 0
+stale-hits 0
+";
+
+// The longest text, and a condition in 64 pairs of parentheses.
+const LONGEST: &[u8] = b"test L
+threads 1
+runs 1
+all-done 1
+stalled 0
+limit 0
+exhausted 0
+memory 0
+states 1
+1 x=0
+condition exists
+held 1
+verdict yes
+completed 0
+renewals 0
+upgrades 0
+flushes 0
+write-backs 0
+stale-hits 0
+";
+
+#[test]
+fn texts_at_their_limits_are_run(rt: HostRuntime) -> Result<(), Fail> {
+    let cases = [
+        (with_threads(rt.alloc(), 16)?, THREADS),
+        (with_rows(rt.alloc(), 1024)?, ROWS),
+        (with_atoms(rt.alloc(), 256, "0")?, ATOMS),
+        (with_atoms(rt.alloc(), 256, "1")?, LAST_ATOM),
+        (with_bytes(rt.alloc(), BYTES)?, LONGEST),
+        (with_parentheses(rt.alloc(), 64)?, LONGEST),
+    ];
+    for (index, (text, report)) in cases.iter().enumerate() {
+        assert!(rt;
+            gives(rt.alloc(), text.as_bytes(), 1, report),
+            "text {index}"
+        );
+    }
+    Ok(())
+}
+
+// A report of sixteen threads whose one end state has 256 values.
+fn many_values(alloc: Global) -> Result<String, AllocError> {
+    let mut report = String::new(alloc);
+    report.push_str("test L\nthreads 16\nruns 1\nall-done 1\nstalled 0\nlimit 0\nexhausted 0\n")?;
+    report.push_str("memory 0\nstates 1\n1 ")?;
+    put_registers(alloc, &mut report, " ")?;
+    report.push_str("\ncondition forall\nheld 1\nverdict yes\ncompleted 0\nrenewals 0\n")?;
+    report.push_str("upgrades 0\nflushes 0\nwrite-backs 0\nstale-hits 0\n")?;
+    Ok(report)
+}
+
+// Seven threads of 1,024 instructions each.
+const CELLS: &[u8] = b"test L
+threads 7
+runs 1
+all-done 1
+stalled 0
+limit 0
+exhausted 0
+memory 0
+states 1
+1 6:x1=7 0:x1=1
+condition exists
+held 1
+verdict yes
+completed 0
+renewals 0
+upgrades 0
+flushes 0
+write-backs 0
+stale-hits 0
+";
+
+#[test]
+fn many_registers_and_cells(rt: HostRuntime) -> Result<(), Fail> {
+    let registers = with_registers(rt.alloc())?;
+    let report = many_values(rt.alloc())?;
+    assert!(rt; gives(rt.alloc(), registers.as_bytes(), 1, report.as_bytes()));
+    let cells = with_cells(rt.alloc())?;
+    assert!(rt; gives(rt.alloc(), cells.as_bytes(), 1, CELLS));
+    Ok(())
+}

@@ -1,0 +1,122 @@
+//! What a machine says of itself, against a line of an example.
+use crate::examples::{On, Step};
+use crate::happenings::{op, word};
+use interleaving_core::{Counts, System};
+use network::{LineNo, MsgNo};
+use physiological_order::{Op, Record, rises_by_number, stale_hits};
+use std::alloc::{AllocError, Global};
+
+// How many loads received an older value than the newest one completed.
+fn stale(alloc: Global, records: &[Record]) -> Result<Option<u64>, AllocError> {
+    if !rises_by_number(records) {
+        return Ok(None);
+    }
+    let count = stale_hits(alloc, records)?;
+    Ok(Some(count))
+}
+
+fn are_lines(lines: &[LineNo], numbers: &[u64]) -> bool {
+    let mut left = numbers;
+    for line in lines {
+        let Some((number, rest)) = left.split_first() else {
+            return false;
+        };
+        if line.0 != *number {
+            return false;
+        }
+        left = rest;
+    }
+    left.is_empty()
+}
+
+fn are_messages(messages: &[MsgNo], numbers: &[u64]) -> bool {
+    let mut left = numbers;
+    for message in messages {
+        let Some((number, rest)) = left.split_first() else {
+            return false;
+        };
+        if message.0 != *number {
+            return false;
+        }
+        left = rest;
+    }
+    left.is_empty()
+}
+
+fn are_issued(ops: &[Op], wanted: &[On]) -> bool {
+    let mut left = wanted;
+    for given in ops {
+        let Some((on, rest)) = left.split_first() else {
+            return false;
+        };
+        if *given != op(on) {
+            return false;
+        }
+        left = rest;
+    }
+    left.is_empty()
+}
+
+fn number_of(line: Option<LineNo>) -> Option<u64> {
+    let LineNo(number) = line?;
+    Some(number)
+}
+
+fn place_of(room: Option<(u32, LineNo)>) -> Option<(u32, u64)> {
+    let (bank, LineNo(number)) = room?;
+    Some((bank, number))
+}
+
+fn open_of(pending: Option<(Op, bool)>) -> (bool, bool) {
+    match pending {
+        Some((_, is_out)) => (true, is_out),
+        None => (false, false),
+    }
+}
+
+fn sent_of(counts: &Counts) -> (u128, u128, u128, u128) {
+    (
+        counts.renewals,
+        counts.upgrades,
+        counts.flushes,
+        counts.write_backs,
+    )
+}
+
+// Whether the lists of a machine are as a line of an example says.
+fn has_lists(alloc: Global, system: &System, step: &Step) -> Result<bool, AllocError> {
+    match step {
+        Step::Copies(core, lines) => Ok(are_lines(&system.copies(*core)?, lines)),
+        Step::Entries(bank, lines) => Ok(are_lines(&system.entries(*bank)?, lines)),
+        Step::InFlight(numbers) => Ok(are_messages(&system.in_flight()?, numbers)),
+        Step::Issues(core, ops) => Ok(are_issued(system.issued(*core), ops)),
+        Step::Records(count, hits) => {
+            let records = system.records();
+            Ok(records.len() as u64 == *count && stale(alloc, records)? == Some(*hits))
+        }
+        _ => Ok(false),
+    }
+}
+
+/// Whether a machine is as a line of an example says.
+pub(crate) fn is_so(alloc: Global, system: &System, step: &Step) -> Result<bool, AllocError> {
+    match step {
+        Step::Owners(line, owners) => Ok(system.owners(LineNo(*line)) as u64 == *owners),
+        Step::Word(at, value) => Ok(system.coherent(word(*at)) == *value),
+        Step::Sent(renewals, upgrades, flushes, write_backs) => Ok(
+            sent_of(&system.counts()) == (*renewals, *upgrades, *flushes, *write_backs),
+        ),
+        Step::Cores(cores, stopped) => {
+            Ok(system.cores() == *cores && system.is_stopped() == *stopped)
+        }
+        Step::LineWords(words) => Ok(system.line_words() == *words),
+        Step::Victim(core, line, victim) => {
+            Ok(number_of(system.victim(*core, LineNo(*line))) == *victim)
+        }
+        Step::Room(number, room) => Ok(place_of(system.make_room(MsgNo(*number))) == *room),
+        Step::Open(core, pending, is_out) => {
+            Ok(open_of(system.open_op(*core)) == (*pending, *is_out))
+        }
+        _ => has_lists(alloc, system, step),
+    }
+}

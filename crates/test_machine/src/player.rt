@@ -1,0 +1,96 @@
+//! Plays examples: each event by event, and again as one list.
+use crate::examples::{Example, Step};
+use crate::facts::is_so;
+use crate::happenings::{happening, word};
+use interleaving_core::{Answer, Config, Event, OpenError, System};
+use physiological_order::{Memory, Op, Record};
+use std::alloc::{AllocError, Global};
+use std::process::Abort;
+use std::test::Fail;
+
+/// No line of an example stands for more events.
+const MOST: u64 = 64;
+
+// A machine that opens on a memory with these words.
+fn opened(alloc: Global, config: Config, words: &[(u64, u64)]) -> Result<System, Fail> {
+    let mut memory = Memory::new(alloc);
+    for (at, value) in words {
+        memory.set(word(*at), *value)?;
+    }
+    match System::new(alloc, config, memory) {
+        Ok(system) => Ok(system),
+        Err(_) => Err(Fail::from("the machine is not opened")),
+    }
+}
+
+/// Whether a machine is refused for its set-up.
+pub(crate) fn is_bad(alloc: Global, config: Config) -> bool {
+    matches!(
+        System::new(alloc, config, Memory::new(alloc)),
+        Err(OpenError::BadConfig)
+    )
+}
+
+/// Whether a machine is made.
+pub(crate) fn is_made(alloc: Global, config: Config) -> bool {
+    System::new(alloc, config, Memory::new(alloc)).is_ok()
+}
+
+// Whether a line of an example is as it says: its answers, or its fact.
+fn goes(alloc: Global, system: &mut System, step: &Step) -> Result<bool, AllocError> {
+    if happening(step, 0).is_none() {
+        return is_so(alloc, system, step);
+    }
+    for index in 0..MOST {
+        let Some((event, answer)) = happening(step, index) else {
+            break;
+        };
+        if system.step(event) != answer {
+            return Ok(false);
+        }
+    }
+    Ok(true)
+}
+
+// Adds an event and its answer to two lists.
+fn add(
+    events: &mut Vec<Event>,
+    answers: &mut Vec<Answer>,
+    happens: (Event, Answer),
+) -> Result<(), AllocError> {
+    // The types inside an event and an answer are named here for the borrow checker.
+    let _inside: (Option<Op>, Option<Record>) = (None, None);
+    let (event, answer) = happens;
+    events.push(event)?;
+    answers.push(answer)?;
+    Ok(())
+}
+
+// Whether the events of an example, run as one list on a new machine, are answered as it says.
+fn runs(alloc: Global, example: &Example) -> Result<bool, Fail> {
+    let mut events = Vec::new(alloc);
+    let mut answers = Vec::new(alloc);
+    for step in example.steps {
+        for index in 0..MOST {
+            let Some(happens) = happening(step, index) else {
+                break;
+            };
+            add(&mut events, &mut answers, happens)?;
+        }
+    }
+    let mut system = opened(alloc, example.config, example.words)?;
+    Ok(system.run(&events)?.as_slice() == answers.as_slice())
+}
+
+/// Plays examples.
+pub(crate) fn play<R: Abort>(rt: &R, alloc: Global, examples: &[Example]) -> Result<(), Fail> {
+    for example in examples {
+        let shows = example.shows;
+        let mut system = opened(alloc, example.config, example.words)?;
+        for step in example.steps {
+            assert!(rt; goes(alloc, &mut system, step)?, "{shows}: {step:?}");
+        }
+        assert!(rt; runs(alloc, example)?, "{shows}, as one list");
+    }
+    Ok(())
+}

@@ -1,0 +1,68 @@
+//! A host that is made for a test: one file, an output and an output of errors, which move few bytes a call.
+
+ghost use Rattle.std.specs.Prelude.{None};
+
+use byte_streams::{DeviceError, FromRead, ToWrite};
+use program::{Files, answer};
+use std::alloc::Global;
+use test_devices::Limited;
+
+/// The name of the file that is there.
+pub(crate) const NAME: &str = "there";
+
+/// How many calls succeed where none is to fail.
+pub(crate) const ALL: u32 = 1_000_000;
+
+/// A file of this text, which fails after so many reads of at most seven bytes.
+#[derive(Clone, Copy)]
+pub(crate) struct Shelf<'a> {
+    pub(crate) text: &'a [u8],
+    pub(crate) reads: u32,
+}
+
+impl<'a> Files for Shelf<'a> {
+    type File = FromRead<Limited<&'a [u8]>>;
+
+    ghost bytes = { λ _ _. None };
+
+    fn open(&self, name: &str) -> Result<FromRead<Limited<&'a [u8]>>, DeviceError> {
+        if name != NAME {
+            return Err(DeviceError);
+        }
+        Ok(FromRead::new(Limited {
+            inner: self.text,
+            step: 7,
+            calls: self.reads,
+        }))
+    }
+}
+
+/// What the program answered.
+#[derive(Drop)]
+pub(crate) struct Answer {
+    pub(crate) status: u8,
+    pub(crate) out: Vec<u8>,
+    pub(crate) errors: Vec<u8>,
+}
+
+/// The answer to words, where the output fails after so many writes of one byte.
+pub(crate) fn answered(alloc: Global, shelf: Shelf<'_>, words: &[&str], writes: u32) -> Answer {
+    let mut out = Vec::new(alloc);
+    let mut errors = Vec::new(alloc);
+    let mut sink = ToWrite::new(Limited {
+        inner: &mut out,
+        step: 1,
+        calls: writes,
+    });
+    let mut error_sink = ToWrite::new(Limited {
+        inner: &mut errors,
+        step: 5,
+        calls: ALL,
+    });
+    let status = answer(alloc, &shelf, words, &mut sink, &mut error_sink);
+    Answer {
+        status,
+        out,
+        errors,
+    }
+}

@@ -1,0 +1,124 @@
+//! A line for each kind of fault: as the line is made, and as the program tells it of a text.
+use crate::host::{ALL, NAME, Shelf, answered};
+use litmus_lexer::{Kind, LitmusError};
+use run_results::{RunError, error_line};
+
+// Every kind, in a line of its own, as it is told.
+const KINDS: [(Kind, usize, &[u8]); 14] = [
+    (Kind::NoMemory, 0, b"tardis: line 0: 1 NoMemory\n"),
+    (Kind::TooLarge, 1, b"tardis: line 1: 2 TooLarge\n"),
+    (Kind::BadByte, 9, b"tardis: line 9: 3 BadByte\n"),
+    (Kind::BadHeader, 10, b"tardis: line 10: 4 BadHeader\n"),
+    (Kind::BadInitial, 11, b"tardis: line 11: 5 BadInitial\n"),
+    (
+        Kind::DoubleInitial,
+        99,
+        b"tardis: line 99: 6 DoubleInitial\n",
+    ),
+    (Kind::BadTable, 100, b"tardis: line 100: 7 BadTable\n"),
+    (
+        Kind::BadInstruction,
+        101,
+        b"tardis: line 101: 8 BadInstruction\n",
+    ),
+    (Kind::ValueRange, 2, b"tardis: line 2: 9 ValueRange\n"),
+    (Kind::MixedWidth, 3, b"tardis: line 3: 10 MixedWidth\n"),
+    (
+        Kind::AddressAsValue,
+        4,
+        b"tardis: line 4: 11 AddressAsValue\n",
+    ),
+    (
+        Kind::ValueAsAddress,
+        5,
+        b"tardis: line 5: 12 ValueAsAddress\n",
+    ),
+    (
+        Kind::BadCondition,
+        65537,
+        b"tardis: line 65537: 13 BadCondition\n",
+    ),
+    (
+        Kind::CutShort,
+        18446744073709551615,
+        b"tardis: line 18446744073709551615: 14 CutShort\n",
+    ),
+];
+
+// Texts with one fault each.
+const FAULTS: [(&[u8], &[u8]); 13] = [
+    (
+        b"RISCV T\n{ }\n P0 ;\n fence rw,rw ;\nexists ((((((((((((((((((((((((((((((((((((((((((((((((((((((((((((((((((x=0))))))))))))))))))))))))))))))))))))))))))))))))))))))))))))))))))\n",
+        b"tardis: line 5: 2 TooLarge\n",
+    ),
+    (
+        b"RISCV T\n{ }\n P0 ;\n fence rw,rw\x07 ;\nexists (x=0)\n",
+        b"tardis: line 4: 3 BadByte\n",
+    ),
+    (
+        b"PPC T\n{ }\n P0 ;\n fence rw,rw ;\nexists (x=0)\n",
+        b"tardis: line 1: 4 BadHeader\n",
+    ),
+    (
+        b"RISCV T\n{ ; }\n P0 ;\n fence rw,rw ;\nexists (x=0)\n",
+        b"tardis: line 2: 5 BadInitial\n",
+    ),
+    (
+        b"RISCV T\n{ x=1;\n  x=2; }\n P0 ;\n fence rw,rw ;\nexists (x=0)\n",
+        b"tardis: line 3: 6 DoubleInitial\n",
+    ),
+    (
+        b"RISCV T\n{ }\n P0 | P1 ;\n fence rw,rw ;\nexists (x=0)\n",
+        b"tardis: line 4: 7 BadTable\n",
+    ),
+    (
+        b"RISCV T\n{ }\n P0 ;\n nop ;\nexists (x=0)\n",
+        b"tardis: line 4: 8 BadInstruction\n",
+    ),
+    (
+        b"RISCV T\n{ 0:x5=2147483648; 0:x6=x; }\n P0 ;\n sw x5,0(x6) ;\nexists (x=0)\n",
+        b"tardis: line 2: 9 ValueRange\n",
+    ),
+    (
+        b"RISCV T\n{ 0:x5=1; 0:x6=x; }\n P0 ;\n sw x5,0(x6) ;\n sd x5,0(x6) ;\nexists (x=0)\n",
+        b"tardis: line 5: 10 MixedWidth\n",
+    ),
+    (
+        b"RISCV T\n{ 0:x6=x; 0:x8=y; }\n P0 ;\n sw x6,0(x8) ;\nexists (x=0)\n",
+        b"tardis: line 4: 11 AddressAsValue\n",
+    ),
+    (
+        b"RISCV T\n{ 0:x5=1; }\n P0 ;\n lw x7,0(x5) ;\nexists (x=0)\n",
+        b"tardis: line 4: 12 ValueAsAddress\n",
+    ),
+    (
+        b"RISCV T\n{ }\n P0 ;\n fence rw,rw ;\nexists (1:x5=0)\n",
+        b"tardis: line 5: 13 BadCondition\n",
+    ),
+    (
+        b"RISCV T\n{ }\n P0 ;\n fence rw,rw ;\nexists (x=0 /\\",
+        b"tardis: line 5: 14 CutShort\n",
+    ),
+];
+
+#[test]
+fn each_kind_has_its_line(rt: HostRuntime) {
+    for (kind, line, text) in KINDS {
+        let told = error_line(&RunError::Litmus(LitmusError { line, kind }));
+        assert!(rt; told.as_slice() == text, "line {line}");
+    }
+}
+
+#[test]
+fn each_fault_is_told(rt: HostRuntime) {
+    for (number, (text, line)) in FAULTS.iter().enumerate() {
+        let shelf = Shelf {
+            text: *text,
+            reads: ALL,
+        };
+        let told = answered(rt.alloc(), shelf, &["tardis", "litmus", NAME], ALL);
+        assert_eq!(rt; told.status, 2);
+        assert_eq!(rt; told.out.len(), 0);
+        assert!(rt; told.errors.as_slice() == *line, "fault {number}");
+    }
+}

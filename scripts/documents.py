@@ -1,0 +1,206 @@
+#!/usr/bin/env python3
+"""Writes the tables of docs/architecture.md and docs/TRUST.md anew from the tree, or tests them.
+
+    scripts/documents.py            writes both tables
+    scripts/documents.py --check    says what differs, and fails if something does
+
+A table stands between the lines `<!-- table NAME -->` and `<!-- end -->`. The script also tests that each path of a file
+that a document names is there.
+"""
+import re
+import sys
+from pathlib import Path
+
+TOP = Path(__file__).resolve().parent.parent
+CRATES = TOP / "crates"
+
+# The definitions that the public contracts of each group cite. A reader must trust these and what they are made of.
+GROUPS = [
+    ("The theorem: `records`, `owners` and `coherent` of `System`", [
+        ("physiological_order/specs/Order.antt", "Legal Arrangement replay_end flat of_core"),
+        ("physiological_order/specs/StaleHits.antt", "RisesByNumber"),
+        ("machine_theorem/specs/Coherence.antt", "owners coherent"),
+        ("machine_table/specs/Machine.antt", "operation_of"),
+        ("protocol/specs/Issued.antt", "IsIssued")]),
+    ("The machine's table: `new`, `step` and `run`, and what is looked up", [
+        ("machine_table/specs/SetUp.antt", "is_good"),
+        ("machine_table/specs/Opening.antt", "at_start"),
+        ("interleaving_core/specs/Stepped.antt", "Stepped Ran"),
+        ("interleaving_core/specs/Midway.antt", "IsMidway"),
+        ("interleaving_core/specs/Reserved.antt", "completes"),
+        ("interleaving_core/specs/LookUps.antt", "open_op victim copies entries make_room")]),
+    ("The checker: `check`, `arrange`, `replay` and `stale_hits`", [
+        ("physiological_order/specs/Faults.antt", "*"),
+        ("physiological_order/specs/StaleHits.antt", "*")]),
+    ("The litmus text: which one is read, as which test, and why one is refused", [
+        ("litmus_reader/specs/Grammar.antt", "*"),
+        ("litmus_reader/specs/Faults.antt", "*")]),
+    ("Runs and reports: the schedule, the sequential machine, the text, the program", [
+        ("worker_driver/specs/Follows.antt", "*"),
+        ("worker_driver/specs/Told.antt", "*"),
+        ("sequential_machine/specs/SequentialMachine.antt", "*"),
+        ("report_text/specs/Text.antt", "*"),
+        ("report/specs/Litmus.antt", "*"),
+        ("program/specs/Answers.antt", "*")]),
+]
+
+
+def lines_of_crates():
+    for line in (TOP / "crates.txt").read_text(encoding="utf-8").splitlines():
+        line = line.split("#")[0].strip()
+        if line:
+            name, _, deps = line.partition(":")
+            yield name.split()[0], deps.split()
+
+
+def first_words(crate):
+    """The first sentence of a crate's root file."""
+    root = next(p for p in (crate / "src/lib.rt", crate / "src/main.rt") if p.exists())
+    words = []
+    for line in root.read_text(encoding="utf-8").splitlines():
+        if not line.startswith("//!"):
+            break
+        words.append(line[3:].strip())
+    return re.split(r"(?<=[.])\s", " ".join(words))[0].rstrip(".")
+
+
+def names_in(folder, ending):
+    return ", ".join(sorted(p.stem for p in folder.glob("*" + ending) if p.stem not in ("lib", "Lib"))) or "-"
+
+
+def architecture():
+    """Each crate with its first sentence, what it uses of the repository, its source files and its definitions."""
+    rows = ["| Crate | What it is | Uses | Source files | Definitions (specs/) |", "|---|---|---|---|---|"]
+    ours = {p.name for p in CRATES.iterdir() if p.is_dir()}
+    for name, deps in lines_of_crates():
+        crate = CRATES / name
+        text = "".join(p.read_text(encoding="utf-8") for p in crate.rglob("*")
+                       if p.suffix in (".rt", ".antt") and "out" not in p.relative_to(crate).parts)
+        used = [d for d in deps if d in ours and re.search(r"\b%s\b" % d, text)] + [d for d in deps if d not in ours]
+        rows.append("| `%s` | %s | %s | %s | %s |" % (
+            name, first_words(crate), ", ".join(used) or "-",
+            names_in(crate / "src", ".rt"), names_in(crate / "specs", ".antt")))
+    return rows
+
+
+class Definitions:
+    """The definitions of one file of specs/: the lines of each, and the names that it brings in."""
+
+    def __init__(self, path):
+        self.blocks, self.names, self.modules = {}, {}, {}
+        block, name = [], None
+        for line in path.read_text(encoding="utf-8").splitlines() + [""]:
+            if line.startswith("use "):
+                self.read_import(line)
+                continue
+            if not line.strip():
+                if name:
+                    self.blocks.setdefault(name, []).extend(block)
+                block, name = [], None
+                continue
+            block.append(line)
+            found = re.match(r"(?:abbrev pub|unfoldable pub|pub record|pub data|pub|record|data|abbrev) ([^ :]+)", line)
+            if found and not name:
+                name = found.group(1)
+
+    def read_import(self, line):
+        found = re.match(r"use Rattle\.([a-z_]+)\.specs\.([A-Z][A-Za-z]*)(?:\.\{([^}]*)\})?(?: as (\w+))?$", line)
+        if not found or not (CRATES / found.group(1) / "specs" / (found.group(2) + ".antt")).exists():
+            return
+        module = "%s/specs/%s.antt" % found.group(1, 2)
+        for item in (found.group(3) or "").split(","):
+            words = item.split(" as ")
+            if words[0].strip():
+                self.names[words[-1].strip()] = (module, words[0].strip())
+        if not found.group(3):
+            self.modules[found.group(4) or found.group(2)] = module
+
+
+FILES = {}
+
+
+def definitions(module):
+    if module not in FILES:
+        FILES[module] = Definitions(CRATES / module)
+    return FILES[module]
+
+
+def made_of(module, name):
+    """The definitions that one names in its lines."""
+    file = definitions(module)
+    text = "\n".join(line for line in file.blocks[name] if not line.lstrip().startswith("--"))
+    for alias, word in re.findall(r"(?<![\w.])(\w+)\.([\w-]+)", text):
+        if alias in file.modules:
+            yield file.modules[alias], word
+    for word in set(re.findall(r"[\w-]+|[◌>=&|]+", text)):
+        if word in file.blocks and word != name:
+            yield module, word
+        elif word in file.names:
+            yield file.names[word]
+
+
+def reached(roots):
+    """All definitions that these are made of, in the order in which they are met."""
+    left = []
+    for module, names in roots:
+        left += [(module, n) for n in (definitions(module).blocks if names == "*" else names.split())]
+    seen = []
+    while left:
+        one = left.pop(0)
+        if one not in seen and one[1] in definitions(one[0]).blocks:
+            seen.append(one)
+            left += sorted(made_of(*one))
+    return seen
+
+
+def trust():
+    """The files of definitions by group, and how many lines of each belong to the group and to none before it."""
+    rows, told = ["| Definitions | Lines |", "|---|---|"], set()
+    for title, roots in GROUPS:
+        for module, names in roots:
+            for name in names.split() if names != "*" else ():
+                if name not in definitions(module).blocks:
+                    raise SystemExit("documents.py: no definition %s in %s" % (name, module))
+        mine, lines = [d for d in reached(roots) if d not in told], {}
+        told.update(mine)
+        for module, name in mine:
+            lines[module] = lines.get(module, 0) + len(definitions(module).blocks[name])
+        rows.append("| **%s** | **%d** |" % (title, sum(lines.values())))
+        rows += ["| `%s` | %d |" % item for item in lines.items()]
+    return rows
+
+
+def with_table(text, name, rows):
+    pattern = re.compile(r"(<!-- table %s -->\n).*?(<!-- end -->)" % name, re.S)
+    if not pattern.search(text):
+        raise SystemExit("documents.py: no table %s" % name)
+    return pattern.sub(lambda m: m.group(1) + "\n".join(rows) + "\n" + m.group(2), text)
+
+
+def missing_paths(document):
+    """The paths of crates' files that a document names and that are not there."""
+    text = document.read_text(encoding="utf-8")
+    for path in re.findall(r"`([a-z_]+/(?:specs|src|proofs)/[A-Za-z_/]+\.(?:antt|rt))`", text):
+        if not (CRATES / path).exists():
+            yield "%s names %s, which isn't there" % (document.name, path)
+
+
+def main():
+    check = sys.argv[1:] == ["--check"]
+    faults = []
+    for file, name, rows in (("architecture.md", "crates", architecture()), ("TRUST.md", "definitions", trust())):
+        path = TOP / "docs" / file
+        old = path.read_text(encoding="utf-8")
+        new = with_table(old, name, rows)
+        if old != new and check:
+            faults.append("docs/%s: its table isn't that of the tree (scripts/documents.py writes it)" % file)
+        elif old != new:
+            path.write_text(new, encoding="utf-8")
+    for document in [TOP / "README.md"] + sorted((TOP / "docs").glob("*.md")):
+        faults += missing_paths(document)
+    for fault in faults:
+        print("documents.py: " + fault)
+    raise SystemExit(1 if faults else 0)
+
+
+main()

@@ -250,8 +250,8 @@ const NUMBERS: &[(Refusal, u8)] = &[
 #[test]
 fn numbers_of_refusals(rt: HostRuntime) {
     for (refusal, number) in NUMBERS {
-        assert_eq!(rt; *refusal as u8, *number, "{refusal:?}");
+        assert_eq!(rt; refusal.number(), *number, "{refusal:?}");
     }
-    assert_eq!(rt; OpenError::BadConfig as u8, 1);
-    assert_eq!(rt; OpenError::NoMemory as u8, 2);
+    assert_eq!(rt; OpenError::BadConfig.number(), 1);
+    assert_eq!(rt; OpenError::NoMemory.number(), 2);
 }

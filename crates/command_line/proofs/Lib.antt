@@ -1,4 +1,4 @@
-pub mod Found
-pub mod Numbers
-pub mod Chain
-pub mod HelpIsRefused
+mod Found
+mod Numbers
+mod Chain
+mod HelpIsRefused

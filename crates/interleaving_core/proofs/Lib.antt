@@ -1,13 +1,14 @@
-pub mod Applied
-pub mod Closing
-pub mod Coherence
-pub mod Endpoints
-pub mod Filled
-pub mod InOrder
-pub mod Issued
-pub mod Only
-pub mod Opened
-pub mod Owed
-pub mod Parts
-pub mod Running
-pub mod Throughout
+mod Applied
+mod Closing
+mod Coherence
+mod Endpoints
+mod Filled
+mod InOrder
+mod Issued
+mod Only
+mod Opened
+mod Owed
+mod Parts
+mod Running
+mod Throughout
+pub mod Laws

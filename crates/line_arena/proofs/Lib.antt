@@ -1,20 +1,20 @@
-pub mod Absent
-pub mod Counts
-pub mod Edits
-pub mod Emptied
-pub mod Finds
-pub mod Lent
-pub mod Links
-pub mod ListLaws
-pub mod Made
-pub mod Moves
-pub mod Once
-pub mod Opened
-pub mod Places
-pub mod Rewrites
-pub mod Row
-pub mod Seen
-pub mod Shows
-pub mod Starts
-pub mod Threads
-pub mod Ties
+mod Absent
+mod Counts
+mod Edits
+mod Emptied
+mod Finds
+mod Lent
+mod Links
+mod ListLaws
+mod Made
+mod Moves
+mod Once
+mod Opened
+mod Places
+mod Rewrites
+mod Row
+mod Seen
+mod Shows
+mod Starts
+mod Threads
+mod Ties

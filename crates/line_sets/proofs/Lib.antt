@@ -1,5 +1,6 @@
-pub mod LineNumbers
-pub mod Indices
-pub mod OrderLaws
-pub mod ReadySets
-pub mod TableLaws
+mod LineNumbers
+mod Indices
+mod OrderLaws
+mod ReadySets
+mod TableLaws
+pub mod Laws

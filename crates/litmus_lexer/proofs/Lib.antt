@@ -1,10 +1,11 @@
-pub mod Pieces
-pub mod LineEnds
-pub mod Lines
-pub mod Fronts
-pub mod Titles
-pub mod NameIndex
-pub mod Repeats
-pub mod LinesAgain
-pub mod RepeatsAgain
-pub mod LocationWords
+mod Pieces
+mod LineEnds
+mod Lines
+mod Fronts
+mod Titles
+mod NameIndex
+mod Repeats
+mod LinesAgain
+mod RepeatsAgain
+mod LocationWords
+pub mod Laws

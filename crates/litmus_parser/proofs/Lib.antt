@@ -1,29 +1,30 @@
 mod AfterLineEnds
-pub mod Chains
-pub mod Steps
-pub mod BlockTakes
-pub mod FormTakes
-pub mod TableTakes
-pub mod ConditionTakes
-pub mod Onward
-pub mod OnwardHere
-pub mod FormAgain
-pub mod TableAgain
-pub mod WordsAgain
-pub mod ConditionAgain
-pub mod BlockAgain
-pub mod Explains
-pub mod ExplainsHere
-pub mod Outcomes
-pub mod LocationExplains
-pub mod WantedExplains
-pub mod BlockExplains
-pub mod ConditionExplains
-pub mod WaysOn
-pub mod ConditionWays
-pub mod FormExplains
-pub mod ShapeExplains
-pub mod HeaderExplains
-pub mod VerdictExplains
-pub mod RowExplains
-pub mod TableExplains
+mod Chains
+mod Steps
+mod BlockTakes
+mod FormTakes
+mod TableTakes
+mod ConditionTakes
+mod Onward
+mod OnwardHere
+mod FormAgain
+mod TableAgain
+mod WordsAgain
+mod ConditionAgain
+mod BlockAgain
+mod Explains
+mod ExplainsHere
+mod Outcomes
+mod LocationExplains
+mod WantedExplains
+mod BlockExplains
+mod ConditionExplains
+mod WaysOn
+mod ConditionWays
+mod FormExplains
+mod ShapeExplains
+mod HeaderExplains
+mod VerdictExplains
+mod RowExplains
+mod TableExplains
+pub mod Laws

@@ -1,7 +1,8 @@
 mod Found
-pub mod SeenNames
+mod SeenNames
 mod Sizes
 mod FoundAgain
 mod FaultParts
 mod ReadExplains
 mod OpeningItems
+pub mod Laws

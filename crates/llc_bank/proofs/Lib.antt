@@ -1,4 +1,4 @@
-pub mod LawProofs
-pub mod SentMessages
-pub mod RoomMade
-pub mod Sound
+mod LawProofs
+mod SentMessages
+mod RoomMade
+mod Sound

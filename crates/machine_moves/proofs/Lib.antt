@@ -1,12 +1,12 @@
-pub mod Lists
-pub mod Bags
-pub mod Parts
-pub mod Reactions
-pub mod EventMoves
-pub mod MoveEvents
-pub mod Witnesses
-pub mod Histories
-pub mod ReachedStates
-pub mod Ownership
-pub mod InitialStates
-pub mod ReachedParts
+mod Lists
+mod Bags
+mod Parts
+mod Reactions
+mod EventMoves
+mod MoveEvents
+mod Witnesses
+mod Histories
+mod ReachedStates
+mod Ownership
+mod InitialStates
+mod ReachedParts

@@ -5,21 +5,17 @@ use Rattle.std.specs.Ordering.{nat_cmp}
 use Rattle.std.specs.FinMap.{FinMap}
 use Rattle.physiological_order.specs.declared.operation.Record.{Record}
 use Rattle.physiological_order.specs.Order.{flat, Legal, Arrangement, replay_end, of_core}
-use Rattle.physiological_order.proofs.Unique.{one_arrangement}
-use Rattle.physiological_order.proofs.Kept.{arrangement_of}
+use Rattle.physiological_order.proofs.Laws.{one_arrangement, arrangement_of}
 use Rattle.machine_table.specs.declared.config.Config.{Config}
 use Rattle.machine_table.specs.declared.event.Event.{Event}
 use Rattle.core_pts.specs.CoreTable.{CoreState}
 use Rattle.machine_table.specs.Machine.{Machine, operation_of}
 use Rattle.protocol.specs.Issued.{IsIssued}
-use Rattle.protocol.proofs.InProgram.{what_is_issued}
+use Rattle.protocol.proofs.Laws.{what_is_issued, reachable_ok, at_most_one, coherent_is}
 use Rattle.machine_table.specs.SetUp.{is_good}
 use Rattle.machine_table.specs.Opening.{at_start}
 use Rattle.machine_table.specs.Runs.{after_all}
-use Rattle.protocol.proofs.Headline as by_line
-use Rattle.protocol.proofs.Headline.{reachable_ok}
-use Rattle.protocol.proofs.Owners.{at_most_one}
-use Rattle.protocol.proofs.Coherent.{coherent_is}
+use Rattle.protocol.proofs.Laws.{legal as legal_by_line}
 use Rattle.machine_theorem.specs.View.{core_seen, set_up, view}
 use Rattle.machine_theorem.specs.Kept.{Invariant}
 use Rattle.machine_theorem.specs.Coherence.{owners, coherent}
@@ -47,7 +43,7 @@ value_left m s arranged is word =
     ∙ ap (λ rs. replay_end (flat m.opening) (map (λ (r : Record). r.op) rs) word) (one_arrangement m.records _ arranged (arrangement_of (flat m.opening) (view m).issued m.records (reachable_ok (set_up m) s.whole.some_words (view m) s.reached).kept) is)
 
 pub legal_now : (m : Machine) → Invariant m → Legal (flat m.opening) (λ core. get_or m.issued core []) m.records
-legal_now m s = by_line.legal (set_up m) s.whole.some_words (view m) s.reached
+legal_now m s = legal_by_line (set_up m) s.whole.some_words (view m) s.reached
 
 module _ (config : Config) (opening : FinMap nat_cmp ℕ) (events : List Event) (good : is_good config ≡ true) where
   abbrev after : Machine

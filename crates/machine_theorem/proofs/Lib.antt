@@ -1,23 +1,24 @@
-pub mod Changed
-pub mod Lookups
-pub mod Transitions
-pub mod OnCopies
-pub mod OnEntries
-pub mod CoreEvents
-pub mod Deliveries
-pub mod DramWords
-pub mod BankEvents
-pub mod Events
-pub mod SetUps
-pub mod DramOpening
-pub mod Openings
-pub mod Standings
-pub mod History
-pub mod Routes
-pub mod Rooms
-pub mod FoundCases
-pub mod Found
-pub mod StaleRun
-pub mod PrivateRun
-pub mod Reorderings
-pub mod Renumbering
+mod Changed
+mod Lookups
+mod Transitions
+mod OnCopies
+mod OnEntries
+mod CoreEvents
+mod Deliveries
+mod DramWords
+mod BankEvents
+mod Events
+mod SetUps
+mod DramOpening
+mod Openings
+mod Standings
+mod History
+mod Routes
+mod Rooms
+mod FoundCases
+mod Found
+mod StaleRun
+mod PrivateRun
+mod Reorderings
+mod Renumbering
+pub mod Laws

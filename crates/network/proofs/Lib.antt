@@ -1,4 +1,5 @@
-pub mod FlightLaws
-pub mod Keeping
-pub mod Rising
-pub mod Sending
+mod FlightLaws
+mod Keeping
+mod Rising
+mod Sending
+pub mod Laws

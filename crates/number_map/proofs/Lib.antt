@@ -1,3 +1,3 @@
-pub mod Copied
-pub mod Hashed
-pub mod Rising
+mod Copied
+mod Hashed
+mod Rising

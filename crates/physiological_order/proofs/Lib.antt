@@ -1,17 +1,18 @@
-pub mod Arranged
-pub mod Checked
-pub mod Deals
-pub mod History
-pub mod Kept
-pub mod Latest
-pub mod Looked
-pub mod Merges
-pub mod Numbered
-pub mod Picked
-pub mod Replayed
-pub mod Rising
-pub mod Sorted
-pub mod Unique
-pub mod Verdicts
-pub mod Walked
-pub mod WordBound
+mod Arranged
+mod Checked
+mod Deals
+mod History
+mod Kept
+mod Latest
+mod Looked
+mod Merges
+mod Numbered
+mod Picked
+mod Replayed
+mod Rising
+mod Sorted
+mod Unique
+mod Verdicts
+mod Walked
+mod WordBound
+pub mod Laws

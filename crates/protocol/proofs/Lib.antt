@@ -1,12 +1,13 @@
-pub mod Bags
-pub mod Lease
-pub mod Lines
-pub mod Moved
-pub mod Cores
-pub mod Completed
-pub mod Headline
-pub mod Owners
-pub mod Coherent
-pub mod Blocked
-pub mod Cases
-pub mod InProgram
+mod Bags
+mod Lease
+mod Lines
+mod Moved
+mod Cores
+mod Completed
+mod Headline
+mod Owners
+mod Coherent
+mod Blocked
+mod Cases
+mod InProgram
+pub mod Laws

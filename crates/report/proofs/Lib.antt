@@ -1,3 +1,3 @@
-pub mod Rows
-pub mod Sequential
-pub mod Refused
+mod Rows
+mod Sequential
+mod Refused

@@ -1,3 +1,3 @@
-pub mod AddedUp
-pub mod OneMore
-pub mod LineByLine
+mod AddedUp
+mod OneMore
+mod LineByLine

@@ -1,8 +1,8 @@
-pub mod Tables
-pub mod ThreadSteps
-pub mod Runs
-pub mod Places
-pub mod Names
-pub mod Outcomes
-pub mod Steps
-pub mod NeverBoth
+mod Tables
+mod ThreadSteps
+mod Runs
+mod Places
+mod Names
+mod Outcomes
+mod Steps
+mod NeverBoth

@@ -1,10 +1,10 @@
-pub mod Over
-pub mod Lists
-pub mod Following
-pub mod Turns
-pub mod RoundEnds
-pub mod InProgram
-pub mod TableSteps
-pub mod Serving
-pub mod RunLaws
-pub mod Served
+mod Over
+mod Lists
+mod Following
+mod Turns
+mod RoundEnds
+mod InProgram
+mod TableSteps
+mod Serving
+mod RunLaws
+mod Served

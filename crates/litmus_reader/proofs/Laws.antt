@@ -1,0 +1,4 @@
+-- What the proofs of this crate give to the crates above: they import this file and no other of this folder.
+
+-- The truth of an expression over the values of the names that it names.
+pub use Rattle.litmus_reader.proofs.SeenNames.{truth-is}

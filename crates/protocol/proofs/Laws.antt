@@ -1,0 +1,17 @@
+-- What the proofs of this crate give to the crates above: they import this file and no other of this folder.
+
+-- A machine that the protocol reaches from its opening: its records are legal, no line has two owners, a word's coherent
+-- value is what the records leave, and each core was issued its records' operations in their order.
+pub use Rattle.protocol.proofs.Headline.{Opened, legal, reachable_ok}
+pub use Rattle.protocol.proofs.Owners.{at_most_one}
+pub use Rattle.protocol.proofs.Coherent.{coherent_is}
+pub use Rattle.protocol.proofs.InProgram.{what_is_issued}
+
+-- An operation whose request is out is not served by its core's copy; every message has a case in its part's table.
+pub use Rattle.protocol.proofs.Blocked.{reachable_blocked}
+pub use Rattle.protocol.proofs.Cases.{messages_have_cases}
+
+-- Functions that are changed at one number.
+pub use Rattle.protocol.proofs.Lines.{with_at_cases, with_at_other, with_at_same}
+pub use Rattle.protocol.proofs.Completed.{with_at_id}
+pub use Rattle.protocol.proofs.Cores.{Some_injective}

@@ -5,7 +5,7 @@
     scripts/documents.py --check    says what differs, and fails if something does
 
 A table stands between the lines `<!-- table NAME -->` and `<!-- end -->`. The script also tests that each path of a file
-that a document names is there.
+that a document names is there, and that of a crate's proofs only proofs/Lemmas.antt is open to the crates above.
 """
 import re
 import sys
@@ -185,6 +185,14 @@ def missing_paths(document):
             yield "%s names %s, which isn't there" % (document.name, path)
 
 
+def open_proofs():
+    """The files of proofs, other than Lemmas, that a crate opens to the crates above."""
+    for lib in sorted(CRATES.glob("*/proofs/Lib.antt")):
+        for name in re.findall(r"^pub mod (\w+)", lib.read_text(encoding="utf-8"), re.M):
+            if name != "Lemmas":
+                yield "%s opens %s: crates above use proofs/Lemmas.antt alone" % (lib.relative_to(CRATES), name)
+
+
 def main():
     check = sys.argv[1:] == ["--check"]
     faults = []
@@ -198,6 +206,7 @@ def main():
             path.write_text(new, encoding="utf-8")
     for document in [TOP / "README.md"] + sorted((TOP / "docs").glob("*.md")):
         faults += missing_paths(document)
+    faults += open_proofs()
     for fault in faults:
         print("documents.py: " + fault)
     raise SystemExit(1 if faults else 0)

@@ -6,7 +6,7 @@ use Rattle.std.specs.FinMap.{FinMap}
 use Rattle.physiological_order.specs.declared.operation.Record.{Record}
 use Rattle.network.specs.Mail.{Mail, has_capacity, has_number, taken}
 use Rattle.network.specs.Numbered.{at_number}
-use Rattle.network.proofs.Laws.{length-without_number}
+use Rattle.network.proofs.Lemmas.{length-without_number}
 use Rattle.core_pts.specs.CoreTable.{CoreState}
 use Rattle.llc_bank.specs.BankTable.{BankState}
 use Rattle.machine_table.specs.declared.event.Answer.{Answer}

@@ -4,7 +4,7 @@ use Rattle.machine_table.specs.declared.event.Event.{Event}
 use Rattle.machine_table.specs.declared.event.Answer.{Answer}
 use Rattle.machine_table.specs.Machine.{Machine}
 use Rattle.machine_theorem.specs.Kept.{SetUpAs, Invariant}
-use Rattle.machine_theorem.proofs.Laws.{any_transition, set_up_same, transition_same}
+use Rattle.machine_theorem.proofs.Lemmas.{any_transition, set_up_same, transition_same}
 use Rattle.interleaving_core.specs.Stepped.{Stepped}
 
 pub step_invariant : (m : Machine) (event : Event) (answer : Answer) (after : Machine) → Invariant m → Stepped m event answer after → Invariant after

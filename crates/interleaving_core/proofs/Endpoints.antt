@@ -35,8 +35,8 @@ use Rattle.machine_table.specs.declared.event.Refusal.TheVariants.{NetworkFull, 
 use Rattle.machine_theorem.specs.Cases.{core_case, bank_case, dram_case, has_case_at, has_case}
 use Rattle.machine_theorem.specs.Shape.{GoesHome, IsOwnedBelow, IsWhole}
 use Rattle.machine_theorem.specs.Kept.{Invariant}
-use Rattle.machine_theorem.proofs.Laws.{each_at_number, messages_find_cases, both, core_and_bank, any_core_delivery}
-use Rattle.machine_theorem.proofs.Laws.{any_bank_delivery, any_dram_delivery}
+use Rattle.machine_theorem.proofs.Lemmas.{each_at_number, messages_find_cases, both, core_and_bank, any_core_delivery}
+use Rattle.machine_theorem.proofs.Lemmas.{any_bank_delivery, any_dram_delivery}
 use Rattle.interleaving_core.specs.Applied.{can_send}
 use Rattle.interleaving_core.specs.Endpoints.{BackHasEndpoints, EvictedHasEndpoints, ReactionHasEndpoints}
 

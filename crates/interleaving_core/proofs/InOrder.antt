@@ -9,7 +9,7 @@ use Rattle.machine_table.specs.declared.event.Refusal.{Refusal}
 use Rattle.machine_table.specs.declared.event.Refusal.TheVariants.{Busy, TooMany, NoSuch, NoRoom, Pinned, NetworkFull, NoMemory, Exhausted, Stopped}
 use Rattle.machine_table.specs.Machine.{Machine}
 use Rattle.machine_table.specs.Answered.{Answered, RefusedSo}
-use Rattle.machine_table.proofs.Laws.{every_answer}
+use Rattle.machine_table.proofs.Lemmas.{every_answer}
 use Rattle.interleaving_core.specs.InOrder.{AreNumbered}
 use Rattle.interleaving_core.specs.Stepped.{Stepped}
 

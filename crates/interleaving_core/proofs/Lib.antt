@@ -11,4 +11,4 @@ mod Owed
 mod Parts
 mod Running
 mod Throughout
-pub mod Laws
+pub mod Lemmas

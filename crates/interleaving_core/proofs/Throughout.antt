@@ -4,7 +4,7 @@ use Rattle.machine_table.specs.declared.event.Event.{Event}
 use Rattle.machine_table.specs.declared.event.Answer.{Answer}
 use Rattle.machine_table.specs.Machine.{Machine}
 use Rattle.machine_theorem.specs.Kept.{SetUpAs, Invariant}
-use Rattle.machine_theorem.proofs.Laws.{legal_now, one_owner, value_left, set_up_same}
+use Rattle.machine_theorem.proofs.Lemmas.{legal_now, one_owner, value_left, set_up_same}
 use Rattle.interleaving_core.specs.Stepped.{Ran}
 use Rattle.interleaving_core.specs.Midway.{IsMidway}
 use Rattle.interleaving_core.proofs.Running.{set_up_on}

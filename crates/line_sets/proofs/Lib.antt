@@ -3,4 +3,4 @@ mod Indices
 mod OrderLaws
 mod ReadySets
 mod TableLaws
-pub mod Laws
+pub mod Lemmas

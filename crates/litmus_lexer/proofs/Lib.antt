@@ -8,4 +8,4 @@ mod Repeats
 mod LinesAgain
 mod RepeatsAgain
 mod LocationWords
-pub mod Laws
+pub mod Lemmas

@@ -5,7 +5,7 @@ use Rattle.litmus_lexer.specs.Pieces.{Piece, Word, Sign, LineEnd}
 use Rattle.litmus_lexer.specs.Spelling.{register_of, is_and, is_or}
 use Rattle.litmus_lexer.specs.declared.errors.Kind.TheVariants.{BadCondition, BadTable}
 use Rattle.litmus_lexer.specs.Reading.{◌>>=◌, Read, found, next_at, word_at, expect_at, here_at, word_here_at, repeat_at}
-use Rattle.litmus_lexer.proofs.Laws.{location-no_thread}
+use Rattle.litmus_lexer.proofs.Lemmas.{location-no_thread}
 use Rattle.litmus_parser.specs.Names.{Names, address_of, is_there}
 use Rattle.litmus_parser.specs.Trees.{Tree, Is, Both, Either}
 use Rattle.litmus_parser.specs.ReadingItems.{number_at}

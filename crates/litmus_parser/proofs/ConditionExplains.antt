@@ -7,7 +7,7 @@ use Rattle.litmus_lexer.specs.declared.errors.Kind.{Kind}
 use Rattle.litmus_lexer.specs.declared.errors.Kind.TheVariants.{NoMemory, BadByte, BadHeader, BadInitial, DoubleInitial, BadInstruction, ValueRange, MixedWidth, ValueAsAddress, TooLarge, AddressAsValue, BadCondition, BadTable, CutShort}
 use Rattle.litmus_lexer.specs.declared.errors.LitmusError.{LitmusError}
 use Rattle.litmus_lexer.specs.Reading.{◌>>=◌, Read, fails, found, behind, next_at, word_at, expect_at, word_here_at, here_at, repeat_at}
-use Rattle.litmus_lexer.proofs.Laws.{location-no_thread}
+use Rattle.litmus_lexer.proofs.Lemmas.{location-no_thread}
 use Rattle.litmus_parser.specs.Names.{Names, address_of, is_there}
 use Rattle.litmus_parser.specs.Keywords.{quantifier_of, BeginsCondition}
 use Rattle.litmus_parser.specs.Trees.{Tree, Is, Both, Either}

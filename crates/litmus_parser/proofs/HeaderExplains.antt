@@ -18,7 +18,7 @@ use Rattle.litmus_parser.proofs.FormExplains.{On}
 use Rattle.litmus_parser.proofs.TableTakes.{is_thread-is}
 use Rattle.litmus_parser.proofs.TableAgain.{heading_more_again, header_again}
 use Rattle.litmus_parser.proofs.OnwardHere.{start_again}
-use Rattle.litmus_lexer.proofs.Laws.{goes-on}
+use Rattle.litmus_lexer.proofs.Lemmas.{goes-on}
 use Rattle.litmus_lexer.specs.Spelling.{thread_named}
 
 -- every kind in every line

@@ -27,4 +27,4 @@ mod HeaderExplains
 mod VerdictExplains
 mod RowExplains
 mod TableExplains
-pub mod Laws
+pub mod Lemmas

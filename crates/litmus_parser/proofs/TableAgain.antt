@@ -8,7 +8,7 @@ use Rattle.std.specs.Str.{bytes_eq}
 use Rattle.litmus_lexer.specs.Pieces.{Piece, Word, Sign, LineEnd}
 use Rattle.litmus_lexer.specs.declared.errors.Kind.TheVariants.{BadInstruction, BadTable}
 use Rattle.litmus_lexer.specs.Reading.{here_at, word_here_at, passed_at, repeat_at}
-use Rattle.litmus_lexer.proofs.Laws.{goes-on, is-done}
+use Rattle.litmus_lexer.proofs.Lemmas.{goes-on, is-done}
 use Rattle.litmus_parser.specs.Names.{address_of, is_there}
 use Rattle.litmus_parser.specs.Mnemonics.{mnemonic_of}
 use Rattle.litmus_parser.specs.ReadingRows.{Rows, ends_line, has_shape, instruction_at, cell_at, column_at, ended, columns_at, row_at}

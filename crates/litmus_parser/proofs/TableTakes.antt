@@ -5,7 +5,7 @@ use Rattle.std.proofs.lemmas.List.{append-nil}
 use Rattle.litmus_lexer.specs.Pieces.{Piece, Word, Sign, LineEnd}
 use Rattle.litmus_lexer.specs.declared.errors.Kind.TheVariants.{BadInstruction, BadTable, TooLarge}
 use Rattle.litmus_lexer.specs.Reading.{◌>>=◌, fails, behind, here_at, word_here_at, expect_here_at, start_at, end_line_at, passed_at, repeat_at}
-use Rattle.litmus_lexer.proofs.Laws.{repeat-takes}
+use Rattle.litmus_lexer.proofs.Lemmas.{repeat-takes}
 use Rattle.litmus_parser.specs.ReadingForms.{form_at}
 use Rattle.litmus_parser.specs.Verdicts.{judged_at}
 use Rattle.litmus_parser.specs.ReadingRows.{Rows, Columns, has_shape, instruction_at, cell_at, column_at, ended, columns_at, row_at}

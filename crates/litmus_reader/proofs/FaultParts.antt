@@ -8,8 +8,8 @@ use Rattle.litmus_lexer.specs.declared.errors.Kind.{Kind}
 use Rattle.litmus_lexer.specs.declared.errors.Kind.TheVariants.{BadHeader, BadInitial, CutShort}
 use Rattle.litmus_lexer.specs.declared.errors.LitmusError.{LitmusError}
 use Rattle.litmus_lexer.specs.Reading.{fails}
-use Rattle.litmus_lexer.proofs.Laws.{title-takes, title-again, header_line-no_block, length-behind_line_feed}
-use Rattle.litmus_lexer.proofs.Laws.{length-pieces}
+use Rattle.litmus_lexer.proofs.Lemmas.{title-takes, title-again, header_line-no_block, length-behind_line_feed}
+use Rattle.litmus_lexer.proofs.Lemmas.{length-pieces}
 use Rattle.litmus_parser.specs.Names.{Names}
 use Rattle.litmus_parser.specs.Trees.{Tree}
 use Rattle.litmus_parser.specs.ReadingHeader.{Lines, first_line_at, header_line_at, cut_short, preamble_at}
@@ -22,11 +22,11 @@ use Rattle.litmus_parser.specs.declared.syntax.Name.TheVariants.{Register, Locat
 use Rattle.litmus_parser.specs.declared.syntax.Item.{Item}
 use Rattle.litmus_parser.specs.declared.syntax.Cell.{Cell}
 use Rattle.litmus_parser.specs.declared.syntax.Quantifier.{Quantifier}
-use Rattle.litmus_parser.proofs.Laws.{Explains, Onto, bind_explains, test_explains, found_explains, repeat_counted}
-use Rattle.litmus_parser.proofs.Laws.{answered, block_takes, block_again, block_explains, block_place, header_takes}
-use Rattle.litmus_parser.proofs.Laws.{rows_take, header_again, rows_again, header_explains, header_place}
-use Rattle.litmus_parser.proofs.Laws.{header_threads, begins-next, rows_explain, rows_place, condition_again}
-use Rattle.litmus_parser.proofs.Laws.{condition_explains}
+use Rattle.litmus_parser.proofs.Lemmas.{Explains, Onto, bind_explains, test_explains, found_explains, repeat_counted}
+use Rattle.litmus_parser.proofs.Lemmas.{answered, block_takes, block_again, block_explains, block_place, header_takes}
+use Rattle.litmus_parser.proofs.Lemmas.{rows_take, header_again, rows_again, header_explains, header_place}
+use Rattle.litmus_parser.proofs.Lemmas.{header_threads, begins-next, rows_explain, rows_place, condition_again}
+use Rattle.litmus_parser.proofs.Lemmas.{condition_explains}
 use Rattle.litmus_reader.specs.Litmus.{Litmus, settings_of}
 use Rattle.litmus_reader.specs.Seen.{seen_in}
 use Rattle.litmus_reader.specs.ReadingTest.{unless_absent, table_at, parts_at}

@@ -8,7 +8,7 @@ use Rattle.litmus_lexer.specs.FirstLines.{IsTitle, title_of, is_header_line, beg
 use Rattle.litmus_lexer.specs.declared.errors.Kind.TheVariants.{CutShort, BadHeader, BadByte}
 use Rattle.litmus_lexer.specs.declared.errors.LitmusError.{LitmusError}
 use Rattle.litmus_lexer.specs.Reading.{◌>>=◌, fails, found}
-use Rattle.litmus_lexer.proofs.Laws.{repeat-takes, title-takes, whole-front}
+use Rattle.litmus_lexer.proofs.Lemmas.{repeat-takes, title-takes, whole-front}
 use Rattle.litmus_parser.specs.ReadingHeader.{Lines, first_line_at, header_line_at, cut_short, preamble_at}
 use Rattle.litmus_parser.specs.ReadingHeader as heads
 use Rattle.litmus_parser.specs.ReadingBlock.{block_at}
@@ -20,8 +20,8 @@ use Rattle.litmus_parser.specs.declared.syntax.Name.{Name}
 use Rattle.litmus_parser.specs.declared.syntax.Name.TheVariants.{Register, Location}
 use Rattle.litmus_parser.specs.declared.syntax.Item.{Item}
 use Rattle.litmus_parser.specs.declared.syntax.Cell.{Cell}
-use Rattle.litmus_parser.proofs.Laws.{bind_ok, found_ok, ok_is, never, then_ok, else_ok, either_ok, block_takes}
-use Rattle.litmus_parser.proofs.Laws.{header_takes, rows_take, condition_takes}
+use Rattle.litmus_parser.proofs.Lemmas.{bind_ok, found_ok, ok_is, never, then_ok, else_ok, either_ok, block_takes}
+use Rattle.litmus_parser.proofs.Lemmas.{header_takes, rows_take, condition_takes}
 use Rattle.litmus_reader.specs.Litmus.{Litmus, settings_of}
 use Rattle.litmus_reader.specs.Seen.{seen_in}
 use Rattle.litmus_reader.specs.TestViews.{test_of}

@@ -6,8 +6,8 @@ use Rattle.litmus_lexer.specs.Pieces.{Piece, Word, pieces_of}
 use Rattle.litmus_lexer.specs.FirstLines.{IsTitle, title_of, is_header_line, begins_block, before_line_feed, behind_line_feed}
 use Rattle.litmus_lexer.specs.declared.errors.LitmusError.{LitmusError}
 use Rattle.litmus_lexer.specs.Reading.{repeat_at}
-use Rattle.litmus_lexer.proofs.Laws.{front-whole, title-again, header_line-no_block, block-some}
-use Rattle.litmus_lexer.proofs.Laws.{length-behind_line_feed, length-pieces, repeat-more, repeat-last}
+use Rattle.litmus_lexer.proofs.Lemmas.{front-whole, title-again, header_line-no_block, block-some}
+use Rattle.litmus_lexer.proofs.Lemmas.{length-behind_line_feed, length-pieces, repeat-more, repeat-last}
 use Rattle.litmus_parser.specs.ReadingHeader.{Lines, first_line_at, header_line_at, cut_short, preamble_at}
 use Rattle.litmus_parser.specs.ReadingHeader as heads
 use Rattle.litmus_parser.specs.ReadingTable.{is_absent, absent_line, quantifier_next}
@@ -18,8 +18,8 @@ use Rattle.litmus_parser.specs.declared.syntax.Name.TheVariants.{Register, Locat
 use Rattle.litmus_parser.specs.declared.syntax.Item.{Item}
 use Rattle.litmus_parser.specs.declared.syntax.Cell.{Cell}
 use Rattle.litmus_parser.specs.declared.syntax.Quantifier.{Quantifier}
-use Rattle.litmus_parser.proofs.Laws.{AreAlike, alike-address, alike-all, block_again, header_again, rows_again}
-use Rattle.litmus_parser.proofs.Laws.{condition_again}
+use Rattle.litmus_parser.proofs.Lemmas.{AreAlike, alike-address, alike-all, block_again, header_again, rows_again}
+use Rattle.litmus_parser.proofs.Lemmas.{condition_again}
 use Rattle.litmus_reader.specs.Litmus.{Litmus}
 use Rattle.litmus_reader.specs.TestViews.{test_of}
 use Rattle.litmus_reader.specs.ReadingTest.{table_at, parts_at, read_at, Told}

@@ -5,4 +5,4 @@ mod FoundAgain
 mod FaultParts
 mod ReadExplains
 mod OpeningItems
-pub mod Laws
+pub mod Lemmas

@@ -11,10 +11,10 @@ use Rattle.litmus_lexer.specs.declared.errors.LitmusError.{LitmusError}
 use Rattle.litmus_lexer.specs.declared.errors.ReadError.{ReadError}
 use Rattle.litmus_lexer.specs.declared.errors.ReadError.TheVariants.{Memory, Fault as ReadFault}
 use Rattle.litmus_lexer.specs.Reading.{Fails}
-use Rattle.litmus_lexer.proofs.Laws.{front-all, whole-front, front-whole}
+use Rattle.litmus_lexer.proofs.Lemmas.{front-all, whole-front, front-whole}
 use Rattle.litmus_parser.specs.ReadingHeader.{preamble_at}
 use Rattle.litmus_parser.specs.Reachable.{is_allowed, line_feeds, inner_line_feeds, tail_of, good, whole_lines, reach}
-use Rattle.litmus_parser.proofs.Laws.{Explains, test_explains, told}
+use Rattle.litmus_parser.proofs.Lemmas.{Explains, test_explains, told}
 use Rattle.litmus_reader.specs.Litmus.{Litmus}
 use Rattle.litmus_reader.specs.TestViews.{test_of}
 use Rattle.litmus_reader.specs.ReadingTest.{parts_at, is_cut_short, ended_by, read_at, Told, ToldSurely}

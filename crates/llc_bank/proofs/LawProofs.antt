@@ -8,7 +8,7 @@ use Rattle.network.specs.declared.part.Reaction.{Reaction}
 use Rattle.network.specs.declared.part.Reaction.TheVariants.{Done}
 use Rattle.timestamp_manager.specs.Lease.{is_version, shared_lease}
 use Rattle.timestamp_manager.specs.LeaseLaws.{Covers}
-use Rattle.timestamp_manager.proofs.Laws.{covers}
+use Rattle.timestamp_manager.proofs.Lemmas.{covers}
 use Rattle.line_sets.specs.SetTable.{has_room}
 use Rattle.llc_bank.specs.declared.entry.Entry.{Entry}
 use Rattle.llc_bank.specs.declared.entry.Entry.TheVariants.{Loading, Shared, Exclusive}

@@ -8,7 +8,7 @@ use Rattle.network.specs.declared.message.Message.{Message}
 use Rattle.network.specs.declared.part.Reaction.{Reaction}
 use Rattle.network.specs.declared.part.Reaction.TheVariants.{Done, Dropped, Held}
 use Rattle.timestamp_manager.specs.Lease.{if_fits, is_version, shared_lease}
-use Rattle.line_sets.proofs.Laws.{look-put_same, look-put_within_same, length-put, length-put_within}
+use Rattle.line_sets.proofs.Lemmas.{look-put_same, look-put_within_same, length-put, length-put_within}
 use Rattle.llc_bank.specs.declared.entry.Entry.{Entry}
 use Rattle.llc_bank.specs.declared.entry.Entry.TheVariants.{Loading, Shared, Exclusive, Recalling, Storing}
 use Rattle.llc_bank.specs.declared.decision.Decision.{Decision}

@@ -5,9 +5,9 @@ use Rattle.std.proofs.lemmas.List.{length-replicate}
 use Rattle.std.proofs.lemmas.Bool.{cases_eq}
 use Rattle.line_sets.specs.Order.{is_there}
 use Rattle.line_sets.specs.SetTable.{Sets, set_at, look, put, put_within, drop_line, empty_sets}
-use Rattle.line_sets.proofs.Laws.{look-put_other, look-put_other_set, look-put_within_other}
-use Rattle.line_sets.proofs.Laws.{look-put_within_other_set, look-drop_line_other, look-drop_line_other_set}
-use Rattle.line_sets.proofs.Laws.{length-put, length-put_within, length-drop_line}
+use Rattle.line_sets.proofs.Lemmas.{look-put_other, look-put_other_set, look-put_within_other}
+use Rattle.line_sets.proofs.Lemmas.{look-put_within_other_set, look-drop_line_other, look-drop_line_other_set}
+use Rattle.line_sets.proofs.Lemmas.{length-put, length-put_within, length-drop_line}
 use Rattle.llc_bank.specs.declared.entry.Entry.{Entry}
 use Rattle.llc_bank.specs.BankTable.{BankState, set_of}
 use Rattle.llc_bank.specs.OwnSets.{InOwnSets, IsSound}

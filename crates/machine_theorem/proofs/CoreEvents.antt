@@ -28,8 +28,8 @@ use Rattle.machine_table.specs.Transition.{issued, issue_at, attempt_at, evict_c
 use Rattle.machine_theorem.proofs.Changed.{requested, attempted_op, attempt_open, copy_evicted, advanced, tested}
 use Rattle.protocol.specs.Machine as by_line
 use Rattle.protocol.specs.Machine.{Config, Copy, Line, Core, ShReq, ExReq, FlushRep, version_of, line_of, with_at, IsPinned, CannotUse, Asks, to_read, to_write, Uses, Transition, issue, advance, ask, complete, evict_shared, evict_exclusive, Reachable, goes_on}
-use Rattle.protocol.proofs.Laws.{with_at_same, with_at_other, with_at_cases, with_at_id, Opened, reachable_ok}
-use Rattle.protocol.proofs.Laws.{reachable_blocked, Some_injective}
+use Rattle.protocol.proofs.Lemmas.{with_at_same, with_at_other, with_at_cases, with_at_id, Opened, reachable_ok}
+use Rattle.protocol.proofs.Lemmas.{reachable_blocked, Some_injective}
 use Rattle.machine_theorem.specs.View.{copy_seen, copy_or_none, body_seen, messages_of, copy_in, core_seen, set_up, line_in, view}
 use Rattle.machine_theorem.specs.Shape.{IsCore, GoesHome, HasShape}
 use Rattle.machine_theorem.specs.Kept.{Invariant}

@@ -26,7 +26,7 @@ use Rattle.machine_theorem.proofs.Changed.{reacted, tested}
 use Rattle.llc_bank.specs.BankTable.{core_of}
 use Rattle.protocol.specs.Machine as by_line
 use Rattle.protocol.specs.Machine.{Copy, Line, Core, with_at, IsPinned, Answers, answer, Reachable, goes_on}
-use Rattle.protocol.proofs.Laws.{with_at_same, with_at_other}
+use Rattle.protocol.proofs.Lemmas.{with_at_same, with_at_other}
 use Rattle.machine_theorem.specs.View.{copy_seen, copy_or_none, body_seen, messages_of, copy_in, core_seen, set_up, line_in, view}
 use Rattle.machine_theorem.specs.Shape.{IsCore, GoesHome}
 use Rattle.machine_theorem.specs.Kept.{Invariant}

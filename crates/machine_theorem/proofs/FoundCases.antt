@@ -23,7 +23,7 @@ use Rattle.dram_mts.specs.Table.{is_dram, comes_to_dram}
 use Rattle.machine_table.specs.Machine.{Machine}
 use Rattle.protocol.specs.Machine as by_line
 use Rattle.protocol.specs.Machine.{Core, WaitsFor, IsShared, IsGranted, HasCase}
-use Rattle.protocol.proofs.Laws.{messages_have_cases}
+use Rattle.protocol.proofs.Lemmas.{messages_have_cases}
 use Rattle.machine_theorem.specs.View.{copy_or_none, copy_in, core_seen, entry_seen, entry_in, body_seen, message_seen, messages_of, set_up, line_in, view}
 use Rattle.machine_theorem.specs.Shape.{IsHome, IsCore, GoesHome}
 use Rattle.machine_theorem.specs.Kept.{Invariant}

@@ -5,17 +5,17 @@ use Rattle.std.specs.Ordering.{nat_cmp}
 use Rattle.std.specs.FinMap.{FinMap}
 use Rattle.physiological_order.specs.declared.operation.Record.{Record}
 use Rattle.physiological_order.specs.Order.{flat, Legal, Arrangement, replay_end, of_core}
-use Rattle.physiological_order.proofs.Laws.{one_arrangement, arrangement_of}
+use Rattle.physiological_order.proofs.Lemmas.{one_arrangement, arrangement_of}
 use Rattle.machine_table.specs.declared.config.Config.{Config}
 use Rattle.machine_table.specs.declared.event.Event.{Event}
 use Rattle.core_pts.specs.CoreTable.{CoreState}
 use Rattle.machine_table.specs.Machine.{Machine, operation_of}
 use Rattle.protocol.specs.Issued.{IsIssued}
-use Rattle.protocol.proofs.Laws.{what_is_issued, reachable_ok, at_most_one, coherent_is}
+use Rattle.protocol.proofs.Lemmas.{what_is_issued, reachable_ok, at_most_one, coherent_is}
 use Rattle.machine_table.specs.SetUp.{is_good}
 use Rattle.machine_table.specs.Opening.{at_start}
 use Rattle.machine_table.specs.Runs.{after_all}
-use Rattle.protocol.proofs.Laws.{legal as legal_by_line}
+use Rattle.protocol.proofs.Lemmas.{legal as legal_by_line}
 use Rattle.machine_theorem.specs.View.{core_seen, set_up, view}
 use Rattle.machine_theorem.specs.Kept.{Invariant}
 use Rattle.machine_theorem.specs.Coherence.{owners, coherent}

@@ -21,4 +21,4 @@ mod StaleRun
 mod PrivateRun
 mod Reorderings
 mod Renumbering
-pub mod Laws
+pub mod Lemmas

@@ -9,11 +9,11 @@ use Rattle.std.proofs.lemmas.Bool.{cases_eq, cases_Bool, ne_eqb, eq-eqb, cond-tr
 use Rattle.network.specs.declared.message.Message.{Message}
 use Rattle.network.specs.Numbered.{at_number, without_number}
 use Rattle.line_sets.specs.SetTable.{look, put, put_within, drop_line}
-use Rattle.line_sets.proofs.Laws.{look-put_same, look-put_other, look-put_within_same, look-put_within_other}
-use Rattle.line_sets.proofs.Laws.{look-drop_line_same, look-drop_line_other, length-put, length-put_within}
-use Rattle.line_sets.proofs.Laws.{length-drop_line}
+use Rattle.line_sets.proofs.Lemmas.{look-put_same, look-put_other, look-put_within_same, look-put_within_other}
+use Rattle.line_sets.proofs.Lemmas.{look-drop_line_same, look-drop_line_other, length-put, length-put_within}
+use Rattle.line_sets.proofs.Lemmas.{length-drop_line}
 use Rattle.protocol.specs.Machine as by_line
-use Rattle.protocol.proofs.Laws.{Some_injective}
+use Rattle.protocol.proofs.Lemmas.{Some_injective}
 use Rattle.machine_theorem.specs.View.{message_seen, messages_of}
 
 -- lists

@@ -17,7 +17,7 @@ use Rattle.core_pts.specs.OnCopy.{is_exclusive, serves, time_of, received_at, co
 use Rattle.core_pts.specs.declared.decision.CoreReaction.{CoreReaction}
 use Rattle.core_pts.specs.declared.decision.CoreReaction.TheVariants.{Arrives, Grants, Returns, Drops, Holds, TooLate, NoCase}
 use Rattle.protocol.specs.Machine.{Config, Message, RenewRep, UpgradeRep, FlushReq, WbReq, Line, with_at, CannotUse, LineTransition, dropped, wb_dropped, flushed, written_back, Answers, shared, exclusive, renews, upgrades, Uses, load_hit, load_own, store_own, swap_own}
-use Rattle.protocol.proofs.Laws.{Some_injective}
+use Rattle.protocol.proofs.Lemmas.{Some_injective}
 use Rattle.machine_theorem.proofs.Routes.{GoesUp, ownership_of}
 use Rattle.machine_theorem.specs.View.{copy_seen, copy_or_none, body_seen}
 

@@ -18,7 +18,7 @@ use Rattle.machine_table.specs.Machine.{Machine}
 use Rattle.machine_table.specs.Opening.{core_config, geometry, bank_config, cores_from, banks_from, dram_of, drams_from, at_start}
 use Rattle.protocol.specs.Machine as by_line
 use Rattle.protocol.specs.Machine.{Absent, OpensWith, Reachable, at_first}
-use Rattle.protocol.proofs.Laws.{Some_injective}
+use Rattle.protocol.proofs.Lemmas.{Some_injective}
 use Rattle.machine_theorem.specs.View.{entry_seen, copy_or_none, copy_in, core_seen, entry_in, time_in, set_up, view}
 use Rattle.machine_theorem.specs.Coherence.{words_in}
 use Rattle.machine_theorem.specs.Shape.{IsCore, IsBank}

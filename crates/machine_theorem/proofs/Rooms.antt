@@ -5,8 +5,8 @@ use Rattle.std.proofs.Math.Nat.{mod-lt}
 use Rattle.std.proofs.lemmas.Bool.{cases_eq, cases_Bool, lt-ltb, ltb-true}
 use Rattle.line_sets.specs.Order.{without, put_in_place}
 use Rattle.line_sets.specs.SetTable.{Sets, set_at}
-use Rattle.line_sets.proofs.Laws.{length-without_le, length-put_in_place, set_at-set_same, set_at-set_other}
-use Rattle.line_sets.proofs.Laws.{length-put_within, length-drop_line}
+use Rattle.line_sets.proofs.Lemmas.{length-without_le, length-put_in_place, set_at-set_same, set_at-set_other}
+use Rattle.line_sets.proofs.Lemmas.{length-put_within, length-drop_line}
 use Rattle.private_cache.specs.declared.line_copy.LineCopy.{LineCopy}
 use Rattle.private_cache.specs.CopyTable.{set_of, copy_of, place_for, with_changed, without_copy}
 use Rattle.machine_theorem.proofs.Lookups.{change_there, drop_there}

@@ -15,7 +15,7 @@ use Rattle.dram_mts.specs.Lines.{words_of}
 use Rattle.machine_table.specs.Machine.{Machine}
 use Rattle.protocol.specs.Machine as by_line
 use Rattle.protocol.specs.Machine.{Config, Copy, Line, Core, with_at, IsPinned, LineTransition, shuffled, move, Reachable, goes_on}
-use Rattle.protocol.proofs.Laws.{with_at_same, with_at_other, with_at_cases, with_at_id}
+use Rattle.protocol.proofs.Lemmas.{with_at_same, with_at_other, with_at_cases, with_at_id}
 use Rattle.machine_theorem.specs.View.{copy_in, core_seen, entry_seen, entry_in, time_in, messages_of, set_up, line_in, view}
 use Rattle.machine_theorem.specs.Coherence.{words_in}
 use Rattle.machine_theorem.proofs.Lookups.{get-set_same, get-set_other}

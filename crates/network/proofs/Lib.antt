@@ -2,4 +2,4 @@ mod FlightLaws
 mod Keeping
 mod Rising
 mod Sending
-pub mod Laws
+pub mod Lemmas

@@ -15,4 +15,4 @@ mod Unique
 mod Verdicts
 mod Walked
 mod WordBound
-pub mod Laws
+pub mod Lemmas

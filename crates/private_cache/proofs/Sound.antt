@@ -6,9 +6,9 @@ use Rattle.std.proofs.lemmas.Bool.{cases_eq, cond-true, eq-eqb, lt-ltb, or_right
 use Rattle.std.specs.List.{slice_get}
 use Rattle.line_sets.specs.Order.{is_there, find, without}
 use Rattle.line_sets.specs.SetTable.{Sets, set_at, look, put, put_within, drop_line, empty_sets}
-use Rattle.line_sets.proofs.Laws.{length-without_there, set_at-set_same, look-put_other, look-put_other_set}
-use Rattle.line_sets.proofs.Laws.{look-put_within_other, look-put_within_other_set, look-drop_line_other}
-use Rattle.line_sets.proofs.Laws.{look-drop_line_other_set, length-put, length-put_within, length-drop_line}
+use Rattle.line_sets.proofs.Lemmas.{length-without_there, set_at-set_same, look-put_other, look-put_other_set}
+use Rattle.line_sets.proofs.Lemmas.{look-put_within_other, look-put_within_other_set, look-drop_line_other}
+use Rattle.line_sets.proofs.Lemmas.{look-drop_line_other_set, length-put, length-put_within, length-drop_line}
 use Rattle.private_cache.specs.declared.line_copy.LineCopy.{LineCopy}
 use Rattle.private_cache.specs.CopyTable.{set_of, copy_of, place_for, without_copy, first_line}
 use Rattle.private_cache.specs.OwnSets.{InOwnSets, IsSound}

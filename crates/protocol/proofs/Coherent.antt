@@ -3,7 +3,7 @@ use Rattle.std.specs.List.{AllByRecursion as Each}
 use Rattle.std.proofs.lemmas.Bool.{cases_eq, cond-true, cases_lt}
 use Rattle.physiological_order.specs.declared.operation.Record.{Record}
 use Rattle.physiological_order.specs.Order.{Memory, replay_end}
-use Rattle.physiological_order.proofs.Laws.{memory_at-end, each_weaker}
+use Rattle.physiological_order.proofs.Lemmas.{memory_at-end, each_weaker}
 use Rattle.protocol.specs.Machine.{Config, Timed, Copy, Entry, Absent, Loading, Shared, Exclusive, Recalling, Storing, Message, ExRep, UpgradeRep, FlushRep, WbRep, DramSt, DramStRep, Line, Machine, Reachable, line_of, word_at, or_else, owner_or, owner_words, words_of, granted_words, entry_words, stored_words, coherent_words, coherent}
 use Rattle.protocol.proofs.Bags.{tally}
 use Rattle.protocol.proofs.Lines.{Holder, Bank, At, Flying, flying, right, store, storing, MessageOk, EntryOk, LineOk}

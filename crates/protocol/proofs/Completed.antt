@@ -8,9 +8,9 @@ use Rattle.physiological_order.specs.declared.operation.Op.{Op}
 use Rattle.physiological_order.specs.declared.operation.Op.TheVariants.{Load, Store, Swap}
 use Rattle.physiological_order.specs.declared.operation.Record.{Record}
 use Rattle.physiological_order.specs.Order.{Memory, address, flat_received, flat_after}
-use Rattle.physiological_order.proofs.Laws.{Sorted, memory_at-placed_before, memory_at-placed_keeps}
-use Rattle.physiological_order.proofs.Laws.{memory_at-placed_writes, Keeps-load, Keeps-other, Keeps, each_weaker}
-use Rattle.physiological_order.proofs.Laws.{arranged-push, each_push, each_arranged}
+use Rattle.physiological_order.proofs.Lemmas.{Sorted, memory_at-placed_before, memory_at-placed_keeps}
+use Rattle.physiological_order.proofs.Lemmas.{memory_at-placed_writes, Keeps-load, Keeps-other, Keeps, each_weaker}
+use Rattle.physiological_order.proofs.Lemmas.{arranged-push, each_push, each_arranged}
 use Rattle.protocol.specs.Machine.{Config, Timed, Copy, Line, line_of, word_at, with_at, write_time, Uses, load_hit, load_own, store_own, swap_own}
 use Rattle.protocol.proofs.Bags.{tally}
 use Rattle.protocol.proofs.Lease.{Standing}

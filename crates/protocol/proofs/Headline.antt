@@ -9,8 +9,8 @@ use Rattle.std.proofs.lemmas.Bool.{cases_eq, ne_eqb, cond-true, cond-false, eq-e
 use Rattle.physiological_order.specs.declared.operation.Op.{Op}
 use Rattle.physiological_order.specs.declared.operation.Record.{Record}
 use Rattle.physiological_order.specs.Order.{Memory, address, of_core, Legal}
-use Rattle.physiological_order.proofs.Laws.{each_push, Sorted-from_Ascends, Kept-none, Kept-issue, Kept-push}
-use Rattle.physiological_order.proofs.Laws.{Legal-from_Kept}
+use Rattle.physiological_order.proofs.Lemmas.{each_push, Sorted-from_Ascends, Kept-none, Kept-issue, Kept-push}
+use Rattle.physiological_order.proofs.Lemmas.{Legal-from_Kept}
 use Rattle.protocol.specs.Machine.{Config, Timed, Copy, Entry, Absent, Loading, Shared, Exclusive, Recalling, Storing, Line, Core, Machine, line_of, with_at, word_at, waits, OpensWith, opened, IsPinned, LineTransition, evict_clean, evict_dirty, Answers, shared, exclusive, renews, upgrades, Asks, Uses, Transition, issue, advance, ask, answer, complete, move, Reachable, at_first, goes_on}
 use Rattle.protocol.proofs.Bags.{tally-taken, each_map}
 use Rattle.protocol.proofs.Lines.{Holder, Bank, about, about_itself, EntryOk, with_at_same, with_at_other, with_at_cases}

@@ -7,7 +7,7 @@ use Rattle.std.proofs.lemmas.List.Elements.{filter-append}
 use Rattle.physiological_order.specs.declared.operation.Op.{Op}
 use Rattle.physiological_order.specs.declared.operation.Record.{Record}
 use Rattle.physiological_order.specs.Order.{Follows, of_core}
-use Rattle.physiological_order.proofs.Laws.{Follows-push, Follows-issued}
+use Rattle.physiological_order.proofs.Lemmas.{Follows-push, Follows-issued}
 use Rattle.protocol.specs.Machine.{Config, Machine, Transition, issue, advance, ask, answer, complete, move, Reachable, at_first, goes_on}
 use Rattle.protocol.specs.Issued.{listed, IsIssued}
 use Rattle.protocol.proofs.Lines.{with_at_cases}

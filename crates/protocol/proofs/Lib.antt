@@ -10,4 +10,4 @@ mod Coherent
 mod Blocked
 mod Cases
 mod InProgram
-pub mod Laws
+pub mod Lemmas

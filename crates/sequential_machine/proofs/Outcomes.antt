@@ -5,7 +5,7 @@ use Rattle.std.specs.List.{AllByRecursion as Each}
 use Rattle.physiological_order.specs.declared.operation.Op.{Op}
 use Rattle.physiological_order.specs.declared.operation.Record.{Record}
 use Rattle.physiological_order.specs.Order.{Memory, Arrangement, Legal, KeepsProgramOrder, ReceivesAsReplayed, of_core, replay_end}
-use Rattle.physiological_order.proofs.Laws.{one_arrangement}
+use Rattle.physiological_order.proofs.Lemmas.{one_arrangement}
 use Rattle.litmus_parser.specs.declared.syntax.Name.{Name}
 use Rattle.litmus_parser.specs.declared.syntax.Name.TheVariants.{Register, Location}
 use Rattle.litmus_reader.specs.Litmus.{Litmus}

@@ -8,7 +8,7 @@ use Rattle.std.proofs.lemmas.Bool.{cases_eq, cond_both, cond-true, cond-false, e
 use Rattle.physiological_order.specs.declared.operation.Op.{Op}
 use Rattle.physiological_order.specs.declared.operation.Record.{Record}
 use Rattle.physiological_order.specs.Order.{of_core, Follows}
-use Rattle.physiological_order.proofs.Laws.{each_weaker}
+use Rattle.physiological_order.proofs.Lemmas.{each_weaker}
 
 -- what holds of each of some records holds of each in another order
 pub each_permutation : (P : Record → Type 0) (xs ys : List Record) → IsPermutation xs ys → Each P xs → Each P ys

@@ -1,2 +1,2 @@
 mod Given
-pub mod Laws
+pub mod Lemmas

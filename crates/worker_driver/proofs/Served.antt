@@ -16,7 +16,7 @@ use Rattle.machine_table.specs.declared.event.Answer.TheVariants as answer
 use Rattle.machine_table.specs.Machine.{Machine}
 use Rattle.machine_table.specs.Transition.{transition}
 use Rattle.protocol.specs.Issued.{IsIssued, listed}
-use Rattle.machine_theorem.proofs.Laws.{after_all_same}
+use Rattle.machine_theorem.proofs.Lemmas.{after_all_same}
 use Rattle.interleaving_core.specs.LookUps.{open_op, open_op_of, make_room}
 use Rattle.run_ends.specs.declared.ends.End.{End}
 use Rattle.run_ends.specs.declared.ends.End.TheVariants.{Stalled, TurnsUsed}

@@ -6,9 +6,9 @@ use Rattle.std.proofs.lemmas.Bool.{cases_eq}
 use Rattle.physiological_order.specs.declared.operation.Op.{Op}
 use Rattle.physiological_order.specs.declared.operation.Record.{Record}
 use Rattle.physiological_order.specs.Order.{of_core}
-use Rattle.physiological_order.proofs.Laws.{each_push}
+use Rattle.physiological_order.proofs.Lemmas.{each_push}
 use Rattle.machine_table.specs.Machine.{Machine}
-use Rattle.machine_theorem.proofs.Laws.{get-set_same, get-set_other}
+use Rattle.machine_theorem.proofs.Lemmas.{get-set_same, get-set_other}
 use Rattle.worker_driver.specs.Acts.{Acts, next_of, next_in, done_of, done_in}
 use Rattle.worker_driver.specs.Told.{Performs}
 use Rattle.worker_driver.proofs.InProgram.{of_core-own, of_core-other}

@@ -43,8 +43,8 @@ use Rattle.network.specs.Mail.{has_capacity, has_number, sent}
 use Rattle.machine_table.specs.Machine.{Machine, with_core, with_bank, with_dram}
 use Rattle.machine_table.specs.Change.{Change, Keeps, Makes, record_of, attempt_open, attempted_op, requests, reacted, copy_evicted, entry_evicted}
 use Rattle.machine_table.specs.Transition.{changed, refused, issued, issue_at, attempt_at, deliver_core, deliver_bank, deliver_dram, deliver_to, deliver_message, evict_copy, evict_entry, on_event, transition}
-use Rattle.machine_theorem.proofs.Laws.{get-set_same, get-set_other}
-use Rattle.interleaving_core.proofs.Laws.{Closes, attempt_closes}
+use Rattle.machine_theorem.proofs.Lemmas.{get-set_same, get-set_other}
+use Rattle.interleaving_core.proofs.Lemmas.{Closes, attempt_closes}
 
 -- a core's open operation
 abbrev pub op_of : Option CoreState → Option Op

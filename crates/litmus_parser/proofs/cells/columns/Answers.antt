@@ -1,6 +1,6 @@
 use Rattle.std.proofs.Common.{◌≡◌, ◌-◌, ℕ, ◌∙◌, ap, arith, refl, Ok}
 use Rattle.std.proofs.lemmas.Result.{err_from_is_err_and}
-use Rattle.litmus_lexer.proofs.Laws.{goes-on, fails-there, runs-out}
+use Rattle.litmus_lexer.proofs.Lemmas.{goes-on, fails-there, runs-out}
 use Rattle.litmus_parser.specs.ReadingRows.{column_at, ended, columns_at}
 use Rattle.litmus_parser.proofs.cells.columns.Goals as goal
 

@@ -1,6 +1,6 @@
 use Rattle.std.proofs.Common.{rules, refl}
 use Rattle.std.proofs.lemmas.Result.{err_from_is_err_and}
-use Rattle.litmus_lexer.proofs.Laws.{goes-on, fails-there, is-done, runs-out}
+use Rattle.litmus_lexer.proofs.Lemmas.{goes-on, fails-there, is-done, runs-out}
 use Rattle.litmus_parser.specs.ReadingTable.{heading_at, too_many, headings_at}
 use Rattle.litmus_parser.proofs.table.headings.Goals as goal
 

@@ -2,7 +2,7 @@ use Rattle.std.proofs.Common.{◌∙◌, ap, map}
 use Rattle.physiological_order.specs.declared.operation.Record.{Record}
 use Rattle.physiological_order.specs.Order.{replay_end}
 use Rattle.protocol.proofs.laws.every_reached_machine_is_consistent.Goals as goal
-use Rattle.physiological_order.proofs.Laws.{one_arrangement, arrangement_of}
+use Rattle.physiological_order.proofs.Lemmas.{one_arrangement, arrangement_of}
 use Rattle.protocol.proofs.Headline.{legal, reachable_ok}
 use Rattle.protocol.proofs.InProgram.{what_is_issued}
 use Rattle.protocol.proofs.Owners.{at_most_one}

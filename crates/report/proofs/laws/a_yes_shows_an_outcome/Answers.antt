@@ -5,7 +5,7 @@ use Rattle.std.proofs.lemmas.List.Sums.{length-filter}
 use Rattle.litmus_reader.specs.Litmus.{Litmus}
 use Rattle.litmus_reader.specs.Seen.{seen_in}
 use Rattle.litmus_reader.specs.Truth.{holds, value_of}
-use Rattle.litmus_reader.proofs.Laws.{truth-is}
+use Rattle.litmus_reader.proofs.Lemmas.{truth-is}
 use Rattle.report_text.specs.Ends.{done_state, held, holds_in, is_held}
 use Rattle.run_ends.specs.declared.ends.End.{End}
 use Rattle.run_ends.specs.declared.ends.End.TheVariants.{AllDone, Stalled, TurnsUsed, Exhausted, NoMemory}

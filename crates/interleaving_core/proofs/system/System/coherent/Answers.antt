@@ -3,7 +3,7 @@ use Rattle.physiological_order.specs.declared.operation.Record.{Record}
 use Rattle.physiological_order.specs.Order.{flat, Arrangement, replay_end}
 use Rattle.machine_table.specs.Machine.{Machine}
 use Rattle.machine_theorem.specs.Coherence.{coherent}
-use Rattle.machine_theorem.proofs.Laws.{value_left}
+use Rattle.machine_theorem.proofs.Lemmas.{value_left}
 use Rattle.interleaving_core.proofs.system.System.coherent.Goals as goal
 
 pub returns-clause-left : goal.returns-clause-left

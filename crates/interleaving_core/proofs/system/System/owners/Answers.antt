@@ -1,5 +1,5 @@
 use Rattle.std.proofs.Common.{arith}
-use Rattle.machine_theorem.proofs.Laws.{one_owner}
+use Rattle.machine_theorem.proofs.Lemmas.{one_owner}
 use Rattle.interleaving_core.proofs.system.System.owners.Goals as goal
 
 pub owners-requires : goal.owners-requires

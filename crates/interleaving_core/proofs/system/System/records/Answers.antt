@@ -4,7 +4,7 @@ use Rattle.protocol.specs.Issued.{IsIssued}
 use Rattle.physiological_order.specs.declared.operation.Record.{Record}
 use Rattle.physiological_order.specs.Order.{flat, Legal, of_core}
 use Rattle.machine_table.specs.Machine.{Machine, operation_of}
-use Rattle.machine_theorem.proofs.Laws.{issued_now, legal_now}
+use Rattle.machine_theorem.proofs.Lemmas.{issued_now, legal_now}
 use Rattle.physiological_order.specs.StaleHits.{RisesByNumber}
 use Rattle.interleaving_core.proofs.InOrder.{numbered_rise}
 use Rattle.interleaving_core.proofs.system.System.records.Goals as goal

@@ -10,6 +10,7 @@ use Rattle.physiological_order.specs.declared.verdict.Verdict.{Verdict}
 use Rattle.physiological_order.specs.declared.verdict.Verdict.TheVariants.{Legal as LegalVerdict, BadNumber, OutOfProgramOrder, WrongValue}
 use Rattle.physiological_order.specs.Order.{Memory, Follows, of_core, KeepsProgramOrder, ReceivesAsReplayed, NumberedOnce, Arrangement, Legal, replay, flat_received, flat_after}
 use Rattle.physiological_order.specs.Faults.{LeastMissing, UpTo, OrderFault, ValueFault, WalksTo, IsWalked, IsVerdict}
+use Rattle.physiological_order.proofs.Numbered.{numbers_apart}
 use Rattle.physiological_order.proofs.Unique.{one_arrangement}
 
 -- a beginning of a list in order is in order
@@ -92,9 +93,6 @@ module _ (opening : Memory) (issued : ℕ → List Op) where
 
   legal_apart : (arranged : List Record) (number : ℕ) → KeepsProgramOrder issued arranged → ReceivesAsReplayed opening arranged → Stop arranged number → ⊥
   legal_apart arranged number order values s = too_far arranged number s arranged s.upto.behind order values s.upto.split
-
-  numbers_apart : (records : List Record) (k : ℕ) → NumberedOnce records → LeastMissing records k → ⊥
-  numbers_apart records k once least = let o = once k least.below in let m = least.missing in omega arith
 
   one_least : (records : List Record) (j k : ℕ) → LeastMissing records j → LeastMissing records k → j ≡ k
   one_least records j k a b =

@@ -26,7 +26,7 @@ pub fn stale_hits(alloc: Global, records: &[Record]) -> Result<u64, AllocError>
 }
 
 /// What `stale_hits` answers, with its looks into the map of the greatest store times counted: one for each load, and
-/// two for each store or swap, so at most 2 * n for n records.
+/// two for each store or swap, so at most 2 * n for n records. The count never falls.
 pub fn stale_hits_counted(
     alloc: Global,
     steps: &mut Steps,
@@ -36,6 +36,7 @@ pub fn stale_hits_counted(
     ensures count { IfOk result (λ count. count ≡ stale_count records.now) }
     ensures looks { OnOk result (steps.new ≡ after_steps steps.old (looks records.now)) }
     ensures bound { steps.new ≤ steps.old + 2 * length records.now }
+    ensures grows { steps.old ≤ steps.new }
 {
     let mut latest = NumberMap::new(alloc);
     let mut count = 0;

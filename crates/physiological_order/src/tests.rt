@@ -250,3 +250,103 @@ fn only_later_writes_of_the_word_make_a_load_stale(rt: HostRuntime) -> Result<()
     assert!(rt; !rises_by_number(&[late(), late()]));
     Ok(())
 }
+
+#[test]
+fn the_least_of_two_missing_numbers_is_told(rt: HostRuntime) -> Result<(), Fail> {
+    let issued = store_then_load(rt.alloc())?;
+    // Of 0 to 3 neither 1 nor 2 is carried; 3 is carried twice, and 7 is none of the four.
+    let records = [
+        record(0, 0, store(0, 1), None, 1, 3),
+        record(0, 1, load(0), Some(1), 1, 0),
+        record(0, 1, load(0), Some(1), 1, 7),
+        record(0, 1, load(0), Some(1), 1, 3),
+    ];
+    same(
+        &rt,
+        verdict(rt.alloc(), &issued, &records)?,
+        Verdict::BadNumber(1),
+    );
+    Ok(())
+}
+
+/// Core 1 stores 1 to word 0 with number 0, core 0 stores 2 to it at the same time with number 1, and core 0 loads it
+/// later: by number the 2 is there, and by core the 1 would be.
+fn tied_stores(received: u64) -> [Record; 3] {
+    [
+        record(0, 0, store(0, 2), None, 5, 1),
+        record(0, 1, load(0), Some(received), 6, 2),
+        record(1, 0, store(0, 1), None, 5, 0),
+    ]
+}
+
+#[test]
+fn equal_times_are_taken_by_number(rt: HostRuntime) -> Result<(), Fail> {
+    let mut issued = Vec::new(rt.alloc());
+    issued.push(vec![in rt.alloc(); store(0, 2), load(0)]?)?;
+    issued.push(vec![in rt.alloc(); store(0, 1)]?)?;
+    let by_number = verdict(rt.alloc(), &issued, &tied_stores(2))?;
+    same(&rt, by_number, Verdict::Legal);
+    let by_core = verdict(rt.alloc(), &issued, &tied_stores(1))?;
+    same(&rt, by_core, Verdict::WrongValue(2));
+    Ok(())
+}
+
+/// A core's load completes first, at time 5, and its store behind it, at time 3: by time they stand in its program
+/// order.
+fn falling_times(received: u64) -> [Record; 2] {
+    [
+        record(0, 1, load(0), Some(received), 5, 0),
+        record(0, 0, store(0, 1), None, 3, 1),
+    ]
+}
+
+#[test]
+fn records_whose_times_fall_are_arranged(rt: HostRuntime) -> Result<(), Fail> {
+    let issued = store_then_load(rt.alloc())?;
+    let right = verdict(rt.alloc(), &issued, &falling_times(1))?;
+    same(&rt, right, Verdict::Legal);
+    let wrong = verdict(rt.alloc(), &issued, &falling_times(0))?;
+    same(&rt, wrong, Verdict::WrongValue(0));
+    Ok(())
+}
+
+#[test]
+fn the_greatest_time_of_a_write_is_kept(rt: HostRuntime) -> Result<(), Fail> {
+    // The second store's time is smaller, so 9 stays the greatest: only the load at 6 is before it.
+    let records = [
+        record(0, 0, store(0, 1), None, 9, 0),
+        record(1, 0, store(0, 2), None, 4, 1),
+        record(2, 0, load(0), Some(2), 6, 2),
+        record(2, 1, load(0), Some(1), 9, 3),
+    ];
+    assert!(rt; rises_by_number(&records));
+    assert_eq!(rt; stale_hits(rt.alloc(), &records)?, 1);
+    Ok(())
+}
+
+/// The steps of a check of one core's records added to those that were made.
+fn checked(alloc: Global, steps: &mut Steps, records: &[Record]) -> Result<u128, AllocError> {
+    let issued = store_then_load(alloc)?;
+    let _verdict = check_counted(alloc, steps, &Memory::new(alloc), &issued, records)?;
+    Ok(steps.made())
+}
+
+#[test]
+fn counts_add_up(rt: HostRuntime) -> Result<(), Fail> {
+    let first = record(0, 0, store(0, 1), None, 1, 0);
+    let second = record(0, 1, load(0), Some(1), 1, 1);
+    let records = [first, second];
+    let mut steps = Steps::new();
+    // The load is compared with the store before it, and one lane is merged with none.
+    assert_eq!(rt; checked(rt.alloc(), &mut steps, &records)?, 1);
+    assert_eq!(rt; checked(rt.alloc(), &mut steps, &[second, first])?, 2);
+    // A number is missing, and nothing is compared.
+    assert_eq!(rt; checked(rt.alloc(), &mut steps, &[second])?, 2);
+    // One comparison finds that the times fall, and what `arrange` compares isn't counted.
+    assert_eq!(rt; checked(rt.alloc(), &mut steps, &falling_times(1))?, 3);
+    // The store looks and writes, the load looks.
+    assert!(rt; rises_by_number(&records));
+    assert_eq!(rt; stale_hits_counted(rt.alloc(), &mut steps, &records)?, 0);
+    assert_eq!(rt; steps.made(), 6);
+    Ok(())
+}

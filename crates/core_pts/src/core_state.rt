@@ -2,9 +2,11 @@
 ghost use Rattle.std.specs.Prelude.{◌≡◌, ◌≢◌, ◌⊎◌, ◌<◌, ◌≤◌, ◌%◌, ◌^◌, IfOk, IfSome, IsPermutation, IsSorted, IsSome, IsTrue, is_some, not, true, option_copied, option_map, Some};
 ghost use Rattle.std.specs.Ordering.{nat_cmp};
 ghost use Rattle.std.specs.Result.{result_ok};
+ghost use Rattle.line_sets.specs.Geometry.{IsGeometry};
 ghost use Rattle.line_sets.specs.SetTable.{all_listed};
 ghost use Rattle.private_cache.specs.CopyTable.{copy_of, place_for, victim_for, without_copy};
 ghost use Rattle.physiological_order.specs.Order.{address};
+ghost use Rattle.core_pts.specs.SetUp.{IsInRange};
 ghost use Rattle.core_pts.specs.CoreTable.{advance, attempt, attempt_unserved, attempt_without, completed_at, evict, index_of, is_on, issue, line_of, need, opened, pinned_line, to_bank};
 
 use crate::attempt::{Attempt, IssueError};
@@ -55,16 +57,8 @@ impl Core {
     /// A core at its opening time, with an empty cache, no open operation and nothing issued. All its memory is taken
     /// here.
     pub fn new(alloc: Global, config: CoreConfig, geometry: Geometry) -> Result<Core, AllocError>
-        requires number { config.number < 64 }
-        requires some_banks { 1 ≤ config.banks }
-        requires most_banks { config.banks ≤ 8 }
-        requires words { (config.line_words ≡ 1) ⊎ (config.line_words ≡ 8) }
-        requires some_lease { 1 ≤ config.lease }
-        requires most_lease { config.lease ≤ 2 ^ 32 }
-        requires some_sets { 1 ≤ geometry.sets }
-        requires most_sets { geometry.sets ≤ 1024 }
-        requires some_ways { 1 ≤ geometry.ways }
-        requires most_ways { geometry.ways ≤ 16 }
+        requires config { IsInRange config }
+        requires geometry { IsGeometry geometry.sets geometry.ways }
         ensures { IfOk result (λ core. core ≡ opened config geometry) }
     {
         let cache = Cache::new(alloc, geometry)?;

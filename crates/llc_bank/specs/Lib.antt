@@ -3,3 +3,4 @@ pub mod BankTable
 pub mod OnEntry
 pub mod OwnSets
 pub mod Settled
+pub mod SetUp

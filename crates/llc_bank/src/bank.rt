@@ -2,7 +2,9 @@
 ghost use Rattle.std.specs.Prelude.{◌≡◌, ◌≢◌, ◌≤◌, ◌<◌, length, IfOk, IfSome, IsOk, IsPermutation, IsSorted, IsSome, IsTrue, is_some, Err, None, OnErr, Some};
 ghost use Rattle.std.specs.Ordering.{nat_cmp};
 ghost use Rattle.std.specs.Option.{option_copied};
+ghost use Rattle.line_sets.specs.Geometry.{IsGeometry};
 ghost use Rattle.line_sets.specs.SetTable.{all_listed, has_room, has_way};
+ghost use Rattle.llc_bank.specs.SetUp.{IsInRange};
 ghost use Rattle.llc_bank.specs.OnEntry.{finds_way};
 ghost use Rattle.llc_bank.specs.Settled.{is_settled};
 ghost use Rattle.llc_bank.specs.BankTable.{core_of};
@@ -52,15 +54,8 @@ impl Bank {
 
     /// A bank without entries. All memory is taken here, for all the entries that it can have.
     pub fn new(alloc: Global, config: BankConfig) -> Result<Bank, AllocError>
-        requires some_banks { 1 ≤ config.banks }
-        requires most_banks { config.banks ≤ 8 }
-        requires number { config.number < config.banks }
-        requires some_sets { 1 ≤ config.sets }
-        requires most_sets { config.sets ≤ 1024 }
-        requires some_ways { 1 ≤ config.ways }
-        requires most_ways { config.ways ≤ 16 }
-        requires some_lease { 1 ≤ config.lease }
-        requires most_lease { config.lease ≤ 4294967296 }
+        requires config { IsInRange config }
+        requires geometry { IsGeometry config.sets config.ways }
         ensures { IfOk result (λ bank. bank ≡ empty_bank config) }
     {
         let table = LineSets::new(alloc, config.sets, config.ways)?;

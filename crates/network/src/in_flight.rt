@@ -1,5 +1,6 @@
 //! The messages in flight, by number.
 ghost use Rattle.std.specs.Prelude.{◌≡◌, ◌+◌, ◌<◌, ◌≤◌, ◌^◌, ◌++◌, ◌∷◌, [], false, IsTrue, IfOk, IfErr, IfSome, OnOk, OnErr, IsOk, Option, None, Some, option_copied, option_map, length, map};
+ghost use Rattle.network.specs.SetUp.{IsInRange};
 ghost use Rattle.network.specs.Numbered.{IsRising, at_number};
 ghost use Rattle.network.specs.Routes.{has_endpoints};
 ghost use Rattle.network.specs.Search.{count_messages, first_message, is_between, is_ownership_of, is_store_of};
@@ -56,12 +57,7 @@ impl Model for InFlight {
 impl InFlight {
     /// No message in flight, of a machine with 1 to 64 cores and 1 to 8 banks, with room for 1 to 65,536 messages.
     pub fn new(alloc: Global, cores: u32, banks: u32, capacity: u32) -> InFlight
-        requires some_cores { 1 ≤ cores }
-        requires cores_fit { cores ≤ 64 }
-        requires some_banks { 1 ≤ banks }
-        requires banks_fit { banks ≤ 8 }
-        requires some_capacity { 1 ≤ capacity }
-        requires capacity_fits { capacity ≤ 65536 }
+        requires { IsInRange cores banks capacity }
         ensures { result ≡ record { cores = cores; banks = banks; capacity = capacity; reserved = result.reserved; mail = no_mail } }
     {
         InFlight {

@@ -2,6 +2,7 @@
 ghost use Rattle.std.specs.Prelude.{◌≡◌, ◌≤◌, ◌<◌, length, IfOk, IfSome, IsPermutation, IsSorted, IsSome, IsTrue, is_some, not, true};
 ghost use Rattle.std.specs.Ordering.{nat_cmp};
 ghost use Rattle.std.specs.Option.{option_copied};
+ghost use Rattle.line_sets.specs.Geometry.{IsGeometry};
 ghost use Rattle.line_sets.specs.SetTable.{all_listed, empty_sets};
 ghost use Rattle.private_cache.specs.CopyTable.{is_pinned};
 
@@ -72,10 +73,7 @@ impl Cache {
 
     /// A cache without copies. All memory is taken here, for all the copies that it can have.
     pub fn new(alloc: Global, geometry: Geometry) -> Result<Cache, AllocError>
-        requires some_sets { 1 ≤ geometry.sets }
-        requires most_sets { geometry.sets ≤ 1024 }
-        requires some_ways { 1 ≤ geometry.ways }
-        requires most_ways { geometry.ways ≤ 16 }
+        requires { IsGeometry geometry.sets geometry.ways }
         ensures { IfOk result (λ cache. cache ≡ empty_sets geometry.sets geometry.ways) }
     {
         let table = LineSets::new(alloc, geometry.sets, geometry.ways)?;

@@ -8,7 +8,8 @@ use Rattle.machine_table.specs.declared.event.Answer.TheVariants.{Refused}
 use Rattle.machine_table.specs.declared.event.Refusal.TheVariants.{NoSuch}
 use Rattle.machine_table.specs.Machine.{Machine}
 use Rattle.machine_table.specs.Transition.{transition}
-use Rattle.machine_theorem.specs.Kept.{SetUpAs, Invariant}
+use Rattle.machine_table.specs.SetUp.{SetUpAs}
+use Rattle.machine_theorem.specs.Kept.{Invariant}
 use Rattle.machine_theorem.proofs.Lemmas.{any_transition, delivery_found, messages_find_cases, set_up_same, transition_same}
 use Rattle.interleaving_core.specs.Stepped.{Stepped}
 use Rattle.interleaving_core.proofs.Applied.{had}

@@ -5,12 +5,12 @@ ghost use Rattle.physiological_order.specs.Order.{flat, Legal, Arrangement, of_c
 ghost use Rattle.physiological_order.specs.StaleHits.{RisesByNumber};
 ghost use Rattle.physiological_order.specs.declared.operation.Record.{Record};
 ghost use Rattle.network.specs.Numbered.{IsRising, at_number};
-ghost use Rattle.machine_table.specs.SetUp.{is_good};
+ghost use Rattle.machine_table.specs.SetUp.{SetUpAs, is_good};
 ghost use Rattle.machine_table.specs.Machine.{operation_of};
 ghost use Rattle.machine_table.specs.Opening.{at_start};
 ghost use Rattle.protocol.specs.Issued.{IsIssued};
 ghost use Rattle.machine_theorem.specs.Coherence.{owners, coherent};
-ghost use Rattle.machine_theorem.specs.Kept.{SetUpAs, Invariant};
+ghost use Rattle.machine_theorem.specs.Kept.{Invariant};
 ghost use Rattle.interleaving_core.specs.LookUps.{copies, entries, make_room, open_op, victim};
 ghost use Rattle.interleaving_core.specs.Reserved.{completes};
 ghost use Rattle.interleaving_core.specs.Midway.{IsMidway};

@@ -1,8 +1,7 @@
 use Rattle.std.proofs.Common.{IsSome, ap, sym, subst, ◌∙◌}
 use Rattle.network.specs.Numbered.{at_number}
 use Rattle.machine_table.specs.Machine.{Machine}
-use Rattle.machine_table.specs.SetUp.{is_good}
-use Rattle.machine_theorem.specs.Kept.{SetUpAs}
+use Rattle.machine_table.specs.SetUp.{SetUpAs, is_good}
 use Rattle.interleaving_core.proofs.InOrder.{step_numbers}
 use Rattle.interleaving_core.proofs.Coherence.{step_found, step_set_up, step_invariant}
 use Rattle.interleaving_core.proofs.system.System.step.Goals as goal

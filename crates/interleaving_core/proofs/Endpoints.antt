@@ -28,7 +28,7 @@ use Rattle.llc_bank.specs.BankTable.{BankState}
 use Rattle.dram_mts.specs.Table.{dram_has_case, dram_table}
 use Rattle.network.specs.Mail.{Mail, sent, taken, answered}
 use Rattle.machine_table.specs.Machine.{Machine, with_core, with_bank, with_dram}
-use Rattle.machine_table.specs.Change.{Keeps, Makes, reacted}
+use Rattle.machine_table.specs.Change.{Keeps, Makes, can_send, reacted}
 use Rattle.machine_table.specs.Transition.{changed, refused, deliver_core, deliver_bank, deliver_dram}
 use Rattle.machine_table.specs.declared.event.Answer.TheVariants.{Delivered, Refused, Started}
 use Rattle.machine_table.specs.declared.event.Refusal.TheVariants.{NetworkFull, NoSuch}
@@ -37,7 +37,6 @@ use Rattle.machine_theorem.specs.Shape.{GoesHome, IsOwnedBelow, IsWhole}
 use Rattle.machine_theorem.specs.Kept.{Invariant}
 use Rattle.machine_theorem.proofs.Lemmas.{each_at_number, messages_find_cases, both, core_and_bank, any_core_delivery}
 use Rattle.machine_theorem.proofs.Lemmas.{any_bank_delivery, any_dram_delivery}
-use Rattle.interleaving_core.specs.Applied.{can_send}
 use Rattle.interleaving_core.specs.Endpoints.{BackHasEndpoints, EvictedHasEndpoints, ReactionHasEndpoints}
 
 each_last : {X : Type 0} (P : X → Type 0) (xs : List X) (x : X) → Each P (xs ++ x ∷ []) → P x

@@ -10,5 +10,7 @@ mod Opened
 mod Owed
 mod Parts
 mod Running
+mod Runs
 mod Throughout
+mod Told
 pub mod Lemmas

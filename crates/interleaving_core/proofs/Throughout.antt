@@ -3,7 +3,8 @@ use Rattle.std.proofs.Common.{ℕ, zero, suc, List, [], ◌∷◌, take, drop, r
 use Rattle.machine_table.specs.declared.event.Event.{Event}
 use Rattle.machine_table.specs.declared.event.Answer.{Answer}
 use Rattle.machine_table.specs.Machine.{Machine}
-use Rattle.machine_theorem.specs.Kept.{SetUpAs, Invariant}
+use Rattle.machine_table.specs.SetUp.{SetUpAs}
+use Rattle.machine_theorem.specs.Kept.{Invariant}
 use Rattle.machine_theorem.proofs.Lemmas.{legal_now, one_owner, value_left, set_up_same}
 use Rattle.interleaving_core.specs.Stepped.{Ran}
 use Rattle.interleaving_core.specs.Midway.{IsMidway}

@@ -1,13 +1,13 @@
 -- What a change of one part makes of the part and the messages in flight, and what its answer makes of the machine.
-use Rattle.std.specs.Prelude.{◌≡◌, ℕ, Bool, true, false, List, [], ◌∷◌, ◌++◌, Option, Some, None, if◌then◌else◌}
+use Rattle.std.specs.Prelude.{◌≡◌, ℕ, Bool, true, false, List, [], ◌∷◌, ◌++◌, Option, Some, None}
 use Rattle.physiological_order.specs.declared.operation.Record.{Record}
-use Rattle.network.specs.declared.message.Node.{Node}
 use Rattle.network.specs.declared.part.Reaction.{Reaction}
 use Rattle.network.specs.declared.part.Reaction.TheVariants.{Done, Dropped, Held, HeldAfter}
-use Rattle.network.specs.Mail.{Mail, has_capacity, has_number, sent, taken, answered}
+use Rattle.network.specs.Mail.{Mail}
 use Rattle.machine_table.specs.declared.event.Answer.{Answer}
 use Rattle.machine_table.specs.declared.event.Answer.TheVariants as answer
 use Rattle.machine_table.specs.declared.event.Refusal.TheVariants.{Exhausted}
+use Rattle.machine_table.specs.Change as change
 use Rattle.machine_table.specs.Change.{Change, Keeps, Exhausts, Drops, Makes, Completes}
 
 -- the answer, and the part and the messages in flight afterwards
@@ -28,18 +28,9 @@ abbrev pub stops : Answer → Bool
 stops (answer.Refused Exhausted) = true
 stops _ = false
 
--- whether what a part would send can be sent: an answer takes the place of the delivered message
-abbrev pub can_send : ℕ → Mail → Option (Node × Bool) → Bool
-can_send capacity mail None = true
-can_send capacity mail (Some sends) = if sends.1 then has_capacity capacity mail else has_number mail
-
--- what a reaction to a delivered message is answered, and the messages in flight afterwards
+-- what a reaction to a delivered message is answered, and the messages in flight afterwards: the same at every part
 abbrev pub settled : Mail → ℕ → Reaction → Answer × Mail
-settled mail n Held = (answer.Held, mail)
-settled mail n Dropped = (answer.Dropped, taken mail n)
-settled mail n (Done None) = (answer.Delivered, taken mail n)
-settled mail n (Done (Some reply)) = (answer.Delivered, answered mail n reply)
-settled mail n (HeldAfter started) = (answer.Started, sent mail started)
+settled mail n reaction = let x = applied {S = Unit {0}} tt mail (change.settled mail n reaction tt) in (x.0, x.2)
 
 -- a message that is held or dropped leaves the part unchanged
 abbrev pub IsQuiet : {S : Type 0} → S → Option (Reaction × S) → Type 0

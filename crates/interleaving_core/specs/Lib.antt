@@ -2,8 +2,10 @@ pub mod Applied
 pub mod Endpoints
 pub mod Filling
 pub mod InOrder
+pub mod Issuing
 pub mod LookUps
 pub mod Midway
 pub mod OpenNumbers
 pub mod Reserved
+pub mod Sending
 pub mod Stepped

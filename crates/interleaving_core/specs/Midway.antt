@@ -6,7 +6,7 @@ use Rattle.machine_table.specs.declared.event.Event.{Event}
 use Rattle.machine_table.specs.declared.event.Answer.{Answer}
 use Rattle.machine_table.specs.Machine.{Machine}
 use Rattle.machine_theorem.specs.Coherence.{owners, coherent}
-use Rattle.machine_theorem.specs.Kept.{SetUpAs}
+use Rattle.machine_table.specs.SetUp.{SetUpAs}
 use Rattle.interleaving_core.specs.Stepped.{Ran}
 
 -- the machine after the first k events of a run, from which the others lead to its end: it is set up as at first, its

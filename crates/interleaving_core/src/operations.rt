@@ -30,7 +30,7 @@ pub(crate) fn attempt(
     requires number { core.old.number < flight.old.cores }
     requires banks { core.old.banks ≡ flight.old.banks }
     ensures done { IfOk result (λ answer. (answer, core.new, flight.new.mail) ≡ applied core.old flight.old.mail (attempt number count flight.old.capacity flight.old.mail core.old)) }
-    ensures set_up { flight.new ≡ record flight.old { reserved = flight.new.reserved; mail = flight.new.mail } }
+    ensures set_up { flight.new ≡ record flight.old { slots = flight.new.slots; reserved = flight.new.reserved; mail = flight.new.mail } }
     ensures refused { OnErr result (core.new ≡ core.old) }
     ensures kept { OnErr result (flight.new.mail ≡ flight.old.mail) }
     ensures completed { IsTrue (completes core.old) → IsOk result }
@@ -73,7 +73,7 @@ fn request(
     requires banks { core.old.banks ≡ flight.old.banks }
     ensures done { IfOk result (λ answer. (answer, core.new, flight.new.mail) ≡ applied core.old flight.old.mail (requests flight.old.capacity flight.old.mail core.old op.now body)) }
     ensures memory { OnErr result (flight.old.mail.next < (applied core.old flight.old.mail (requests flight.old.capacity flight.old.mail core.old op.now body)).2.next) }
-    ensures set_up { flight.new ≡ record flight.old { reserved = flight.new.reserved; mail = flight.new.mail } }
+    ensures set_up { flight.new ≡ record flight.old { slots = flight.new.slots; reserved = flight.new.reserved; mail = flight.new.mail } }
     ensures refused { OnErr result (core.new ≡ core.old) }
     ensures kept { OnErr result (flight.new.mail ≡ flight.old.mail) }
 {
@@ -106,7 +106,7 @@ pub(crate) fn evict_copy(
     requires endpoints { BackHasEndpoints flight.old.cores flight.old.banks (evict core.old line).0 }
     ensures done { IfOk result (λ answer. (answer, core.new, flight.new.mail) ≡ applied core.old flight.old.mail (copy_evicted flight.old.capacity flight.old.mail (evict core.old line))) }
     ensures memory { OnErr result (flight.old.mail.next < (applied core.old flight.old.mail (copy_evicted flight.old.capacity flight.old.mail (evict core.old line))).2.next) }
-    ensures set_up { flight.new ≡ record flight.old { reserved = flight.new.reserved; mail = flight.new.mail } }
+    ensures set_up { flight.new ≡ record flight.old { slots = flight.new.slots; reserved = flight.new.reserved; mail = flight.new.mail } }
     ensures refused { OnErr result (core.new ≡ core.old) }
     ensures kept { OnErr result (flight.new.mail ≡ flight.old.mail) }
 {
@@ -137,7 +137,7 @@ pub(crate) fn evict_entry(
     requires endpoints { EvictedHasEndpoints flight.old.cores flight.old.banks (bank_table.evict bank.old line).0 }
     ensures done { IfOk result (λ answer. (answer, bank.new, flight.new.mail) ≡ applied bank.old flight.old.mail (entry_evicted flight.old.capacity flight.old.mail (bank_table.evict bank.old line))) }
     ensures memory { OnErr result (flight.old.mail.next < (applied bank.old flight.old.mail (entry_evicted flight.old.capacity flight.old.mail (bank_table.evict bank.old line))).2.next) }
-    ensures set_up { flight.new ≡ record flight.old { reserved = flight.new.reserved; mail = flight.new.mail } }
+    ensures set_up { flight.new ≡ record flight.old { slots = flight.new.slots; reserved = flight.new.reserved; mail = flight.new.mail } }
     ensures refused { OnErr result (bank.new ≡ bank.old) }
     ensures kept { OnErr result (flight.new.mail ≡ flight.old.mail) }
 {

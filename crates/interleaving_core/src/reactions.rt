@@ -4,8 +4,8 @@ ghost use Rattle.network.specs.Mail.{answered, has_capacity, has_number, sent, t
 ghost use Rattle.network.specs.Numbered.{at_number};
 ghost use Rattle.network.specs.Routes.{has_endpoints};
 ghost use Rattle.network.specs.Sent.{sent_by, sent_in};
-ghost use Rattle.machine_table.specs.Change.{reacted};
-ghost use Rattle.interleaving_core.specs.Applied.{IsQuiet, applied, can_send, settled};
+ghost use Rattle.machine_table.specs.Change.{can_send, reacted};
+ghost use Rattle.interleaving_core.specs.Applied.{IsQuiet, applied, settled};
 ghost use Rattle.interleaving_core.specs.Endpoints.{ReactionHasEndpoints, SendsWithEndpoints};
 
 use machine_table::{Answer, Refusal};
@@ -27,7 +27,7 @@ pub(crate) fn react<P: Part>(
     ensures done { IfOk result (λ answer. (answer, part.new, flight.new.mail) ≡ applied part.old flight.old.mail (reacted flight.old.capacity flight.old.mail number (P.table part.old message.now))) }
     ensures memory { OnErr result (flight.old.mail.next < (applied part.old flight.old.mail (reacted flight.old.capacity flight.old.mail number (P.table part.old message.now))).2.next) }
     ensures refused { OnErr result (part.new ≡ part.old) }
-    ensures set_up { flight.new ≡ record flight.old { reserved = flight.new.reserved; mail = flight.new.mail } }
+    ensures set_up { flight.new ≡ record flight.old { slots = flight.new.slots; reserved = flight.new.reserved; mail = flight.new.mail } }
     ensures kept { OnErr result (flight.new.mail ≡ flight.old.mail) }
 {
     let sends = part.sends(message);
@@ -62,7 +62,7 @@ fn settle(flight: &mut InFlight, number: MsgNo, reaction: Reaction) -> Answer
     requires capacity { IsTrue (can_send flight.old.capacity flight.old.mail (sent_in reaction)) }
     requires reserved { IsSome (sent_in reaction) → 0 < flight.old.reserved }
     ensures answer { (result, flight.new.mail) ≡ settled flight.old.mail number reaction }
-    ensures set_up { flight.new ≡ record flight.old { reserved = flight.new.reserved; mail = flight.new.mail } }
+    ensures set_up { flight.new ≡ record flight.old { slots = flight.new.slots; reserved = flight.new.reserved; mail = flight.new.mail } }
 {
     match reaction {
         Reaction::Held => Answer::Held,
@@ -90,7 +90,7 @@ pub(crate) fn send(flight: &mut InFlight, message: Message)
     requires endpoints { IsTrue (has_endpoints flight.old.cores flight.old.banks message) }
     requires capacity { IsTrue (has_capacity flight.old.capacity flight.old.mail) }
     requires reserved { 0 < flight.old.reserved }
-    ensures { flight.new ≡ record flight.old { reserved = flight.new.reserved; mail = sent flight.old.mail message } }
+    ensures { flight.new ≡ record flight.old { slots = flight.new.slots; reserved = flight.new.reserved; mail = sent flight.old.mail message } }
 {
     match flight.send(message) {
         Ok(_) => (),
@@ -100,7 +100,7 @@ pub(crate) fn send(flight: &mut InFlight, message: Message)
 
 // Takes a message that is in flight.
 fn take(flight: &mut InFlight, number: MsgNo)
-    ensures after { flight.new ≡ record flight.old { reserved = flight.new.reserved; mail = taken flight.old.mail number } }
+    ensures after { flight.new ≡ record flight.old { slots = flight.new.slots; reserved = flight.new.reserved; mail = taken flight.old.mail number } }
     ensures reserved { flight.old.reserved ≤ flight.new.reserved }
 {
     let _message = flight.take(number);
@@ -112,7 +112,7 @@ fn answer(flight: &mut InFlight, number: MsgNo, message: Message)
     requires endpoints { IsTrue (has_endpoints flight.old.cores flight.old.banks message) }
     requires number { IsTrue (has_number flight.old.mail) }
     requires reserved { 0 < flight.old.reserved }
-    ensures { flight.new ≡ record flight.old { reserved = flight.new.reserved; mail = answered flight.old.mail number message } }
+    ensures { flight.new ≡ record flight.old { slots = flight.new.slots; reserved = flight.new.reserved; mail = answered flight.old.mail number message } }
 {
     let _more = flight.has_capacity();
     take(flight, number);

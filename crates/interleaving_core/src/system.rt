@@ -1,16 +1,16 @@
 //! The machine that users drive, and what is always true of it.
-ghost use Rattle.std.specs.Prelude.{◌≡◌, ◌≢◌, ◌≤◌, ◌<◌, ◌++◌, ◌∷◌, vec_capacity, [], false, true, IfOk, IfErr, IfSome, IsTrue, OnErr, OnOk, IsPermutation, IsSorted, length, map, slice_get, slice_index_or, List, ℕ};
+ghost use Rattle.std.specs.Prelude.{◌≡◌, ◌≢◌, ◌≤◌, ◌<◌, ◌++◌, ◌∷◌, vec_capacity, [], false, true, IfOk, IfErr, IfSome, IsSome, IsTrue, OnErr, OnOk, IsPermutation, IsSorted, length, map, slice_get, slice_index_or, List, ℕ};
 ghost use Rattle.std.specs.Ordering.{nat_cmp};
 ghost use Rattle.physiological_order.specs.Order.{flat, Legal, Arrangement, of_core, replay_end};
 ghost use Rattle.physiological_order.specs.StaleHits.{RisesByNumber};
 ghost use Rattle.physiological_order.specs.declared.operation.Record.{Record};
-ghost use Rattle.network.specs.Numbered.{IsRising};
-ghost use Rattle.machine_table.specs.SetUp.{is_good};
+ghost use Rattle.network.specs.Numbered.{IsRising, at_number};
+ghost use Rattle.machine_table.specs.SetUp.{SetUpAs, is_good};
 ghost use Rattle.machine_table.specs.Machine.{operation_of};
 ghost use Rattle.machine_table.specs.Opening.{at_start};
 ghost use Rattle.protocol.specs.Issued.{IsIssued};
 ghost use Rattle.machine_theorem.specs.Coherence.{owners, coherent};
-ghost use Rattle.machine_theorem.specs.Kept.{SetUpAs, Invariant};
+ghost use Rattle.machine_theorem.specs.Kept.{Invariant};
 ghost use Rattle.interleaving_core.specs.LookUps.{copies, entries, make_room, open_op, victim};
 ghost use Rattle.interleaving_core.specs.Reserved.{completes};
 ghost use Rattle.interleaving_core.specs.Midway.{IsMidway};
@@ -92,12 +92,15 @@ impl System {
 
     /// One event. The answer and the machine afterwards are those of the machine's table; or allocation failed, the answer
     /// is NoMemory, and the machine is unchanged. That comes only if the table issues an operation or sends a message:
-    /// nothing else takes memory.
+    /// nothing else takes memory. A message in flight always finds its part, with a case for it: its delivery is never
+    /// answered NoSuch.
     pub fn step(&mut self, event: Event) -> Answer
         ensures stepped { Stepped self.old event result self.new }
         ensures set_up { SetUpAs self.old self.new }
         ensures advanced { (core : ℕ) → event ≡ Event.Advance core → result ≢ Answer.Refused Refusal.NoMemory }
         ensures completed { (core : ℕ) → event ≡ Event.Attempt core → IfSome (slice_get self.old.cores core) (λ c. IsTrue (completes c) → result ≢ Answer.Refused Refusal.NoMemory) }
+        ensures found { (number : ℕ) → event ≡ Event.Deliver number → IsSome (at_number number self.old.mail.messages) →
+            result ≢ Answer.Refused Refusal.NoSuch }
     {
         self.state.step(event)
     }

@@ -16,7 +16,8 @@ use Rattle.machine_table.specs.Transition.{transition}
 use Rattle.machine_theorem.specs.Bags.{SameBag, bag_of}
 use Rattle.machine_theorem.specs.Cases.{has_case}
 use Rattle.machine_theorem.specs.Coherence.{owners, coherent}
-use Rattle.machine_theorem.specs.Kept.{Invariant, SetUpAs}
+use Rattle.machine_table.specs.SetUp.{SetUpAs}
+use Rattle.machine_theorem.specs.Kept.{Invariant}
 
 pub record Laws : Type 0 where
   -- the initial machine has the invariant, every event keeps it, and so does a change of numbers and capacity

@@ -1,14 +1,16 @@
 -- What an event makes of one part and of the messages in flight. The machine's table and the code that follows it both
 -- stand on these definitions.
-use Rattle.std.specs.Prelude.{ℕ, ◌-◌, true, List, Option, Some, None, Result, Ok, Err, if◌then◌else◌}
+use Rattle.std.specs.Prelude.{ℕ, ◌-◌, Bool, true, Option, Some, None, Result, Ok, Err, if◌then◌else◌}
 use Rattle.physiological_order.specs.declared.operation.Op.{Op}
 use Rattle.physiological_order.specs.declared.operation.Record.{Record}
 use Rattle.network.specs.declared.message.Body.{Body}
 use Rattle.network.specs.declared.message.Body.TheVariants.{ShReq, ExReq}
 use Rattle.network.specs.declared.message.Message.{Message}
+use Rattle.network.specs.declared.message.Node.{Node}
 use Rattle.network.specs.declared.part.Reaction.{Reaction}
 use Rattle.network.specs.declared.part.Reaction.TheVariants.{Done, Dropped, Held, HeldAfter}
 use Rattle.network.specs.Mail.{Mail, has_number, has_capacity, sent, taken, answered}
+use Rattle.network.specs.Sent.{sent_in}
 use Rattle.private_cache.specs.declared.cache.CacheError.{CacheError}
 use Rattle.private_cache.specs.declared.cache.CacheError.TheVariants.{NoRoom, NotHere, Pinned}
 use Rattle.core_pts.specs.declared.attempt.Attempt.{Attempt}
@@ -70,15 +72,24 @@ attempt_open c number capacity mail core (Some op) = attempted_op c number capac
 abbrev pub attempt : ℕ → ℕ → ℕ → Mail → CoreState → Change CoreState
 attempt c number capacity mail core = attempt_open c number capacity mail core core.open_op
 
+-- whether what a reaction sends can be sent: a reply takes the place of the delivered message, and needs a number alone
+abbrev pub can_send : ℕ → Mail → Option (Node × Bool) → Bool
+can_send capacity mail None = true
+can_send capacity mail (Some sends) = if sends.1 then has_capacity capacity mail else has_number mail
+
+-- what a reaction to the message of this number makes of the part and of the messages in flight
+abbrev pub settled : {S : Type 0} → Mail → ℕ → Reaction → S → Change S
+settled mail n Held part = Keeps HeldAnswer
+settled mail n Dropped part = Drops (taken mail n)
+settled mail n (Done None) part = Makes Delivered part (taken mail n)
+settled mail n (Done (Some reply)) part = Makes Delivered part (answered mail n reply)
+settled mail n (HeldAfter started) part = Makes Started part (sent mail started)
+
 -- a message of this number is delivered, by what its part's table says
 abbrev pub reacted : {S : Type 0} → ℕ → Mail → ℕ → Option (Reaction × S) → Change S
 reacted capacity mail n None = Exhausts
-reacted capacity mail n (Some (Held, part)) = Keeps HeldAnswer
-reacted capacity mail n (Some (Dropped, part)) = Drops (taken mail n)
-reacted capacity mail n (Some (Done None, part)) = Makes Delivered part (taken mail n)
-reacted capacity mail n (Some (Done (Some answer), part)) =
-    if has_number mail then Makes Delivered part (answered mail n answer) else Keeps (Refused refusal.NetworkFull)
-reacted capacity mail n (Some (HeldAfter started, part)) = sends capacity mail Started part started
+reacted capacity mail n (Some (reaction, part)) =
+    if can_send capacity mail (sent_in reaction) then settled mail n reaction part else Keeps (Refused refusal.NetworkFull)
 
 -- a copy of a line leaves a core's cache: one that is owned is sent back
 abbrev pub copy_evicted : ℕ → Mail → Result (Option Message) CacheError × CoreState → Change CoreState

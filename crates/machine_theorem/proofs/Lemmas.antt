@@ -8,6 +8,8 @@ pub use Rattle.machine_theorem.proofs.Deliveries.{any_core_delivery}
 pub use Rattle.machine_theorem.proofs.Events.{any_transition}
 -- Every message in flight has a case in the table of the part that it goes to.
 pub use Rattle.machine_theorem.proofs.FoundCases.{messages_find_cases}
+-- A message in flight is always found by its part.
+pub use Rattle.machine_theorem.proofs.Found.{delivery_found}
 -- What holds after any list of events.
 pub use Rattle.machine_theorem.proofs.History.{issued_now, legal_now, one_owner, value_left}
 -- What is found in lists, tables and bags of messages after each change.

@@ -34,7 +34,7 @@ use Rattle.machine_table.specs.Transition.{issued, issue_at, attempt_at, deliver
 use Rattle.machine_theorem.proofs.Changed.{attempted_op, attempt_open, reacted, copy_evicted, entry_evicted, advanced, tested}
 use Rattle.machine_table.specs.declared.event.Answer.{Answer}
 use Rattle.machine_table.specs.Runs.{after_all}
-use Rattle.machine_theorem.specs.Kept.{SetUpAs}
+use Rattle.machine_table.specs.SetUp.{SetUpAs}
 
 pub set_up_same : (m : Machine) → SetUpAs m m
 set_up_same m = record { config = refl; opening = refl; cores = refl }

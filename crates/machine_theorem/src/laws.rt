@@ -7,7 +7,7 @@ ghost use Rattle.physiological_order.specs.declared.operation.Record.{Record};
 ghost use Rattle.physiological_order.specs.Order.{flat, Legal, Arrangement, replay_end, of_core};
 ghost use Rattle.network.specs.Mail.{Mail};
 ghost use Rattle.machine_table.specs.declared.config.Config.{Config};
-ghost use Rattle.machine_table.specs.SetUp.{is_good};
+ghost use Rattle.machine_table.specs.SetUp.{SetUpAs, is_good};
 ghost use Rattle.machine_table.specs.Opening.{at_start};
 ghost use Rattle.machine_table.specs.declared.event.Event.{Event};
 ghost use Rattle.network.specs.declared.message.Message.{Message};
@@ -24,7 +24,7 @@ ghost use Rattle.machine_theorem.specs.Cases.{has_case};
 ghost use Rattle.machine_theorem.specs.PrivateWrites.{private_cores, private_writes, private_records};
 ghost use Rattle.machine_theorem.specs.StaleHit.{two_cores, stale_hit, stale_records};
 ghost use Rattle.machine_theorem.specs.Coherence.{owners, coherent};
-ghost use Rattle.machine_theorem.specs.Kept.{SetUpAs, Invariant};
+ghost use Rattle.machine_theorem.specs.Kept.{Invariant};
 
 /// A machine has the invariant if its parts have their shape and it is, seen line by line, one that the protocol reaches.
 /// What any event makes of such a machine has it as well, and no event changes how it was set up.

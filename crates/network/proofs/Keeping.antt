@@ -1,9 +1,9 @@
 -- What is true of the slots stays true.
-use Rattle.std.proofs.Common.{◌≡◌, ℕ, ◌+◌, ◌-◌, ◌<◌, ◌^◌, ◌++◌, List, [], ◌∷◌, length-append, Option, Some, None, IsTrue, ap, ◌∙◌, arith}
+use Rattle.std.proofs.Common.{◌≡◌, ℕ, ◌+◌, ◌-◌, ◌*◌, ◌<◌, ◌≤◌, ◌^◌, ◌++◌, List, [], ◌∷◌, length, length-append, Option, Some, None, IsTrue, ap, ◌∙◌, arith}
 use Rattle.network.specs.declared.message.Message.{Message}
 use Rattle.network.specs.declared.counts.Counts.{Counts}
 use Rattle.network.specs.declared.message.Body.{Body}
-use Rattle.network.specs.declared.message.Body.TheVariants.{ShReq, ExReq, ShRep, ExRep, RenewRep, UpgradeRep, FlushReq, WbReq, FlushRep, WbRep, DramLd, DramLdRep, DramSt, DramStRep}
+use Rattle.network.specs.declared.message.Body.TheVariants.{RenewRep, UpgradeRep, FlushRep, WbRep}
 use Rattle.network.specs.Flight.{IsKept}
 use Rattle.network.specs.Mail.{AreCounts, counted}
 use Rattle.network.specs.Numbered.{IsRising, at_number, without_number, still_there}
@@ -26,30 +26,33 @@ IsKept-send cores banks capacity next count counts m old new kept is place numbe
       numbered = number;
       counted = rw there (omega (arith, kept.counted, length-append (still_there old) ((next, m) ∷ [])));
       bounded = omega arith;
+      few = rw is (omega (arith, kept.few, length-append old ((next, Some m) ∷ [])));
       endpoints = rw there (AllHaveEndpoints-append cores banks next m (still_there old) kept.endpoints here);
       counts_below = still_below counts next m.body kept.counts_below;
     }
 
-pub IsKept-none : (cores banks capacity next count n : ℕ) (counts : Counts) (old new : List (ℕ × Option Message)) → IsKept cores banks capacity next count counts old → at_number n (still_there old) ≡ None → still_there new ≡ without_number n (still_there old) → IsRising 0 new next → IsKept cores banks capacity next count counts new
-IsKept-none cores banks capacity next count n counts old new kept none after rising =
+pub IsKept-none : (cores banks capacity next count n : ℕ) (counts : Counts) (old new : List (ℕ × Option Message)) → IsKept cores banks capacity next count counts old → at_number n (still_there old) ≡ None → still_there new ≡ without_number n (still_there old) → IsRising 0 new next → length new ≡ length old → IsKept cores banks capacity next count counts new
+IsKept-none cores banks capacity next count n counts old new kept none after rising long =
     let same : still_there new ≡ still_there old = after ∙ without_number-none n (still_there old) none in
     record {
       rising = rising;
       numbered = kept.numbered;
       counted = rw same kept.counted;
       bounded = kept.bounded;
+      few = omega (arith, kept.few, long);
       endpoints = rw same kept.endpoints;
       counts_below = kept.counts_below;
     }
 
-pub IsKept-take : (cores banks capacity next count n : ℕ) (counts : Counts) (m : Message) (old new : List (ℕ × Option Message)) → IsKept cores banks capacity next count counts old → at_number n (still_there old) ≡ Some m → still_there new ≡ without_number n (still_there old) → IsRising 0 new next → IsKept cores banks capacity next (count - 1) counts new
-IsKept-take cores banks capacity next count n counts m old new kept some after rising =
+pub IsKept-take : (cores banks capacity next count n : ℕ) (counts : Counts) (m : Message) (old new : List (ℕ × Option Message)) → IsKept cores banks capacity next count counts old → at_number n (still_there old) ≡ Some m → still_there new ≡ without_number n (still_there old) → IsRising 0 new next → length new ≤ 2 * (count - 1) + 1 → IsKept cores banks capacity next (count - 1) counts new
+IsKept-take cores banks capacity next count n counts m old new kept some after rising few =
     let less = length-without_number n m (still_there old) some in
     record {
       rising = rising;
       numbered = kept.numbered;
       counted = rw after (omega (arith, kept.counted, less));
       bounded = omega (arith, kept.bounded);
+      few = few;
       endpoints = rw after (AllHaveEndpoints-without_number cores banks n (still_there old) kept.endpoints);
       counts_below = kept.counts_below;
     }

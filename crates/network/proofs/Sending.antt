@@ -87,6 +87,12 @@ module _ {X : Type 0} where
   still_there-filter [] = refl
   still_there-filter (x ∷ xs) = without_empty x.0 x.1 xs (still_there-filter xs)
 
+  -- as many slots have their message as messages are still there
+  pub length-filter_full : (xs : List (ℕ × Option X)) → length (filter (λ x. is_some x.1) xs) ≡ length (still_there xs)
+  length-filter_full [] = refl
+  length-filter_full ((n, None) ∷ xs) = length-filter_full xs
+  length-filter_full ((n, Some x) ∷ xs) = ap suc (length-filter_full xs)
+
   pub IsRising-filter : (low high : ℕ) (test : ℕ × X → Bool) (xs : List (ℕ × X)) → IsRising low xs high → IsRising low (filter test xs) high
   IsRising-filter low high test [] rising = rising
   IsRising-filter low high test (x ∷ xs) rising =

@@ -1,5 +1,5 @@
 //! The messages in flight, by number.
-ghost use Rattle.std.specs.Prelude.{◌≡◌, ◌+◌, ◌<◌, ◌≤◌, ◌^◌, ◌++◌, ◌∷◌, [], false, IsTrue, IfOk, IfErr, IfSome, OnOk, OnErr, IsOk, Option, None, Some, option_copied, option_map, length, map};
+ghost use Rattle.std.specs.Prelude.{◌≡◌, ◌+◌, ◌*◌, ◌<◌, ◌≤◌, ◌^◌, ◌++◌, ◌∷◌, [], false, IsTrue, IfOk, IfErr, IfSome, OnOk, OnErr, IsOk, Option, None, Some, option_copied, option_map, length, map};
 ghost use Rattle.network.specs.SetUp.{IsInRange};
 ghost use Rattle.network.specs.Numbered.{IsRising, at_number};
 ghost use Rattle.network.specs.Routes.{has_endpoints};
@@ -27,8 +27,8 @@ pub enum SendError {
 }
 
 /// The messages in flight, each with the number that it got when it was sent. Contracts see the list of both by rising
-/// number, the number that the next one gets, how many of the counted kinds were sent, and how many messages can be sent
-/// before memory is asked for.
+/// number, the number that the next one gets, how many of the counted kinds were sent, how many slots are kept, and how
+/// many messages can be sent before memory is asked for.
 #[derive(Drop)]
 pub struct InFlight {
     cores: u32,
@@ -43,13 +43,13 @@ pub struct InFlight {
 }
 
 impl Model for InFlight {
-    ghost use Rattle.std.specs.Prelude.{◌-◌, vec_capacity, vec_len};
+    ghost use Rattle.std.specs.Prelude.{◌-◌, length, vec_capacity, vec_len};
     ghost use Rattle.network.specs.Flight.{Flight, IsKept};
     ghost use Rattle.network.specs.Numbered.{still_there};
 
     ghost Value = { Flight };
 
-    ghost view = { λ a. record { cores = a.cores; banks = a.banks; capacity = a.capacity; reserved = vec_capacity a.slots - vec_len a.slots; mail = record { messages = still_there a.slots.items; next = a.next; counts = a.counts } } };
+    ghost view = { λ a. record { cores = a.cores; banks = a.banks; capacity = a.capacity; slots = length a.slots.items; reserved = vec_capacity a.slots - vec_len a.slots; mail = record { messages = still_there a.slots.items; next = a.next; counts = a.counts } } };
 
     ghost invariant = { λ a. IsKept a.cores a.banks a.capacity a.next a.count a.counts a.slots.items };
 }
@@ -58,7 +58,7 @@ impl InFlight {
     /// No message in flight, of a machine with 1 to 64 cores and 1 to 8 banks, with room for 1 to 65,536 messages.
     pub fn new(alloc: Global, cores: u32, banks: u32, capacity: u32) -> InFlight
         requires { IsInRange cores banks capacity }
-        ensures { result ≡ record { cores = cores; banks = banks; capacity = capacity; reserved = result.reserved; mail = no_mail } }
+        ensures { result ≡ record { cores = cores; banks = banks; capacity = capacity; slots = 0; reserved = result.reserved; mail = no_mail } }
     {
         InFlight {
             cores,
@@ -110,7 +110,7 @@ impl InFlight {
     pub fn send(&mut self, message: Message) -> Result<MsgNo, (SendError, Message)>
         requires { IsTrue (has_endpoints self.old.cores self.old.banks message) }
         ensures number { IfOk result (λ number. number ≡ self.old.mail.next) }
-        ensures after { OnOk result (self.new ≡ record self.old { reserved = self.new.reserved; mail = sent self.old.mail message }) }
+        ensures after { OnOk result (self.new ≡ record self.old { slots = self.old.slots + 1; reserved = self.new.reserved; mail = sent self.old.mail message }) }
         ensures reserved { OnOk result (self.old.reserved ≤ self.new.reserved + 1) }
         ensures refused { OnErr result (self.new ≡ self.old) }
         ensures returned { IfErr result (λ refusal. refusal.1 ≡ message) }
@@ -139,7 +139,7 @@ impl InFlight {
     /// Takes the message with this number, if it is in flight. This takes no memory, and keeps what is reserved.
     pub fn take(&mut self, number: MsgNo) -> Option<Message>
         ensures value { result ≡ at_number number self.old.mail.messages }
-        ensures after { self.new ≡ record self.old { reserved = self.new.reserved; mail = taken self.old.mail number } }
+        ensures after { self.new ≡ record self.old { slots = self.new.slots; reserved = self.new.reserved; mail = taken self.old.mail number } }
         ensures reserved { self.old.reserved ≤ self.new.reserved }
         ensures endpoints { IfSome result (λ message. IsTrue (has_endpoints self.old.cores self.old.banks message)) }
     {
@@ -147,6 +147,15 @@ impl InFlight {
         self.count -= 1;
         drop_empty(&mut self.slots, self.count as usize);
         Some(message)
+    }
+
+    /// How many slots are kept: one for each message in flight, and those of taken messages that weren't given back yet. At
+    /// most one more of them is empty than has its message, so old messages leave nothing behind.
+    pub fn slots(&self) -> usize
+        ensures slots { result ≡ self.now.slots }
+        ensures bound { result ≤ 2 * length self.now.mail.messages + 1 }
+    {
+        self.slots.len()
     }
 
     /// How many of the counted kinds were sent.
@@ -245,5 +254,37 @@ mod tests {
             [MsgNo(0), MsgNo(2), MsgNo(3)].as_slice()
         );
         Ok(())
+    }
+
+    // One more message is sent and taken: how many slots are kept then.
+    fn slots_after_another(flight: &mut InFlight) -> usize
+        requires cores { flight.old.cores ≡ 2 }
+        requires banks { flight.old.banks ≡ 1 }
+        ensures cores { flight.new.cores ≡ 2 }
+        ensures banks { flight.new.banks ≡ 1 }
+    {
+        let request = message(Node::Core(1), Node::Bank(0), Body::ExReq { version: None });
+        if let Ok(number) = flight.send(request) {
+            let _taken = flight.take(number);
+        }
+        flight.slots()
+    }
+
+    // The first message stays in flight, six others come and go. A slot is kept for the first one and for up to two that
+    // were taken; with the third these three are given back.
+    #[test]
+    fn gives_slots_back(rt: HostRuntime) {
+        let mut flight = InFlight::new(rt.alloc(), 2, 1, 3);
+        let first = message(Node::Core(0), Node::Bank(0), Body::ExReq { version: None });
+        assert_eq!(rt; flight.slots(), 0);
+        assert_eq!(rt; flight.send(first), Ok(MsgNo(0)));
+        assert_eq!(rt; slots_after_another(&mut flight), 2);
+        assert_eq!(rt; slots_after_another(&mut flight), 3);
+        assert_eq!(rt; slots_after_another(&mut flight), 1);
+        assert_eq!(rt; slots_after_another(&mut flight), 2);
+        assert_eq!(rt; slots_after_another(&mut flight), 3);
+        assert_eq!(rt; slots_after_another(&mut flight), 1);
+        let again = message(Node::Core(0), Node::Bank(0), Body::ExReq { version: None });
+        assert_eq!(rt; flight.send(again), Ok(MsgNo(7)));
     }
 }

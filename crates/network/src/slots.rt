@@ -1,5 +1,5 @@
 //! Slots of numbered messages in the order of sending, some of which are empty.
-ghost use Rattle.std.specs.Prelude.{◌≡◌, ◌-◌, ◌<◌, ◌≤◌, ◌^◌, ℕ, None, Some, IfSome, IfNone, IfOk, OnOk, OnErr, IsOk, option_copied, option_map, length, map, slice_get, vec_capacity, vec_len};
+ghost use Rattle.std.specs.Prelude.{◌≡◌, ◌+◌, ◌-◌, ◌*◌, ◌<◌, ◌≤◌, ◌^◌, ℕ, None, Some, IfSome, IfNone, IfOk, OnOk, OnErr, IsOk, option_copied, option_map, length, map, slice_get, vec_capacity, vec_len};
 ghost use Rattle.network.specs.Asked.{is_wanted};
 ghost use Rattle.network.specs.Search.{first_message, count_messages, kept_if, with_message};
 ghost use Rattle.network.specs.Numbered.{IsRising, at_number, number_at, still_there, without_number};
@@ -102,6 +102,7 @@ pub(crate) fn empty_slot(slots: &mut Vec<Slot>, at: usize, number: u64) -> Optio
     ensures after { still_there slots.new.items ≡ without_number number (still_there slots.old.items) }
     ensures rising { (high : ℕ) → IsRising 0 slots.old.items high → IsRising 0 slots.new.items high }
     ensures len { vec_len slots.new ≡ vec_len slots.old }
+    ensures long { length slots.new.items ≡ length slots.old.items }
     ensures capacity { vec_capacity slots.new ≡ vec_capacity slots.old }
 {
     let message = slots[at].1;
@@ -109,8 +110,10 @@ pub(crate) fn empty_slot(slots: &mut Vec<Slot>, at: usize, number: u64) -> Optio
     message
 }
 
-/// Drops the empty slots where they are more than the others.
+/// Drops the empty slots where they are more than the others by two or more. So many slots have their message.
 pub(crate) fn drop_empty(slots: &mut Vec<Slot>, count: usize)
+    requires { count ≡ length (still_there slots.old.items) }
+    ensures few { length slots.new.items ≤ 2 * count + 1 }
     ensures same { still_there slots.new.items ≡ still_there slots.old.items }
     ensures rising { (high : ℕ) → IsRising 0 slots.old.items high → IsRising 0 slots.new.items high }
     ensures room { vec_capacity slots.old - vec_len slots.old ≤ vec_capacity slots.new - vec_len slots.new }
@@ -127,6 +130,7 @@ pub(crate) fn take_message(slots: &mut Vec<Slot>, number: u64) -> Option<Message
     ensures after { still_there slots.new.items ≡ without_number number (still_there slots.old.items) }
     ensures rising { (high : ℕ) → IsRising 0 slots.old.items high → IsRising 0 slots.new.items high }
     ensures len { vec_len slots.new ≡ vec_len slots.old }
+    ensures long { length slots.new.items ≡ length slots.old.items }
     ensures capacity { vec_capacity slots.new ≡ vec_capacity slots.old }
 {
     let at = slot_of(slots, number)?;

@@ -5,11 +5,11 @@ use Rattle.network.specs.Sent.{sent_by}
 use Rattle.llc_bank.specs.BankTable as bank_table
 use Rattle.machine_table.specs.declared.event.Answer.{Answer}
 use Rattle.machine_table.specs.Machine.{Machine}
-use Rattle.machine_table.specs.Change.{reacted}
+use Rattle.machine_table.specs.Change.{can_send, reacted}
 use Rattle.machine_table.specs.Transition.{deliver_bank}
 use Rattle.machine_theorem.specs.Kept.{Invariant}
 use Rattle.interleaving_core.specs.contracts.machine_state.MachineState.{the_view}
-use Rattle.interleaving_core.specs.Applied.{applied, can_send}
+use Rattle.interleaving_core.specs.Applied.{applied}
 use Rattle.interleaving_core.specs.Endpoints.{ReactionHasEndpoints}
 use Rattle.interleaving_core.specs.Stepped.{TakesMemory}
 use Rattle.interleaving_core.proofs.Applied.{made_without, sending_takes, set_same}

@@ -1,5 +1,5 @@
 use Rattle.std.proofs.Common.{◌+◌, ◌-◌, ◌≤◌, length, take, vec_capacity}
-use Rattle.machine_theorem.specs.Kept.{SetUpAs}
+use Rattle.machine_table.specs.SetUp.{SetUpAs}
 use Rattle.interleaving_core.specs.Stepped.{Ran}
 use Rattle.interleaving_core.proofs.system.System.run.Given as goal
 

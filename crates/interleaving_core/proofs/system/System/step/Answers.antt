@@ -1,9 +1,9 @@
-use Rattle.std.proofs.Common.{ap, subst, ◌∙◌}
+use Rattle.std.proofs.Common.{IsSome, ap, sym, subst, ◌∙◌}
+use Rattle.network.specs.Numbered.{at_number}
 use Rattle.machine_table.specs.Machine.{Machine}
-use Rattle.machine_table.specs.SetUp.{is_good}
-use Rattle.machine_theorem.specs.Kept.{SetUpAs}
+use Rattle.machine_table.specs.SetUp.{SetUpAs, is_good}
 use Rattle.interleaving_core.proofs.InOrder.{step_numbers}
-use Rattle.interleaving_core.proofs.Coherence.{step_set_up, step_invariant}
+use Rattle.interleaving_core.proofs.Coherence.{step_found, step_set_up, step_invariant}
 use Rattle.interleaving_core.proofs.system.System.step.Goals as goal
 
 pub invariant_of-self : goal.invariant_of-self
@@ -15,3 +15,8 @@ invariant_of-self c = (
 
 pub returns-clause-set_up : goal.returns-clause-set_up
 returns-clause-set_up c = subst (λ (m : Machine). SetUpAs m c.step.new.self) c.self.view_is (step_set_up _ c.args.event _ _ c.step.ensures.stepped)
+
+pub returns-clause-found : goal.returns-clause-found
+returns-clause-found c = λ number delivers there.
+    step_found _ c.args.event _ _ c.self.invariant.1 c.step.ensures.stepped number delivers
+    (subst (λ (m : Machine). IsSome (at_number number m.mail.messages)) (sym c.self.view_is) there)

@@ -1,4 +1,4 @@
-use Rattle.std.proofs.Common.{◌≡◌, ◌++◌, ◌∷◌, [], Some, refl, ap, ◌∙◌, arith}
+use Rattle.std.proofs.Common.{◌≡◌, ◌+◌, ◌++◌, ◌∷◌, [], length, length-append, Some, refl, ap, ◌∙◌, arith}
 use Rattle.network.proofs.Keeping.{IsKept-send}
 use Rattle.network.proofs.Sending.{still_there-append}
 use Rattle.network.specs.Numbered.{still_there}
@@ -13,4 +13,5 @@ pub returns-clause-after : goal.returns-clause-after
 returns-clause-after c =
     let pushed : c.push_reserved.new.self.items ≡ c.self.inside.slots.items ++ (c.self.inside.next, Some c.args.message) ∷ [] = rw (← c.reserve_slot.ensures.items) c.push_reserved.ensures.items in
     let there : still_there c.push_reserved.new.self.items ≡ still_there c.self.inside.slots.items ++ (c.self.inside.next, c.args.message) ∷ [] = ap still_there pushed ∙ still_there-append c.self.inside.next c.args.message c.self.inside.slots.items in
-    rw (← c.self.view_is, c.with-counts.ensures) (rw there refl)
+    let long : length c.push_reserved.new.self.items ≡ length c.self.inside.slots.items + 1 = ap length pushed ∙ length-append c.self.inside.slots.items ((c.self.inside.next, Some c.args.message) ∷ []) in
+    rw (← c.self.view_is, c.with-counts.ensures) (rw (there, long) refl)

@@ -8,4 +8,6 @@ mod words;
 pub use words::{Job, WordsError, read_words};
 
 #[cfg(test)]
+mod refusals;
+#[cfg(test)]
 mod tests;

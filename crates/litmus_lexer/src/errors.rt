@@ -1,6 +1,6 @@
 //! Why a text is refused.
 
-ghost use Rattle.std.specs.Prelude.{◌≡◌};
+ghost use Rattle.std.specs.Prelude.{◌≡◌, ◌≤◌, length};
 ghost use Rattle.litmus_lexer.specs.declared.errors.ReadError.TheVariants.{Memory, Fault};
 
 use std::alloc::{AllocError, AllocFailed};
@@ -78,9 +78,10 @@ impl Kind {
         }
     }
 
-    /// The kind's name, as it is written here.
+    /// The kind's name, as it is written here, in 14 characters or fewer.
     pub fn name(self) -> &'static str
-        ensures { result.now ≡ name_of_kind self }
+        ensures name { result.now ≡ name_of_kind self }
+        ensures short { length result.now ≤ 14 }
     {
         match self {
             Kind::NoMemory => "NoMemory",

@@ -5,6 +5,7 @@ mod bytes;
 mod cursor;
 mod errors;
 mod first_lines;
+pub mod laws;
 mod limits;
 mod locations;
 mod pulls;

@@ -1,15 +1,15 @@
 -- The line on standard error that says why there is no report.
 use Rattle.std.specs.Prelude.{ℕ, List, ◌++◌, codes, decimal}
+use Rattle.litmus_lexer.specs.Kinds.{name_of_kind, number_of_kind}
 use Rattle.litmus_lexer.specs.declared.errors.LitmusError.{LitmusError}
 use Rattle.run_results.specs.declared.results.RunError.{RunError}
 use Rattle.run_results.specs.declared.results.RunError.TheVariants.{Read, Write, NoMemory, Litmus, BadConfig}
-use Rattle.run_results.specs.Kinds.{kind_name, kind_number}
 
 -- tardis: line L: K NAME
 abbrev pub fault_line : LitmusError → List ℕ
 fault_line fault =
-    codes "tardis: line " ++ decimal fault.line ++ codes ": " ++ decimal (kind_number fault.kind)
-    ++ codes " " ++ kind_name fault.kind ++ codes "\n"
+    codes "tardis: line " ++ decimal fault.line ++ codes ": " ++ decimal (number_of_kind fault.kind)
+    ++ codes " " ++ name_of_kind fault.kind ++ codes "\n"
 
 abbrev pub error_line : RunError → List ℕ
 error_line Read = codes "tardis: read failed\n"

@@ -1,7 +1,6 @@
 //! What a run of the program comes to: done, or an error with its number, its line on standard error and its exit status.
 #![tactic(auto)]
 
-mod kinds;
 mod line;
 mod results;
 

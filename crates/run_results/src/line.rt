@@ -3,7 +3,6 @@
 ghost use Rattle.std.specs.Prelude.{◌≡◌, ◌+◌, ◌++◌, ◌≤◌, length};
 ghost use Rattle.run_results.specs.ErrorLine.{error_line, fault_line};
 
-use crate::kinds::{kind_name, kind_number};
 use crate::results::RunError;
 use arrayvec::ArrayVec;
 use itoa::Buffer;
@@ -38,9 +37,9 @@ fn fault_line(fault: &LitmusError) -> ErrorLine
     let mut line = line_of(b"tardis: line ");
     put(&mut line, digits.format(fault.line).as_bytes());
     put(&mut line, b": ");
-    put(&mut line, digits.format(kind_number(fault.kind)).as_bytes());
+    put(&mut line, digits.format(fault.kind.number()).as_bytes());
     put(&mut line, b" ");
-    put(&mut line, kind_name(fault.kind));
+    put(&mut line, fault.kind.name().as_bytes());
     put(&mut line, b"\n");
     line
 }

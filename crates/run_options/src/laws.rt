@@ -1,0 +1,33 @@
+//! What holds where no option says otherwise. The function does nothing: its contract is the law.
+
+ghost use Rattle.std.specs.Prelude.{◌≡◌, false};
+ghost use Rattle.run_options.specs.declared.options.Schedule.TheVariants.{Round};
+ghost use Rattle.run_options.specs.declared.options.TheConstants.MachineOptions.{DEFAULT as machine_default};
+ghost use Rattle.run_options.specs.declared.options.TheConstants.RunOptions.{DEFAULT as run_default};
+ghost use Rattle.run_options.specs.declared.options.TheConstants.LitmusOptions.{DEFAULT as litmus_default};
+
+/// A machine has a lease of 10, the time 0, one bank, private caches of 64 sets of 4 lines, a bank of 256 sets of 8 lines,
+/// lines of one word, 4,096 messages in flight and no private writes. A run is by rounds, at most 100,000 of them, with
+/// one worker. A test is run once.
+pub fn defaults_are_these()
+    ensures machine { machine_default ≡ record {
+      lease = 10;
+      time = 0;
+      banks = 1;
+      sets = 64;
+      ways = 4;
+      bank_sets = 256;
+      bank_ways = 8;
+      line_words = 1;
+      messages = 4096;
+      private_write = false;
+    } }
+    ensures run { run_default ≡ record {
+      schedule = Round;
+      seed = 0;
+      workers = 1;
+      limit = 100000;
+      machine = machine_default;
+    } }
+    ensures litmus { litmus_default ≡ record { runs = 1; run = run_default } }
+{}

@@ -1,5 +1,6 @@
 -- What a read and a write do, and that a failure is counted.
-use Rattle.std.specs.Prelude.{◌≡◌, ℕ, suc, ◌<◌, ◌≤◌, List, [], ◌++◌, length, take, Option, Some, None, Result, Ok, Err}
+use Rattle.std.specs.Prelude.{◌≡◌, ℕ, suc, ◌<◌, ◌≤◌, List, [], ◌++◌, length, take, Option, Some, None, Result, Ok}
+use Rattle.std.specs.Prelude.{Err}
 use Rattle.byte_streams.specs.declared.device.DeviceError.{DeviceError}
 
 -- known bytes begin with these, and lose them
@@ -14,7 +15,8 @@ AtEnd (Some bytes) = bytes ≡ []
 
 -- n bytes came, which are the buffer's first; none only at the end or without room
 abbrev pub Gives : Option (List ℕ) → Option (List ℕ) → Result ℕ DeviceError → List ℕ → Type 0
-Gives old new (Ok n) buffer = (n ≤ length buffer) × Loses old new (take n buffer) × (n ≡ 0 → 0 < length buffer → AtEnd old)
+Gives old new (Ok n) buffer =
+    (n ≤ length buffer) × Loses old new (take n buffer) × (n ≡ 0 → 0 < length buffer → AtEnd old)
 Gives old new (Err e) buffer = Loses old new []
 
 -- known bytes grow by these

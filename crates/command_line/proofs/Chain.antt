@@ -4,8 +4,10 @@ use Rattle.clap.specs.Words.{App, Rule, Text, with_rule}
 use Rattle.clap.specs.declared.builder.value_parser.ValueParser.{ValueParser}
 use Rattle.command_line.specs.App.{number_rule}
 
-pub next : {new old was : App} {made rule : Rule} → new ≡ with_rule old made → old ≡ was → made ≡ rule → new ≡ with_rule was rule
+pub next : {new old was : App} {made rule : Rule} → new ≡ with_rule old made → old ≡ was → made ≡ rule →
+    new ≡ with_rule was rule
 next e o r = e ∙ ap₂ with_rule o r
 
-pub ranged : (made : Rule) (name default : Text) (p q : ValueParser) → made ≡ number_rule name default p → p ≡ q → made ≡ number_rule name default q
+pub ranged : (made : Rule) (name default : Text) (p q : ValueParser) → made ≡ number_rule name default p → p ≡ q →
+    made ≡ number_rule name default q
 ranged made name default p q e f = e ∙ ap (number_rule name default) f

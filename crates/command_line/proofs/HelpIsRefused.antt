@@ -1,12 +1,17 @@
 -- Words that name the command help are refused, so words that aren't refused name the one command that the program has.
-use Rattle.std.proofs.Common.{◌≡◌, ◌≢◌, cond, ℕ, Bool, true, false, List, [], ◌∷◌, Option, Some, None, refl, sym, ap, ◌∙◌, true≢false, if◌then◌else◌, codes}
+use Rattle.std.proofs.Common.{◌≡◌, ◌≢◌, cond, ℕ, Bool, true, false, List, [], ◌∷◌, Option, Some, None, refl, sym, ap}
+use Rattle.std.proofs.Common.{◌∙◌, true≢false, if◌then◌else◌, codes}
 use Rattle.std.specs.Prelude.{fold, find, option_and_then, option_map, ◌||◌}
 use Rattle.std.specs.Option.{option_map_or}
 use Rattle.std.specs.Str.{bytes_eq}
 use Rattle.std.proofs.lemmas.Slice.Eq.{bytes_eq-Decides}
-use Rattle.clap.specs.Walk.{Held, Names, Outcome, Rule, Row, Step, Text, Waiting, Walk, after_flag, after_step, answers_to, arg_by_index, done, idle, long_or_other, next, option, plain_word, plain as kept, positional, refused, short_or_plain, subcommand, subcommand_met, subcommand_or_other, to_positional, trailing, value, waits, walked, walked_from}
+use Rattle.clap.specs.Walk.{Held, Names, Outcome, Rule, Row, Step, Text, Waiting, Walk, after_flag, after_step}
+use Rattle.clap.specs.Walk.{answers_to, arg_by_index, done, idle, long_or_other, next, option, plain_word}
+use Rattle.clap.specs.Walk.{plain as kept, positional, refused, short_or_plain, subcommand, subcommand_met}
+use Rattle.clap.specs.Walk.{subcommand_or_other, to_positional, trailing, value, waits, walked, walked_from}
 use Rattle.clap.specs.Lexer.{long_of, short_of}
-use Rattle.clap.specs.Simple.{Shape, argument_words, built, built_leaf, help_shape, label_of, names_of, rows_at, subcommand_of}
+use Rattle.clap.specs.Simple.{Shape, argument_words, built, built_leaf, help_shape, label_of, names_of, rows_at}
+use Rattle.clap.specs.Simple.{subcommand_of}
 use Rattle.clap.specs.Faults.{fault_of, other_fault, turn_fault, walk_fault}
 use Rattle.clap.specs.Kinds.{Kinds, or_else}
 use Rattle.clap.specs.Walk.{nothing_held, walk, walk_from}
@@ -35,13 +40,15 @@ plain c idle word h = tt
 plain c (option id) word h = tt
 plain c positional word h = tt
 
-after : (c : List Rule) (waiting : Waiting) (word : Text) (h : Held) (o : Outcome) → NotNamed (after_flag c waiting word h o).1
+after : (c : List Rule) (waiting : Waiting) (word : Text) (h : Held) (o : Outcome) →
+    NotNamed (after_flag c waiting word h o).1
 after c waiting word h done = tt
 after c waiting word h (waits id) = tt
 after c waiting word h kept = plain c waiting word h
 after c waiting word h refused = plain c waiting word h
 
-long_or : (c : List Rule) (waiting : Waiting) (word : Text) (o : Option (Text × Option Text)) (h : Held) → NotNamed (long_or_other c waiting word o h).1
+long_or : (c : List Rule) (waiting : Waiting) (word : Text) (o : Option (Text × Option Text)) (h : Held) →
+    NotNamed (long_or_other c waiting word o h).1
 long_or c waiting word (Some p) h = after c waiting word _ _
 long_or c waiting word None h = short (short_of word)
   where
@@ -49,10 +56,12 @@ long_or c waiting word None h = short (short_of word)
     short (Some flags) = after c waiting word _ _
     short None = plain c waiting word h
 
-other : (c : List Rule) (waiting : Waiting) (position : ℕ) (word : Text) (h : Held) → NotNamed (subcommand_or_other c None waiting position word h).1
+other : (c : List Rule) (waiting : Waiting) (position : ℕ) (word : Text) (h : Held) →
+    NotNamed (subcommand_or_other c None waiting position word h).1
 other c waiting position word h = by (bytes_eq word (45 ∷ 45 ∷ []))
   where
-    by : (b : Bool) → NotNamed (let r : Held × Step = if b then (h, trailing position) else long_or_other c waiting word (long_of word) h in r).1
+    by : (b : Bool) → NotNamed (let r : Held × Step = if b then (h, trailing position) else long_or_other c waiting
+        word (long_of word) h in r).1
     by true = tt
     by false = long_or c waiting word (long_of word) h
 
@@ -62,7 +71,8 @@ abbrev NoHelp : Option (Text × List Text) → Type 0
 NoHelp None = Unit {0}
 NoHelp (Some p) = bytes_eq p.0 (codes "help") ≡ false
 
-goes_on : (c : List Rule) (word : Text) (w : Walk) (h : Held) (step : Step) → NotNamed step → w.stopped ≡ None → (after_step c word w h step).stopped ≡ None
+goes_on : (c : List Rule) (word : Text) (w : Walk) (h : Held) (step : Step) → NotNamed step → w.stopped ≡ None →
+    (after_step c word w h step).stopped ≡ None
 goes_on c word w h (subcommand name) n e = absurd n
 goes_on c word w h (next waiting) n e = e
 goes_on c word w h (trailing position) n e = e
@@ -79,30 +89,41 @@ module _ (s : Shape) (names : Names) (enabled : s.disable_help_subcommand ≡ fa
     where
       by : (b : Bool) → bytes_eq name (codes "help") ≡ b → b ≡ false
       by false is = refl
-      by true is = let bad : other_fault s (Some name) word h ≢ [] = rw (is, enabled) (λ none. absurd cc) in absurd (bad e)
+      by true is = let bad : other_fault s (Some name) word h ≢ [] =
+          rw (is, enabled) (λ none. absurd cc) in absurd (bad e)
 
   met_next : (w : Walk) (word : Text) (o : Option Text) → other_fault s o word w.held ≡ [] → w.stopped ≡ None
-      → NoHelp (let met = subcommand_or_other s.rules o w.waiting w.position word w.held in after_step s.rules word w met.0 met.1).stopped
+      → NoHelp (let met = subcommand_or_other s.rules o w.waiting w.position word w.held in
+      after_step s.rules word w met.0 met.1).stopped
   met_next w word (Some name) passes e = named name word w.held passes
-  met_next w word None passes e = rw (goes_on s.rules word w _ _ (other s.rules w.waiting w.position word w.held) e) tt
+  met_next w word None passes e =
+      rw (goes_on s.rules word w _ _ (other s.rules w.waiting w.position word w.held) e) tt
 
-  trails : (w : Walk) (word : Text) (b : Bool) → cond b [] (other_fault s (subcommand_met names w.waiting word) word w.held) ≡ [] → w.stopped ≡ None
-      → NoHelp (let met : Held × Step = if b then (w.held, value) else subcommand_or_other s.rules (subcommand_met names w.waiting word) w.waiting w.position word w.held in after_step s.rules word w met.0 met.1).stopped
+  trails : (w : Walk) (word : Text) (b : Bool) → cond b [] (other_fault s (subcommand_met names w.waiting word) word
+      w.held) ≡ [] → w.stopped ≡ None
+      → NoHelp (let met : Held × Step = if b then (w.held, value) else subcommand_or_other s.rules
+      (subcommand_met names w.waiting word) w.waiting w.position word w.held in
+      after_step s.rules word w met.0 met.1).stopped
   trails w word true passes e = rw (goes_on s.rules word w w.held value tt e) tt
   trails w word false passes e = met_next w word (subcommand_met names w.waiting word) passes e
 
-  one_word : (w : Walk) (word : Text) (o : Option (Text × List Text)) → w.stopped ≡ o → turn_fault s names w word ≡ [] → NoHelp o → NoHelp (walked_from s.rules names o w word).stopped
+  one_word : (w : Walk) (word : Text) (o : Option (Text × List Text)) → w.stopped ≡ o →
+      turn_fault s names w word ≡ [] → NoHelp o → NoHelp (walked_from s.rules names o w word).stopped
   one_word w word (Some p) e passes before = before
-  one_word w word None e passes before = trails w word w.is_trailing (no_first _ _ (let t : _ = passes in rw (e) at t)) e
+  one_word w word None e passes before =
+      trails w word w.is_trailing (no_first _ _ (let t : _ = passes in rw (e) at t)) e
 
-  next_word : (w : Walk) (word : Text) → turn_fault s names w word ≡ [] → NoHelp w.stopped → NoHelp (walked s.rules names w word).stopped
+  next_word : (w : Walk) (word : Text) → turn_fault s names w word ≡ [] → NoHelp w.stopped →
+      NoHelp (walked s.rules names w word).stopped
   unfolding walked
   next_word w word passes before = one_word w word w.stopped refl passes before
 
-  all_words : (w : Walk) (ws : List Text) → walk_fault s names w ws ≡ [] → NoHelp w.stopped → NoHelp (fold (walked s.rules names) w ws).stopped
+  all_words : (w : Walk) (ws : List Text) → walk_fault s names w ws ≡ [] → NoHelp w.stopped →
+      NoHelp (fold (walked s.rules names) w ws).stopped
   unfolding walk_fault
   all_words w [] passes before = before
-  all_words w (word ∷ ws) passes before = all_words (walked s.rules names w word) ws (no_second _ _ passes) (next_word w word (no_first _ _ passes) before)
+  all_words w (word ∷ ws) passes before = all_words (walked s.rules names w word) ws (no_second _ _ passes)
+      (next_word w word (no_first _ _ passes) before)
 
 -- ---- the program's one command
 
@@ -111,7 +132,8 @@ or_false true e = refl
 or_false false e = e
 
 -- of two commands, of which the second is help, the first is entered
-module _ (first second : Shape) (helps : (word : Text) → answers_to word (label_of second) ≡ (bytes_eq (codes "help") word || false)) where
+module _ (first second : Shape) (helps : (word : Text) → answers_to word (label_of second) ≡
+    (bytes_eq (codes "help") word || false)) where
   abbrev picked : Bool → Bool → Option Shape
   picked b h = if b then Some first else (if h then Some second else None)
 
@@ -120,22 +142,28 @@ module _ (first second : Shape) (helps : (word : Text) → answers_to word (labe
   name_in o = option_map_or (λ q. q.0) o []
 
   first_entered : (stop : Option (Text × List Text)) (n : Text) (r : List Row) → NoHelp stop
-      → option_and_then (λ q. option_map (λ s. rows_at s q.1) (find (λ s. answers_to q.0 (label_of s)) (first ∷ second ∷ []))) stop ≡ Some (n, r) → n ≡ first.name
+      → option_and_then (λ q. option_map (λ s. rows_at s q.1) (find (λ s. answers_to q.0 (label_of s))
+      (first ∷ second ∷ []))) stop ≡ Some (n, r) → n ≡ first.name
   first_entered None n r apart e = absurd cc
-  first_entered (Some q) n r apart e = by (answers_to q.0 (label_of first)) (answers_to q.0 (label_of second)) refl refl
+  first_entered (Some q) n r apart e =
+      by (answers_to q.0 (label_of first)) (answers_to q.0 (label_of second)) refl refl
     where
       rows : Option Shape → Option (Text × List Row)
       rows o = option_map (λ s. rows_at s q.1) o
 
-      found : (b h : Bool) → answers_to q.0 (label_of first) ≡ b → answers_to q.0 (label_of second) ≡ h → find (λ s. answers_to q.0 (label_of s)) (first ∷ second ∷ []) ≡ picked b h
+      found : (b h : Bool) → answers_to q.0 (label_of first) ≡ b → answers_to q.0 (label_of second) ≡ h →
+          find (λ s. answers_to q.0 (label_of s)) (first ∷ second ∷ []) ≡ picked b h
       found b h one two = rw (one, two) refl
 
       by : (b h : Bool) → answers_to q.0 (label_of first) ≡ b → answers_to q.0 (label_of second) ≡ h → n ≡ first.name
       by true h one two = sym (ap name_in (sym (ap rows (found true h one two)) ∙ e))
       by false true one two =
           let same : bytes_eq (codes "help") q.0 ≡ true = or_false _ (sym (helps q.0) ∙ two) in
-          absurd (true≢false (sym ((bytes_eq-Decides q.0 (codes "help")).1 (sym ((bytes_eq-Decides (codes "help") q.0).0 same))) ∙ apart))
-      by false false one two = let none : None ≡ Some (n, r) = sym (ap rows (found false false one two)) ∙ e in absurd cc
+          absurd (true≢false
+          (sym ((bytes_eq-Decides q.0 (codes "help")).1 (sym ((bytes_eq-Decides (codes "help") q.0).0 same)))
+          ∙ apart))
+      by false false one two = let none : None ≡ Some (n, r) =
+          sym (ap rows (found false false one two)) ∙ e in absurd cc
 
 enabled : (p : ValueParser) → (built (tardis_app p)).top.disable_help_subcommand ≡ false
 unfolding clap_on_literals
@@ -145,7 +173,8 @@ subs : (p : ValueParser) → (built (tardis_app p)).subs ≡ built_leaf (litmus_
 unfolding clap_on_literals
 subs p = refl
 
-pub litmus_is_named : (p : ValueParser) (words : List Text) (n : Text) (r : List Row) → fault_of (tardis_app p) words ≡ [] → subcommand_of (tardis_app p) words ≡ Some (n, r) → n ≡ codes "litmus"
+pub litmus_is_named : (p : ValueParser) (words : List Text) (n : Text) (r : List Row) → fault_of (tardis_app p)
+    words ≡ [] → subcommand_of (tardis_app p) words ≡ Some (n, r) → n ≡ codes "litmus"
 litmus_is_named p words n r passes e =
     let top = (built (tardis_app p)).top in
     let names = names_of (built (tardis_app p)) in
@@ -153,4 +182,5 @@ litmus_is_named p words n r passes e =
     let stop = (walk top.rules names nothing_held given).stopped in
     first_entered (built_leaf (litmus_app p).top) (built_leaf help_shape) (λ word. refl) stop n r
     (all_words top names (enabled p) (walk_from nothing_held) given (no_first _ _ passes) tt)
-    (ap (λ shapes. option_and_then (λ q. option_map (λ s. rows_at s q.1) (find (λ s. answers_to q.0 (label_of s)) shapes)) stop) (sym (subs p)) ∙ e)
+    (ap (λ shapes. option_and_then (λ q. option_map (λ s. rows_at s q.1) (find (λ s. answers_to q.0 (label_of s))
+    shapes)) stop) (sym (subs p)) ∙ e)

@@ -16,11 +16,13 @@ up_to most = Unsigned 1 most
 
 -- the word round, and no other
 abbrev pub IsRoundOnly : ValueParser → Type 0
-IsRoundOnly p = (names : Bor (List (Bor Text))) × (p ≡ Names names) × (map (λ name. name.now) names.now ≡ codes "round" ∷ [])
+IsRoundOnly p =
+    (names : Bor (List (Bor Text))) × (p ≡ Names names) × (map (λ name. name.now) names.now ≡ codes "round" ∷ [])
 
 -- --name N, which is a default where it isn't given
 abbrev pub number_rule : Text → Text → ValueParser → Rule
-number_rule name default p = record (new_rule name) { long = Some name; action = Some Set; parser = Some p; defaults = default ∷ [] }
+number_rule name default p =
+    record (new_rule name) { long = Some name; action = Some Set; parser = Some p; defaults = default ∷ [] }
 
 abbrev pub schedule_rule : ValueParser → Rule
 schedule_rule p = number_rule (codes "schedule") (codes "round") p
@@ -64,4 +66,5 @@ litmus_app p = with_rule (with_rules (with_rules (new_app (codes "litmus")) (run
 
 -- the program wants a command
 abbrev pub tardis_app : ValueParser → App
-tardis_app p = let app = with_subcommand (new_app (codes "tardis")) (litmus_app p).top in record app { top = record (app.top) { subcommand_required = true } }
+tardis_app p = let app = with_subcommand (new_app (codes "tardis")) (litmus_app p).top in
+    record app { top = record (app.top) { subcommand_required = true } }

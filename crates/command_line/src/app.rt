@@ -3,7 +3,8 @@
 ghost use Rattle.std.specs.Prelude.{◌≡◌, IfOk, false, true};
 ghost use Rattle.clap.specs.Words.{app_of, rule_of, with_rule};
 ghost use Rattle.clap.specs.declared.builder.command.Command.TheViews.{out-Command as fields_of};
-ghost use Rattle.command_line.specs.App.{IsRoundOnly, any_number, up_to, number_rule, schedule_rule, flag_rule, file_rule, with_rules, run_rules, machine_rules, litmus_app, tardis_app};
+ghost use Rattle.command_line.specs.App.{IsRoundOnly, any_number, up_to, number_rule, schedule_rule, flag_rule};
+ghost use Rattle.command_line.specs.App.{file_rule, with_rules, run_rules, machine_rules, litmus_app, tardis_app};
 
 use clap::builder::ValueParser;
 use clap::{Arg, ArgAction, Command, value_parser};

@@ -1,5 +1,6 @@
 -- What every attempt and every recall keeps.
-use Rattle.std.specs.Prelude.{◌≡◌, ℕ, ◌<◌, ◌≤◌, ◌%◌, Bool, true, false, ◌&&◌, Option, Some, None, Ok, Err, ◌+◌, slice_index}
+use Rattle.std.specs.Prelude.{◌≡◌, ℕ, ◌<◌, ◌≤◌, ◌%◌, Bool, true, false, ◌&&◌, Option, Some, None, Ok, Err, ◌+◌}
+use Rattle.std.specs.Prelude.{slice_index}
 use Rattle.physiological_order.specs.declared.operation.Op.{Op}
 use Rattle.physiological_order.specs.declared.operation.Op.TheVariants.{Load, Store, Swap}
 use Rattle.network.specs.declared.message.Node.{Node}

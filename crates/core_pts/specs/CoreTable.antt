@@ -1,12 +1,14 @@
 -- A core as data, and what each event makes of it.
-use Rattle.std.specs.Prelude.{ℕ, ◌+◌, ◌-◌, ◌/◌, ◌%◌, ◌^◌, ◌==◌, nat_lt, Bool, true, false, ◌&&◌, Option, Some, None, Result, Ok, Err, if◌then◌else◌}
+use Rattle.std.specs.Prelude.{ℕ, ◌+◌, ◌-◌, ◌/◌, ◌%◌, ◌^◌, ◌==◌, nat_lt, Bool, true, false, ◌&&◌, Option, Some, None}
+use Rattle.std.specs.Prelude.{Result, Ok, Err, if◌then◌else◌}
 use Rattle.physiological_order.specs.declared.operation.Op.{Op}
 use Rattle.physiological_order.specs.declared.operation.Op.TheVariants.{Load, Store, Swap}
 use Rattle.physiological_order.specs.Order.{address}
 use Rattle.network.specs.declared.message.Node.{Node}
 use Rattle.network.specs.declared.message.Node.TheVariants.{Core, Bank}
 use Rattle.network.specs.declared.message.Body.{Body}
-use Rattle.network.specs.declared.message.Body.TheVariants.{ShRep, ExRep, RenewRep, UpgradeRep, FlushReq, WbReq, FlushRep}
+use Rattle.network.specs.declared.message.Body.TheVariants.{ShRep, ExRep, RenewRep, UpgradeRep, FlushReq, WbReq}
+use Rattle.network.specs.declared.message.Body.TheVariants.{FlushRep}
 use Rattle.network.specs.declared.message.Message.{Message}
 use Rattle.network.specs.declared.part.Reaction.{Reaction}
 use Rattle.network.specs.declared.part.Reaction.TheVariants.{Done, Dropped, Held}
@@ -19,12 +21,14 @@ use Rattle.private_cache.specs.CopyTable.{copy_of, place_for, with_used, with_ch
 use Rattle.timestamp_manager.specs.Lease.{fits}
 use Rattle.core_pts.specs.declared.config.CoreConfig.{CoreConfig}
 use Rattle.core_pts.specs.declared.attempt.Attempt.{Attempt}
-use Rattle.core_pts.specs.declared.attempt.Attempt.TheVariants.{Completed, NeedShared, NeedExclusive, NoRoom, Waiting, Idle}
+use Rattle.core_pts.specs.declared.attempt.Attempt.TheVariants.{Completed, NeedShared, NeedExclusive, NoRoom, Waiting}
+use Rattle.core_pts.specs.declared.attempt.Attempt.TheVariants.{Idle}
 use Rattle.core_pts.specs.declared.attempt.IssueError.{IssueError}
 use Rattle.core_pts.specs.declared.attempt.IssueError.TheVariants.{Busy, TooMany}
 use Rattle.core_pts.specs.OnCopy.{is_exclusive, serves, time_of, received_at, copy_after, words_of_copy, at_core}
 use Rattle.core_pts.specs.declared.decision.CoreReaction.{CoreReaction}
-use Rattle.core_pts.specs.declared.decision.CoreReaction.TheVariants.{Arrives, Grants, Returns, Drops, Holds, TooLate, NoCase}
+use Rattle.core_pts.specs.declared.decision.CoreReaction.TheVariants.{Arrives, Grants, Returns, Drops, Holds, TooLate}
+use Rattle.core_pts.specs.declared.decision.CoreReaction.TheVariants.{NoCase}
 
 pub record CoreState : Type 0 where
   -- its number, and the numbers that the machine was set up with

@@ -1,5 +1,6 @@
 //! A core and what it does by itself: it takes an operation, attempts it, raises its time and evicts copies.
-ghost use Rattle.std.specs.Prelude.{◌≡◌, ◌≢◌, ◌⊎◌, ◌<◌, ◌≤◌, ◌%◌, ◌^◌, IfOk, IfSome, IsPermutation, IsSorted, IsSome, IsTrue, is_some, not, true, option_copied, option_map, Some};
+ghost use Rattle.std.specs.Prelude.{◌≡◌, ◌≢◌, ◌⊎◌, ◌<◌, ◌≤◌, ◌%◌, ◌^◌, IfOk, IfSome, IsPermutation, IsSorted, IsSome};
+ghost use Rattle.std.specs.Prelude.{IsTrue, is_some, not, true, option_copied, option_map, Some};
 ghost use Rattle.std.specs.Ordering.{nat_cmp};
 ghost use Rattle.std.specs.Result.{result_ok};
 ghost use Rattle.line_sets.specs.Geometry.{IsGeometry};
@@ -7,7 +8,8 @@ ghost use Rattle.line_sets.specs.SetTable.{all_listed};
 ghost use Rattle.private_cache.specs.CopyTable.{copy_of, place_for, victim_for, without_copy};
 ghost use Rattle.physiological_order.specs.Order.{address};
 ghost use Rattle.core_pts.specs.SetUp.{IsInRange};
-ghost use Rattle.core_pts.specs.CoreTable.{advance, attempt, attempt_unserved, attempt_without, completed_at, evict, index_of, is_on, issue, line_of, need, opened, pinned_line, to_bank};
+ghost use Rattle.core_pts.specs.CoreTable.{advance, attempt, attempt_unserved, attempt_without, completed_at, evict};
+ghost use Rattle.core_pts.specs.CoreTable.{index_of, is_on, issue, line_of, need, opened, pinned_line, to_bank};
 
 use crate::attempt::{Attempt, IssueError};
 use crate::config::CoreConfig;
@@ -109,7 +111,8 @@ impl Core {
         ensures line { result ≡ victim_for self.now.cache line }
         ensures full { is_some result ≡ not (place_for self.now.cache line) }
         ensures there { IfSome result (λ victim. IsSome (copy_of self.now.cache victim)) }
-        ensures makes_place { IfSome result (λ victim. IsTrue (place_for (without_copy self.now.cache victim) line)) }
+        ensures makes_place { IfSome result
+            (λ victim. IsTrue (place_for (without_copy self.now.cache victim) line)) }
     {
         self.cache.victim(line)
     }

@@ -61,9 +61,11 @@ impl Part for Core {
     /// What a core does with a message. NoMemory is never answered.
     fn deliver(&mut self, message: &Message) -> Result<Reaction, PartError>
         requires { IsTrue (core_has_case self.old message.now) }
-        ensures done { IfOk result (λ reaction. core_table self.old message.now ≡ Some (reaction, self.new)) }
+        ensures done { IfOk result (λ reaction. core_table self.old message.now ≡ Some
+            (reaction, self.new)) }
         ensures refused { OnErr result (self.new ≡ self.old) }
-        ensures exhausted { result ≡ Err PartError.Exhausted → core_table self.old message.now ≡ None }
+        ensures exhausted { result ≡ Err PartError.Exhausted →
+            core_table self.old message.now ≡ None }
         ensures fits { core_table self.old message.now ≡ None → result ≡ Err PartError.Exhausted }
         ensures wanted { result ≡ Err PartError.NoMemory →
             IsTrue (is_some (sent_by (core_table self.old message.now))) }

@@ -1,5 +1,8 @@
 //! Laws of a core's table. The functions do nothing: their contracts are the laws.
-ghost use Rattle.core_pts.specs.CoreLaws.{CompletesOnCopy, FlushOfOpenLineHeld, IdleCoreIssues, LoadReceivesWord, NothingCompletedKeeps, PrivateWriteNotBefore, SharedReadInLease, SwapReceivesWord, TimeNeverFalls, WriteAfterReaders, WriteBackOfOpenLineHeld, WritesOwnedCopy};
+ghost use Rattle.core_pts.specs.CoreLaws.{CompletesOnCopy, FlushOfOpenLineHeld, IdleCoreIssues, LoadReceivesWord};
+ghost use Rattle.core_pts.specs.CoreLaws.{NothingCompletedKeeps, PrivateWriteNotBefore, SharedReadInLease};
+ghost use Rattle.core_pts.specs.CoreLaws.{SwapReceivesWord, TimeNeverFalls, WriteAfterReaders};
+ghost use Rattle.core_pts.specs.CoreLaws.{WriteBackOfOpenLineHeld, WritesOwnedCopy};
 
 /// An attempt completes only the open operation, and only on a copy of its line; a load receives the copy's word, and
 /// so does a swap.

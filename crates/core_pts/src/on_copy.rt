@@ -1,6 +1,7 @@
 //! What an operation does with a copy of its line: whether the copy serves it, when, and what is left.
 ghost use Rattle.std.specs.Prelude.{◌≡◌, ◌<◌};
-ghost use Rattle.core_pts.specs.OnCopy.{copy_after, is_exclusive, read_at, received_at, serves, time_of, words_of_copy, write_time, written_at};
+ghost use Rattle.core_pts.specs.OnCopy.{copy_after, is_exclusive, read_at, received_at, serves, time_of};
+ghost use Rattle.core_pts.specs.OnCopy.{words_of_copy, write_time, written_at};
 
 use network::TimedLine;
 use physiological_order::Op;

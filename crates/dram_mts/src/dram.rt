@@ -1,5 +1,6 @@
 //! The DRAM behind a bank.
-ghost use Rattle.std.specs.Prelude.{◌≡◌, ◌<◌, false, None, Some, IsTrue, IfOk, OnOk, OnErr, IsSome, is_some, IsOk, slice_set};
+ghost use Rattle.std.specs.Prelude.{◌≡◌, ◌<◌, false, None, Some, IsTrue, IfOk, OnOk, OnErr, IsSome, is_some, IsOk};
+ghost use Rattle.std.specs.Prelude.{slice_set};
 ghost use Rattle.std.specs.FinMap as map;
 ghost use Rattle.dram_mts.specs.Lines.{words_of};
 
@@ -103,9 +104,11 @@ impl Part for Dram {
 
     fn deliver(&mut self, message: &Message) -> Result<Reaction, PartError>
         requires { IsTrue (dram_has_case self.old message.now) }
-        ensures done { IfOk result (λ reaction. dram_table self.old message.now ≡ Some (reaction, self.new)) }
+        ensures done { IfOk result (λ reaction. dram_table self.old message.now ≡ Some
+            (reaction, self.new)) }
         ensures refused { OnErr result (self.new ≡ self.old) }
-        ensures exhausted { result ≡ Err PartError.Exhausted → dram_table self.old message.now ≡ None }
+        ensures exhausted { result ≡ Err PartError.Exhausted →
+            dram_table self.old message.now ≡ None }
         ensures fits { dram_table self.old message.now ≡ None → result ≡ Err PartError.Exhausted }
         ensures wanted { result ≡ Err PartError.NoMemory →
             IsTrue (is_some (sent_by (dram_table self.old message.now))) }

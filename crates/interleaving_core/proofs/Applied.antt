@@ -1,5 +1,7 @@
 -- A part that has changed, put back among the others.
-use Rattle.std.proofs.Common.{◌≡◌, ℕ, zero, suc, ◌<◌, ◌≤◌, ◌||◌, Bool, true, false, List, [], ◌∷◌, length, set, Option, Some, None, IsSome, IsTrue, OnErr, Result, Ok, Err, refl, sym, ap, ◌∙◌, inr, subst, arith}
+use Rattle.std.proofs.Common.{◌≡◌, ℕ, zero, suc, ◌<◌, ◌≤◌, ◌||◌, Bool, true, false, List, [], ◌∷◌, length, set}
+use Rattle.std.proofs.Common.{Option, Some, None, IsSome, IsTrue, OnErr, Result, Ok, Err, refl, sym, ap, ◌∙◌, inr}
+use Rattle.std.proofs.Common.{subst, arith}
 use Rattle.std.specs.List.{slice_get}
 use Rattle.std.specs.Ordering.{nat_cmp}
 use Rattle.std.specs.FinMap.{FinMap}
@@ -26,7 +28,8 @@ set_same (y ∷ ys) zero x here = ap (λ z. z ∷ ys) (let e : Some y ≡ Some x
 set_same (y ∷ ys) (suc i) x here = ap (λ zs. y ∷ zs) (set_same ys i x here)
 
 -- a part of the machine m, and the machine with another one in its place
-module _ {S : Type 0} (m : Machine) (cores : S → List CoreState) (banks : S → List BankState) (drams : S → List (FinMap nat_cmp (List ℕ))) (part : S)
+module _ {S : Type 0} (m : Machine) (cores : S → List CoreState) (banks : S → List BankState) (drams : S →
+    List (FinMap nat_cmp (List ℕ))) (part : S)
     (same_cores : cores part ≡ m.cores) (same_banks : banks part ≡ m.banks) (same_drams : drams part ≡ m.drams) where
   abbrev put : S → Machine
   put x = record m { cores = cores x; banks = banks x; drams = drams x }
@@ -39,39 +42,89 @@ module _ {S : Type 0} (m : Machine) (cores : S → List CoreState) (banks : S �
 
   -- the machine with the part, the messages in flight, the record and the stop of an answer
   abbrev after : Answer × S × Mail → Answer × Machine
-  after x = (x.0, record (put x.1) { mail = x.2; records = with_record m.records x.0; is_stopped = stops x.0 || m.is_stopped })
+  after x = (
+    x.0,
+    record (put x.1) {
+      mail = x.2;
+      records = with_record m.records x.0;
+      is_stopped =
+          stops x.0 || m.is_stopped;
+    },
+  )
 
-  is_changed : (made completed : S → Type 0) (change : Change S) → Only made completed change → after (applied part m.mail change) ≡ changed m put change
+  is_changed : (made completed : S → Type 0) (change : Change S) → Only made completed change →
+      after (applied part m.mail change) ≡ changed m put change
   is_changed made completed (Keeps why) only =
-      ap (λ (n : Machine). (why, record n { mail = m.mail; records = with_record m.records why; is_stopped = stops why || m.is_stopped })) put_same
-      ∙ ap (λ (rs : List Record). (why, record m { records = rs; is_stopped = stops why || m.is_stopped })) (only.0 m.records)
+      ap (λ (n : Machine). (
+        why,
+        record n {
+          mail = m.mail;
+          records = with_record m.records why;
+          is_stopped = stops why
+              || m.is_stopped;
+        },
+      )) put_same
+      ∙ ap (λ (rs : List Record). (why, record m { records = rs; is_stopped = stops why || m.is_stopped }))
+      (only.0 m.records)
       ∙ ap (λ (b : Bool). (why, record m { is_stopped = b || m.is_stopped })) only.1
-  is_changed made completed Exhausts only = ap (λ (n : Machine). (answer.Refused refusal.Exhausted, record n { mail = m.mail; records = m.records; is_stopped = true })) put_same
-  is_changed made completed (Drops mail) only = ap (λ (n : Machine). (answer.Dropped, record n { mail = mail; records = m.records; is_stopped = m.is_stopped })) put_same
+  is_changed made completed Exhausts only =
+      ap (λ (n : Machine). (
+        answer.Refused refusal.Exhausted,
+        record n {
+          mail = m.mail;
+          records =
+              m.records;
+          is_stopped = true;
+        },
+      )) put_same
+  is_changed made completed (Drops mail) only =
+      ap (λ (n : Machine). (answer.Dropped, record n { mail = mail; records = m.records; is_stopped = m.is_stopped }))
+      put_same
   is_changed made completed (Makes done new mail) only =
-      ap (λ (rs : List Record). (done, record (put new) { mail = mail; records = rs; is_stopped = stops done || m.is_stopped })) (only.0.0 m.records)
+      ap (λ (rs : List Record). (
+        done,
+        record (put new) {
+          mail = mail;
+          records = rs;
+          is_stopped = stops done
+              || m.is_stopped;
+        },
+      )) (only.0.0 m.records)
       ∙ ap (λ (b : Bool). (done, record (put new) { mail = mail; is_stopped = b || m.is_stopped })) only.0.1
   is_changed made completed (Completes done new) only = refl
 
   -- the machine after an event whose change of the part this is
-  pub made_so : (made completed : S → Type 0) (change : Change S) → Only made completed change → (answer : Answer) (new : S) (mail : Mail) (records : List Record) (stopped : Bool) →
-      (answer, new, mail) ≡ applied part m.mail change → records ≡ with_record m.records answer → stopped ≡ (stops answer || m.is_stopped) →
+  pub made_so : (made completed : S → Type 0) (change : Change S) → Only made completed change →
+      (answer : Answer) (new : S) (mail : Mail) (records : List Record) (stopped : Bool) →
+      (answer, new, mail) ≡ applied part m.mail change → records ≡ with_record m.records answer →
+      stopped ≡ (stops answer || m.is_stopped) →
       (answer, record (put new) { mail = mail; records = records; is_stopped = stopped }) ≡ changed m put change
   made_so made completed change only answer new mail records stopped is recorded stop =
-      ap (λ (rs : List Record). (answer, record (put new) { mail = mail; records = rs; is_stopped = stopped })) recorded
-      ∙ ap (λ (b : Bool). (answer, record (put new) { mail = mail; records = with_record m.records answer; is_stopped = b })) stop
+      ap (λ (rs : List Record). (answer, record (put new) { mail = mail; records = rs; is_stopped = stopped }))
+      recorded
+      ∙ ap (λ (b : Bool). (
+        answer,
+        record (put new) {
+          mail = mail;
+          records =
+              with_record m.records answer;
+          is_stopped = b;
+        },
+      )) stop
       ∙ ap after is
       ∙ is_changed made completed change only
 
   -- a change that completes nothing adds no record
-  not_recorded : (made : S → Type 0) (change : Change S) → Only made (λ x. ⊥) change → m.records ≡ with_record m.records (applied part m.mail change).0
+  not_recorded : (made : S → Type 0) (change : Change S) → Only made (λ x. ⊥) change → m.records ≡ with_record
+      m.records (applied part m.mail change).0
   not_recorded made (Keeps why) only = sym (only.0 m.records)
   not_recorded made Exhausts only = refl
   not_recorded made (Drops mail) only = refl
   not_recorded made (Makes done new mail) only = sym (only.0.0 m.records)
   not_recorded made (Completes done new) only = absurd only
 
-  pub made_without : (made : S → Type 0) (change : Change S) → Only made (λ x. ⊥) change → (answer : Answer) (new : S) (mail : Mail) (stopped : Bool) →
+  pub made_without : (made : S → Type 0) (change : Change S) → Only made (λ x. ⊥) change → (answer : Answer) (new : S)
+      (mail : Mail) (stopped : Bool) →
       (answer, new, mail) ≡ applied part m.mail change → stopped ≡ (stops answer || m.is_stopped) →
       (answer, record (put new) { mail = mail; is_stopped = stopped }) ≡ changed m put change
   made_without made change only answer new mail stopped is stop =
@@ -79,11 +132,13 @@ module _ {S : Type 0} (m : Machine) (cores : S → List CoreState) (banks : S �
       (not_recorded made change only ∙ ap (λ (x : Answer × S × Mail). with_record m.records x.0) (sym is)) stop
 
   -- what sends a message takes memory
-  pub sending_takes : {X E : Type 0} (result : Result X E) (made completed : S → Type 0) (change : Change S) → Only made completed change →
+  pub sending_takes : {X E : Type 0} (result : Result X E) (made completed : S → Type 0) (change : Change S) →
+      Only made completed change →
       m.mail.next < (applied part m.mail change).2.next → OnErr result (TakesMemory m (changed m put change))
   sending_takes (Ok x) made completed change only sends = tt
   sending_takes (Err e) made completed change only sends =
-      inr (subst (λ (x : Answer × Machine). m.mail.next < x.1.mail.next) (is_changed made completed change only) sends)
+      inr (subst (λ (x : Answer × Machine). m.mail.next < x.1.mail.next) (is_changed made completed change only)
+      sends)
 
 -- what an option has that isn't empty
 pub had : {X : Type 0} (o : Option X) → IsSome o → (x : X) × (o ≡ Some x)
@@ -91,7 +146,8 @@ had None h = absurd (let z : false ≡ true = h in cc)
 had (Some x) h = (x, refl)
 
 -- after a message is taken there is capacity for another
-pub capacity_of_taken : (capacity : ℕ) (mail : Mail) (n : ℕ) → IsSome (at_number n mail.messages) → length mail.messages ≤ capacity → IsTrue (has_number mail) → IsTrue (has_capacity capacity (taken mail n))
+pub capacity_of_taken : (capacity : ℕ) (mail : Mail) (n : ℕ) → IsSome (at_number n mail.messages) →
+    length mail.messages ≤ capacity → IsTrue (has_number mail) → IsTrue (has_capacity capacity (taken mail n))
 capacity_of_taken capacity mail n there most left =
     let found = had (at_number n mail.messages) there in
     let fewer = length-without_number n found.0 mail.messages found.1 in

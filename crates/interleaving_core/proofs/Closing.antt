@@ -5,7 +5,8 @@ use Rattle.physiological_order.specs.declared.operation.Op.TheVariants.{Load, St
 use Rattle.private_cache.specs.declared.line_copy.LineCopy.{LineCopy}
 use Rattle.private_cache.specs.CopyTable.{copy_of, place_for}
 use Rattle.core_pts.specs.declared.attempt.Attempt.{Attempt}
-use Rattle.core_pts.specs.declared.attempt.Attempt.TheVariants.{Completed, NeedShared, NeedExclusive, NoRoom, Waiting, Idle}
+use Rattle.core_pts.specs.declared.attempt.Attempt.TheVariants.{Completed, NeedShared, NeedExclusive, NoRoom, Waiting}
+use Rattle.core_pts.specs.declared.attempt.Attempt.TheVariants.{Idle}
 use Rattle.core_pts.specs.OnCopy.{serves, time_of}
 use Rattle.network.specs.declared.message.Body.TheVariants.{ShReq}
 use Rattle.network.specs.Mail.{Mail}
@@ -33,12 +34,14 @@ need_closes core pts (Swap a v) version = tt
 pub attempt_closes : (core : CoreState) → Closes (attempt core)
 attempt_closes core = by_open core.open_op
   where
-    without : (op : Op) (out place : Bool) → Closes (Some (cond out Waiting (cond place (need core.pts op None) NoRoom)), core)
+    without : (op : Op) (out place : Bool) →
+        Closes (Some (cond out Waiting (cond place (need core.pts op None) NoRoom)), core)
     without op true place = tt
     without op false true = need_closes core core.pts op None
     without op false false = tt
 
-    unserved : (op : Op) (version : ℕ) (out : Bool) → Closes (Some (cond out Waiting (need core.pts op (Some version))), core)
+    unserved : (op : Op) (version : ℕ) (out : Bool) →
+        Closes (Some (cond out Waiting (need core.pts op (Some version))), core)
     unserved op version true = tt
     unserved op version false = need_closes core core.pts op (Some version)
 
@@ -46,7 +49,9 @@ attempt_closes core = by_open core.open_op
     at_time op copy None = tt
     at_time op copy (Some ts) = refl
 
-    served : (op : Op) (copy : LineCopy) (b : Bool) → Closes (cond b (completed_at core op copy (time_of core.private_write core.pts op copy)) (Some (attempt_unserved core op copy.wts), core))
+    served : (op : Op) (copy : LineCopy) (b : Bool) →
+        Closes (cond b (completed_at core op copy (time_of core.private_write core.pts op copy))
+        (Some (attempt_unserved core op copy.wts), core))
     served op copy true = at_time op copy (time_of core.private_write core.pts op copy)
     served op copy false = unserved op copy.wts core.is_out
 
@@ -59,7 +64,8 @@ attempt_closes core = by_open core.open_op
     by_open (Some op) = by_copy op (copy_of core.cache (line_of core op))
 
 -- what an option has that is seen with something beside it
-pub seen_beside : (o : Option Op) (out : Bool) (op : Op) (beside : Bool) → option_map {U = Op × Bool} (λ op. (op, out)) o ≡ Some (op, beside) → o ≡ Some op
+pub seen_beside : (o : Option Op) (out : Bool) (op : Op) (beside : Bool) → option_map {U = Op × Bool}
+    (λ op. (op, out)) o ≡ Some (op, beside) → o ≡ Some op
 seen_beside None out op beside is = absurd (let z : ◌≡◌ {A = Option (Op × Bool)} None (Some (op, beside)) = is in cc)
 seen_beside (Some x) out op beside is = ap first is
   where
@@ -68,9 +74,11 @@ seen_beside (Some x) out op beside is = ap first is
     first (Some pair) = Some pair.0
 
 -- an attempt that needs a copy to read sends a request
-pub attempt_requests : (c number capacity : ℕ) (mail : Mail) (core after : CoreState) (op : Op) (pts : ℕ) (version : Option ℕ) → after ≡ core → core.open_op ≡ Some op →
+pub attempt_requests : (c number capacity : ℕ) (mail : Mail) (core after : CoreState) (op : Op) (pts : ℕ)
+    (version : Option ℕ) → after ≡ core → core.open_op ≡ Some op →
     core_table.attempt core ≡ (Some (NeedShared pts version), after) →
-    applied after mail (requests capacity mail after op (ShReq pts version)) ≡ applied core mail (change.attempt c number capacity mail core)
+    applied after mail (requests capacity mail after op (ShReq pts version)) ≡ applied core mail
+    (change.attempt c number capacity mail core)
 attempt_requests c number capacity mail core after op pts version kept opens is =
     ap (λ (x : CoreState). applied x mail (requests capacity mail x op (ShReq pts version))) kept
     ∙ sym (ap (λ (o : Option Op). applied core mail (attempt_open c number capacity mail core o)) opens

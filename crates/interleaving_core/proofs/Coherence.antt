@@ -10,23 +10,30 @@ use Rattle.machine_table.specs.Machine.{Machine}
 use Rattle.machine_table.specs.Transition.{transition}
 use Rattle.machine_table.specs.SetUp.{SetUpAs}
 use Rattle.machine_theorem.specs.Kept.{Invariant}
-use Rattle.machine_theorem.proofs.Lemmas.{any_transition, delivery_found, messages_find_cases, set_up_same, transition_same}
+use Rattle.machine_theorem.proofs.Lemmas.{any_transition, delivery_found, messages_find_cases, set_up_same}
+use Rattle.machine_theorem.proofs.Lemmas.{transition_same}
 use Rattle.interleaving_core.specs.Stepped.{Stepped}
 use Rattle.interleaving_core.proofs.Applied.{had}
 
-pub step_invariant : (m : Machine) (event : Event) (answer : Answer) (after : Machine) → Invariant m → Stepped m event answer after → Invariant after
-step_invariant m event answer after invariant (inl is) = subst (λ (x : Answer × Machine). Invariant x.1) (sym is) (any_transition m invariant event)
+pub step_invariant : (m : Machine) (event : Event) (answer : Answer) (after : Machine) → Invariant m →
+    Stepped m event answer after → Invariant after
+step_invariant m event answer after invariant (inl is) =
+    subst (λ (x : Answer × Machine). Invariant x.1) (sym is) (any_transition m invariant event)
 step_invariant m event answer after invariant (inr none) = subst Invariant (sym none.1) invariant
 
-pub step_set_up : (m : Machine) (event : Event) (answer : Answer) (after : Machine) → Stepped m event answer after → SetUpAs m after
-step_set_up m event answer after (inl is) = subst (λ (x : Answer × Machine). SetUpAs m x.1) (sym is) (transition_same m event)
+pub step_set_up : (m : Machine) (event : Event) (answer : Answer) (after : Machine) → Stepped m event answer
+    after → SetUpAs m after
+step_set_up m event answer after (inl is) =
+    subst (λ (x : Answer × Machine). SetUpAs m x.1) (sym is) (transition_same m event)
 step_set_up m event answer after (inr none) = subst (SetUpAs m) (sym none.1) (set_up_same m)
 
 -- the delivery of a message in flight finds its part, and its case there
-pub step_found : (m : Machine) (event : Event) (answer : Answer) (after : Machine) → Invariant m → Stepped m event answer after →
+pub step_found : (m : Machine) (event : Event) (answer : Answer) (after : Machine) → Invariant m →
+    Stepped m event answer after →
     (number : ℕ) → event ≡ Deliver number → IsSome (at_number number m.mail.messages) → answer ≢ Refused NoSuch
 step_found m event answer after invariant (inl is) number delivers there none =
     let message = had (at_number number m.mail.messages) there in
     delivery_found m number (messages_find_cases m invariant) message.0 message.1
     (sym (ap (λ (e : Event). (transition m e).0) delivers) ∙ sym (ap (λ (x : Answer × Machine). x.0) is) ∙ none)
-step_found m event answer after invariant (inr refused) number delivers there none = absurd (let z = sym refused.0 ∙ none in cc)
+step_found m event answer after invariant (inr refused) number delivers there none =
+    absurd (let z = sym refused.0 ∙ none in cc)

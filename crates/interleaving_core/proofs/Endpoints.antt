@@ -1,5 +1,6 @@
 -- What parts send goes between nodes of its kind, and messages in flight find their part.
-use Rattle.std.proofs.Common.{◌≡◌, ℕ, ◌<◌, ◌%◌, ◌++◌, Bool, true, false, cond, List, [], ◌∷◌, Option, Some, None, Ok, Err, IsTrue, refl, subst, arith}
+use Rattle.std.proofs.Common.{◌≡◌, ℕ, ◌<◌, ◌%◌, ◌++◌, Bool, true, false, cond, List, [], ◌∷◌, Option, Some, None, Ok}
+use Rattle.std.proofs.Common.{Err, IsTrue, refl, subst, arith}
 use Rattle.std.specs.List.{slice_get, AllByRecursion as Each}
 use Rattle.std.specs.Ordering.{nat_cmp}
 use Rattle.std.specs.FinMap.{FinMap}
@@ -50,59 +51,89 @@ with_case false x y is = cc
 
 -- what a reaction sends is in flight in a machine that has the invariant
 module _ {S : Type 0} (m : Machine) (n : ℕ) (put : S → Machine) (config : (x : S) → (put x).config ≡ m.config) where
-  sent_endpoints : (x : S) (mail : Mail) (message : Message) → Invariant (record (put x) { mail = sent mail message }) → IsTrue (has_endpoints m.config.cores m.config.banks message)
+  sent_endpoints : (x : S) (mail : Mail) (message : Message) → Invariant (record (put x) { mail = sent mail message })
+      → IsTrue (has_endpoints m.config.cores m.config.banks message)
   sent_endpoints x mail message invariant =
       subst (λ k. has_endpoints k.cores k.banks message ≡ true) (config x)
       (each_last (GoesHome (put x).config) mail.messages (mail.next, message) invariant.whole.each_message).2
 
-  pub reaction_endpoints : (reaction : Option (Reaction × S)) → Invariant (changed m put (reacted m.config.messages m.mail n reaction)).1 → can_send m.config.messages m.mail (sent_by reaction) ≡ true →
+  pub reaction_endpoints : (reaction : Option (Reaction × S)) →
+      Invariant (changed m put (reacted m.config.messages m.mail n reaction)).1 → can_send m.config.messages m.mail
+      (sent_by reaction) ≡ true →
       ReactionHasEndpoints m.config.cores m.config.banks reaction
   reaction_endpoints None invariant can = tt
   reaction_endpoints (Some (Held, x)) invariant can = tt
   reaction_endpoints (Some (Dropped, x)) invariant can = tt
   reaction_endpoints (Some (Done None, x)) invariant can = tt
   reaction_endpoints (Some (Done (Some reply), x)) invariant can =
-      sent_endpoints x (taken m.mail n) reply (subst (λ b. Invariant (changed m put (cond b (Makes Delivered x (answered m.mail n reply)) (Keeps (Refused NetworkFull)))).1) can invariant)
+      sent_endpoints x (taken m.mail n) reply
+      (subst (λ b. Invariant (changed m put (cond b (Makes Delivered x (answered m.mail n reply))
+      (Keeps (Refused NetworkFull)))).1) can invariant)
   reaction_endpoints (Some (HeldAfter started, x)) invariant can =
-      sent_endpoints x m.mail started (subst (λ b. Invariant (changed m put (cond b (Makes Started x (sent m.mail started)) (Keeps (Refused NetworkFull)))).1) can invariant)
+      sent_endpoints x m.mail started
+      (subst (λ b.
+      Invariant (changed m put (cond b (Makes Started x (sent m.mail started)) (Keeps (Refused NetworkFull)))).1)
+      can invariant)
 
-module _ (m : Machine) (invariant : Invariant m) (n : ℕ) (message : Message) (found : at_number n m.mail.messages ≡ Some message) where
+module _ (m : Machine) (invariant : Invariant m) (n : ℕ) (message : Message) (found : at_number n m.mail.messages ≡
+    Some message) where
   found_case : has_case m message ≡ true
-  found_case = each_at_number (λ x. has_case m x.1 ≡ true) n m.mail.messages message found (messages_find_cases m invariant) (λ k p. p)
+  found_case = each_at_number (λ x. has_case m x.1 ≡ true) n m.mail.messages message found
+      (messages_find_cases m invariant) (λ k p. p)
 
   -- a message that goes to a core
   module _ (c : ℕ) (to : message.to ≡ node.Core c) (core : CoreState) (here : slice_get m.cores c ≡ Some core) where
     pub core_has : core_table.core_has_case core message ≡ true
-    core_has = subst (λ o. core_case o message ≡ true) here (subst (λ k. has_case_at m message k ≡ true) to found_case)
+    core_has = subst (λ o. core_case o message ≡ true) here
+        (subst (λ k. has_case_at m message k ≡ true) to found_case)
 
-    pub core_endpoints : can_send m.config.messages m.mail (sent_by (core_table.core_table core message)) ≡ true → ReactionHasEndpoints m.config.cores m.config.banks (core_table.core_table core message)
+    pub core_endpoints : can_send m.config.messages m.mail (sent_by (core_table.core_table core message)) ≡ true →
+        ReactionHasEndpoints m.config.cores m.config.banks (core_table.core_table core message)
     core_endpoints = reaction_endpoints m n (with_core m c) (λ x. refl) (core_table.core_table core message)
-        (subst (λ b. Invariant (cond b (changed m (with_core m c) (reacted m.config.messages m.mail n (core_table.core_table core message))) (refused m NoSuch)).1) core_has
-        (subst (λ o. Invariant (deliver_core m n message c o).1) here (any_core_delivery m invariant n message found c (slice_get m.cores c) refl)))
+        (subst (λ b.
+        Invariant (cond b
+        (changed m (with_core m c) (reacted m.config.messages m.mail n (core_table.core_table core message)))
+        (refused m NoSuch)).1) core_has
+        (subst (λ o. Invariant (deliver_core m n message c o).1) here (any_core_delivery m invariant n message found c
+        (slice_get m.cores c) refl)))
 
   -- a message that goes to a bank
   module _ (b : ℕ) (to : message.to ≡ node.Bank b) (bank : BankState) (here : slice_get m.banks b ≡ Some bank) where
     pub bank_has : bank_table.bank_has_case bank message ≡ true
-    bank_has = subst (λ o. bank_case o message ≡ true) here (subst (λ k. has_case_at m message k ≡ true) to found_case)
+    bank_has = subst (λ o. bank_case o message ≡ true) here
+        (subst (λ k. has_case_at m message k ≡ true) to found_case)
 
-    pub bank_endpoints : can_send m.config.messages m.mail (sent_by (bank_table.bank_table bank message)) ≡ true → ReactionHasEndpoints m.config.cores m.config.banks (bank_table.bank_table bank message)
+    pub bank_endpoints : can_send m.config.messages m.mail (sent_by (bank_table.bank_table bank message)) ≡ true →
+        ReactionHasEndpoints m.config.cores m.config.banks (bank_table.bank_table bank message)
     bank_endpoints = reaction_endpoints m n (with_bank m b) (λ x. refl) (bank_table.bank_table bank message)
-        (subst (λ t. Invariant (cond t (changed m (with_bank m b) (reacted m.config.messages m.mail n (bank_table.bank_table bank message))) (refused m NoSuch)).1) bank_has
-        (subst (λ o. Invariant (deliver_bank m n message b o).1) here (any_bank_delivery m invariant n message found b to)))
+        (subst (λ t.
+        Invariant (cond t
+        (changed m (with_bank m b) (reacted m.config.messages m.mail n (bank_table.bank_table bank message)))
+        (refused m NoSuch)).1) bank_has
+        (subst (λ o. Invariant (deliver_bank m n message b o).1) here (any_bank_delivery m invariant n
+        message found b to)))
 
   -- a message that goes to a DRAM
-  module _ (b : ℕ) (to : message.to ≡ node.Dram b) (lines : FinMap nat_cmp (List ℕ)) (here : slice_get m.drams b ≡ Some lines) where
+  module _ (b : ℕ) (to : message.to ≡ node.Dram b) (lines : FinMap nat_cmp (List ℕ))
+      (here : slice_get m.drams b ≡ Some lines) where
     pub dram_has : dram_has_case lines message ≡ true
-    dram_has = subst (λ o. dram_case o message ≡ true) here (subst (λ k. has_case_at m message k ≡ true) to found_case)
+    dram_has = subst (λ o. dram_case o message ≡ true) here
+        (subst (λ k. has_case_at m message k ≡ true) to found_case)
 
-    pub dram_endpoints : can_send m.config.messages m.mail (sent_by (dram_table lines message)) ≡ true → ReactionHasEndpoints m.config.cores m.config.banks (dram_table lines message)
+    pub dram_endpoints : can_send m.config.messages m.mail (sent_by (dram_table lines message)) ≡ true →
+        ReactionHasEndpoints m.config.cores m.config.banks (dram_table lines message)
     dram_endpoints = reaction_endpoints m n (with_dram m b) (λ x. refl) (dram_table lines message)
-        (subst (λ t. Invariant (cond t (changed m (with_dram m b) (reacted m.config.messages m.mail n (dram_table lines message))) (refused m NoSuch)).1) dram_has
-        (subst (λ o. Invariant (deliver_dram m n message b o).1) here (any_dram_delivery m invariant n message found b to)))
+        (subst (λ t.
+        Invariant (cond t
+        (changed m (with_dram m b) (reacted m.config.messages m.mail n (dram_table lines message)))
+        (refused m NoSuch)).1) dram_has
+        (subst (λ o. Invariant (deliver_dram m n message b o).1) here (any_dram_delivery m invariant n
+        message found b to)))
 
 -- what a core sends back goes to a bank
 module _ (m : Machine) (whole : IsWhole m) (c : ℕ) (core : CoreState) (here : slice_get m.cores c ≡ Some core) where
-  back_goes : (line : ℕ) (copy : LineCopy) → IsTrue (has_endpoints m.config.cores m.config.banks (to_bank core line (FlushRep (words_of_copy copy))))
+  back_goes : (line : ℕ) (copy : LineCopy) →
+      IsTrue (has_endpoints m.config.cores m.config.banks (to_bank core line (FlushRep (words_of_copy copy))))
   back_goes line copy =
       let is = whole.each_core c core here in
       let number = is.numbered in
@@ -110,20 +141,24 @@ module _ (m : Machine) (whole : IsWhole m) (c : ℕ) (core : CoreState) (here : 
       let within = slice_get_within m.cores c core here in
       let banks = is.banks in
       let some = whole.some_banks in
-      core_and_bank m.config.cores m.config.banks core.number (line % core.banks) (omega arith) (subst (λ k. line % core.banks < k) banks (mod-lt line (omega arith)))
+      core_and_bank m.config.cores m.config.banks core.number (line % core.banks) (omega arith)
+      (subst (λ k. line % core.banks < k) banks (mod-lt line (omega arith)))
 
   pub back_endpoints : (line : ℕ) → BackHasEndpoints m.config.cores m.config.banks (core_table.evict core line).0
   back_endpoints line = by_copy (copy_of core.cache line)
     where
-      by_state : (copy : LineCopy) (b : Bool) → BackHasEndpoints m.config.cores m.config.banks (Ok (cond b (Some (to_bank core line (FlushRep (words_of_copy copy)))) None))
+      by_state : (copy : LineCopy) (b : Bool) → BackHasEndpoints m.config.cores m.config.banks
+          (Ok (cond b (Some (to_bank core line (FlushRep (words_of_copy copy)))) None))
       by_state copy true = back_goes line copy
       by_state copy false = tt
 
-      by_pin : (copy : LineCopy) (b : Bool) → BackHasEndpoints m.config.cores m.config.banks (sent_back core line (cond b (Err Pinned, core.cache) (Ok copy, without_copy core.cache line))).0
+      by_pin : (copy : LineCopy) (b : Bool) → BackHasEndpoints m.config.cores m.config.banks
+          (sent_back core line (cond b (Err Pinned, core.cache) (Ok copy, without_copy core.cache line))).0
       by_pin copy true = tt
       by_pin copy false = by_state copy (is_exclusive copy.state)
 
-      by_copy : (o : Option LineCopy) → BackHasEndpoints m.config.cores m.config.banks (sent_back core line (left_cache core.cache line (pinned_line core) o)).0
+      by_copy : (o : Option LineCopy) → BackHasEndpoints m.config.cores m.config.banks
+          (sent_back core line (left_cache core.cache line (pinned_line core) o)).0
       by_copy None = tt
       by_copy (Some copy) = by_pin copy (is_pinned (pinned_line core) line)
 
@@ -136,14 +171,19 @@ module _ (m : Machine) (whole : IsWhole m) (b : ℕ) (bank : BankState) (here : 
       let within = slice_get_within m.banks b bank here in
       omega arith
 
-  pub evicted_endpoints : (line : ℕ) → EvictedHasEndpoints m.config.cores m.config.banks (bank_table.evict bank line).0
-  evicted_endpoints line = by_entry (bank_table.entry_of bank line) (λ x found. (whole.each_bank b bank here).owners line x found)
+  pub evicted_endpoints : (line : ℕ) → EvictedHasEndpoints m.config.cores m.config.banks
+      (bank_table.evict bank line).0
+  evicted_endpoints line =
+      by_entry (bank_table.entry_of bank line) (λ x found. (whole.each_bank b bank here).owners line x found)
     where
-      by_entry : (o : Option Entry) → ((x : Entry) → o ≡ Some x → IsOwnedBelow m.config.cores x) → EvictedHasEndpoints m.config.cores m.config.banks (bank_table.after_eviction bank line (evicted o)).0
+      by_entry : (o : Option Entry) → ((x : Entry) → o ≡ Some x → IsOwnedBelow m.config.cores x) →
+          EvictedHasEndpoints m.config.cores m.config.banks (bank_table.after_eviction bank line (evicted o)).0
       by_entry None owned = tt
       by_entry (Some entry.Loading) owned = tt
       by_entry (Some (entry.Shared false y)) owned = tt
-      by_entry (Some (entry.Shared true y)) owned = both _ _ (lt-ltb bank.number m.config.banks number_below) (eq-eqb bank.number bank.number refl)
-      by_entry (Some (entry.Exclusive owner)) owned = core_and_bank m.config.cores m.config.banks owner bank.number (owned _ refl) number_below
+      by_entry (Some (entry.Shared true y)) owned =
+          both _ _ (lt-ltb bank.number m.config.banks number_below) (eq-eqb bank.number bank.number refl)
+      by_entry (Some (entry.Exclusive owner)) owned =
+          core_and_bank m.config.cores m.config.banks owner bank.number (owned _ refl) number_below
       by_entry (Some (entry.Recalling owner)) owned = tt
       by_entry (Some entry.Storing) owned = tt

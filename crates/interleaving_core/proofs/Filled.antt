@@ -1,5 +1,6 @@
 -- The words of the opening memory, set in DRAM one by one from the last one to the first.
-use Rattle.std.proofs.Common.{◌≡◌, ℕ, zero, suc, ◌+◌, ◌<◌, ◌/◌, ◌%◌, ◌++◌, eqb, List, [], ◌∷◌, length, length-set, get_or, set, replicate, refl, sym, ap, ap₂, ◌∙◌, arith}
+use Rattle.std.proofs.Common.{◌≡◌, ℕ, zero, suc, ◌+◌, ◌<◌, ◌/◌, ◌%◌, ◌++◌, eqb, List, [], ◌∷◌, length, length-set}
+use Rattle.std.proofs.Common.{get_or, set, replicate, refl, sym, ap, ap₂, ◌∙◌, arith}
 use Rattle.std.specs.Ordering.{nat_cmp}
 use Rattle.std.specs.FinMap.{FinMap, empty}
 use Rattle.std.proofs.lemmas.Bool.{eq-eqb, ne_eqb, cond-true, cond-false}
@@ -19,7 +20,8 @@ filled c [] drams = drams
 filled c (word ∷ words) drams = word_set c word (filled c words drams)
 
 -- the last word is set first
-pub filled_last : (c : Config) (words : List (ℕ × ℕ)) (word : ℕ × ℕ) (drams : Drams) → filled c (words ++ word ∷ []) drams ≡ filled c words (word_set c word drams)
+pub filled_last : (c : Config) (words : List (ℕ × ℕ)) (word : ℕ × ℕ) (drams : Drams) → filled c (words ++ word ∷ [])
+    drams ≡ filled c words (word_set c word drams)
 filled_last c [] word drams = refl
 filled_last c (w ∷ words) word drams = ap (word_set c w) (filled_last c words word drams)
 
@@ -30,16 +32,19 @@ set_counts c word drams = length-set drams _ _
 abbrev home : Config → ℕ × ℕ → ℕ
 home c word = (word.0 / c.line_words) % c.banks
 
-others : (c : Config) (word : ℕ × ℕ) (words : List (ℕ × ℕ)) (start n : ℕ) → home c word < start → drams_from c words start n ≡ drams_from c (word ∷ words) start n
+others : (c : Config) (word : ℕ × ℕ) (words : List (ℕ × ℕ)) (start n : ℕ) → home c word < start →
+    drams_from c words start n ≡ drams_from c (word ∷ words) start n
 others c word words start zero below = refl
 others c word words start (suc n) below =
     ap₂ (λ (x : FinMap nat_cmp (List ℕ)) (xs : Drams). x ∷ xs)
-    (sym (cond-false (eqb (home c word) start) _ (dram_of c start words) (ne_eqb (home c word) start (λ e. absurd (omega arith)))))
+    (sym (cond-false (eqb (home c word) start) _ (dram_of c start words)
+    (ne_eqb (home c word) start (λ e. absurd (omega arith)))))
     (others c word words (start + 1) n (omega arith))
 
 -- one more word
 one_more : (c : Config) (word : ℕ × ℕ) (words : List (ℕ × ℕ)) (start n k : ℕ) → k < n → home c word ≡ start + k →
-    set (drams_from c words start n) k (with_word (get_or (drams_from c words start n) k empty) (word.0 / c.line_words) (word.0 % c.line_words) word.1) ≡ drams_from c (word ∷ words) start n
+    set (drams_from c words start n) k (with_word (get_or (drams_from c words start n) k empty)
+    (word.0 / c.line_words) (word.0 % c.line_words) word.1) ≡ drams_from c (word ∷ words) start n
 one_more c word words start zero k below is = absurd (omega arith)
 one_more c word words start (suc n) zero below is =
     ap₂ (λ (x : FinMap nat_cmp (List ℕ)) (xs : Drams). x ∷ xs)
@@ -47,14 +52,16 @@ one_more c word words start (suc n) zero below is =
     (others c word words (start + 1) n (omega arith))
 one_more c word words start (suc n) (suc k) below is =
     ap₂ (λ (x : FinMap nat_cmp (List ℕ)) (xs : Drams). x ∷ xs)
-    (sym (cond-false (eqb (home c word) start) _ (dram_of c start words) (ne_eqb (home c word) start (λ e. absurd (omega arith)))))
+    (sym (cond-false (eqb (home c word) start) _ (dram_of c start words)
+    (ne_eqb (home c word) start (λ e. absurd (omega arith)))))
     (one_more c word words (start + 1) n k (omega arith) (omega arith))
 
 none_yet : (c : Config) (start n : ℕ) → replicate n empty ≡ drams_from c [] start n
 none_yet c start zero = refl
 none_yet c start (suc n) = ap (λ (xs : Drams). empty ∷ xs) (none_yet c (start + 1) n)
 
-pub filled_is : (c : Config) → 0 < c.banks → (words : List (ℕ × ℕ)) → filled c words (no_words c) ≡ drams_from c words 0 c.banks
+pub filled_is : (c : Config) → 0 < c.banks → (words : List (ℕ × ℕ)) → filled c words (no_words c) ≡
+    drams_from c words 0 c.banks
 filled_is c some [] = none_yet c 0 c.banks
 filled_is c some (word ∷ words) =
     ap (word_set c word) (filled_is c some words)

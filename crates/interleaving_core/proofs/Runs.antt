@@ -1,5 +1,6 @@
 -- What a list of events issues and sends.
-use Rattle.std.proofs.Common.{◌≡◌, inl, inr, ℕ, ◌+◌, ◌++◌, get_or, Bool, cond, List, [], ◌∷◌, refl, sym, ap, ◌∙◌, subst, arith}
+use Rattle.std.proofs.Common.{◌≡◌, inl, inr, ℕ, ◌+◌, ◌++◌, get_or, Bool, cond, List, [], ◌∷◌, refl, sym, ap, ◌∙◌}
+use Rattle.std.proofs.Common.{subst, arith}
 use Rattle.std.proofs.lemmas.Bool.{le-ltb, lt-ltb}
 use Rattle.std.proofs.lemmas.List.{append-nil, append_assoc}
 use Rattle.network.specs.declared.counts.Counts.{Counts}
@@ -12,14 +13,17 @@ use Rattle.machine_table.specs.declared.event.Answer.{Answer}
 use Rattle.machine_table.specs.Machine.{Machine}
 use Rattle.machine_theorem.specs.Kept.{Invariant}
 use Rattle.interleaving_core.specs.Issuing.{issued_by, issued_in}
-use Rattle.interleaving_core.specs.Sending.{last_of, newly_sent, all_sent, AreNext, AreCounted, how_many, is_renewal, is_upgrade, is_flush, is_write_back}
+use Rattle.interleaving_core.specs.Sending.{last_of, newly_sent, all_sent, AreNext, AreCounted, how_many, is_renewal}
+use Rattle.interleaving_core.specs.Sending.{is_upgrade, is_flush, is_write_back}
 use Rattle.interleaving_core.specs.Stepped.{Ran}
 use Rattle.interleaving_core.proofs.Coherence.{step_invariant}
 use Rattle.interleaving_core.proofs.Told.{SendsOne, step_told}
 
-pub run_issues : (events : List Event) (answers : List Answer) (m after : Machine) → Invariant m → Ran m events answers after → (core : ℕ) →
+pub run_issues : (events : List Event) (answers : List Answer) (m after : Machine) → Invariant m →
+    Ran m events answers after → (core : ℕ) →
     get_or after.issued core [] ≡ get_or m.issued core [] ++ issued_in core events answers
-run_issues [] [] m after invariant ran core = ap (λ (n : Machine). get_or n.issued core []) ran ∙ sym (append-nil (get_or m.issued core []))
+run_issues [] [] m after invariant ran core =
+    ap (λ (n : Machine). get_or n.issued core []) ran ∙ sym (append-nil (get_or m.issued core []))
 run_issues (event ∷ events) (answer ∷ answers) m after invariant (next, step, rest) core =
     let whole = invariant.whole in
     let now = (step_told m event answer next step).issues (whole.lists ∙ sym whole.core_count) core in
@@ -30,7 +34,8 @@ run_issues [] (answer ∷ answers) m after invariant never core = absurd never
 run_issues (event ∷ events) [] m after invariant never core = absurd never
 
 -- the last one of a list is the one that was added
-last_added : (messages : List (ℕ × Message)) (message : ℕ × Message) → last_of (messages ++ message ∷ []) ≡ message ∷ []
+last_added : (messages : List (ℕ × Message)) (message : ℕ × Message) →
+    last_of (messages ++ message ∷ []) ≡ message ∷ []
 last_added [] message = refl
 last_added (x ∷ []) message = refl
 last_added (x ∷ y ∷ messages) message = last_added (y ∷ messages) message
@@ -43,7 +48,13 @@ pub record AreSent (mail : Mail) (messages : List (ℕ × Message)) (after : Mai
 none_sent : (mail after : Mail) → after.next ≡ mail.next → after.counts ≡ mail.counts → AreSent mail [] after
 none_sent mail after next counts = record {
   next = next;
-  counts = subst (AreCounted mail.counts []) (sym counts) (record { renewals = omega arith; upgrades = omega arith; flushes = omega arith; write_backs = omega arith });
+  counts = subst (AreCounted mail.counts []) (sym counts) (record {
+    renewals = omega arith;
+    upgrades =
+        omega arith;
+    flushes = omega arith;
+    write_backs = omega arith;
+  });
 }
 
 -- one more message is one more of its kind, if that is counted
@@ -59,23 +70,27 @@ rises counts (WbRep line) = (omega arith, omega arith, omega arith, omega arith)
 rises counts _ = (omega arith, omega arith, omega arith, omega arith)
 
 -- the last message of those in flight after one was sent
-one_sent : (mail before : Mail) (message : Message) → before.next ≡ mail.next → before.counts ≡ mail.counts → AreSent mail (last_of (sent before message).messages) (sent before message)
+one_sent : (mail before : Mail) (message : Message) → before.next ≡ mail.next → before.counts ≡ mail.counts →
+    AreSent mail (last_of (sent before message).messages) (sent before message)
 one_sent mail before message next counts =
-    subst (λ messages. AreSent mail messages (sent before message)) (sym (last_added before.messages (before.next, message)))
+    subst (λ messages. AreSent mail messages (sent before message))
+    (sym (last_added before.messages (before.next, message)))
     (let rise = rises before.counts message.body in
     record {
       next = (next, ap (λ n. n + 1) next);
-      counts = subst (λ before_it. AreCounted before_it ((before.next, message) ∷ []) (counted before.counts message.body)) counts (record {
-        renewals = omega (arith, rise.0);
-        upgrades = omega (arith, rise.1);
-        flushes = omega (arith, rise.2);
-        write_backs = omega (arith, rise.3);
-      });
+      counts = subst (λ before_it. AreCounted before_it ((before.next, message) ∷ [])
+          (counted before.counts message.body)) counts (record {
+            renewals = omega (arith, rise.0);
+            upgrades = omega (arith, rise.1);
+            flushes = omega (arith, rise.2);
+            write_backs = omega (arith, rise.3);
+          });
     })
 
 newly : (mail after : Mail) → SendsOne mail after → AreSent mail (newly_sent mail after) after
 newly mail after (inl (next, counts)) =
-    subst (λ (b : Bool). AreSent mail (cond b (last_of after.messages) []) after) (sym (le-ltb mail.next after.next (omega (arith, next)))) (none_sent mail after next counts)
+    subst (λ (b : Bool). AreSent mail (cond b (last_of after.messages) []) after)
+    (sym (le-ltb mail.next after.next (omega (arith, next)))) (none_sent mail after next counts)
 newly mail after (inr (before, message, next, counts, is)) =
     subst (λ (n : Mail). AreSent mail (newly_sent mail n) n) (sym is)
     (subst (λ (b : Bool). AreSent mail (cond b (last_of (sent before message).messages) []) (sent before message))
@@ -86,11 +101,13 @@ next_joined : (xs ys : List (ℕ × Message)) (n k l : ℕ) → AreNext n xs k �
 next_joined [] ys n k l first second = subst (λ i. AreNext i ys l) first second
 next_joined (x ∷ xs) ys n k l first second = (first.0, next_joined xs ys (n + 1) k l first.1 second)
 
-many_joined : (is : Body → Bool) (xs ys : List (ℕ × Message)) → how_many is (xs ++ ys) ≡ how_many is xs + how_many is ys
+many_joined : (is : Body → Bool) (xs ys : List (ℕ × Message)) → how_many is (xs ++ ys) ≡ how_many is
+    xs + how_many is ys
 many_joined is [] ys = omega arith
 many_joined is (x ∷ xs) ys = let rest = many_joined is xs ys in omega arith
 
-joined : (first second third : Mail) (xs ys : List (ℕ × Message)) → AreSent first xs second → AreSent second ys third → AreSent first (xs ++ ys) third
+joined : (first second third : Mail) (xs ys : List (ℕ × Message)) → AreSent first xs second →
+    AreSent second ys third → AreSent first (xs ++ ys) third
 joined first second third xs ys a b = record {
   next = next_joined xs ys first.next second.next third.next a.next b.next;
   counts =
@@ -104,9 +121,12 @@ joined first second third xs ys a b = record {
       };
 }
 
-pub run_sends : (events : List Event) (answers : List Answer) (m after : Machine) (ran : Ran m events answers after) → AreSent m.mail (all_sent m events answers after ran) after.mail
-run_sends [] [] m after ran = none_sent m.mail after.mail (ap (λ (n : Machine). n.mail.next) ran) (ap (λ (n : Machine). n.mail.counts) ran)
+pub run_sends : (events : List Event) (answers : List Answer) (m after : Machine) (ran : Ran m events answers after) →
+    AreSent m.mail (all_sent m events answers after ran) after.mail
+run_sends [] [] m after ran =
+    none_sent m.mail after.mail (ap (λ (n : Machine). n.mail.next) ran) (ap (λ (n : Machine). n.mail.counts) ran)
 run_sends (event ∷ events) (answer ∷ answers) m after (next, step, rest) =
-    joined m.mail next.mail after.mail _ _ (newly m.mail next.mail (step_told m event answer next step).sends) (run_sends events answers next after rest)
+    joined m.mail next.mail after.mail _ _ (newly m.mail next.mail (step_told m event answer next step).sends)
+    (run_sends events answers next after rest)
 run_sends [] (answer ∷ answers) m after never = absurd never
 run_sends (event ∷ events) [] m after never = absurd never

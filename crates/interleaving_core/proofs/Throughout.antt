@@ -1,4 +1,4 @@
--- After each beginning of a run the machine stands.
+-- After each beginning of a run the invariant holds.
 use Rattle.std.proofs.Common.{ℕ, zero, suc, List, [], ◌∷◌, take, drop, refl}
 use Rattle.machine_table.specs.declared.event.Event.{Event}
 use Rattle.machine_table.specs.declared.event.Answer.{Answer}
@@ -19,16 +19,27 @@ record Reaches (m : Machine) (events : List Event) (answers : List Answer) (afte
   set_up : SetUpAs m mid
   invariant : Invariant mid
 
-reaches : (k : ℕ) (events : List Event) (answers : List Answer) (m after : Machine) → Invariant m → Ran m events answers after → Reaches m events answers after k
-reaches zero events answers m after invariant ran = record { mid = m; before = refl; behind = ran; set_up = set_up_same m; invariant = invariant }
-reaches (suc k) [] [] m after invariant ran = record { mid = m; before = refl; behind = ran; set_up = set_up_same m; invariant = invariant }
+reaches : (k : ℕ) (events : List Event) (answers : List Answer) (m after : Machine) → Invariant m →
+    Ran m events answers after → Reaches m events answers after k
+reaches zero events answers m after invariant ran =
+    record { mid = m; before = refl; behind = ran; set_up = set_up_same m; invariant = invariant }
+reaches (suc k) [] [] m after invariant ran =
+    record { mid = m; before = refl; behind = ran; set_up = set_up_same m; invariant = invariant }
 reaches (suc k) (event ∷ events) (answer ∷ answers) m after invariant (next, step, rest) =
     let r = reaches k events answers next after (step_invariant m event answer next invariant step) rest in
-    record { mid = r.mid; before = (next, step, r.before); behind = r.behind; set_up = set_up_on m next r.mid (step_set_up m event answer next step) r.set_up; invariant = r.invariant }
+    record {
+      mid = r.mid;
+      before = (next, step, r.before);
+      behind = r.behind;
+      set_up =
+          set_up_on m next r.mid (step_set_up m event answer next step) r.set_up;
+      invariant = r.invariant;
+    }
 reaches (suc k) [] (answer ∷ answers) m after invariant never = absurd never
 reaches (suc k) (event ∷ events) [] m after invariant never = absurd never
 
-pub throughout : (m after : Machine) (events : List Event) (answers : List Answer) → Invariant m → Ran m events answers after → (k : ℕ) → IsMidway m events answers after k
+pub throughout : (m after : Machine) (events : List Event) (answers : List Answer) → Invariant m →
+    Ran m events answers after → (k : ℕ) → IsMidway m events answers after k
 throughout m after events answers invariant ran k =
     let r = reaches k events answers m after invariant ran in
     record {

@@ -9,4 +9,5 @@ use Rattle.machine_table.specs.Opening.{with_word}
 abbrev pub word_set : Config → ℕ × ℕ → List (FinMap nat_cmp (List ℕ)) → List (FinMap nat_cmp (List ℕ))
 word_set c word drams =
     let line = word.0 / c.line_words in
-    slice_set drams (line % c.banks) (with_word (slice_index_or drams (line % c.banks) empty) line (word.0 % c.line_words) word.1)
+    slice_set drams (line % c.banks) (with_word (slice_index_or drams (line % c.banks) empty) line
+    (word.0 % c.line_words) word.1)

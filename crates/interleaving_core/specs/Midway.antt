@@ -10,12 +10,14 @@ use Rattle.machine_table.specs.SetUp.{SetUpAs}
 use Rattle.interleaving_core.specs.Stepped.{Ran}
 
 -- the machine after the first k events of a run, from which the others lead to its end: it is set up as at first, its
--- records are legal, no line has more than one right, and each word stands as the records leave it
-pub record IsMidway (m : Machine) (events : List Event) (answers : List Answer) (after : Machine) (k : ℕ) : Type 0 where
+-- records are legal, no line has more than one owner, and each word has the coherent value that the records leave
+pub record IsMidway (m : Machine) (events : List Event) (answers : List Answer) (after : Machine)
+    (k : ℕ) : Type 0 where
   pub mid : Machine
   pub before : Ran m (take k events) (take k answers) mid
   pub behind : Ran mid (drop k events) (drop k answers) after
   pub set_up : SetUpAs m mid
   pub legal : Legal (flat mid.opening) (λ core. slice_index_or mid.issued core []) mid.records
   pub one_owner : (line : ℕ) → owners mid line ≤ 1
-  pub coherent : (arranged : List Record) → Arrangement mid.records arranged → (word : ℕ) → coherent mid word ≡ replay_end (flat mid.opening) (map (λ r. r.op) arranged) word
+  pub coherent : (arranged : List Record) → Arrangement mid.records arranged → (word : ℕ) →
+      coherent mid word ≡ replay_end (flat mid.opening) (map (λ r. r.op) arranged) word

@@ -20,7 +20,8 @@ owed (core ∷ cores) = owed_for core.open_op + owed cores
 
 -- the messages in flight are those of a machine that is set up so, and there is capacity for a record of each open
 -- operation
-pub record IsFitted (config : Config) (flight : Flight) (cores : List CoreState) (records : List Record) (capacity : ℕ) : Type 0 where
+pub record IsFitted (config : Config) (flight : Flight) (cores : List CoreState) (records : List Record)
+    (capacity : ℕ) : Type 0 where
   pub cores_are : flight.cores ≡ config.cores
   pub banks_are : flight.banks ≡ config.banks
   pub capacity_is : flight.capacity ≡ config.messages

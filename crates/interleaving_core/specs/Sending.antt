@@ -21,9 +21,11 @@ abbrev pub newly_sent : Mail → Mail → List (ℕ × Message)
 newly_sent before after = if nat_lt before.next after.next then last_of after.messages else []
 
 -- what a list of events sent, event by event
-abbrev pub all_sent : (m : Machine) (events : List Event) (answers : List Answer) (after : Machine) → Ran m events answers after → List (ℕ × Message)
+abbrev pub all_sent : (m : Machine) (events : List Event) (answers : List Answer) (after : Machine) →
+    Ran m events answers after → List (ℕ × Message)
 all_sent m [] [] after ran = []
-all_sent m (event ∷ events) (answer ∷ answers) after (next, step, rest) = newly_sent m.mail next.mail ++ all_sent next events answers after rest
+all_sent m (event ∷ events) (answer ∷ answers) after (next, step, rest) =
+    newly_sent m.mail next.mail ++ all_sent next events answers after rest
 all_sent m [] (answer ∷ answers) after never = []
 all_sent m (event ∷ events) [] after never = []
 

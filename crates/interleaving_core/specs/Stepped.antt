@@ -14,11 +14,13 @@ TakesMemory m next = (next.0 ≡ Issued) ⊎ (m.mail.next < next.1.mail.next)
 
 -- one event
 abbrev pub Stepped : Machine → Event → Answer → Machine → Type 0
-Stepped m event answer after = ((answer, after) ≡ transition m event) ⊎ ((answer ≡ Refused NoMemory) × (after ≡ m) × TakesMemory m (transition m event))
+Stepped m event answer after = ((answer, after) ≡ transition m event) ⊎ ((answer ≡ Refused NoMemory) × (after ≡ m) ×
+    TakesMemory m (transition m event))
 
 -- a list of events, one answer each, from the one machine to the other
 abbrev pub Ran : Machine → List Event → List Answer → Machine → Type 0
 Ran m [] [] after = after ≡ m
-Ran m (event ∷ events) (answer ∷ answers) after = (next : Machine) × Stepped m event answer next × Ran next events answers after
+Ran m (event ∷ events) (answer ∷ answers) after =
+    (next : Machine) × Stepped m event answer next × Ran next events answers after
 Ran m [] (answer ∷ answers) after = ⊥
 Ran m (event ∷ events) [] after = ⊥

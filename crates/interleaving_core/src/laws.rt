@@ -12,7 +12,8 @@ ghost use Rattle.interleaving_core.specs.Stepped.{Ran};
 /// After each beginning of a list of events, from any machine with the invariant on, as each has it that opened: the
 /// records are legal, a line has at most one right, and every word stands as the records leave it.
 pub fn runs_are_legal_throughout()
-    ensures { (m after : Machine) (events : List Event) (answers : List Answer) → Invariant m → Ran m events answers after → (k : ℕ) → IsMidway m events answers after k }
+    ensures { (m after : Machine) (events : List Event) (answers : List Answer) → Invariant m →
+        Ran m events answers after → (k : ℕ) → IsMidway m events answers after k }
 {}
 
 /// What a core was issued after a list of events is what it was issued before, and then the operations of the Issue events

@@ -4,7 +4,9 @@ ghost use Rattle.network.specs.Search.{first_message, is_ownership_of, is_store_
 ghost use Rattle.private_cache.specs.CopyTable.{copy_of};
 ghost use Rattle.llc_bank.specs.BankTable.{core_of};
 ghost use Rattle.machine_table.specs.SetUp.{is_good};
-ghost use Rattle.machine_theorem.specs.Coherence.{bank_words, cached_words, exclusive_copies, granted_words, owned_words, owner_words, owners, coherent, coherent_words, stored_words, words_with};
+ghost use Rattle.machine_theorem.specs.Coherence.{bank_words, cached_words, exclusive_copies, granted_words};
+ghost use Rattle.machine_theorem.specs.Coherence.{owned_words, owner_words, owners, coherent, coherent_words};
+ghost use Rattle.machine_theorem.specs.Coherence.{stored_words, words_with};
 ghost use Rattle.machine_theorem.specs.Kept.{Invariant};
 
 use crate::machine_state::MachineState;
@@ -58,7 +60,8 @@ impl MachineState {
 
     // The words that come with a grant or a return of a line in flight.
     fn granted_words(&self, line: LineNo) -> Option<Words>
-        ensures { result ≡ granted_words self.now.cores line (first_message (is_ownership_of line) self.now.mail.messages) }
+        ensures { result ≡ granted_words self.now.cores line (first_message (is_ownership_of line)
+            self.now.mail.messages) }
     {
         let message = self.flight.ownership_of(line)?;
         self.words_with(message, line)

@@ -2,7 +2,8 @@
 ghost use Rattle.std.specs.Prelude.{◌≡◌, ◌⊎◌, ◌<◌, ◌≤◌, [], IfOk, OnErr, OnOk, length, replicate, true};
 ghost use Rattle.std.specs.FinMap.{empty, entries};
 ghost use Rattle.machine_table.specs.SetUp.{is_good};
-ghost use Rattle.machine_table.specs.Opening.{at_start, bank_config, banks_from, core_config, cores_from, drams_from, geometry};
+ghost use Rattle.machine_table.specs.Opening.{at_start, bank_config, banks_from, core_config, cores_from, drams_from};
+ghost use Rattle.machine_table.specs.Opening.{geometry};
 ghost use Rattle.interleaving_core.specs.Filling.{word_set};
 
 use crate::machine_state::MachineState;
@@ -92,7 +93,8 @@ fn open_banks(alloc: Global, config: Config) -> Result<Vec<Bank>, AllocError>
 // The DRAM of each bank, with the words of the opening memory.
 fn open_drams(alloc: Global, config: Config, memory: &Memory) -> Result<Vec<Dram>, AllocError>
     requires { is_good config ≡ true }
-    ensures { IfOk result (λ drams. drams.items ≡ drams_from config (entries memory.now) 0 config.banks) }
+    ensures { IfOk result (λ drams. drams.items ≡ drams_from config
+        (entries memory.now) 0 config.banks) }
 {
     let mut drams = empty_drams(alloc, config.banks)?;
     let mut words = memory.words()?;

@@ -1,5 +1,6 @@
 //! Events of one core or one bank: what they make of it and of the messages in flight.
-ghost use Rattle.std.specs.Prelude.{◌≡◌, ◌<◌, ◌+◌, ◌++◌, ◌∷◌, [], false, true, IfOk, IsOk, IsTrue, OnErr, length, Some, vec_capacity};
+ghost use Rattle.std.specs.Prelude.{◌≡◌, ◌<◌, ◌+◌, ◌++◌, ◌∷◌, [], false, true, IfOk, IsOk, IsTrue, OnErr, length};
+ghost use Rattle.std.specs.Prelude.{Some, vec_capacity};
 ghost use Rattle.core_pts.specs.CoreTable.{advance, evict, is_on, pinned_line};
 ghost use Rattle.network.specs.Mail.{Mail};
 ghost use Rattle.llc_bank.specs.BankTable as bank_table;
@@ -29,12 +30,20 @@ pub(crate) fn attempt(
 ) -> Result<Answer, AllocError>
     requires number { core.old.number < flight.old.cores }
     requires banks { core.old.banks ≡ flight.old.banks }
-    ensures done { IfOk result (λ answer. (answer, core.new, flight.new.mail) ≡ applied core.old flight.old.mail (attempt number count flight.old.capacity flight.old.mail core.old)) }
-    ensures set_up { flight.new ≡ record flight.old { slots = flight.new.slots; reserved = flight.new.reserved; mail = flight.new.mail } }
+    ensures done { IfOk result (λ answer. (answer, core.new, flight.new.mail) ≡ applied core.old
+        flight.old.mail (attempt number count flight.old.capacity flight.old.mail core.old)) }
+    ensures set_up { flight.new ≡ record flight.old {
+      slots = flight.new.slots;
+      reserved =
+          flight.new.reserved;
+      mail = flight.new.mail;
+    } }
     ensures refused { OnErr result (core.new ≡ core.old) }
     ensures kept { OnErr result (flight.new.mail ≡ flight.old.mail) }
     ensures completed { IsTrue (completes core.old) → IsOk result }
-    ensures memory { OnErr result (flight.old.mail.next < (applied core.old flight.old.mail (attempt number count flight.old.capacity flight.old.mail core.old)).2.next) }
+    ensures memory { OnErr result
+        (flight.old.mail.next < (applied core.old flight.old.mail
+        (attempt number count flight.old.capacity flight.old.mail core.old)).2.next) }
 {
     nothing_completed_keeps();
     let Some((op, _)) = core.open_op() else {
@@ -71,9 +80,17 @@ fn request(
     requires request { IsTrue (is_request body) }
     requires number { core.old.number < flight.old.cores }
     requires banks { core.old.banks ≡ flight.old.banks }
-    ensures done { IfOk result (λ answer. (answer, core.new, flight.new.mail) ≡ applied core.old flight.old.mail (requests flight.old.capacity flight.old.mail core.old op.now body)) }
-    ensures memory { OnErr result (flight.old.mail.next < (applied core.old flight.old.mail (requests flight.old.capacity flight.old.mail core.old op.now body)).2.next) }
-    ensures set_up { flight.new ≡ record flight.old { slots = flight.new.slots; reserved = flight.new.reserved; mail = flight.new.mail } }
+    ensures done { IfOk result (λ answer. (answer, core.new, flight.new.mail) ≡ applied core.old
+        flight.old.mail (requests flight.old.capacity flight.old.mail core.old op.now body)) }
+    ensures memory { OnErr result
+        (flight.old.mail.next < (applied core.old flight.old.mail
+        (requests flight.old.capacity flight.old.mail core.old op.now body)).2.next) }
+    ensures set_up { flight.new ≡ record flight.old {
+      slots = flight.new.slots;
+      reserved =
+          flight.new.reserved;
+      mail = flight.new.mail;
+    } }
     ensures refused { OnErr result (core.new ≡ core.old) }
     ensures kept { OnErr result (flight.new.mail ≡ flight.old.mail) }
 {
@@ -89,7 +106,8 @@ fn request(
 
 /// A core's time goes on by one.
 pub(crate) fn advance(core: &mut Core) -> Answer
-    ensures { (mail : Mail) → (result, core.new, mail) ≡ applied core.old mail (advanced mail (advance core.old)) }
+    ensures { (mail : Mail) → (result, core.new, mail) ≡ applied core.old mail
+        (advanced mail (advance core.old)) }
 {
     match core.advance() {
         Err(Exhausted) => Answer::Refused(Refusal::Exhausted),
@@ -103,10 +121,19 @@ pub(crate) fn evict_copy(
     flight: &mut InFlight,
     line: LineNo,
 ) -> Result<Answer, AllocError>
-    requires endpoints { BackHasEndpoints flight.old.cores flight.old.banks (evict core.old line).0 }
-    ensures done { IfOk result (λ answer. (answer, core.new, flight.new.mail) ≡ applied core.old flight.old.mail (copy_evicted flight.old.capacity flight.old.mail (evict core.old line))) }
-    ensures memory { OnErr result (flight.old.mail.next < (applied core.old flight.old.mail (copy_evicted flight.old.capacity flight.old.mail (evict core.old line))).2.next) }
-    ensures set_up { flight.new ≡ record flight.old { slots = flight.new.slots; reserved = flight.new.reserved; mail = flight.new.mail } }
+    requires endpoints { BackHasEndpoints flight.old.cores flight.old.banks
+        (evict core.old line).0 }
+    ensures done { IfOk result (λ answer. (answer, core.new, flight.new.mail) ≡ applied core.old
+        flight.old.mail (copy_evicted flight.old.capacity flight.old.mail (evict core.old line))) }
+    ensures memory { OnErr result
+        (flight.old.mail.next < (applied core.old flight.old.mail
+        (copy_evicted flight.old.capacity flight.old.mail (evict core.old line))).2.next) }
+    ensures set_up { flight.new ≡ record flight.old {
+      slots = flight.new.slots;
+      reserved =
+          flight.new.reserved;
+      mail = flight.new.mail;
+    } }
     ensures refused { OnErr result (core.new ≡ core.old) }
     ensures kept { OnErr result (flight.new.mail ≡ flight.old.mail) }
 {
@@ -134,10 +161,21 @@ pub(crate) fn evict_entry(
     flight: &mut InFlight,
     line: LineNo,
 ) -> Result<Answer, AllocError>
-    requires endpoints { EvictedHasEndpoints flight.old.cores flight.old.banks (bank_table.evict bank.old line).0 }
-    ensures done { IfOk result (λ answer. (answer, bank.new, flight.new.mail) ≡ applied bank.old flight.old.mail (entry_evicted flight.old.capacity flight.old.mail (bank_table.evict bank.old line))) }
-    ensures memory { OnErr result (flight.old.mail.next < (applied bank.old flight.old.mail (entry_evicted flight.old.capacity flight.old.mail (bank_table.evict bank.old line))).2.next) }
-    ensures set_up { flight.new ≡ record flight.old { slots = flight.new.slots; reserved = flight.new.reserved; mail = flight.new.mail } }
+    requires endpoints { EvictedHasEndpoints flight.old.cores flight.old.banks
+        (bank_table.evict bank.old line).0 }
+    ensures done { IfOk result (λ answer. (answer, bank.new, flight.new.mail) ≡ applied bank.old
+        flight.old.mail (entry_evicted flight.old.capacity flight.old.mail
+        (bank_table.evict bank.old line))) }
+    ensures memory { OnErr result
+        (flight.old.mail.next < (applied bank.old flight.old.mail
+        (entry_evicted flight.old.capacity flight.old.mail
+        (bank_table.evict bank.old line))).2.next) }
+    ensures set_up { flight.new ≡ record flight.old {
+      slots = flight.new.slots;
+      reserved =
+          flight.new.reserved;
+      mail = flight.new.mail;
+    } }
     ensures refused { OnErr result (bank.new ≡ bank.old) }
     ensures kept { OnErr result (flight.new.mail ≡ flight.old.mail) }
 {

@@ -23,11 +23,23 @@ pub(crate) fn react<P: Part>(
     requires there { at_number number flight.old.mail.messages ≡ Some message.now }
     requires case { IsTrue (P.has_case part.old message.now) }
     requires quiet { IsQuiet part.old (P.table part.old message.now) }
-    requires endpoints { IsTrue (can_send flight.old.capacity flight.old.mail (sent_by (P.table part.old message.now))) → ReactionHasEndpoints flight.old.cores flight.old.banks (P.table part.old message.now) }
-    ensures done { IfOk result (λ answer. (answer, part.new, flight.new.mail) ≡ applied part.old flight.old.mail (reacted flight.old.capacity flight.old.mail number (P.table part.old message.now))) }
-    ensures memory { OnErr result (flight.old.mail.next < (applied part.old flight.old.mail (reacted flight.old.capacity flight.old.mail number (P.table part.old message.now))).2.next) }
+    requires endpoints { IsTrue (can_send flight.old.capacity flight.old.mail
+        (sent_by (P.table part.old message.now))) → ReactionHasEndpoints flight.old.cores
+        flight.old.banks (P.table part.old message.now) }
+    ensures done { IfOk result (λ answer. (answer, part.new, flight.new.mail) ≡ applied part.old
+        flight.old.mail (reacted flight.old.capacity flight.old.mail number
+        (P.table part.old message.now))) }
+    ensures memory { OnErr result
+        (flight.old.mail.next < (applied part.old flight.old.mail
+        (reacted flight.old.capacity flight.old.mail number
+        (P.table part.old message.now))).2.next) }
     ensures refused { OnErr result (part.new ≡ part.old) }
-    ensures set_up { flight.new ≡ record flight.old { slots = flight.new.slots; reserved = flight.new.reserved; mail = flight.new.mail } }
+    ensures set_up { flight.new ≡ record flight.old {
+      slots = flight.new.slots;
+      reserved =
+          flight.new.reserved;
+      mail = flight.new.mail;
+    } }
     ensures kept { OnErr result (flight.new.mail ≡ flight.old.mail) }
 {
     let sends = part.sends(message);
@@ -62,7 +74,12 @@ fn settle(flight: &mut InFlight, number: MsgNo, reaction: Reaction) -> Answer
     requires capacity { IsTrue (can_send flight.old.capacity flight.old.mail (sent_in reaction)) }
     requires reserved { IsSome (sent_in reaction) → 0 < flight.old.reserved }
     ensures answer { (result, flight.new.mail) ≡ settled flight.old.mail number reaction }
-    ensures set_up { flight.new ≡ record flight.old { slots = flight.new.slots; reserved = flight.new.reserved; mail = flight.new.mail } }
+    ensures set_up { flight.new ≡ record flight.old {
+      slots = flight.new.slots;
+      reserved =
+          flight.new.reserved;
+      mail = flight.new.mail;
+    } }
 {
     match reaction {
         Reaction::Held => Answer::Held,
@@ -90,7 +107,12 @@ pub(crate) fn send(flight: &mut InFlight, message: Message)
     requires endpoints { IsTrue (has_endpoints flight.old.cores flight.old.banks message) }
     requires capacity { IsTrue (has_capacity flight.old.capacity flight.old.mail) }
     requires reserved { 0 < flight.old.reserved }
-    ensures { flight.new ≡ record flight.old { slots = flight.new.slots; reserved = flight.new.reserved; mail = sent flight.old.mail message } }
+    ensures { flight.new ≡ record flight.old {
+      slots = flight.new.slots;
+      reserved =
+          flight.new.reserved;
+      mail = sent flight.old.mail message;
+    } }
 {
     match flight.send(message) {
         Ok(_) => (),
@@ -100,7 +122,12 @@ pub(crate) fn send(flight: &mut InFlight, message: Message)
 
 // Takes a message that is in flight.
 fn take(flight: &mut InFlight, number: MsgNo)
-    ensures after { flight.new ≡ record flight.old { slots = flight.new.slots; reserved = flight.new.reserved; mail = taken flight.old.mail number } }
+    ensures after { flight.new ≡ record flight.old {
+      slots = flight.new.slots;
+      reserved =
+          flight.new.reserved;
+      mail = taken flight.old.mail number;
+    } }
     ensures reserved { flight.old.reserved ≤ flight.new.reserved }
 {
     let _message = flight.take(number);
@@ -112,7 +139,12 @@ fn answer(flight: &mut InFlight, number: MsgNo, message: Message)
     requires endpoints { IsTrue (has_endpoints flight.old.cores flight.old.banks message) }
     requires number { IsTrue (has_number flight.old.mail) }
     requires reserved { 0 < flight.old.reserved }
-    ensures { flight.new ≡ record flight.old { slots = flight.new.slots; reserved = flight.new.reserved; mail = answered flight.old.mail number message } }
+    ensures { flight.new ≡ record flight.old {
+      slots = flight.new.slots;
+      reserved =
+          flight.new.reserved;
+      mail = answered flight.old.mail number message;
+    } }
 {
     let _more = flight.has_capacity();
     take(flight, number);

@@ -1,7 +1,8 @@
 //! One event of the machine.
 ghost use Rattle.std.specs.Prelude.{◌≡◌, ◌≢◌, ℕ, IfOk, IfSome, IsOk, IsTrue, OnErr, Some, slice_get};
 ghost use Rattle.network.specs.Numbered.{at_number};
-ghost use Rattle.machine_table.specs.Transition.{advance_at, attempt_at, deliver_core, deliver_bank, deliver_dram, deliver_message, evict_copy, evict_entry, issue_at, transition};
+ghost use Rattle.machine_table.specs.Transition.{advance_at, attempt_at, deliver_core, deliver_bank, deliver_dram};
+ghost use Rattle.machine_table.specs.Transition.{deliver_message, evict_copy, evict_entry, issue_at, transition};
 ghost use Rattle.machine_theorem.specs.Kept.{Invariant};
 ghost use Rattle.interleaving_core.specs.Reserved.{completes};
 ghost use Rattle.interleaving_core.specs.Stepped.{Stepped, TakesMemory};
@@ -19,9 +20,11 @@ impl MachineState {
     // An operation is opened at a core. Capacity for its record is reserved here.
     fn issue(&mut self, core: u32, op: Op) -> Result<Answer, AllocError>
         requires { Invariant self.old }
-        ensures done { IfOk result (λ answer. (answer, self.new) ≡ issue_at self.old core op (slice_get self.old.cores core)) }
+        ensures done { IfOk result (λ answer. (answer, self.new) ≡ issue_at self.old core op
+            (slice_get self.old.cores core)) }
         ensures refused { OnErr result (self.new ≡ self.old) }
-        ensures wanted { OnErr result (TakesMemory self.old (issue_at self.old core op (slice_get self.old.cores core))) }
+        ensures wanted { OnErr result
+            (TakesMemory self.old (issue_at self.old core op (slice_get self.old.cores core))) }
     {
         let at = core as usize;
         if at >= self.cores.len() {
@@ -42,10 +45,13 @@ impl MachineState {
     // A core tries to complete its open operation. A completion takes no memory.
     fn attempt(&mut self, core: u32) -> Result<Answer, AllocError>
         requires { Invariant self.old }
-        ensures done { IfOk result (λ answer. (answer, self.new) ≡ attempt_at self.old core (slice_get self.old.cores core)) }
+        ensures done { IfOk result (λ answer. (answer, self.new) ≡ attempt_at self.old core
+            (slice_get self.old.cores core)) }
         ensures refused { OnErr result (self.new ≡ self.old) }
-        ensures wanted { OnErr result (TakesMemory self.old (attempt_at self.old core (slice_get self.old.cores core))) }
-        ensures completed { IfSome (slice_get self.old.cores core) (λ c. IsTrue (completes c) → IsOk result) }
+        ensures wanted { OnErr result
+            (TakesMemory self.old (attempt_at self.old core (slice_get self.old.cores core))) }
+        ensures completed { IfSome (slice_get self.old.cores core)
+            (λ c. IsTrue (completes c) → IsOk result) }
     {
         let at = core as usize;
         if at >= self.cores.len() {
@@ -74,9 +80,11 @@ impl MachineState {
     // A copy of a line leaves a core's cache.
     fn evict_cache(&mut self, core: u32, line: LineNo) -> Result<Answer, AllocError>
         requires { Invariant self.old }
-        ensures done { IfOk result (λ answer. (answer, self.new) ≡ evict_copy self.old core line (slice_get self.old.cores core)) }
+        ensures done { IfOk result (λ answer. (answer, self.new) ≡ evict_copy self.old core line
+            (slice_get self.old.cores core)) }
         ensures refused { OnErr result (self.new ≡ self.old) }
-        ensures wanted { OnErr result (TakesMemory self.old (evict_copy self.old core line (slice_get self.old.cores core))) }
+        ensures wanted { OnErr result
+            (TakesMemory self.old (evict_copy self.old core line (slice_get self.old.cores core))) }
     {
         let at = core as usize;
         if at >= self.cores.len() {
@@ -90,9 +98,12 @@ impl MachineState {
     // A line leaves a bank, or is recalled for that.
     fn evict_bank(&mut self, bank: u32, line: LineNo) -> Result<Answer, AllocError>
         requires { Invariant self.old }
-        ensures done { IfOk result (λ answer. (answer, self.new) ≡ evict_entry self.old bank line (slice_get self.old.banks bank)) }
+        ensures done { IfOk result (λ answer. (answer, self.new) ≡ evict_entry self.old bank line
+            (slice_get self.old.banks bank)) }
         ensures refused { OnErr result (self.new ≡ self.old) }
-        ensures wanted { OnErr result (TakesMemory self.old (evict_entry self.old bank line (slice_get self.old.banks bank))) }
+        ensures wanted { OnErr result
+            (TakesMemory self.old
+            (evict_entry self.old bank line (slice_get self.old.banks bank))) }
     {
         let at = bank as usize;
         if at >= self.banks.len() {
@@ -106,9 +117,12 @@ impl MachineState {
     // A message in flight is delivered.
     fn deliver(&mut self, number: MsgNo) -> Result<Answer, AllocError>
         requires { Invariant self.old }
-        ensures done { IfOk result (λ answer. (answer, self.new) ≡ deliver_message self.old number (at_number number self.old.mail.messages)) }
+        ensures done { IfOk result (λ answer. (answer, self.new) ≡ deliver_message self.old number
+            (at_number number self.old.mail.messages)) }
         ensures refused { OnErr result (self.new ≡ self.old) }
-        ensures wanted { OnErr result (TakesMemory self.old (deliver_message self.old number (at_number number self.old.mail.messages))) }
+        ensures wanted { OnErr result
+            (TakesMemory self.old (deliver_message self.old number
+            (at_number number self.old.mail.messages))) }
     {
         let Some(message) = self.flight.look(number).copied() else {
             return Ok(Answer::Refused(Refusal::NoSuch));
@@ -130,9 +144,11 @@ impl MachineState {
         requires invariant { Invariant self.old }
         requires there { at_number number self.old.mail.messages ≡ Some message.now }
         requires to { message.now.to ≡ Node.Core core }
-        ensures done { IfOk result (λ answer. (answer, self.new) ≡ deliver_core self.old number message.now core (slice_get self.old.cores core)) }
+        ensures done { IfOk result (λ answer. (answer, self.new) ≡ deliver_core self.old number
+            message.now core (slice_get self.old.cores core)) }
         ensures refused { OnErr result (self.new ≡ self.old) }
-        ensures wanted { OnErr result (TakesMemory self.old (deliver_core self.old number message.now core (slice_get self.old.cores core))) }
+        ensures wanted { OnErr result (TakesMemory self.old (deliver_core self.old number message.now core
+            (slice_get self.old.cores core))) }
     {
         let at = core as usize;
         if at >= self.cores.len() {
@@ -153,9 +169,11 @@ impl MachineState {
         requires invariant { Invariant self.old }
         requires there { at_number number self.old.mail.messages ≡ Some message.now }
         requires to { message.now.to ≡ Node.Bank bank }
-        ensures done { IfOk result (λ answer. (answer, self.new) ≡ deliver_bank self.old number message.now bank (slice_get self.old.banks bank)) }
+        ensures done { IfOk result (λ answer. (answer, self.new) ≡ deliver_bank self.old number
+            message.now bank (slice_get self.old.banks bank)) }
         ensures refused { OnErr result (self.new ≡ self.old) }
-        ensures wanted { OnErr result (TakesMemory self.old (deliver_bank self.old number message.now bank (slice_get self.old.banks bank))) }
+        ensures wanted { OnErr result (TakesMemory self.old (deliver_bank self.old number message.now bank
+            (slice_get self.old.banks bank))) }
     {
         let at = bank as usize;
         if at >= self.banks.len() {
@@ -176,9 +194,11 @@ impl MachineState {
         requires invariant { Invariant self.old }
         requires there { at_number number self.old.mail.messages ≡ Some message.now }
         requires to { message.now.to ≡ Node.Dram bank }
-        ensures done { IfOk result (λ answer. (answer, self.new) ≡ deliver_dram self.old number message.now bank (slice_get self.old.drams bank)) }
+        ensures done { IfOk result (λ answer. (answer, self.new) ≡ deliver_dram self.old number
+            message.now bank (slice_get self.old.drams bank)) }
         ensures refused { OnErr result (self.new ≡ self.old) }
-        ensures wanted { OnErr result (TakesMemory self.old (deliver_dram self.old number message.now bank (slice_get self.old.drams bank))) }
+        ensures wanted { OnErr result (TakesMemory self.old (deliver_dram self.old number message.now bank
+            (slice_get self.old.drams bank))) }
     {
         let at = bank as usize;
         if at >= self.drams.len() {
@@ -194,8 +214,11 @@ impl MachineState {
     pub(crate) fn step(&mut self, event: Event) -> Answer
         requires { Invariant self.old }
         ensures stepped { Stepped self.old event result self.new }
-        ensures advanced { (core : ℕ) → event ≡ Event.Advance core → result ≢ Answer.Refused Refusal.NoMemory }
-        ensures completed { (c : ℕ) → event ≡ Event.Attempt c → IfSome (slice_get self.old.cores c) (λ core. IsTrue (completes core) → result ≢ Answer.Refused Refusal.NoMemory) }
+        ensures advanced { (core : ℕ) → event ≡ Event.Advance core →
+            result ≢ Answer.Refused Refusal.NoMemory }
+        ensures completed { (c : ℕ) → event ≡ Event.Attempt c →
+            IfSome (slice_get self.old.cores c) (λ core. IsTrue (completes core) →
+            result ≢ Answer.Refused Refusal.NoMemory) }
     {
         if self.is_stopped {
             return Answer::Refused(Refusal::Stopped);

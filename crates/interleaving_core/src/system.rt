@@ -1,5 +1,7 @@
 //! The machine that users drive, and what is always true of it.
-ghost use Rattle.std.specs.Prelude.{◌≡◌, ◌≢◌, ◌≤◌, ◌<◌, ◌++◌, ◌∷◌, vec_capacity, [], false, true, IfOk, IfErr, IfSome, IsSome, IsTrue, OnErr, OnOk, IsPermutation, IsSorted, length, map, slice_get, slice_index_or, List, ℕ};
+ghost use Rattle.std.specs.Prelude.{◌≡◌, ◌≢◌, ◌≤◌, ◌<◌, ◌++◌, ◌∷◌, vec_capacity, [], false, true, IfOk, IfErr};
+ghost use Rattle.std.specs.Prelude.{IfSome, IsSome, IsTrue, OnErr, OnOk, IsPermutation, IsSorted, length, map};
+ghost use Rattle.std.specs.Prelude.{slice_get, slice_index_or, List, ℕ};
 ghost use Rattle.std.specs.Ordering.{nat_cmp};
 ghost use Rattle.physiological_order.specs.Order.{flat, Legal, Arrangement, of_core, replay_end};
 ghost use Rattle.physiological_order.specs.StaleHits.{RisesByNumber};
@@ -97,8 +99,11 @@ impl System {
     pub fn step(&mut self, event: Event) -> Answer
         ensures stepped { Stepped self.old event result self.new }
         ensures set_up { SetUpAs self.old self.new }
-        ensures advanced { (core : ℕ) → event ≡ Event.Advance core → result ≢ Answer.Refused Refusal.NoMemory }
-        ensures completed { (core : ℕ) → event ≡ Event.Attempt core → IfSome (slice_get self.old.cores core) (λ c. IsTrue (completes c) → result ≢ Answer.Refused Refusal.NoMemory) }
+        ensures advanced { (core : ℕ) → event ≡ Event.Advance core →
+            result ≢ Answer.Refused Refusal.NoMemory }
+        ensures completed { (core : ℕ) → event ≡ Event.Attempt core →
+            IfSome (slice_get self.old.cores core) (λ c. IsTrue (completes c) →
+            result ≢ Answer.Refused Refusal.NoMemory) }
         ensures found { (number : ℕ) → event ≡ Event.Deliver number → IsSome (at_number number self.old.mail.messages) →
             result ≢ Answer.Refused Refusal.NoSuch }
     {
@@ -110,7 +115,8 @@ impl System {
     /// answers is reserved first: if that fails nothing happened.
     pub fn run(&mut self, events: &[Event]) -> Result<Vec<Answer>, AllocError>
         ensures ran { IfOk result (λ answers. Ran self.old events.now answers.items self.new) }
-        ensures throughout { IfOk result (λ answers. (k : ℕ) → IsMidway self.old events.now answers.items self.new k) }
+        ensures throughout { IfOk result (λ answers. (k : ℕ) → IsMidway self.old events.now
+            answers.items self.new k) }
         ensures set_up { SetUpAs self.old self.new }
         ensures refused { OnErr result (self.new ≡ self.old) }
     {
@@ -142,9 +148,11 @@ impl System {
     /// cores were issued. Each core was issued the operations of its records, in their order, and then its open one.
     pub fn records(&self) -> &[Record]
         ensures records { result.now ≡ self.now.records }
-        ensures legal { Legal (flat self.now.opening) (λ core. slice_index_or self.now.issued core []) result.now }
+        ensures legal { Legal (flat self.now.opening) (λ core. slice_index_or self.now.issued
+            core []) result.now }
         ensures rising { RisesByNumber result.now }
-        ensures issued { (core : ℕ) → IsIssued (slice_index_or self.now.issued core []) (of_core core self.now.records) (operation_of (slice_get self.now.cores core)) }
+        ensures issued { (core : ℕ) → IsIssued (slice_index_or self.now.issued core [])
+            (of_core core self.now.records) (operation_of (slice_get self.now.cores core)) }
     {
         self.state.records()
     }
@@ -159,12 +167,13 @@ impl System {
         }
     }
 
-    /// A word's value where its line now stands: with the line's owner, or with its right in flight, or else in the bank,
+    /// A word's value where its line now stands: with the line's owner, or with its ownership in flight, or else in the bank,
     /// or else in a store on its way to DRAM, or else in DRAM. It is the value that the records leave, one after the
     /// other in the order of their times, on the opening memory.
     pub fn coherent(&self, addr: WordAddr) -> u64
         ensures value { result ≡ coherent self.now addr }
-        ensures left { (arranged : List Record) → Arrangement self.now.records arranged → result ≡ replay_end (flat self.now.opening) (map (λ r. r.op) arranged) addr }
+        ensures left { (arranged : List Record) → Arrangement self.now.records arranged →
+            result ≡ replay_end (flat self.now.opening) (map (λ r. r.op) arranged) addr }
     {
         self.state.coherent(addr)
     }

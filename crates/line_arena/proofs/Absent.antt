@@ -1,5 +1,7 @@
 -- The free cells are those that occur nowhere.
-use Rattle.std.proofs.Common.{◌≡◌, ℕ, ◌+◌, ◌<◌, zero, suc, inl, inr, Bool, true, false, cond, not, is_some, List, [], ◌∷◌, length, get_or, sum_by, nat_eq, if◌then◌else◌, Some, None, refl, sym, ap, ◌∙◌, arith, ne_eqb, eq-eqb}
+use Rattle.std.proofs.Common.{◌≡◌, ℕ, ◌+◌, ◌<◌, zero, suc, inl, inr, Bool, true, false, cond, not, is_some, List, []}
+use Rattle.std.proofs.Common.{◌∷◌, length, get_or, sum_by, nat_eq, if◌then◌else◌, Some, None, refl, sym, ap, ◌∙◌}
+use Rattle.std.proofs.Common.{arith, ne_eqb, eq-eqb}
 use Rattle.std.proofs.lemmas.Bool.{cases_eq}
 use Rattle.std.proofs.lemmas.List.Sums.{sum_by-cons}
 use Rattle.line_arena.specs.CellLists.{find_cell, or_else, look_up}
@@ -10,7 +12,8 @@ both : (p : ℕ → Bool) (n : ℕ) → count_below p n + count_below (λ x. not
 both p zero = refl
 both p (suc n) =
     let rest = both p n in
-    elim (p n) as (λ b. cond b 1 0 + count_below p n + (cond (not b) 1 0 + count_below (λ x. not (p x)) n) ≡ suc n) [ true ↦ omega (arith, rest) | false ↦ omega (arith, rest) ]
+    elim (p n) as (λ b. cond b 1 0 + count_below p n + (cond (not b) 1 0 + count_below (λ x. not (p x)) n) ≡ suc n)
+    [ true ↦ omega (arith, rest) | false ↦ omega (arith, rest) ]
 
 never_below : (n : ℕ) → count_below (λ _. false) n ≡ 0
 never_below zero = refl
@@ -21,16 +24,21 @@ same_below p q zero h = refl
 same_below p q (suc n) h = λ i. cond (h n (omega arith) i) 1 0 + same_below p q n (λ x lt. h x (omega arith)) i
 
 -- a test that one more number passes
-one_more : (a : ℕ) (q : ℕ → Bool) (n : ℕ) → a < n → q a ≡ false → count_below (λ x. if nat_eq a x then true else q x) n ≡ 1 + count_below q n
+one_more : (a : ℕ) (q : ℕ → Bool) (n : ℕ) → a < n → q a ≡ false → count_below (λ x. if nat_eq a x then true else q x)
+    n ≡ 1 + count_below q n
 one_more a q zero lt no_a = absurd (omega (arith, lt))
 one_more a q (suc n) lt no_a = elim (cases_eq a n) [
   | inl e ↦
-      let below = same_below (λ x. if nat_eq a x then true else q x) q n (λ x xl. ap (λ b. if b then true else q x) (ne_eqb a x (λ i. absurd (omega arith)))) in
-      let here : ◌≡◌ {A = ℕ} (cond (if nat_eq a n then true else q n) 1 0) 1 = ap (λ b. cond (if b then true else q n) 1 0) (eq-eqb a n e) in
-      let none : ◌≡◌ {A = ℕ} (cond (q n) 1 0) 0 = ap (λ b. cond b 1 0) (ap q (sym e) ∙ no_a) in omega (arith, below, here, none)
+      let below = same_below (λ x. if nat_eq a x then true else q x) q n (λ x xl. ap (λ b. if b then true else q x)
+      (ne_eqb a x (λ i. absurd (omega arith)))) in
+      let here : ◌≡◌ {A = ℕ} (cond (if nat_eq a n then true else q n) 1 0) 1 =
+      ap (λ b. cond (if b then true else q n) 1 0) (eq-eqb a n e) in
+      let none : ◌≡◌ {A = ℕ} (cond (q n) 1 0) 0 = ap (λ b. cond b 1 0) (ap q (sym e) ∙ no_a) in
+      omega (arith, below, here, none)
   | inr ne ↦
       let rest = one_more a q n (omega arith) no_a in
-      let here : ◌≡◌ {A = ℕ} (cond (if nat_eq a n then true else q n) 1 0) (cond (q n) 1 0) = ap (λ b. cond (if b then true else q n) 1 0) (ne_eqb a n ne) in omega (arith, rest, here)
+      let here : ◌≡◌ {A = ℕ} (cond (if nat_eq a n then true else q n) 1 0) (cond (q n) 1 0) =
+      ap (λ b. cond (if b then true else q n) 1 0) (ne_eqb a n ne) in omega (arith, rest, here)
 ]
 
 module _ {X : Type 0} where
@@ -38,7 +46,8 @@ module _ {X : Type 0} where
   find_place x v [] e = cc
   find_place x v (a ∷ xs) e = elim (cases_eq a.0 x) [
     | inl i ↦ (0, ap Some i)
-    | inr ne ↦ let q = find_place x v xs (sym (ap (λ b. if b then Some a.1 else find_cell x xs) (ne_eqb a.0 x ne)) ∙ e) in (suc q.0, q.1)
+    | inr ne ↦ let q = find_place x v xs (sym (ap (λ b. if b then Some a.1 else find_cell x xs) (ne_eqb a.0 x ne))
+        ∙ e) in (suc q.0, q.1)
   ]
 
   -- all cells are below n
@@ -49,7 +58,8 @@ module _ {X : Type 0} where
   Counted n ls = count_below (λ x. is_some (look_up x ls)) n ≡ sum_by length ls
 
   abbrev Once : List (List (ℕ × X)) → Type 0
-  Once ls = (l m i j x : ℕ) → cell_in (get_or ls l []) i ≡ Some x → cell_in (get_or ls m []) j ≡ Some x → (l ≡ m) × (i ≡ j)
+  Once ls = (l m i j x : ℕ) → cell_in (get_or ls l []) i ≡ Some x → cell_in (get_or ls m []) j ≡ Some x → (l ≡ m) ×
+      (i ≡ j)
 
   once_tail : (a : ℕ × X) (r : List (ℕ × X)) (ls : List (List (ℕ × X))) → Once ((a ∷ r) ∷ ls) → Once (r ∷ ls)
   once_tail a r ls o zero zero i j x e f = let q = o 0 0 (suc i) (suc j) x e f in (refl, omega (arith, q.1))
@@ -57,11 +67,13 @@ module _ {X : Type 0} where
   once_tail a r ls o (suc l) zero i j x e f = let q = o (suc l) 0 i (suc j) x e f in absurd (omega (arith, q.0))
   once_tail a r ls o (suc l) (suc m) i j x e f = o (suc l) (suc m) i j x e f
 
-  below_tail : (n : ℕ) (a : ℕ × X) (r : List (ℕ × X)) (ls : List (List (ℕ × X))) → Below n ((a ∷ r) ∷ ls) → Below n (r ∷ ls)
+  below_tail : (n : ℕ) (a : ℕ × X) (r : List (ℕ × X)) (ls : List (List (ℕ × X))) →
+      Below n ((a ∷ r) ∷ ls) → Below n (r ∷ ls)
   below_tail n a r ls b zero i x e = b 0 (suc i) x e
   below_tail n a r ls b (suc l) i x e = b (suc l) i x e
 
-  alone : (a : ℕ × X) (r : List (ℕ × X)) (ls : List (List (ℕ × X))) → Once ((a ∷ r) ∷ ls) → is_some (look_up a.0 (r ∷ ls)) ≡ false
+  alone : (a : ℕ × X) (r : List (ℕ × X)) (ls : List (List (ℕ × X))) → Once ((a ∷ r) ∷ ls) →
+      is_some (look_up a.0 (r ∷ ls)) ≡ false
   alone a r ls o = elim (look_up a.0 (r ∷ ls)) as (λ z. look_up a.0 (r ∷ ls) ≡ z → is_some z ≡ false) [
     | None ↦ λ e. refl
     | Some v ↦ λ e.
@@ -72,22 +84,28 @@ module _ {X : Type 0} where
         ] p.1
   ] refl
 
-  count_list : (n : ℕ) (r : List (ℕ × X)) (ls : List (List (ℕ × X))) → Counted n ls → Once (r ∷ ls) → Below n (r ∷ ls) → Counted n (r ∷ ls)
+  count_list : (n : ℕ) (r : List (ℕ × X)) (ls : List (List (ℕ × X))) → Counted n ls → Once (r ∷ ls) →
+      Below n (r ∷ ls) → Counted n (r ∷ ls)
   count_list n [] ls h o b = h ∙ (let one = sum_by-cons length [] ls in omega (arith, one))
   count_list n (a ∷ r) ls h o b =
       let rest = count_list n r ls h (once_tail a r ls o) (below_tail n a r ls b) in
-      let step : count_below (λ x. is_some (look_up x ((a ∷ r) ∷ ls))) n ≡ count_below (λ x. if nat_eq a.0 x then true else is_some (look_up x (r ∷ ls))) n =
-      same_below (λ x. is_some (look_up x ((a ∷ r) ∷ ls))) (λ x. if nat_eq a.0 x then true else is_some (look_up x (r ∷ ls))) n (λ x lt.
-      elim (nat_eq a.0 x) as (λ c. is_some (or_else (if c then Some a.1 else find_cell x r) (look_up x ls)) ≡ (if c then true else is_some (look_up x (r ∷ ls)))) [ true ↦ refl | false ↦ refl ]) in
+      let step : count_below (λ x. is_some (look_up x ((a ∷ r) ∷ ls))) n ≡ count_below
+      (λ x. if nat_eq a.0 x then true else is_some (look_up x (r ∷ ls))) n =
+      same_below (λ x. is_some (look_up x ((a ∷ r) ∷ ls))) (λ x. if nat_eq a.0 x then true else is_some
+      (look_up x (r ∷ ls))) n (λ x lt.
+      elim (nat_eq a.0 x) as (λ c. is_some (or_else (if c then Some a.1 else find_cell x r) (look_up x ls)) ≡
+      (if c then true else is_some (look_up x (r ∷ ls)))) [ true ↦ refl | false ↦ refl ]) in
       let more = one_more a.0 (λ x. is_some (look_up x (r ∷ ls))) n (b 0 0 a.0 refl) (alone a r ls o) in
-      let one = sum_by-cons length (a ∷ r) ls in let two = sum_by-cons length r ls in omega (arith, rest, step, more, one, two)
+      let one = sum_by-cons length (a ∷ r) ls in let two =
+      sum_by-cons length r ls in omega (arith, rest, step, more, one, two)
 
   once_rest : (r : List (ℕ × X)) (ls : List (List (ℕ × X))) → Once (r ∷ ls) → Once ls
   once_rest r ls o l m i j x e f = let q = o (suc l) (suc m) i j x e f in (omega (arith, q.0), q.1)
 
   counted_all : (n : ℕ) (ls : List (List (ℕ × X))) → Once ls → Below n ls → Counted n ls
   counted_all n [] o b = never_below n
-  counted_all n (r ∷ ls) o b = count_list n r ls (counted_all n ls (once_rest r ls o) (λ l i x e. b (suc l) i x e)) o b
+  counted_all n (r ∷ ls) o b =
+      count_list n r ls (counted_all n ls (once_rest r ls o) (λ l i x e. b (suc l) i x e)) o b
 
   pub free_is_absent : (a : Lists X) → IsOnce a.lists → AreCells a → free_cells a ≡ absent_cells a
   unfolding absent_cells

@@ -1,5 +1,6 @@
 -- A cell that is on no list keeps its node in the block; the lists are those of the block without that node.
-use Rattle.std.proofs.Common.{◌≡◌, ℕ, zero, suc, inl, inr, List, [], ◌∷◌, get_or, set, Option, Some, None, option_map, refl, sym, ap, ◌∙◌}
+use Rattle.std.proofs.Common.{◌≡◌, ℕ, zero, suc, inl, inr, List, [], ◌∷◌, get_or, set, Option, Some, None, option_map}
+use Rattle.std.proofs.Common.{refl, sym, ap, ◌∙◌}
 use Rattle.std.proofs.lemmas.Bool.{cases_lt}
 use Rattle.line_arena.specs.declared.node.Node.{Node}
 use Rattle.line_arena.specs.Filled.{IsFilled}
@@ -26,7 +27,8 @@ module _ {A : Type 0} where
 
 module _ {X : Type 0} where
   set_emptied : (f : Node X → Node X) (cs : List (Option (Node X))) (a x : ℕ)
-      → set (set cs a (option_map f (get_or cs a None))) x None ≡ set (set cs x None) a (option_map f (get_or (set cs x None) a None))
+      → set (set cs a (option_map f (get_or cs a None))) x None ≡ set (set cs x None) a
+      (option_map f (get_or (set cs x None) a None))
   set_emptied f [] a x = refl
   set_emptied f (c ∷ cs) zero zero = refl
   set_emptied f (c ∷ cs) zero (suc x) = refl
@@ -34,9 +36,11 @@ module _ {X : Type 0} where
   set_emptied f (c ∷ cs) (suc a) (suc x) = ap (λ zs. c ∷ zs) (set_emptied f cs a x)
 
   -- an edit of the block, and then without the node of x, is an edit of the block without it
-  pub edit_emptied : (cap : ℕ) (f : Node X → Node X) (cs : List (Option (Node X))) (a x : ℕ) → set (edit cap f cs a) x None ≡ edit cap f (set cs x None) a
+  pub edit_emptied : (cap : ℕ) (f : Node X → Node X) (cs : List (Option (Node X))) (a x : ℕ) → set (edit cap f cs a) x
+      None ≡ edit cap f (set cs x None) a
   edit_emptied cap f cs a x = elim (cases_lt a cap) [
-    | inl lt ↦ ap (λ ds. set ds x None) (edit_in cap f cs a lt) ∙ set_emptied f cs a x ∙ sym (edit_in cap f (set cs x None) a lt)
+    | inl lt ↦ ap (λ ds. set ds x None) (edit_in cap f cs a lt) ∙ set_emptied f cs a x
+        ∙ sym (edit_in cap f (set cs x None) a lt)
     | inr le ↦ ap (λ ds. set ds x None) (edit_out cap f cs a le) ∙ sym (edit_out cap f (set cs x None) a le)
   ]
 
@@ -50,7 +54,8 @@ module _ {X : Type 0} where
   item_set f keeps (c ∷ cs) (suc a) (suc x) = item_set f keeps cs a x
 
   -- an edit of links leaves every item
-  pub edit_item : (cap : ℕ) (f : Node X → Node X) → ((m : Node X) → (f m).item ≡ m.item) → (cs : List (Option (Node X))) (a x : ℕ)
+  pub edit_item : (cap : ℕ) (f : Node X → Node X) → ((m : Node X) → (f m).item ≡ m.item) →
+      (cs : List (Option (Node X))) (a x : ℕ)
       → (at (edit cap f cs a) x).item ≡ (at cs x).item
   edit_item cap f keeps cs a x = elim (cases_lt a cap) [
     | inl lt ↦ ap (λ ds. (at ds x).item) (edit_in cap f cs a lt) ∙ item_set f keeps cs a x

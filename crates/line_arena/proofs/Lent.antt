@@ -29,7 +29,8 @@ module _ (R : RattleType) (each : RowLaws R) where
   row_shared (block_ptr b o) cs = beside_shr_laws _ _ (said_shr_laws (is_short R cs) tt) (slots_shared cs b o)
 
 -- it is made of a borrow, for a lifetime l within that of the values
-module _ (R : RattleType) (L : Laws R) (l : Lft) (within : Incl l R.lives) {M : Type 1} {𝓤 : Ura M} (𝓛 : Logic 𝓤) where
+module _ (R : RattleType) (L : Laws R) (l : Lft) (within : Incl l R.lives) {M : Type 1} {𝓤 : Ura M}
+    (𝓛 : Logic 𝓤) where
   slot_lends : (c : Option R.Denot) (b o : ℕ) → Lends 𝓛 (slot_at R b o c) (lent_slot_at R b o c) l
   slot_lends None b o = Lends-nothing 𝓛 (slot_at R b o None) l
   slot_lends (Some x) b o = λ κ borrow. Shares-less 𝓛 R R.lives l within (L.shares 𝓛) x κ borrow b o
@@ -45,4 +46,5 @@ module _ (R : RattleType) (L : Laws R) (l : Lft) (within : Incl l R.lives) {M : 
   row_lends null_ptr cs = Lends-false 𝓛 (said ffalse) l
   row_lends (block_ptr b o) cs =
       let short = is_short R cs in
-      Lends-both 𝓛 short (slots_at R b o cs) (said short) (lent_slots_at R b o cs) l (Lends-said 𝓛 short tt l) (slots_lend cs b o)
+      Lends-both 𝓛 short (slots_at R b o cs) (said short) (lent_slots_at R b o cs) l (Lends-said 𝓛 short tt l)
+      (slots_lend cs b o)

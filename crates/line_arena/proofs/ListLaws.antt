@@ -1,8 +1,11 @@
 -- Laws of lists of pairs: what a look-up finds, and what a list is, after each change.
-use Rattle.std.proofs.Common.{◌≡◌, ◌≢◌, ℕ, zero, suc, ◌+◌, ◌<◌, inl, inr, ◌⊎◌, true, true≢false, List, [], ◌∷◌, ◌++◌, map, length, get_or, nat_eq, if◌then◌else◌, Some, None, is_some, refl, sym, ap, ◌∙◌, arith, eq-eqb, ne_eqb, length-set, get_or-set_same, get_or-set_other}
+use Rattle.std.proofs.Common.{◌≡◌, ◌≢◌, ℕ, zero, suc, ◌+◌, ◌<◌, inl, inr, ◌⊎◌, true, true≢false, List, [], ◌∷◌, ◌++◌}
+use Rattle.std.proofs.Common.{map, length, get_or, nat_eq, if◌then◌else◌, Some, None, is_some, refl, sym, ap, ◌∙◌}
+use Rattle.std.proofs.Common.{arith, eq-eqb, ne_eqb, length-set, get_or-set_same, get_or-set_other}
 use Rattle.std.proofs.lemmas.Bool.{cases_eq, cases_lt}
 use Rattle.std.proofs.lemmas.List.{get_or-map, get_or_past, length-map}
-use Rattle.line_arena.specs.CellLists.{find_cell, or_else, look_up, first_cell, next_in, next_cell, append_to, without, rewritten}
+use Rattle.line_arena.specs.CellLists.{find_cell, or_else, look_up, first_cell, next_in, next_cell, append_to}
+use Rattle.line_arena.specs.CellLists.{without, rewritten}
 use Rattle.line_arena.specs.Arenas.{cell_in, IsOnce}
 use Rattle.line_arena.specs.ListLaws.{LookUpLaws, AppendLaws, WithoutLaws, RewriteLaws}
 use Rattle.line_arena.proofs.Seen.{some_of, same_some, look_in}
@@ -54,18 +57,22 @@ module _ {A : Type 0} where
     | inr ne ↦ keeps x a xs ne ∙ ap (λ ys. a ∷ ys) (without_none x xs (sym (past x a xs ne) ∙ h))
   ]
 
-  find_written : (x : ℕ) (w : A) (xs : List (ℕ × A)) → is_some (find_cell x xs) ≡ true → find_cell x (rewritten x w xs) ≡ Some w
+  find_written : (x : ℕ) (w : A) (xs : List (ℕ × A)) → is_some (find_cell x xs) ≡ true →
+      find_cell x (rewritten x w xs) ≡ Some w
   find_written x w [] h = absurd (true≢false (sym h))
   find_written x w (a ∷ xs) h = elim (cases_eq a.0 x) [
-    | inl e ↦ here x (a.0, if nat_eq a.0 x then w else a.1) (rewritten x w xs) e ∙ ap (λ b. Some (if b then w else a.1)) (eq-eqb a.0 x e)
-    | inr ne ↦ past x (a.0, if nat_eq a.0 x then w else a.1) (rewritten x w xs) ne ∙ find_written x w xs (ap is_some (sym (past x a xs ne)) ∙ h)
+    | inl e ↦ here x (a.0, if nat_eq a.0 x then w else a.1) (rewritten x w xs) e
+        ∙ ap (λ b. Some (if b then w else a.1)) (eq-eqb a.0 x e)
+    | inr ne ↦ past x (a.0, if nat_eq a.0 x then w else a.1) (rewritten x w xs) ne
+        ∙ find_written x w xs (ap is_some (sym (past x a xs ne)) ∙ h)
   ]
 
   none_written : (x : ℕ) (w : A) (xs : List (ℕ × A)) → find_cell x xs ≡ None → find_cell x (rewritten x w xs) ≡ None
   none_written x w [] e = refl
   none_written x w (a ∷ xs) e = elim (cases_eq a.0 x) [
     | inl i ↦ let two : Some a.1 ≡ None = sym (here x a xs i) ∙ e in cc
-    | inr ne ↦ past x (a.0, if nat_eq a.0 x then w else a.1) (rewritten x w xs) ne ∙ none_written x w xs (sym (past x a xs ne) ∙ e)
+    | inr ne ↦ past x (a.0, if nat_eq a.0 x then w else a.1) (rewritten x w xs) ne
+        ∙ none_written x w xs (sym (past x a xs ne) ∙ e)
   ]
 
   find_unwritten : (x y : ℕ) (w : A) (xs : List (ℕ × A)) → y ≢ x → find_cell y (rewritten x w xs) ≡ find_cell y xs
@@ -73,7 +80,8 @@ module _ {A : Type 0} where
   find_unwritten x y w (a ∷ xs) ne = elim (cases_eq a.0 y) [
     | inl e ↦ here y (a.0, if nat_eq a.0 x then w else a.1) (rewritten x w xs) e
         ∙ ap (λ b. Some (if b then w else a.1)) (ne_eqb a.0 x (λ i. ne (sym e ∙ i))) ∙ sym (here y a xs e)
-    | inr d ↦ past y (a.0, if nat_eq a.0 x then w else a.1) (rewritten x w xs) d ∙ find_unwritten x y w xs ne ∙ sym (past y a xs d)
+    | inr d ↦ past y (a.0, if nat_eq a.0 x then w else a.1) (rewritten x w xs) d ∙ find_unwritten x y w xs ne
+        ∙ sym (past y a xs d)
   ]
 
   cells_written : (x : ℕ) (w : A) (xs : List (ℕ × A)) → map (λ a. a.0) (rewritten x w xs) ≡ map (λ a. a.0) xs
@@ -89,10 +97,12 @@ module _ {A : Type 0} where
   ]
 
   none_or_some : (x : ℕ) (xs : List (ℕ × A)) → (find_cell x xs ≡ None) ⊎ (is_some (find_cell x xs) ≡ true)
-  none_or_some x xs = elim (find_cell x xs) as (λ o. (o ≡ None) ⊎ (is_some o ≡ true)) [ None ↦ inl refl | Some v ↦ inr refl ]
+  none_or_some x xs =
+      elim (find_cell x xs) as (λ o. (o ≡ None) ⊎ (is_some o ≡ true)) [ None ↦ inl refl | Some v ↦ inr refl ]
 
   -- a cell that occurs once is taken off
-  one_fewer : (x : ℕ) (xs : List (ℕ × A)) → ((i j : ℕ) → cell_in xs i ≡ Some x → cell_in xs j ≡ Some x → i ≡ j) → is_some (find_cell x xs) ≡ true
+  one_fewer : (x : ℕ) (xs : List (ℕ × A)) → ((i j : ℕ) → cell_in xs i ≡ Some x → cell_in xs j ≡ Some x → i ≡ j) →
+      is_some (find_cell x xs) ≡ true
       → length (without x xs) + 1 ≡ length xs
   one_fewer x [] once h = absurd (true≢false (sym h))
   one_fewer x (a ∷ xs) once h = elim (cases_eq a.0 x) [
@@ -104,12 +114,14 @@ module _ {A : Type 0} where
         ] in
         let same = ap length (cut x a xs e ∙ without_none x xs rest) in omega (arith, same)
     | inr ne ↦
-        let rest = one_fewer x xs (λ i j p q. (let same = once (suc i) (suc j) p q in omega (arith, same))) (ap is_some (sym (past x a xs ne)) ∙ h) in
+        let rest = one_fewer x xs (λ i j p q. (let same = once (suc i) (suc j) p q in omega (arith, same)))
+        (ap is_some (sym (past x a xs ne)) ∙ h) in
         let same = ap length (keeps x a xs ne) in omega (arith, rest, same)
   ]
 
   -- all lists
-  look_map : (x : ℕ) (f : List (ℕ × A) → List (ℕ × A)) (ls : List (List (ℕ × A))) → ((xs : List (ℕ × A)) → find_cell x (f xs) ≡ find_cell x xs) → look_up x (map f ls) ≡ look_up x ls
+  look_map : (x : ℕ) (f : List (ℕ × A) → List (ℕ × A)) (ls : List (List (ℕ × A))) →
+      ((xs : List (ℕ × A)) → find_cell x (f xs) ≡ find_cell x xs) → look_up x (map f ls) ≡ look_up x ls
   look_map x f [] h = refl
   look_map x f (r ∷ ls) h = (λ i. or_else (h r i) (look_map x f ls h i))
 
@@ -117,7 +129,8 @@ module _ {A : Type 0} where
   look_gone x [] = refl
   look_gone x (r ∷ ls) = ap (λ o. or_else o (look_up x (map (without x) ls))) (find_gone x r) ∙ look_gone x ls
 
-  look_written : (x : ℕ) (w : A) (ls : List (List (ℕ × A))) → is_some (look_up x ls) ≡ true → look_up x (map (rewritten x w) ls) ≡ Some w
+  look_written : (x : ℕ) (w : A) (ls : List (List (ℕ × A))) → is_some (look_up x ls) ≡ true →
+      look_up x (map (rewritten x w) ls) ≡ Some w
   look_written x w [] h = absurd (true≢false (sym h))
   look_written x w (r ∷ ls) h = elim (none_or_some x r) [
     | inr some ↦ ap (λ o. or_else o (look_up x (map (rewritten x w) ls))) (find_written x w r some)
@@ -127,7 +140,8 @@ module _ {A : Type 0} where
         ∙ look_written x w ls (ap (λ o. is_some (or_else o (look_up x ls))) (sym none) ∙ h)
   ]
 
-  look_end : (ls : List (List (ℕ × A))) (l x : ℕ) (v : A) → l < length ls → look_up x ls ≡ None → look_up x (append_to l (x, v) ls) ≡ Some v
+  look_end : (ls : List (List (ℕ × A))) (l x : ℕ) (v : A) → l < length ls → look_up x ls ≡ None →
+      look_up x (append_to l (x, v) ls) ≡ Some v
   look_end [] l x v lt h = absurd (omega (arith, lt))
   look_end (r ∷ ls) l x v lt h = elim (none_or_some x r) [
     | inr some ↦ let s = some_of (find_cell x r) some in
@@ -136,23 +150,28 @@ module _ {A : Type 0} where
         let rest : look_up x ls ≡ None = ap (λ o. or_else o (look_up x ls)) (sym none) ∙ h in
         elim l as (λ k. k < length (r ∷ ls) → look_up x (append_to k (x, v) (r ∷ ls)) ≡ Some v) [
           | zero ↦ λ low. ap (λ o. or_else o (look_up x ls)) (find_end x v r none)
-          | suc k ↦ λ low. ap (λ o. or_else o (look_up x (append_to k (x, v) ls))) none ∙ look_end ls k x v (omega (arith, low)) rest
+          | suc k ↦ λ low. ap (λ o. or_else o (look_up x (append_to k (x, v) ls))) none
+              ∙ look_end ls k x v (omega (arith, low)) rest
         ] lt
   ]
 
-  look_other : (ls : List (List (ℕ × A))) (l x y : ℕ) (v : A) → y ≢ x → look_up y (append_to l (x, v) ls) ≡ look_up y ls
+  look_other : (ls : List (List (ℕ × A))) (l x y : ℕ) (v : A) → y ≢ x →
+      look_up y (append_to l (x, v) ls) ≡ look_up y ls
   look_other [] l x y v ne = refl
   look_other (r ∷ ls) zero x y v ne = ap (λ o. or_else o (look_up y ls)) (find_end_other x y v r ne)
   look_other (r ∷ ls) (suc l) x y v ne = ap (or_else (find_cell y r)) (look_other ls l x y v ne)
 
-  get_map : (f : List (ℕ × A) → List (ℕ × A)) (ls : List (List (ℕ × A))) (l : ℕ) → f [] ≡ [] → get_or (map f ls) l [] ≡ f (get_or ls l [])
+  get_map : (f : List (ℕ × A) → List (ℕ × A)) (ls : List (List (ℕ × A))) (l : ℕ) → f [] ≡ [] →
+      get_or (map f ls) l [] ≡ f (get_or ls l [])
   get_map f ls l empty = elim (cases_lt l (length ls)) [
     | inl lt ↦ get_or-map f ls l [] [] lt
-    | inr le ↦ get_or_past (map f ls) l [] (let long = length-map ls f in omega (arith, le, long)) ∙ sym empty ∙ ap f (sym (get_or_past ls l [] le))
+    | inr le ↦ get_or_past (map f ls) l [] (let long = length-map ls f in omega (arith, le, long)) ∙ sym empty
+        ∙ ap f (sym (get_or_past ls l [] le))
   ]
 
   -- what is found on a list is found
-  look_some : (ls : List (List (ℕ × A))) (l x : ℕ) → is_some (find_cell x (get_or ls l [])) ≡ true → is_some (look_up x ls) ≡ true
+  look_some : (ls : List (List (ℕ × A))) (l x : ℕ) → is_some (find_cell x (get_or ls l [])) ≡ true →
+      is_some (look_up x ls) ≡ true
   look_some [] l x h = absurd (true≢false (sym h))
   look_some (r ∷ ls) zero x h = let s = some_of (find_cell x r) h in ap (λ o. is_some (or_else o (look_up x ls))) s.1
   look_some (r ∷ ls) (suc l) x h = elim (none_or_some x r) [
@@ -164,36 +183,44 @@ module _ {A : Type 0} where
   first_found x [] e = cc
   first_found x (a ∷ xs) e = ap is_some (here x a xs (same_some a.0 x e))
 
-  later_found : (x : ℕ) (a : ℕ × A) (xs : List (ℕ × A)) → is_some (find_cell x xs) ≡ true → is_some (find_cell x (a ∷ xs)) ≡ true
-  later_found x a xs h = elim (cases_eq a.0 x) [ inl e ↦ ap is_some (here x a xs e) | inr ne ↦ ap is_some (past x a xs ne) ∙ h ]
+  later_found : (x : ℕ) (a : ℕ × A) (xs : List (ℕ × A)) → is_some (find_cell x xs) ≡ true →
+      is_some (find_cell x (a ∷ xs)) ≡ true
+  later_found x a xs h =
+      elim (cases_eq a.0 x) [ inl e ↦ ap is_some (here x a xs e) | inr ne ↦ ap is_some (past x a xs ne) ∙ h ]
 
   next_found : (x y : ℕ) (xs : List (ℕ × A)) → next_in x xs ≡ Some y → is_some (find_cell y xs) ≡ true
   next_found x y [] e = cc
   next_found x y (a ∷ xs) e = elim (cases_eq a.0 x) [
-    | inl i ↦ later_found y a xs (first_found y xs (sym (ap (λ b. if b then first_cell xs else next_in x xs) (eq-eqb a.0 x i)) ∙ e))
-    | inr ne ↦ later_found y a xs (next_found x y xs (sym (ap (λ b. if b then first_cell xs else next_in x xs) (ne_eqb a.0 x ne)) ∙ e))
+    | inl i ↦ later_found y a xs
+        (first_found y xs (sym (ap (λ b. if b then first_cell xs else next_in x xs) (eq-eqb a.0 x i)) ∙ e))
+    | inr ne ↦ later_found y a xs
+        (next_found x y xs (sym (ap (λ b. if b then first_cell xs else next_in x xs) (ne_eqb a.0 x ne)) ∙ e))
   ]
 
   next_held : (ls : List (List (ℕ × A))) (x y : ℕ) → next_cell x ls ≡ Some y → is_some (look_up y ls) ≡ true
   next_held [] x y e = cc
-  next_held (r ∷ ls) x y e = elim (next_in x r) as (λ o. next_in x r ≡ o → or_else o (next_cell x ls) ≡ Some y → is_some (look_up y (r ∷ ls)) ≡ true) [
-    | Some z ↦ λ is same. look_some (r ∷ ls) 0 y (next_found x y r (is ∙ same))
-    | None ↦ λ is rest. (let s = some_of (look_up y ls) (next_held ls x y rest) in
-        let q = look_in y s.0 ls s.1 in look_some (r ∷ ls) (suc q.0) y (ap is_some q.2))
-  ] refl e
+  next_held (r ∷ ls) x y e = elim (next_in x r) as (λ o. next_in x r ≡ o → or_else o (next_cell x ls) ≡ Some y →
+      is_some (look_up y (r ∷ ls)) ≡ true) [
+        | Some z ↦ λ is same. look_some (r ∷ ls) 0 y (next_found x y r (is ∙ same))
+        | None ↦ λ is rest. (let s = some_of (look_up y ls) (next_held ls x y rest) in
+            let q = look_in y s.0 ls s.1 in look_some (r ∷ ls) (suc q.0) y (ap is_some q.2))
+      ] refl e
 
-  one_list : (ls : List (List (ℕ × A))) (l m x : ℕ) → IsOnce ls → is_some (find_cell x (get_or ls l [])) ≡ true → is_some (find_cell x (get_or ls m [])) ≡ true → l ≡ m
+  one_list : (ls : List (List (ℕ × A))) (l m x : ℕ) → IsOnce ls → is_some (find_cell x (get_or ls l [])) ≡ true →
+      is_some (find_cell x (get_or ls m [])) ≡ true → l ≡ m
   one_list ls l m x once some also =
       let p = place_of x (get_or ls l []) some in
       let q = place_of x (get_or ls m []) also in (once.once l m p.0 q.0 x p.1 q.1).0
 
-  here_held : (ls : List (List (ℕ × A))) (l x : ℕ) (v : A) → IsOnce ls → find_cell x (get_or ls l []) ≡ Some v → look_up x ls ≡ Some v
+  here_held : (ls : List (List (ℕ × A))) (l x : ℕ) (v : A) → IsOnce ls → find_cell x (get_or ls l []) ≡ Some v →
+      look_up x ls ≡ Some v
   here_held ls l x v once e =
       let s = some_of (look_up x ls) (look_some ls l x (ap is_some e)) in let q = look_in x s.0 ls s.1 in
       let same = one_list ls q.0 l x once (ap is_some q.2) (ap is_some e) in
       s.1 ∙ sym q.2 ∙ ap (λ k. find_cell x (get_or ls k [])) same ∙ e
 
-  kept_apart : (ls : List (List (ℕ × A))) (x l m : ℕ) → IsOnce ls → is_some (find_cell x (get_or ls l [])) ≡ true → m ≢ l → without x (get_or ls m []) ≡ get_or ls m []
+  kept_apart : (ls : List (List (ℕ × A))) (x l m : ℕ) → IsOnce ls → is_some (find_cell x (get_or ls l [])) ≡ true →
+      m ≢ l → without x (get_or ls m []) ≡ get_or ls m []
   kept_apart ls x l m once some ne = without_none x (get_or ls m []) (elim (none_or_some x (get_or ls m [])) [
     | inl none ↦ none
     | inr also ↦

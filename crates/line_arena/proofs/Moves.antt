@@ -1,11 +1,14 @@
 -- What the steps of the code leave of the lists.
-use Rattle.std.proofs.Common.{◌≡◌, ◌≢◌, ℕ, ◌+◌, ◌-◌, ◌<◌, ◌≤◌, inl, inr, List, [], ◌∷◌, ◌++◌, map, length, get_or, set, nat_lt, if◌then◌else◌, Option, Some, None, option_map, refl, sym, ap, subst, ◌∙◌, arith, length-set, get_or-set_same, get_or-set_other, length-append, ext_get_or}
+use Rattle.std.proofs.Common.{◌≡◌, ◌≢◌, ℕ, ◌+◌, ◌-◌, ◌<◌, ◌≤◌, inl, inr, List, [], ◌∷◌, ◌++◌, map, length, get_or}
+use Rattle.std.proofs.Common.{set, nat_lt, if◌then◌else◌, Option, Some, None, option_map, refl, sym, ap, subst, ◌∙◌}
+use Rattle.std.proofs.Common.{arith, length-set, get_or-set_same, get_or-set_other, length-append, ext_get_or}
 use Rattle.std.proofs.lemmas.Bool.{cases_lt, cases_eq}
 use Rattle.std.proofs.lemmas.List.{get_or-map, length-map}
 use Rattle.line_arena.specs.declared.node.Node.{Node}
 use Rattle.line_arena.specs.declared.node.Head.{Head}
 use Rattle.line_arena.specs.Filled.{IsFilled}
-use Rattle.line_arena.specs.Rings.{no_head, node, or_blank, with_next, with_prev, edit, first_of, last_of, Has, IsApart, Tied, rings}
+use Rattle.line_arena.specs.Rings.{no_head, node, or_blank, with_next, with_prev, edit, first_of, last_of, Has}
+use Rattle.line_arena.specs.Rings.{IsApart, Tied, rings}
 use Rattle.line_arena.specs.CellLists.{without, find_cell, look_up}
 use Rattle.line_arena.proofs.Finds.{find_absent, find_part, look_at_list}
 use Rattle.line_arena.proofs.Links.{has_left, has_right, apart_split, parted}
@@ -16,54 +19,74 @@ use Rattle.std.proofs.lemmas.List.Sums.{sum_by-set}
 use Rattle.line_arena.specs.Chains.{total}
 
 module _ {X : Type 0} where
-  pub edit_filled : (cap : ℕ) (f : Node X → Node X) (cs : List (Option (Node X))) (a y : ℕ) → length cs ≡ cap → IsFilled cs y → IsFilled (edit cap f cs a) y
+  pub edit_filled : (cap : ℕ) (f : Node X → Node X) (cs : List (Option (Node X))) (a y : ℕ) → length cs ≡ cap →
+      IsFilled cs y → IsFilled (edit cap f cs a) y
   edit_filled cap f cs a y long full = elim (cases_eq y a) [
-    | inl e ↦ (f full.0, subst (λ z. get_or (edit cap f cs z) y None ≡ Some (f full.0)) e (edit_same cap f cs y full.0 long full.1))
+    | inl e ↦ (
+      f full.0,
+      subst (λ z. get_or (edit cap f cs z) y None ≡ Some (f full.0)) e
+          (edit_same cap f cs y full.0 long full.1),
+    )
     | inr ne ↦ (full.0, edit_other cap f cs a y ne ∙ full.1)
   ]
 
-  pub edit_none : (cap : ℕ) (f : Node X → Node X) (cs : List (Option (Node X))) (a y : ℕ) → length cs ≡ cap → get_or cs y None ≡ None → get_or (edit cap f cs a) y None ≡ None
+  pub edit_none : (cap : ℕ) (f : Node X → Node X) (cs : List (Option (Node X))) (a y : ℕ) → length cs ≡ cap →
+      get_or cs y None ≡ None → get_or (edit cap f cs a) y None ≡ None
   edit_none cap f cs a y long none = elim (cases_eq y a) [
     | inr ne ↦ edit_other cap f cs a y ne ∙ none
     | inl e ↦ elim (cases_lt a cap) [
       | inr le ↦ ap (λ ds. get_or ds y None) (edit_out cap f cs a le) ∙ none
-      | inl lt ↦ ap (λ z. get_or (edit cap f cs a) z None) e ∙ ap (λ ds. get_or ds a None) (edit_in cap f cs a lt) ∙ get_or-set_same cs a (option_map f (get_or cs a None)) None (omega arith)
+      | inl lt ↦ ap (λ z. get_or (edit cap f cs a) z None) e ∙ ap (λ ds. get_or ds a None) (edit_in cap f cs a lt)
+          ∙ get_or-set_same cs a (option_map f (get_or cs a None)) None (omega arith)
           ∙ ap (option_map f) (subst (λ z. get_or cs z None ≡ None) e none)
     ]
   ]
 
   pub without_absent : (x : ℕ) (xs : List (ℕ × Option X)) → (Has xs x → ⊥) → without x xs ≡ xs
   without_absent x [] no_x = refl
-  without_absent x (a ∷ xs) no_x = ap (λ b. if b then without x xs else a ∷ without x xs) (ne_eqb a.0 x (λ e. no_x (inl e))) ∙ ap (λ ys. a ∷ ys) (without_absent x xs (λ w. no_x (inr w)))
+  without_absent x (a ∷ xs) no_x = ap (λ b. if b then without x xs else a ∷ without x xs)
+      (ne_eqb a.0 x (λ e. no_x (inl e))) ∙ ap (λ ys. a ∷ ys) (without_absent x xs (λ w. no_x (inr w)))
 
-  without_parts : (x : ℕ) (it : Option X) (us bs : List (ℕ × Option X)) → (Has us x → ⊥) → (Has bs x → ⊥) → without x (us ++ (x, it) ∷ bs) ≡ us ++ bs
-  without_parts x it [] bs nu nb = ap (λ b. if b then without x bs else (x, it) ∷ without x bs) (eq-eqb x x refl) ∙ without_absent x bs nb
+  without_parts : (x : ℕ) (it : Option X) (us bs : List (ℕ × Option X)) → (Has us x → ⊥) → (Has bs x → ⊥) →
+      without x (us ++ (x, it) ∷ bs) ≡ us ++ bs
+  without_parts x it [] bs nu nb = ap (λ b. if b then without x bs else (x, it) ∷ without x bs) (eq-eqb x x refl)
+      ∙ without_absent x bs nb
   without_parts x it (a ∷ us) bs nu nb =
-      ap (λ b. if b then without x (us ++ (x, it) ∷ bs) else a ∷ without x (us ++ (x, it) ∷ bs)) (ne_eqb a.0 x (λ e. nu (inl e))) ∙ ap (λ ys. a ∷ ys) (without_parts x it us bs (λ w. nu (inr w)) nb)
+      ap (λ b. if b then without x (us ++ (x, it) ∷ bs) else a ∷ without x (us ++ (x, it) ∷ bs))
+      (ne_eqb a.0 x (λ e. nu (inl e))) ∙ ap (λ ys. a ∷ ys) (without_parts x it us bs (λ w. nu (inr w)) nb)
 
-module _ {X : Type 0} (cs : List (Option (Node X))) (cap : ℕ) (heads : List Head) (t : Tied cs cap heads (rings cs heads)) where
+module _ {X : Type 0} (cs : List (Option (Node X))) (cap : ℕ) (heads : List Head)
+    (t : Tied cs cap heads (rings cs heads)) where
   abbrev rs : List (List (ℕ × Option X))
   rs = rings cs heads
 
   abbrev Result : List (Option (Node X)) → List Head → List (List (ℕ × Option X)) → Type 0
   Result ds hs ss = Tied ds cap hs (rings ds hs) × (rings ds hs ≡ ss)
 
-  from_tied : (ds : List (Option (Node X))) (hs : List Head) (ss : List (List (ℕ × Option X))) → Tied ds cap hs ss → Result ds hs ss
+  from_tied : (ds : List (Option (Node X))) (hs : List Head) (ss : List (List (ℕ × Option X))) →
+      Tied ds cap hs ss → Result ds hs ss
   from_tied ds hs ss m = let e = rings_are ds cap hs ss m in (subst (Tied ds cap hs) (sym e) m, e)
 
-  pub attach_made : (l x : ℕ) (it : Option X) (h : Head) (first : ℕ) (ds : List (Option (Node X))) → l < length heads → x < cap → get_or cs x None ≡ None → h ≡ get_or heads l no_head
-      → first ≡ (if nat_lt h.last cap then h.first else x) → ds ≡ edit cap (with_next x) (set cs x (Some (node h.last (cap + l) l it))) h.last
-      → Result ds (set heads l (record { first = first; last = x; count = h.count + 1 })) (set rs l (get_or rs l [] ++ (x, it) ∷ []))
+  pub attach_made : (l x : ℕ) (it : Option X) (h : Head) (first : ℕ) (ds : List (Option (Node X))) →
+      l < length heads → x < cap → get_or cs x None ≡ None → h ≡ get_or heads l no_head
+      → first ≡ (if nat_lt h.last cap then h.first else x) → ds ≡ edit cap (with_next x)
+      (set cs x (Some (node h.last (cap + l) l it))) h.last
+      → Result ds (set heads l (record { first = first; last = x; count = h.count + 1 }))
+      (set rs l (get_or rs l [] ++ (x, it) ∷ []))
   attach_made l x it h first ds lt small free eh =
-      let goal = λ (h : Head) (first : ℕ) (ds : List (Option (Node X))). Result ds (set heads l (record { first = first; last = x; count = h.count + 1 })) (set rs l (get_or rs l [] ++ (x, it) ∷ [])) in
+      let goal = λ (h : Head) (first : ℕ) (ds : List (Option (Node X))).
+      Result ds (set heads l (record { first = first; last = x; count = h.count + 1 }))
+      (set rs l (get_or rs l [] ++ (x, it) ∷ [])) in
       let first_is = λ (h : Head). if nat_lt h.last cap then h.first else x in
       let cells_are = λ (h : Head). edit cap (with_next x) (set cs x (Some (node h.last (cap + l) l it))) h.last in
       subst (λ h. first ≡ first_is h → ds ≡ cells_are h → goal h first ds) (sym eh) (λ ef ed.
       let g = get_or heads l no_head in
-      subst (λ z. goal g z ds) (sym ef) (subst (λ z. goal g (first_is g) z) (sym ed) (from_tied _ _ _ (attached cs cap heads rs t l x it lt small free))))
+      subst (λ z. goal g z ds) (sym ef) (subst (λ z. goal g (first_is g) z) (sym ed)
+      (from_tied _ _ _ (attached cs cap heads rs t l x it lt small free))))
 
   -- the last cell of a list is a used one
-  pub last_near : (l x : ℕ) (h : Head) (n : Node X) → l < length heads → get_or cs x None ≡ None → h ≡ get_or heads l no_head → h.last < cap → IsFilled (set cs x (Some n)) h.last
+  pub last_near : (l x : ℕ) (h : Head) (n : Node X) → l < length heads → get_or cs x None ≡ None →
+      h ≡ get_or heads l no_head → h.last < cap → IsFilled (set cs x (Some n)) h.last
   last_near l x h n lt free eh low =
       let r = get_or rs l [] in
       let e : h.last ≡ last_of (cap + l) r = ap (λ h. h.last) eh ∙ (t.ring l lt).last in
@@ -71,7 +94,8 @@ module _ {X : Type 0} (cs : List (Option (Node X))) (cap : ℕ) (heads : List He
         | inl i ↦ let at_end = e ∙ i in absurd (omega arith)
         | inr w ↦
             let s = on_list cs cap heads rs t l h.last lt (subst (Has r) (sym e) w) in
-            let ne : h.last ≢ x = λ i. let two : Some (node s.0 s.1 l s.2) ≡ None = sym s.3 ∙ ap (λ k. get_or cs k None) i ∙ free in cc in
+            let ne : h.last ≢ x = λ i. let two : Some (node s.0 s.1 l s.2) ≡ None =
+            sym s.3 ∙ ap (λ k. get_or cs k None) i ∙ free in cc in
             (node s.0 s.1 l s.2, get_or-set_other cs x h.last (Some n) None ne ∙ s.3)
       ]
 
@@ -95,7 +119,8 @@ module _ {X : Type 0} (cs : List (Option (Node X))) (cap : ℕ) (heads : List He
     cut = apart_split parts.0 (x, parts.1) parts.2 (subst IsApart parts.3 (t.ring l lt).apart)
 
     near : (y : ℕ) → Has r y → y ≢ x → IsFilled (set cs x None) y
-    near y w ne = let s = on_list cs cap heads rs t l y lt w in (node s.0 s.1 l s.2, get_or-set_other cs x y None None ne ∙ s.3)
+    near y w ne = let s =
+        on_list cs cap heads rs t l y lt w in (node s.0 s.1 l s.2, get_or-set_other cs x y None None ne ∙ s.3)
 
     -- the neighbours are used cells, or the end of the list
     pub prev_near : nd.prev < cap → IsFilled (set cs x None) nd.prev
@@ -104,7 +129,8 @@ module _ {X : Type 0} (cs : List (Option (Node X))) (cap : ℕ) (heads : List He
         elim (last_in (cap + l) parts.0) [
           | inl i ↦ let at_end = e ∙ i in absurd (omega arith)
           | inr w ↦ let v = subst (Has parts.0) (sym e) w in
-              near nd.prev (subst (λ zs. Has zs nd.prev) (sym parts.3) (has_left parts.0 ((x, parts.1) ∷ parts.2) nd.prev v)) (λ i. cut.0 (subst (Has parts.0) i v))
+              near nd.prev (subst (λ zs. Has zs nd.prev) (sym parts.3) (has_left parts.0 ((x, parts.1) ∷ parts.2)
+              nd.prev v)) (λ i. cut.0 (subst (Has parts.0) i v))
         ]
 
     pub next_near : nd.next < cap → IsFilled (set cs x None) nd.next
@@ -113,11 +139,13 @@ module _ {X : Type 0} (cs : List (Option (Node X))) (cap : ℕ) (heads : List He
         elim (first_in parts.2 (cap + l)) [
           | inl i ↦ let at_end = e ∙ i in absurd (omega arith)
           | inr w ↦ let v = subst (Has parts.2) (sym e) w in
-              near nd.next (subst (λ zs. Has zs nd.next) (sym parts.3) (has_right parts.0 ((x, parts.1) ∷ parts.2) nd.next (inr v))) (λ i. cut.1 (subst (Has parts.2) i v))
+              near nd.next (subst (λ zs. Has zs nd.next) (sym parts.3) (has_right parts.0 ((x, parts.1) ∷ parts.2)
+              nd.next (inr v))) (λ i. cut.1 (subst (Has parts.2) i v))
         ]
 
     pub some : 1 ≤ (get_or heads l no_head).count
-    some = let c = (t.ring l lt).count ∙ ap length parts.3 in omega (arith, c, length-append parts.0 ((x, parts.1) ∷ parts.2))
+    some = let c = (t.ring l lt).count ∙ ap length parts.3 in
+        omega (arith, c, length-append parts.0 ((x, parts.1) ∷ parts.2))
 
     pub on_one : l < length heads
     on_one = lt
@@ -126,51 +154,73 @@ module _ {X : Type 0} (cs : List (Option (Node X))) (cap : ℕ) (heads : List He
     lists_without : set rs l (parts.0 ++ parts.2) ≡ map (without x) rs
     lists_without =
         let long = length-set rs l (parts.0 ++ parts.2) in let many = t.many in
-        ext_get_or [] (set rs l (parts.0 ++ parts.2)) (map (without x) rs) (long ∙ sym (length-map rs (without x))) (λ m within_all.
+        ext_get_or [] (set rs l (parts.0 ++ parts.2)) (map (without x) rs) (long ∙ sym (length-map rs (without x)))
+        (λ m within_all.
         let in_rs : m < length rs = omega arith in
         elim (cases_eq m l) [
-          | inl i ↦ ap (λ k. get_or (set rs l (parts.0 ++ parts.2)) k []) i ∙ get_or-set_same rs l (parts.0 ++ parts.2) [] (omega (arith, lt))
-              ∙ sym (without_parts x parts.1 parts.0 parts.2 cut.0 cut.1) ∙ ap (without x) (sym parts.3) ∙ sym (ap (λ k. without x (get_or rs k [])) i) ∙ sym (get_or-map (without x) rs m [] [] in_rs)
+          | inl i ↦ ap (λ k. get_or (set rs l (parts.0 ++ parts.2)) k []) i ∙ get_or-set_same rs l
+              (parts.0 ++ parts.2) [] (omega (arith, lt))
+              ∙ sym (without_parts x parts.1 parts.0 parts.2 cut.0 cut.1) ∙ ap (without x) (sym parts.3)
+              ∙ sym (ap (λ k. without x (get_or rs k [])) i) ∙ sym (get_or-map (without x) rs m [] [] in_rs)
           | inr ne ↦ get_or-set_other rs l m (parts.0 ++ parts.2) [] ne
-              ∙ sym (without_absent x (get_or rs m []) (λ w. one_list cs cap heads rs t l m x x lt (omega arith) ne (t.on x nd here).1 w refl)) ∙ sym (get_or-map (without x) rs m [] [] in_rs)
+              ∙ sym (without_absent x (get_or rs m []) (λ w. one_list cs cap heads rs t l m x x lt (omega arith) ne
+              (t.on x nd here).1 w refl)) ∙ sym (get_or-map (without x) rs m [] [] in_rs)
         ])
 
     -- what the look-up finds at the cell
     pub found : look_up x rs ≡ Some nd.item
     found =
         let many = t.many in
-        look_at_list x parts.1 rs l (omega (arith, lt)) (ap (find_cell x) parts.3 ∙ find_part x parts.1 parts.0 parts.2 cut.0) (λ m mt ne.
-        find_absent x (get_or rs m []) (λ w. one_list cs cap heads rs t l m x x lt (omega arith) ne (t.on x nd here).1 w refl))
+        look_at_list x parts.1 rs l (omega (arith, lt)) (ap (find_cell x) parts.3 ∙ find_part x parts.1 parts.0
+        parts.2 cut.0) (λ m mt ne.
+        find_absent x (get_or rs m []) (λ w. one_list cs cap heads rs t l m x x lt (omega arith) ne
+        (t.on x nd here).1 w refl))
         ∙ ap (λ (n : Node X). Some n.item) (sym node_is)
 
-    pub detach_made : (h : Head) (first last : ℕ) (ds : List (Option (Node X))) → h ≡ get_or heads l no_head → first ≡ (if nat_lt nd.prev cap then h.first else nd.next) → last ≡ (if nat_lt nd.next cap then h.last else nd.prev)
+    pub detach_made : (h : Head) (first last : ℕ) (ds : List (Option (Node X))) → h ≡ get_or heads l no_head →
+        first ≡ (if nat_lt nd.prev cap then h.first else nd.next) →
+        last ≡ (if nat_lt nd.next cap then h.last else nd.prev)
         → ds ≡ edit cap (with_prev nd.prev) (edit cap (with_next nd.next) (set cs x None) nd.prev) nd.next
         → Result ds (set heads l (record { first = first; last = last; count = h.count - 1 })) (map (without x) rs)
     detach_made h first last ds eh =
-        let goal = λ (h : Head) (first last : ℕ) (ds : List (Option (Node X))). Result ds (set heads l (record { first = first; last = last; count = h.count - 1 })) (map (without x) rs) in
+        let goal = λ (h : Head) (first last : ℕ) (ds : List (Option (Node X))).
+        Result ds (set heads l (record { first = first; last = last; count = h.count - 1 }))
+        (map (without x) rs) in
         let first_is = λ (h : Head) (n : Node X). if nat_lt n.prev cap then h.first else n.next in
         let last_is = λ (h : Head) (n : Node X). if nat_lt n.next cap then h.last else n.prev in
-        let cells_are = λ (n : Node X). edit cap (with_prev n.prev) (edit cap (with_next n.next) (set cs x None) n.prev) n.next in
+        let cells_are = λ (n : Node X). edit cap (with_prev n.prev)
+        (edit cap (with_next n.next) (set cs x None) n.prev) n.next in
         let g = get_or heads l no_head in
         let base = from_tied _ _ _ (detached cs cap heads rs t l x parts.1 parts.0 parts.2 lt parts.3).1 in
         let n1 = node (last_of (cap + l) parts.0) (first_of parts.2 (cap + l)) l parts.1 in
         let named : goal g (first_is g n1) (last_is g n1) (cells_are n1) = (base.0, base.1 ∙ lists_without) in
-        let back : goal g (first_is g nd) (last_is g nd) (cells_are nd) = subst (λ (n : Node X). goal g (first_is g n) (last_is g n) (cells_are n)) (sym node_is) named in
-        subst (λ h. first ≡ first_is h nd → last ≡ last_is h nd → ds ≡ cells_are nd → goal h first last ds) (sym eh) (λ ef el ed.
-        subst (λ z. goal g z last ds) (sym ef) (subst (λ z. goal g (first_is g nd) z ds) (sym el) (subst (λ z. goal g (first_is g nd) (last_is g nd) z) (sym ed) back)))
+        let back : goal g (first_is g nd) (last_is g nd) (cells_are nd) =
+        subst (λ (n : Node X). goal g (first_is g n) (last_is g n) (cells_are n)) (sym node_is) named in
+        subst (λ h. first ≡ first_is h nd → last ≡ last_is h nd → ds ≡ cells_are nd → goal h first last ds)
+        (sym eh) (λ ef el ed.
+        subst (λ z. goal g z last ds) (sym ef) (subst (λ z. goal g (first_is g nd) z ds) (sym el)
+        (subst (λ z. goal g (first_is g nd) (last_is g nd) z) (sym ed) back)))
 
 module _ {X : Type 0} where
   -- the cells other than x are used as before
   abbrev pub Kept : ℕ → List (Option (Node X)) → List (Option (Node X)) → Type 0
-  Kept x cs ds = (y : ℕ) → y ≢ x → (IsFilled cs y → IsFilled ds y) × (get_or cs y None ≡ None → get_or ds y None ≡ None)
+  Kept x cs ds =
+      (y : ℕ) → y ≢ x → (IsFilled cs y → IsFilled ds y) × (get_or cs y None ≡ None → get_or ds y None ≡ None)
 
   pub kept_set : (cs : List (Option (Node X))) (x : ℕ) (o : Option (Node X)) → Kept x cs (set cs x o)
-  kept_set cs x o y ne = let same = get_or-set_other cs x y o None ne in ((λ full. (full.0, same ∙ full.1)), λ none. same ∙ none)
+  kept_set cs x o y ne = let same =
+      get_or-set_other cs x y o None ne in ((λ full. (full.0, same ∙ full.1)), λ none. same ∙ none)
 
-  pub kept_edit : (cap : ℕ) (f : Node X → Node X) (cs ds : List (Option (Node X))) (a x : ℕ) → length ds ≡ cap → Kept x cs ds → Kept x cs (edit cap f ds a)
-  kept_edit cap f cs ds a x long k y ne = ((λ full. edit_filled cap f ds a y long ((k y ne).0 full)), λ none. edit_none cap f ds a y long ((k y ne).1 none))
+  pub kept_edit : (cap : ℕ) (f : Node X → Node X) (cs ds : List (Option (Node X))) (a x : ℕ) → length ds ≡ cap →
+      Kept x cs ds → Kept x cs (edit cap f ds a)
+  kept_edit cap f cs ds a x long k y ne = (
+    (λ full. edit_filled cap f ds a y long ((k y ne).0 full)),
+    λ none.
+        edit_none cap f ds a y long ((k y ne).1 none),
+  )
 
-pub total_down : (heads : List Head) (l : ℕ) (h k : Head) → l < length heads → h ≡ get_or heads l no_head → 1 ≤ h.count → k.count ≡ h.count - 1 → total (set heads l k) + 1 ≡ total heads
+pub total_down : (heads : List Head) (l : ℕ) (h k : Head) → l < length heads → h ≡ get_or heads l no_head →
+    1 ≤ h.count → k.count ≡ h.count - 1 → total (set heads l k) + 1 ≡ total heads
 total_down heads l h k lt is some less =
     let changed = sum_by-set (λ (h : Head). h.count) heads l k no_head lt in
     let same : (get_or heads l no_head).count ≡ h.count = ap (λ (h : Head). h.count) (sym is) in

@@ -1,5 +1,7 @@
 -- A cell on one of a caller's lists: what its node is, and what the functions on the lists tell of it.
-use Rattle.std.proofs.Common.{◌≡◌, ◌≢◌, ℕ, ◌+◌, ◌<◌, ◌≤◌, zero, suc, inl, inr, List, [], ◌∷◌, ◌++◌, length, get_or, nat_eq, if◌then◌else◌, Option, Some, None, refl, sym, ap, subst, ◌∙◌, arith, ne_eqb, eq-eqb}
+use Rattle.std.proofs.Common.{◌≡◌, ◌≢◌, ℕ, ◌+◌, ◌<◌, ◌≤◌, zero, suc, inl, inr, List, [], ◌∷◌, ◌++◌, length, get_or}
+use Rattle.std.proofs.Common.{nat_eq, if◌then◌else◌, Option, Some, None, refl, sym, ap, subst, ◌∙◌, arith, ne_eqb}
+use Rattle.std.proofs.Common.{eq-eqb}
 use Rattle.std.proofs.lemmas.Bool.{cases_eq}
 use Rattle.line_arena.specs.declared.node.Node.{Node}
 use Rattle.line_arena.specs.declared.chains.Chains.{Chains}
@@ -15,128 +17,174 @@ use Rattle.line_arena.proofs.Counts.{find_gone}
 use Rattle.line_arena.proofs.Seen.{same_some, find_has, here}
 
 module _ {A B : Type 0} (f : List (ℕ × A) → Option B) where
-  none_first : (ls : List (List (ℕ × A))) → ((m : ℕ) → m < length ls → f (get_or ls m []) ≡ None) → first_some f ls ≡ None
+  none_first : (ls : List (List (ℕ × A))) → ((m : ℕ) → m < length ls → f (get_or ls m []) ≡ None) →
+      first_some f ls ≡ None
   none_first [] h = refl
-  none_first (r ∷ ls) h = ap (λ o. or_else o (first_some f ls)) (h 0 (omega arith)) ∙ none_first ls (λ m lt. h (suc m) (omega (arith, lt)))
+  none_first (r ∷ ls) h = ap (λ o. or_else o (first_some f ls)) (h 0 (omega arith))
+      ∙ none_first ls (λ m lt. h (suc m) (omega (arith, lt)))
 
   or_none : (o : Option B) → or_else o None ≡ o
   or_none None = refl
   or_none (Some b) = refl
 
-  pub first_some_at : (ls : List (List (ℕ × A))) (l : ℕ) → l < length ls → ((m : ℕ) → m < length ls → m ≢ l → f (get_or ls m []) ≡ None) → first_some f ls ≡ f (get_or ls l [])
+  pub first_some_at : (ls : List (List (ℕ × A))) (l : ℕ) → l < length ls → ((m : ℕ) → m < length ls → m ≢ l →
+      f (get_or ls m []) ≡ None) → first_some f ls ≡ f (get_or ls l [])
   first_some_at [] l lt h = absurd (omega (arith, lt))
-  first_some_at (r ∷ ls) zero lt h = ap (or_else (f r)) (none_first ls (λ m mt. h (suc m) (omega (arith, mt)) (λ e. absurd (omega (arith, e))))) ∙ or_none (f r)
+  first_some_at (r ∷ ls) zero lt h =
+      ap (or_else (f r)) (none_first ls (λ m mt. h (suc m) (omega (arith, mt)) (λ e. absurd (omega (arith, e)))))
+      ∙ or_none (f r)
   first_some_at (r ∷ ls) (suc l) lt h =
-      ap (λ o. or_else o (first_some f ls)) (h 0 (omega arith) (λ e. absurd (omega (arith, e)))) ∙ first_some_at ls l (omega (arith, lt)) (λ m mt ne. h (suc m) (omega (arith, mt)) (λ e. ne (omega (arith, e))))
+      ap (λ o. or_else o (first_some f ls)) (h 0 (omega arith) (λ e. absurd (omega (arith, e))))
+      ∙ first_some_at ls l (omega (arith, lt)) (λ m mt ne. h (suc m) (omega (arith, mt))
+      (λ e. ne (omega (arith, e))))
 
 module _ {X : Type 0} where
-  find_shown : (x : ℕ) (v : X) (us bs : List (ℕ × Option X)) → (Has us x → ⊥) → find_cell x (values (us ++ (x, Some v) ∷ bs)) ≡ Some v
+  find_shown : (x : ℕ) (v : X) (us bs : List (ℕ × Option X)) → (Has us x → ⊥) →
+      find_cell x (values (us ++ (x, Some v) ∷ bs)) ≡ Some v
   find_shown x v [] bs nu = ap (λ b. if b then Some v else find_cell x (values bs)) (eq-eqb x x refl)
-  find_shown x v (a ∷ us) bs nu = let rest = values (us ++ (x, Some v) ∷ bs) in elim a.1 as (λ o. find_cell x (with_value a.0 o rest) ≡ Some v) [
-    | None ↦ find_shown x v us bs (λ w. nu (inr w))
-    | Some w ↦ ap (λ b. if b then Some w else find_cell x rest) (ne_eqb a.0 x (λ e. nu (inl e))) ∙ find_shown x v us bs (λ w. nu (inr w))
-  ]
+  find_shown x v (a ∷ us) bs nu = let rest =
+      values (us ++ (x, Some v) ∷ bs) in elim a.1 as (λ o. find_cell x (with_value a.0 o rest) ≡ Some v) [
+        | None ↦ find_shown x v us bs (λ w. nu (inr w))
+        | Some w ↦ ap (λ b. if b then Some w else find_cell x rest) (ne_eqb a.0 x (λ e. nu (inl e)))
+            ∙ find_shown x v us bs (λ w. nu (inr w))
+      ]
 
-  next_shown : (x : ℕ) (v : X) (us bs : List (ℕ × Option X)) → (Has us x → ⊥) → next_in x (values (us ++ (x, Some v) ∷ bs)) ≡ first_cell (values bs)
+  next_shown : (x : ℕ) (v : X) (us bs : List (ℕ × Option X)) → (Has us x → ⊥) →
+      next_in x (values (us ++ (x, Some v) ∷ bs)) ≡ first_cell (values bs)
   next_shown x v [] bs nu = ap (λ b. if b then first_cell (values bs) else next_in x (values bs)) (eq-eqb x x refl)
-  next_shown x v (a ∷ us) bs nu = let rest = values (us ++ (x, Some v) ∷ bs) in elim a.1 as (λ o. next_in x (with_value a.0 o rest) ≡ first_cell (values bs)) [
-    | None ↦ next_shown x v us bs (λ w. nu (inr w))
-    | Some w ↦ ap (λ b. if b then first_cell rest else next_in x rest) (ne_eqb a.0 x (λ e. nu (inl e))) ∙ next_shown x v us bs (λ w. nu (inr w))
-  ]
+  next_shown x v (a ∷ us) bs nu = let rest = values (us ++ (x, Some v) ∷ bs) in
+      elim a.1 as (λ o. next_in x (with_value a.0 o rest) ≡ first_cell (values bs)) [
+        | None ↦ next_shown x v us bs (λ w. nu (inr w))
+        | Some w ↦ ap (λ b. if b then first_cell rest else next_in x rest) (ne_eqb a.0 x (λ e. nu (inl e)))
+            ∙ next_shown x v us bs (λ w. nu (inr w))
+      ]
 
   next_gone : (x : ℕ) (xs : List (ℕ × Option X)) → (Has xs x → ⊥) → next_in x (values xs) ≡ None
   next_gone x [] no_x = refl
   next_gone x (a ∷ xs) no_x = elim a.1 as (λ o. next_in x (with_value a.0 o (values xs)) ≡ None) [
     | None ↦ next_gone x xs (λ w. no_x (inr w))
-    | Some v ↦ ap (λ b. if b then first_cell (values xs) else next_in x (values xs)) (ne_eqb a.0 x (λ e. no_x (inl e))) ∙ next_gone x xs (λ w. no_x (inr w))
+    | Some v ↦ ap (λ b. if b then first_cell (values xs) else next_in x (values xs))
+        (ne_eqb a.0 x (λ e. no_x (inl e))) ∙ next_gone x xs (λ w. no_x (inr w))
   ]
 
-  none_part : (us : List (ℕ × Option X)) (a : ℕ × Option X) (bs : List (ℕ × Option X)) → AllNone (us ++ a ∷ bs) → a.1 ≡ None
+  none_part : (us : List (ℕ × Option X)) (a : ℕ × Option X) (bs : List (ℕ × Option X)) →
+      AllNone (us ++ a ∷ bs) → a.1 ≡ None
   none_part [] a bs h = h.0
   none_part (u ∷ us) a bs h = none_part us a bs h.1
 
-  some_rest : (us : List (ℕ × Option X)) (a : ℕ × Option X) (bs : List (ℕ × Option X)) → AllSome (us ++ a ∷ bs) → AllSome bs
+  some_rest : (us : List (ℕ × Option X)) (a : ℕ × Option X) (bs : List (ℕ × Option X)) →
+      AllSome (us ++ a ∷ bs) → AllSome bs
   some_rest [] a bs h = h.1
   some_rest (u ∷ us) a bs h = some_rest us a bs h.1
 
-  first_value : (b : ℕ × Option X) (bs : List (ℕ × Option X)) → AllSome (b ∷ bs) → first_cell (values (b ∷ bs)) ≡ Some b.0
+  first_value : (b : ℕ × Option X) (bs : List (ℕ × Option X)) → AllSome (b ∷ bs) →
+      first_cell (values (b ∷ bs)) ≡ Some b.0
   first_value b bs h = ap (λ o. first_cell (with_value b.0 o (values bs))) h.0.1
 
-  module _ (spare : ℕ) (c : Chains X) (h : IsArena spare c) (x l : ℕ) (it : Option X) (us bs : List (ℕ × Option X)) (parts : get_or (rings_of c) l [] ≡ us ++ (x, it) ∷ bs) where
-    node_at : l < spare + 1 → get_or c.block x None ≡ Some (node (last_of (c.capacity + l) us) (first_of bs (c.capacity + l)) l it)
-    node_at lt = let many = h.many in (detached c.block c.capacity c.heads.items (rings_of c) h.tied.tied l x it us bs (omega arith) parts).0
+  module _ (spare : ℕ) (c : Chains X) (h : IsArena spare c) (x l : ℕ) (it : Option X) (us bs : List (ℕ × Option X))
+      (parts : get_or (rings_of c) l [] ≡ us ++ (x, it) ∷ bs) where
+    node_at : l < spare + 1 → get_or c.block x None ≡ Some (node (last_of (c.capacity + l) us)
+        (first_of bs (c.capacity + l)) l it)
+    node_at lt = let many = h.many in (detached c.block c.capacity c.heads.items (rings_of c) h.tied.tied l x it us bs
+        (omega arith) parts).0
 
     not_before : l < spare + 1 → Has us x → ⊥
-    not_before lt = let many = h.many in (apart_split us (x, it) bs (subst IsApart parts (h.tied.tied.ring l (omega arith)).apart)).0
+    not_before lt = let many =
+        h.many in (apart_split us (x, it) bs (subst IsApart parts (h.tied.tied.ring l (omega arith)).apart)).0
 
     -- what f tells of the lists, it tells of this one
-    shown_first : {B : Type 0} (f : List (ℕ × X) → Option B) → ((xs : List (ℕ × Option X)) → (Has xs x → ⊥) → f (values xs) ≡ None) → l < spare → first_some f (shown spare (rings_of c)) ≡ f (values (us ++ (x, it) ∷ bs))
+    shown_first : {B : Type 0} (f : List (ℕ × X) → Option B) → ((xs : List (ℕ × Option X)) → (Has xs x → ⊥) →
+        f (values xs) ≡ None) → l < spare → first_some f (shown spare (rings_of c)) ≡ f (values (us ++ (x, it) ∷ bs))
     shown_first f gone low =
         let many = h.many in let n = h.tied.tied.many in let long = length-shown spare (rings_of c) (omega arith) in
-        let on : Has (get_or (rings_of c) l []) x = subst (λ zs. Has zs x) (sym parts) (has_right us ((x, it) ∷ bs) x (inl refl)) in
+        let on : Has (get_or (rings_of c) l []) x =
+        subst (λ zs. Has zs x) (sym parts) (has_right us ((x, it) ∷ bs) x (inl refl)) in
         first_some_at f (shown spare (rings_of c)) l (omega arith) (λ m mt ne.
-        ap f (shown_at spare (rings_of c) m (omega arith) (omega arith)) ∙ gone (get_or (rings_of c) m []) (λ w. one_list c.block c.capacity c.heads.items (rings_of c) h.tied.tied l m x x (omega arith) (omega arith) ne on w refl))
+        ap f (shown_at spare (rings_of c) m (omega arith) (omega arith)) ∙ gone (get_or (rings_of c) m [])
+        (λ w. one_list c.block c.capacity c.heads.items (rings_of c) h.tied.tied l m x x (omega arith)
+        (omega arith) ne on w refl))
         ∙ ap f (shown_at spare (rings_of c) l low (omega arith)) ∙ ap (λ zs. f (values zs)) parts
 
   module _ (spare : ℕ) (c : Chains X) (h : IsArena spare c) (x : ℕ) where
     -- a cell that holds a value is found
-    pub held_is_found : (n : Node X) (v : X) → get_or c.block x None ≡ Some n → n.item ≡ Some v → look_up x (shown spare (rings_of c)) ≡ Some v
+    pub held_is_found : (n : Node X) (v : X) → get_or c.block x None ≡ Some n → n.item ≡ Some v →
+        look_up x (shown spare (rings_of c)) ≡ Some v
     held_is_found n v e is =
         let many = h.many in let on = h.tied.tied.on x n e in let l = n.list in
         let p = parted (get_or (rings_of c) l []) x on.1 in
         let lt : l < spare + 1 = omega (arith, on.0) in
-        let same : p.1 ≡ Some v = sym (ap (λ o. (or_blank o).item) (sym e ∙ node_at spare c h x l p.1 p.0 p.2 p.3 lt)) ∙ is in
+        let same : p.1 ≡ Some v =
+        sym (ap (λ o. (or_blank o).item) (sym e ∙ node_at spare c h x l p.1 p.0 p.2 p.3 lt)) ∙ is in
         let low : l < spare = elim (cases_eq l spare) [
           | inr ne ↦ omega arith
           | inl i ↦
-              let none : p.1 ≡ None = none_part p.0 (x, p.1) p.2 (subst AllNone p.3 (subst (λ k. AllNone (get_or (rings_of c) k [])) (sym i) h.spare)) in
+              let none : p.1 ≡ None =
+              none_part p.0 (x, p.1) p.2 (subst AllNone p.3 (subst (λ k. AllNone (get_or (rings_of c) k []))
+              (sym i) h.spare)) in
               let two : None ≡ Some v = sym none ∙ same in cc
         ] in
-        shown_first spare c h x l p.1 p.0 p.2 p.3 (find_cell x) (find_gone x) low ∙ ap (λ o. find_cell x (values (p.0 ++ (x, o) ∷ p.2))) same ∙ find_shown x v p.0 p.2 (not_before spare c h x l p.1 p.0 p.2 p.3 lt)
+        shown_first spare c h x l p.1 p.0 p.2 p.3 (find_cell x) (find_gone x) low
+        ∙ ap (λ o. find_cell x (values (p.0 ++ (x, o) ∷ p.2))) same ∙ find_shown x v p.0 p.2
+        (not_before spare c h x l p.1 p.0 p.2 p.3 lt)
 
     module _ (v : X) (e : look_up x (shown spare (rings_of c)) ≡ Some v) where
-      pub place : (l : ℕ) × (l < spare) × (us : List (ℕ × Option X)) × (bs : List (ℕ × Option X)) × (get_or (rings_of c) l [] ≡ us ++ (x, Some v) ∷ bs)
+      pub place : (l : ℕ) × (l < spare) × (us : List (ℕ × Option X)) × (bs : List (ℕ × Option X)) ×
+          (get_or (rings_of c) l [] ≡ us ++ (x, Some v) ∷ bs)
       place =
           let q = here spare c h x v e in
           let p = parted (get_or (rings_of c) q.0 []) x (find_has x (get_or (rings_of c) q.0 []) (Some v) q.2) in
-          let it = find_part x p.1 p.0 p.2 (not_before spare c h x q.0 p.1 p.0 p.2 p.3 (let low = q.1 in omega arith)) in
+          let it = find_part x p.1 p.0 p.2 (not_before spare c h x q.0 p.1 p.0 p.2 p.3 (let low =
+          q.1 in omega arith)) in
           let same : p.1 ≡ Some v = same_some p.1 (Some v) (sym it ∙ sym (ap (find_cell x) p.3) ∙ q.2) in
           (q.0, q.1, p.0, p.2, p.3 ∙ ap (λ o. p.0 ++ (x, o) ∷ p.2) same)
 
       -- a cell that is found holds its value
-      pub found_is_held : get_or c.block x None ≡ Some (node (last_of (c.capacity + place.0) place.2) (first_of place.3 (c.capacity + place.0)) place.0 (Some v))
+      pub found_is_held : get_or c.block x None ≡ Some (node (last_of (c.capacity + place.0) place.2)
+          (first_of place.3 (c.capacity + place.0)) place.0 (Some v))
       found_is_held = node_at spare c h x place.0 (Some v) place.2 place.3 place.4 (let low = place.1 in omega arith)
 
       pub next_is : next_cell x (shown spare (rings_of c)) ≡ first_cell (values place.3)
       next_is = shown_first spare c h x place.0 (Some v) place.2 place.3 place.4 (next_in x) (next_gone x) place.1
-          ∙ next_shown x v place.2 place.3 (not_before spare c h x place.0 (Some v) place.2 place.3 place.4 (let low = place.1 in omega arith))
+          ∙ next_shown x v place.2 place.3 (not_before spare c h x place.0 (Some v) place.2 place.3 place.4 (let low =
+          place.1 in omega arith))
 
       rest_some : AllSome place.3
       rest_some = some_rest place.2 (x, Some v) place.3 (subst AllSome place.4 (h.loaded place.0 place.1))
 
       rest_low : (y : ℕ) → Has place.3 y → y < c.capacity
       rest_low y w = let many = h.many in
-          let low = place.1 in below c.block c.capacity c.heads.items (rings_of c) h.tied.tied place.0 y (omega arith) (subst (λ zs. Has zs y) (sym place.4) (has_right place.2 ((x, Some v) ∷ place.3) y (inr w)))
+          let low = place.1 in below c.block c.capacity c.heads.items (rings_of c) h.tied.tied place.0 y (omega arith)
+          (subst (λ zs. Has zs y) (sym place.4) (has_right place.2 ((x, Some v) ∷ place.3) y (inr w)))
 
       -- the cell after the last is none, and after another the one that its node names
-      pub next_none : c.capacity ≤ first_of place.3 (c.capacity + place.0) → next_cell x (shown spare (rings_of c)) ≡ None
-      next_none past = next_is ∙ elim place.3 as (λ bs. ((y : ℕ) → Has bs y → y < c.capacity) → c.capacity ≤ first_of bs (c.capacity + place.0) → first_cell (values bs) ≡ None) [
-        | [] ↦ λ low p. refl
-        | b ∷ bs ↦ λ low p. let lt = low b.0 (inl refl) in absurd (omega arith)
-      ] rest_low past
+      pub next_none : c.capacity ≤ first_of place.3 (c.capacity + place.0) →
+          next_cell x (shown spare (rings_of c)) ≡ None
+      next_none past = next_is ∙ elim place.3 as (λ bs. ((y : ℕ) → Has bs y → y < c.capacity) →
+          c.capacity ≤ first_of bs (c.capacity + place.0) → first_cell (values bs) ≡ None) [
+            | [] ↦ λ low p. refl
+            | b ∷ bs ↦ λ low p. let lt = low b.0 (inl refl) in absurd (omega arith)
+          ] rest_low past
 
-      pub next_some : first_of place.3 (c.capacity + place.0) < c.capacity → next_cell x (shown spare (rings_of c)) ≡ Some (first_of place.3 (c.capacity + place.0))
-      next_some low = next_is ∙ elim place.3 as (λ bs. AllSome bs → first_of bs (c.capacity + place.0) < c.capacity → first_cell (values bs) ≡ Some (first_of bs (c.capacity + place.0))) [
-        | [] ↦ λ all p. absurd (omega arith)
-        | b ∷ bs ↦ λ all p. first_value b bs all
-      ] rest_some low
+      pub next_some : first_of place.3 (c.capacity + place.0) < c.capacity → next_cell x (shown spare (rings_of c)) ≡
+          Some (first_of place.3 (c.capacity + place.0))
+      next_some low = next_is ∙ elim place.3 as (λ bs. AllSome bs → first_of bs (c.capacity + place.0) < c.capacity →
+          first_cell (values bs) ≡ Some (first_of bs (c.capacity + place.0))) [
+            | [] ↦ λ all p. absurd (omega arith)
+            | b ∷ bs ↦ λ all p. first_value b bs all
+          ] rest_some low
 
   -- the first cell of a list
-  pub front_is : (spare : ℕ) (c : Chains X) (h : IsArena spare c) (l : ℕ) → l < spare → first_cell (get_or (shown spare (rings_of c)) l []) ≡ (if nat_eq (get_or c.heads.items l no_head).count 0 then None else Some (get_or c.heads.items l no_head).first)
+  pub front_is : (spare : ℕ) (c : Chains X) (h : IsArena spare c) (l : ℕ) → l < spare →
+      first_cell (get_or (shown spare (rings_of c)) l []) ≡ (if nat_eq (get_or c.heads.items l no_head).count 0 then
+      None else Some (get_or c.heads.items l no_head).first)
   front_is spare c h l low =
       let many = h.many in let n = h.tied.tied.many in let g = h.tied.tied.ring l (omega arith) in
       let hd = get_or c.heads.items l no_head in
-      ap first_cell (shown_at spare (rings_of c) l low (omega arith)) ∙ elim (get_or (rings_of c) l []) as (λ r. AllSome r → hd.count ≡ length r → hd.first ≡ first_of r (c.capacity + l) → first_cell (values r) ≡ (if nat_eq hd.count 0 then None else Some hd.first)) [
+      ap first_cell (shown_at spare (rings_of c) l low (omega arith)) ∙ elim (get_or (rings_of c) l []) as
+      (λ r. AllSome r → hd.count ≡ length r → hd.first ≡ first_of r (c.capacity + l) →
+      first_cell (values r) ≡ (if nat_eq hd.count 0 then None else Some hd.first)) [
         | [] ↦ λ all count first. sym (ap (λ b. if b then None else Some hd.first) (eq-eqb hd.count 0 count))
-        | a ∷ r ↦ λ all count first. first_value a r all ∙ ap Some (sym first) ∙ sym (ap (λ b. if b then None else Some hd.first) (ne_eqb hd.count 0 (λ e. absurd (omega (arith, e, count)))))
+        | a ∷ r ↦ λ all count first. first_value a r all ∙ ap Some (sym first)
+            ∙ sym (ap (λ b. if b then None else Some hd.first)
+            (ne_eqb hd.count 0 (λ e. absurd (omega (arith, e, count)))))
       ] (h.loaded l low) g.count g.first

@@ -1,12 +1,15 @@
 -- What the lists are once one cell gets another value.
-use Rattle.std.proofs.Common.{◌≡◌, ◌≢◌, ℕ, ◌+◌, ◌<◌, suc, inl, inr, true, false, List, [], ◌∷◌, map, length, get_or, set, nat_eq, if◌then◌else◌, Option, Some, None, refl, sym, ap, subst, ◌∙◌, arith, ext_get_or, length-set, get_or-set_same, get_or-set_other, ne_eqb, eq-eqb}
+use Rattle.std.proofs.Common.{◌≡◌, ◌≢◌, ℕ, ◌+◌, ◌<◌, suc, inl, inr, true, false, List, [], ◌∷◌, map, length, get_or}
+use Rattle.std.proofs.Common.{set, nat_eq, if◌then◌else◌, Option, Some, None, refl, sym, ap, subst, ◌∙◌, arith}
+use Rattle.std.proofs.Common.{ext_get_or, length-set, get_or-set_same, get_or-set_other, ne_eqb, eq-eqb}
 use Rattle.std.proofs.lemmas.Bool.{cases_eq}
 use Rattle.std.proofs.lemmas.List.{get_or-map, length-map}
 use Rattle.line_arena.specs.declared.node.Node.{Node}
 use Rattle.line_arena.specs.declared.node.Head.{Head}
 use Rattle.line_arena.specs.declared.chains.Chains.{Chains}
 use Rattle.line_arena.specs.Filled.{IsFilled}
-use Rattle.line_arena.specs.Rings.{no_head, node, or_blank, at, with_item, with_value_of, first_of, last_of, Linked, Has, IsApart, IsRing, Tied, rings}
+use Rattle.line_arena.specs.Rings.{no_head, node, or_blank, at, with_item, with_value_of, first_of, last_of, Linked}
+use Rattle.line_arena.specs.Rings.{Has, IsApart, IsRing, Tied, rings}
 use Rattle.line_arena.specs.CellLists.{look_up, rewritten}
 use Rattle.line_arena.specs.Chains.{rings_of}
 use Rattle.line_arena.specs.Arenas.{with_value, values, AllSome, AllNone, IsArena, lists_of, model, shown}
@@ -48,7 +51,8 @@ module _ {X : Type 0} (x : ℕ) (o : Option X) where
 
   absent_r : (xs : List (ℕ × Option X)) → (Has xs x → ⊥) → R xs ≡ xs
   absent_r [] no_x = refl
-  absent_r (a ∷ xs) no_x = λ k. (a.0, if (ne_eqb a.0 x (λ e. no_x (inl e))) k then o else a.1) ∷ absent_r xs (λ w. no_x (inr w)) k
+  absent_r (a ∷ xs) no_x = λ k. (a.0, if (ne_eqb a.0 x (λ e. no_x (inl e))) k then o else a.1) ∷ absent_r xs
+      (λ w. no_x (inr w)) k
 
   module _ (cs : List (Option (Node X))) (n : Node X) (here : get_or cs x None ≡ Some n) where
     abbrev ds : List (Option (Node X))
@@ -63,19 +67,25 @@ module _ {X : Type 0} (x : ℕ) (o : Option X) where
     linked_r : (l p : ℕ) (xs : List (ℕ × Option X)) (e : ℕ) → Linked cs l p xs e → Linked ds l p (R xs) e
     linked_r l p [] e s = tt
     linked_r l p (a ∷ xs) e s = (
-      subst (λ f. get_or ds a.0 None ≡ Some (node p f l (if nat_eq a.0 x then o else a.1))) (sym (first_r xs e)) (elim (cases_eq a.0 x) [
-        | inl i ↦
-            let same : n ≡ node p (first_of xs e) l a.1 = ap or_blank (sym here ∙ sym (ap (λ k. get_or cs k None) i) ∙ s.0) in
-            ap (λ k. get_or ds k None) i ∙ x_is ∙ ap (λ m. Some (with_item o m)) same ∙ ap (λ b. Some (node p (first_of xs e) l (if b then o else a.1))) (sym (eq-eqb a.0 x i))
-        | inr ne ↦ y_is a.0 ne ∙ s.0 ∙ ap (λ b. Some (node p (first_of xs e) l (if b then o else a.1))) (sym (ne_eqb a.0 x ne))
-      ]),
+      subst (λ f. get_or ds a.0 None ≡ Some (node p f l (if nat_eq a.0 x then o else a.1))) (sym (first_r xs e))
+          (elim (cases_eq a.0 x) [
+            | inl i ↦
+                let same : n ≡ node p (first_of xs e) l a.1 =
+                ap or_blank (sym here ∙ sym (ap (λ k. get_or cs k None) i) ∙ s.0) in
+                ap (λ k. get_or ds k None) i ∙ x_is ∙ ap (λ m. Some (with_item o m)) same
+                ∙ ap (λ b. Some (node p (first_of xs e) l (if b then o else a.1))) (sym (eq-eqb a.0 x i))
+            | inr ne ↦ y_is a.0 ne ∙ s.0 ∙ ap (λ b. Some (node p (first_of xs e) l (if b then o else a.1)))
+                (sym (ne_eqb a.0 x ne))
+          ]),
       linked_r l a.0 xs e s.1,
     )
 
-    pub tied_r : (cap : ℕ) (heads : List Head) → Tied cs cap heads (rings cs heads) → Tied ds cap heads (rings ds heads) × (rings ds heads ≡ map (rewritten x o) (rings cs heads))
+    pub tied_r : (cap : ℕ) (heads : List Head) → Tied cs cap heads (rings cs heads) →
+        Tied ds cap heads (rings ds heads) × (rings ds heads ≡ map (rewritten x o) (rings cs heads))
     tied_r cap heads t =
         let rs = rings cs heads in let ss = map R rs in let long = length-map rs R in let many = t.many in
-        let at_l : (l : ℕ) → l < length heads → get_or ss l [] ≡ R (get_or rs l []) = λ l lt. get_or-map R rs l [] [] (omega arith) in
+        let at_l : (l : ℕ) → l < length heads → get_or ss l [] ≡ R (get_or rs l []) =
+        λ l lt. get_or-map R rs l [] [] (omega arith) in
         let m : Tied ds cap heads ss = record {
           cells = length-set cs x (Some (with_item o n)) ∙ t.cells;
           many = long ∙ many;
@@ -90,11 +100,17 @@ module _ {X : Type 0} (x : ℕ) (o : Option X) where
               });
           on = λ y q is. elim (cases_eq y x) [
             | inl i ↦
-                let w : q.list ≡ n.list = ap (λ z. (or_blank z).list) (sym is ∙ ap (λ k. get_or ds k None) i ∙ x_is) in
+                let w : q.list ≡ n.list =
+                ap (λ z. (or_blank z).list) (sym is ∙ ap (λ k. get_or ds k None) i ∙ x_is) in
                 let s = t.on x n here in
-                subst (λ k. (k < length heads) × Has (get_or ss k []) y) (sym w) (s.0, subst (λ zs. Has zs y) (sym (at_l n.list s.0)) (has_l (get_or rs n.list []) y (subst (Has (get_or rs n.list [])) (sym i) s.1)))
+                subst (λ k. (k < length heads) × Has (get_or ss k []) y) (sym w) (
+                  s.0,
+                  subst (λ zs. Has zs y) (sym (at_l n.list s.0))
+                      (has_l (get_or rs n.list []) y (subst (Has (get_or rs n.list [])) (sym i) s.1)),
+                )
             | inr ne ↦
-                let s = t.on y q (sym (y_is y ne) ∙ is) in (s.0, subst (λ zs. Has zs y) (sym (at_l q.list s.0)) (has_l (get_or rs q.list []) y s.1))
+                let s = t.on y q (sym (y_is y ne) ∙ is) in
+                (s.0, subst (λ zs. Has zs y) (sym (at_l q.list s.0)) (has_l (get_or rs q.list []) y s.1))
           ];
         } in
         let e = rings_are ds cap heads ss m in (subst (Tied ds cap heads) (sym e) m, e)
@@ -102,21 +118,29 @@ module _ {X : Type 0} (x : ℕ) (o : Option X) where
 module _ {X : Type 0} where
   some_r : (x : ℕ) (w : X) (xs : List (ℕ × Option X)) → AllSome xs → AllSome (rewritten x (Some w) xs)
   some_r x w [] h = tt
-  some_r x w (a ∷ xs) h = (elim (nat_eq a.0 x) as (λ b. (v : X) × ((if b then Some w else a.1) ≡ Some v)) [ true ↦ (w, refl) | false ↦ h.0 ], some_r x w xs h.1)
+  some_r x w (a ∷ xs) h = (
+    elim (nat_eq a.0 x) as (λ b. (v : X) × ((if b then Some w else a.1) ≡ Some v))
+        [ true ↦ (w, refl) | false ↦ h.0 ],
+    some_r x w xs h.1,
+  )
 
-  values_r : (x : ℕ) (w : X) (xs : List (ℕ × Option X)) → AllSome xs → values (rewritten x (Some w) xs) ≡ rewritten x w (values xs)
+  values_r : (x : ℕ) (w : X) (xs : List (ℕ × Option X)) → AllSome xs → values (rewritten x (Some w) xs) ≡
+      rewritten x w (values xs)
   values_r x w [] h = refl
   values_r x w (a ∷ xs) h =
       let v = h.0.0 in let b = nat_eq a.0 x in
       ap (λ q. with_value a.0 (if b then Some w else q) (values (rewritten x (Some w) xs))) h.0.1
-      ∙ elim b as (λ c. with_value a.0 (if c then Some w else Some v) (values (rewritten x (Some w) xs)) ≡ (a.0, if c then w else v) ∷ rewritten x w (values xs)) [
+      ∙ elim b as (λ c. with_value a.0 (if c then Some w else Some v) (values (rewritten x (Some w) xs)) ≡
+      (a.0, if c then w else v) ∷ rewritten x w (values xs)) [
         | true ↦ ap (λ ys. (a.0, w) ∷ ys) (values_r x w xs h.1)
         | false ↦ ap (λ ys. (a.0, v) ∷ ys) (values_r x w xs h.1)
       ]
       ∙ ap (λ q. rewritten x w (with_value a.0 q (values xs))) (sym h.0.1)
 
-  pub arena_written : (spare : ℕ) (c : Chains X) (h : IsArena spare c) (x : ℕ) (v w : X) → look_up x (shown spare (rings_of c)) ≡ Some v
-      → let d : Chains X = record { block = with_value_of c.block x w; heads = c.heads; capacity = c.capacity; used = c.used } in
+  pub arena_written : (spare : ℕ) (c : Chains X) (h : IsArena spare c) (x : ℕ) (v w : X) →
+      look_up x (shown spare (rings_of c)) ≡ Some v
+      → let d : Chains X =
+      record { block = with_value_of c.block x w; heads = c.heads; capacity = c.capacity; used = c.used } in
       IsArena spare d × (model spare d ≡ lists_of (map (rewritten x w) (shown spare (rings_of c))) c.capacity)
   arena_written spare c h x v w e =
       let p = place spare c h x v e in let here = found_is_held spare c h x v e in
@@ -124,15 +148,22 @@ module _ {X : Type 0} where
       let rs = rings_of c in let hs = c.heads.items in
       let is : at c.block x ≡ nd = ap or_blank here in
       let made = tied_r x (Some w) c.block nd here c.capacity hs h.tied.tied in
-      let d : Chains X = record { block = with_value_of c.block x w; heads = c.heads; capacity = c.capacity; used = c.used } in
-      let same : set c.block x (Some (with_item (Some w) nd)) ≡ d.block = ap (λ (m : Node X). set c.block x (Some (with_item (Some w) m))) (sym is) in
-      let tied : Tied d.block c.capacity hs (rings d.block hs) = subst (λ bs. Tied bs c.capacity hs (rings bs hs)) same made.0 in
+      let d : Chains X =
+      record { block = with_value_of c.block x w; heads = c.heads; capacity = c.capacity; used = c.used } in
+      let same : set c.block x (Some (with_item (Some w) nd)) ≡ d.block =
+      ap (λ (m : Node X). set c.block x (Some (with_item (Some w) m))) (sym is) in
+      let tied : Tied d.block c.capacity hs (rings d.block hs) =
+      subst (λ bs. Tied bs c.capacity hs (rings bs hs)) same made.0 in
       let are : rings_of d ≡ map (rewritten x (Some w)) rs = ap (λ bs. rings bs hs) (sym same) ∙ made.1 in
-      let many = h.many in let n = h.tied.tied.many in let long = length-map rs (rewritten x (Some w)) in let low = p.1 in
+      let many = h.many in let n = h.tied.tied.many in let long = length-map rs (rewritten x (Some w)) in let low =
+      p.1 in
       let again = ap length are in
-      let on : Has (get_or rs p.0 []) x = subst (λ zs. Has zs x) (sym p.4) (has_right p.2 ((x, Some v) ∷ p.3) x (inl refl)) in
-      let at_l : (l : ℕ) → l < spare + 1 → get_or (rings_of d) l [] ≡ rewritten x (Some w) (get_or rs l []) = λ l lt. ap (λ zs. get_or zs l []) are ∙ get_or-map (rewritten x (Some w)) rs l [] [] (omega arith) in
-      let absent : Has (get_or rs spare []) x → ⊥ = λ u. one_list c.block c.capacity hs rs h.tied.tied p.0 spare x x (omega arith) (omega arith) (λ i. absurd (omega arith)) on u refl in
+      let on : Has (get_or rs p.0 []) x =
+      subst (λ zs. Has zs x) (sym p.4) (has_right p.2 ((x, Some v) ∷ p.3) x (inl refl)) in
+      let at_l : (l : ℕ) → l < spare + 1 → get_or (rings_of d) l [] ≡ rewritten x (Some w) (get_or rs l []) =
+      λ l lt. ap (λ zs. get_or zs l []) are ∙ get_or-map (rewritten x (Some w)) rs l [] [] (omega arith) in
+      let absent : Has (get_or rs spare []) x → ⊥ = λ u. one_list c.block c.capacity hs rs h.tied.tied p.0 spare x x
+      (omega arith) (omega arith) (λ i. absurd (omega arith)) on u refl in
       let left = length-shown spare (rings_of d) (omega arith) in let right = length-shown spare rs (omega arith) in (
         record {
           tied = record { tied = tied; small = h.tied.small };
@@ -140,16 +171,28 @@ module _ {X : Type 0} where
           total = h.total;
           uses = (
             (λ y lt. elim (cases_eq y x) [
-              | inl i ↦ subst (IsFilled d.block) (sym i) (with_item (Some w) (at c.block x), get_or-set_same c.block x (Some (with_item (Some w) (at c.block x))) None (within c.block x nd here))
-              | inr ne ↦ let f = h.uses.0 y lt in (f.0, get_or-set_other c.block x y (Some (with_item (Some w) (at c.block x))) None ne ∙ f.1)
+              | inl i ↦ subst (IsFilled d.block) (sym i) (
+                with_item (Some w) (at c.block x),
+                get_or-set_same c.block x
+                    (Some (with_item (Some w) (at c.block x))) None (within c.block x nd here),
+              )
+              | inr ne ↦ let f = h.uses.0 y lt in
+                  (f.0, get_or-set_other c.block x y (Some (with_item (Some w) (at c.block x))) None ne ∙ f.1)
             ]),
-            λ y le. get_or-set_other c.block x y (Some (with_item (Some w) (at c.block x))) None (λ i. let two : Some nd ≡ None = sym here ∙ sym (ap (λ k. get_or c.block k None) i) ∙ h.uses.1 y le in cc) ∙ h.uses.1 y le,
+            λ y le. get_or-set_other c.block x y (Some (with_item (Some w) (at c.block x))) None
+                (λ i. let two : Some nd ≡ None = sym here ∙ sym (ap (λ k. get_or c.block k None) i) ∙ h.uses.1 y le in
+                cc) ∙ h.uses.1 y le,
           );
           loaded = λ l lt. subst AllSome (sym (at_l l (omega arith))) (some_r x w (get_or rs l []) (h.loaded l lt));
-          spare = subst AllNone (sym (at_l spare (omega arith) ∙ absent_r x (Some w) (get_or rs spare []) absent)) h.spare;
+          spare = subst AllNone (sym (at_l spare (omega arith) ∙ absent_r x (Some w) (get_or rs spare []) absent))
+              h.spare;
         },
-        ap (λ ls. lists_of ls c.capacity) (ext_get_or [] (shown spare (rings_of d)) (map (rewritten x w) (shown spare rs)) (left ∙ sym (length-map (shown spare rs) (rewritten x w) ∙ right)) (λ l lt.
+        ap (λ ls. lists_of ls c.capacity) (ext_get_or [] (shown spare (rings_of d))
+            (map (rewritten x w) (shown spare rs)) (left ∙ sym (length-map (shown spare rs) (rewritten x w) ∙ right))
+            (λ l lt.
             let lo : l < spare = omega arith in
-            shown_at spare (rings_of d) l lo (omega arith) ∙ ap values (at_l l (omega arith)) ∙ values_r x w (get_or rs l []) (h.loaded l lo)
-            ∙ ap (rewritten x w) (sym (shown_at spare rs l lo (omega arith))) ∙ sym (get_or-map (rewritten x w) (shown spare rs) l [] [] (omega arith)))),
+            shown_at spare (rings_of d) l lo (omega arith) ∙ ap values (at_l l (omega arith))
+            ∙ values_r x w (get_or rs l []) (h.loaded l lo)
+            ∙ ap (rewritten x w) (sym (shown_at spare rs l lo (omega arith)))
+            ∙ sym (get_or-map (rewritten x w) (shown spare rs) l [] [] (omega arith)))),
       )

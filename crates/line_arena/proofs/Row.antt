@@ -4,7 +4,8 @@
 --     slot_out, slot_in      one place apart from the others, and back
 --     room_cut, room_joined  a block of room is a row of empty places
 --     slot_seen              what a `&` to the row shows of one place
-use Rattle.std.specs.Prelude.{◌≡◌, ℕ, zero, suc, ◌+◌, ◌*◌, ◌<◌, List, [], ◌∷◌, ◌++◌, length, get_or, replicate, Option, None}
+use Rattle.std.specs.Prelude.{◌≡◌, ℕ, zero, suc, ◌+◌, ◌*◌, ◌<◌, List, [], ◌∷◌, ◌++◌, length, get_or, replicate}
+use Rattle.std.specs.Prelude.{Option, None}
 use Rattle.std.specs.Mem.{type_size}
 use Rattle.std.proofs.Common.{T, lit<, refl, sym, ap, ◌∙◌, arith}
 use lib.ListN.{set}
@@ -62,8 +63,12 @@ module _ (E : El) where
   pub base_tells : (d : BaseRow.Denot) (vs : List Val) → Is BaseRow d vs → vs ≡ base_vals d
   base_tells d vs is = is.1.0 ∙ ap (λ (ws : List Val). vstruct (of_list (ws ++ [])) ∷ []) is.1.1.0
 
-  pub base_made : {M : Type 1} {𝓤 : Ura M} (𝓛 : Logic 𝓤) (d : BaseRow.Denot) → ent 𝓤 (emp 𝓤) (sem 𝓛 (BaseRow.own_val d (base_vals d)))
-  base_made 𝓛 d = makes_shadow 𝓛 (BaseRow.own_val d (base_vals d)) (λ vss. (tt, (tt, tt))) ((ptr_val d.ptr ∷ [], tt), (refl, (refl, tt)))
+  pub base_made : {M : Type 1} {𝓤 : Ura M} (𝓛 : Logic 𝓤) (d : BaseRow.Denot) →
+      ent 𝓤 (emp 𝓤) (sem 𝓛 (BaseRow.own_val d (base_vals d)))
+  base_made 𝓛 d = makes_shadow 𝓛 (BaseRow.own_val d (base_vals d)) (λ vss. (tt, (tt, tt))) (
+    (ptr_val d.ptr ∷ [], tt),
+    (refl, (refl, tt)),
+  )
 
   pub base_good : (p : Ptr) → T (has_ty (layout BaseRow) (base_val p)) × WT (base_val p)
   base_good null_ptr = (tt, (record { fits = lit< tt }, tt))
@@ -72,8 +77,10 @@ module _ (E : El) where
   pub cells_tell : (d : CellsRow.Denot) (vs : List Val) → Is CellsRow d vs → vs ≡ no_bytes ∷ []
   cells_tell d vs is = is.0.1.0 ∙ ap (λ (ws : List Val). vstruct (of_list (ws ++ [])) ∷ []) is.0.1.1.0.1.0
 
-  pub mark_made : {M : Type 1} {𝓤 : Ura M} (𝓛 : Logic 𝓤) → ent 𝓤 (emp 𝓤) (sem 𝓛 (Mark.own_val (tt, tt) (no_bytes ∷ [])))
-  mark_made 𝓛 = Struct-Makes 𝓛 (shape (cells.the_type (R E))) ((λ d vs. (λ uss. (tt, tt))), tt) (tt, tt) (no_bytes ∷ []) ((vstruct vnil ∷ [], tt), (refl, ((tt, (refl, tt)), tt)))
+  pub mark_made : {M : Type 1} {𝓤 : Ura M} (𝓛 : Logic 𝓤) →
+      ent 𝓤 (emp 𝓤) (sem 𝓛 (Mark.own_val (tt, tt) (no_bytes ∷ [])))
+  mark_made 𝓛 = Struct-Makes 𝓛 (shape (cells.the_type (R E))) ((λ d vs. (λ uss. (tt, tt))), tt) (tt, tt)
+      (no_bytes ∷ []) ((vstruct vnil ∷ [], tt), (refl, ((tt, (refl, tt)), tt)))
 
 pub filled_within : {X : Type 0} (cs : List (Option X)) (i : ℕ) → IsFilled cs i → i < length cs
 filled_within [] i f = let none = f.1 in cc
@@ -81,7 +88,8 @@ filled_within (c ∷ cs) zero f = omega arith
 filled_within (c ∷ cs) (suc i) f = omega (arith, filled_within cs i f)
 
 -- the machine value of a claim
-pub claim_tells : (E : El) (Z : Al) (d : (claim.the_row (R E) (P E Z) Z.g).Denot) (vs : List Val) → Is (claim.the_row (R E) (P E Z) Z.g) d vs → vs ≡ no_bytes ∷ []
+pub claim_tells : (E : El) (Z : Al) (d : (claim.the_row (R E) (P E Z) Z.g).Denot) (vs : List Val) →
+    Is (claim.the_row (R E) (P E Z) Z.g) d vs → vs ≡ no_bytes ∷ []
 claim_tells E Z d vs is = is.0.1.0 ∙ ap (λ (ws : List Val). vstruct (of_list (ws ++ [])) ∷ []) is.0.1.1.0.1.0
 
 module _ (E : El) {M : Type 1} {𝓤 : Ura M} (𝓛 : Logic 𝓤) (b : ℕ) where
@@ -109,10 +117,12 @@ module _ (E : El) {M : Type 1} {𝓤 : Ura M} (𝓛 : Logic 𝓤) (b : ℕ) wher
       → ent 𝓤 (sem 𝓛 (Slots o cs)) (sep 𝓤 (sem 𝓛 (Slot at (get_or cs i None))) (sem 𝓛 (Others o cs i)))
   slot_out [] i o at lt e = absurd (omega arith)
   slot_out (c ∷ cs) zero o at lt e =
-      qed 𝓛 (‵ (Slots o (c ∷ cs)) ∷ []) ∵ fsplit ! $ rewrite ! 0 (λ (k : ℕ). ‵ (Slot k c)) (here o at e) refl $ frame ! $ done !
+      qed 𝓛 (‵ (Slots o (c ∷ cs)) ∷ []) ∵ fsplit ! $ rewrite ! 0 (λ (k : ℕ). ‵ (Slot k c)) (here o at e)
+      refl $ frame ! $ done !
   slot_out (c ∷ cs) (suc i) o at lt e =
       qed 𝓛 (‵ (Slots o (c ∷ cs)) ∷ []) ∵ fsplit ! $ move ! (1 ∷ []) $
-      use1 𝓛 (‵ (Slot at (get_or cs i None)) ⊛ ‵ (Others (o + width E) cs i)) (slot_out cs i (o + width E) at (omega arith) (later_on i o at e)) $
+      use1 𝓛 (‵ (Slot at (get_or cs i None)) ⊛ ‵ (Others (o + width E) cs i))
+      (slot_out cs i (o + width E) at (omega arith) (later_on i o at e)) $
       split ! $ frame ! $ move ! (1 ∷ 0 ∷ []) $ fjoin ! $ done !
 
   pub slot_in : (cs : List (Place E)) (i o at : ℕ) (d : Place E) → i < length cs → at ≡ i * width E + o
@@ -124,7 +134,8 @@ module _ (E : El) {M : Type 1} {𝓤 : Ura M} (𝓛 : Logic 𝓤) (b : ℕ) wher
   slot_in (c ∷ cs) (suc i) o at d lt e =
       qed 𝓛 (‵ (Slot at d) ∷ ‵ (fsep (Slot o c) (Others (o + width E) cs i)) ∷ []) ∵ move ! (1 ∷ []) $ fsplit ! $
       move ! (2 ∷ 1 ∷ []) $
-      use2 𝓛 (‵ (Slots (o + width E) (set cs i d))) (slot_in cs i (o + width E) at d (omega arith) (later_on i o at e)) $
+      use2 𝓛 (‵ (Slots (o + width E) (set cs i d))) (slot_in cs i (o + width E) at d (omega arith)
+      (later_on i o at e)) $
       move ! (1 ∷ 0 ∷ []) $ fjoin ! $ done !
 
   pub room_cut : (n o : ℕ) → ent 𝓤 (H.room (ty_array (elτ E) n) b o) (sem 𝓛 (Slots o (replicate n None)))
@@ -132,7 +143,8 @@ module _ (E : El) {M : Type 1} {𝓤 : Ura M} (𝓛 : Logic 𝓤) (b : ℕ) wher
   room_cut (suc n) o =
       let at = o + width E in
       qed 𝓛 (‵ (froom (ty_array (elτ E) (suc n)) b o) ∷ []) ∵
-      use1 𝓛 (‵ (froom (elτ E) b o) ⊛ ‵ (froom (ty_array (elτ E) n) b at)) (𝓛.laws.room_uncons (elτ E) n b o) $ split ! $
+      use1 𝓛 (‵ (froom (elτ E) b o) ⊛ ‵ (froom (ty_array (elτ E) n) b at)) (𝓛.laws.room_uncons (elτ E) n b o)
+      $ split ! $
       use1 𝓛 (‵ (Slot o None)) (𝓛.laws.room-raw (elτ E) b o) $ move ! (1 ∷ []) $
       use1 𝓛 (‵ (Slots at (replicate n None))) (room_cut n at) $ move ! (1 ∷ 0 ∷ []) $ fjoin ! $ done !
 

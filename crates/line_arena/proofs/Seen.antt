@@ -1,5 +1,7 @@
 -- What a caller's look-up tells of the cells.
-use Rattle.std.proofs.Common.{◌≡◌, ℕ, ◌+◌, ◌<◌, zero, suc, inl, inr, true, true≢false, List, [], ◌∷◌, map, length, get_or, replicate, take, nat_eq, if◌then◌else◌, Option, Some, None, is_some, refl, sym, ap, ◌∙◌, arith, ne_eqb, eq-eqb}
+use Rattle.std.proofs.Common.{◌≡◌, ℕ, ◌+◌, ◌<◌, zero, suc, inl, inr, true, true≢false, List, [], ◌∷◌, map, length}
+use Rattle.std.proofs.Common.{get_or, replicate, take, nat_eq, if◌then◌else◌, Option, Some, None, is_some, refl, sym}
+use Rattle.std.proofs.Common.{ap, ◌∙◌, arith, ne_eqb, eq-eqb}
 use Rattle.std.proofs.lemmas.Bool.{cases_eq}
 use Rattle.std.proofs.lemmas.List.{take-replicate}
 use Rattle.line_arena.specs.declared.chains.Chains.{Chains}
@@ -21,10 +23,12 @@ pub same_some : {A : Type 0} (v w : A) → Some v ≡ Some w → v ≡ w
 same_some v w e = cc
 
 module _ {A : Type 0} where
-  pub look_in : (x : ℕ) (v : A) (ls : List (List (ℕ × A))) → look_up x ls ≡ Some v → (l : ℕ) × (l < length ls) × (find_cell x (get_or ls l []) ≡ Some v)
+  pub look_in : (x : ℕ) (v : A) (ls : List (List (ℕ × A))) → look_up x ls ≡ Some v → (l : ℕ) × (l < length ls) ×
+      (find_cell x (get_or ls l []) ≡ Some v)
   look_in x v [] e = cc
   look_in x v (r ∷ ls) e =
-      elim (find_cell x r) as (λ o. find_cell x r ≡ o → or_else o (look_up x ls) ≡ Some v → (l : ℕ) × (l < suc (length ls)) × (find_cell x (get_or (r ∷ ls) l []) ≡ Some v)) [
+      elim (find_cell x r) as (λ o. find_cell x r ≡ o → or_else o (look_up x ls) ≡ Some v → (l : ℕ) ×
+      (l < suc (length ls)) × (find_cell x (get_or (r ∷ ls) l []) ≡ Some v)) [
         | None ↦ λ here f. let q = look_in x v ls f in (suc q.0, omega (arith, q.1), q.2)
         | Some w ↦ λ here f. (0, omega arith, here ∙ f)
       ] refl e
@@ -37,11 +41,13 @@ module _ {X : Type 0} where
     | inr ne ↦ inr (find_has x xs o (sym (ap (λ b. if b then Some a.1 else find_cell x xs) (ne_eqb a.0 x ne)) ∙ e))
   ]
 
-  find_value : (x : ℕ) (v : X) (xs : List (ℕ × Option X)) → AllSome xs → find_cell x (values xs) ≡ Some v → find_cell x xs ≡ Some (Some v)
+  find_value : (x : ℕ) (v : X) (xs : List (ℕ × Option X)) → AllSome xs → find_cell x (values xs) ≡ Some v →
+      find_cell x xs ≡ Some (Some v)
   find_value x v [] h e = cc
   find_value x v (a ∷ xs) h e =
       let w = h.0.0 in
-      let f : (if nat_eq a.0 x then Some w else find_cell x (values xs)) ≡ Some v = sym (ap (λ o. find_cell x (with_value a.0 o (values xs))) h.0.1) ∙ e in
+      let f : (if nat_eq a.0 x then Some w else find_cell x (values xs)) ≡ Some v =
+      sym (ap (λ o. find_cell x (with_value a.0 o (values xs))) h.0.1) ∙ e in
       elim (cases_eq a.0 x) [
         | inl i ↦
             let t = eq-eqb a.0 x i in
@@ -49,16 +55,22 @@ module _ {X : Type 0} where
             ap (λ b. if b then Some a.1 else find_cell x xs) t ∙ ap Some h.0.1 ∙ ap Some is
         | inr ne ↦
             let t = ne_eqb a.0 x ne in
-            let rest : find_cell x (values xs) ≡ Some v = sym (ap (λ b. if b then Some w else find_cell x (values xs)) t) ∙ f in
+            let rest : find_cell x (values xs) ≡ Some v =
+            sym (ap (λ b. if b then Some w else find_cell x (values xs)) t) ∙ f in
             ap (λ b. if b then Some a.1 else find_cell x xs) t ∙ find_value x v xs h.1 rest
       ]
 
-  module _ (spare : ℕ) (c : Chains X) (h : IsArena spare c) (x : ℕ) (v : X) (e : look_up x (shown spare (rings_of c)) ≡ Some v) where
+  module _ (spare : ℕ) (c : Chains X) (h : IsArena spare c) (x : ℕ) (v : X)
+      (e : look_up x (shown spare (rings_of c)) ≡ Some v) where
     pub here : (l : ℕ) × (l < spare) × (find_cell x (get_or (rings_of c) l []) ≡ Some (Some v))
     here =
         let many = h.many in let n = h.tied.tied.many in let long = length-shown spare (rings_of c) (omega arith) in
-        let q = look_in x v (shown spare (rings_of c)) e in let low : q.0 < spare = omega (arith, q.1) in
-        (q.0, low, find_value x v (get_or (rings_of c) q.0 []) (h.loaded q.0 low) (ap (find_cell x) (sym (shown_at spare (rings_of c) q.0 low (omega arith))) ∙ q.2))
+        let q = look_in x v (shown spare (rings_of c)) e in let low : q.0 < spare = omega (arith, q.1) in (
+          q.0,
+          low,
+          find_value x v (get_or (rings_of c) q.0 []) (h.loaded q.0 low)
+              (ap (find_cell x) (sym (shown_at spare (rings_of c) q.0 low (omega arith))) ∙ q.2),
+        )
 
     -- the cell is a used one, and has the value
     pub seen : IsFilled c.block x × (look_up x (rings_of c) ≡ Some (Some v))
@@ -66,8 +78,10 @@ module _ {X : Type 0} where
         let many = h.many in let n = h.tied.tied.many in let l = here.0 in let low = here.1 in
         let on = find_has x (get_or (rings_of c) l []) (Some v) here.2 in (
           filled_at spare c h l x (omega arith) on,
-          look_at_list x (Some v) (rings_of c) l (omega arith) here.2 (λ m mt ne. find_absent x (get_or (rings_of c) m []) (λ w.
-              one_list c.block c.capacity c.heads.items (rings_of c) h.tied.tied l m x x (omega arith) (omega arith) ne on w refl)),
+          look_at_list x (Some v) (rings_of c) l (omega arith) here.2
+              (λ m mt ne. find_absent x (get_or (rings_of c) m []) (λ w.
+              one_list c.block c.capacity c.heads.items (rings_of c) h.tied.tied l m x x (omega arith)
+              (omega arith) ne on w refl)),
         )
 
   empty_values : (n : ℕ) → map (values {X = X}) (replicate n []) ≡ replicate n []
@@ -75,4 +89,5 @@ module _ {X : Type 0} where
   empty_values (suc n) = ap (λ zs. [] ∷ zs) (empty_values n)
 
   pub shown_new : (n : ℕ) (rs : List (List (ℕ × Option X))) → rs ≡ replicate (n + 1) [] → shown n rs ≡ replicate n []
-  shown_new n rs e = ap (λ zs. map values (take n zs)) e ∙ ap (map values) (take-replicate n (n + 1) [] (omega arith)) ∙ empty_values n
+  shown_new n rs e = ap (λ zs. map values (take n zs)) e ∙ ap (map values) (take-replicate n (n + 1) [] (omega arith))
+      ∙ empty_values n

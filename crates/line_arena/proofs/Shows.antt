@@ -1,5 +1,7 @@
 -- What a caller sees of the lists, and what holds of them after a step.
-use Rattle.std.proofs.Common.{◌≡◌, ◌≢◌, ℕ, ◌+◌, ◌<◌, ◌≤◌, inl, inr, true, false, List, [], ◌∷◌, ◌++◌, map, take, length, get_or, set, nat_eq, if◌then◌else◌, Option, Some, None, refl, sym, ap, subst, ◌∙◌, arith, length-set, get_or-set_same, get_or-set_other, ext_get_or}
+use Rattle.std.proofs.Common.{◌≡◌, ◌≢◌, ℕ, ◌+◌, ◌<◌, ◌≤◌, inl, inr, true, false, List, [], ◌∷◌, ◌++◌, map, take}
+use Rattle.std.proofs.Common.{length, get_or, set, nat_eq, if◌then◌else◌, Option, Some, None, refl, sym, ap, subst}
+use Rattle.std.proofs.Common.{◌∙◌, arith, length-set, get_or-set_same, get_or-set_other, ext_get_or}
 use Rattle.std.proofs.lemmas.Bool.{cases_lt, cases_eq}
 use Rattle.std.proofs.lemmas.List.{get_or-map, length-map, length-take, get_or-take, take-set-le}
 use Rattle.line_arena.specs.declared.chains.Chains.{Chains}
@@ -12,13 +14,16 @@ use Rattle.line_arena.proofs.Edits.{within}
 module _ {X : Type 0} where
   some_without : (x : ℕ) (xs : List (ℕ × Option X)) → AllSome xs → AllSome (without x xs)
   some_without x [] h = tt
-  some_without x (a ∷ xs) h = elim (nat_eq a.0 x) as (λ b. AllSome (if b then without x xs else a ∷ without x xs)) [ true ↦ some_without x xs h.1 | false ↦ (h.0, some_without x xs h.1) ]
+  some_without x (a ∷ xs) h = elim (nat_eq a.0 x) as (λ b. AllSome (if b then without x xs else a ∷ without x xs))
+      [ true ↦ some_without x xs h.1 | false ↦ (h.0, some_without x xs h.1) ]
 
   none_without : (x : ℕ) (xs : List (ℕ × Option X)) → AllNone xs → AllNone (without x xs)
   none_without x [] h = tt
-  none_without x (a ∷ xs) h = elim (nat_eq a.0 x) as (λ b. AllNone (if b then without x xs else a ∷ without x xs)) [ true ↦ none_without x xs h.1 | false ↦ (h.0, none_without x xs h.1) ]
+  none_without x (a ∷ xs) h = elim (nat_eq a.0 x) as (λ b. AllNone (if b then without x xs else a ∷ without x xs))
+      [ true ↦ none_without x xs h.1 | false ↦ (h.0, none_without x xs h.1) ]
 
-  some_push : (xs : List (ℕ × Option X)) (a : ℕ × Option X) → AllSome xs → (v : X) × (a.1 ≡ Some v) → AllSome (xs ++ a ∷ [])
+  some_push : (xs : List (ℕ × Option X)) (a : ℕ × Option X) → AllSome xs → (v : X) × (a.1 ≡ Some v) →
+      AllSome (xs ++ a ∷ [])
   some_push [] a h s = (s, tt)
   some_push (b ∷ xs) a h s = (h.0, some_push xs a h.1 s)
 
@@ -26,94 +31,138 @@ module _ {X : Type 0} where
   none_push [] a h s = (s, tt)
   none_push (b ∷ xs) a h s = (h.0, none_push xs a h.1 s)
 
-  pub lacks_from : (spare x : ℕ) (c d : Chains X) → IsArena spare c → IsFilled c.block x → IsTied d → total d.heads.items + 1 ≡ total c.heads.items → SameUse x c d → get_or d.block x None ≡ None → SameSizes c d
+  pub lacks_from : (spare x : ℕ) (c d : Chains X) → IsArena spare c → IsFilled c.block x → IsTied d →
+      total d.heads.items + 1 ≡ total c.heads.items → SameUse x c d → get_or d.block x None ≡ None → SameSizes c d
       → rings_of d ≡ map (without x) (rings_of c) → Lacks spare x d
   lacks_from spare x c d a full t less kept gap size are =
-      let long = length-map (rings_of c) (without x) in let n = a.tied.tied.many in let m = a.many in let used = size.used in
+      let long = length-map (rings_of c) (without x) in let n = a.tied.tied.many in let m =
+      a.many in let used = size.used in
       let cap = size.capacity in
       let had = within c.block x full.0 full.1 in
-      let x_low : x < c.used = elim (cases_lt x c.used) [ inl lt ↦ lt | inr le ↦ (let two : Some full.0 ≡ None = sym full.1 ∙ a.uses.1 x le in cc) ] in
-      let at : (l : ℕ) → l < spare + 1 → get_or (rings_of d) l [] ≡ without x (get_or (rings_of c) l []) = λ l lt. ap (λ rs. get_or rs l []) are ∙ get_or-map (without x) (rings_of c) l [] [] (omega arith) in
+      let x_low : x < c.used = elim (cases_lt x c.used) [
+        | inl lt ↦ lt
+        | inr le ↦ (let two : Some full.0 ≡ None =
+            sym full.1 ∙ a.uses.1 x le in cc)
+      ] in
+      let at : (l : ℕ) → l < spare + 1 → get_or (rings_of d) l [] ≡ without x (get_or (rings_of c) l []) =
+      λ l lt. ap (λ rs. get_or rs l []) are ∙ get_or-map (without x) (rings_of c) l [] [] (omega arith) in
       record {
         tied = t;
         many = size.lists ∙ a.many;
         total = (omega (arith, less, a.total.0, used), omega (arith, used, cap, a.total.1));
         gap = (omega arith, gap);
-        uses = λ y ne. ((λ lt. (kept y ne).0 (a.uses.0 y (omega arith))), λ le. (kept y ne).1 (a.uses.1 y (omega arith)));
-        loaded = λ l lt. subst AllSome (sym (at l (omega arith))) (some_without x (get_or (rings_of c) l []) (a.loaded l lt));
+        uses = λ y ne. (
+          (λ lt. (kept y ne).0 (a.uses.0 y (omega arith))),
+          λ le. (kept y ne).1
+              (a.uses.1 y (omega arith)),
+        );
+        loaded = λ l lt. subst AllSome (sym (at l (omega arith)))
+            (some_without x (get_or (rings_of c) l []) (a.loaded l lt));
         spare = subst AllNone (sym (at spare (omega arith))) (none_without x (get_or (rings_of c) spare []) a.spare);
       }
 
-  pub arena_from : (spare l x : ℕ) (it : Option X) (c d : Chains X) → Lacks spare x c → l ≤ spare → Suits spare l it → IsTied d → total d.heads.items ≡ total c.heads.items + 1 → SameUse x c d → IsFilled d.block x → SameSizes c d
+  pub arena_from : (spare l x : ℕ) (it : Option X) (c d : Chains X) → Lacks spare x c → l ≤ spare → Suits spare l it →
+      IsTied d → total d.heads.items ≡ total c.heads.items + 1 → SameUse x c d → IsFilled d.block x → SameSizes c d
       → rings_of d ≡ set (rings_of c) l (get_or (rings_of c) l [] ++ (x, it) ∷ []) → IsArena spare d
   arena_from spare l x it c d a low suits t more kept full size are =
       let r = get_or (rings_of c) l [] in let new = r ++ (x, it) ∷ [] in
-      let long = length-set (rings_of c) l new in let n = a.tied.tied.many in let m = a.many in let used = size.used in
+      let long = length-set (rings_of c) l new in let n = a.tied.tied.many in let m =
+      a.many in let used = size.used in
       let cap = size.capacity in
-      let here : get_or (rings_of d) l [] ≡ new = ap (λ rs. get_or rs l []) are ∙ get_or-set_same (rings_of c) l new [] (omega arith) in
-      let there : (k : ℕ) → k ≢ l → get_or (rings_of d) k [] ≡ get_or (rings_of c) k [] = λ k ne. ap (λ rs. get_or rs k []) are ∙ get_or-set_other (rings_of c) l k new [] ne in
+      let here : get_or (rings_of d) l [] ≡ new =
+      ap (λ rs. get_or rs l []) are ∙ get_or-set_same (rings_of c) l new [] (omega arith) in
+      let there : (k : ℕ) → k ≢ l → get_or (rings_of d) k [] ≡ get_or (rings_of c) k [] =
+      λ k ne. ap (λ rs. get_or rs k []) are ∙ get_or-set_other (rings_of c) l k new [] ne in
       record {
         tied = t;
         many = size.lists ∙ a.many;
         total = (omega (arith, more, a.total.0, used), omega (arith, used, cap, a.total.1));
         uses = (
-          (λ y lt. elim (cases_eq y x) [ inl i ↦ subst (IsFilled d.block) (sym i) full | inr ne ↦ (kept y ne).0 ((a.uses y ne).0 (omega arith)) ]),
-          λ y le. elim (cases_eq y x) [ inl i ↦ (let past = a.gap.0 in absurd (omega arith)) | inr ne ↦ (kept y ne).1 ((a.uses y ne).1 (omega arith)) ],
+          (λ y lt. elim (cases_eq y x) [
+            | inl i ↦ subst (IsFilled d.block) (sym i) full
+            | inr ne ↦ (kept y ne).0
+                ((a.uses y ne).0 (omega arith))
+          ]),
+          λ y le. elim (cases_eq y x) [
+            | inl i ↦ (let past = a.gap.0 in absurd (omega arith))
+            | inr ne ↦ (kept y ne).1
+                ((a.uses y ne).1 (omega arith))
+          ],
         );
         loaded = λ k lt. elim (cases_eq k l) [
-          | inl i ↦ subst (λ j. AllSome (get_or (rings_of d) j [])) (sym i) (subst AllSome (sym here) (some_push r (x, it) (a.loaded l (omega arith)) (suits.0 (omega arith))))
+          | inl i ↦ subst (λ j. AllSome (get_or (rings_of d) j [])) (sym i)
+              (subst AllSome (sym here) (some_push r (x, it) (a.loaded l (omega arith)) (suits.0 (omega arith))))
           | inr ne ↦ subst AllSome (sym (there k ne)) (a.loaded k lt)
         ];
         spare = elim (cases_eq spare l) [
-          | inl i ↦ subst (λ j. AllNone (get_or (rings_of d) j [])) (sym i) (subst AllNone (sym here) (none_push r (x, it) (subst (λ j. AllNone (get_or (rings_of c) j [])) i a.spare) (suits.1 (sym i))))
+          | inl i ↦ subst (λ j. AllNone (get_or (rings_of d) j [])) (sym i)
+              (subst AllNone (sym here) (none_push r (x, it) (subst (λ j. AllNone (get_or (rings_of c) j [])) i
+              a.spare) (suits.1 (sym i))))
           | inr ne ↦ subst AllNone (sym (there spare ne)) a.spare
         ];
       }
 
   values_without : (x : ℕ) (xs : List (ℕ × Option X)) → values (without x xs) ≡ without x (values xs)
   values_without x [] = refl
-  values_without x (a ∷ xs) = elim a.1 as (λ o. values (if nat_eq a.0 x then without x xs else (a.0, o) ∷ without x xs) ≡ without x (with_value a.0 o (values xs))) [
-    | None ↦ elim (nat_eq a.0 x) as (λ b. values (if b then without x xs else (a.0, None) ∷ without x xs) ≡ without x (values xs)) [ true ↦ values_without x xs | false ↦ values_without x xs ]
-    | Some v ↦ elim (nat_eq a.0 x) as (λ b. values (if b then without x xs else (a.0, Some v) ∷ without x xs) ≡ (if b then without x (values xs) else (a.0, v) ∷ without x (values xs))) [
-      | true ↦ values_without x xs
-      | false ↦ ap (λ ys. (a.0, v) ∷ ys) (values_without x xs)
-    ]
-  ]
+  values_without x (a ∷ xs) =
+      elim a.1 as (λ o. values (if nat_eq a.0 x then without x xs else (a.0, o) ∷ without x xs) ≡ without x
+      (with_value a.0 o (values xs))) [
+        | None ↦ elim (nat_eq a.0 x) as (λ b. values (if b then without x xs else (a.0, None) ∷ without x xs) ≡ without x
+            (values xs)) [ true ↦ values_without x xs | false ↦ values_without x xs ]
+        | Some v ↦ elim (nat_eq a.0 x) as (λ b. values (if b then without x xs else (a.0, Some v) ∷ without x xs) ≡
+            (if b then without x (values xs) else (a.0, v) ∷ without x (values xs))) [
+              | true ↦ values_without x xs
+              | false ↦ ap (λ ys. (a.0, v) ∷ ys) (values_without x xs)
+            ]
+      ]
 
-  values_push : (xs : List (ℕ × Option X)) (x : ℕ) (v : X) → values (xs ++ (x, Some v) ∷ []) ≡ values xs ++ (x, v) ∷ []
+  values_push : (xs : List (ℕ × Option X)) (x : ℕ) (v : X) → values (xs ++ (x, Some v) ∷ []) ≡ values xs
+      ++ (x, v) ∷ []
   values_push [] x v = refl
-  values_push (a ∷ xs) x v = elim a.1 as (λ o. with_value a.0 o (values (xs ++ (x, Some v) ∷ [])) ≡ with_value a.0 o (values xs) ++ (x, v) ∷ []) [
-    | None ↦ values_push xs x v
-    | Some w ↦ ap (λ ys. (a.0, w) ∷ ys) (values_push xs x v)
-  ]
+  values_push (a ∷ xs) x v = elim a.1 as (λ o. with_value a.0 o (values (xs ++ (x, Some v) ∷ [])) ≡ with_value a.0 o
+      (values xs) ++ (x, v) ∷ []) [
+        | None ↦ values_push xs x v
+        | Some w ↦ ap (λ ys. (a.0, w) ∷ ys) (values_push xs x v)
+      ]
 
   pub length-shown : (n : ℕ) (rs : List (List (ℕ × Option X))) → n ≤ length rs → length (shown n rs) ≡ n
   length-shown n rs le = length-map (take n rs) values ∙ (let k = length-take n rs in omega (arith, k))
 
-  pub shown_at : (n : ℕ) (rs : List (List (ℕ × Option X))) (l : ℕ) → l < n → n ≤ length rs → get_or (shown n rs) l [] ≡ values (get_or rs l [])
-  shown_at n rs l lt le = let k = length-take n rs in get_or-map values (take n rs) l [] [] (omega (arith, k)) ∙ ap values (get_or-take n rs l [] lt)
+  pub shown_at : (n : ℕ) (rs : List (List (ℕ × Option X))) (l : ℕ) → l < n → n ≤ length rs →
+      get_or (shown n rs) l [] ≡ values (get_or rs l [])
+  shown_at n rs l lt le = let k = length-take n rs in get_or-map values (take n rs) l [] [] (omega (arith, k))
+      ∙ ap values (get_or-take n rs l [] lt)
 
-  pub shown_without : (n x : ℕ) (rs : List (List (ℕ × Option X))) → n ≤ length rs → shown n (map (without x) rs) ≡ map (without x) (shown n rs)
+  pub shown_without : (n x : ℕ) (rs : List (List (ℕ × Option X))) → n ≤ length rs → shown n (map (without x) rs) ≡ map
+      (without x) (shown n rs)
   shown_without n x rs le =
       let long = length-map rs (without x) in let left = length-shown n (map (without x) rs) (omega arith) in
       let right = length-shown n rs le in
-      ext_get_or [] (shown n (map (without x) rs)) (map (without x) (shown n rs)) (left ∙ sym (length-map (shown n rs) (without x) ∙ right)) (λ l lt.
-      shown_at n (map (without x) rs) l (omega arith) (omega arith) ∙ ap values (get_or-map (without x) rs l [] [] (omega arith)) ∙ values_without x (get_or rs l [])
-      ∙ ap (without x) (sym (shown_at n rs l (omega arith) le)) ∙ sym (get_or-map (without x) (shown n rs) l [] [] (omega arith)))
+      ext_get_or [] (shown n (map (without x) rs)) (map (without x) (shown n rs))
+      (left ∙ sym (length-map (shown n rs) (without x) ∙ right)) (λ l lt.
+      shown_at n (map (without x) rs) l (omega arith) (omega arith)
+      ∙ ap values (get_or-map (without x) rs l [] [] (omega arith)) ∙ values_without x (get_or rs l [])
+      ∙ ap (without x) (sym (shown_at n rs l (omega arith) le))
+      ∙ sym (get_or-map (without x) (shown n rs) l [] [] (omega arith)))
 
   pub shown_push : (n : ℕ) (rs : List (List (ℕ × Option X))) (l x : ℕ) (v : X) → l < n → n ≤ length rs
-      → shown n (set rs l (get_or rs l [] ++ (x, Some v) ∷ [])) ≡ set (shown n rs) l (get_or (shown n rs) l [] ++ (x, v) ∷ [])
+      → shown n (set rs l (get_or rs l [] ++ (x, Some v) ∷ [])) ≡ set (shown n rs) l
+      (get_or (shown n rs) l [] ++ (x, v) ∷ [])
   shown_push n rs l x v ln le =
       let r = get_or rs l [] in let new = r ++ (x, Some v) ∷ [] in let ss = set rs l new in let old = shown n rs in
       let put = get_or old l [] ++ (x, v) ∷ [] in
-      let long = length-set rs l new in let left = length-shown n ss (omega arith) in let right = length-shown n rs le in
+      let long = length-set rs l new in let left = length-shown n ss (omega arith) in let right =
+      length-shown n rs le in
       ext_get_or [] (shown n ss) (set old l put) (left ∙ sym (length-set old l put ∙ right)) (λ k lt.
       shown_at n ss k (omega arith) (omega arith) ∙ elim (cases_eq k l) [
-        | inl i ↦ ap (λ j. values (get_or ss j [])) i ∙ ap values (get_or-set_same rs l new [] (omega arith)) ∙ values_push r x v ∙ ap (λ ys. ys ++ (x, v) ∷ []) (sym (shown_at n rs l ln le))
+        | inl i ↦ ap (λ j. values (get_or ss j [])) i ∙ ap values (get_or-set_same rs l new [] (omega arith))
+            ∙ values_push r x v ∙ ap (λ ys. ys ++ (x, v) ∷ []) (sym (shown_at n rs l ln le))
             ∙ sym (ap (λ j. get_or (set old l put) j []) i ∙ get_or-set_same old l put [] (omega arith))
-        | inr ne ↦ ap values (get_or-set_other rs l k new [] ne) ∙ sym (shown_at n rs k (omega arith) le) ∙ sym (get_or-set_other old l k put [] ne)
+        | inr ne ↦ ap values (get_or-set_other rs l k new [] ne) ∙ sym (shown_at n rs k (omega arith) le)
+            ∙ sym (get_or-set_other old l k put [] ne)
       ])
 
   -- what is put on the last list does not show
-  pub shown_spare : (n : ℕ) (rs : List (List (ℕ × Option X))) (r : List (ℕ × Option X)) → shown n (set rs n r) ≡ shown n rs
+  pub shown_spare : (n : ℕ) (rs : List (List (ℕ × Option X))) (r : List (ℕ × Option X)) →
+      shown n (set rs n r) ≡ shown n rs
   shown_spare n rs r = ap (map values) (take-set-le n rs n r (omega arith))

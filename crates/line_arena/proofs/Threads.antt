@@ -38,7 +38,8 @@ module _ (R : RattleType) where
   pub cells_send : IsSend R → IsSend (cells.the_row R)
   cells_send send =
       let S = cells.the_type R in let each : AllSend (fields S) = (search sendable, tt) in
-      owning_send S each (λ d. row_goes send d.at d.slots) (λ k. quiet (to S) (exits_of k (fields S)) ((struct_send (shape S) each).leaving k))
+      owning_send S each (λ d. row_goes send d.at d.slots) (λ k. quiet (to S) (exits_of k (fields S))
+      ((struct_send (shape S) each).leaving k))
 
   pub cells_sync : IsSync R → IsSync (cells.the_row R)
   cells_sync sync =
@@ -49,7 +50,8 @@ module _ (R : RattleType) where
     pub claim_send : FreesAnywhere A.Denot g → IsSend (claim.the_row R A g)
     claim_send anywhere =
         let S = claim.the_type R A g in let each : AllSend (fields S) = (search sendable, tt) in
-        owning_send S each (λ d. anywhere.frees d.alloc _ d.at) (λ k. quiet (to S) (exits_of k (fields S)) ((struct_send (shape S) each).leaving k))
+        owning_send S each (λ d. anywhere.frees d.alloc _ d.at) (λ k. quiet (to S) (exits_of k (fields S))
+        ((struct_send (shape S) each).leaving k))
 
     pub claim_sync : IsSync (claim.the_row R A g)
     claim_sync =

@@ -23,11 +23,13 @@ pub record AppendLaws (A : Type 0) : Type 0 where
   pub found : (ls : List (List (ℕ × A))) (l x : ℕ) (v : A) → l < length ls → look_up x ls ≡ None
       → look_up x (append_to l (x, v) ls) ≡ Some v
   -- Other cells are found as before.
-  pub others : (ls : List (List (ℕ × A))) (l x y : ℕ) (v : A) → y ≢ x → look_up y (append_to l (x, v) ls) ≡ look_up y ls
+  pub others : (ls : List (List (ℕ × A))) (l x y : ℕ) (v : A) → y ≢ x →
+      look_up y (append_to l (x, v) ls) ≡ look_up y ls
   -- The list has the pair at its end, and every other list is unchanged.
   pub longer : (ls : List (List (ℕ × A))) (l : ℕ) (a : ℕ × A) → l < length ls
       → get_or (append_to l a ls) l [] ≡ get_or ls l [] ++ a ∷ []
-  pub apart : (ls : List (List (ℕ × A))) (l m : ℕ) (a : ℕ × A) → m ≢ l → get_or (append_to l a ls) m [] ≡ get_or ls m []
+  pub apart : (ls : List (List (ℕ × A))) (l m : ℕ) (a : ℕ × A) → m ≢ l → get_or (append_to l a ls) m
+      [] ≡ get_or ls m []
   -- There are as many lists as before.
   pub lists : (ls : List (List (ℕ × A))) (l : ℕ) (a : ℕ × A) → length (append_to l a ls) ≡ length ls
 
@@ -50,7 +52,8 @@ pub record RewriteLaws (A : Type 0) : Type 0 where
   -- The cell has the new value, and other cells are found as before.
   pub found : (ls : List (List (ℕ × A))) (x : ℕ) (w : A) → IsSome (look_up x ls)
       → look_up x (map (rewritten x w) ls) ≡ Some w
-  pub others : (ls : List (List (ℕ × A))) (x y : ℕ) (w : A) → y ≢ x → look_up y (map (rewritten x w) ls) ≡ look_up y ls
+  pub others : (ls : List (List (ℕ × A))) (x y : ℕ) (w : A) → y ≢ x →
+      look_up y (map (rewritten x w) ls) ≡ look_up y ls
   -- Each list has its cells in the same order.
   pub each : (ls : List (List (ℕ × A))) (x l : ℕ) (w : A)
       → get_or (map (rewritten x w) ls) l [] ≡ rewritten x w (get_or ls l [])

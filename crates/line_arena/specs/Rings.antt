@@ -1,5 +1,6 @@
 -- How the lists lie in the cells. A list is the cells from its head on and back to it, each with its item.
-use Rattle.std.specs.Prelude.{◌≡◌, ℕ, zero, suc, ◌+◌, ◌<◌, ◌⊎◌, ⊤, if◌then◌else◌, nat_lt, List, [], ◌∷◌, map, length, get_or, set, Option, Some, None, option_map}
+use Rattle.std.specs.Prelude.{◌≡◌, ℕ, zero, suc, ◌+◌, ◌<◌, ◌⊎◌, ⊤, if◌then◌else◌, nat_lt, List, [], ◌∷◌, map, length}
+use Rattle.std.specs.Prelude.{get_or, set, Option, Some, None, option_map}
 use Rattle.line_arena.specs.declared.node.Node.{Node}
 use Rattle.line_arena.specs.declared.node.Head.{Head}
 
@@ -71,7 +72,8 @@ module _ {X : Type 0} where
     pub apart : IsApart xs
 
   -- each list is a ring, and each used cell is on its list
-  pub record Tied (cs : List (Option (Node X))) (cap : ℕ) (heads : List Head) (rs : List (List (ℕ × Option X))) : Type 0 where
+  pub record Tied (cs : List (Option (Node X))) (cap : ℕ) (heads : List Head) (rs : List (List (ℕ × Option X))) : Type
+      0 where
     pub cells : length cs ≡ cap
     pub many : length rs ≡ length heads
     pub ring : (l : ℕ) → l < length heads → IsRing cs cap l (get_or heads l no_head) (get_or rs l [])

@@ -1,5 +1,6 @@
 //! The arena as callers see it.
-ghost use Rattle.std.specs.Prelude.{◌≡◌, ◌+◌, ◌^◌, ◌<◌, ◌≤◌, ◌⊎◌, ◌↔◌, [], ◌∷◌, ◌++◌, map, length, get_or, slice_set, replicate, IfOk, IfErr, IsErr, IsSome, IfSome, is_some, Some, None, Err};
+ghost use Rattle.std.specs.Prelude.{◌≡◌, ◌+◌, ◌^◌, ◌<◌, ◌≤◌, ◌⊎◌, ◌↔◌, [], ◌∷◌, ◌++◌, map, length, get_or, slice_set};
+ghost use Rattle.std.specs.Prelude.{replicate, IfOk, IfErr, IsErr, IsSome, IfSome, is_some, Some, None, Err};
 ghost use Rattle.std.specs.Borrow.{sem};
 ghost use Rattle.line_arena.specs.CellLists.{look_up, without, next_cell, first_cell, append_to};
 ghost use Rattle.line_arena.specs.ErrorNumbers.{error_number};

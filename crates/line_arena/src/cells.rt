@@ -2,7 +2,8 @@
 //!
 //! The functions here are the only ones of the crate that follow a pointer, and each is proved by hand. The owner of
 //! the places is apart from the pointer and takes no bytes, so no function has to read a pointer out of a struct.
-ghost use Rattle.std.specs.Prelude.{◌≡◌, ℕ, ◌<◌, List, Option, Some, None, length, replicate, get_or, slice_set, IfOk, ⊤};
+ghost use Rattle.std.specs.Prelude.{◌≡◌, ℕ, ◌<◌, List, Option, Some, None, length, replicate, get_or, slice_set};
+ghost use Rattle.std.specs.Prelude.{IfOk, ⊤};
 ghost use Rattle.std.specs.Borrow.{sem};
 ghost use Rattle.std.specs.Vec.Ownership.{FitsInBlock};
 ghost use base.Fml.{ftrue};
@@ -77,8 +78,10 @@ pub(crate) fn allocate<T, A: Allocator>(
     len: usize,
 ) -> Result<(Base<T>, Cells<T>, Claim<T, A>), AllocError>
     requires { FitsInBlock T.row len }
-    ensures cells { IfOk result (λ new. (new.1.at ≡ new.0.ptr) × (new.1.slots ≡ replicate len None)) }
-    ensures claim { IfOk result (λ new. (new.2.at ≡ new.0.ptr) × (new.2.len ≡ len) × (new.2.alloc ≡ alloc.now)) }
+    ensures cells { IfOk result (λ new. (new.1.at ≡ new.0.ptr) ×
+        (new.1.slots ≡ replicate len None)) }
+    ensures claim { IfOk result (λ new. (new.2.at ≡ new.0.ptr) × (new.2.len ≡ len) ×
+        (new.2.alloc ≡ alloc.now)) }
 {
     match alloc.allocate(len * size_of::<T>(), align_of::<T>()) {
         Ok(block) => {
@@ -115,8 +118,12 @@ impl<T> Cells<T> {
     /// Moves a value into an empty place.
     pub(crate) fn write(&mut self, base: Base<T>, index: usize, item: T)
         requires base { base.ptr ≡ self.old.at }
-        requires empty { (index < length self.old.slots) × (get_or self.old.slots index None ≡ None) }
-        ensures { self.new ≡ record self.old { slots = slice_set self.old.slots index (Some item) } }
+        requires empty { (index < length self.old.slots) ×
+            (get_or self.old.slots index None ≡ None) }
+        ensures { self.new ≡ record self.old {
+          slots =
+              slice_set self.old.slots index (Some item);
+        } }
     {
         unsafe { base.ptr.add(index).write(item) }
     }

@@ -2,7 +2,9 @@
 //!
 //! The end of the list l has the number `capacity + l`, so what is before the first cell and after the last one has a
 //! number too. The free cells that were used are one more list, the last. Its cells hold no value.
-ghost use Rattle.std.specs.Prelude.{◌≡◌, ℕ, ◌+◌, ◌^◌, ◌<◌, ◌≤◌, [], ◌∷◌, ◌++◌, if◌then◌else◌, nat_lt, length, get_or, slice_set, map, replicate, IfOk, IfSome, OnSome, IfNone, IsNone, is_some, ◌↔◌, Option, Some, None};
+ghost use Rattle.std.specs.Prelude.{◌≡◌, ℕ, ◌+◌, ◌^◌, ◌<◌, ◌≤◌, [], ◌∷◌, ◌++◌, if◌then◌else◌, nat_lt, length, get_or};
+ghost use Rattle.std.specs.Prelude.{slice_set, map, replicate, IfOk, IfSome, OnSome, IfNone, IsNone, is_some, ◌↔◌};
+ghost use Rattle.std.specs.Prelude.{Option, Some, None};
 ghost use Rattle.std.specs.Borrow.{sem};
 ghost use Rattle.line_arena.specs.declared.node.Node.{Node};
 ghost use Rattle.line_arena.specs.Filled.{IsFilled};
@@ -54,7 +56,8 @@ fn set_prev<T>(block: &mut Block<Node<T>>, capacity: u32, cell: u32, to: u32)
 /// Writes all links of a cell.
 fn set_links<T>(block: &mut Block<Node<T>>, cell: u32, prev: u32, next: u32, list: u32)
     requires { IsFilled block.old cell }
-    ensures { block.new ≡ slice_set block.old cell (Some (node prev next list (at block.old cell).item)) }
+    ensures { block.new ≡ slice_set block.old cell
+        (Some (node prev next list (at block.old cell).item)) }
 {
     let node = block.get_mut(cell as usize);
     node.prev = prev;
@@ -89,7 +92,8 @@ impl<T> Chains<T> {
         ensures tied { IfOk result (λ c. IsTied c) }
         ensures fields { IfOk result (λ c. (c.capacity ≡ cells) × (c.used ≡ 0)
             × (c.block ≡ replicate cells None) × (length c.heads.items ≡ lists)) }
-        ensures empty { IfOk result (λ c. (rings_of c ≡ replicate lists []) × (total c.heads.items ≡ 0)) }
+        ensures empty { IfOk result (λ c. (rings_of c ≡ replicate lists []) ×
+            (total c.heads.items ≡ 0)) }
     {
         let heads = empty_heads(alloc, cells, lists)?;
         let block = Block::new(alloc, cells as usize)?;
@@ -130,7 +134,8 @@ impl<T> Chains<T> {
         ensures value { look_up cell (rings_of self.old) ≡ Some (at self.new.block cell).item }
         ensures lists { rings_of (emptied cell self.new) ≡ map (without cell) (rings_of self.old) }
         ensures total { total self.new.heads.items + 1 ≡ total self.old.heads.items }
-        ensures uses { SameUse cell self.old (emptied cell self.new) × IsFilled self.new.block cell }
+        ensures uses { SameUse cell self.old (emptied cell self.new) ×
+            IsFilled self.new.block cell }
         ensures sizes { SameSizes self.old self.new }
     {
         let links = self.position(cell);
@@ -154,7 +159,8 @@ impl<T> Chains<T> {
         ensures rings { rings_of self.new
             ≡ append_to list (cell, (at self.old.block cell).item) (rings_of (emptied cell self.old)) }
         ensures total { total self.new.heads.items ≡ total self.old.heads.items + 1 }
-        ensures uses { SameUse cell (emptied cell self.old) self.new × IsFilled self.new.block cell }
+        ensures uses { SameUse cell (emptied cell self.old) self.new ×
+            IsFilled self.new.block cell }
         ensures sizes { SameSizes self.old self.new }
     {
         let head = self.heads[list as usize];
@@ -309,24 +315,29 @@ impl<T> Chains<T> {
     /// Whether a used cell has a value.
     pub(crate) fn is_full(&self, cell: u32) -> bool
         requires { IsFilled self.now.block cell }
-        ensures { (n : Node T) → get_or self.now.block cell None ≡ Some n → result ≡ is_some n.item }
+        ensures { (n : Node T) → get_or self.now.block cell None ≡ Some n →
+            result ≡ is_some n.item }
     {
         self.block.get(cell as usize).item.is_some()
     }
 
     /// The value of a cell that has one.
     pub(crate) fn value(&self, cell: u32) -> &T
-        requires { (n : Node T) × (v : T) × (get_or self.now.block cell None ≡ Some n) × (n.item ≡ Some v) }
-        ensures { (n : Node T) → get_or self.now.block cell None ≡ Some n → n.item ≡ Some result.now }
+        requires { (n : Node T) × (v : T) × (get_or self.now.block cell None ≡ Some n) ×
+            (n.item ≡ Some v) }
+        ensures { (n : Node T) → get_or self.now.block cell None ≡ Some n →
+            n.item ≡ Some result.now }
     {
         self.block.get(cell as usize).item.as_ref().unwrap()
     }
 
     /// The value of a cell that has one, to write to.
     pub(crate) fn value_mut(&mut self, cell: u32) -> &mut T
-        requires { (n : Node T) × (v : T) × (get_or self.old.block cell None ≡ Some n) × (n.item ≡ Some v) }
+        requires { (n : Node T) × (v : T) × (get_or self.old.block cell None ≡ Some n) ×
+            (n.item ≡ Some v) }
         ensures* writes_back { sem 𝓛 (lends_value T.row self.entry cell result) }
-        ensures value { (n : Node T) → get_or self.old.block cell None ≡ Some n → n.item ≡ Some result.now }
+        ensures value { (n : Node T) → get_or self.old.block cell None ≡ Some n →
+            n.item ≡ Some result.now }
     {
         self.block.get_mut(cell as usize).item.as_mut().unwrap()
     }

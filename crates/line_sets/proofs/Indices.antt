@@ -1,5 +1,6 @@
 -- What the index of a line in its set says of the definitions by recursion.
-use Rattle.std.proofs.Common.{◌≡◌, ℕ, zero, suc, ◌+◌, ◌<◌, Bool, true, false, cond, eqb, List, [], ◌∷◌, ◌++◌, length, get_or, set, Option, Some, None, refl, sym, ap, ◌∙◌, arith, position}
+use Rattle.std.proofs.Common.{◌≡◌, ℕ, zero, suc, ◌+◌, ◌<◌, Bool, true, false, cond, eqb, List, [], ◌∷◌, ◌++◌, length}
+use Rattle.std.proofs.Common.{get_or, set, Option, Some, None, refl, sym, ap, ◌∙◌, arith, position}
 use Rattle.std.specs.Option.{is_some}
 use Rattle.std.specs.List.{position_from, remove}
 use Rattle.std.proofs.lemmas.Bool.{cond-true, cond-false, eqb-true}
@@ -89,7 +90,8 @@ pub first-put_in_place :
 first-put_in_place [] line at x h = absurd h
 first-put_in_place (p ∷ ps) line zero x h = cond-true (eqb p.0 line) ((line, x) ∷ ps) (p ∷ put_in_place ps line x) h
 first-put_in_place (p ∷ ps) line (suc at) x h =
-    cond-false (eqb p.0 line) ((line, x) ∷ ps) (p ∷ put_in_place ps line x) h.0 ∙ ap (λ qs. p ∷ qs) (first-put_in_place ps line at x h.1)
+    cond-false (eqb p.0 line) ((line, x) ∷ ps) (p ∷ put_in_place ps line x) h.0
+    ∙ ap (λ qs. p ∷ qs) (first-put_in_place ps line at x h.1)
 
 pub first-without :
     {X : Type 0} (ps : List (ℕ × X)) (line at : ℕ) → IsDistinct ps → IsFirstAt ps line at →
@@ -100,7 +102,8 @@ first-without (p ∷ ps) line zero once h =
     let gone : is_there ps line ≡ false = rw (← same) once.0 in
     cond-true (eqb p.0 line) (without ps line) (p ∷ without ps line) h ∙ missing-without ps line gone
 first-without (p ∷ ps) line (suc at) once h =
-    cond-false (eqb p.0 line) (without ps line) (p ∷ without ps line) h.0 ∙ ap (λ qs. p ∷ qs) (first-without ps line at once.1 h.1)
+    cond-false (eqb p.0 line) (without ps line) (p ∷ without ps line) h.0
+    ∙ ap (λ qs. p ∷ qs) (first-without ps line at once.1 h.1)
 
 -- a line that is the most recently used one already
 pub first-put_last :

@@ -1,5 +1,6 @@
 -- Laws of one set: look-ups after each change, lengths, and that no line comes twice.
-use Rattle.std.proofs.Common.{◌≡◌, ◌≢◌, ℕ, ◌+◌, ◌<◌, ◌≤◌, Bool, true, false, cond, eqb, List, [], ◌∷◌, ◌++◌, length, Some, None, refl, sym, ap, ◌∙◌, arith, ⊎_elim}
+use Rattle.std.proofs.Common.{◌≡◌, ◌≢◌, ℕ, ◌+◌, ◌<◌, ◌≤◌, Bool, true, false, cond, eqb, List, [], ◌∷◌, ◌++◌, length}
+use Rattle.std.proofs.Common.{Some, None, refl, sym, ap, ◌∙◌, arith, ⊎_elim}
 use Rattle.std.specs.Option.{is_some}
 use Rattle.std.proofs.lemmas.Bool.{cases_Bool, cases_eq, cond-true, cond-false, eq-eqb, ne_eqb, eqb-true}
 use Rattle.line_sets.specs.Order.{find, is_there, put_in_place, put_last, without, IsDistinct}
@@ -13,15 +14,18 @@ find-without_other (p ∷ ps) l j ne =
     ap (λ b. find (cond b (without ps l) (p ∷ without ps l)) j) (eq-eqb p.0 l e) ∙ find-without_other ps l j ne
     ∙ sym (cond-false (eqb p.0 j) (Some p.1) (find ps j) (ne_eqb p.0 j (λ q. ne (sym q ∙ e)))))
     (λ (d : p.0 ≡ l → ⊥).
-    ap (λ b. find (cond b (without ps l) (p ∷ without ps l)) j) (ne_eqb p.0 l d) ∙ ap (λ o. cond (eqb p.0 j) (Some p.1) o) (find-without_other ps l j ne))
+    ap (λ b. find (cond b (without ps l) (p ∷ without ps l)) j) (ne_eqb p.0 l d)
+    ∙ ap (λ o. cond (eqb p.0 j) (Some p.1) o) (find-without_other ps l j ne))
     (cases_eq p.0 l)
 
 pub find-without_same : {X : Type 0} (ps : List (ℕ × X)) (l : ℕ) → find (without ps l) l ≡ None
 find-without_same [] l = refl
 find-without_same (p ∷ ps) l =
     ⊎_elim
-    (λ (e : p.0 ≡ l). ap (λ b. find (cond b (without ps l) (p ∷ without ps l)) l) (eq-eqb p.0 l e) ∙ find-without_same ps l)
-    (λ (d : p.0 ≡ l → ⊥). ap (λ b. find (cond b (without ps l) (p ∷ without ps l)) l) (ne_eqb p.0 l d) ∙ cond-false (eqb p.0 l) (Some p.1) (find (without ps l) l) (ne_eqb p.0 l d) ∙ find-without_same ps l)
+    (λ (e : p.0 ≡ l). ap (λ b. find (cond b (without ps l) (p ∷ without ps l)) l) (eq-eqb p.0 l e)
+    ∙ find-without_same ps l)
+    (λ (d : p.0 ≡ l → ⊥). ap (λ b. find (cond b (without ps l) (p ∷ without ps l)) l) (ne_eqb p.0 l d)
+    ∙ cond-false (eqb p.0 l) (Some p.1) (find (without ps l) l) (ne_eqb p.0 l d) ∙ find-without_same ps l)
     (cases_eq p.0 l)
 
 -- a line put at the end
@@ -30,8 +34,10 @@ find-push_new :
 find-push_new [] l x h = cond-true (eqb l l) (Some x) None (eq-eqb l l refl)
 find-push_new (p ∷ ps) l x h =
     ⊎_elim
-    (λ (e : eqb p.0 l ≡ true). absurd (let z : Some p.1 ≡ None = sym (cond-true (eqb p.0 l) (Some p.1) (find ps l) e) ∙ h in cc))
-    (λ (e : eqb p.0 l ≡ false). cond-false (eqb p.0 l) (Some p.1) (find (ps ++ (l, x) ∷ []) l) e ∙ find-push_new ps l x (sym (cond-false (eqb p.0 l) (Some p.1) (find ps l) e) ∙ h))
+    (λ (e : eqb p.0 l ≡ true). absurd (let z : Some p.1 ≡ None = sym (cond-true (eqb p.0 l) (Some p.1) (find ps l) e)
+    ∙ h in cc))
+    (λ (e : eqb p.0 l ≡ false). cond-false (eqb p.0 l) (Some p.1) (find (ps ++ (l, x) ∷ []) l) e
+    ∙ find-push_new ps l x (sym (cond-false (eqb p.0 l) (Some p.1) (find ps l) e) ∙ h))
     (cases_Bool (eqb p.0 l))
 
 find-push_other : {X : Type 0} (ps : List (ℕ × X)) (l j : ℕ) (x : X) → j ≢ l → find (ps ++ (l, x) ∷ []) j ≡ find ps j
@@ -52,9 +58,11 @@ find-put_in_place_same [] l x h = cc
 find-put_in_place_same (p ∷ ps) l x h =
     ⊎_elim
     (λ (e : eqb p.0 l ≡ true).
-    ap (λ b. find (cond b ((l, x) ∷ ps) (p ∷ put_in_place ps l x)) l) e ∙ cond-true (eqb l l) (Some x) (find ps l) (eq-eqb l l refl))
+    ap (λ b. find (cond b ((l, x) ∷ ps) (p ∷ put_in_place ps l x)) l) e ∙ cond-true (eqb l l) (Some x)
+    (find ps l) (eq-eqb l l refl))
     (λ (e : eqb p.0 l ≡ false).
-    ap (λ b. find (cond b ((l, x) ∷ ps) (p ∷ put_in_place ps l x)) l) e ∙ cond-false (eqb p.0 l) (Some p.1) (find (put_in_place ps l x) l) e
+    ap (λ b. find (cond b ((l, x) ∷ ps) (p ∷ put_in_place ps l x)) l) e ∙ cond-false (eqb p.0 l) (Some p.1)
+    (find (put_in_place ps l x) l) e
     ∙ find-put_in_place_same ps l x (sym (ap is_some (cond-false (eqb p.0 l) (Some p.1) (find ps l) e)) ∙ h))
     (cases_Bool (eqb p.0 l))
 
@@ -64,10 +72,12 @@ find-put_in_place_other [] l j x ne = refl
 find-put_in_place_other (p ∷ ps) l j x ne =
     ⊎_elim
     (λ (e : p.0 ≡ l).
-    ap (λ b. find (cond b ((l, x) ∷ ps) (p ∷ put_in_place ps l x)) j) (eq-eqb p.0 l e) ∙ cond-false (eqb l j) (Some x) (find ps j) (ne_eqb l j (λ q. ne (sym q)))
+    ap (λ b. find (cond b ((l, x) ∷ ps) (p ∷ put_in_place ps l x)) j) (eq-eqb p.0 l e) ∙ cond-false (eqb l j) (Some x)
+    (find ps j) (ne_eqb l j (λ q. ne (sym q)))
     ∙ sym (cond-false (eqb p.0 j) (Some p.1) (find ps j) (ne_eqb p.0 j (λ q. ne (sym q ∙ e)))))
     (λ (d : p.0 ≡ l → ⊥).
-    ap (λ b. find (cond b ((l, x) ∷ ps) (p ∷ put_in_place ps l x)) j) (ne_eqb p.0 l d) ∙ ap (λ o. cond (eqb p.0 j) (Some p.1) o) (find-put_in_place_other ps l j x ne))
+    ap (λ b. find (cond b ((l, x) ∷ ps) (p ∷ put_in_place ps l x)) j) (ne_eqb p.0 l d)
+    ∙ ap (λ o. cond (eqb p.0 j) (Some p.1) o) (find-put_in_place_other ps l j x ne))
     (cases_eq p.0 l)
 
 -- lengths
@@ -138,10 +148,14 @@ IsDistinct-push :
 IsDistinct-push [] l x h i = (refl, tt)
 IsDistinct-push (p ∷ ps) l x h i =
     ⊎_elim
-    (λ (e : eqb p.0 l ≡ true). absurd (let z : is_some (Some p.1) ≡ false = sym (ap is_some (cond-true (eqb p.0 l) (Some p.1) (find ps l) e)) ∙ i in cc))
+    (λ (e : eqb p.0 l ≡ true). absurd (let z : is_some (Some p.1) ≡ false =
+    sym (ap is_some (cond-true (eqb p.0 l) (Some p.1) (find ps l) e)) ∙ i in cc))
     (λ (e : eqb p.0 l ≡ false).
-    let ne : p.0 ≢ l = λ q. absurd (let z : true ≡ false = sym (eq-eqb p.0 l q) ∙ e in cc) in
-    (ap is_some (find-push_other ps l p.0 x ne) ∙ h.0, IsDistinct-push ps l x h.1 (sym (ap is_some (cond-false (eqb p.0 l) (Some p.1) (find ps l) e)) ∙ i)))
+    let ne : p.0 ≢ l = λ q. absurd (let z : true ≡ false = sym (eq-eqb p.0 l q) ∙ e in cc) in (
+      ap is_some (find-push_other ps l p.0 x ne) ∙ h.0,
+      IsDistinct-push ps l x h.1
+          (sym (ap is_some (cond-false (eqb p.0 l) (Some p.1) (find ps l) e)) ∙ i),
+    ))
     (cases_Bool (eqb p.0 l))
 
 pub IsDistinct-put_last :
@@ -163,7 +177,8 @@ there_put_in_place (p ∷ ps) l j x h = go (eqb p.0 l) refl (eqb p.0 j) refl h (
     go true e false f i rest =
         let same : p.0 ≡ l = eqb-true p.0 l e in
         ap is_some (cond-false (eqb l j) (Some x) (find ps j) (rw (← same) f)) ∙ i
-    go false e false f i rest = ap is_some (cond-false (eqb p.0 j) (Some p.1) (find (put_in_place ps l x) j) f) ∙ rest i
+    go false e false f i rest =
+        ap is_some (cond-false (eqb p.0 j) (Some p.1) (find (put_in_place ps l x) j) f) ∙ rest i
 
 pub IsDistinct-put_in_place :
     {X : Type 0} (ps : List (ℕ × X)) (l : ℕ) (x : X) → IsDistinct ps → IsDistinct (put_in_place ps l x)

@@ -1,5 +1,6 @@
 -- What a table of vectors keeps when one of them is changed.
-use Rattle.std.proofs.Common.{◌≡◌, ℕ, zero, suc, ◌<◌, ◌≤◌, ⊎_elim, true, ltb, List, [], ◌∷◌, length, get_or, set, refl, sym, ap, ◌∙◌, arith}
+use Rattle.std.proofs.Common.{◌≡◌, ℕ, zero, suc, ◌<◌, ◌≤◌, ⊎_elim, true, ltb, List, [], ◌∷◌, length, get_or, set}
+use Rattle.std.proofs.Common.{refl, sym, ap, ◌∙◌, arith}
 use Rattle.std.specs.Prelude.{vec_capacity}
 use Rattle.std.specs.Global.{Vec}
 use Rattle.std.proofs.lemmas.List.{map-set}
@@ -7,7 +8,9 @@ use Rattle.std.proofs.lemmas.Bool.{or_cases, ltb-true}
 use Rattle.line_sets.specs.Order.{is_there, put_last, put_in_place, without}
 use Rattle.line_sets.specs.SetTable.{Sets, set_at, has_way}
 use Rattle.line_sets.specs.Stored.{IsReady, AllReady, entries_of}
-use Rattle.line_sets.proofs.OrderLaws.{length-put_last_there, length-put_last_le, length-put_in_place, length-without_le, IsDistinct-put_last, IsDistinct-put_in_place, IsDistinct-without}
+use Rattle.line_sets.proofs.OrderLaws.{length-put_last_there, length-put_last_le, length-put_in_place}
+use Rattle.line_sets.proofs.OrderLaws.{length-without_le, IsDistinct-put_last, IsDistinct-put_in_place}
+use Rattle.line_sets.proofs.OrderLaws.{IsDistinct-without}
 
 pub ready_at :
     {X : Type 0} (ways : ℕ) (vs : List (Vec (ℕ × X))) (i : ℕ) (d : Vec (ℕ × X)) → i < length vs → AllReady ways vs →
@@ -40,13 +43,17 @@ table_of ways sets = record { ways = ways; sets = sets }
 
 -- one vector is changed as its entries are
 pub changed :
-    {X : Type 0} (ways : ℕ) (vs : List (Vec (ℕ × X))) (i : ℕ) (v w : Vec (ℕ × X)) (change : List (ℕ × X) → List (ℕ × X)) →
+    {X : Type 0} (ways : ℕ) (vs : List (Vec (ℕ × X))) (i : ℕ) (v w : Vec (ℕ × X))
+    (change : List (ℕ × X) → List (ℕ × X)) →
     i < length (entries_of vs) → v ≡ get_or vs i v → w.items ≡ change v.items →
-    table_of ways (entries_of (set vs i w)) ≡ table_of ways (set (entries_of vs) i (change (set_at (entries_of vs) i)))
+    table_of ways (entries_of (set vs i w)) ≡ table_of ways
+    (set (entries_of vs) i (change (set_at (entries_of vs) i)))
 changed {X} ways vs i v w change h is e =
     let below : i < length vs = omega (arith, length-entries_of vs) in
-    let at : v.items ≡ set_at (entries_of vs) i = ap (λ (u : Vec (ℕ × X)). u.items) is ∙ sym (entries_at vs i v below) in
-    ap (table_of ways) (map-set (λ (u : Vec (ℕ × X)). u.items) vs i w ∙ ap (λ (ps : List (ℕ × X)). set (entries_of vs) i ps) (e ∙ ap change at))
+    let at : v.items ≡ set_at (entries_of vs) i =
+    ap (λ (u : Vec (ℕ × X)). u.items) is ∙ sym (entries_at vs i v below) in
+    ap (table_of ways) (map-set (λ (u : Vec (ℕ × X)). u.items) vs i w
+    ∙ ap (λ (ps : List (ℕ × X)). set (entries_of vs) i ps) (e ∙ ap change at))
 
 -- a vector of a table is ready
 pub ready_of :
@@ -63,13 +70,16 @@ pub ready-put :
 ready-put {X} ways vs i v w line x all h is way e cap =
     let below : i < length vs = omega (arith, length-entries_of vs) in
     let old : IsReady ways v = ready_of ways vs i v h is all in
-    let at : set_at (entries_of vs) i ≡ v.items = entries_at vs i v below ∙ sym (ap (λ (u : Vec (ℕ × X)). u.items) is) in
+    let at : set_at (entries_of vs) i ≡ v.items =
+    entries_at vs i v below ∙ sym (ap (λ (u : Vec (ℕ × X)). u.items) is) in
     let fits : length (put_last v.items line x) ≤ ways =
     ⊎_elim
     (λ (there : is_there (set_at (entries_of vs) i) line ≡ true).
-    let here : is_there v.items line ≡ true = rw (← at) there in omega (arith, length-put_last_there v.items line x here, old.within))
+    let here : is_there v.items line ≡ true =
+    rw (← at) there in omega (arith, length-put_last_there v.items line x here, old.within))
     (λ (room : ltb (length (set_at (entries_of vs) i)) ways ≡ true).
-    let lt : length v.items < ways = rw (← at) (ltb-true _ _ room) in omega (arith, length-put_last_le v.items line x))
+    let lt : length v.items < ways =
+    rw (← at) (ltb-true _ _ room) in omega (arith, length-put_last_le v.items line x))
     (or_cases _ _ way) in
     ready_set ways vs i w all (record {
       within = rw e fits;

@@ -1,6 +1,7 @@
 -- One set: what is kept of each of its lines, in order of use, from the least recently used line to the most recently
 -- used one.
-use Rattle.std.specs.Prelude.{◌≡◌, ℕ, ◌==◌, Bool, false, List, [], ◌∷◌, ◌++◌, map, filter, is_some, Option, Some, None, if◌then◌else◌}
+use Rattle.std.specs.Prelude.{◌≡◌, ℕ, ◌==◌, Bool, false, List, [], ◌∷◌, ◌++◌, map, filter, is_some, Option, Some}
+use Rattle.std.specs.Prelude.{None, if◌then◌else◌}
 
 -- what is kept of a line
 abbrev pub find : {X : Type 0} → List (ℕ × X) → ℕ → Option X

@@ -3,7 +3,8 @@ ghost use Rattle.std.specs.Prelude.{◌≡◌, ◌<◌, ◌≤◌, IfOk, IsPermu
 ghost use Rattle.std.specs.Option.{option_copied};
 ghost use Rattle.line_sets.specs.Order.{is_there, IsDistinct};
 ghost use Rattle.std.specs.Ordering.{nat_cmp};
-ghost use Rattle.line_sets.specs.SetTable.{all_listed, drop_line, empty_sets, has_way, has_room, look, put, put_within, set_at};
+ghost use Rattle.line_sets.specs.SetTable.{all_listed, drop_line, empty_sets, has_way, has_room, look, put};
+ghost use Rattle.line_sets.specs.SetTable.{put_within, set_at};
 
 use crate::entries::{find_entry, put_entry_last, remove_entry, replace_entry};
 use crate::listed::{Listed, line_numbers, push_listed};
@@ -118,7 +119,8 @@ impl<V: Copy> LineSets<V> {
 impl<V: Copy + Listed> LineSets<V> {
     /// The lines of all sets whose values are listed, rising.
     pub fn lines(&self) -> Result<Vec<LineNo>, AllocError>
-        ensures lines { IfOk result (λ lines. IsPermutation (all_listed V.is_listed self.now.sets) lines.items) }
+        ensures lines { IfOk result (λ lines. IsPermutation (all_listed V.is_listed self.now.sets)
+            lines.items) }
         ensures rising { IfOk result (λ lines. IsSorted nat_cmp lines.items) }
     {
         let numbers = self.numbers()?;
@@ -127,7 +129,8 @@ impl<V: Copy + Listed> LineSets<V> {
 
     // The numbers of these lines.
     fn numbers(&self) -> Result<Vec<u64>, AllocError>
-        ensures lines { IfOk result (λ lines. IsPermutation (all_listed V.is_listed self.now.sets) lines.items) }
+        ensures lines { IfOk result (λ lines. IsPermutation (all_listed V.is_listed self.now.sets)
+            lines.items) }
         ensures rising { IfOk result (λ lines. IsSorted nat_cmp lines.items) }
     {
         let mut lines = Vec::new(*self.sets.allocator());

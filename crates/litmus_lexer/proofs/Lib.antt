@@ -5,7 +5,7 @@ mod Fronts
 mod Titles
 mod NameIndex
 mod Repeats
-mod LinesAgain
-mod RepeatsAgain
+mod LinesOnly
+mod RepeatsOnly
 mod LocationWords
 pub mod Lemmas

@@ -18,7 +18,8 @@ no_digit-no_ten a e = false_from_ne_true (between 49 57 a) (λ h. both_ways (is_
 location-no_digit : (first : ℕ) (rest : List ℕ) → is_location (first ∷ rest) ≡ true → is_digit first ≡ false
 location-no_digit first rest h =
     let w : List ℕ = first ∷ rest in
-    let p = and_parts (not (is_digit first) && list_all is_name_byte w && leb (length w) 32) (not (is_like_register w)) h in
+    let p = and_parts (not (is_digit first) && list_all is_name_byte w && leb (length w) 32)
+    (not (is_like_register w)) h in
     let q = and_parts (not (is_digit first) && list_all is_name_byte w) (leb (length w) 32) p.0 in
     not-true (is_digit first) (and_parts (not (is_digit first)) (list_all is_name_byte w) q.0).0
 

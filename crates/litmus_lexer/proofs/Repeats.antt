@@ -1,19 +1,23 @@
 -- Steps one after another, until one says that it is the last.
-use Rattle.std.proofs.Common.{◌≡◌, ℕ, zero, suc, ◌+◌, ◌-◌, ◌<◌, ◌≤◌, Bool, true, false, cond, Result, Ok, Err, refl, sym, ap, ◌∙◌, arith}
+use Rattle.std.proofs.Common.{◌≡◌, ℕ, zero, suc, ◌+◌, ◌-◌, ◌<◌, ◌≤◌, Bool, true, false, cond, Result, Ok, Err, refl}
+use Rattle.std.proofs.Common.{sym, ap, ◌∙◌, arith}
 use Rattle.litmus_lexer.specs.declared.errors.LitmusError.{LitmusError}
 use Rattle.litmus_lexer.specs.declared.errors.ReadError.{ReadError}
 use Rattle.litmus_lexer.specs.declared.errors.ReadError.TheVariants.{Memory, Fault}
 use Rattle.litmus_lexer.specs.Reading.{◌>>=◌, Fails, repeat_at}
 
-pub goes-on : {S : Type 0} (step : S → Result (Bool × S) LitmusError) (out : S → Result S LitmusError) (n i : ℕ) (s s' : S) (total : Result S LitmusError)
-    → i < n → step s ≡ Ok (true, s') → repeat_at (n - i) step out s ≡ total → repeat_at (n - (i + 1)) step out s' ≡ total
+pub goes-on : {S : Type 0} (step : S → Result (Bool × S) LitmusError) (out : S → Result S LitmusError) (n i : ℕ)
+    (s s' : S) (total : Result S LitmusError)
+    → i < n → step s ≡ Ok (true, s') → repeat_at (n - i) step out s ≡ total → repeat_at (n - (i + 1))
+    step out s' ≡ total
 unfolding repeat_at
 goes-on step out n i s s' total lt h so_far =
     let k : n - i ≡ suc (n - (i + 1)) = omega arith in
     let one : repeat_at (n - i) step out s ≡ repeat_at (n - (i + 1)) step out s' = rw (k, h) refl in
     sym one ∙ so_far
 
-pub fails-there : {S : Type 0} (e : ReadError) (step : S → Result (Bool × S) LitmusError) (out : S → Result S LitmusError) (n i : ℕ) (s : S) (total : Result S LitmusError)
+pub fails-there : {S : Type 0} (e : ReadError) (step : S → Result (Bool × S) LitmusError) (out : S →
+    Result S LitmusError) (n i : ℕ) (s : S) (total : Result S LitmusError)
     → i < n → Fails e (step s) → repeat_at (n - i) step out s ≡ total → Fails e total
 unfolding repeat_at
 fails-there Memory step out n i s total lt h so_far = tt
@@ -22,7 +26,8 @@ fails-there (Fault f) step out n i s total lt h so_far =
     let one : repeat_at (n - i) step out s ≡ Err f = rw (k, h) refl in
     sym so_far ∙ one
 
-pub is-done : {S : Type 0} (step : S → Result (Bool × S) LitmusError) (out : S → Result S LitmusError) (n i : ℕ) (s s' : S) (total : Result S LitmusError)
+pub is-done : {S : Type 0} (step : S → Result (Bool × S) LitmusError) (out : S → Result S LitmusError) (n i : ℕ)
+    (s s' : S) (total : Result S LitmusError)
     → i < n → step s ≡ Ok (false, s') → repeat_at (n - i) step out s ≡ total → total ≡ Ok s'
 unfolding repeat_at
 is-done step out n i s s' total lt h so_far =
@@ -30,7 +35,8 @@ is-done step out n i s s' total lt h so_far =
     let one : repeat_at (n - i) step out s ≡ Ok s' = rw (k, h) refl in
     sym so_far ∙ one
 
-pub runs-out : {S : Type 0} (step : S → Result (Bool × S) LitmusError) (out : S → Result S LitmusError) (n i : ℕ) (s : S) (total : Result S LitmusError)
+pub runs-out : {S : Type 0} (step : S → Result (Bool × S) LitmusError) (out : S → Result S LitmusError) (n i : ℕ)
+    (s : S) (total : Result S LitmusError)
     → n ≤ i → repeat_at (n - i) step out s ≡ total → total ≡ out s
 unfolding repeat_at
 runs-out step out n i s total le so_far =
@@ -38,18 +44,23 @@ runs-out step out n i s total le so_far =
     let one : repeat_at (n - i) step out s ≡ out s = rw k refl in
     sym so_far ∙ one
 
-after-step : {S : Type 0} (step : S → Result (Bool × S) LitmusError) (out : S → Result S LitmusError) (P : S → S → Type 0)
+after-step : {S : Type 0} (step : S → Result (Bool × S) LitmusError) (out : S → Result S LitmusError)
+    (P : S → S → Type 0)
     → ((s s' t : S) → step s ≡ Ok (true, s') → P s' t → P s t) → ((s t : S) → step s ≡ Ok (false, t) → P s t)
     → (k : ℕ) → ((s t : S) → repeat_at k step out s ≡ Ok t → P s t)
-    → (s t : S) (r : Result (Bool × S) LitmusError) → step s ≡ r → (r >>= λ x. cond x.0 (repeat_at k step out x.1) (Ok x.1)) ≡ Ok t → P s t
+    → (s t : S) (r : Result (Bool × S) LitmusError) → step s ≡ r →
+    (r >>= λ x. cond x.0 (repeat_at k step out x.1) (Ok x.1)) ≡ Ok t → P s t
 after-step step out P more last k rest s t (Err e) h g = absurd cc
 after-step step out P more last k rest s t (Ok (true, s')) h g = more s s' t h (rest s' t g)
 after-step step out P more last k rest s t (Ok (false, s')) h g = last s t (h ∙ ap (λ r. r >>= λ x. Ok (false, x)) g)
 
 -- what holds from the end backwards holds of the whole
-pub repeat-takes : {S : Type 0} (step : S → Result (Bool × S) LitmusError) (out : S → Result S LitmusError) (P : S → S → Type 0)
-    → ((s s' t : S) → step s ≡ Ok (true, s') → P s' t → P s t) → ((s t : S) → step s ≡ Ok (false, t) → P s t) → ((s t : S) → out s ≡ Ok t → P s t)
+pub repeat-takes : {S : Type 0} (step : S → Result (Bool × S) LitmusError) (out : S → Result S LitmusError)
+    (P : S → S → Type 0)
+    → ((s s' t : S) → step s ≡ Ok (true, s') → P s' t → P s t) → ((s t : S) → step s ≡ Ok (false, t) → P s t) →
+    ((s t : S) → out s ≡ Ok t → P s t)
     → (k : ℕ) (s t : S) → repeat_at k step out s ≡ Ok t → P s t
 unfolding repeat_at
 repeat-takes step out P more last end zero s t h = end s t h
-repeat-takes step out P more last end (suc k) s t h = after-step step out P more last k (repeat-takes step out P more last end k) s t (step s) refl h
+repeat-takes step out P more last end (suc k) s t h =
+    after-step step out P more last k (repeat-takes step out P more last end k) s t (step s) refl h

@@ -1,14 +1,18 @@
 -- The first line, both ways.
-use Rattle.std.proofs.Common.{◌≡◌, ◌≢◌, ℕ, ◌<◌, ◌≤◌, Bool, true, false, cond, eqb, ltb, ◌||◌, ◌&&◌, List, [], ◌∷◌, ◌++◌, length, take, drop, Option, Some, None, refl, sym, ap, subst, ◌∙◌, inl, inr, arith, codes}
+use Rattle.std.proofs.Common.{◌≡◌, ◌≢◌, ℕ, ◌<◌, ◌≤◌, Bool, true, false, cond, eqb, ltb, ◌||◌, ◌&&◌, List, [], ◌∷◌}
+use Rattle.std.proofs.Common.{◌++◌, length, take, drop, Option, Some, None, refl, sym, ap, subst, ◌∙◌, inl, inr}
+use Rattle.std.proofs.Common.{arith, codes}
 use Rattle.std.specs.Prelude.{option_and_then, option_map, MatchOption}
 use denote.Bor.{Bor}
 use Rattle.std.specs.List.{list_all, prefix_len}
-use Rattle.std.proofs.lemmas.Bool.{and_parts, eqb-true, eqb-false, eq-eqb, ne_eqb, ltb-false, le-ltb, or_cases, false_from_ne_true, both_ways}
+use Rattle.std.proofs.lemmas.Bool.{and_parts, eqb-true, eqb-false, eq-eqb, ne_eqb, ltb-false, le-ltb, or_cases}
+use Rattle.std.proofs.lemmas.Bool.{false_from_ne_true, both_ways}
 use Rattle.std.proofs.lemmas.List.{take-append-drop, take_at, drop_at, length-take}
 use Rattle.litmus_lexer.specs.Pieces.{is_blank}
 use Rattle.litmus_lexer.specs.FirstLines.{IsTitle, is_title_byte, behind_riscv, name_in, name_behind, title_of}
 use Rattle.std.proofs.lemmas.List.Sums.{prefix_len-le-length}
-use Rattle.litmus_lexer.proofs.Fronts.{front-all, whole-front, front-append, front-whole, other-front, other-front-append}
+use Rattle.litmus_lexer.proofs.Fronts.{front-all, whole-front, front-append, front-whole, other-front}
+use Rattle.litmus_lexer.proofs.Fronts.{other-front-append}
 
 blank-cases : (P : ℕ → Type 0) → P 32 → P 9 → P 13 → (b : ℕ) → is_blank b ≡ true → P b
 blank-cases P x y z b h =
@@ -36,7 +40,8 @@ if_some : {A : Type 0} (b : Bool) (y x : A) → cond b (Some y) None ≡ Some x 
 if_some true y x e = (refl, cc)
 if_some false y x e = absurd cc
 
-and_then_some : {A B : Type 0} (f : A → Option B) (o : Option A) (y : B) → option_and_then f o ≡ Some y → (x : A) × (o ≡ Some x) × (f x ≡ Some y)
+and_then_some : {A B : Type 0} (f : A → Option B) (o : Option A) (y : B) → option_and_then f o ≡ Some y → (x : A) ×
+    (o ≡ Some x) × (f x ≡ Some y)
 and_then_some f (Some x) y e = (x, refl, e)
 and_then_some f None y e = absurd cc
 
@@ -64,13 +69,22 @@ name-takes : (line name : List ℕ) → name_in line ≡ Some name → IsNamed l
 name-takes line name e =
     let a = if_none (eqb (prefix_len is_title_byte line) 0) _ name e in
     let b = if_none (ltb 128 (prefix_len is_title_byte line)) _ name a.1 in
-    let c = if_some (eqb (prefix_len is_blank (drop (prefix_len is_title_byte line) line)) (length (drop (prefix_len is_title_byte line) line))) (take (prefix_len is_title_byte line) line) name b.1 in
+    let c = if_some (eqb (prefix_len is_blank (drop (prefix_len is_title_byte line) line))
+    (length (drop (prefix_len is_title_byte line) line))) (take (prefix_len is_title_byte line) line) name b.1 in
     let some : prefix_len is_title_byte line ≢ 0 = eqb-false _ _ a.0 in
     let few : prefix_len is_title_byte line ≤ 128 = ltb-false _ _ b.0 in
     subst (IsNamed line) c.1 (record {
       back = drop (prefix_len is_title_byte line) line;
       parts = sym (take-append-drop (prefix_len is_title_byte line) line);
-      name_is = (front-all is_title_byte line, omega (arith, length-take (prefix_len is_title_byte line) line, prefix_len-le-length is_title_byte line), omega (arith, length-take (prefix_len is_title_byte line) line));
+      name_is = (
+        front-all is_title_byte line,
+        omega (
+          arith,
+          length-take (prefix_len is_title_byte line) line,
+          prefix_len-le-length is_title_byte line,
+        ),
+        omega (arith, length-take (prefix_len is_title_byte line) line),
+      );
       back_is = whole-front is_blank (drop (prefix_len is_title_byte line) line) (eqb-true _ _ c.0);
     })
 
@@ -82,21 +96,33 @@ title-takes line name e =
     let g = if_none (eqb (prefix_len is_blank r.0) 0) (name_in (drop (prefix_len is_blank r.0) r.0)) name r.2 in
     let n = name-takes (drop (prefix_len is_blank r.0) r.0) name g.1 in
     let some : prefix_len is_blank r.0 ≢ 0 = eqb-false _ _ g.0 in
-    let behind : r.0 ≡ take (prefix_len is_blank r.0) r.0 ++ (name ++ n.back) = sym (take-append-drop (prefix_len is_blank r.0) r.0) ∙ ap (λ (x : List ℕ). take (prefix_len is_blank r.0) r.0 ++ x) n.parts in
+    let behind : r.0 ≡ take (prefix_len is_blank r.0) r.0 ++ (name ++ n.back) =
+    sym (take-append-drop (prefix_len is_blank r.0) r.0)
+    ∙ ap (λ (x : List ℕ). take (prefix_len is_blank r.0) r.0 ++ x) n.parts in
     record {
       front = take (prefix_len is_blank line) line;
       gap = take (prefix_len is_blank r.0) r.0;
       back = n.back;
-      spelled = sym (take-append-drop (prefix_len is_blank line) line) ∙ ap (λ (x : List ℕ). take (prefix_len is_blank line) line ++ x) (k ∙ ap (λ (x : List ℕ). codes "RISCV" ++ x) behind);
+      spelled = sym (take-append-drop (prefix_len is_blank line) line)
+          ∙ ap (λ (x : List ℕ). take (prefix_len is_blank line) line ++ x)
+          (k ∙ ap (λ (x : List ℕ). codes "RISCV" ++ x) behind);
       front_is = front-all is_blank line;
-      gap_is = (front-all is_blank r.0, omega (arith, length-take (prefix_len is_blank r.0) r.0, prefix_len-le-length is_blank r.0));
+      gap_is = (
+        front-all is_blank r.0,
+        omega (
+          arith,
+          length-take (prefix_len is_blank r.0) r.0,
+          prefix_len-le-length is_blank r.0,
+        ),
+      );
       name_is = n.name_is;
       back_is = n.back_is;
     }
 
 -- ---- a title is read
 
-name-again : (name back : List ℕ) → list_all is_title_byte name ≡ true → 0 < length name → length name ≤ 128 → list_all is_blank back ≡ true → name_in (name ++ back) ≡ Some name
+name-again : (name back : List ℕ) → list_all is_title_byte name ≡ true → 0 < length name → length name ≤ 128 →
+    list_all is_blank back ≡ true → name_in (name ++ back) ≡ Some name
 name-again name back h lt le b =
     let n = front-append is_title_byte name back h (other-front is_blank is_title_byte blank-apart back b) in
     let none : eqb (length name) 0 ≡ false = ne_eqb _ _ (omega arith) in
@@ -109,14 +135,19 @@ pub title-again : (line name : List ℕ) → IsTitle line name → title_of line
 unfolding title_of
 title-again line name t =
     let tail : List ℕ = t.gap ++ (name ++ t.back) in
-    let f : prefix_len is_blank (t.front ++ (codes "RISCV" ++ tail)) ≡ length t.front = front-append is_blank t.front (codes "RISCV" ++ tail) t.front_is refl in
-    let d : drop (length t.front) (t.front ++ (codes "RISCV" ++ tail)) ≡ codes "RISCV" ++ tail = drop_at t.front (codes "RISCV" ++ tail) (length t.front) refl in
-    let g : prefix_len is_blank tail ≡ length t.gap = front-append is_blank t.gap (name ++ t.back) t.gap_is.0 (other-front-append is_title_byte is_blank title-apart name t.back t.name_is.1 t.name_is.0) in
+    let f : prefix_len is_blank (t.front ++ (codes "RISCV" ++ tail)) ≡ length t.front =
+    front-append is_blank t.front (codes "RISCV" ++ tail) t.front_is refl in
+    let d : drop (length t.front) (t.front ++ (codes "RISCV" ++ tail)) ≡ codes "RISCV" ++ tail =
+    drop_at t.front (codes "RISCV" ++ tail) (length t.front) refl in
+    let g : prefix_len is_blank tail ≡ length t.gap = front-append is_blank t.gap (name ++ t.back) t.gap_is.0
+    (other-front-append is_title_byte is_blank title-apart name t.back t.name_is.1 t.name_is.0) in
     let e : drop (length t.gap) tail ≡ name ++ t.back = drop_at t.gap (name ++ t.back) (length t.gap) refl in
     let some : eqb (length t.gap) 0 ≡ false = ne_eqb _ _ (omega (arith, t.gap_is.1)) in
-    let behind : name_behind tail ≡ Some name = rw (g, some, e) (name-again name t.back t.name_is.0 t.name_is.1 t.name_is.2 t.back_is) in
+    let behind : name_behind tail ≡ Some name =
+    rw (g, some, e) (name-again name t.back t.name_is.0 t.name_is.1 t.name_is.2 t.back_is) in
     ap title_of t.spelled ∙ rw (f, d) behind
 
-pub title_cases : (line : List ℕ) (r : Option (Bor (List ℕ))) → option_map (λ x. x.now) r ≡ title_of line → MatchOption r ((name : List ℕ) → IsTitle line name → ⊥) (λ name. IsTitle line name.now)
+pub title_cases : (line : List ℕ) (r : Option (Bor (List ℕ))) → option_map (λ x. x.now) r ≡ title_of line →
+    MatchOption r ((name : List ℕ) → IsTitle line name → ⊥) (λ name. IsTitle line name.now)
 title_cases line None e = λ name h. let some : None ≡ Some name = e ∙ title-again line name h in absurd cc
 title_cases line (Some x) e = title-takes line x.now (sym e)

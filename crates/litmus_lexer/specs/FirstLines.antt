@@ -1,5 +1,6 @@
 -- The first line of a text and its header lines, by their bytes.
-use Rattle.std.specs.Prelude.{◌≡◌, ℕ, ◌<◌, ◌≤◌, ◌==◌, ◌&&◌, ◌||◌, nat_lt, not, Bool, true, false, if◌then◌else◌, List, [], ◌∷◌, ◌++◌, length, take, drop, Option, Some, None, codes, option_and_then}
+use Rattle.std.specs.Prelude.{◌≡◌, ℕ, ◌<◌, ◌≤◌, ◌==◌, ◌&&◌, ◌||◌, nat_lt, not, Bool, true, false, if◌then◌else◌, List}
+use Rattle.std.specs.Prelude.{[], ◌∷◌, ◌++◌, length, take, drop, Option, Some, None, codes, option_and_then}
 use Rattle.std.specs.List.{list_all, prefix_len}
 use Rattle.litmus_lexer.specs.declared.signs.TheConstants.{EQUALS, OPENING_BRACE}
 use Rattle.litmus_lexer.specs.declared.limits.TheConstants.{LONGEST_TITLE}
@@ -8,7 +9,8 @@ use Rattle.litmus_lexer.specs.Spelling.{is_name_byte}
 
 -- letters, digits and _ + . - [ ]
 abbrev pub is_title_byte : ℕ → Bool
-is_title_byte b = between 48 57 b || between 65 90 b || between 97 122 b || b == 95 || b == 43 || b == 46 || b == 45 || b == 91 || b == 93
+is_title_byte b = between 48 57 b || between 65 90 b || between 97 122 b || b == 95 || b == 43 || b == 46 || b == 45
+    || b == 91 || b == 93
 
 -- RISCV, blanks, and the name of the test, with blanks around
 pub record IsTitle (line name : List ℕ) : Type 0 where
@@ -23,14 +25,16 @@ pub record IsTitle (line name : List ℕ) : Type 0 where
 
 -- the same, read from the front
 abbrev pub behind_riscv : List ℕ → Option (List ℕ)
-behind_riscv (a ∷ b ∷ c ∷ d ∷ e ∷ rest) = if a == 82 && b == 73 && c == 83 && d == 67 && e == 86 then Some rest else None
+behind_riscv (a ∷ b ∷ c ∷ d ∷ e ∷ rest) =
+    if a == 82 && b == 73 && c == 83 && d == 67 && e == 86 then Some rest else None
 behind_riscv line = None
 
 abbrev pub name_in : List ℕ → Option (List ℕ)
 name_in line =
     if prefix_len is_title_byte line == 0 then None
     else if nat_lt LONGEST_TITLE (prefix_len is_title_byte line) then None
-    else if prefix_len is_blank (drop (prefix_len is_title_byte line) line) == length (drop (prefix_len is_title_byte line) line) then Some (take (prefix_len is_title_byte line) line)
+    else if prefix_len is_blank (drop (prefix_len is_title_byte line) line) == length
+    (drop (prefix_len is_title_byte line) line) then Some (take (prefix_len is_title_byte line) line)
     else None
 
 abbrev pub name_behind : List ℕ → Option (List ℕ)
@@ -69,7 +73,8 @@ is_setting text = is_key text && begins_with EQUALS (behind is_blank (behind is_
 
 -- blank, a string, or key=value
 abbrev pub is_header_line : List ℕ → Bool
-is_header_line line = length (behind is_blank line) == 0 || is_quoted (behind is_blank line) || is_setting (behind is_blank line)
+is_header_line line = length (behind is_blank line) == 0 || is_quoted (behind is_blank line)
+    || is_setting (behind is_blank line)
 
 -- the initial block begins with {
 abbrev pub begins_block : List ℕ → Bool

@@ -1,7 +1,10 @@
 -- The kinds of faults by number and by name, as a command prints them.
 use Rattle.std.specs.Prelude.{ℕ, List, codes}
 use Rattle.litmus_lexer.specs.declared.errors.Kind.{Kind}
-use Rattle.litmus_lexer.specs.declared.errors.Kind.TheVariants.{NoMemory, TooLarge, BadByte, BadHeader, BadInitial, DoubleInitial, BadTable, BadInstruction, ValueRange, MixedWidth, AddressAsValue, ValueAsAddress, BadCondition, CutShort}
+use Rattle.litmus_lexer.specs.declared.errors.Kind.TheVariants.{NoMemory, TooLarge, BadByte, BadHeader, BadInitial}
+use Rattle.litmus_lexer.specs.declared.errors.Kind.TheVariants.{DoubleInitial, BadTable, BadInstruction, ValueRange}
+use Rattle.litmus_lexer.specs.declared.errors.Kind.TheVariants.{MixedWidth, AddressAsValue, ValueAsAddress}
+use Rattle.litmus_lexer.specs.declared.errors.Kind.TheVariants.{BadCondition, CutShort}
 
 abbrev pub number_of_kind : Kind → ℕ
 number_of_kind NoMemory = 1

@@ -1,5 +1,6 @@
 -- Reading pieces from left to right, with the first fault that is met.
-use Rattle.std.specs.Prelude.{◌≡◌, ℕ, zero, suc, Bool, ◌+◌, ◌==◌, if◌then◌else◌, List, [], ◌∷◌, Option, Some, None, Result, Ok, Err}
+use Rattle.std.specs.Prelude.{◌≡◌, ℕ, zero, suc, Bool, ◌+◌, ◌==◌, if◌then◌else◌, List, [], ◌∷◌, Option, Some, None}
+use Rattle.std.specs.Prelude.{Result, Ok, Err}
 use Rattle.std.specs.Str.{bytes_eq}
 use Rattle.litmus_lexer.specs.Pieces.{Piece, Word, Sign, LineEnd}
 use Rattle.litmus_lexer.specs.declared.errors.Kind.{Kind}
@@ -117,7 +118,8 @@ behind None none some = none
 behind (Some at) none some = some at
 
 -- steps from a state on until one says that it is the last; at most k, and then what is made of the last state
-unfoldable pub repeat_at : {S : Type 0} → ℕ → (S → Result (Bool × S) LitmusError) → (S → Result S LitmusError) → S → Result S LitmusError
+unfoldable pub repeat_at : {S : Type 0} → ℕ → (S → Result (Bool × S) LitmusError) → (S → Result S LitmusError) → S →
+    Result S LitmusError
 repeat_at zero step out s = out s
 repeat_at (suc k) step out s = do
   r ← step s

@@ -2,7 +2,9 @@
 
 ghost use Rattle.std.specs.Prelude.{◌≡◌, ◌≤◌, ◌<◌, ℕ, List, length, option_map, IfSome, MatchOption, ◌==◌, not};
 ghost use Rattle.std.specs.List.{prefix_len, list_all};
-ghost use Rattle.litmus_lexer.specs.FirstLines.{IsTitle, is_title_byte, title_of, behind_riscv, before_line_feed, behind_line_feed, is_header_line, is_quoted, is_setting, begins_block};
+ghost use Rattle.litmus_lexer.specs.FirstLines.{IsTitle, is_title_byte, title_of, behind_riscv, before_line_feed};
+ghost use Rattle.litmus_lexer.specs.FirstLines.{behind_line_feed, is_header_line, is_quoted, is_setting};
+ghost use Rattle.litmus_lexer.specs.FirstLines.{begins_block};
 
 use crate::bytes::{blank_count, name_count};
 use crate::limits::LONGEST_TITLE;

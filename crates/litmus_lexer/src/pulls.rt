@@ -1,7 +1,9 @@
 //! The next piece of a text, after line ends or within the line.
 
 ghost use Rattle.std.specs.Prelude.{◌≡◌, option_map};
-ghost use Rattle.litmus_lexer.specs.Reading.{Gives, as_word, next_at, word_at, sign_at, expect_at, here_at, word_here_at, expect_here_at, start_at, end_line_at, passed_at, passed_word_at};
+ghost use Rattle.litmus_lexer.specs.Reading.{Gives, as_word, next_at, word_at, sign_at, expect_at, here_at};
+ghost use Rattle.litmus_lexer.specs.Reading.{word_here_at, expect_here_at, start_at, end_line_at, passed_at};
+ghost use Rattle.litmus_lexer.specs.Reading.{passed_word_at};
 ghost use Rattle.litmus_lexer.specs.Views.{view_piece, view_word, view_read, view_position};
 
 use crate::cursor::Cursor;

@@ -2,7 +2,8 @@
 
 ghost use Rattle.std.specs.Prelude.{◌≡◌, min};
 ghost use Rattle.std.specs.List.{list_all};
-ghost use Rattle.litmus_lexer.specs.Spelling.{is_digit, is_number, number_of, small_of, register_of, is_name_byte, is_like_register, is_location};
+ghost use Rattle.litmus_lexer.specs.Spelling.{is_digit, is_number, number_of, small_of, register_of, is_name_byte};
+ghost use Rattle.litmus_lexer.specs.Spelling.{is_like_register, is_location};
 
 use crate::bytes::{is_digit, is_name_byte};
 use crate::limits::{LAST_REGISTER, LONGEST_LOCATION, VALUE_BOUND};

@@ -11,11 +11,14 @@ use Rattle.litmus_lexer.specs.Spelling.{is_and, is_or}
 -- where a sign is one word, it is passed if it is that word
 joined-past_line_ends : (is_sign : List ℕ → Bool) (wanted : List ℕ) → ((w : List ℕ) → bytes_eq w wanted ≡ is_sign w)
     → (line : ℕ) (pieces : List Piece)
-    → passed_word_at wanted (past_line_ends line pieces).line (past_line_ends line pieces).pieces ≡ joined_at is_sign line pieces
+    → passed_word_at wanted (past_line_ends line pieces).line (past_line_ends line pieces).pieces ≡ joined_at
+    is_sign line pieces
 unfolding past_line_ends passed_word_at joined_at
 joined-past_line_ends is_sign wanted same line [] = refl
-joined-past_line_ends is_sign wanted same line (LineEnd ∷ pieces) = joined-past_line_ends is_sign wanted same (line + 1) pieces
-joined-past_line_ends is_sign wanted same line (Word w ∷ pieces) = ap (λ (b : Bool). cond b (Some (line, pieces)) None) (same w)
+joined-past_line_ends is_sign wanted same line (LineEnd ∷ pieces) =
+    joined-past_line_ends is_sign wanted same (line + 1) pieces
+joined-past_line_ends is_sign wanted same line (Word w ∷ pieces) =
+    ap (λ (b : Bool). cond b (Some (line, pieces)) None) (same w)
 joined-past_line_ends is_sign wanted same line (Sign b ∷ pieces) = refl
 
 and-false : (x : Bool) → (x && false) ≡ false
@@ -44,22 +47,26 @@ or-word (a ∷ b ∷ []) = two-bytes _ _
 or-word (a ∷ b ∷ c ∷ rest) = three-bytes _ _
 
 pub and-past_line_ends : (line : ℕ) (pieces : List Piece)
-    → passed_word_at (47 ∷ 92 ∷ []) (past_line_ends line pieces).line (past_line_ends line pieces).pieces ≡ joined_at is_and line pieces
+    → passed_word_at (47 ∷ 92 ∷ []) (past_line_ends line pieces).line (past_line_ends line pieces).pieces ≡
+    joined_at is_and line pieces
 and-past_line_ends = joined-past_line_ends is_and (47 ∷ 92 ∷ []) and-word
 
 pub or-past_line_ends : (line : ℕ) (pieces : List Piece)
-    → passed_word_at (92 ∷ 47 ∷ []) (past_line_ends line pieces).line (past_line_ends line pieces).pieces ≡ joined_at is_or line pieces
+    → passed_word_at (92 ∷ 47 ∷ []) (past_line_ends line pieces).line (past_line_ends line pieces).pieces ≡
+    joined_at is_or line pieces
 or-past_line_ends = joined-past_line_ends is_or (92 ∷ 47 ∷ []) or-word
 
 pub further-some : (line : ℕ) (pieces : List Piece) (piece : Piece) (rest : List Piece)
-    → (past_line_ends line pieces).pieces ≡ piece ∷ rest → Some (past_line_ends line pieces).line ≡ further_at line pieces
+    → (past_line_ends line pieces).pieces ≡ piece ∷ rest → Some (past_line_ends line pieces).line ≡
+    further_at line pieces
 unfolding past_line_ends further_at
 further-some line [] piece rest some = absurd cc
 further-some line (LineEnd ∷ pieces) piece rest some = further-some (line + 1) pieces piece rest some
 further-some line (Word w ∷ pieces) piece rest some = refl
 further-some line (Sign b ∷ pieces) piece rest some = refl
 
-pub further-none : (line : ℕ) (pieces : List Piece) → (past_line_ends line pieces).pieces ≡ [] → None ≡ further_at line pieces
+pub further-none : (line : ℕ) (pieces : List Piece) → (past_line_ends line pieces).pieces ≡ [] →
+    None ≡ further_at line pieces
 unfolding past_line_ends further_at
 further-none line [] none = refl
 further-none line (LineEnd ∷ pieces) none = further-none (line + 1) pieces none

@@ -7,13 +7,15 @@ use Rattle.litmus_lexer.specs.declared.errors.ReadError.TheVariants.{Memory, Fau
 use Rattle.litmus_lexer.specs.Reading.{◌>>=◌, Fails, Read, repeat_at}
 use Rattle.litmus_lexer.proofs.Lemmas.{goes-on, fails-there, is-done, runs-out}
 use Rattle.litmus_parser.specs.Trees.{Tree}
-use Rattle.litmus_parser.specs.ReadingCondition.{Chain, joined_with, too_many_parts, chain_result, sign_of, join_of, part_at, next_part_at, chain_at}
+use Rattle.litmus_parser.specs.ReadingCondition.{Chain, joined_with, too_many_parts, chain_result, sign_of, join_of}
+use Rattle.litmus_parser.specs.ReadingCondition.{part_at, next_part_at, chain_at}
 use Rattle.litmus_parser.specs.declared.expressions.Connective.{Connective}
 use Rattle.litmus_parser.specs.declared.expressions.Connective.TheVariants.{And, Or}
 use Rattle.litmus_parser.specs.declared.syntax.Item.{Item}
 use Rattle.litmus_parser.specs.GrammarCondition.{Sight}
 
-pub fails-on : {A B : Type 0} (e : ReadError) (r : Result A LitmusError) (g : A → Result B LitmusError) (total : Result B LitmusError) → Fails e r → (r >>= g) ≡ total → Fails e total
+pub fails-on : {A B : Type 0} (e : ReadError) (r : Result A LitmusError) (g : A → Result B LitmusError)
+    (total : Result B LitmusError) → Fails e r → (r >>= g) ≡ total → Fails e total
 fails-on Memory r g total h a = tt
 fails-on (Fault f) r g total h a = sym a ∙ ap (λ x. x >>= g) h
 
@@ -24,7 +26,8 @@ pub first-part : (c : Connective) (items : List Item) (threads depth : ℕ) (s :
     ≡ chain_at c items threads depth s line pieces
 unfolding next_part_at
 first-part c items threads depth s line pieces t s' line' pieces' h =
-    sym (ap (λ (r : Read (Tree × Sight)). r >>= λ first. repeat_at 256 (joined_with (sign_of c) (join_of c) (part_at c items threads depth)) too_many_parts
+    sym (ap (λ (r : Read (Tree × Sight)). r >>= λ first. repeat_at 256 (joined_with (sign_of c) (join_of c)
+    (part_at c items threads depth)) too_many_parts
     (first.0.0, first.0.1, first.1, first.2) >>= chain_result) h)
 
 -- a part of a connective is read before the next part, and a chain after both
@@ -36,17 +39,25 @@ abbrev pub Step : Type 0
 Step = Chain → Result (Bool × Chain) LitmusError
 
 pub next-fails : (e : ReadError) (step : Step) (i : ℕ) (s : Chain) (total : Read (Tree × Sight))
-    → i < 256 → Fails e (step s) → (repeat_at (256 - i) step too_many_parts s >>= chain_result) ≡ total → Fails e total
-next-fails e step i s total lt h a = fails-on e (repeat_at (256 - i) step too_many_parts s) chain_result total (fails-there e step too_many_parts 256 i s _ lt h refl) a
+    → i < 256 → Fails e (step s) → (repeat_at (256 - i) step too_many_parts s >>= chain_result) ≡ total →
+    Fails e total
+next-fails e step i s total lt h a = fails-on e (repeat_at (256 - i) step too_many_parts s) chain_result total
+    (fails-there e step too_many_parts 256 i s _ lt h refl) a
 
 pub next-is : (step : Step) (i : ℕ) (s s' : Chain) (total : Read (Tree × Sight))
-    → i < 256 → step s ≡ Ok (true, s') → (repeat_at (256 - i) step too_many_parts s >>= chain_result) ≡ total → (repeat_at (256 - (i + 1)) step too_many_parts s' >>= chain_result) ≡ total
-next-is step i s s' total lt h a = ap (λ r. r >>= chain_result) (goes-on step too_many_parts 256 i s s' (repeat_at (256 - i) step too_many_parts s) lt h refl) ∙ a
+    → i < 256 → step s ≡ Ok (true, s') → (repeat_at (256 - i) step too_many_parts s >>= chain_result) ≡ total →
+    (repeat_at (256 - (i + 1)) step too_many_parts s' >>= chain_result) ≡ total
+next-is step i s s' total lt h a = ap (λ r. r >>= chain_result) (goes-on step too_many_parts 256 i s s'
+    (repeat_at (256 - i) step too_many_parts s) lt h refl) ∙ a
 
 pub none-left : (step : Step) (i : ℕ) (s s' : Chain) (total : Read (Tree × Sight))
-    → i < 256 → step s ≡ Ok (false, s') → (repeat_at (256 - i) step too_many_parts s >>= chain_result) ≡ total → total ≡ chain_result s'
-none-left step i s s' total lt h a = sym a ∙ ap (λ r. r >>= chain_result) (is-done step too_many_parts 256 i s s' (repeat_at (256 - i) step too_many_parts s) lt h refl)
+    → i < 256 → step s ≡ Ok (false, s') → (repeat_at (256 - i) step too_many_parts s >>= chain_result) ≡ total →
+    total ≡ chain_result s'
+none-left step i s s' total lt h a = sym a ∙ ap (λ r. r >>= chain_result) (is-done step too_many_parts 256 i s s'
+    (repeat_at (256 - i) step too_many_parts s) lt h refl)
 
 pub too-many : (step : Step) (i : ℕ) (s : Chain) (total : Read (Tree × Sight))
-    → 256 ≤ i → (repeat_at (256 - i) step too_many_parts s >>= chain_result) ≡ total → total ≡ (too_many_parts s >>= chain_result)
-too-many step i s total le a = sym a ∙ ap (λ r. r >>= chain_result) (runs-out step too_many_parts 256 i s (repeat_at (256 - i) step too_many_parts s) le refl)
+    → 256 ≤ i → (repeat_at (256 - i) step too_many_parts s >>= chain_result) ≡ total →
+    total ≡ (too_many_parts s >>= chain_result)
+too-many step i s total le a = sym a ∙ ap (λ r. r >>= chain_result) (runs-out step too_many_parts 256 i s
+    (repeat_at (256 - i) step too_many_parts s) le refl)

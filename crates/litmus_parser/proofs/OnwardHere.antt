@@ -10,17 +10,20 @@ use Rattle.litmus_parser.proofs.Onward.{Past}
 
 -- ---- within a line
 
-pub word_here_again : (kind : Kind) (line : ℕ) (pieces : List Piece) (w : List ℕ) (rest : List Piece) → pieces ≡ Word w ∷ rest → word_here_at kind line pieces ≡ Ok (w, line, rest)
+pub word_here_again : (kind : Kind) (line : ℕ) (pieces : List Piece) (w : List ℕ) (rest : List Piece) →
+    pieces ≡ Word w ∷ rest → word_here_at kind line pieces ≡ Ok (w, line, rest)
 unfolding word_here_at here_at
 word_here_again kind line pieces w rest e = rw e refl
 
-pub expect_here_again : (wanted : ℕ) (kind : Kind) (line : ℕ) (pieces rest : List Piece) → pieces ≡ Sign wanted ∷ rest → expect_here_at wanted kind line pieces ≡ Ok (line, rest)
+pub expect_here_again : (wanted : ℕ) (kind : Kind) (line : ℕ) (pieces rest : List Piece) →
+    pieces ≡ Sign wanted ∷ rest → expect_here_at wanted kind line pieces ≡ Ok (line, rest)
 unfolding expect_here_at here_at
 expect_here_again wanted kind line pieces rest e = rw (e, eq-eqb wanted wanted refl) refl
 
 -- ---- lines
 
-pub end_line_again : (kind : Kind) (line : ℕ) (pieces rest : List Piece) → EndsLine pieces rest → Past (end_line_at kind line pieces) rest
+pub end_line_again : (kind : Kind) (line : ℕ) (pieces rest : List Piece) → EndsLine pieces rest →
+    Past (end_line_at kind line pieces) rest
 unfolding end_line_at
 end_line_again kind line pieces rest (inl e) = record { line = line + 1; is = rw e refl }
 end_line_again kind line pieces rest (inr e) = record { line = line; is = rw (e.0, e.1) refl }

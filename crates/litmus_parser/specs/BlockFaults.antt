@@ -6,13 +6,15 @@ use Rattle.litmus_lexer.specs.declared.signs.TheConstants.{OPENING_BRACE}
 use Rattle.litmus_lexer.specs.Pieces.{Piece, Word, Sign, LineEnd}
 use Rattle.litmus_lexer.specs.Spelling.{is_number, number_of}
 use Rattle.litmus_lexer.specs.declared.errors.Kind.{Kind}
-use Rattle.litmus_lexer.specs.declared.errors.Kind.TheVariants.{TooLarge, BadInitial, DoubleInitial, ValueRange, CutShort}
+use Rattle.litmus_lexer.specs.declared.errors.Kind.TheVariants.{TooLarge, BadInitial, DoubleInitial, ValueRange}
+use Rattle.litmus_lexer.specs.declared.errors.Kind.TheVariants.{CutShort}
 use Rattle.litmus_parser.specs.Names.{Names, same_name}
 use Rattle.litmus_parser.specs.Places.{Place}
 use Rattle.litmus_parser.specs.LocationFaults.{IsOneTooMany}
 use Rattle.litmus_parser.specs.GrammarWords.{Next, Ends}
 use Rattle.litmus_parser.specs.GrammarBlock.{IsItem, AreItems}
-use Rattle.litmus_parser.specs.BlockParts.{Wanted, ItemOrBrace, RegisterValue, LocationValue, fits, StandItems, BeginsIn, ItemUpTo, BlockUpTo}
+use Rattle.litmus_parser.specs.BlockParts.{Wanted, ItemOrBrace, RegisterValue, LocationValue, fits, StandItems}
+use Rattle.litmus_parser.specs.BlockParts.{BeginsIn, ItemUpTo, BlockUpTo}
 use Rattle.litmus_parser.specs.declared.syntax.Item.{Item}
 
 -- the block stands up to a place where this is wanted, and the next piece is this one, in line n
@@ -25,7 +27,8 @@ pub record PieceAt (line : ℕ) (pieces : List Piece) (n : ℕ) (wanted : Wanted
 
 -- that piece isn't one that is wanted
 abbrev pub HasWrongPiece : ℕ → List Piece → ℕ → Type 0
-HasWrongPiece line pieces n = (wanted : Wanted) × (piece : Piece) × PieceAt line pieces n wanted piece × (fits wanted piece ≡ false)
+HasWrongPiece line pieces n = (wanted : Wanted) × (piece : Piece) × PieceAt line pieces n wanted piece ×
+    (fits wanted piece ≡ false)
 
 -- the block stands up to its closing brace, and after that a piece stands on the same line, which is line n
 pub record HasMoreOnLine (line : ℕ) (pieces : List Piece) (n : ℕ) : Type 0 where
@@ -41,7 +44,8 @@ pub record HasMoreOnLine (line : ℕ) (pieces : List Piece) (n : ℕ) : Type 0 w
 
 -- the block stands up to a place where a further piece is wanted, and there is none up to the end of the text, which is in line n
 abbrev pub EndsEarly : ℕ → List Piece → ℕ → Type 0
-EndsEarly line pieces n = (wanted : Wanted) × (there : List Piece) × BlockUpTo pieces wanted there × Ends there × Place line pieces n []
+EndsEarly line pieces n = (wanted : Wanted) × (there : List Piece) × BlockUpTo pieces wanted there × Ends there ×
+    Place line pieces n []
 
 -- a value is wanted, and a number above 2147483647 comes next
 abbrev pub HasValueAbove : ℕ → List Piece → ℕ → Type 0

@@ -45,7 +45,8 @@ abbrev pub fits : Wanted → Piece → Bool
 -- {
 fits OpeningBrace piece = is_sign OPENING_BRACE piece
 -- a thread from 0 to 15 or a location, with which an item begins; or }
-fits ItemOrBrace piece = is_word (λ w. is_there (small_of LAST_THREAD w) || is_location w) piece || is_sign CLOSING_BRACE piece
+fits ItemOrBrace piece = is_word (λ w. is_there (small_of LAST_THREAD w) || is_location w) piece
+    || is_sign CLOSING_BRACE piece
 -- :
 fits Colon piece = is_sign COLON piece
 -- a register from x1 to x31
@@ -64,41 +65,54 @@ fits SemicolonOrBrace piece = is_sign SEMICOLON piece || is_sign CLOSING_BRACE p
 -- after the opening brace these items stand up to this place, each ended by ; and none setting a name that an earlier one set
 pub data StandItems (pieces : List Piece) : List Item → Names → List Piece → Type 0 where
   no_item : {rest : List Piece} → Next pieces (Sign OPENING_BRACE) rest → StandItems pieces [] [] rest
-  one_more : {items : List Item} {before after : Names} {here rest : List Piece} (item : Item) (behind : List Piece) → StandItems pieces items before here → IsItem here before item.name item.setting after behind
-      → list_any (λ other. same_name other.name item.name) items ≡ false → Next behind (Sign SEMICOLON) rest → StandItems pieces (items ++ item ∷ []) after rest
+  one_more : {items : List Item} {before after : Names} {here rest : List Piece} (item : Item) (behind : List Piece) →
+      StandItems pieces items before here → IsItem here before item.name item.setting after behind
+      → list_any (λ other. same_name other.name item.name) items ≡ false → Next behind (Sign SEMICOLON) rest →
+      StandItems pieces (items ++ item ∷ []) after rest
 
 -- the next piece, after line ends, is a word in line n
 abbrev pub BeginsIn : ℕ → List Piece → ℕ → List Piece → Type 0
-BeginsIn line pieces n here = (w : List ℕ) × (rest : List Piece) × Next here (Word w) rest × Place line pieces n (Word w ∷ rest)
+BeginsIn line pieces n here = (w : List ℕ) × (rest : List Piece) × Next here (Word w) rest ×
+    Place line pieces n (Word w ∷ rest)
 
 -- of a block whose pieces begin in this line, each item begins in its own line
 pub data InLines (line : ℕ) (pieces : List Piece) : List Item → Type 0 where
   none : InLines line pieces []
-  further : {items : List Item} {names : Names} {here : List Piece} (item : Item) → InLines line pieces items → StandItems pieces items names here → BeginsIn line pieces item.line here → InLines line pieces (items ++ item ∷ [])
+  further : {items : List Item} {names : Names} {here : List Piece} (item : Item) → InLines line pieces items →
+      StandItems pieces items names here → BeginsIn line pieces item.line here →
+      InLines line pieces (items ++ item ∷ [])
 
 -- of an item that begins here all parts stand up to the place where this is wanted
 pub data ItemUpTo (names : Names) (here : List Piece) : Wanted → List Piece → Type 0 where
   -- nothing yet
   at_item : ItemUpTo names here ItemOrBrace here
   -- T
-  thread_there : {rest : List Piece} (w : List ℕ) (t : ℕ) → Next here (Word w) rest → small_of LAST_THREAD w ≡ Some t → ItemUpTo names here Colon rest
+  thread_there : {rest : List Piece} (w : List ℕ) (t : ℕ) → Next here (Word w) rest → small_of LAST_THREAD w ≡ Some
+      t → ItemUpTo names here Colon rest
   -- T:
-  colon_there : {place rest : List Piece} → ItemUpTo names here Colon place → Next place (Sign COLON) rest → ItemUpTo names here RegisterWord rest
+  colon_there : {place rest : List Piece} → ItemUpTo names here Colon place → Next place (Sign COLON) rest →
+      ItemUpTo names here RegisterWord rest
   -- T:xR
-  register_there : {place rest : List Piece} (w : List ℕ) (r : ℕ) → ItemUpTo names here RegisterWord place → Next place (Word w) rest → register_of w ≡ Some r → r ≢ 0 → ItemUpTo names here RegisterEquals rest
+  register_there : {place rest : List Piece} (w : List ℕ) (r : ℕ) → ItemUpTo names here RegisterWord place →
+      Next place (Word w) rest → register_of w ≡ Some r → r ≢ 0 → ItemUpTo names here RegisterEquals rest
   -- T:xR=
-  equals_there : {place rest : List Piece} → ItemUpTo names here RegisterEquals place → Next place (Sign EQUALS) rest → ItemUpTo names here RegisterValue rest
+  equals_there : {place rest : List Piece} → ItemUpTo names here RegisterEquals place → Next place (Sign EQUALS)
+      rest → ItemUpTo names here RegisterValue rest
   -- L
-  location_there : {rest : List Piece} (w : List ℕ) (l : ℕ) (after : Names) → Next here (Word w) rest → IsNumbered w names l after → ItemUpTo names here LocationEquals rest
+  location_there : {rest : List Piece} (w : List ℕ) (l : ℕ) (after : Names) → Next here (Word w) rest →
+      IsNumbered w names l after → ItemUpTo names here LocationEquals rest
   -- L=
-  equals_behind : {place rest : List Piece} → ItemUpTo names here LocationEquals place → Next place (Sign EQUALS) rest → ItemUpTo names here LocationValue rest
+  equals_behind : {place rest : List Piece} → ItemUpTo names here LocationEquals place → Next place (Sign EQUALS)
+      rest → ItemUpTo names here LocationValue rest
 
 -- of a block all parts stand up to the place where this is wanted
 pub data BlockUpTo (pieces : List Piece) : Wanted → List Piece → Type 0 where
   -- nothing yet
   at_block : BlockUpTo pieces OpeningBrace pieces
   -- items and, after them, the beginning of one
-  in_item : {items : List Item} {names : Names} {here place : List Piece} {wanted : Wanted} → StandItems pieces items names here → ItemUpTo names here wanted place → BlockUpTo pieces wanted place
+  in_item : {items : List Item} {names : Names} {here place : List Piece} {wanted : Wanted} → StandItems pieces items
+      names here → ItemUpTo names here wanted place → BlockUpTo pieces wanted place
   -- items and, after them, one of a name that they don't set
-  behind_item : {items : List Item} {before : Names} {here place : List Piece} (item : Item) (after : Names) → StandItems pieces items before here → IsItem here before item.name item.setting after place
+  behind_item : {items : List Item} {before : Names} {here place : List Piece} (item : Item) (after : Names) →
+      StandItems pieces items before here → IsItem here before item.name item.setting after place
       → list_any (λ other. same_name other.name item.name) items ≡ false → BlockUpTo pieces SemicolonOrBrace place

@@ -21,10 +21,12 @@ IsSetting word before (Address l) after = (is_number word ≡ false) × IsNumber
 -- T:xR=V with R not 0; or L=N
 abbrev pub IsItem : List Piece → Names → Name → Setting → Names → List Piece → Type 0
 IsItem pieces before (Register t r) setting after rest = (tw rw vw : List ℕ) × (a b c d : List Piece)
-    × Next pieces (Word tw) a × Next a (Sign COLON) b × Next b (Word rw) c × Next c (Sign EQUALS) d × Next d (Word vw) rest
+    × Next pieces (Word tw) a × Next a (Sign COLON) b × Next b (Word rw) c × Next c (Sign EQUALS) d ×
+    Next d (Word vw) rest
     × (small_of LAST_THREAD tw ≡ Some t) × (register_of rw ≡ Some r) × (r ≢ 0) × IsSetting vw before setting after
 IsItem pieces before (Location l) (Number n) after rest = (lw vw : List ℕ) × (a b : List Piece)
-    × Next pieces (Word lw) a × Next a (Sign EQUALS) b × Next b (Word vw) rest × IsNumbered lw before l after × IsValue vw n
+    × Next pieces (Word lw) a × Next a (Sign EQUALS) b × Next b (Word vw) rest × IsNumbered lw before l
+    after × IsValue vw n
 IsItem pieces before (Location l) (Address m) after rest = ⊥
 
 -- items up to }, each ended by ;, which the last one may lack; none sets a name that an earlier one set
@@ -38,4 +40,5 @@ AreItems earlier pieces before (item ∷ items) after rest = (between : Names) �
 
 -- { items }, and the line's end
 abbrev pub IsBlock : List Piece → List Item → Names → List Piece → Type 0
-IsBlock pieces items names rest = (a b : List Piece) × Next pieces (Sign OPENING_BRACE) a × AreItems [] a [] items names b × EndsLine b rest
+IsBlock pieces items names rest = (a b : List Piece) × Next pieces (Sign OPENING_BRACE) a × AreItems [] a [] items
+    names b × EndsLine b rest

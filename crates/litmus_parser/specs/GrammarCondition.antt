@@ -17,8 +17,10 @@ use Rattle.litmus_parser.specs.declared.syntax.Quantifier.{Quantifier}
 abbrev pub IsNamed : List Item → ℕ → List Piece → Names → Name → Names → List Piece → Type 0
 IsNamed items threads pieces before (Register t r) after rest = (tw rw : List ℕ) × (a b : List Piece)
     × Next pieces (Word tw) a × Next a (Sign COLON) b × Next b (Word rw) rest
-    × (small_of LAST_THREAD tw ≡ Some t) × (t < threads) × (register_of rw ≡ Some r) × (r ≢ 0) × (is_there (address_of t r items) ≡ false) × (after ≡ before)
-IsNamed items threads pieces before (Location l) after rest = (w : List ℕ) × Next pieces (Word w) rest × IsNumbered w before l after
+    × (small_of LAST_THREAD tw ≡ Some t) × (t < threads) × (register_of rw ≡ Some r) × (r ≢ 0) ×
+    (is_there (address_of t r items) ≡ false) × (after ≡ before)
+IsNamed items threads pieces before (Location l) after rest =
+    (w : List ℕ) × Next pieces (Word w) rest × IsNumbered w before l after
 
 -- the locations so far, and how many atoms there are so far
 abbrev pub Sight : Type 0
@@ -27,7 +29,8 @@ Sight = Names × ℕ
 -- a name = a number; at most 256 atoms
 abbrev pub IsAtom : List Item → ℕ → Sight → List Piece → Tree → Sight → List Piece → Type 0
 IsAtom items threads before pieces (Is name n) after rest = (w : List ℕ) × (a b : List Piece)
-    × IsNamed items threads pieces before.0 name after.0 a × Next a (Sign EQUALS) b × Next b (Word w) rest × IsValue w n
+    × IsNamed items threads pieces before.0 name after.0 a × Next a (Sign EQUALS) b ×
+    Next b (Word w) rest × IsValue w n
     × (before.1 < MOST_ATOMS) × (after.1 ≡ before.1 + 1)
 IsAtom items threads before pieces (Both a b) after rest = ⊥
 IsAtom items threads before pieces (Either a b) after rest = ⊥
@@ -42,15 +45,19 @@ abbrev pub Part : Type 1
 Part = Sight → List Piece → Tree → Sight → List Piece → Type 0
 
 -- one part, and then any number more, each after the sign
-pub data Chained (P : Part) (sign : Piece) (join : Tree → Tree → Tree) : Sight → List Piece → Tree → Sight → List Piece → Type 0 where
+pub data Chained (P : Part) (sign : Piece) (join : Tree → Tree → Tree) : Sight → List Piece → Tree → Sight →
+    List Piece → Type 0 where
   one : {s t : Sight} {ps rest : List Piece} {a : Tree} → P s ps a t rest → Chained P sign join s ps a t rest
-  more : {s u : Sight} {ps rest : List Piece} {a b : Tree} (t : Sight) (qs rs : List Piece) → Chained P sign join s ps a t qs → Next qs sign rs → P t rs b u rest → Chained P sign join s ps (join a b) u rest
+  more : {s u : Sight} {ps rest : List Piece} {a b : Tree} (t : Sight) (qs rs : List Piece) → Chained P sign join s ps
+      a t qs → Next qs sign rs → P t rs b u rest → Chained P sign join s ps (join a b) u rest
 
 -- factor := atom | ( expr ), with parentheses at most that deep
 abbrev pub IsFactor : List Item → ℕ → ℕ → Part
 IsFactor items threads zero before pieces tree after rest = IsAtom items threads before pieces tree after rest
 IsFactor items threads (suc depth) before pieces tree after rest = IsAtom items threads before pieces tree after rest
-    ⊎ ((a b : List Piece) × Next pieces (Sign OPENING_PARENTHESIS) a × Chained (Chained (IsFactor items threads depth) and_word Both) or_word Either before a tree after b × Next b (Sign CLOSING_PARENTHESIS) rest)
+    ⊎ ((a b : List Piece) × Next pieces (Sign OPENING_PARENTHESIS) a ×
+    Chained (Chained (IsFactor items threads depth) and_word Both) or_word Either before a tree after b ×
+    Next b (Sign CLOSING_PARENTHESIS) rest)
 
 -- expr := term { \/ term }, term := factor { /\ factor }
 abbrev pub IsExpression : List Item → ℕ → ℕ → Part
@@ -59,4 +66,5 @@ IsExpression items threads depth = Chained (Chained (IsFactor items threads dept
 -- the keyword, the expression with parentheses at most 64 deep, and the end of the text
 abbrev pub IsCondition : List Item → ℕ → List Piece → Names → Quantifier → Tree → Names → Type 0
 IsCondition items threads pieces before quantifier tree after = (w : List ℕ) × (a b : List Piece) × (atoms : ℕ)
-    × (pieces ≡ Word w ∷ a) × (quantifier_of w ≡ Some quantifier) × IsExpression items threads MOST_DEPTH (before, 0) a tree (after, atoms) b × Ends b
+    × (pieces ≡ Word w ∷ a) × (quantifier_of w ≡ Some quantifier) × IsExpression items threads MOST_DEPTH (before, 0)
+    a tree (after, atoms) b × Ends b

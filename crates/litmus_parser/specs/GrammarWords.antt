@@ -31,4 +31,5 @@ IsValue word n = (is_number word ≡ true) × (n ≡ number_of word) × (n < VAL
 -- a location has its index among those named before; a new one, if they are below 64, comes after them
 abbrev pub IsNumbered : List ℕ → Names → ℕ → Names → Type 0
 IsNumbered word before number after = (is_location word ≡ true) × (number ≡ place_of word before)
-    × (((number < length before) × (after ≡ before)) ⊎ ((number ≡ length before) × (length before < MOST_LOCATIONS) × (after ≡ before ++ word ∷ [])))
+    × (((number < length before) × (after ≡ before)) ⊎ ((number ≡ length before) × (length before < MOST_LOCATIONS) ×
+    (after ≡ before ++ word ∷ [])))

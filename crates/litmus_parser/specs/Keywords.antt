@@ -15,4 +15,5 @@ quantifier_of w =
 
 -- a line that begins with such a word
 abbrev pub BeginsCondition : List Piece → Type 0
-BeginsCondition pieces = (w : List ℕ) × (rest : List Piece) × (quantifier : Quantifier) × (pieces ≡ Word w ∷ rest) × (quantifier_of w ≡ Some quantifier)
+BeginsCondition pieces = (w : List ℕ) × (rest : List Piece) × (quantifier : Quantifier) × (pieces ≡ Word w ∷ rest) ×
+    (quantifier_of w ≡ Some quantifier)

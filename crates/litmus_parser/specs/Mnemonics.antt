@@ -9,8 +9,10 @@ use Rattle.litmus_parser.specs.declared.forms.Mnemonic.TheVariants.{Load, Store,
 -- the width of a swap: a suffix .aq or .rl has no effect
 abbrev pub swap_width : List ℕ → Option Width
 swap_width w =
-    if bytes_eq w (codes "amoswap.w") || bytes_eq w (codes "amoswap.w.aq") || bytes_eq w (codes "amoswap.w.rl") then Some Single
-    else if bytes_eq w (codes "amoswap.d") || bytes_eq w (codes "amoswap.d.aq") || bytes_eq w (codes "amoswap.d.rl") then Some Double
+    if bytes_eq w (codes "amoswap.w") || bytes_eq w (codes "amoswap.w.aq")
+    || bytes_eq w (codes "amoswap.w.rl") then Some Single
+    else if bytes_eq w (codes "amoswap.d") || bytes_eq w (codes "amoswap.d.aq")
+    || bytes_eq w (codes "amoswap.d.rl") then Some Double
     else None
 
 abbrev pub swap_of : Option Width → Option Mnemonic

@@ -23,7 +23,8 @@ address_in (Number n) = None
 -- the location to which the first item that sets the thread's register sets it
 unfoldable pub address_of : ℕ → ℕ → List Item → Option ℕ
 address_of thread register [] = None
-address_of thread register (item ∷ items) = if same_name item.name (Register thread register) then address_in item.setting else address_of thread register items
+address_of thread register (item ∷ items) = if same_name item.name (Register thread register) then address_in
+    item.setting else address_of thread register items
 
 abbrev pub is_there : {A : Type 0} → Option A → Bool
 is_there None = false

@@ -22,4 +22,5 @@ Somewhere line pieces n = (rest : List Piece) × Place line pieces n rest
 
 -- a number above a bound stands in line n
 abbrev pub HasNumberAbove : ℕ → ℕ → List Piece → ℕ → Type 0
-HasNumberAbove bound line pieces n = (w : List ℕ) × (rest : List Piece) × Place line pieces n (Word w ∷ rest) × (is_number w ≡ true) × (bound < number_of w)
+HasNumberAbove bound line pieces n = (w : List ℕ) × (rest : List Piece) × Place line pieces n (Word w ∷ rest) ×
+    (is_number w ≡ true) × (bound < number_of w)

@@ -38,11 +38,13 @@ location_name_at first names line pieces = do
   Ok ((Location l.0, l.1), line, pieces)
 
 abbrev pub name_of : List Item → ℕ → Option ℕ → List ℕ → Names → ℕ → List Piece → Read (Name × Names)
-name_of items threads (Some thread) first names line pieces = register_name_at items threads thread line pieces >>= λ r. Ok ((r.0, names), r.1, r.2)
+name_of items threads (Some thread) first names line pieces =
+    register_name_at items threads thread line pieces >>= λ r. Ok ((r.0, names), r.1, r.2)
 name_of items threads None first names line pieces = location_name_at first names line pieces
 
 unfoldable pub name_at : List Item → ℕ → List ℕ → Names → ℕ → List Piece → Read (Name × Names)
-name_at items threads first names line pieces = name_of items threads (small_of LAST_THREAD first) first names line pieces
+name_at items threads first names line pieces =
+    name_of items threads (small_of LAST_THREAD first) first names line pieces
 
 unfoldable pub atom_at : List Item → ℕ → List ℕ → Sight → ℕ → List Piece → Read (Tree × Sight)
 atom_at items threads first sight line pieces =

@@ -19,11 +19,13 @@ Block = List Item × Names × ℕ × List Piece
 unfoldable pub separated : ℕ → List Piece → Result (Bool × ℕ × List Piece) LitmusError
 separated line pieces = do
   s ← sign_at BadInitial line pieces
-  if s.0 == SEMICOLON then Ok (true, s.1, s.2) else if s.0 == CLOSING_BRACE then Ok (false, s.1, s.2) else fails BadInitial s.1
+  if s.0 == SEMICOLON then Ok (true, s.1, s.2) else if s.0 == CLOSING_BRACE then Ok (false, s.1, s.2) else
+      fails BadInitial s.1
 
 -- an item after the earlier ones, unless one of them sets the same name
 unfoldable pub added : List Item → Item → Result (List Item) LitmusError
-added items item = if list_any (λ other. same_name other.name item.name) items then fails DoubleInitial item.line else Ok (items ++ item ∷ [])
+added items item = if list_any (λ other. same_name other.name item.name) items then fails DoubleInitial item.line else
+    Ok (items ++ item ∷ [])
 
 unfoldable pub whole_item_at : List ℕ → Block → Result (Bool × Block) LitmusError
 whole_item_at first block = do
@@ -34,7 +36,8 @@ whole_item_at first block = do
 
 abbrev pub entry_of : List Item → Names → Piece × ℕ × List Piece → Result (Bool × Block) LitmusError
 entry_of items names (Word first, line, pieces) = whole_item_at first (items, names, line, pieces)
-entry_of items names (Sign b, line, pieces) = if b == CLOSING_BRACE then Ok (false, (items, names, line, pieces)) else fails BadInitial line
+entry_of items names (Sign b, line, pieces) =
+    if b == CLOSING_BRACE then Ok (false, (items, names, line, pieces)) else fails BadInitial line
 entry_of items names (LineEnd, line, pieces) = fails BadInitial line
 
 -- an item and what parts it from the next one, or the closing brace

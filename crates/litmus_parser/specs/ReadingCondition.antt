@@ -24,7 +24,8 @@ Chain = Tree × Sight × ℕ × List Piece
 
 -- a further part after a sign, if there is one
 abbrev pub joined_with : (List ℕ → Bool) → (Tree → Tree → Tree) → Reader → Chain → Result (Bool × Chain) LitmusError
-joined_with is_sign join part c = behind (joined_at is_sign c.2 c.3) (Ok (false, c)) (λ at. part c.1 at.0 at.1 >>= λ r. Ok (true, (join c.0 r.0.0, r.0.1, r.1, r.2)))
+joined_with is_sign join part c = behind (joined_at is_sign c.2 c.3) (Ok (false, c))
+    (λ at. part c.1 at.0 at.1 >>= λ r. Ok (true, (join c.0 r.0.0, r.0.1, r.1, r.2)))
 
 abbrev pub too_many_parts : Chain → Result Chain LitmusError
 too_many_parts c = fails TooLarge c.2
@@ -36,7 +37,8 @@ chain_result c = Ok ((c.0, c.1), c.2, c.3)
 abbrev pub chained : (List ℕ → Bool) → (Tree → Tree → Tree) → Reader → Reader
 chained is_sign join part sight line pieces = do
   first ← part sight line pieces
-  repeat_at MOST_ATOMS (joined_with is_sign join part) too_many_parts (first.0.0, first.0.1, first.1, first.2) >>= chain_result
+  repeat_at MOST_ATOMS (joined_with is_sign join part) too_many_parts (first.0.0, first.0.1, first.1, first.2) >>=
+      chain_result
 
 abbrev pub in_parentheses : Reader → Reader
 in_parentheses inner sight line pieces = do
@@ -46,7 +48,8 @@ in_parentheses inner sight line pieces = do
 
 abbrev pub factor_of : List Item → ℕ → Reader → Sight → Piece × ℕ × List Piece → Read (Tree × Sight)
 factor_of items threads inner sight (Word first, line, pieces) = atom_at items threads first sight line pieces
-factor_of items threads inner sight (Sign b, line, pieces) = if b == OPENING_PARENTHESIS then inner sight line pieces else fails BadCondition line
+factor_of items threads inner sight (Sign b, line, pieces) =
+    if b == OPENING_PARENTHESIS then inner sight line pieces else fails BadCondition line
 factor_of items threads inner sight (LineEnd, line, pieces) = fails BadCondition line
 
 abbrev pub too_deep : Reader
@@ -56,7 +59,8 @@ too_deep sight line pieces = fails TooLarge line
 unfoldable pub factor_at : List Item → ℕ → ℕ → Reader
 factor_at items threads zero sight line pieces = next_at line pieces >>= factor_of items threads too_deep sight
 factor_at items threads (suc depth) sight line pieces =
-    next_at line pieces >>= factor_of items threads (in_parentheses (chained is_or Either (chained is_and Both (factor_at items threads depth)))) sight
+    next_at line pieces >>= factor_of items threads
+    (in_parentheses (chained is_or Either (chained is_and Both (factor_at items threads depth)))) sight
 
 abbrev pub term_at : List Item → ℕ → ℕ → Reader
 term_at items threads depth = chained is_and Both (factor_at items threads depth)

@@ -84,8 +84,10 @@ fence_at line pieces = do
 
 unfoldable pub operands_at : Mnemonic → ℕ → List Piece → Read Form
 operands_at (word.Load width) line pieces = offset_at line pieces >>= λ r. Ok (form.Load width r.0.0 r.0.1, r.1, r.2)
-operands_at (word.Store width) line pieces = offset_at line pieces >>= λ r. Ok (form.Store width r.0.0 r.0.1, r.1, r.2)
-operands_at (word.Swap width) line pieces = swapped_at line pieces >>= λ r. Ok (form.Swap width r.0.0 r.0.1 r.0.2, r.1, r.2)
+operands_at (word.Store width) line pieces =
+    offset_at line pieces >>= λ r. Ok (form.Store width r.0.0 r.0.1, r.1, r.2)
+operands_at (word.Swap width) line pieces =
+    swapped_at line pieces >>= λ r. Ok (form.Swap width r.0.0 r.0.1 r.0.2, r.1, r.2)
 operands_at word.Li line pieces = li_at line pieces >>= λ r. Ok (form.Li r.0.0 r.0.1, r.1, r.2)
 operands_at word.Ori line pieces = ori_at line pieces >>= λ r. Ok (form.Ori r.0.0 r.0.1, r.1, r.2)
 operands_at word.Fence line pieces = fence_at line pieces >>= λ r. Ok (form.Fence, r.0, r.1)

@@ -12,7 +12,8 @@ Lines = ℕ × List ℕ
 
 -- the name, and what is left
 unfoldable pub first_line_at : List ℕ → Result (List ℕ × Lines) LitmusError
-first_line_at text = if length text == 0 then fails CutShort 1 else found BadHeader (title_of (before_line_feed text)) 1 (λ name. Ok (name, (2, behind_line_feed text)))
+first_line_at text = if length text == 0 then fails CutShort 1 else found BadHeader (title_of (before_line_feed text))
+    1 (λ name. Ok (name, (2, behind_line_feed text)))
 
 unfoldable pub header_line_at : Lines → Result (Bool × Lines) LitmusError
 header_line_at at =

@@ -1,5 +1,6 @@
 -- Reading the items of the initial block, with the first fault.
-use Rattle.std.specs.Prelude.{ℕ, ◌==◌, nat_lt, nat_le, if◌then◌else◌, List, [], ◌∷◌, ◌++◌, length, Option, Some, None, Result, Ok}
+use Rattle.std.specs.Prelude.{ℕ, ◌==◌, nat_lt, nat_le, if◌then◌else◌, List, [], ◌∷◌, ◌++◌, length, Option, Some, None}
+use Rattle.std.specs.Prelude.{Result, Ok}
 use Rattle.litmus_lexer.specs.declared.limits.TheConstants.{LAST_THREAD, MOST_LOCATIONS, VALUE_BOUND}
 use Rattle.litmus_lexer.specs.declared.signs.TheConstants.{COLON, EQUALS}
 use Rattle.litmus_lexer.specs.Pieces.{Piece}
@@ -37,7 +38,8 @@ unfoldable pub setting_at : Names → ℕ → List Piece → Read (Setting × Na
 setting_at names line pieces = do
   w ← word_at BadInitial line pieces
   if is_number w.0
-      then (if nat_lt (number_of w.0) VALUE_BOUND then Ok ((Number (number_of w.0), names), w.1, w.2) else fails ValueRange w.1)
+      then (if nat_lt (number_of w.0) VALUE_BOUND then Ok ((Number (number_of w.0), names), w.1, w.2) else
+      fails ValueRange w.1)
       else (do
         l ← location_at BadInitial w.0 w.1 names
         Ok ((Address l.0, l.1), w.1, w.2))

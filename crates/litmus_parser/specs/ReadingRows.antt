@@ -1,5 +1,6 @@
 -- Reading the rows of the table, with the first fault.
-use Rattle.std.specs.Prelude.{ℕ, ◌+◌, ◌-◌, ◌==◌, ◌&&◌, Bool, true, false, if◌then◌else◌, List, [], ◌∷◌, ◌++◌, Option, Result, Ok}
+use Rattle.std.specs.Prelude.{ℕ, ◌+◌, ◌-◌, ◌==◌, ◌&&◌, Bool, true, false, if◌then◌else◌, List, [], ◌∷◌, ◌++◌, Option}
+use Rattle.std.specs.Prelude.{Result, Ok}
 use Rattle.litmus_lexer.specs.declared.signs.TheConstants.{BAR, SEMICOLON}
 use Rattle.litmus_lexer.specs.Pieces.{Piece, Word, Sign, LineEnd}
 use Rattle.litmus_lexer.specs.declared.errors.Kind.TheVariants.{BadTable, BadInstruction}
@@ -40,7 +41,8 @@ instruction_at items thread end rows = do
 
 -- a blank cell, or an instruction
 unfoldable pub cell_at : List Item → ℕ → ℕ → Rows → Result Rows LitmusError
-cell_at items thread end rows = behind (passed_at end rows.2 rows.3) (instruction_at items thread end rows) (λ at. Ok (rows.0, rows.1, at.0, at.1))
+cell_at items thread end rows = behind (passed_at end rows.2 rows.3) (instruction_at items thread end rows)
+    (λ at. Ok (rows.0, rows.1, at.0, at.1))
 
 -- the same with the thread whose cell comes next
 abbrev pub Columns : Type 0

@@ -1,5 +1,6 @@
 -- Reading the table, with the first fault.
-use Rattle.std.specs.Prelude.{ℕ, ◌+◌, ◌==◌, nat_le, Bool, true, false, if◌then◌else◌, List, [], ◌∷◌, Option, Some, None, Result, Ok}
+use Rattle.std.specs.Prelude.{ℕ, ◌+◌, ◌==◌, nat_le, Bool, true, false, if◌then◌else◌, List, [], ◌∷◌, Option, Some}
+use Rattle.std.specs.Prelude.{None, Result, Ok}
 use Rattle.litmus_lexer.specs.declared.limits.TheConstants.{MOST_ROWS, MOST_THREADS}
 use Rattle.litmus_lexer.specs.declared.signs.TheConstants.{BAR, SEMICOLON}
 use Rattle.litmus_lexer.specs.Pieces.{Piece, Word, Sign, LineEnd}
@@ -86,7 +87,8 @@ abbrev pub too_long : Table → Result Table LitmusError
 too_long t = fails TooLarge t.3
 
 unfoldable pub table_at : List Item → ℕ → List Cell → ℕ → List Piece → Result Table LitmusError
-table_at items threads cells line pieces = repeat_at (MOST_ROWS + 1) (next_row_at items threads) too_long (0, cells, None, line, pieces)
+table_at items threads cells line pieces =
+    repeat_at (MOST_ROWS + 1) (next_row_at items threads) too_long (0, cells, None, line, pieces)
 
 -- the rows up to the condition
 unfoldable pub rows_at : List Item → ℕ → List Cell → ℕ → List Piece → Read (List Cell)

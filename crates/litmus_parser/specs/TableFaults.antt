@@ -1,11 +1,13 @@
 -- The causes of faults in the header row and in the rows of the table: what stands in the line.
-use Rattle.std.specs.Prelude.{◌≡◌, ◌≢◌, ℕ, ◌+◌, ◌-◌, ◌<◌, ◌≤◌, ◌==◌, ◌⊎◌, true, if◌then◌else◌, List, ◌∷◌, [], Option, Some, None}
+use Rattle.std.specs.Prelude.{◌≡◌, ◌≢◌, ℕ, ◌+◌, ◌-◌, ◌<◌, ◌≤◌, ◌==◌, ◌⊎◌, true, if◌then◌else◌, List, ◌∷◌, [], Option}
+use Rattle.std.specs.Prelude.{Some, None}
 use Rattle.litmus_lexer.specs.declared.limits.TheConstants.{MOST_ORI, MOST_ROWS, MOST_THREADS, VALUE_BOUND}
 use Rattle.litmus_lexer.specs.declared.signs.TheConstants.{BAR, SEMICOLON}
 use Rattle.litmus_lexer.specs.Pieces.{Piece, Word, Sign}
 use Rattle.litmus_lexer.specs.Spelling.{thread_named}
 use Rattle.litmus_lexer.specs.declared.errors.Kind.{Kind}
-use Rattle.litmus_lexer.specs.declared.errors.Kind.TheVariants.{TooLarge, BadTable, BadInstruction, ValueRange, MixedWidth, AddressAsValue, ValueAsAddress, CutShort}
+use Rattle.litmus_lexer.specs.declared.errors.Kind.TheVariants.{TooLarge, BadTable, BadInstruction, ValueRange}
+use Rattle.litmus_lexer.specs.declared.errors.Kind.TheVariants.{MixedWidth, AddressAsValue, ValueAsAddress, CutShort}
 use Rattle.litmus_parser.specs.Names.{address_of, is_there}
 use Rattle.litmus_parser.specs.Places.{Place}
 use Rattle.litmus_parser.specs.GrammarWords.{EndsLine}
@@ -25,16 +27,19 @@ LineAt line pieces n start = Begins pieces start × Place line pieces n start
 -- so many headings stand from P0 on up to this place, each with | after it
 pub data StandHeadings (first : List Piece) : ℕ → List Piece → Type 0 where
   no_heading : StandHeadings first 0 first
-  one_more : {t : ℕ} {rest : List Piece} (w : List ℕ) → StandHeadings first t (Word w ∷ Sign BAR ∷ rest) → thread_named w ≡ Some t → StandHeadings first (t + 1) rest
+  one_more : {t : ℕ} {rest : List Piece} (w : List ℕ) → StandHeadings first t (Word w ∷ Sign BAR ∷ rest) →
+      thread_named w ≡ Some t → StandHeadings first (t + 1) rest
 
 -- after sixteen headings a seventeenth begins
 abbrev pub HasSeventeenth : List Piece → Type 0
-HasSeventeenth row = (w : List ℕ) × (rest : List Piece) × StandHeadings row MOST_THREADS (Word w ∷ rest) × (thread_named w ≡ Some MOST_THREADS)
+HasSeventeenth row = (w : List ℕ) × (rest : List Piece) × StandHeadings row MOST_THREADS (Word w ∷ rest) ×
+    (thread_named w ≡ Some MOST_THREADS)
 
 -- the cause of a fault of the header row in line n
 abbrev pub HeaderCause : ℕ → List Piece → Kind → ℕ → Type 0
 -- its line is line n, and it is no header row, for another reason than a seventeenth heading
-HeaderCause line pieces BadTable n = (row : List Piece) × LineAt line pieces n row × ((threads : ℕ) (rest : List Piece) → IsHeaderRow pieces threads rest → ⊥) × (HasSeventeenth row → ⊥)
+HeaderCause line pieces BadTable n = (row : List Piece) × LineAt line pieces n row ×
+    ((threads : ℕ) (rest : List Piece) → IsHeaderRow pieces threads rest → ⊥) × (HasSeventeenth row → ⊥)
 -- its line is line n, in which a seventeenth heading begins
 HeaderCause line pieces TooLarge n = (row : List Piece) × LineAt line pieces n row × HasSeventeenth row
 -- no line begins up to the end of the text, which is in line n
@@ -42,9 +47,11 @@ HeaderCause line pieces CutShort n = ((row : List Piece) → Begins pieces row �
 HeaderCause line pieces kind n = ⊥
 
 -- so many rows stand from the first place to this one, and give the test its width
-pub data StandRows (items : List Item) (threads : ℕ) (pieces : List Piece) : ℕ → Option Width → List Piece → Type 0 where
+pub data StandRows (items : List Item) (threads : ℕ) (pieces : List Piece) : ℕ → Option Width →
+    List Piece → Type 0 where
   none : StandRows items threads pieces 0 None pieces
-  row : {n : ℕ} {w v : Option Width} {ps rest : List Piece} (qs : List Piece) (cells : List Cell) → StandRows items threads pieces n w ps → Begins ps qs → IsRow items threads qs w cells v rest
+  row : {n : ℕ} {w v : Option Width} {ps rest : List Piece} (qs : List Piece) (cells : List Cell) →
+      StandRows items threads pieces n w ps → Begins ps qs → IsRow items threads qs w cells v rest
       → StandRows items threads pieces (n + 1) v rest
 
 -- the shape of a row: words and signs, among them so many |, up to its only ;, with which its line ends
@@ -52,10 +59,12 @@ pub data HasShape : ℕ → List Piece → Type 0 where
   ends : {rest after : List Piece} → EndsLine rest after → HasShape 0 (Sign SEMICOLON ∷ rest)
   bar : {bars : ℕ} {rest : List Piece} → HasShape bars rest → HasShape (bars + 1) (Sign BAR ∷ rest)
   word : {bars : ℕ} {rest : List Piece} (w : List ℕ) → HasShape bars rest → HasShape bars (Word w ∷ rest)
-  sign : {bars : ℕ} {rest : List Piece} (b : ℕ) → b ≢ SEMICOLON → b ≢ BAR → HasShape bars rest → HasShape bars (Sign b ∷ rest)
+  sign : {bars : ℕ} {rest : List Piece} (b : ℕ) → b ≢ SEMICOLON → b ≢ BAR → HasShape bars rest →
+      HasShape bars (Sign b ∷ rest)
 
 -- after so many rows a line begins here, not with the condition, and it is line n
-pub record RowAt (items : List Item) (threads line : ℕ) (pieces : List Piece) (rows n : ℕ) (before : Option Width) (start : List Piece) : Type 0 where
+pub record RowAt (items : List Item) (threads line : ℕ) (pieces : List Piece) (rows n : ℕ) (before : Option Width)
+    (start : List Piece) : Type 0 where
   pub above : List Piece
   pub stand : StandRows items threads pieces rows before above
   pub begins : Begins above start
@@ -63,7 +72,8 @@ pub record RowAt (items : List Item) (threads line : ℕ) (pieces : List Piece) 
   pub place : Place line pieces n start
 
 -- of one of 1024 rows at most, with the right shape, in line n, the cells of the threads below t stand before this place
-pub record CellAt (items : List Item) (threads line : ℕ) (pieces : List Piece) (t n : ℕ) (before : Option Width) (here : List Piece) : Type 0 where
+pub record CellAt (items : List Item) (threads line : ℕ) (pieces : List Piece) (t n : ℕ) (before : Option Width)
+    (here : List Piece) : Type 0 where
   pub rows : ℕ
   pub width : Option Width
   pub start : List Piece
@@ -119,23 +129,32 @@ HasAddressIn f r = ⊥
 -- the cause of a fault of the rows in line n
 abbrev pub RowsCause : List Item → ℕ → ℕ → List Piece → Kind → ℕ → Type 0
 -- after less than 1024 rows a further one begins, and has not the shape of a row
-RowsCause items threads line pieces BadTable n = (rows : ℕ) × (before : Option Width) × (start : List Piece) × RowAt items threads line pieces rows n before start × (rows < MOST_ROWS) × (HasShape (threads - 1) start → ⊥)
+RowsCause items threads line pieces BadTable n = (rows : ℕ) × (before : Option Width) × (start : List Piece) ×
+    RowAt items threads line pieces rows n before start × (rows < MOST_ROWS) × (HasShape (threads - 1) start → ⊥)
 -- after 1024 rows a further row begins
-RowsCause items threads line pieces TooLarge n = (before : Option Width) × (start : List Piece) × RowAt items threads line pieces MOST_ROWS n before start
+RowsCause items threads line pieces TooLarge n =
+    (before : Option Width) × (start : List Piece) × RowAt items threads line pieces MOST_ROWS n before start
 -- after rows no line begins up to the end of the text, which is in line n
 RowsCause items threads line pieces CutShort n = (rows : ℕ) × (before : Option Width) × (above : List Piece)
-    × StandRows items threads pieces rows before above × ((start : List Piece) → Begins above start → ⊥) × Place line pieces n []
+    × StandRows items threads pieces rows before above × ((start : List Piece) → Begins above start → ⊥) ×
+    Place line pieces n []
 -- a cell is neither blank nor an instruction
-RowsCause items threads line pieces BadInstruction n = (t : ℕ) × (before : Option Width) × (here : List Piece) × CellAt items threads line pieces t n before here × (t < threads)
-    × ((rest : List Piece) → here ≢ Sign (end_of threads t) ∷ rest) × ((form : Form) (rest : List Piece) → IsForm here form (Sign (end_of threads t) ∷ rest) → ⊥)
+RowsCause items threads line pieces BadInstruction n = (t : ℕ) × (before : Option Width) × (here : List Piece) ×
+    CellAt items threads line pieces t n before here × (t < threads)
+    × ((rest : List Piece) → here ≢ Sign (end_of threads t) ∷ rest) × ((form : Form) (rest : List Piece) →
+    IsForm here form (Sign (end_of threads t) ∷ rest) → ⊥)
 -- an instruction has a number that is too large for its place
-RowsCause items threads line pieces ValueRange n = (t : ℕ) × (form : Form) × FormAt items threads line pieces t n form × TooGreat form
+RowsCause items threads line pieces ValueRange n =
+    (t : ℕ) × (form : Form) × FormAt items threads line pieces t n form × TooGreat form
 -- an instruction has another width than one before it, in line m
 RowsCause items threads line pieces MixedWidth n = (t s m : ℕ) × (form other : Form) × (own first : Width)
-    × (there : FormAt items threads line pieces s m other) × (here : FormAt items threads line pieces t n form) × Place m there.rest n here.here
+    × (there : FormAt items threads line pieces s m other) × (here : FormAt items threads line pieces t n form) ×
+    Place m there.rest n here.here
     × (width_of form ≡ Some own) × (width_of other ≡ Some first) × (first ≢ own)
 -- an instruction has a register as a value that the block sets to an address
-RowsCause items threads line pieces AddressAsValue n = (t r : ℕ) × (form : Form) × FormAt items threads line pieces t n form × HasValueIn form r × (is_there (address_of t r items) ≡ true)
+RowsCause items threads line pieces AddressAsValue n = (t r : ℕ) × (form : Form) × FormAt items threads line pieces t
+    n form × HasValueIn form r × (is_there (address_of t r items) ≡ true)
 -- an instruction has a register in parentheses that the block sets to no address
-RowsCause items threads line pieces ValueAsAddress n = (t r : ℕ) × (form : Form) × FormAt items threads line pieces t n form × HasAddressIn form r × (address_of t r items ≡ None)
+RowsCause items threads line pieces ValueAsAddress n = (t r : ℕ) × (form : Form) × FormAt items threads line pieces t
+    n form × HasAddressIn form r × (address_of t r items ≡ None)
 RowsCause items threads line pieces kind n = ⊥

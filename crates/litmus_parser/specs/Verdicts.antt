@@ -1,7 +1,8 @@
 -- What an instruction may say: its numbers, its width, its registers.
 use Rattle.std.specs.Prelude.{ℕ, nat_lt, Bool, true, false, if◌then◌else◌, List, Option, Some, None, Result, Ok}
 use Rattle.litmus_lexer.specs.declared.limits.TheConstants.{MOST_ORI, VALUE_BOUND}
-use Rattle.litmus_lexer.specs.declared.errors.Kind.TheVariants.{MixedWidth, ValueRange, AddressAsValue, ValueAsAddress}
+use Rattle.litmus_lexer.specs.declared.errors.Kind.TheVariants.{MixedWidth, ValueRange, AddressAsValue}
+use Rattle.litmus_lexer.specs.declared.errors.Kind.TheVariants.{ValueAsAddress}
 use Rattle.litmus_lexer.specs.declared.errors.LitmusError.{LitmusError}
 use Rattle.litmus_lexer.specs.Reading.{◌>>=◌, fails}
 use Rattle.litmus_parser.specs.Names.{address_of, is_there}
@@ -26,7 +27,8 @@ kept_at (Some first) own line = if same_width first own then Ok (Some first) els
 
 -- an address register holds no value
 unfoldable pub value_register_at : List Item → ℕ → ℕ → ℕ → Result ℕ LitmusError
-value_register_at items thread register line = if is_there (address_of thread register items) then fails AddressAsValue line else Ok register
+value_register_at items thread register line =
+    if is_there (address_of thread register items) then fails AddressAsValue line else Ok register
 
 abbrev pub or_no_address : Option ℕ → ℕ → Result ℕ LitmusError
 or_no_address (Some location) line = Ok location
@@ -55,7 +57,9 @@ judged_at items thread width (form.Swap own target source base) line = do
   b ← base_at items thread base line
   Ok (Swap d s b, w)
 judged_at items thread width (form.Li target value) line =
-    if nat_lt value VALUE_BOUND then (value_register_at items thread target line >>= λ d. Ok (Set d value, width)) else fails ValueRange line
+    if nat_lt value VALUE_BOUND then (value_register_at items thread target line >>= λ d. Ok (Set d value, width))
+    else fails ValueRange line
 judged_at items thread width (form.Ori target value) line =
-    if nat_lt MOST_ORI value then fails ValueRange line else (value_register_at items thread target line >>= λ d. Ok (Set d value, width))
+    if nat_lt MOST_ORI value then fails ValueRange line else (value_register_at items thread target line >>= λ d.
+    Ok (Set d value, width))
 judged_at items thread width form.Fence line = Ok (Fence, width)

@@ -3,7 +3,8 @@
 ghost use Rattle.std.specs.Prelude.{◌≡◌, ◌<◌, ◌+◌, ◌++◌, [], ◌∷◌, Ok, true};
 ghost use Rattle.litmus_lexer.specs.Reading.{Gives};
 ghost use Rattle.litmus_lexer.specs.Pieces.{pieces_of};
-ghost use Rattle.litmus_parser.specs.ReadingRows.{ends_line, has_shape, instruction_at, cell_at, column_at, columns_at, row_at};
+ghost use Rattle.litmus_parser.specs.ReadingRows.{ends_line, has_shape, instruction_at, cell_at, column_at};
+ghost use Rattle.litmus_parser.specs.ReadingRows.{columns_at, row_at};
 
 use crate::forms::read_form;
 use crate::instructions::judge;

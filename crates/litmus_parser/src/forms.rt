@@ -5,7 +5,8 @@ ghost use Rattle.std.specs.Str.{bytes_eq};
 ghost use Rattle.litmus_lexer.specs.Views.{view_read, view_position};
 ghost use Rattle.litmus_lexer.specs.Reading.{Gives};
 ghost use Rattle.litmus_parser.specs.Mnemonics.{mnemonic_of, swap_width, is_zero, is_fence_set};
-ghost use Rattle.litmus_parser.specs.ReadingForms.{register_at, based_at, offset_at, swapped_at, number_word_at, set_at, fence_at, li_at, ori_at, operands_at, form_at};
+ghost use Rattle.litmus_parser.specs.ReadingForms.{register_at, based_at, offset_at, swapped_at, number_word_at};
+ghost use Rattle.litmus_parser.specs.ReadingForms.{set_at, fence_at, li_at, ori_at, operands_at, form_at};
 
 use crate::syntax::Width;
 use litmus_lexer::{

@@ -13,7 +13,8 @@ use litmus_lexer::{
 #[tactic(auto, unfolding(crate::specs::ReadingHeader::first_line_at))]
 fn first_line<'a>(text: &'a [u8]) -> Result<(&'a [u8], HeaderLines<'a>), ReadError>
     requires { length text.now ≤ MOST_BYTES }
-    ensures read { Gives (λ r. (r.0.now, (r.1.line, r.1.rest.now))) result (first_line_at text.now) }
+    ensures read { Gives (λ r. (r.0.now, (r.1.line, r.1.rest.now))) result
+        (first_line_at text.now) }
     // It takes no memory.
     ensures sure { IfErr result (λ e. e ≢ Memory) }
 {

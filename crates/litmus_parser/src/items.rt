@@ -5,7 +5,8 @@ ghost use Rattle.std.specs.List.{list_any};
 ghost use Rattle.litmus_lexer.specs.Views.{view_read, view_as};
 ghost use Rattle.litmus_lexer.specs.Reading.{Gives};
 ghost use Rattle.litmus_parser.specs.Names.{same_name, address_of, is_there};
-ghost use Rattle.litmus_parser.specs.ReadingItems.{location_at, number_at, setting_at, register_item_at, location_item_at, item_at};
+ghost use Rattle.litmus_parser.specs.ReadingItems.{location_at, number_at, setting_at, register_item_at};
+ghost use Rattle.litmus_parser.specs.ReadingItems.{location_item_at, item_at};
 
 use crate::syntax::{Item, Name, Setting};
 use litmus_lexer::{

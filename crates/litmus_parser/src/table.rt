@@ -5,7 +5,8 @@ ghost use Rattle.litmus_lexer.specs.Views.{view_read, view_as};
 ghost use Rattle.litmus_lexer.specs.Reading.{Gives};
 ghost use Rattle.litmus_lexer.specs.Spelling.{thread_named};
 ghost use Rattle.litmus_parser.specs.Keywords.{quantifier_of};
-ghost use Rattle.litmus_parser.specs.ReadingTable.{is_absent, absent_line, separated, heading_at, headings_at, header_at, quantifier_next, next_row_at, table_at, rows_at};
+ghost use Rattle.litmus_parser.specs.ReadingTable.{is_absent, absent_line, separated, heading_at, headings_at};
+ghost use Rattle.litmus_parser.specs.ReadingTable.{header_at, quantifier_next, next_row_at, table_at, rows_at};
 
 use crate::cells::row;
 use crate::forms::is;

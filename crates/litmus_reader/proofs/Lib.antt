@@ -1,8 +1,8 @@
 mod Found
 mod SeenNames
 mod Sizes
-mod FoundAgain
+mod Only
 mod FaultParts
-mod ReadExplains
+mod Fault
 mod OpeningItems
 pub mod Lemmas

@@ -1,5 +1,6 @@
 -- The truth of an expression over the values of the names that it names.
-use Rattle.std.proofs.Common.{◌≡◌, ℕ, Bool, true, false, cond, eqb, ◌||◌, ◌&&◌, List, [], ◌∷◌, ◌++◌, map, refl, sym, ap, subst, ◌∙◌, inl, inr}
+use Rattle.std.proofs.Common.{◌≡◌, ℕ, Bool, true, false, cond, eqb, ◌||◌, ◌&&◌, List, [], ◌∷◌, ◌++◌, map, refl, sym}
+use Rattle.std.proofs.Common.{ap, subst, ◌∙◌, inl, inr}
 use Rattle.std.specs.List.{list_any}
 use Rattle.std.proofs.lemmas.Bool.{cases_Bool, eqb-true, eq-eqb, and_parts, or_cases}
 use Rattle.litmus_parser.specs.Names.{same_name}
@@ -10,7 +11,8 @@ use Rattle.litmus_reader.specs.Seen.{with_name, seen_in}
 use Rattle.litmus_reader.specs.Truth.{value_of, holds}
 
 same-is : (a b : Name) → same_name a b ≡ true → a ≡ b
-same-is (Register s q) (Register t r) e = let p = and_parts (eqb s t) (eqb q r) e in ap (λ (x : ℕ). Register x q) (eqb-true s t p.0) ∙ ap (λ (x : ℕ). Register t x) (eqb-true q r p.1)
+same-is (Register s q) (Register t r) e = let p = and_parts (eqb s t) (eqb q r) e in
+    ap (λ (x : ℕ). Register x q) (eqb-true s t p.0) ∙ ap (λ (x : ℕ). Register t x) (eqb-true q r p.1)
 same-is (Location l) (Location m) e = ap (λ (x : ℕ). Location x) (eqb-true l m e)
 same-is (Register s q) (Location m) e = absurd cc
 same-is (Location l) (Register t r) e = absurd cc
@@ -38,12 +40,14 @@ in-front name [] ys h = absurd cc
 in-front name (x ∷ xs) ys h =
     elim (or_cases (same_name x name) (list_any (λ other. same_name other name) xs) h) [
       | inl e ↦ or-left (same_name x name) (list_any (λ other. same_name other name) (xs ++ ys)) e
-      | inr e ↦ or-right (same_name x name) (list_any (λ other. same_name other name) (xs ++ ys)) (in-front name xs ys e)
+      | inr e ↦ or-right (same_name x name) (list_any (λ other. same_name other name) (xs ++ ys))
+          (in-front name xs ys e)
     ]
 
 at-end : (name : Name) (xs : List Name) → IsIn name (xs ++ name ∷ [])
 at-end name [] = or-left (same_name name name) false (is-same name)
-at-end name (x ∷ xs) = or-right (same_name x name) (list_any (λ other. same_name other name) (xs ++ name ∷ [])) (at-end name xs)
+at-end name (x ∷ xs) =
+    or-right (same_name x name) (list_any (λ other. same_name other name) (xs ++ name ∷ [])) (at-end name xs)
 
 stays_in : (name other : Name) (names : List Name) → IsIn name names → IsIn name (with_name names other)
 stays_in name other names h =
@@ -88,7 +92,8 @@ not-first : (a b : Bool) → (a || b) ≡ true → a ≡ false → b ≡ true
 not-first true b h e = absurd cc
 not-first false b h e = h
 
-value-there : (f : Name → ℕ) (names : List Name) (name : Name) → IsIn name names → value_of names (map f names) name ≡ f name
+value-there : (f : Name → ℕ) (names : List Name) (name : Name) → IsIn name names →
+    value_of names (map f names) name ≡ f name
 unfolding value_of
 value-there f [] name h = absurd cc
 value-there f (other ∷ names) name h =
@@ -96,11 +101,13 @@ value-there f (other ∷ names) name h =
     (λ e. ap f (same-is other name e))
     (λ e. value-there f names name (not-first (same_name other name) (list_any (λ o. same_name o name) names) h e))
 
-same-truth : (f : Name → ℕ) (names : List Name) (tree : Tree) → AllIn tree names → holds (value_of names (map f names)) tree ≡ holds f tree
+same-truth : (f : Name → ℕ) (names : List Name) (tree : Tree) → AllIn tree names →
+    holds (value_of names (map f names)) tree ≡ holds f tree
 same-truth f names (Is name value) h = ap (λ (n : ℕ). eqb n value) (value-there f names name h)
 same-truth f names (Both a b) h = rw (same-truth f names a h.0, same-truth f names b h.1) refl
 same-truth f names (Either a b) h = rw (same-truth f names a h.0, same-truth f names b h.1) refl
 
 -- over the names of a tree, the truth by their values is the truth
-pub truth-is : (f : Name → ℕ) (names : List Name) (tree : Tree) → names ≡ seen_in tree [] → holds (value_of names (map f names)) tree ≡ holds f tree
+pub truth-is : (f : Name → ℕ) (names : List Name) (tree : Tree) → names ≡ seen_in tree [] →
+    holds (value_of names (map f names)) tree ≡ holds f tree
 truth-is f names tree e = same-truth f names tree (subst (AllIn tree) (sym e) (all-in tree []))

@@ -12,6 +12,7 @@ headings-few : {t threads : ℕ} {ps rest : List Piece} → AreHeadings t ps thr
 headings-few (last named few end) = (omega arith, omega (arith, few))
 headings-few (more named few rest) = let h = headings-few rest in (omega (arith, h.0), h.1)
 
-pub threads-few : (text : List ℕ) (r : Result Test LitmusError) → IfOk r (λ test. IsTest text (test_of test)) → IfOk r (λ test. (0 < (test_of test).threads) × ((test_of test).threads ≤ 16))
+pub threads-few : (text : List ℕ) (r : Result Test LitmusError) → IfOk r (λ test. IsTest text (test_of test)) →
+    IfOk r (λ test. (0 < (test_of test).threads) × ((test_of test).threads ≤ 16))
 threads-few text (Ok test) h = headings-few h.header_row.2
 threads-few text (Err e) h = tt

@@ -28,7 +28,8 @@ use Rattle.litmus_reader.specs.Grammar.{IsThere, IsTest}
 -- header lines, one after the other, lead from a line, where the text goes on, to line n, where the body does
 pub data AreHeaderLines : ℕ → List ℕ → ℕ → List ℕ → Type 0 where
   none : {line : ℕ} {text : List ℕ} → AreHeaderLines line text line text
-  more : {line n : ℕ} {text body : List ℕ} → 0 < length text → is_header_line (before_line_feed text) ≡ true → AreHeaderLines (line + 1) (behind_line_feed text) n body → AreHeaderLines line text n body
+  more : {line n : ℕ} {text body : List ℕ} → 0 < length text → is_header_line (before_line_feed text) ≡ true →
+      AreHeaderLines (line + 1) (behind_line_feed text) n body → AreHeaderLines line text n body
 
 -- the first line names the test, and header lines lead to line n
 pub record IsHeaded (text : List ℕ) (n : ℕ) (body : List ℕ) : Type 0 where
@@ -50,7 +51,8 @@ pub record HasBlock (text : List ℕ) (items : List Item) (names : Names) (n : �
   pub place : Place first (pieces_of body) n rest
 
 -- then the header row leads to line n
-pub record HasHeaderRow (text : List ℕ) (items : List Item) (names : Names) (threads n : ℕ) (rest : List Piece) : Type 0 where
+pub record HasHeaderRow (text : List ℕ) (items : List Item) (names : Names) (threads n : ℕ)
+    (rest : List Piece) : Type 0 where
   pub first : ℕ
   pub pieces : List Piece
   pub block : HasBlock text items names first pieces
@@ -58,7 +60,8 @@ pub record HasHeaderRow (text : List ℕ) (items : List Item) (names : Names) (t
   pub place : Place first pieces n rest
 
 -- every item is of a thread that the header row names; then rows lead to line n, where a keyword stands
-pub record HasRows (text : List ℕ) (items : List Item) (names : Names) (threads n : ℕ) (rest : List Piece) : Type 0 where
+pub record HasRows (text : List ℕ) (items : List Item) (names : Names) (threads n : ℕ)
+    (rest : List Piece) : Type 0 where
   pub first : ℕ
   pub pieces : List Piece
   pub cells : List Cell
@@ -86,9 +89,12 @@ pub data FaultBefore (text : List ℕ) : Kind → ℕ → Type 0 where
   -- there is nothing
   empty : text ≡ [] → FaultBefore text CutShort 1
   -- the first line
-  first_line : 0 < length text → ((name : List ℕ) → IsTitle (before_line_feed text) name → ⊥) → FaultBefore text BadHeader 1
+  first_line : 0 < length text → ((name : List ℕ) → IsTitle (before_line_feed text) name → ⊥) →
+      FaultBefore text BadHeader 1
   -- a line that is no header line, and doesn't begin the initial block
-  header_line : {n : ℕ} {body : List ℕ} → IsHeaded text n body → 0 < length body → is_header_line (before_line_feed body) ≡ false → begins_block (before_line_feed body) ≡ false → FaultBefore text BadHeader n
+  header_line : {n : ℕ} {body : List ℕ} → IsHeaded text n body → 0 < length body →
+      is_header_line (before_line_feed body) ≡ false → begins_block (before_line_feed body) ≡ false →
+      FaultBefore text BadHeader n
   -- nothing stands after the header lines
   header_ends : {n : ℕ} → IsHeaded text n [] → FaultBefore text CutShort n
 
@@ -96,14 +102,22 @@ pub data FaultBefore (text : List ℕ) : Kind → ℕ → Type 0 where
 pub data FaultIn (text : List ℕ) : Kind → ℕ → Type 0 where
   above : {kind : Kind} {n : ℕ} → FaultBefore text kind n → FaultIn text kind n
   block : {kind : Kind} {first n : ℕ} {body : List ℕ} → OpensBlock text first body
-      → ((items : List Item) (names : Names) (rest : List Piece) → IsBlock (pieces_of body) items names rest → ⊥) → BlockCause first (pieces_of body) kind n → FaultIn text kind n
-  header_row : {kind : Kind} {items : List Item} {names : Names} {first n : ℕ} {pieces : List Piece} → HasBlock text items names first pieces
-      → ((threads : ℕ) (rest : List Piece) → IsHeaderRow pieces threads rest → ⊥) → HeaderCause first pieces kind n → FaultIn text kind n
-  absent_thread : {items : List Item} {names : Names} {threads first n : ℕ} {pieces : List Piece} → HasHeaderRow text items names threads first pieces → HasAbsentThread items threads n → FaultIn text BadInitial n
-  rows : {kind : Kind} {items : List Item} {names : Names} {threads first n : ℕ} {pieces : List Piece} → HasHeaderRow text items names threads first pieces → AllByRecursion (λ item. IsThere threads item.name) items
-      → ((cells : List Cell) (rest : List Piece) → AreRows items threads 0 pieces None cells rest → BeginsCondition rest → ⊥) → RowsCause items threads first pieces kind n → FaultIn text kind n
-  condition : {kind : Kind} {items : List Item} {names : Names} {threads first n : ℕ} {pieces : List Piece} → HasRows text items names threads first pieces
-      → ((quantifier : Quantifier) (tree : Tree) (after : Names) → IsCondition items threads pieces names quantifier tree after → ⊥) → ConditionCause items threads names first pieces kind n → FaultIn text kind n
+      → ((items : List Item) (names : Names) (rest : List Piece) → IsBlock (pieces_of body) items names rest → ⊥) →
+      BlockCause first (pieces_of body) kind n → FaultIn text kind n
+  header_row : {kind : Kind} {items : List Item} {names : Names} {first n : ℕ} {pieces : List Piece} →
+      HasBlock text items names first pieces
+      → ((threads : ℕ) (rest : List Piece) → IsHeaderRow pieces threads rest → ⊥) → HeaderCause first pieces kind n →
+      FaultIn text kind n
+  absent_thread : {items : List Item} {names : Names} {threads first n : ℕ} {pieces : List Piece} →
+      HasHeaderRow text items names threads first pieces → HasAbsentThread items threads n → FaultIn text BadInitial n
+  rows : {kind : Kind} {items : List Item} {names : Names} {threads first n : ℕ} {pieces : List Piece} →
+      HasHeaderRow text items names threads first pieces → AllByRecursion (λ item. IsThere threads item.name) items
+      → ((cells : List Cell) (rest : List Piece) → AreRows items threads 0 pieces None cells rest →
+      BeginsCondition rest → ⊥) → RowsCause items threads first pieces kind n → FaultIn text kind n
+  condition : {kind : Kind} {items : List Item} {names : Names} {threads first n : ℕ} {pieces : List Piece} →
+      HasRows text items names threads first pieces
+      → ((quantifier : Quantifier) (tree : Tree) (after : Names) → IsCondition items threads pieces names quantifier
+      tree after → ⊥) → ConditionCause items threads names first pieces kind n → FaultIn text kind n
 
 -- the lines before the one with the first byte that isn't allowed, or the whole text if there is none
 abbrev pub good_lines : List ℕ → List ℕ
@@ -118,8 +132,11 @@ pub data Fault (text : List ℕ) : Kind → ℕ → Type 0 where
   -- the text is longer than 65536 bytes
   too_large : MOST_BYTES < length text → Fault text TooLarge 1
   -- a part of its good lines has a fault
-  in_part : {kind : Kind} {n : ℕ} → length text ≤ MOST_BYTES → FaultIn (good_lines text) kind n → kind ≢ CutShort → Fault text kind n
+  in_part : {kind : Kind} {n : ℕ} → length text ≤ MOST_BYTES → FaultIn (good_lines text) kind n →
+      kind ≢ CutShort → Fault text kind n
   -- a byte isn't allowed; the first such one stands in this line, and the lines before it have no fault of their own
-  bad_byte : length text ≤ MOST_BYTES → list_all is_allowed text ≡ false → GoesOn (good_lines text) → Fault text BadByte (1 + line_feeds (good text))
+  bad_byte : length text ≤ MOST_BYTES → list_all is_allowed text ≡ false → GoesOn (good_lines text) →
+      Fault text BadByte (1 + line_feeds (good text))
   -- every byte is allowed, but they end too early; the line is the last
-  cut_short : {n : ℕ} → length text ≤ MOST_BYTES → list_all is_allowed text ≡ true → FaultIn text CutShort n → Fault text CutShort (1 + inner_line_feeds text)
+  cut_short : {n : ℕ} → length text ≤ MOST_BYTES → list_all is_allowed text ≡ true → FaultIn text CutShort n →
+      Fault text CutShort (1 + inner_line_feeds text)

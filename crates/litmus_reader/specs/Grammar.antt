@@ -18,7 +18,8 @@ use Rattle.litmus_reader.specs.Seen.{seen_in}
 -- header lines, and then a body of which the first line begins with {
 pub data IsHeader : List ℕ → List ℕ → Type 0 where
   ends : {text : List ℕ} → begins_block (before_line_feed text) ≡ true → IsHeader text text
-  more : {text body : List ℕ} → is_header_line (before_line_feed text) ≡ true → IsHeader (behind_line_feed text) body → IsHeader text body
+  more : {text body : List ℕ} → is_header_line (before_line_feed text) ≡ true → IsHeader (behind_line_feed text)
+      body → IsHeader text body
 
 -- a register is one of a thread that is there
 abbrev pub IsThere : ℕ → Name → Type 0

@@ -1,5 +1,6 @@
 -- Reading a whole text, with its first fault.
-use Rattle.std.specs.Prelude.{◌≡◌, ℕ, ◌⊎◌, nat_lt, Bool, true, false, if◌then◌else◌, List, [], length, Option, Some, None, Result, Ok, Err}
+use Rattle.std.specs.Prelude.{◌≡◌, ℕ, ◌⊎◌, nat_lt, Bool, true, false, if◌then◌else◌, List, [], length, Option, Some}
+use Rattle.std.specs.Prelude.{None, Result, Ok, Err}
 use Rattle.litmus_lexer.specs.declared.limits.TheConstants.{MOST_BYTES}
 use Rattle.litmus_lexer.specs.Pieces.{Piece, pieces_of}
 use Rattle.litmus_lexer.specs.declared.errors.Kind.{Kind}
@@ -32,7 +33,17 @@ parts_at text = do
   b ← block_at [] o.1.0 (pieces_of o.1.1)
   t ← table_at b.0 b.2 b.3
   c ← condition_at b.0 t.0 b.1 t.2 t.3
-  Ok (record { name = o.0; locations = c.2; items = settings_of b.0; threads = t.0; cells = t.1; quantifier = c.0; tree = c.1; seen = seen_in c.1 [] })
+  Ok (record {
+    name = o.0;
+    locations = c.2;
+    items = settings_of b.0;
+    threads = t.0;
+    cells = t.1;
+    quantifier =
+        c.0;
+    tree = c.1;
+    seen = seen_in c.1 [];
+  })
 
 abbrev pub is_cut_short : Kind → Bool
 is_cut_short CutShort = true
@@ -44,7 +55,8 @@ ended_by end (Ok test) = if is_cut_short end.kind then Ok test else Err end
 ended_by end (Err fault) = if is_cut_short fault.kind then Err end else Err fault
 
 unfoldable pub read_at : List ℕ → Result Litmus LitmusError
-read_at text = if nat_lt MOST_BYTES (length text) then fails TooLarge 1 else ended_by (reach text).1 (parts_at (reach text).0)
+read_at text = if nat_lt MOST_BYTES (length text) then fails TooLarge 1 else ended_by (reach text).1
+    (parts_at (reach text).0)
 
 -- what a function answered, seen by view, is what is read, unless memory ran out
 abbrev pub Told : {X : Type 0} → (X → Litmus) → Result X LitmusError → Result Litmus LitmusError → Type 0

@@ -1,5 +1,6 @@
 -- The threads of a litmus test: registers, and the instructions that are left.
-use Rattle.std.specs.Prelude.{ℕ, ◌==◌, ◌&&◌, nat_lt, if◌then◌else◌, List, [], ◌∷◌, Option, Some, None, slice_get, slice_set}
+use Rattle.std.specs.Prelude.{ℕ, ◌==◌, ◌&&◌, nat_lt, if◌then◌else◌, List, [], ◌∷◌, Option, Some, None, slice_get}
+use Rattle.std.specs.Prelude.{slice_set}
 use Rattle.litmus_parser.specs.declared.syntax.Name.{Name}
 use Rattle.litmus_parser.specs.declared.syntax.Name.TheVariants.{Register, Location}
 use Rattle.litmus_parser.specs.declared.syntax.Setting.{Setting}
@@ -25,7 +26,8 @@ value_in registers register = or_zero (slice_get registers register)
 
 -- writes to x0 are ignored
 abbrev pub written : List ℕ → ℕ → ℕ → List ℕ
-written registers register value = if nat_lt 0 register && nat_lt register 32 then slice_set registers register value else registers
+written registers register value =
+    if nat_lt 0 register && nat_lt register 32 then slice_set registers register value else registers
 
 -- an instruction that the thread does without memory: what its registers are then
 abbrev pub after_local : Instruction → List ℕ → Option (List ℕ)
@@ -44,11 +46,13 @@ unfoldable pub settled : ℕ → List ℕ → List Cell → Thread
 settled thread registers [] = record { thread = thread; registers = registers; rest = [] }
 settled thread registers (cell ∷ rest) =
     if cell.thread == thread
-    then goes_on (after_local cell.instruction registers) (λ registers. settled thread registers rest) (record { thread = thread; registers = registers; rest = cell ∷ rest })
+    then goes_on (after_local cell.instruction registers) (λ registers. settled thread registers rest)
+    (record { thread = thread; registers = registers; rest = cell ∷ rest })
     else settled thread registers rest
 
 abbrev pub with_item : ℕ → Name → Setting → List ℕ → List ℕ
-with_item thread (Register owner register) (Number value) registers = if owner == thread then written registers register value else registers
+with_item thread (Register owner register) (Number value) registers =
+    if owner == thread then written registers register value else registers
 with_item thread (Register owner register) (Address l) registers = registers
 with_item thread (Location l) (Number value) registers = registers
 with_item thread (Location l) (Address m) registers = registers
@@ -84,7 +88,8 @@ received_by does.Fence (Some value) registers = registers
 
 abbrev pub behind_first : ℕ → List ℕ → Option ℕ → List Cell → Thread
 behind_first thread registers received [] = record { thread = thread; registers = registers; rest = [] }
-behind_first thread registers received (cell ∷ rest) = settled thread (received_by cell.instruction received registers) rest
+behind_first thread registers received (cell ∷ rest) =
+    settled thread (received_by cell.instruction received registers) rest
 
 -- a thread whose next operation is done, with the value that it received
 abbrev pub done_with : Thread → Option ℕ → Thread

@@ -2,7 +2,8 @@
 
 ghost use Rattle.std.specs.Prelude.{◌≡◌, ℕ, List, Some, replicate};
 ghost use Rattle.litmus_reader.specs.Litmus.{settings_of};
-ghost use Rattle.litmus_reader.specs.ThreadSteps.{Thread, value_in, written, settled, opened, next_of, done_with, received_by};
+ghost use Rattle.litmus_reader.specs.ThreadSteps.{Thread, value_in, written, settled, opened, next_of, done_with};
+ghost use Rattle.litmus_reader.specs.ThreadSteps.{received_by};
 
 use litmus_parser::{Cell, Instruction, Item, Name, Setting};
 use physiological_order::{Op, WordAddr};

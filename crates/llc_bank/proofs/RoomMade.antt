@@ -1,5 +1,6 @@
 -- The line that makes room is in the same set, and can be evicted.
-use Rattle.std.proofs.Common.{◌≡◌, ℕ, ◌||◌, ◌&&◌, ◌==◌, Bool, true, false, not, cond, List, [], ◌∷◌, Option, Some, None, refl, sym, ap, ◌∙◌, IfSome, IsOk}
+use Rattle.std.proofs.Common.{◌≡◌, ℕ, ◌||◌, ◌&&◌, ◌==◌, Bool, true, false, not, cond, List, [], ◌∷◌, Option, Some}
+use Rattle.std.proofs.Common.{None, refl, sym, ap, ◌∙◌, IfSome, IsOk}
 use Rattle.std.specs.Option.{is_some, option_map}
 use Rattle.std.specs.List as list
 use Rattle.std.proofs.lemmas.Bool.{cond-true, eq-eqb}
@@ -10,7 +11,8 @@ use Rattle.llc_bank.specs.declared.entry.Entry.TheVariants.{Loading, Shared, Exc
 use Rattle.llc_bank.specs.Settled.{is_settled, is_shared}
 use Rattle.llc_bank.specs.OnEntry.{evicted}
 use Rattle.llc_bank.specs.OwnSets.{IsSound}
-use Rattle.llc_bank.specs.BankTable.{BankState, after_eviction, all_settled, chosen, entry_of, evict, first_of, make_room, or_else, set_of}
+use Rattle.llc_bank.specs.BankTable.{BankState, after_eviction, all_settled, chosen, entry_of, evict, first_of}
+use Rattle.llc_bank.specs.BankTable.{make_room, or_else, set_of}
 
 -- the entry that is found first is there
 there-later :
@@ -100,13 +102,16 @@ makes-room :
     MakesRoom bank line victim
 makes-room bank line victim sound e =
     let entries : List (ℕ × Entry) = set_at bank.table.sets (set_of bank line) in
-    let parts : ((is_some (entry_of bank line) || has_room bank.table (set_of bank line) || not (all_settled entries)) ≡ false) × (chosen entries ≡ Some victim) = not-passed _ _ victim e in
-    let settled : all_settled entries ≡ true = last-false (is_some (entry_of bank line)) (has_room bank.table (set_of bank line)) (all_settled entries) parts.0 in
+    let parts : ((is_some (entry_of bank line) || has_room bank.table (set_of bank line) || not (all_settled entries))
+    ≡ false) × (chosen entries ≡ Some victim) = not-passed _ _ victim e in
+    let settled : all_settled entries ≡ true = last-false (is_some (entry_of bank line))
+    (has_room bank.table (set_of bank line)) (all_settled entries) parts.0 in
     let there : is_there entries victim ≡ true = chosen-there entries _ _ victim refl refl parts.1 in
     let same : set_of bank victim ≡ set_of bank line = sound.own_sets (set_of bank line) victim there in
     record {
       same_set = same;
-      evicted = there-evicted bank victim (entry_of bank victim) refl (rw same there) (λ entry h. settled-found entries victim entry settled (rw (← same) h));
+      evicted = there-evicted bank victim (entry_of bank victim) refl (rw same there)
+          (λ entry h. settled-found entries victim entry settled (rw (← same) h));
     }
 
 pub in-same-set :

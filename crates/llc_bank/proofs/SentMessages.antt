@@ -1,9 +1,12 @@
 -- What a bank sends, by what it decides.
-use Rattle.std.proofs.Common.{◌≡◌, ℕ, ◌+◌, ◌<◌, ◌/◌, Bool, true, false, cond, List, length, Option, Some, None, refl, sym, ap, ◌∙◌}
+use Rattle.std.proofs.Common.{◌≡◌, ℕ, ◌+◌, ◌<◌, ◌/◌, Bool, true, false, cond, List, length, Option, Some, None, refl}
+use Rattle.std.proofs.Common.{sym, ap, ◌∙◌}
 use Rattle.std.specs.Option.{is_some}
 use Rattle.network.specs.declared.message.TimedLine.{TimedLine}
 use Rattle.network.specs.declared.message.Body.{Body}
-use Rattle.network.specs.declared.message.Body.TheVariants.{ShReq, ExReq, ShRep, ExRep, RenewRep, UpgradeRep, FlushReq, WbReq, FlushRep, WbRep, DramLd, DramLdRep, DramSt, DramStRep}
+use Rattle.network.specs.declared.message.Body.TheVariants.{ShReq, ExReq, ShRep, ExRep, RenewRep, UpgradeRep}
+use Rattle.network.specs.declared.message.Body.TheVariants.{FlushReq, WbReq, FlushRep, WbRep, DramLd, DramLdRep}
+use Rattle.network.specs.declared.message.Body.TheVariants.{DramSt, DramStRep}
 use Rattle.network.specs.declared.message.Message.{Message}
 use Rattle.network.specs.declared.part.Reaction.{Reaction}
 use Rattle.network.specs.declared.part.Reaction.TheVariants.{Done, Dropped, Held}
@@ -12,9 +15,12 @@ use Rattle.line_sets.proofs.Lemmas.{look-put_same, look-put_within_same, length-
 use Rattle.llc_bank.specs.declared.entry.Entry.{Entry}
 use Rattle.llc_bank.specs.declared.entry.Entry.TheVariants.{Loading, Shared, Exclusive, Recalling, Storing}
 use Rattle.llc_bank.specs.declared.decision.Decision.{Decision}
-use Rattle.llc_bank.specs.declared.decision.Decision.TheVariants.{Waits, Loads, Recalls, Grants, Becomes, Leaves, TooLate, NoCase}
-use Rattle.llc_bank.specs.OnEntry.{asked_back, at_bank, exclusive_request, filled, given_back, leased, loaded, read_answer, shared_request, stored}
-use Rattle.llc_bank.specs.BankTable.{BankState, after_decision, decided, from_bank, with_used, with_changed, entry_of, set_of}
+use Rattle.llc_bank.specs.declared.decision.Decision.TheVariants.{Waits, Loads, Recalls, Grants, Becomes, Leaves}
+use Rattle.llc_bank.specs.declared.decision.Decision.TheVariants.{TooLate, NoCase}
+use Rattle.llc_bank.specs.OnEntry.{asked_back, at_bank, exclusive_request, filled, given_back, leased, loaded}
+use Rattle.llc_bank.specs.OnEntry.{read_answer, shared_request, stored}
+use Rattle.llc_bank.specs.BankTable.{BankState, after_decision, decided, from_bank, with_used, with_changed, entry_of}
+use Rattle.llc_bank.specs.BankTable.{set_of}
 use Rattle.llc_bank.specs.BankLaws.{Sends, has_shared, is_grant, is_load, message_of}
 use Rattle.llc_bank.proofs.Sound.{below}
 
@@ -77,7 +83,8 @@ pub sends-by :
 sends-by bank after m sent s = sent-by bank after m sent (decided bank m) s.reaction s.case s.message
 
 -- where a load or a grant is sent
-pub record Sending (bank : BankState) (m sent : Message) (after : BankState) (core : ℕ) (entry : Option Entry) : Type 0 where
+pub record Sending (bank : BankState) (m sent : Message) (after : BankState) (core : ℕ)
+    (entry : Option Entry) : Type 0 where
   pub load : is_load sent.body ≡ true → entry ≡ None
   pub grant :
       is_grant sent.body ≡ true →
@@ -114,10 +121,12 @@ not_load-grant true line = refl
 not_load-grant false line = refl
 
 leased-sending :
-    (bank after : BankState) (m sent : Message) (core : ℕ) (entry : Option Entry) (dirty : Bool) (line : TimedLine) (lease : Option (ℕ × Bool)) →
+    (bank after : BankState) (m sent : Message) (core : ℕ) (entry : Option Entry) (dirty : Bool) (line : TimedLine)
+    (lease : Option (ℕ × Bool)) →
     SentBy bank m sent after (leased dirty line lease) → Sending bank m sent after core entry
 leased-sending bank after m sent core entry dirty line None s = absurd s
-leased-sending bank after m sent core entry dirty line (Some lease) s = other_body bank after m sent core entry _ (ap (λ x. x.body) s.0) (not_load-read lease.1 _) (not_grant-read lease.1 _)
+leased-sending bank after m sent core entry dirty line (Some lease) s = other_body bank after m sent core entry _
+    (ap (λ x. x.body) s.0) (not_load-read lease.1 _) (not_grant-read lease.1 _)
 
 asked-sending :
     (bank after : BankState) (m sent : Message) (core : ℕ) (entry : Option Entry) (owner : ℕ) (until : Option ℕ) →
@@ -127,7 +136,8 @@ asked-sending bank after m sent core entry owner (Some until) s =
     other_body bank after m sent core entry (WbReq until) s refl refl
 
 shared-sending :
-    (bank after : BankState) (m sent : Message) (core lease : ℕ) (room : Bool) (pts : ℕ) (version : Option ℕ) (entry : Option Entry) →
+    (bank after : BankState) (m sent : Message) (core lease : ℕ) (room : Bool) (pts : ℕ) (version : Option ℕ)
+    (entry : Option Entry) →
     SentBy bank m sent after (shared_request lease room pts version entry) → Sending bank m sent after core entry
 shared-sending bank after m sent core lease room pts version None s = loaded-sending bank after m sent core room s
 shared-sending bank after m sent core lease room pts version (Some Loading) s = absurd s
@@ -144,9 +154,11 @@ exclusive-sending :
 exclusive-sending bank after m sent core room version None s = loaded-sending bank after m sent core room s
 exclusive-sending bank after m sent core room version (Some Loading) s = absurd s
 exclusive-sending bank after m sent core room version (Some (Shared dirty line)) s =
-    let b : sent.body ≡ cond (is_version line.wts version) (UpgradeRep line.rts) (ExRep line) = ap (λ x. x.body) s.0 in
+    let b : sent.body ≡ cond (is_version line.wts version) (UpgradeRep line.rts) (ExRep line) =
+    ap (λ x. x.body) s.0 in
     record {
-      load = λ h. absurd (let z : false ≡ true = sym (not_load-grant (is_version line.wts version) line) ∙ sym (ap is_load b) ∙ h in cc);
+      load = λ h. absurd (let z : false ≡ true = sym (not_load-grant (is_version line.wts version) line)
+          ∙ sym (ap is_load b) ∙ h in cc);
       grant = λ h. (refl, (s.0 ∙ ap (λ x. from_bank bank m.line m.from x) (sym b), s.1));
     }
 exclusive-sending bank after m sent core room version (Some (Exclusive owner)) s =
@@ -185,7 +197,8 @@ stored-silent bank after m sent (Some (Recalling owner)) s = s
 stored-silent bank after m sent (Some Storing) s = s
 
 pub sending-at :
-    (bank after : BankState) (m sent : Message) (lease mts : ℕ) (room : Bool) (core : ℕ) (entry : Option Entry) (body : Body) →
+    (bank after : BankState) (m sent : Message) (lease mts : ℕ) (room : Bool) (core : ℕ)
+    (entry : Option Entry) (body : Body) →
     SentBy bank m sent after (at_bank lease mts room core entry body) → Sending bank m sent after core entry
 sending-at bank after m sent lease mts room core entry (ShReq pts version) s =
     shared-sending bank after m sent core lease room pts version entry s
@@ -211,9 +224,13 @@ sending-at bank after m sent lease mts room core entry (DramSt words) s = absurd
 pub entry-used :
     (bank : BankState) (line : ℕ) (entry : Entry) → 0 < length bank.table.sets →
     entry_of (with_used bank line entry) line ≡ Some entry
-entry-used bank line entry h = rw (length-put bank.table.sets (set_of bank line) line entry) (look-put_same bank.table.sets (set_of bank line) line entry (below (line / bank.banks) (length bank.table.sets) h))
+entry-used bank line entry h = rw (length-put bank.table.sets (set_of bank line) line entry)
+    (look-put_same bank.table.sets (set_of bank line) line entry
+    (below (line / bank.banks) (length bank.table.sets) h))
 
 pub entry-changed :
     (bank : BankState) (line : ℕ) (old entry : Entry) → 0 < length bank.table.sets → entry_of bank line ≡ Some old →
     entry_of (with_changed bank line entry) line ≡ Some entry
-entry-changed bank line old entry h there = rw (length-put_within bank.table.sets (set_of bank line) line entry) (look-put_within_same bank.table.sets (set_of bank line) line entry (below (line / bank.banks) (length bank.table.sets) h) (ap is_some there))
+entry-changed bank line old entry h there = rw (length-put_within bank.table.sets (set_of bank line) line entry)
+    (look-put_within_same bank.table.sets (set_of bank line) line entry
+    (below (line / bank.banks) (length bank.table.sets) h) (ap is_some there))

@@ -1,5 +1,6 @@
 -- What a bank keeps when an entry is put, changed or taken out.
-use Rattle.std.proofs.Common.{◌≡◌, ◌≢◌, ℕ, zero, suc, ◌<◌, ◌/◌, ◌%◌, true, false, List, [], length, replicate, refl, sym, ap, ◌∙◌, arith, ⊎_elim}
+use Rattle.std.proofs.Common.{◌≡◌, ◌≢◌, ℕ, zero, suc, ◌<◌, ◌/◌, ◌%◌, true, false, List, [], length, replicate, refl}
+use Rattle.std.proofs.Common.{sym, ap, ◌∙◌, arith, ⊎_elim}
 use Rattle.std.specs.Option.{is_some}
 use Rattle.std.proofs.lemmas.List.{length-replicate}
 use Rattle.std.proofs.lemmas.Bool.{cases_eq}
@@ -19,7 +20,8 @@ own :
     ((k j : ℕ) → k ≢ (line / banks) % length sets → look new k j ≡ look sets k j) → InOwnSets banks sets →
     InOwnSets banks new
 own banks sets new line len others other_sets h = λ k j there.
-    let as_before : look new k j ≡ look sets k j → (j / banks) % length new ≡ k = λ same. rw len (h k j (sym (ap is_some same) ∙ there)) in
+    let as_before : look new k j ≡ look sets k j → (j / banks) % length new ≡ k =
+    λ same. rw len (h k j (sym (ap is_some same) ∙ there)) in
     ⊎_elim
     (λ (e : j ≡ line).
     ⊎_elim
@@ -57,7 +59,8 @@ pub sound-put_within :
 sound-put_within banks table new set line entry sound is e =
     let home : ℕ = (line / banks) % length table.sets in
     let i : home < length table.sets = below (line / banks) (length table.sets) sound.some_sets in
-    let len : length (put_within table.sets home line entry) ≡ length table.sets = length-put_within table.sets home line entry in
+    let len : length (put_within table.sets home line entry) ≡ length table.sets =
+    length-put_within table.sets home line entry in
     rw (e, is) (record {
       some_banks = sound.some_banks;
       some_sets = rw len sound.some_sets;
@@ -100,7 +103,8 @@ sound-empty banks new sets ways b s w e =
       some_banks = b;
       some_sets = rw (length-replicate {A = List (ℕ × Entry)} sets []) s;
       some_ways = w;
-      own_sets = λ k j there. absurd (let z : false ≡ true = sym (ap (λ (ps : List (ℕ × Entry)). is_there ps j) (empty_at sets k)) ∙ there in cc);
+      own_sets = λ k j there. absurd (let z : false ≡ true =
+          sym (ap (λ (ps : List (ℕ × Entry)). is_there ps j) (empty_at sets k)) ∙ there in cc);
     })
 
 -- the set that the code works out

@@ -1,10 +1,12 @@
 -- A bank as data, and what each event makes of it.
-use Rattle.std.specs.Prelude.{ℕ, ◌/◌, ◌%◌, ◌==◌, max, Bool, true, false, ◌&&◌, ◌||◌, not, is_some, option_map, find, List, length, Option, Some, None, Result, Ok, Err, if◌then◌else◌}
+use Rattle.std.specs.Prelude.{ℕ, ◌/◌, ◌%◌, ◌==◌, max, Bool, true, false, ◌&&◌, ◌||◌, not, is_some, option_map, find}
+use Rattle.std.specs.Prelude.{List, length, Option, Some, None, Result, Ok, Err, if◌then◌else◌}
 use Rattle.std.specs.List.{list_all}
 use Rattle.network.specs.declared.message.Node.{Node}
 use Rattle.network.specs.declared.message.Node.TheVariants.{Core, Bank, Dram}
 use Rattle.network.specs.declared.message.Body.{Body}
-use Rattle.network.specs.declared.message.Body.TheVariants.{ShReq, ExReq, FlushReq, FlushRep, WbRep, DramLd, DramLdRep, DramSt, DramStRep}
+use Rattle.network.specs.declared.message.Body.TheVariants.{ShReq, ExReq, FlushReq, FlushRep, WbRep, DramLd}
+use Rattle.network.specs.declared.message.Body.TheVariants.{DramLdRep, DramSt, DramStRep}
 use Rattle.network.specs.declared.message.Message.{Message}
 use Rattle.network.specs.declared.part.Reaction.{Reaction}
 use Rattle.network.specs.declared.part.Reaction.TheVariants.{Done, Dropped, Held, HeldAfter}
@@ -16,7 +18,8 @@ use Rattle.llc_bank.specs.declared.entry.Evict.TheVariants.{Clean, Stored, Recal
 use Rattle.llc_bank.specs.declared.entry.EvictError.{EvictError}
 use Rattle.llc_bank.specs.declared.entry.EvictError.TheVariants.{NotHere, Busy}
 use Rattle.llc_bank.specs.declared.decision.Decision.{Decision}
-use Rattle.llc_bank.specs.declared.decision.Decision.TheVariants.{Waits, Loads, Recalls, Grants, Becomes, Leaves, TooLate, NoCase}
+use Rattle.llc_bank.specs.declared.decision.Decision.TheVariants.{Waits, Loads, Recalls, Grants, Becomes, Leaves}
+use Rattle.llc_bank.specs.declared.decision.Decision.TheVariants.{TooLate, NoCase}
 use Rattle.llc_bank.specs.declared.decision.Eviction.{Eviction}
 use Rattle.llc_bank.specs.declared.decision.Eviction.TheVariants.{NotThere, IsBusy, Drops, Stores, AsksBack}
 use Rattle.llc_bank.specs.declared.config.BankConfig.{BankConfig}

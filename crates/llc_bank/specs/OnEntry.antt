@@ -2,11 +2,14 @@
 use Rattle.std.specs.Prelude.{ℕ, ◌+◌, Bool, true, false, Option, Some, None, if◌then◌else◌, List}
 use Rattle.network.specs.declared.message.TimedLine.{TimedLine}
 use Rattle.network.specs.declared.message.Body.{Body}
-use Rattle.network.specs.declared.message.Body.TheVariants.{ShReq, ExReq, ShRep, ExRep, RenewRep, UpgradeRep, FlushReq, WbReq, FlushRep, WbRep, DramLd, DramLdRep, DramSt, DramStRep}
+use Rattle.network.specs.declared.message.Body.TheVariants.{ShReq, ExReq, ShRep, ExRep, RenewRep, UpgradeRep}
+use Rattle.network.specs.declared.message.Body.TheVariants.{FlushReq, WbReq, FlushRep, WbRep, DramLd, DramLdRep}
+use Rattle.network.specs.declared.message.Body.TheVariants.{DramSt, DramStRep}
 use Rattle.llc_bank.specs.declared.entry.Entry.{Entry}
 use Rattle.llc_bank.specs.declared.entry.Entry.TheVariants.{Loading, Shared, Exclusive, Recalling, Storing}
 use Rattle.llc_bank.specs.declared.decision.Decision.{Decision}
-use Rattle.llc_bank.specs.declared.decision.Decision.TheVariants.{Waits, Loads, Recalls, Grants, Becomes, Leaves, TooLate, NoCase}
+use Rattle.llc_bank.specs.declared.decision.Decision.TheVariants.{Waits, Loads, Recalls, Grants, Becomes, Leaves}
+use Rattle.llc_bank.specs.declared.decision.Decision.TheVariants.{TooLate, NoCase}
 use Rattle.llc_bank.specs.declared.decision.Eviction.{Eviction}
 use Rattle.llc_bank.specs.declared.decision.Eviction.TheVariants.{NotThere, IsBusy, Drops, Stores, AsksBack}
 use Rattle.timestamp_manager.specs.Lease.{if_fits, is_version, shared_lease}

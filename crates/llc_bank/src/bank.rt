@@ -1,5 +1,6 @@
 //! A bank of the shared cache, whose memory is all taken when it is made.
-ghost use Rattle.std.specs.Prelude.{◌≡◌, ◌≢◌, ◌≤◌, ◌<◌, length, IfOk, IfSome, IsOk, IsPermutation, IsSorted, IsSome, IsTrue, is_some, Err, None, OnErr, Some};
+ghost use Rattle.std.specs.Prelude.{◌≡◌, ◌≢◌, ◌≤◌, ◌<◌, length, IfOk, IfSome, IsOk, IsPermutation, IsSorted, IsSome};
+ghost use Rattle.std.specs.Prelude.{IsTrue, is_some, Err, None, OnErr, Some};
 ghost use Rattle.std.specs.Ordering.{nat_cmp};
 ghost use Rattle.std.specs.Option.{option_copied};
 ghost use Rattle.line_sets.specs.Geometry.{IsGeometry};
@@ -49,7 +50,8 @@ impl Model for Bank {
 }
 
 impl Bank {
-    ghost use Rattle.llc_bank.specs.BankTable.{decided, empty_bank, entry_of, evict, evict_sends, from_bank, make_room, set_of, to_dram, with_changed, with_used, without_entry};
+    ghost use Rattle.llc_bank.specs.BankTable.{decided, empty_bank, entry_of, evict, evict_sends, from_bank};
+    ghost use Rattle.llc_bank.specs.BankTable.{make_room, set_of, to_dram, with_changed, with_used, without_entry};
     ghost use Rattle.llc_bank.specs.OwnSets.{IsSound};
 
     /// A bank without entries. All memory is taken here, for all the entries that it can have.
@@ -266,9 +268,11 @@ impl Part for Bank {
 
     fn deliver(&mut self, message: &Message) -> Result<Reaction, PartError>
         requires { IsTrue (bank_has_case self.old message.now) }
-        ensures done { IfOk result (λ reaction. bank_table self.old message.now ≡ Some (reaction, self.new)) }
+        ensures done { IfOk result (λ reaction. bank_table self.old message.now ≡ Some
+            (reaction, self.new)) }
         ensures refused { OnErr result (self.new ≡ self.old) }
-        ensures exhausted { result ≡ Err PartError.Exhausted → bank_table self.old message.now ≡ None }
+        ensures exhausted { result ≡ Err PartError.Exhausted →
+            bank_table self.old message.now ≡ None }
         ensures fits { bank_table self.old message.now ≡ None → result ≡ Err PartError.Exhausted }
         ensures wanted { result ≡ Err PartError.NoMemory →
             IsTrue (is_some (sent_by (bank_table self.old message.now))) }

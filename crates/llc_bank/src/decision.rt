@@ -1,7 +1,8 @@
 //! What a message and an eviction do with a bank's entry of one line: decisions, which change nothing.
 ghost use Rattle.std.specs.Prelude.{◌≡◌, IsTrue, is_some};
 ghost use Rattle.std.specs.Result.{result_ok};
-ghost use Rattle.llc_bank.specs.OnEntry.{asked_back, at_bank, evicted, exclusive_request, filled, finds_way, given_back, leased, loaded, read_answer, shared_request, stored};
+ghost use Rattle.llc_bank.specs.OnEntry.{asked_back, at_bank, evicted, exclusive_request, filled, finds_way};
+ghost use Rattle.llc_bank.specs.OnEntry.{given_back, leased, loaded, read_answer, shared_request, stored};
 
 use crate::entry::Entry;
 use network::{Body, TimedLine, Words};

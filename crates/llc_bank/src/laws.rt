@@ -1,5 +1,6 @@
 //! Laws of banks. The functions do nothing: their contracts are the laws.
-ghost use Rattle.llc_bank.specs.BankLaws.{EvictionsRaiseTime, FillsAtMemoryTime, GrantsUnownedLines, LoadsAbsentLines, ReadersAreLeased, WordsGoToOtherVersions};
+ghost use Rattle.llc_bank.specs.BankLaws.{EvictionsRaiseTime, FillsAtMemoryTime, GrantsUnownedLines};
+ghost use Rattle.llc_bank.specs.BankLaws.{LoadsAbsentLines, ReadersAreLeased, WordsGoToOtherVersions};
 
 /// A bank grants a line only if no core owns it, and to the requester, who owns it from then on.
 pub fn grants_unowned_lines()

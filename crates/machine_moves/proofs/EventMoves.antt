@@ -1,5 +1,6 @@
 -- Every event of the machine's table is a move of one part, or changes nothing.
-use Rattle.std.proofs.Common.{◌≡◌, ℕ, ◌<◌, Bool, true, false, cond, List, [], ◌∷◌, ◌++◌, length, get_or, Option, Some, None, refl, sym, ap, ◌∙◌, subst, arith}
+use Rattle.std.proofs.Common.{◌≡◌, ℕ, ◌<◌, Bool, true, false, cond, List, [], ◌∷◌, ◌++◌, length, get_or, Option, Some}
+use Rattle.std.proofs.Common.{None, refl, sym, ap, ◌∙◌, subst, arith}
 use Rattle.std.specs.Prelude.{Result, Ok, Err}
 use Rattle.std.specs.List.{slice_get}
 use Rattle.std.specs.FinMap.{entries}
@@ -30,24 +31,31 @@ use Rattle.llc_bank.specs.BankTable as bank_table
 use Rattle.llc_bank.specs.BankTable.{BankState, empty_bank}
 use Rattle.dram_mts.specs.Table.{dram_table, dram_has_case}
 use Rattle.machine_table.specs.declared.event.Answer.{Answer}
-use Rattle.machine_table.specs.declared.event.Answer.TheVariants.{Requested, Delivered, Started, Evicted, Recalled, Refused}
+use Rattle.machine_table.specs.declared.event.Answer.TheVariants.{Requested, Delivered, Started, Evicted, Recalled}
+use Rattle.machine_table.specs.declared.event.Answer.TheVariants.{Refused}
 use Rattle.machine_table.specs.declared.event.Event.{Event}
-use Rattle.machine_table.specs.declared.event.Event.TheVariants.{Issue, Attempt as AttemptOf, Deliver, EvictCache, EvictBank, Advance}
+use Rattle.machine_table.specs.declared.event.Event.TheVariants.{Issue, Attempt as AttemptOf, Deliver, EvictCache}
+use Rattle.machine_table.specs.declared.event.Event.TheVariants.{EvictBank, Advance}
 use Rattle.machine_table.specs.declared.event.Refusal.TheVariants as refusal
 use Rattle.machine_table.specs.Opening.{core_config, bank_config, geometry, dram_of}
 use Rattle.machine_table.specs.Machine.{Machine, with_core, with_bank, with_dram}
 use Rattle.machine_table.specs.Change as change
 use Rattle.machine_table.specs.Change.{Keeps, Makes, record_of}
-use Rattle.machine_table.specs.Transition.{refused, changed, issued, issue_at, attempt_at, deliver_core, deliver_bank, deliver_dram, deliver_to, deliver_message, evict_copy, evict_entry, advance_at, on_event, transition}
+use Rattle.machine_table.specs.Transition.{refused, changed, issued, issue_at, attempt_at, deliver_core, deliver_bank}
+use Rattle.machine_table.specs.Transition.{deliver_dram, deliver_to, deliver_message, evict_copy, evict_entry}
+use Rattle.machine_table.specs.Transition.{advance_at, on_event, transition}
 use Rattle.machine_theorem.specs.Bags.{SameBag, bag_of}
 use Rattle.machine_theorem.specs.Kept.{Invariant}
 use Rattle.machine_moves.specs.States.{State, Same, with_at, seen}
 use Rattle.machine_moves.specs.Moves as moves
-use Rattle.machine_moves.specs.Moves.{Move, issues, completes, asks_to_read, asks_to_write, core_gets, core_drops, bank_gets, bank_starts, dram_gets, evicts_copy, evicts_entry, advances}
+use Rattle.machine_moves.specs.Moves.{Move, issues, completes, asks_to_read, asks_to_write, core_gets, core_drops}
+use Rattle.machine_moves.specs.Moves.{bank_gets, bank_starts, dram_gets, evicts_copy, evicts_entry, advances}
 use Rattle.machine_moves.specs.Effects.{Effect}
 use Rattle.machine_moves.proofs.Bags.{bag-taken}
-use Rattle.machine_moves.proofs.Parts.{itself, core_put, bank_put, dram_put, issue_put, completion_put, bag_put, sent_put, answer_put}
-use Rattle.machine_moves.proofs.Reactions.{StartsNothing, cores_start_nothing, DropsNothing, banks_drop_nothing, Answers, drams_answer}
+use Rattle.machine_moves.proofs.Parts.{itself, core_put, bank_put, dram_put, issue_put, completion_put, bag_put}
+use Rattle.machine_moves.proofs.Parts.{sent_put, answer_put}
+use Rattle.machine_moves.proofs.Reactions.{StartsNothing, cores_start_nothing, DropsNothing, banks_drop_nothing}
+use Rattle.machine_moves.proofs.Reactions.{Answers, drams_answer}
 
 module _ (m : Machine) (s : Invariant m) where
   abbrev a : State

@@ -5,7 +5,9 @@ use Rattle.std.specs.FinMap.{FinMap}
 use Rattle.machine_table.specs.declared.config.Config.{Config}
 use Rattle.machine_table.specs.declared.event.Event.{Event}
 use Rattle.machine_table.specs.declared.event.Answer.{Answer}
-use Rattle.machine_table.specs.declared.event.Answer.TheVariants.{Issued, Completed, Requested, Waiting, Idle, Delivered, Dropped, Held, Started, Evicted, Recalled, Advanced, Refused}
+use Rattle.machine_table.specs.declared.event.Answer.TheVariants.{Issued, Completed, Requested, Waiting, Idle}
+use Rattle.machine_table.specs.declared.event.Answer.TheVariants.{Delivered, Dropped, Held, Started, Evicted}
+use Rattle.machine_table.specs.declared.event.Answer.TheVariants.{Recalled, Advanced, Refused}
 use Rattle.machine_table.specs.Machine.{Machine}
 use Rattle.machine_table.specs.SetUp.{is_good}
 use Rattle.machine_table.specs.Opening.{at_start}

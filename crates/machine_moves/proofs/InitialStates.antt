@@ -5,7 +5,8 @@ use Rattle.std.specs.FinMap.{FinMap, entries}
 use Rattle.core_pts.specs.CoreTable.{opened}
 use Rattle.llc_bank.specs.BankTable.{empty_bank}
 use Rattle.machine_table.specs.declared.config.Config.{Config}
-use Rattle.machine_table.specs.Opening.{core_config, bank_config, geometry, dram_of, cores_from, banks_from, drams_from, at_start}
+use Rattle.machine_table.specs.Opening.{core_config, bank_config, geometry, dram_of, cores_from, banks_from}
+use Rattle.machine_table.specs.Opening.{drams_from, at_start}
 use Rattle.machine_moves.specs.States.{Same, seen, opening_state}
 
 -- a list of parts from a number on, part by part

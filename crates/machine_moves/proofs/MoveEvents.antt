@@ -1,5 +1,6 @@
 -- Every move is an event of each machine in its first state that has room for one more message.
-use Rattle.std.proofs.Common.{◌≡◌, ℕ, ◌<◌, Bool, true, false, cond, ltb, List, [], ◌∷◌, ◌++◌, length, get_or, Option, Some, None, refl, sym, ap, ◌∙◌, subst, arith}
+use Rattle.std.proofs.Common.{◌≡◌, ℕ, ◌<◌, Bool, true, false, cond, ltb, List, [], ◌∷◌, ◌++◌, length, get_or, Option}
+use Rattle.std.proofs.Common.{Some, None, refl, sym, ap, ◌∙◌, subst, arith}
 use Rattle.std.specs.Prelude.{Result, Ok}
 use Rattle.std.specs.List.{slice_get}
 use Rattle.std.specs.Ordering.{nat_cmp}
@@ -29,7 +30,8 @@ use Rattle.llc_bank.specs.BankTable.{BankState, empty_bank}
 use Rattle.dram_mts.specs.Table.{dram_table, dram_has_case}
 use Rattle.machine_table.specs.declared.config.Config.{Config}
 use Rattle.machine_table.specs.declared.event.Answer.{Answer}
-use Rattle.machine_table.specs.declared.event.Answer.TheVariants.{Requested, Delivered, Started, Evicted, Recalled, Refused}
+use Rattle.machine_table.specs.declared.event.Answer.TheVariants.{Requested, Delivered, Started, Evicted, Recalled}
+use Rattle.machine_table.specs.declared.event.Answer.TheVariants.{Refused}
 use Rattle.machine_table.specs.declared.event.Event.{Event}
 use Rattle.machine_table.specs.declared.event.Event.TheVariants as event
 use Rattle.machine_table.specs.declared.event.Refusal.TheVariants as refusal
@@ -37,13 +39,17 @@ use Rattle.machine_table.specs.Machine.{Machine, with_core, with_bank, with_dram
 use Rattle.machine_table.specs.Opening.{core_config, bank_config, geometry, dram_of}
 use Rattle.machine_table.specs.Change as change
 use Rattle.machine_table.specs.Change.{Change, Keeps, Makes}
-use Rattle.machine_table.specs.Transition.{transition, refused, changed, issued, issue_at, attempt_at, deliver_core, deliver_bank, deliver_dram, deliver_to, deliver_message, evict_copy, evict_entry, advance_at, on_event}
+use Rattle.machine_table.specs.Transition.{transition, refused, changed, issued, issue_at, attempt_at, deliver_core}
+use Rattle.machine_table.specs.Transition.{deliver_bank, deliver_dram, deliver_to, deliver_message, evict_copy}
+use Rattle.machine_table.specs.Transition.{evict_entry, advance_at, on_event}
 use Rattle.machine_theorem.specs.Bags.{weigh, SameBag, bag_of}
 use Rattle.machine_moves.specs.States.{State, Same, with_at, seen, numbered_from}
 use Rattle.machine_moves.specs.Moves as moves
-use Rattle.machine_moves.specs.Moves.{Move, issues, completes, asks_to_read, asks_to_write, core_gets, core_drops, bank_gets, bank_starts, dram_gets, evicts_copy, evicts_entry, advances}
+use Rattle.machine_moves.specs.Moves.{Move, issues, completes, asks_to_read, asks_to_write, core_gets, core_drops}
+use Rattle.machine_moves.specs.Moves.{bank_gets, bank_starts, dram_gets, evicts_copy, evicts_entry, advances}
 use Rattle.machine_moves.proofs.Bags.{kept_bag}
-use Rattle.machine_moves.proofs.Parts.{core_put, bank_put, dram_put, issue_put, completion_put, bag_put, sent_put, answer_put}
+use Rattle.machine_moves.proofs.Parts.{core_put, bank_put, dram_put, issue_put, completion_put, bag_put, sent_put}
+use Rattle.machine_moves.proofs.Parts.{answer_put}
 use Rattle.machine_moves.proofs.Reactions.{second}
 
 module _ (config : Config) (a : State) where

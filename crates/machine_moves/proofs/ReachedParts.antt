@@ -1,5 +1,6 @@
 -- The parts of a reached state: their shape, what its cores were issued, and its records in order.
-use Rattle.std.proofs.Common.{◌≡◌, true, ℕ, zero, suc, ◌+◌, ◌<◌, List, [], ◌∷◌, ◌++◌, length, length-append, map, get_or, Option, Some, None, ◌⊎◌, inl, inr, refl, sym, ap, ◌∙◌, subst, arith, ⊎_elim}
+use Rattle.std.proofs.Common.{◌≡◌, true, ℕ, zero, suc, ◌+◌, ◌<◌, List, [], ◌∷◌, ◌++◌, length, length-append, map}
+use Rattle.std.proofs.Common.{get_or, Option, Some, None, ◌⊎◌, inl, inr, refl, sym, ap, ◌∙◌, subst, arith, ⊎_elim}
 use Rattle.std.proofs.lemmas.List.{length-map}
 use Rattle.std.specs.List.{slice_get}
 use Rattle.std.specs.Ordering.{nat_cmp}
@@ -21,7 +22,9 @@ use Rattle.machine_table.specs.Machine.{Machine, operation_of}
 use Rattle.machine_table.specs.SetUp.{is_good}
 use Rattle.machine_moves.specs.Laws.{Laws}
 use Rattle.machine_moves.specs.States.{State, numbered}
-use Rattle.machine_moves.specs.Moves.{answered, with_core, with_bank, with_dram, sent_by, Move, issues, completes, asks_to_read, asks_to_write, core_gets, core_drops, bank_gets, bank_starts, dram_gets, evicts_copy, evicts_entry, advances, Reached, opens, goes_on, same}
+use Rattle.machine_moves.specs.Moves.{answered, with_core, with_bank, with_dram, sent_by, Move, issues, completes}
+use Rattle.machine_moves.specs.Moves.{asks_to_read, asks_to_write, core_gets, core_drops, bank_gets, bank_starts}
+use Rattle.machine_moves.specs.Moves.{dram_gets, evicts_copy, evicts_entry, advances, Reached, opens, goes_on, same}
 use Rattle.machine_moves.specs.Events.{Shows}
 use Rattle.machine_moves.proofs.Bags.{Some_injective}
 use Rattle.machine_moves.proofs.Witnesses.{reached_invariant, reached_shows}

@@ -1,5 +1,6 @@
 -- Every reached state is consistent, and its messages find their parts.
-use Rattle.std.proofs.Common.{◌≡◌, ℕ, ◌+◌, ◌≤◌, ◌<◌, Bool, true, false, List, [], ◌∷◌, length, get_or, Option, Some, None, refl, sym, ap, ◌∙◌, subst, arith, ⊎_elim}
+use Rattle.std.proofs.Common.{◌≡◌, ℕ, ◌+◌, ◌≤◌, ◌<◌, Bool, true, false, List, [], ◌∷◌, length, get_or, Option, Some}
+use Rattle.std.proofs.Common.{None, refl, sym, ap, ◌∙◌, subst, arith, ⊎_elim}
 use Rattle.std.specs.List.{slice_get, AllByRecursion as Each}
 use Rattle.std.specs.Ordering.{nat_cmp}
 use Rattle.std.specs.FinMap.{FinMap, entries}
@@ -86,7 +87,7 @@ module _ (laws : Laws) (config : Config) (opening : FinMap nat_cmp ℕ) (good : 
     unfolding reordered with_mail
     each_finds n [] has home = tt
     each_finds n (y ∷ ys) has home =
-        (record { ends = home.0.2; found = case_at y y.to has.0 }, each_finds (n + 1) ys has.1 home.1)
+        (record { endpoints = home.0.2; found = case_at y y.to has.0 }, each_finds (n + 1) ys has.1 home.1)
 
     pub find_parts : Each (FindsPart config a) xs
     unfolding reordered with_mail

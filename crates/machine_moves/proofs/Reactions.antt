@@ -5,7 +5,9 @@ use Rattle.std.specs.FinMap.{FinMap}
 use Rattle.network.specs.declared.message.TimedLine.{TimedLine}
 use Rattle.network.specs.declared.message.Node.{Node}
 use Rattle.network.specs.declared.message.Body.{Body}
-use Rattle.network.specs.declared.message.Body.TheVariants.{ShReq, ExReq, ShRep, ExRep, RenewRep, UpgradeRep, FlushReq, WbReq, FlushRep, WbRep, DramLd, DramLdRep, DramSt, DramStRep}
+use Rattle.network.specs.declared.message.Body.TheVariants.{ShReq, ExReq, ShRep, ExRep, RenewRep, UpgradeRep}
+use Rattle.network.specs.declared.message.Body.TheVariants.{FlushReq, WbReq, FlushRep, WbRep, DramLd, DramLdRep}
+use Rattle.network.specs.declared.message.Body.TheVariants.{DramSt, DramStRep}
 use Rattle.network.specs.declared.message.Message.{Message}
 use Rattle.network.specs.declared.part.Reaction.{Reaction}
 use Rattle.network.specs.declared.part.Reaction.TheVariants.{Done, Dropped, Held, HeldAfter}
@@ -16,9 +18,11 @@ use Rattle.core_pts.specs.CoreTable.{CoreState, after_reaction}
 use Rattle.llc_bank.specs.declared.decision.Decision.{Decision}
 use Rattle.llc_bank.specs.declared.entry.Entry.{Entry}
 use Rattle.llc_bank.specs.declared.entry.Entry.TheVariants as entry
-use Rattle.llc_bank.specs.OnEntry.{leased, asked_back, loaded, shared_request, exclusive_request, given_back, filled, stored, at_bank}
+use Rattle.llc_bank.specs.OnEntry.{leased, asked_back, loaded, shared_request, exclusive_request, given_back, filled}
+use Rattle.llc_bank.specs.OnEntry.{stored, at_bank}
 use Rattle.llc_bank.specs.BankTable as bank_table
-use Rattle.llc_bank.specs.BankTable.{BankState, after_decision, is_this_bank, entry_of, comes_to_bank, is_owned, is_loading, is_storing}
+use Rattle.llc_bank.specs.BankTable.{BankState, after_decision, is_this_bank, entry_of, comes_to_bank, is_owned}
+use Rattle.llc_bank.specs.BankTable.{is_loading, is_storing}
 use Rattle.dram_mts.specs.Table.{comes_to_dram, is_dram, dram_case, dram_table, dram_has_case}
 
 pub second : (x y : Bool) → (x && y) ≡ true → y ≡ true

@@ -37,5 +37,5 @@ FindsCase config a message (Dram b) = (b < config.banks) × (dram_has_case (a.dr
 
 -- a message in flight goes between nodes of its kind, and the part that it goes to is there and has a case for it
 pub record FindsPart (config : Config) (a : State) (message : Message) : Type 0 where
-  pub ends : has_endpoints config.cores config.banks message ≡ true
+  pub endpoints : has_endpoints config.cores config.banks message ≡ true
   pub found : FindsCase config a message message.to

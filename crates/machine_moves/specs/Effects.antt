@@ -1,6 +1,8 @@
 -- What an event makes of the machine's state, by its answer.
 use Rattle.machine_table.specs.declared.event.Answer.{Answer}
-use Rattle.machine_table.specs.declared.event.Answer.TheVariants.{Issued, Completed, Requested, Waiting, Idle, Delivered, Dropped, Held, Started, Evicted, Recalled, Advanced, Refused}
+use Rattle.machine_table.specs.declared.event.Answer.TheVariants.{Issued, Completed, Requested, Waiting, Idle}
+use Rattle.machine_table.specs.declared.event.Answer.TheVariants.{Delivered, Dropped, Held, Started, Evicted}
+use Rattle.machine_table.specs.declared.event.Answer.TheVariants.{Recalled, Advanced, Refused}
 use Rattle.machine_table.specs.Machine.{Machine}
 use Rattle.machine_moves.specs.States.{State, Same, seen}
 use Rattle.machine_moves.specs.Moves.{Move}

@@ -27,11 +27,17 @@ pub record Laws : Type 0 where
   pub set_up : (m : Machine) (event : Event) → SetUpAs m (transition m event).1
   pub renumbers : (m : Machine) (capacity : ℕ) (mail : Mail) (is_stopped : Bool) → Invariant m →
       SameBag (bag_of m.mail.messages) (bag_of mail.messages) →
-      Invariant (record m { config = record (m.config) { messages = capacity }; mail = mail; is_stopped = is_stopped })
+      Invariant (record m {
+        config = record (m.config) { messages = capacity };
+        mail =
+            mail;
+        is_stopped = is_stopped;
+      })
   -- what holds of a machine that has it
   pub legal : (m : Machine) → Invariant m → Legal (flat m.opening) (λ core. slice_index_or m.issued core []) m.records
   pub owners : (m : Machine) → Invariant m → (line : ℕ) → owners m line ≤ 1
-  pub coherent : (m : Machine) → Invariant m → (arranged : List Record) → Arrangement m.records arranged → (word : ℕ) →
+  pub coherent : (m : Machine) → Invariant m → (arranged : List Record) → Arrangement m.records arranged →
+      (word : ℕ) →
       coherent m word ≡ replay_end (flat m.opening) (map (λ r. r.op) arranged) word
   pub cases : (m : Machine) → Invariant m → AllByRecursion (λ message. has_case m message.1 ≡ true) m.mail.messages
   pub issued : (m : Machine) → Invariant m → (core : ℕ) →

@@ -1,5 +1,6 @@
 -- Each case of the table keeps what its answer says.
-use Rattle.std.proofs.Common.{◌≡◌, ℕ, Bool, true, false, cond, List, length, Option, Some, None, Result, Ok, Err, refl, ap}
+use Rattle.std.proofs.Common.{◌≡◌, ℕ, Bool, true, false, cond, List, length, Option, Some, None, Result, Ok, Err}
+use Rattle.std.proofs.Common.{refl, ap}
 use Rattle.std.proofs.lemmas.Bool.{cond_both}
 use Rattle.physiological_order.specs.declared.operation.Op.{Op}
 use Rattle.network.specs.declared.message.Node.{Node}
@@ -28,19 +29,24 @@ use Rattle.std.specs.Ordering.{nat_cmp}
 use Rattle.std.specs.FinMap.{FinMap}
 use Rattle.std.specs.Prelude.{slice_get}
 use Rattle.machine_table.specs.declared.event.Event.{Event}
-use Rattle.machine_table.specs.declared.event.Event.TheVariants.{Issue, Attempt as AttemptOf, Deliver, EvictCache, EvictBank, Advance}
+use Rattle.machine_table.specs.declared.event.Event.TheVariants.{Issue, Attempt as AttemptOf, Deliver, EvictCache}
+use Rattle.machine_table.specs.declared.event.Event.TheVariants.{EvictBank, Advance}
 use Rattle.machine_table.specs.declared.event.Answer.{Answer}
 use Rattle.machine_table.specs.declared.event.Answer.TheVariants as answer
 use Rattle.machine_table.specs.declared.event.Refusal.TheVariants as refusal
 use Rattle.machine_table.specs.Machine.{Machine, with_core, with_bank, with_dram}
-use Rattle.machine_table.specs.Change.{Change, Keeps, Makes, attempt_open, attempted_op, sends, reacted, copy_evicted, entry_evicted, advanced}
-use Rattle.machine_table.specs.Transition.{refused, changed, issued, issue_at, attempt_at, deliver_core, deliver_bank, deliver_dram, deliver_to, deliver_message, evict_copy, evict_entry, advance_at, on_event, transition}
+use Rattle.machine_table.specs.Change.{Change, Keeps, Makes, attempt_open, attempted_op, sends, reacted, copy_evicted}
+use Rattle.machine_table.specs.Change.{entry_evicted, advanced}
+use Rattle.machine_table.specs.Transition.{refused, changed, issued, issue_at, attempt_at, deliver_core, deliver_bank}
+use Rattle.machine_table.specs.Transition.{deliver_dram, deliver_to, deliver_message, evict_copy, evict_entry}
+use Rattle.machine_table.specs.Transition.{advance_at, on_event, transition}
 use Rattle.machine_table.specs.Answered.{Answered, GoesOn}
 
 abbrev Holds : Machine → Answer × Machine → Type 0
 Holds m outcome = Answered m outcome.0 outcome.1
 
-issued_holds : (m : Machine) (c : ℕ) (op : Op) (r : Result (Unit {0}) IssueError × CoreState) → Holds m (issued m c op r)
+issued_holds : (m : Machine) (c : ℕ) (op : Op) (r : Result (Unit {0}) IssueError × CoreState) →
+    Holds m (issued m c op r)
 issued_holds m c op (Err not_issued.Busy, core) = refl
 issued_holds m c op (Err not_issued.TooMany, core) = refl
 issued_holds m c op (Ok done, core) = record { records = refl; runs = refl }
@@ -52,7 +58,8 @@ issue_holds m c op (Some core) = issued_holds m c op (core_table.issue core op)
 -- a part is put into the machine, and its records and its stop are unchanged
 module _ {S : Type 0} (m : Machine) (put : S → Machine) (puts : (part : S) → GoesOn m (put part)) where
   -- an answer that goes with a change, or else a refusal
-  with_test : (b : Bool) (done : Change S) (why : Answer) → Holds m (changed m put done) → Answered m why m → Holds m (changed m put (cond b done (Keeps why)))
+  with_test : (b : Bool) (done : Change S) (why : Answer) → Holds m (changed m put done) → Answered m why m →
+      Holds m (changed m put (cond b done (Keeps why)))
   with_test true done why h kept = h
   with_test false done why h kept = kept
 
@@ -65,9 +72,11 @@ module _ {S : Type 0} (m : Machine) (put : S → Machine) (puts : (part : S) →
   reacted_holds n (Some (Dropped, part)) = record { records = refl; runs = refl }
   reacted_holds n (Some (Done None, part)) = made (taken m.mail n) part
   reacted_holds n (Some (Done (Some reply), part)) =
-      with_test (has_number m.mail) (Makes answer.Delivered part (answered m.mail n reply)) _ (made (answered m.mail n reply) part) refl
+      with_test (has_number m.mail) (Makes answer.Delivered part (answered m.mail n reply)) _
+      (made (answered m.mail n reply) part) refl
   reacted_holds n (Some (HeldAfter started, part)) =
-      with_test (has_capacity m.config.messages m.mail) (Makes answer.Started part (sent m.mail started)) _ (made (sent m.mail started) part) refl
+      with_test (has_capacity m.config.messages m.mail) (Makes answer.Started part (sent m.mail started)) _
+      (made (sent m.mail started) part) refl
 
 -- the parts of a machine
 module _ (m : Machine) where
@@ -81,22 +90,29 @@ module _ (m : Machine) where
   dram_put b part = record { records = refl; runs = refl }
 
   -- a part that sends a message
-  core_sends : (c : ℕ) (a : Answer) (part : CoreState) (message : Message) → Answered m a (record (with_core m c part) { mail = sent m.mail message }) →
+  core_sends : (c : ℕ) (a : Answer) (part : CoreState) (message : Message) →
+      Answered m a (record (with_core m c part) { mail = sent m.mail message }) →
       Holds m (changed m (with_core m c) (sends m.config.messages m.mail a part message))
   core_sends c a part message h =
-      with_test m (with_core m c) (core_put c) (has_capacity m.config.messages m.mail) (Makes a part (sent m.mail message)) _ h refl
+      with_test m (with_core m c) (core_put c) (has_capacity m.config.messages m.mail)
+      (Makes a part (sent m.mail message)) _ h refl
 
-  bank_sends : (b : ℕ) (a : Answer) (part : BankState) (message : Message) → Answered m a (record (with_bank m b part) { mail = sent m.mail message }) →
+  bank_sends : (b : ℕ) (a : Answer) (part : BankState) (message : Message) →
+      Answered m a (record (with_bank m b part) { mail = sent m.mail message }) →
       Holds m (changed m (with_bank m b) (sends m.config.messages m.mail a part message))
   bank_sends b a part message h =
-      with_test m (with_bank m b) (bank_put b) (has_capacity m.config.messages m.mail) (Makes a part (sent m.mail message)) _ h refl
+      with_test m (with_bank m b) (bank_put b) (has_capacity m.config.messages m.mail)
+      (Makes a part (sent m.mail message)) _ h refl
 
 attempted_holds : (m : Machine) (c : ℕ) (core : CoreState) (op : Op) (r : Option Attempt × CoreState) →
     Holds m (changed m (with_core m c) (attempted_op c (length m.records) m.config.messages m.mail core op r))
 attempted_holds m c core op (None, after) = refl
-attempted_holds m c core op (Some (attempted.Completed received ts), after) = record { records = refl; number = refl; runs = refl }
-attempted_holds m c core op (Some (attempted.NeedShared pts version), after) = core_sends m c answer.Requested _ _ (record { records = refl; runs = refl })
-attempted_holds m c core op (Some (attempted.NeedExclusive version), after) = core_sends m c answer.Requested _ _ (record { records = refl; runs = refl })
+attempted_holds m c core op (Some (attempted.Completed received ts), after) =
+    record { records = refl; number = refl; runs = refl }
+attempted_holds m c core op (Some (attempted.NeedShared pts version), after) =
+    core_sends m c answer.Requested _ _ (record { records = refl; runs = refl })
+attempted_holds m c core op (Some (attempted.NeedExclusive version), after) =
+    core_sends m c answer.Requested _ _ (record { records = refl; runs = refl })
 attempted_holds m c core op (Some attempted.NoRoom, after) = refl
 attempted_holds m c core op (Some attempted.Waiting, after) = refl
 attempted_holds m c core op (Some attempted.Idle, after) = refl
@@ -111,24 +127,31 @@ attempt_holds m c None = refl
 attempt_holds m c (Some core) = attempt_open_holds m c core core.open_op
 
 -- a message that has no case is refused
-if_case : (m : Machine) (b : Bool) (outcome : Answer × Machine) → Holds m outcome → Holds m (cond b outcome (refused m refusal.NoSuch))
+if_case : (m : Machine) (b : Bool) (outcome : Answer × Machine) → Holds m outcome →
+    Holds m (cond b outcome (refused m refusal.NoSuch))
 if_case m true outcome h = h
 if_case m false outcome h = refl
 
-deliver_core_holds : (m : Machine) (n : ℕ) (message : Message) (c : ℕ) (core : Option CoreState) → Holds m (deliver_core m n message c core)
+deliver_core_holds : (m : Machine) (n : ℕ) (message : Message) (c : ℕ) (core : Option CoreState) →
+    Holds m (deliver_core m n message c core)
 deliver_core_holds m n message c None = refl
 deliver_core_holds m n message c (Some core) =
-    if_case m (core_table.core_has_case core message) _ (reacted_holds m (with_core m c) (core_put m c) n (core_table.core_table core message))
+    if_case m (core_table.core_has_case core message) _ (reacted_holds m (with_core m c) (core_put m c) n
+    (core_table.core_table core message))
 
-deliver_bank_holds : (m : Machine) (n : ℕ) (message : Message) (b : ℕ) (bank : Option BankState) → Holds m (deliver_bank m n message b bank)
+deliver_bank_holds : (m : Machine) (n : ℕ) (message : Message) (b : ℕ) (bank : Option BankState) →
+    Holds m (deliver_bank m n message b bank)
 deliver_bank_holds m n message b None = refl
 deliver_bank_holds m n message b (Some bank) =
-    if_case m (bank_table.bank_has_case bank message) _ (reacted_holds m (with_bank m b) (bank_put m b) n (bank_table.bank_table bank message))
+    if_case m (bank_table.bank_has_case bank message) _ (reacted_holds m (with_bank m b) (bank_put m b) n
+    (bank_table.bank_table bank message))
 
-deliver_dram_holds : (m : Machine) (n : ℕ) (message : Message) (b : ℕ) (dram : Option (FinMap nat_cmp (List ℕ))) → Holds m (deliver_dram m n message b dram)
+deliver_dram_holds : (m : Machine) (n : ℕ) (message : Message) (b : ℕ) (dram : Option (FinMap nat_cmp (List ℕ))) →
+    Holds m (deliver_dram m n message b dram)
 deliver_dram_holds m n message b None = refl
 deliver_dram_holds m n message b (Some dram) =
-    if_case m (dram_has_case dram message) _ (reacted_holds m (with_dram m b) (dram_put m b) n (dram_table dram message))
+    if_case m (dram_has_case dram message) _ (reacted_holds m (with_dram m b) (dram_put m b) n
+    (dram_table dram message))
 
 deliver_to_holds : (m : Machine) (n : ℕ) (message : Message) (to : Node) → Holds m (deliver_to m n message to)
 deliver_to_holds m n message (Core c) = deliver_core_holds m n message c (slice_get m.cores c)
@@ -145,7 +168,8 @@ copy_evicted_holds m c (Err NotHere, core) = refl
 copy_evicted_holds m c (Err NoRoom, core) = refl
 copy_evicted_holds m c (Err Pinned, core) = refl
 copy_evicted_holds m c (Ok None, core) = record { records = refl; runs = refl }
-copy_evicted_holds m c (Ok (Some back), core) = core_sends m c answer.Evicted core back (record { records = refl; runs = refl })
+copy_evicted_holds m c (Ok (Some back), core) =
+    core_sends m c answer.Evicted core back (record { records = refl; runs = refl })
 
 evict_copy_holds : (m : Machine) (c line : ℕ) (core : Option CoreState) → Holds m (evict_copy m c line core)
 evict_copy_holds m c line None = refl
@@ -156,14 +180,17 @@ entry_evicted_holds : (m : Machine) (b : ℕ) (r : Result Evict EvictError × Ba
 entry_evicted_holds m b (Err not_evicted.NotHere, bank) = refl
 entry_evicted_holds m b (Err not_evicted.Busy, bank) = refl
 entry_evicted_holds m b (Ok evict.Clean, bank) = record { records = refl; runs = refl }
-entry_evicted_holds m b (Ok (evict.Stored store), bank) = bank_sends m b answer.Evicted bank store (record { records = refl; runs = refl })
-entry_evicted_holds m b (Ok (evict.Recalled recall), bank) = bank_sends m b answer.Recalled bank recall (record { records = refl; runs = refl })
+entry_evicted_holds m b (Ok (evict.Stored store), bank) =
+    bank_sends m b answer.Evicted bank store (record { records = refl; runs = refl })
+entry_evicted_holds m b (Ok (evict.Recalled recall), bank) =
+    bank_sends m b answer.Recalled bank recall (record { records = refl; runs = refl })
 
 evict_entry_holds : (m : Machine) (b line : ℕ) (bank : Option BankState) → Holds m (evict_entry m b line bank)
 evict_entry_holds m b line None = refl
 evict_entry_holds m b line (Some bank) = entry_evicted_holds m b (bank_table.evict bank line)
 
-advanced_holds : (m : Machine) (c : ℕ) (r : Option (Unit {0}) × CoreState) → Holds m (changed m (with_core m c) (advanced m.mail r))
+advanced_holds : (m : Machine) (c : ℕ) (r : Option (Unit {0}) × CoreState) →
+    Holds m (changed m (with_core m c) (advanced m.mail r))
 advanced_holds m c (None, core) = refl
 advanced_holds m c (Some done, core) = record { records = refl; runs = refl }
 
@@ -181,7 +208,9 @@ event_holds m (Advance c) = advance_holds m c (slice_get m.cores c)
 
 pub every_answer : (m : Machine) (event : Event) → Answered m (transition m event).0 (transition m event).1
 every_answer m event =
-    cond_both m.is_stopped (refused m refusal.Stopped) (on_event m event) (Holds m) (λ e. refl) (λ e. event_holds m event)
+    cond_both m.is_stopped (refused m refusal.Stopped) (on_event m event) (Holds m) (λ e. refl)
+    (λ e. event_holds m event)
 
-pub once_stopped : (m : Machine) (event : Event) → m.is_stopped ≡ true → transition m event ≡ (answer.Refused refusal.Stopped, m)
+pub once_stopped : (m : Machine) (event : Event) → m.is_stopped ≡ true →
+    transition m event ≡ (answer.Refused refusal.Stopped, m)
 once_stopped m event e = ap (λ b. cond b (refused m refusal.Stopped) (on_event m event)) e

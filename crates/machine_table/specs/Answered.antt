@@ -2,9 +2,12 @@
 use Rattle.std.specs.Prelude.{◌≡◌, true, [], ◌∷◌, ◌++◌, length}
 use Rattle.physiological_order.specs.declared.operation.Record.{Record}
 use Rattle.machine_table.specs.declared.event.Answer.{Answer}
-use Rattle.machine_table.specs.declared.event.Answer.TheVariants.{Issued, Completed, Requested, Waiting, Idle, Delivered, Dropped, Held, Started, Evicted, Recalled, Advanced, Refused}
+use Rattle.machine_table.specs.declared.event.Answer.TheVariants.{Issued, Completed, Requested, Waiting, Idle}
+use Rattle.machine_table.specs.declared.event.Answer.TheVariants.{Delivered, Dropped, Held, Started, Evicted}
+use Rattle.machine_table.specs.declared.event.Answer.TheVariants.{Recalled, Advanced, Refused}
 use Rattle.machine_table.specs.declared.event.Refusal.{Refusal}
-use Rattle.machine_table.specs.declared.event.Refusal.TheVariants.{Busy, TooMany, NoSuch, NoRoom, Pinned, NetworkFull, NoMemory, Exhausted, Stopped}
+use Rattle.machine_table.specs.declared.event.Refusal.TheVariants.{Busy, TooMany, NoSuch, NoRoom, Pinned, NetworkFull}
+use Rattle.machine_table.specs.declared.event.Refusal.TheVariants.{NoMemory, Exhausted, Stopped}
 use Rattle.machine_table.specs.Machine.{Machine}
 
 -- a refusal leaves the machine as it was, but Exhausted stops it; want of memory is never the table's answer

@@ -1,5 +1,6 @@
 -- The machine as it opens.
-use Rattle.std.specs.Prelude.{ℕ, zero, suc, ◌+◌, ◌/◌, ◌%◌, ◌==◌, false, List, [], ◌∷◌, replicate, if◌then◌else◌, slice_set}
+use Rattle.std.specs.Prelude.{ℕ, zero, suc, ◌+◌, ◌/◌, ◌%◌, ◌==◌, false, List, [], ◌∷◌, replicate, if◌then◌else◌}
+use Rattle.std.specs.Prelude.{slice_set}
 use Rattle.std.specs.Ordering.{nat_cmp}
 use Rattle.std.specs.FinMap.{FinMap, empty, insert, entries}
 use Rattle.private_cache.specs.declared.cache.Geometry.{Geometry}
@@ -14,13 +15,29 @@ use Rattle.machine_table.specs.Machine.{Machine}
 
 -- the set-up of the core and of the bank of a number
 abbrev pub core_config : Config → ℕ → CoreConfig
-core_config c number = record { number = number; banks = c.banks; line_words = c.line_words; lease = c.lease; private_write = c.private_write; opening_time = c.opening_time }
+core_config c number = record {
+  number = number;
+  banks = c.banks;
+  line_words = c.line_words;
+  lease =
+      c.lease;
+  private_write = c.private_write;
+  opening_time = c.opening_time;
+}
 
 abbrev pub geometry : Config → Geometry
 geometry c = record { sets = c.sets; ways = c.ways }
 
 abbrev pub bank_config : Config → ℕ → BankConfig
-bank_config c number = record { number = number; banks = c.banks; sets = c.bank_sets; ways = c.bank_ways; lease = c.lease; opening_time = c.opening_time }
+bank_config c number = record {
+  number = number;
+  banks = c.banks;
+  sets = c.bank_sets;
+  ways = c.bank_ways;
+  lease =
+      c.lease;
+  opening_time = c.opening_time;
+}
 
 -- n cores from this number on, and n banks
 abbrev pub cores_from : Config → ℕ → ℕ → List CoreState
@@ -39,7 +56,8 @@ with_word lines line index v = insert lines line (slice_set (words_of lines line
 abbrev pub dram_of : Config → ℕ → List (ℕ × ℕ) → FinMap nat_cmp (List ℕ)
 dram_of c bank [] = empty
 dram_of c bank (word ∷ words) =
-    if (word.0 / c.line_words) % c.banks == bank then with_word (dram_of c bank words) (word.0 / c.line_words) (word.0 % c.line_words) word.1
+    if (word.0 / c.line_words) % c.banks == bank then with_word (dram_of c bank words) (word.0 / c.line_words)
+    (word.0 % c.line_words) word.1
     else dram_of c bank words
 
 abbrev pub drams_from : Config → List (ℕ × ℕ) → ℕ → ℕ → List (FinMap nat_cmp (List ℕ))

@@ -1,7 +1,8 @@
 -- The numbers of refusals.
 use Rattle.std.specs.Prelude.{ℕ}
 use Rattle.machine_table.specs.declared.event.Refusal.{Refusal}
-use Rattle.machine_table.specs.declared.event.Refusal.TheVariants.{Busy, TooMany, NoSuch, NoRoom, Pinned, NetworkFull, NoMemory, Exhausted, Stopped}
+use Rattle.machine_table.specs.declared.event.Refusal.TheVariants.{Busy, TooMany, NoSuch, NoRoom, Pinned, NetworkFull}
+use Rattle.machine_table.specs.declared.event.Refusal.TheVariants.{NoMemory, Exhausted, Stopped}
 
 abbrev pub number_of : Refusal → ℕ
 number_of Busy = 1

@@ -1,6 +1,7 @@
 -- What each event makes of the machine: the answer and the machine afterwards. Stopped goes before all else, then
 -- NoSuch; every refusal but Exhausted leaves the machine unchanged, and Exhausted only stops it.
-use Rattle.std.specs.Prelude.{ℕ, true, List, [], ◌∷◌, ◌++◌, length, Option, Some, None, Result, Ok, Err, if◌then◌else◌, slice_get, slice_set, slice_index_or}
+use Rattle.std.specs.Prelude.{ℕ, true, List, [], ◌∷◌, ◌++◌, length, Option, Some, None, Result, Ok, Err}
+use Rattle.std.specs.Prelude.{if◌then◌else◌, slice_get, slice_set, slice_index_or}
 use Rattle.std.specs.Ordering.{nat_cmp}
 use Rattle.std.specs.FinMap.{FinMap}
 use Rattle.physiological_order.specs.declared.operation.Op.{Op}
@@ -16,7 +17,8 @@ use Rattle.llc_bank.specs.BankTable as bank_table
 use Rattle.llc_bank.specs.BankTable.{BankState}
 use Rattle.dram_mts.specs.Table.{dram_table, dram_has_case}
 use Rattle.machine_table.specs.declared.event.Event.{Event}
-use Rattle.machine_table.specs.declared.event.Event.TheVariants.{Issue, Attempt, Deliver, EvictCache, EvictBank, Advance}
+use Rattle.machine_table.specs.declared.event.Event.TheVariants.{Issue, Attempt, Deliver, EvictCache, EvictBank}
+use Rattle.machine_table.specs.declared.event.Event.TheVariants.{Advance}
 use Rattle.machine_table.specs.declared.event.Answer.{Answer}
 use Rattle.machine_table.specs.declared.event.Answer.TheVariants.{Issued, Completed, Dropped, Refused}
 use Rattle.machine_table.specs.declared.event.Refusal.{Refusal}
@@ -50,7 +52,8 @@ issue_at m c op (Some core) = issued m c op (core_table.issue core op)
 -- Attempt
 abbrev pub attempt_at : Machine → ℕ → Option CoreState → Answer × Machine
 attempt_at m c None = refused m refusal.NoSuch
-attempt_at m c (Some core) = changed m (with_core m c) (change.attempt c (length m.records) m.config.messages m.mail core)
+attempt_at m c (Some core) =
+    changed m (with_core m c) (change.attempt c (length m.records) m.config.messages m.mail core)
 
 -- Deliver: to a core, a bank, or the DRAM behind a bank
 abbrev pub deliver_core : Machine → ℕ → Message → ℕ → Option CoreState → Answer × Machine
@@ -86,12 +89,14 @@ deliver_message m n (Some message) = deliver_to m n message message.to
 -- EvictCache
 abbrev pub evict_copy : Machine → ℕ → ℕ → Option CoreState → Answer × Machine
 evict_copy m c line None = refused m refusal.NoSuch
-evict_copy m c line (Some core) = changed m (with_core m c) (change.copy_evicted m.config.messages m.mail (core_table.evict core line))
+evict_copy m c line (Some core) =
+    changed m (with_core m c) (change.copy_evicted m.config.messages m.mail (core_table.evict core line))
 
 -- EvictBank
 abbrev pub evict_entry : Machine → ℕ → ℕ → Option BankState → Answer × Machine
 evict_entry m b line None = refused m refusal.NoSuch
-evict_entry m b line (Some bank) = changed m (with_bank m b) (change.entry_evicted m.config.messages m.mail (bank_table.evict bank line))
+evict_entry m b line (Some bank) =
+    changed m (with_bank m b) (change.entry_evicted m.config.messages m.mail (bank_table.evict bank line))
 
 -- Advance
 abbrev pub advance_at : Machine → ℕ → Option CoreState → Answer × Machine

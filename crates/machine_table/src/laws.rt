@@ -11,6 +11,8 @@ use crate::event::{Answer, Refusal};
 /// nothing; a completion adds its record with the next number, and no other answer adds one; and a machine that is
 /// stopped answers every event with Stopped.
 pub fn every_answer_keeps_its_word()
-    ensures answered { (m : Machine) (event : Event) → Answered m (transition m event).0 (transition m event).1 }
-    ensures stopped { (m : Machine) (event : Event) → m.is_stopped ≡ true → transition m event ≡ (Answer.Refused Refusal.Stopped, m) }
+    ensures answered { (m : Machine) (event : Event) → Answered m (transition m event).0
+        (transition m event).1 }
+    ensures stopped { (m : Machine) (event : Event) → m.is_stopped ≡ true →
+        transition m event ≡ (Answer.Refused Refusal.Stopped, m) }
 {}

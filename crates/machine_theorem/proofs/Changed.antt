@@ -18,10 +18,12 @@ use Rattle.machine_table.specs.Change.{Change, Keeps}
 use Rattle.machine_table.specs.Transition.{changed}
 
 abbrev pub attempted_op : Machine → ℕ → CoreState → Op → Option Attempt × CoreState → Answer × Machine
-attempted_op m c core op tries = changed m (with_core m c) (change.attempted_op c (length m.records) m.config.messages m.mail core op tries)
+attempted_op m c core op tries =
+    changed m (with_core m c) (change.attempted_op c (length m.records) m.config.messages m.mail core op tries)
 
 abbrev pub attempt_open : Machine → ℕ → CoreState → Option Op → Answer × Machine
-attempt_open m c core op = changed m (with_core m c) (change.attempt_open c (length m.records) m.config.messages m.mail core op)
+attempt_open m c core op =
+    changed m (with_core m c) (change.attempt_open c (length m.records) m.config.messages m.mail core op)
 
 abbrev pub requested : Machine → ℕ → CoreState → Op → Body → Answer × Machine
 requested m c core op body = changed m (with_core m c) (change.requests m.config.messages m.mail core op body)
@@ -39,7 +41,8 @@ abbrev pub advanced : Machine → ℕ → Option (Unit {0}) × CoreState → Ans
 advanced m c time = changed m (with_core m c) (change.advanced m.mail time)
 
 -- a change that is made if a test says so holds what it makes, and what the machine held
-pub tested : {S : Type 0} (P : Machine → Type 0) (m : Machine) (put : S → Machine) (b : Bool) (done : Change S) (why : Answer) →
+pub tested : {S : Type 0} (P : Machine → Type 0) (m : Machine) (put : S → Machine) (b : Bool)
+    (done : Change S) (why : Answer) →
     P (changed m put done).1 → P m → P (changed m put (cond b done (Keeps why))).1
 tested P m put true done why is kept = is
 tested P m put false done why is kept = kept

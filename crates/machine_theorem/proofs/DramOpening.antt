@@ -1,5 +1,7 @@
 -- A DRAM opens with the words of the opening memory, eight to a line.
-use Rattle.std.proofs.Common.{◌≡◌, ◌≢◌, ℕ, zero, suc, ◌+◌, ◌*◌, ◌/◌, ◌%◌, ◌<◌, ◌≤◌, Bool, true, false, cond, eqb, List, [], ◌∷◌, length, replicate, set, get_or, Option, Some, refl, sym, ap, ◌∙◌, subst, arith, ⊎_elim, get_or-set_same, get_or-set_other, length-set}
+use Rattle.std.proofs.Common.{◌≡◌, ◌≢◌, ℕ, zero, suc, ◌+◌, ◌*◌, ◌/◌, ◌%◌, ◌<◌, ◌≤◌, Bool, true, false, cond, eqb}
+use Rattle.std.proofs.Common.{List, [], ◌∷◌, length, replicate, set, get_or, Option, Some, refl, sym, ap, ◌∙◌, subst}
+use Rattle.std.proofs.Common.{arith, ⊎_elim, get_or-set_same, get_or-set_other, length-set}
 use Rattle.std.specs.Prelude.{unwrap_or}
 use Rattle.std.specs.Ordering.{nat_cmp, eq_by_cmp}
 use Rattle.std.specs.FinMap.{FinMap, empty, find, get-empty}
@@ -20,19 +22,24 @@ empty_words : (l : ℕ) → words_of empty l ≡ replicate 8 0
 empty_words l = ap (λ (o : Option (List ℕ)). unwrap_or o (replicate 8 0)) (get-empty nat_cmp l)
 
 module _ (c : Config) (bank : ℕ) where
-  word_long : (lines : FinMap nat_cmp (List ℕ)) (line index v l : ℕ) → ((k : ℕ) → length (words_of lines k) ≡ 8) → length (words_of (with_word lines line index v) l) ≡ 8
+  word_long : (lines : FinMap nat_cmp (List ℕ)) (line index v l : ℕ) → ((k : ℕ) → length (words_of lines k) ≡ 8) →
+      length (words_of (with_word lines line index v) l) ≡ 8
   word_long lines line index v l long =
       ⊎_elim
       (λ (e : l ≡ line). subst (λ (k : ℕ). length (words_of (with_word lines line index v) k) ≡ 8) (sym e)
-      (ap length (words-insert_same lines line (set (words_of lines line) index v)) ∙ length-set (words_of lines line) index v ∙ long line))
-      (λ (ne : l ≡ line → ⊥). ap length (words-insert_other lines line l (set (words_of lines line) index v) ne) ∙ long l)
+      (ap length (words-insert_same lines line (set (words_of lines line) index v)) ∙ length-set (words_of lines line)
+      index v ∙ long line))
+      (λ (ne : l ≡ line → ⊥). ap length (words-insert_other lines line l (set (words_of lines line) index v) ne)
+      ∙ long l)
       (cases_eq l line)
 
   pub dram_long : (es : List (ℕ × ℕ)) (l : ℕ) → length (words_of (dram_of c bank es) l) ≡ 8
   dram_long [] l = ap length (empty_words l)
   dram_long (e ∷ es) l = go (dram_long es) (eqb ((e.0 / c.line_words) % c.banks) bank)
     where
-      go : ((k : ℕ) → length (words_of (dram_of c bank es) k) ≡ 8) → (b : Bool) → length (words_of (cond b (with_word (dram_of c bank es) (e.0 / c.line_words) (e.0 % c.line_words) e.1) (dram_of c bank es)) l) ≡ 8
+      go : ((k : ℕ) → length (words_of (dram_of c bank es) k) ≡ 8) → (b : Bool) →
+          length (words_of (cond b (with_word (dram_of c bank es) (e.0 / c.line_words) (e.0 % c.line_words) e.1)
+          (dram_of c bank es)) l) ≡ 8
       go long true = word_long (dram_of c bank es) (e.0 / c.line_words) (e.0 % c.line_words) e.1 l long
       go long false = long l
 
@@ -40,36 +47,54 @@ module _ (c : Config) (bank : ℕ) where
     abbrev word : FinMap nat_cmp (List ℕ) → ℕ → ℕ
     word lines a = get_or (words_of lines (a / c.line_words)) (a % c.line_words) 0
 
-    written : (lines : FinMap nat_cmp (List ℕ)) (a v : ℕ) → length (words_of lines (a / c.line_words)) ≡ 8 → word (with_word lines (a / c.line_words) (a % c.line_words) v) a ≡ v
+    written : (lines : FinMap nat_cmp (List ℕ)) (a v : ℕ) → length (words_of lines (a / c.line_words)) ≡ 8 →
+        word (with_word lines (a / c.line_words) (a % c.line_words) v) a ≡ v
     written lines a v long =
-        ap (λ ws. get_or ws (a % c.line_words) 0) (words-insert_same lines (a / c.line_words) (set (words_of lines (a / c.line_words)) (a % c.line_words) v))
-        ∙ get_or-set_same (words_of lines (a / c.line_words)) (a % c.line_words) v 0 (let lt = mod-lt a some in omega arith)
+        ap (λ ws. get_or ws (a % c.line_words) 0) (words-insert_same lines (a / c.line_words)
+        (set (words_of lines (a / c.line_words)) (a % c.line_words) v))
+        ∙ get_or-set_same (words_of lines (a / c.line_words)) (a % c.line_words) v 0 (let lt =
+        mod-lt a some in omega arith)
 
-    others : (lines : FinMap nat_cmp (List ℕ)) (a d v : ℕ) → a ≢ d → word (with_word lines (d / c.line_words) (d % c.line_words) v) a ≡ word lines a
+    others : (lines : FinMap nat_cmp (List ℕ)) (a d v : ℕ) → a ≢ d →
+        word (with_word lines (d / c.line_words) (d % c.line_words) v) a ≡ word lines a
     others lines a d v ne =
         ⊎_elim
         (λ (e : a / c.line_words ≡ d / c.line_words).
-        let apart : a % c.line_words ≢ d % c.line_words = λ q. ne (sym (div-add-mod' a c.line_words) ∙ ap (λ (n : ℕ). n * c.line_words + a % c.line_words) e ∙ ap (λ (n : ℕ). d / c.line_words * c.line_words + n) q ∙ div-add-mod' d c.line_words) in
-        subst (λ (k : ℕ). get_or (words_of (with_word lines (d / c.line_words) (d % c.line_words) v) k) (a % c.line_words) 0 ≡ get_or (words_of lines k) (a % c.line_words) 0) (sym e)
-        (ap (λ ws. get_or ws (a % c.line_words) 0) (words-insert_same lines (d / c.line_words) (set (words_of lines (d / c.line_words)) (d % c.line_words) v))
+        let apart : a % c.line_words ≢ d % c.line_words = λ q. ne (sym (div-add-mod' a c.line_words)
+        ∙ ap (λ (n : ℕ). n * c.line_words + a % c.line_words) e
+        ∙ ap (λ (n : ℕ). d / c.line_words * c.line_words + n) q ∙ div-add-mod' d c.line_words) in
+        subst (λ (k : ℕ). get_or (words_of (with_word lines (d / c.line_words) (d % c.line_words) v) k)
+        (a % c.line_words) 0 ≡ get_or (words_of lines k) (a % c.line_words) 0) (sym e)
+        (ap (λ ws. get_or ws (a % c.line_words) 0) (words-insert_same lines (d / c.line_words)
+        (set (words_of lines (d / c.line_words)) (d % c.line_words) v))
         ∙ get_or-set_other (words_of lines (d / c.line_words)) (d % c.line_words) (a % c.line_words) v 0 apart))
-        (λ (nl : a / c.line_words ≡ d / c.line_words → ⊥). ap (λ ws. get_or ws (a % c.line_words) 0) (words-insert_other lines (d / c.line_words) (a / c.line_words) (set (words_of lines (d / c.line_words)) (d % c.line_words) v) nl))
+        (λ (nl : a / c.line_words ≡ d / c.line_words → ⊥). ap (λ ws. get_or ws (a % c.line_words) 0)
+        (words-insert_other lines (d / c.line_words) (a / c.line_words) (set (words_of lines (d / c.line_words))
+        (d % c.line_words) v) nl))
         (cases_eq (a / c.line_words) (d / c.line_words))
 
-    pub dram_word : (es : List (ℕ × ℕ)) (a : ℕ) → (a / c.line_words) % c.banks ≡ bank → word (dram_of c bank es) a ≡ unwrap_or (find nat_cmp a es) 0
-    dram_word [] a home = ap (λ ws. get_or ws (a % c.line_words) 0) (empty_words (a / c.line_words)) ∙ get_replicate 8 (a % c.line_words) 0
+    pub dram_word : (es : List (ℕ × ℕ)) (a : ℕ) → (a / c.line_words) % c.banks ≡ bank → word (dram_of c bank es)
+        a ≡ unwrap_or (find nat_cmp a es) 0
+    dram_word [] a home = ap (λ ws. get_or ws (a % c.line_words) 0) (empty_words (a / c.line_words))
+        ∙ get_replicate 8 (a % c.line_words) 0
     dram_word (e ∷ es) a home =
         ⊎_elim
         (λ (q : a ≡ e.0).
-        let test : eqb ((e.0 / c.line_words) % c.banks) bank ≡ true = eq-eqb _ _ (ap (λ (n : ℕ). (n / c.line_words) % c.banks) (sym q) ∙ home) in
-        ap (λ (b : Bool). word (cond b (with_word (dram_of c bank es) (e.0 / c.line_words) (e.0 % c.line_words) e.1) (dram_of c bank es)) a) test
+        let test : eqb ((e.0 / c.line_words) % c.banks) bank ≡ true =
+        eq-eqb _ _ (ap (λ (n : ℕ). (n / c.line_words) % c.banks) (sym q) ∙ home) in
+        ap (λ (b : Bool). word (cond b (with_word (dram_of c bank es) (e.0 / c.line_words) (e.0 % c.line_words) e.1)
+        (dram_of c bank es)) a) test
         ∙ ap (λ (n : ℕ). word (with_word (dram_of c bank es) (n / c.line_words) (n % c.line_words) e.1) a) (sym q)
         ∙ written (dram_of c bank es) a e.1 (dram_long es (a / c.line_words))
-        ∙ sym (ap (λ (o : Option ℕ). unwrap_or o 0) (cond-true (eq_by_cmp nat_cmp a e.0) (Some e.1) (find nat_cmp a es) (unsigned_tied a e.0 ∙ eq-eqb a e.0 q))))
+        ∙ sym (ap (λ (o : Option ℕ). unwrap_or o 0) (cond-true (eq_by_cmp nat_cmp a e.0) (Some e.1)
+        (find nat_cmp a es) (unsigned_tied a e.0 ∙ eq-eqb a e.0 q))))
         (λ (ne : a ≡ e.0 → ⊥). go (dram_word es a home) ne (eqb ((e.0 / c.line_words) % c.banks) bank)
-        ∙ sym (ap (λ (o : Option ℕ). unwrap_or o 0) (cond-false (eq_by_cmp nat_cmp a e.0) (Some e.1) (find nat_cmp a es) (unsigned_tied a e.0 ∙ ne_eqb a e.0 ne))))
+        ∙ sym (ap (λ (o : Option ℕ). unwrap_or o 0) (cond-false (eq_by_cmp nat_cmp a e.0) (Some e.1)
+        (find nat_cmp a es) (unsigned_tied a e.0 ∙ ne_eqb a e.0 ne))))
         (cases_eq a e.0)
       where
-        go : word (dram_of c bank es) a ≡ unwrap_or (find nat_cmp a es) 0 → (a ≡ e.0 → ⊥) → (b : Bool) → word (cond b (with_word (dram_of c bank es) (e.0 / c.line_words) (e.0 % c.line_words) e.1) (dram_of c bank es)) a ≡ unwrap_or (find nat_cmp a es) 0
+        go : word (dram_of c bank es) a ≡ unwrap_or (find nat_cmp a es) 0 → (a ≡ e.0 → ⊥) → (b : Bool) →
+            word (cond b (with_word (dram_of c bank es) (e.0 / c.line_words) (e.0 % c.line_words) e.1)
+            (dram_of c bank es)) a ≡ unwrap_or (find nat_cmp a es) 0
         go rest ne true = others (dram_of c bank es) a e.0 e.1 ne ∙ rest
         go rest ne false = rest

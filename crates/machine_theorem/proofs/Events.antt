@@ -1,4 +1,4 @@
--- What any event and any list of events make of a machine that stands, stands.
+-- Any event and any list of events keep the invariant.
 use Rattle.std.proofs.Common.{◌≡◌, ℕ, Bool, true, false, cond, List, [], ◌∷◌, Option, Some, None, refl}
 use Rattle.std.specs.List.{slice_get}
 use Rattle.network.specs.declared.message.Node.{Node}
@@ -6,7 +6,8 @@ use Rattle.network.specs.declared.message.Node.TheVariants as node
 use Rattle.network.specs.declared.message.Message.{Message}
 use Rattle.network.specs.Numbered.{at_number}
 use Rattle.machine_table.specs.declared.event.Event.{Event}
-use Rattle.machine_table.specs.declared.event.Event.TheVariants.{Issue, Attempt, Deliver, EvictCache, EvictBank, Advance}
+use Rattle.machine_table.specs.declared.event.Event.TheVariants.{Issue, Attempt, Deliver, EvictCache, EvictBank}
+use Rattle.machine_table.specs.declared.event.Event.TheVariants.{Advance}
 use Rattle.machine_table.specs.declared.event.Refusal.TheVariants.{Stopped}
 use Rattle.machine_table.specs.Machine.{Machine}
 use Rattle.machine_table.specs.Transition.{refused, deliver_to, deliver_message, on_event, transition}
@@ -16,7 +17,8 @@ use Rattle.machine_theorem.proofs.CoreEvents.{any_issue, any_attempt, any_copy_e
 use Rattle.machine_theorem.proofs.Deliveries.{any_core_delivery}
 use Rattle.machine_theorem.proofs.BankEvents.{any_bank_delivery, any_dram_delivery, any_entry_evicted}
 
-delivered : (m : Machine) → Invariant m → (n : ℕ) (o : Option Message) → at_number n m.mail.messages ≡ o → Invariant (deliver_message m n o).1
+delivered : (m : Machine) → Invariant m → (n : ℕ) (o : Option Message) → at_number n m.mail.messages ≡ o →
+    Invariant (deliver_message m n o).1
 delivered m s n None found = s
 delivered m s n (Some message) found = by_node message.to refl
   where

@@ -18,7 +18,8 @@ use Rattle.machine_table.specs.declared.event.Refusal.TheVariants.{NoSuch, Stopp
 use Rattle.machine_table.specs.Machine.{Machine, with_core, with_bank, with_dram}
 use Rattle.network.specs.Mail.{has_number, has_capacity}
 use Rattle.machine_table.specs.Change.{Change, Keeps}
-use Rattle.machine_table.specs.Transition.{changed, refused, deliver_core, deliver_bank, deliver_dram, deliver_to, deliver_message, transition}
+use Rattle.machine_table.specs.Transition.{changed, refused, deliver_core, deliver_bank, deliver_dram, deliver_to}
+use Rattle.machine_table.specs.Transition.{deliver_message, transition}
 use Rattle.machine_theorem.proofs.Changed.{reacted}
 use Rattle.machine_table.specs.declared.event.Answer.{Answer}
 use Rattle.machine_theorem.specs.Cases.{core_case, bank_case, dram_case, has_case_at, has_case}
@@ -32,7 +33,8 @@ case_found true x y is p = p
 case_found false x y is p = absurd (let z : false ≡ true = is in cc)
 
 module _ (m : Machine) (n : ℕ) where
-  tested_found : {S : Type 0} (put : S → Machine) (b : Bool) (done : Change S) (why : Answer) → IsFound (changed m put done) → why ≢ Refused NoSuch → IsFound (changed m put (cond b done (Keeps why)))
+  tested_found : {S : Type 0} (put : S → Machine) (b : Bool) (done : Change S) (why : Answer) →
+      IsFound (changed m put done) → why ≢ Refused NoSuch → IsFound (changed m put (cond b done (Keeps why)))
   tested_found put true done why p q = p
   tested_found put false done why p q = q
 
@@ -42,31 +44,39 @@ module _ (m : Machine) (n : ℕ) where
   reacted_found put (Some (Dropped, part)) = λ e. cc
   reacted_found put (Some (Done None, part)) = λ e. cc
   reacted_found put (Some (Done (Some answer), part)) = (tested_found put (has_number m.mail) _ _ (λ e. cc) (λ e. cc))
-  reacted_found put (Some (HeldAfter started, part)) = (tested_found put (has_capacity m.config.messages m.mail) _ _ (λ e. cc) (λ e. cc))
+  reacted_found put (Some (HeldAfter started, part)) =
+      (tested_found put (has_capacity m.config.messages m.mail) _ _ (λ e. cc) (λ e. cc))
 
   to_found : (message : Message) (to : Node) → has_case_at m message to ≡ true → IsFound (deliver_to m n message to)
   to_found message (node.Core c) has = by_core (slice_get m.cores c) has
     where
       by_core : (o : Option CoreState) → core_case o message ≡ true → IsFound (deliver_core m n message c o)
       by_core None has = absurd (let z : false ≡ true = has in cc)
-      by_core (Some core) has = case_found (core_has_case core message) _ _ has (reacted_found (with_core m c) (core_table core message))
+      by_core (Some core) has =
+          case_found (core_has_case core message) _ _ has (reacted_found (with_core m c) (core_table core message))
   to_found message (node.Bank b) has = by_bank (slice_get m.banks b) has
     where
       by_bank : (o : Option BankState) → bank_case o message ≡ true → IsFound (deliver_bank m n message b o)
       by_bank None has = absurd (let z : false ≡ true = has in cc)
-      by_bank (Some bank) has = case_found (bank_has_case bank message) _ _ has (reacted_found (with_bank m b) (bank_table bank message))
+      by_bank (Some bank) has =
+          case_found (bank_has_case bank message) _ _ has (reacted_found (with_bank m b) (bank_table bank message))
   to_found message (node.Dram b) has = by_dram (slice_get m.drams b) has
     where
-      by_dram : (o : Option (FinMap nat_cmp (List ℕ))) → dram_case o message ≡ true → IsFound (deliver_dram m n message b o)
+      by_dram : (o : Option (FinMap nat_cmp (List ℕ))) → dram_case o message ≡ true →
+          IsFound (deliver_dram m n message b o)
       by_dram None has = absurd (let z : false ≡ true = has in cc)
-      by_dram (Some lines) has = case_found (dram_has_case lines message) _ _ has (reacted_found (with_dram m b) (dram_table lines message))
+      by_dram (Some lines) has =
+          case_found (dram_has_case lines message) _ _ has (reacted_found (with_dram m b) (dram_table lines message))
 
   -- where every message in flight has its case
-  pub delivery_found : Each (λ x. has_case m x.1 ≡ true) m.mail.messages → (message : Message) → at_number n m.mail.messages ≡ Some message → (transition m (Deliver n)).0 ≢ Refused NoSuch
+  pub delivery_found : Each (λ x. has_case m x.1 ≡ true) m.mail.messages → (message : Message) →
+      at_number n m.mail.messages ≡ Some message → (transition m (Deliver n)).0 ≢ Refused NoSuch
   delivery_found cases message found = go m.is_stopped
     where
       delivered : IsFound (deliver_message m n (at_number n m.mail.messages))
-      delivered = subst (λ (o : Option Message). IsFound (deliver_message m n o)) (sym found) (to_found message message.to (each_at_number (λ x. has_case m x.1 ≡ true) n m.mail.messages message found cases (λ k p. p)))
+      delivered = subst (λ (o : Option Message). IsFound (deliver_message m n o)) (sym found)
+          (to_found message message.to (each_at_number (λ x. has_case m x.1 ≡ true) n m.mail.messages message
+          found cases (λ k p. p)))
 
       go : (b : Bool) → IsFound (cond b (refused m Stopped) (deliver_message m n (at_number n m.mail.messages)))
       go true = λ e. cc

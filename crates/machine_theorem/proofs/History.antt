@@ -1,5 +1,6 @@
 -- What holds after any list of events.
-use Rattle.std.proofs.Common.{◌≡◌, ℕ, ◌/◌, ◌%◌, ◌≤◌, true, List, [], length, map, get_or, Option, Some, None, refl, sym, ap, ◌∙◌, subst}
+use Rattle.std.proofs.Common.{◌≡◌, ℕ, ◌/◌, ◌%◌, ◌≤◌, true, List, [], length, map, get_or, Option, Some, None, refl}
+use Rattle.std.proofs.Common.{sym, ap, ◌∙◌, subst}
 use Rattle.std.specs.List.{slice_get}
 use Rattle.std.specs.Ordering.{nat_cmp}
 use Rattle.std.specs.FinMap.{FinMap}
@@ -22,25 +23,33 @@ use Rattle.machine_theorem.specs.Coherence.{owners, coherent}
 use Rattle.machine_theorem.proofs.Events.{any_events}
 use Rattle.machine_theorem.proofs.SetUps.{after_all_same}
 use Rattle.machine_theorem.proofs.Openings.{fair, at_start_invariant}
-use Rattle.machine_theorem.proofs.Standings.{owners_of, coherent_words_are, no_copies}
+use Rattle.machine_theorem.proofs.Coherence.{owners_of, coherent_words_are, no_copies}
 
 -- of a machine that stands
-pub issued_now : (m : Machine) → Invariant m → (core : ℕ) → IsIssued (get_or m.issued core []) (of_core core m.records) (operation_of (slice_get m.cores core))
+pub issued_now : (m : Machine) → Invariant m → (core : ℕ) → IsIssued (get_or m.issued core [])
+    (of_core core m.records) (operation_of (slice_get m.cores core))
 issued_now m s core =
-    subst (IsIssued (get_or m.issued core []) (of_core core m.records)) (seen (slice_get m.cores core)) (what_is_issued (set_up m) s.whole.some_words (view m) s.reached core)
+    subst (IsIssued (get_or m.issued core []) (of_core core m.records)) (seen (slice_get m.cores core))
+    (what_is_issued (set_up m) s.whole.some_words (view m) s.reached core)
   where
     seen : (o : Option CoreState) → (core_seen o).open_op ≡ operation_of o
     seen None = refl
     seen (Some state) = refl
 
 pub one_owner : (m : Machine) → Invariant m → (line : ℕ) → owners m line ≤ 1
-one_owner m s line = subst (λ (n : ℕ). n ≤ 1) (owners_of m line) (at_most_one (set_up m) s.whole.some_words (view m) s.reached (length m.cores) line)
+one_owner m s line = subst (λ (n : ℕ). n ≤ 1) (owners_of m line) (at_most_one (set_up m) s.whole.some_words (view m)
+    s.reached (length m.cores) line)
 
-pub value_left : (m : Machine) → Invariant m → (arranged : List Record) → Arrangement m.records arranged → (word : ℕ) → coherent m word ≡ replay_end (flat m.opening) (map (λ r. r.op) arranged) word
+pub value_left : (m : Machine) → Invariant m → (arranged : List Record) → Arrangement m.records arranged →
+    (word : ℕ) → coherent m word ≡ replay_end (flat m.opening) (map (λ r. r.op) arranged) word
 value_left m s arranged is word =
-    ap (λ ws. get_or ws (word % m.config.line_words) 0) (sym (coherent_words_are m (word / m.config.line_words) (one_owner m s (word / m.config.line_words))))
-    ∙ coherent_is (set_up m) s.whole.some_words (view m) s.reached (length m.cores) (λ core line past. no_copies m core line past) word
-    ∙ ap (λ rs. replay_end (flat m.opening) (map (λ (r : Record). r.op) rs) word) (one_arrangement m.records _ arranged (arrangement_of (flat m.opening) (view m).issued m.records (reachable_ok (set_up m) s.whole.some_words (view m) s.reached).kept) is)
+    ap (λ ws. get_or ws (word % m.config.line_words) 0)
+    (sym (coherent_words_are m (word / m.config.line_words) (one_owner m s (word / m.config.line_words))))
+    ∙ coherent_is (set_up m) s.whole.some_words (view m) s.reached (length m.cores)
+    (λ core line past. no_copies m core line past) word
+    ∙ ap (λ rs. replay_end (flat m.opening) (map (λ (r : Record). r.op) rs) word)
+    (one_arrangement m.records _ arranged (arrangement_of (flat m.opening) (view m).issued m.records
+    (reachable_ok (set_up m) s.whole.some_words (view m) s.reached).kept) is)
 
 pub legal_now : (m : Machine) → Invariant m → Legal (flat m.opening) (λ core. get_or m.issued core []) m.records
 legal_now m s = legal_by_line (set_up m) s.whole.some_words (view m) s.reached
@@ -56,7 +65,10 @@ module _ (config : Config) (opening : FinMap nat_cmp ℕ) (events : List Event) 
   same = (after_all_same (at_start config opening) events).opening
 
   pub legal : Legal (flat opening) (λ core. get_or after.issued core []) after.records
-  legal = subst (λ (o : FinMap nat_cmp ℕ). Legal (flat o) (λ core. get_or after.issued core []) after.records) same (legal_now after invariant)
+  legal = subst (λ (o : FinMap nat_cmp ℕ). Legal (flat o) (λ core. get_or after.issued core []) after.records) same
+      (legal_now after invariant)
 
-  pub each_coherent : (arranged : List Record) → Arrangement after.records arranged → (word : ℕ) → coherent after word ≡ replay_end (flat opening) (map (λ r. r.op) arranged) word
-  each_coherent arranged is word = subst (λ (o : FinMap nat_cmp ℕ). coherent after word ≡ replay_end (flat o) (map (λ r. r.op) arranged) word) same (value_left after invariant arranged is word)
+  pub each_coherent : (arranged : List Record) → Arrangement after.records arranged → (word : ℕ) →
+      coherent after word ≡ replay_end (flat opening) (map (λ r. r.op) arranged) word
+  each_coherent arranged is word = subst (λ (o : FinMap nat_cmp ℕ). coherent after word ≡ replay_end (flat o)
+      (map (λ r. r.op) arranged) word) same (value_left after invariant arranged is word)

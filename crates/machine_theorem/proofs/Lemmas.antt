@@ -1,10 +1,10 @@
 -- What the proofs of this crate give to the crates above: they import this file and no other of this folder.
 
--- What a bank's and a DRAM's events make of a machine that stands, stands.
+-- The events of a bank and of a DRAM keep the invariant.
 pub use Rattle.machine_theorem.proofs.BankEvents.{any_bank_delivery, any_dram_delivery}
--- What a delivery makes of a machine that stands, stands.
+-- A delivery keeps the invariant.
 pub use Rattle.machine_theorem.proofs.Deliveries.{any_core_delivery}
--- What any event and any list of events make of a machine that stands, stands.
+-- Any event and any list of events keep the invariant.
 pub use Rattle.machine_theorem.proofs.Events.{any_transition}
 -- Every message in flight has a case in the table of the part that it goes to.
 pub use Rattle.machine_theorem.proofs.FoundCases.{messages_find_cases}
@@ -14,7 +14,7 @@ pub use Rattle.machine_theorem.proofs.Found.{delivery_found}
 pub use Rattle.machine_theorem.proofs.History.{issued_now, legal_now, one_owner, value_left}
 -- What is found in lists, tables and bags of messages after each change.
 pub use Rattle.machine_theorem.proofs.Lookups.{each_at_number, get-set_other, get-set_same}
--- The machine stands as it opens.
+-- The invariant holds of a machine as it opens.
 pub use Rattle.machine_theorem.proofs.Openings.{at_start_invariant, fair}
 -- Between which nodes the messages go that parts send.
 pub use Rattle.machine_theorem.proofs.Routes.{both, core_and_bank}

@@ -11,7 +11,7 @@ mod Events
 mod SetUps
 mod DramOpening
 mod Openings
-mod Standings
+mod Coherence
 mod History
 mod Routes
 mod Rooms

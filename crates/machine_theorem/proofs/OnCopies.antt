@@ -1,6 +1,7 @@
 -- What a core's table does with one line: operations use copies as the protocol by lines says, and what is done at a
 -- message is a reply to the core or a move of the line.
-use Rattle.std.proofs.Common.{◌≡◌, ℕ, ◌+◌, ◌%◌, ◌<◌, max, Bool, true, false, ◌||◌, ◌&&◌, cond, leb, List, ◌∷◌, Option, Some, None, refl, sym, ◌∙◌, subst, arith}
+use Rattle.std.proofs.Common.{◌≡◌, ℕ, ◌+◌, ◌%◌, ◌<◌, max, Bool, true, false, ◌||◌, ◌&&◌, cond, leb, List, ◌∷◌, Option}
+use Rattle.std.proofs.Common.{Some, None, refl, sym, ◌∙◌, subst, arith}
 use Rattle.std.specs.List.Sorted.{IsPermutation}
 use Rattle.std.proofs.lemmas.Bool.{leb-true, leb-false}
 use Rattle.physiological_order.specs.declared.operation.Op.{Op}
@@ -15,8 +16,11 @@ use Rattle.core_pts.specs.CoreTable.{CoreState, comes_to_core, waits_for, is_sha
 use Rattle.core_pts.specs.OnCopy as on_copy
 use Rattle.core_pts.specs.OnCopy.{is_exclusive, serves, time_of, received_at, copy_after, words_of_copy, at_core}
 use Rattle.core_pts.specs.declared.decision.CoreReaction.{CoreReaction}
-use Rattle.core_pts.specs.declared.decision.CoreReaction.TheVariants.{Arrives, Grants, Returns, Drops, Holds, TooLate, NoCase}
-use Rattle.protocol.specs.Machine.{Config, Message, RenewRep, UpgradeRep, FlushReq, WbReq, Line, with_at, CannotUse, LineTransition, dropped, wb_dropped, flushed, written_back, Answers, shared, exclusive, renews, upgrades, Uses, load_hit, load_own, store_own, swap_own}
+use Rattle.core_pts.specs.declared.decision.CoreReaction.TheVariants.{Arrives, Grants, Returns, Drops, Holds, TooLate}
+use Rattle.core_pts.specs.declared.decision.CoreReaction.TheVariants.{NoCase}
+use Rattle.protocol.specs.Machine.{Config, Message, RenewRep, UpgradeRep, FlushReq, WbReq, Line, with_at, CannotUse}
+use Rattle.protocol.specs.Machine.{LineTransition, dropped, wb_dropped, flushed, written_back, Answers, shared}
+use Rattle.protocol.specs.Machine.{exclusive, renews, upgrades, Uses, load_hit, load_own, store_own, swap_own}
 use Rattle.protocol.proofs.Lemmas.{Some_injective}
 use Rattle.machine_theorem.proofs.Routes.{GoesUp, ownership_of}
 use Rattle.machine_theorem.specs.View.{copy_seen, copy_or_none, body_seen}
@@ -36,28 +40,36 @@ module _ (f : Config) (pts : ℕ) (copy : LineCopy) where
   load_uses a h = go (is_exclusive copy.state) refl h
     where
       go : (e : Bool) → is_exclusive copy.state ≡ e → (e || leb pts copy.rts) ≡ true →
-          Uses f pts (copy_seen copy) (Load a) (received_at (a % f.line_words) (Load a) copy) (max pts copy.wts) (copy_seen (cond e (record copy { rts = max (max pts copy.wts) copy.rts }) copy))
+          Uses f pts (copy_seen copy) (Load a) (received_at (a % f.line_words) (Load a) copy) (max pts copy.wts)
+          (copy_seen (cond e (record copy { rts = max (max pts copy.wts) copy.rts }) copy))
       go true ex k = load_own a ex
       go false sh k = load_hit a sh (leb-true pts copy.rts k)
 
-  pub serves_uses : (op : Op) (ts : ℕ) → serves op pts copy ≡ true → time_of f.private_write pts op copy ≡ Some ts → Used op (address op % f.line_words) ts
-  serves_uses (Load a) ts h t = subst (Used (Load a) (a % f.line_words)) (Some_injective (max pts copy.wts) ts t) (load_uses a h)
+  pub serves_uses : (op : Op) (ts : ℕ) → serves op pts copy ≡ true → time_of f.private_write pts op copy ≡ Some ts →
+      Used op (address op % f.line_words) ts
+  serves_uses (Load a) ts h t =
+      subst (Used (Load a) (a % f.line_words)) (Some_injective (max pts copy.wts) ts t) (load_uses a h)
   serves_uses (Store a v) ts h t =
-      subst (Used (Store a v) (a % f.line_words)) (write_time_is (f.private_write && copy.written) (fits (copy.rts + 1)) (max pts copy.rts) (max pts (copy.rts + 1)) ts t) (store_own a v h)
+      subst (Used (Store a v) (a % f.line_words)) (write_time_is (f.private_write && copy.written)
+      (fits (copy.rts + 1)) (max pts copy.rts) (max pts (copy.rts + 1)) ts t) (store_own a v h)
   serves_uses (Swap a v) ts h t =
-      subst (Used (Swap a v) (a % f.line_words)) (write_time_is (f.private_write && copy.written) (fits (copy.rts + 1)) (max pts copy.rts) (max pts (copy.rts + 1)) ts t) (swap_own a v h)
+      subst (Used (Swap a v) (a % f.line_words)) (write_time_is (f.private_write && copy.written)
+      (fits (copy.rts + 1)) (max pts copy.rts) (max pts (copy.rts + 1)) ts t) (swap_own a v h)
 
 -- one that doesn't, can't be used
-pub serves_not : (op : Op) (pts : ℕ) (copy : LineCopy) → serves op pts copy ≡ false → CannotUse op pts (Some (copy_seen copy))
+pub serves_not : (op : Op) (pts : ℕ) (copy : LineCopy) → serves op pts copy ≡ false →
+    CannotUse op pts (Some (copy_seen copy))
 serves_not (Load a) pts copy h = go (is_exclusive copy.state) refl h
   where
-    go : (e : Bool) → is_exclusive copy.state ≡ e → (e || leb pts copy.rts) ≡ false → (is_exclusive copy.state ≡ false) × (copy.rts < pts)
+    go : (e : Bool) → is_exclusive copy.state ≡ e → (e || leb pts copy.rts) ≡ false →
+        (is_exclusive copy.state ≡ false) × (copy.rts < pts)
     go true ex k = absurd (cc)
     go false sh k = (sh, leb-false pts copy.rts k)
 serves_not (Store a v) pts copy h = (h, tt)
 serves_not (Swap a v) pts copy h = (h, tt)
 
-pub serves_clash : (op : Op) (pts : ℕ) (copy : LineCopy) → serves op pts copy ≡ true → CannotUse op pts (Some (copy_seen copy)) → ⊥
+pub serves_clash : (op : Op) (pts : ℕ) (copy : LineCopy) → serves op pts copy ≡ true →
+    CannotUse op pts (Some (copy_seen copy)) → ⊥
 serves_clash (Load a) pts copy h k = go (is_exclusive copy.state) k.0 h
   where
     go : (e : Bool) → e ≡ false → (e || leb pts copy.rts) ≡ true → ⊥
@@ -71,55 +83,78 @@ abbrev IsThere : Option LineCopy → Type 0
 IsThere o = (old : LineCopy) × (o ≡ Some old)
 
 abbrev pub CoreFits : ℕ → (ℕ → Type 0) → ℕ → ℕ → Line → List Message → Bool → Option LineCopy → CoreReaction → Type 0
-CoreFits lease pinned t c x rest b o (Arrives copy) = Answers c x (record x { copies = with_at x.copies c (Some (copy_seen copy)); messages = rest })
-CoreFits lease pinned t c x rest b o (Grants copy) = IsThere o × Answers c x (record x { copies = with_at x.copies c (Some (copy_seen copy)); messages = rest })
-CoreFits lease pinned t c x rest b o (Returns kept sent) = IsThere o × (b ≡ false) × GoesUp sent × LineTransition lease pinned t x t (record x { copies = with_at x.copies c (copy_or_none kept); messages = body_seen c 0 sent ∷ rest })
+CoreFits lease pinned t c x rest b o (Arrives copy) =
+    Answers c x (record x { copies = with_at x.copies c (Some (copy_seen copy)); messages = rest })
+CoreFits lease pinned t c x rest b o (Grants copy) =
+    IsThere o × Answers c x (record x { copies = with_at x.copies c (Some (copy_seen copy)); messages = rest })
+CoreFits lease pinned t c x rest b o (Returns kept sent) = IsThere o × (b ≡ false) × GoesUp sent ×
+    LineTransition lease pinned t x t (record x {
+      copies = with_at x.copies c (copy_or_none kept);
+      messages =
+          body_seen c 0 sent ∷ rest;
+    })
 CoreFits lease pinned t c x rest b o Drops = LineTransition lease pinned t x t (record x { messages = rest })
 CoreFits lease pinned t c x rest b o Holds = Unit {0}
 CoreFits lease pinned t c x rest b o TooLate = Unit {0}
 CoreFits lease pinned t c x rest b o NoCase = ⊥
 
 module _ (lease : ℕ) (pinned : ℕ → Type 0) (t c : ℕ) (x : Line) (rest : List Message) (b : Bool) where
-  renewed_fits : (rts : ℕ) (o : Option LineCopy) → x.copies c ≡ copy_or_none o → is_shared_copy o ≡ true → IsPermutation x.messages (RenewRep c rts ∷ rest) →
+  renewed_fits : (rts : ℕ) (o : Option LineCopy) → x.copies c ≡ copy_or_none o → is_shared_copy o ≡ true →
+      IsPermutation x.messages (RenewRep c rts ∷ rest) →
       CoreFits lease pinned t c x rest b o (on_copy.with_copy (renewed rts) o)
   renewed_fits rts None is sh p = absurd (cc)
   renewed_fits rts (Some copy) is sh p = ((copy, refl), renews rts (copy_seen copy) rest p is)
 
-  upgraded_fits : (rts : ℕ) (o : Option LineCopy) → x.copies c ≡ copy_or_none o → is_shared_copy o ≡ true → IsPermutation x.messages (UpgradeRep c rts ∷ rest) →
+  upgraded_fits : (rts : ℕ) (o : Option LineCopy) → x.copies c ≡ copy_or_none o → is_shared_copy o ≡ true →
+      IsPermutation x.messages (UpgradeRep c rts ∷ rest) →
       CoreFits lease pinned t c x rest b o (on_copy.with_copy (upgraded rts) o)
   upgraded_fits rts None is sh p = absurd (cc)
   upgraded_fits rts (Some copy) is sh p = ((copy, refl), upgrades rts (copy_seen copy) rest p is)
 
-  flush_fits : (o : Option LineCopy) → x.copies c ≡ copy_or_none o → b ≡ false → (pinned c → ⊥) → IsPermutation x.messages (FlushReq c ∷ rest) → CoreFits lease pinned t c x rest b o (on_copy.flushed o)
+  flush_fits : (o : Option LineCopy) → x.copies c ≡ copy_or_none o → b ≡ false → (pinned c → ⊥) →
+      IsPermutation x.messages (FlushReq c ∷ rest) → CoreFits lease pinned t c x rest b o (on_copy.flushed o)
   flush_fits None is off un p = dropped c rest p
   flush_fits (Some copy) is off un p = go (is_exclusive copy.state) refl
     where
-      go : (e : Bool) → is_exclusive copy.state ≡ e → CoreFits lease pinned t c x rest b (Some copy) (cond e (Returns None (body.FlushRep (words_of_copy copy))) Drops)
+      go : (e : Bool) → is_exclusive copy.state ≡ e → CoreFits lease pinned t c x rest b (Some copy)
+          (cond e (Returns None (body.FlushRep (words_of_copy copy))) Drops)
       go true ex = ((copy, refl), off, (λ cores banks from to. refl), flushed c rest (copy_seen copy) p un is ex)
       go false sh = dropped c rest p
 
-  back_fits : (until : ℕ) (o : Option LineCopy) → x.copies c ≡ copy_or_none o → b ≡ false → (pinned c → ⊥) → IsPermutation x.messages (WbReq c until ∷ rest) → CoreFits lease pinned t c x rest b o (on_copy.written_back lease until o)
+  back_fits : (until : ℕ) (o : Option LineCopy) → x.copies c ≡ copy_or_none o → b ≡ false → (pinned c → ⊥) →
+      IsPermutation x.messages (WbReq c until ∷ rest) → CoreFits lease pinned t c x rest b o
+      (on_copy.written_back lease until o)
   back_fits until None is off un p = wb_dropped c until rest p
   back_fits until (Some copy) is off un p = go (is_exclusive copy.state) refl
     where
-      by_time : is_exclusive copy.state ≡ true → (fit : Bool) → CoreFits lease pinned t c x rest b (Some copy) (on_copy.returned copy (cond fit (Some (max (max copy.rts (copy.wts + lease)) until)) None))
-      by_time ex true = ((copy, refl), off, (λ cores banks from to. refl), written_back c until rest (copy_seen copy) p un is ex)
+      by_time : is_exclusive copy.state ≡ true → (fit : Bool) → CoreFits lease pinned t c x rest b (Some copy)
+          (on_copy.returned copy (cond fit (Some (max (max copy.rts (copy.wts + lease)) until)) None))
+      by_time ex true =
+          ((copy, refl), off, (λ cores banks from to. refl), written_back c until rest (copy_seen copy) p un is ex)
       by_time ex false = tt
 
-      go : (e : Bool) → is_exclusive copy.state ≡ e → CoreFits lease pinned t c x rest b (Some copy) (cond e (on_copy.returned copy (returned_lease copy.wts copy.rts until lease)) Drops)
+      go : (e : Bool) → is_exclusive copy.state ≡ e → CoreFits lease pinned t c x rest b (Some copy)
+          (cond e (on_copy.returned copy (returned_lease copy.wts copy.rts until lease)) Drops)
       go true ex = by_time ex (fits (copy.wts + lease))
       go false sh = wb_dropped c until rest p
 
-  unless_open : (q : Bool) (o : Option LineCopy) (r : CoreReaction) → (q ≡ false → CoreFits lease pinned t c x rest b o r) → CoreFits lease pinned t c x rest b o (cond q Holds r)
+  unless_open : (q : Bool) (o : Option LineCopy) (r : CoreReaction) →
+      (q ≡ false → CoreFits lease pinned t c x rest b o r) → CoreFits lease pinned t c x rest b o (cond q Holds r)
   unless_open true o r h = tt
   unless_open false o r h = h refl
 
-  pub core_fits : (core : CoreState) (line : ℕ) (m : Body) → (b ≡ false → pinned c → ⊥) → comes_to_core core line m ≡ true → x.copies c ≡ copy_or_none (copy_of core.cache line) → IsPermutation x.messages (body_seen 0 c m ∷ rest) →
+  pub core_fits : (core : CoreState) (line : ℕ) (m : Body) → (b ≡ false → pinned c → ⊥) → comes_to_core core line
+      m ≡ true → x.copies c ≡ copy_or_none (copy_of core.cache line) → IsPermutation x.messages
+      (body_seen 0 c m ∷ rest) →
       CoreFits lease pinned t c x rest b (copy_of core.cache line) (at_core lease b (copy_of core.cache line) m)
-  core_fits core line (body.ShRep y) un has is p = shared (record { wts = y.wts; rts = y.rts; words = y.words }) rest p
-  core_fits core line (body.ExRep y) un has is p = exclusive (record { wts = y.wts; rts = y.rts; words = y.words }) rest p
-  core_fits core line (body.RenewRep rts) un has is p = renewed_fits rts _ is (ownership_of (waits_for core line) _ has) p
-  core_fits core line (body.UpgradeRep rts) un has is p = upgraded_fits rts _ is (ownership_of (waits_for core line) _ has) p
+  core_fits core line (body.ShRep y) un has is p =
+      shared (record { wts = y.wts; rts = y.rts; words = y.words }) rest p
+  core_fits core line (body.ExRep y) un has is p =
+      exclusive (record { wts = y.wts; rts = y.rts; words = y.words }) rest p
+  core_fits core line (body.RenewRep rts) un has is p =
+      renewed_fits rts _ is (ownership_of (waits_for core line) _ has) p
+  core_fits core line (body.UpgradeRep rts) un has is p =
+      upgraded_fits rts _ is (ownership_of (waits_for core line) _ has) p
   core_fits core line body.FlushReq un has is p = unless_open b _ _ (λ e. flush_fits _ is e (un e) p)
   core_fits core line (body.WbReq until) un has is p = unless_open b _ _ (λ e. back_fits until _ is e (un e) p)
   core_fits core line (body.ShReq pts v) un has is p = absurd (let z : false ≡ true = has in cc)

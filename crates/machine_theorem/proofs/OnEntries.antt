@@ -1,5 +1,6 @@
 -- What a bank's table does with one line is moves of the line.
-use Rattle.std.proofs.Common.{◌≡◌, ℕ, ◌+◌, max, Bool, true, false, ◌&&◌, cond, List, ◌∷◌, Option, Some, None, refl, ap, ◌∙◌, subst}
+use Rattle.std.proofs.Common.{◌≡◌, ℕ, ◌+◌, max, Bool, true, false, ◌&&◌, cond, List, ◌∷◌, Option, Some, None, refl}
+use Rattle.std.proofs.Common.{ap, ◌∙◌, subst}
 use Rattle.std.specs.List.Sorted.{IsPermutation}
 use Rattle.std.proofs.lemmas.Bool.{eqb-true}
 use Rattle.network.specs.declared.message.Node.TheVariants.{Core}
@@ -13,8 +14,11 @@ use Rattle.timestamp_manager.specs.Lease.{fits, is_version}
 use Rattle.llc_bank.specs.declared.entry.Entry.{Entry}
 use Rattle.llc_bank.specs.declared.entry.Entry.TheVariants as entry
 use Rattle.llc_bank.specs.OnEntry as on_entry
-use Rattle.llc_bank.specs.BankTable.{BankState, entry_of, with_used, with_changed, without_entry, from_bank, to_dram, after_decision, comes_to_bank, is_owned, is_loading, is_storing}
-use Rattle.protocol.specs.Machine.{Message, Absent, Loading, Shared, Recalling, ShReq, ExReq, DramLd, DramLdRep, DramStRep, Line, LineTransition, load_starts, renewed, leased, upgraded, granted, wb_starts, flush_starts, flush_returns, wb_returns, loaded, stored}
+use Rattle.llc_bank.specs.BankTable.{BankState, entry_of, with_used, with_changed, without_entry, from_bank, to_dram}
+use Rattle.llc_bank.specs.BankTable.{after_decision, comes_to_bank, is_owned, is_loading, is_storing}
+use Rattle.protocol.specs.Machine.{Message, Absent, Loading, Shared, Recalling, ShReq, ExReq, DramLd, DramLdRep}
+use Rattle.protocol.specs.Machine.{DramStRep, Line, LineTransition, load_starts, renewed, leased, upgraded, granted}
+use Rattle.protocol.specs.Machine.{wb_starts, flush_starts, flush_returns, wb_returns, loaded, stored}
 use Rattle.network.specs.Routes.{is_core_to_bank, has_route}
 use Rattle.machine_theorem.proofs.Routes.{GoesDown}
 use Rattle.machine_theorem.specs.View.{timed, entry_seen, body_seen}
@@ -27,17 +31,32 @@ IsFor c _ = Unit {0}
 
 -- whatever holds after each move that a bank may decide on, holds after its table: rest are the messages of the line but
 -- the delivered one, c the core that this is from
-module _ (lease : ℕ) (pinned : ℕ → Type 0) (t : ℕ) (x : Line) (rest : List Message) (c : ℕ) (bank : BankState) (m : network.Message) (cores banks : ℕ) (P : Option (Reaction × BankState) → Type 0)
+module _ (lease : ℕ) (pinned : ℕ → Type 0) (t : ℕ) (x : Line) (rest : List Message) (c : ℕ) (bank : BankState)
+    (m : network.Message) (cores banks : ℕ) (P : Option (Reaction × BankState) → Type 0)
     (seen : x.entry ≡ entry_seen (entry_of bank m.line))
     (waits : P (Some (Held, bank)))
     (late : P None)
-    (loads : LineTransition lease pinned t x t (record x { entry = Loading; messages = DramLd ∷ x.messages }) → P (Some (HeldAfter (to_dram bank m.line body.DramLd), with_used bank m.line entry.Loading)))
-    (recalls : (owner : ℕ) (sent : Body) → GoesDown sent → entry_of bank m.line ≡ Some (entry.Exclusive owner) → LineTransition lease pinned t x t (record x { entry = Recalling owner; messages = body_seen 0 owner sent ∷ x.messages }) →
+    (loads : LineTransition lease pinned t x t (record x { entry = Loading; messages = DramLd ∷ x.messages }) →
+    P (Some (HeldAfter (to_dram bank m.line body.DramLd), with_used bank m.line entry.Loading)))
+    (recalls : (owner : ℕ) (sent : Body) → GoesDown sent → entry_of bank m.line ≡ Some (entry.Exclusive owner) →
+    LineTransition lease pinned t x t (record x {
+      entry = Recalling owner;
+      messages =
+          body_seen 0 owner sent ∷ x.messages;
+    }) →
     P (Some (HeldAfter (from_bank bank m.line (Core owner) sent), with_changed bank m.line (entry.Recalling owner))))
-    (grants : (e : Entry) (sent : Body) → GoesDown sent → IsFor c e → is_core_to_bank cores banks m.from m.to ≡ true → LineTransition lease pinned t x t (record x { entry = entry_seen (Some e); messages = body_seen 0 c sent ∷ rest }) →
+    (grants : (e : Entry) (sent : Body) → GoesDown sent → IsFor c e → is_core_to_bank cores banks m.from m.to ≡ true →
+    LineTransition lease pinned t x t (record x {
+      entry = entry_seen (Some e);
+      messages =
+          body_seen 0 c sent ∷ rest;
+    }) →
     P (Some (Done (Some (from_bank bank m.line m.from sent)), with_used bank m.line e)))
-    (becomes : (dirty : Bool) (line : TimedLine) (old : Entry) → entry_of bank m.line ≡ Some old → LineTransition lease pinned t x t (record x { entry = Shared dirty (timed line); messages = rest }) → P (Some (Done None, with_changed bank m.line (entry.Shared dirty line))))
-    (leaves : LineTransition lease pinned t x t (record x { entry = Absent; messages = rest }) → P (Some (Done None, without_entry bank m.line)))
+    (becomes : (dirty : Bool) (line : TimedLine) (old : Entry) → entry_of bank m.line ≡ Some old →
+    LineTransition lease pinned t x t (record x { entry = Shared dirty (timed line); messages = rest }) →
+    P (Some (Done None, with_changed bank m.line (entry.Shared dirty line))))
+    (leaves : LineTransition lease pinned t x t (record x { entry = Absent; messages = rest }) →
+    P (Some (Done None, without_entry bank m.line)))
   where
     is : (e : Option Entry) → entry_of bank m.line ≡ e → x.entry ≡ entry_seen e
     is e at = seen ∙ ap entry_seen at
@@ -48,44 +67,73 @@ module _ (lease : ℕ) (pinned : ℕ → Type 0) (t : ℕ) (x : Line) (rest : Li
     load_goes false absent = waits
 
     -- a reader of a line is given a lease
-    lease_goes : (pts : ℕ) (version : Option ℕ) (dirty : Bool) (line : TimedLine) → is_core_to_bank cores banks m.from m.to ≡ true → x.entry ≡ Shared dirty (timed line) → IsPermutation x.messages (ShReq c pts version ∷ rest) →
-        (b : Bool) → is_version line.wts version ≡ b → P (after_decision bank m (on_entry.leased dirty line (Some (max (max line.rts (line.wts + lease)) (pts + lease), b))))
+    lease_goes : (pts : ℕ) (version : Option ℕ) (dirty : Bool) (line : TimedLine) → is_core_to_bank cores banks m.from
+        m.to ≡ true → x.entry ≡ Shared dirty (timed line) → IsPermutation x.messages (ShReq c pts version ∷ rest) →
+        (b : Bool) → is_version line.wts version ≡ b →
+        P (after_decision bank m
+        (on_entry.leased dirty line (Some (max (max line.rts (line.wts + lease)) (pts + lease), b))))
     lease_goes pts None dirty line up at p true v = absurd (let z : false ≡ true = v in cc)
-    lease_goes pts (Some w) dirty line up at p true v = grants _ _ (λ cs bs f g. refl) tt up (renewed c pts dirty (timed line) rest at (subst (λ (u : ℕ). IsPermutation x.messages (ShReq c pts (Some u) ∷ rest)) (eqb-true w line.wts v) p))
-    lease_goes pts version dirty line up at p false v = grants _ _ (λ cs bs f g. refl) tt up (leased c pts version dirty (timed line) rest at p)
+    lease_goes pts (Some w) dirty line up at p true v = grants _ _ (λ cs bs f g. refl) tt up
+        (renewed c pts dirty (timed line) rest at
+        (subst (λ (u : ℕ). IsPermutation x.messages (ShReq c pts (Some u) ∷ rest)) (eqb-true w line.wts v) p))
+    lease_goes pts version dirty line up at p false v =
+        grants _ _ (λ cs bs f g. refl) tt up (leased c pts version dirty (timed line) rest at p)
 
-    leases_go : (pts : ℕ) (version : Option ℕ) (dirty : Bool) (line : TimedLine) → is_core_to_bank cores banks m.from m.to ≡ true → x.entry ≡ Shared dirty (timed line) → IsPermutation x.messages (ShReq c pts version ∷ rest) →
-        (b : Bool) → P (after_decision bank m (on_entry.leased dirty line (cond b (Some (max (max line.rts (line.wts + lease)) (pts + lease), is_version line.wts version)) None)))
-    leases_go pts version dirty line up at p true = lease_goes pts version dirty line up at p (is_version line.wts version) refl
+    leases_go : (pts : ℕ) (version : Option ℕ) (dirty : Bool) (line : TimedLine) → is_core_to_bank cores banks m.from
+        m.to ≡ true → x.entry ≡ Shared dirty (timed line) → IsPermutation x.messages (ShReq c pts version ∷ rest) →
+        (b : Bool) →
+        P (after_decision bank m
+        (on_entry.leased dirty line
+        (cond b (Some (max (max line.rts (line.wts + lease)) (pts + lease), is_version line.wts version)) None)))
+    leases_go pts version dirty line up at p true =
+        lease_goes pts version dirty line up at p (is_version line.wts version) refl
     leases_go pts version dirty line up at p false = late
 
-    back_goes : (owner pts : ℕ) → entry_of bank m.line ≡ Some (entry.Exclusive owner) → (b : Bool) → P (after_decision bank m (on_entry.asked_back owner (cond b (Some (pts + lease)) None)))
+    back_goes : (owner pts : ℕ) → entry_of bank m.line ≡ Some (entry.Exclusive owner) → (b : Bool) →
+        P (after_decision bank m (on_entry.asked_back owner (cond b (Some (pts + lease)) None)))
     back_goes owner pts at true = recalls owner _ (λ cs bs f g. refl) at (wb_starts owner (pts + lease) (is _ at))
     back_goes owner pts at false = late
 
-    shared_goes : (room : Bool) (pts : ℕ) (v : Option ℕ) (e : Option Entry) → is_core_to_bank cores banks m.from m.to ≡ true → entry_of bank m.line ≡ e → IsPermutation x.messages (ShReq c pts v ∷ rest) → P (after_decision bank m (on_entry.shared_request lease room pts v e))
+    shared_goes : (room : Bool) (pts : ℕ) (v : Option ℕ) (e : Option Entry) → is_core_to_bank cores banks m.from
+        m.to ≡ true → entry_of bank m.line ≡ e → IsPermutation x.messages (ShReq c pts v ∷ rest) →
+        P (after_decision bank m (on_entry.shared_request lease room pts v e))
     shared_goes room pts v None up at p = load_goes room (is _ at)
     shared_goes room pts v (Some entry.Loading) up at p = waits
-    shared_goes room pts v (Some (entry.Shared dirty line)) up at p = leases_go pts v dirty line up (is _ at) p (fits (line.wts + lease) && fits (pts + lease))
+    shared_goes room pts v (Some (entry.Shared dirty line)) up at p =
+        leases_go pts v dirty line up (is _ at) p (fits (line.wts + lease) && fits (pts + lease))
     shared_goes room pts v (Some (entry.Exclusive o)) up at p = back_goes o pts at (fits (pts + lease))
     shared_goes room pts v (Some (entry.Recalling o)) up at p = waits
     shared_goes room pts v (Some entry.Storing) up at p = waits
 
-    grant_goes : (v : Option ℕ) (dirty : Bool) (line : TimedLine) → is_core_to_bank cores banks m.from m.to ≡ true → x.entry ≡ Shared dirty (timed line) → IsPermutation x.messages (ExReq c v ∷ rest) →
-        (b : Bool) → is_version line.wts v ≡ b → P (Some (Done (Some (from_bank bank m.line m.from (cond b (body.UpgradeRep line.rts) (body.ExRep line)))), with_used bank m.line (entry.Exclusive c)))
+    grant_goes : (v : Option ℕ) (dirty : Bool) (line : TimedLine) → is_core_to_bank cores banks m.from m.to ≡ true →
+        x.entry ≡ Shared dirty (timed line) → IsPermutation x.messages (ExReq c v ∷ rest) →
+        (b : Bool) → is_version line.wts v ≡ b →
+        P (Some (
+          Done (Some (from_bank bank m.line m.from (cond b (body.UpgradeRep line.rts) (body.ExRep line)))),
+          with_used bank m.line (entry.Exclusive c),
+        ))
     grant_goes None dirty line up at p true v = absurd (let z : false ≡ true = v in cc)
-    grant_goes (Some w) dirty line up at p true v = grants _ _ (λ cs bs f g. refl) refl up (upgraded c dirty (timed line) rest at (subst (λ (u : ℕ). IsPermutation x.messages (ExReq c (Some u) ∷ rest)) (eqb-true w line.wts v) p))
-    grant_goes version dirty line up at p false v = grants _ _ (λ cs bs f g. refl) refl up (granted c version dirty (timed line) rest at p)
+    grant_goes (Some w) dirty line up at p true v = grants _ _ (λ cs bs f g. refl) refl up
+        (upgraded c dirty (timed line) rest at (subst (λ (u : ℕ). IsPermutation x.messages (ExReq c (Some u) ∷ rest))
+        (eqb-true w line.wts v) p))
+    grant_goes version dirty line up at p false v =
+        grants _ _ (λ cs bs f g. refl) refl up (granted c version dirty (timed line) rest at p)
 
-    exclusive_goes : (room : Bool) (v : Option ℕ) (e : Option Entry) → is_core_to_bank cores banks m.from m.to ≡ true → entry_of bank m.line ≡ e → IsPermutation x.messages (ExReq c v ∷ rest) → P (after_decision bank m (on_entry.exclusive_request room c v e))
+    exclusive_goes : (room : Bool) (v : Option ℕ) (e : Option Entry) → is_core_to_bank cores banks m.from m.to ≡
+        true → entry_of bank m.line ≡ e → IsPermutation x.messages (ExReq c v ∷ rest) →
+        P (after_decision bank m (on_entry.exclusive_request room c v e))
     exclusive_goes room v None up at p = load_goes room (is _ at)
     exclusive_goes room v (Some entry.Loading) up at p = waits
-    exclusive_goes room v (Some (entry.Shared dirty line)) up at p = grant_goes v dirty line up (is _ at) p (is_version line.wts v) refl
-    exclusive_goes room v (Some (entry.Exclusive o)) up at p = recalls o _ (λ cs bs f g. refl) at (flush_starts o (is _ at))
+    exclusive_goes room v (Some (entry.Shared dirty line)) up at p =
+        grant_goes v dirty line up (is _ at) p (is_version line.wts v) refl
+    exclusive_goes room v (Some (entry.Exclusive o)) up at p =
+        recalls o _ (λ cs bs f g. refl) at (flush_starts o (is _ at))
     exclusive_goes room v (Some (entry.Recalling o)) up at p = waits
     exclusive_goes room v (Some entry.Storing) up at p = waits
 
-    returns_go : (line : TimedLine) (e : Option Entry) → entry_of bank m.line ≡ e → is_owned e ≡ true → LineTransition lease pinned t x t (record x { entry = Shared true (timed line); messages = rest }) → P (after_decision bank m (on_entry.given_back line e))
+    returns_go : (line : TimedLine) (e : Option Entry) → entry_of bank m.line ≡ e → is_owned e ≡ true →
+        LineTransition lease pinned t x t (record x { entry = Shared true (timed line); messages = rest }) →
+        P (after_decision bank m (on_entry.given_back line e))
     returns_go line (Some (entry.Exclusive o)) at h mv = becomes _ _ _ at mv
     returns_go line (Some (entry.Recalling o)) at h mv = becomes _ _ _ at mv
     returns_go line None at h mv = absurd (let z : false ≡ true = h in cc)
@@ -93,7 +141,8 @@ module _ (lease : ℕ) (pinned : ℕ → Type 0) (t : ℕ) (x : Line) (rest : Li
     returns_go line (Some (entry.Shared d y)) at h mv = absurd (let z : false ≡ true = h in cc)
     returns_go line (Some entry.Storing) at h mv = absurd (let z : false ≡ true = h in cc)
 
-    words_go : (ws : List ℕ) (e : Option Entry) → entry_of bank m.line ≡ e → is_loading e ≡ true → IsPermutation x.messages (DramLdRep ws ∷ rest) → P (after_decision bank m (on_entry.filled t ws e))
+    words_go : (ws : List ℕ) (e : Option Entry) → entry_of bank m.line ≡ e → is_loading e ≡ true →
+        IsPermutation x.messages (DramLdRep ws ∷ rest) → P (after_decision bank m (on_entry.filled t ws e))
     words_go ws (Some entry.Loading) at h p = becomes _ _ _ at (loaded ws rest p)
     words_go ws None at h p = absurd (let z : false ≡ true = h in cc)
     words_go ws (Some (entry.Shared d y)) at h p = absurd (let z : false ≡ true = h in cc)
@@ -101,7 +150,8 @@ module _ (lease : ℕ) (pinned : ℕ → Type 0) (t : ℕ) (x : Line) (rest : Li
     words_go ws (Some (entry.Recalling o)) at h p = absurd (let z : false ≡ true = h in cc)
     words_go ws (Some entry.Storing) at h p = absurd (let z : false ≡ true = h in cc)
 
-    stored_goes : (e : Option Entry) → is_storing e ≡ true → IsPermutation x.messages (DramStRep ∷ rest) → P (after_decision bank m (on_entry.stored e))
+    stored_goes : (e : Option Entry) → is_storing e ≡ true → IsPermutation x.messages (DramStRep ∷ rest) →
+        P (after_decision bank m (on_entry.stored e))
     stored_goes (Some entry.Storing) h p = leaves (stored rest p)
     stored_goes None h p = absurd (let z : false ≡ true = h in cc)
     stored_goes (Some entry.Loading) h p = absurd (let z : false ≡ true = h in cc)
@@ -109,7 +159,8 @@ module _ (lease : ℕ) (pinned : ℕ → Type 0) (t : ℕ) (x : Line) (rest : Li
     stored_goes (Some (entry.Exclusive o)) h p = absurd (let z : false ≡ true = h in cc)
     stored_goes (Some (entry.Recalling o)) h p = absurd (let z : false ≡ true = h in cc)
 
-    pub bank_goes : (room : Bool) (b : Body) → comes_to_bank m.from (entry_of bank m.line) b ≡ true → has_route cores banks m.from m.to b ≡ true → IsPermutation x.messages (body_seen c 0 b ∷ rest) →
+    pub bank_goes : (room : Bool) (b : Body) → comes_to_bank m.from (entry_of bank m.line) b ≡ true →
+        has_route cores banks m.from m.to b ≡ true → IsPermutation x.messages (body_seen c 0 b ∷ rest) →
         P (after_decision bank m (on_entry.at_bank lease t room c (entry_of bank m.line) b))
     bank_goes room (body.ShReq pts v) has up p = shared_goes room pts v _ up refl p
     bank_goes room (body.ExReq v) has up p = exclusive_goes room v _ up refl p

@@ -1,5 +1,7 @@
--- The machine stands as it opens.
-use Rattle.std.proofs.Common.{◌≡◌, ℕ, zero, suc, ◌+◌, ◌/◌, ◌%◌, ◌<◌, ◌≤◌, Bool, true, false, ◌&&◌, ◌||◌, eqb, leb, List, [], length, replicate, get_or, Option, Some, None, refl, sym, ap, ◌∙◌, subst, arith}
+-- The invariant holds of a machine as it opens.
+use Rattle.std.proofs.Common.{◌≡◌, ℕ, zero, suc, ◌+◌, ◌/◌, ◌%◌, ◌<◌, ◌≤◌, Bool, true, false, ◌&&◌, ◌||◌, eqb, leb}
+use Rattle.std.proofs.Common.{List, [], length, replicate, get_or, Option, Some, None, refl, sym, ap, ◌∙◌, subst}
+use Rattle.std.proofs.Common.{arith}
 use Rattle.std.specs.Prelude.{unwrap_or}
 use Rattle.std.specs.List.{slice_get}
 use Rattle.std.specs.Ordering.{nat_cmp}
@@ -15,7 +17,8 @@ use Rattle.llc_bank.specs.BankTable.{BankState, empty_bank, entry_of}
 use Rattle.machine_table.specs.declared.config.Config.{Config}
 use Rattle.machine_table.specs.SetUp.{is_within, is_good}
 use Rattle.machine_table.specs.Machine.{Machine}
-use Rattle.machine_table.specs.Opening.{core_config, geometry, bank_config, cores_from, banks_from, dram_of, drams_from, at_start}
+use Rattle.machine_table.specs.Opening.{core_config, geometry, bank_config, cores_from, banks_from, dram_of}
+use Rattle.machine_table.specs.Opening.{drams_from, at_start}
 use Rattle.protocol.specs.Machine as by_line
 use Rattle.protocol.specs.Machine.{Absent, OpensWith, Reachable, at_first}
 use Rattle.protocol.proofs.Lemmas.{Some_injective}
@@ -55,7 +58,8 @@ fair c good =
     let parts = parts_of shape caches banks words lease good in
     let line = one_or_eight c.line_words parts.3 in
     record {
-      some_banks = some_of c.banks 8 (ownership_of (is_within c.cores 64) (is_within c.banks 8) (left_of (is_within c.cores 64 && is_within c.banks 8) (is_within c.messages 65536) parts.0));
+      some_banks = some_of c.banks 8 (ownership_of (is_within c.cores 64) (is_within c.banks 8)
+          (left_of (is_within c.cores 64 && is_within c.banks 8) (is_within c.messages 65536) parts.0));
       some_sets = some_of c.sets 1024 (left_of _ (is_within c.ways 16) parts.1);
       some_bank_sets = some_of c.bank_sets 1024 (left_of _ (is_within c.bank_ways 16) parts.2);
       some_words = line.0;
@@ -71,25 +75,33 @@ fair c good =
 
 module _ (c : Config) where
   -- cores, banks and DRAMs by their numbers
-  cores_at : (number n k : ℕ) (core : CoreState) → slice_get (cores_from c number n) k ≡ Some core → opened (core_config c (number + k)) (geometry c) ≡ core
+  cores_at : (number n k : ℕ) (core : CoreState) → slice_get (cores_from c number n) k ≡ Some core →
+      opened (core_config c (number + k)) (geometry c) ≡ core
   cores_at number zero k core h = absurd (let z : ◌≡◌ {A = Option CoreState} None (Some core) = h in cc)
-  cores_at number (suc n) zero core h = ap (λ (i : ℕ). opened (core_config c i) (geometry c)) (omega arith) ∙ Some_injective _ core h
-  cores_at number (suc n) (suc k) core h = ap (λ (i : ℕ). opened (core_config c i) (geometry c)) (omega arith) ∙ cores_at (number + 1) n k core h
+  cores_at number (suc n) zero core h = ap (λ (i : ℕ). opened (core_config c i) (geometry c)) (omega arith)
+      ∙ Some_injective _ core h
+  cores_at number (suc n) (suc k) core h = ap (λ (i : ℕ). opened (core_config c i) (geometry c)) (omega arith)
+      ∙ cores_at (number + 1) n k core h
 
-  banks_at : (number n k : ℕ) (bank : BankState) → slice_get (banks_from c number n) k ≡ Some bank → empty_bank (bank_config c (number + k)) ≡ bank
+  banks_at : (number n k : ℕ) (bank : BankState) → slice_get (banks_from c number n) k ≡ Some bank →
+      empty_bank (bank_config c (number + k)) ≡ bank
   banks_at number zero k bank h = absurd (let z : ◌≡◌ {A = Option BankState} None (Some bank) = h in cc)
-  banks_at number (suc n) zero bank h = ap (λ (i : ℕ). empty_bank (bank_config c i)) (omega arith) ∙ Some_injective _ bank h
-  banks_at number (suc n) (suc k) bank h = ap (λ (i : ℕ). empty_bank (bank_config c i)) (omega arith) ∙ banks_at (number + 1) n k bank h
+  banks_at number (suc n) zero bank h = ap (λ (i : ℕ). empty_bank (bank_config c i)) (omega arith)
+      ∙ Some_injective _ bank h
+  banks_at number (suc n) (suc k) bank h = ap (λ (i : ℕ). empty_bank (bank_config c i)) (omega arith)
+      ∙ banks_at (number + 1) n k bank h
 
   bank_there : (number n k : ℕ) → k < n → time_in (slice_get (banks_from c number n) k) ≡ c.opening_time
   bank_there number zero k h = absurd (omega arith)
   bank_there number (suc n) zero h = refl
   bank_there number (suc n) (suc k) h = bank_there (number + 1) n k (omega arith)
 
-  drams_at : (es : List (ℕ × ℕ)) (number n k l : ℕ) → k < n → words_in (slice_get (drams_from c es number n) k) l ≡ words_of (dram_of c (number + k) es) l
+  drams_at : (es : List (ℕ × ℕ)) (number n k l : ℕ) → k < n → words_in (slice_get (drams_from c es number n) k)
+      l ≡ words_of (dram_of c (number + k) es) l
   drams_at es number zero k l h = absurd (omega arith)
   drams_at es number (suc n) zero l h = ap (λ (i : ℕ). words_of (dram_of c i es) l) (omega arith)
-  drams_at es number (suc n) (suc k) l h = drams_at es (number + 1) n k l (omega arith) ∙ ap (λ (i : ℕ). words_of (dram_of c i es) l) (omega arith)
+  drams_at es number (suc n) (suc k) l h =
+      drams_at es (number + 1) n k l (omega arith) ∙ ap (λ (i : ℕ). words_of (dram_of c i es) l) (omega arith)
 
   length-cores_from : (number n : ℕ) → length (cores_from c number n) ≡ n
   length-cores_from number zero = refl
@@ -104,12 +116,14 @@ module _ (c : Config) where
   length-drams_from es number (suc n) = ap suc (length-drams_from es (number + 1) n)
 
   -- what holds of no core and of each core as it opens
-  any_core : (P : Option CoreState → Type 0) → P None → ((i : ℕ) → P (Some (opened (core_config c i) (geometry c)))) → (number n k : ℕ) → P (slice_get (cores_from c number n) k)
+  any_core : (P : Option CoreState → Type 0) → P None → ((i : ℕ) → P (Some (opened (core_config c i) (geometry c)))) →
+      (number n k : ℕ) → P (slice_get (cores_from c number n) k)
   any_core P none some number zero k = none
   any_core P none some number (suc n) zero = some number
   any_core P none some number (suc n) (suc k) = any_core P none some (number + 1) n k
 
-  any_bank : (P : Option BankState → Type 0) → P None → ((i : ℕ) → P (Some (empty_bank (bank_config c i)))) → (number n k : ℕ) → P (slice_get (banks_from c number n) k)
+  any_bank : (P : Option BankState → Type 0) → P None → ((i : ℕ) → P (Some (empty_bank (bank_config c i)))) →
+      (number n k : ℕ) → P (slice_get (banks_from c number n) k)
   any_bank P none some number zero k = none
   any_bank P none some number (suc n) zero = some number
   any_bank P none some number (suc n) (suc k) = any_bank P none some (number + 1) n k
@@ -118,7 +132,8 @@ module _ (c : Config) where
   no_copy i l = ap (λ ps. copy_or_none (find ps l)) (get_replicate c.sets (l % length (replicate c.sets [])) [])
 
   no_entry : (i l : ℕ) → entry_of (empty_bank (bank_config c i)) l ≡ None
-  no_entry i l = ap (λ ps. find ps l) (get_replicate c.bank_sets ((l / c.banks) % length (replicate c.bank_sets [])) [])
+  no_entry i l =
+      ap (λ ps. find ps l) (get_replicate c.bank_sets ((l / c.banks) % length (replicate c.bank_sets [])) [])
 
   module _ (opening : FinMap nat_cmp ℕ) (f : Fair c) where
     abbrev m : Machine
@@ -128,12 +143,15 @@ module _ (c : Config) where
     drams l = words_in (slice_get m.drams (l % c.banks)) l
 
     dram_is : (l : ℕ) → drams l ≡ words_of (dram_of c (l % c.banks) (entries opening)) l
-    dram_is l = drams_at (entries opening) 0 c.banks (l % c.banks) l (mod-lt l f.some_banks) ∙ ap (λ (i : ℕ). words_of (dram_of c i (entries opening)) l) (omega arith)
+    dram_is l = drams_at (entries opening) 0 c.banks (l % c.banks) l (mod-lt l f.some_banks)
+        ∙ ap (λ (i : ℕ). words_of (dram_of c i (entries opening)) l) (omega arith)
 
     opens : OpensWith (set_up m) drams
     opens = record {
-      long = λ l. subst (λ (ws : List ℕ). c.line_words ≤ length ws) (sym (dram_is l)) (let n = dram_long c (l % c.banks) (entries opening) l in let w = f.most_words in omega arith);
-      same = λ a. ap (λ ws. get_or ws (a % c.line_words) 0) (dram_is (a / c.line_words)) ∙ dram_word c ((a / c.line_words) % c.banks) f.some_words f.most_words (entries opening) a refl
+      long = λ l. subst (λ (ws : List ℕ). c.line_words ≤ length ws) (sym (dram_is l)) (let n =
+          dram_long c (l % c.banks) (entries opening) l in let w = f.most_words in omega arith);
+      same = λ a. ap (λ ws. get_or ws (a % c.line_words) 0) (dram_is (a / c.line_words))
+          ∙ dram_word c ((a / c.line_words) % c.banks) f.some_words f.most_words (entries opening) a refl
           ∙ sym (ap (λ (o : Option ℕ). unwrap_or o 0) (get-entries opening a));
     }
 
@@ -146,7 +164,8 @@ module _ (c : Config) where
         (λ l. line_same ((by_line.opened pts mts drams).lines l) ((view m).lines l)
         (sym (any_bank (λ o. entry_in o l ≡ Absent) refl (λ i. ap entry_seen (no_entry i l)) 0 c.banks (l % c.banks)))
         (λ k. sym (any_core (λ o. copy_in o l ≡ None) refl (λ i. no_copy i l) 0 c.cores k)) refl refl)
-        (λ k. any_core (λ o. ◌≡◌ {A = by_line.Core} (record { pts = (core_seen o).pts; open_op = None; out = false }) (core_seen o)) refl (λ i. refl) 0 c.cores k)
+        (λ k. any_core (λ o. ◌≡◌ {A = by_line.Core} (record { pts = (core_seen o).pts; open_op = None; out = false })
+        (core_seen o)) refl (λ i. refl) 0 c.cores k)
         (λ b. refl) (λ k. sym (get_replicate c.cores k [])) refl)
         (at_first pts mts drams (λ l. bank_there 0 c.banks (l % c.banks) (mod-lt l f.some_banks)) opens)
 
@@ -159,10 +178,33 @@ module _ (c : Config) where
         bank_count = length-banks_from 0 c.banks;
         dram_count = length-drams_from (entries opening) 0 c.banks;
         lists = length-replicate c.cores [];
-        each_core = λ k core at. subst (λ (y : CoreState). IsCore c k (get_or (replicate c.cores []) k []) y) (cores_at 0 c.cores k core at)
-            (record { numbered = omega arith; banks = refl; line_words = refl; lease = refl; private_write = refl; sets = subst (λ (n : ℕ). 0 < n) (sym (length-replicate c.sets [])) f.some_sets; count = sym (ap length (get_replicate c.cores k [])); room = λ p o q. absurd (let z : false ≡ true = q in cc) });
+        each_core = λ k core at. subst (λ (y : CoreState). IsCore c k (get_or (replicate c.cores []) k []) y)
+            (cores_at 0 c.cores k core at)
+            (record {
+              numbered = omega arith;
+              banks = refl;
+              line_words = refl;
+              lease = refl;
+              private_write =
+                  refl;
+              sets = subst (λ (n : ℕ). 0 < n) (sym (length-replicate c.sets [])) f.some_sets;
+              count =
+                  sym (ap length (get_replicate c.cores k []));
+              room =
+                  λ p o q. absurd (let z : false ≡ true = q in cc);
+            });
         each_bank = λ b bank at. subst (λ (y : BankState). IsBank c b y) (banks_at 0 c.banks b bank at)
-            (record { numbered = omega arith; banks = refl; lease = refl; sets = subst (λ (n : ℕ). 0 < n) (sym (length-replicate c.bank_sets [])) f.some_bank_sets; own = λ l ne. no_entry (0 + b) l; owners = λ l y i. absurd (let z : ◌≡◌ {A = Option Entry} None (Some y) = sym (no_entry (0 + b) l) ∙ i in cc) });
+            (record {
+              numbered = omega arith;
+              banks = refl;
+              lease = refl;
+              sets =
+                  subst (λ (n : ℕ). 0 < n) (sym (length-replicate c.bank_sets [])) f.some_bank_sets;
+              own =
+                  λ l ne. no_entry (0 + b) l;
+              owners = λ l y i. absurd (let z : ◌≡◌ {A = Option Entry} None (Some y) =
+                  sym (no_entry (0 + b) l) ∙ i in cc);
+            });
         each_message = tt;
       };
       reached = reached;

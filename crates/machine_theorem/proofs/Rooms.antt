@@ -1,5 +1,6 @@
 -- A place for a line stays where other lines of a cache are changed or leave.
-use Rattle.std.proofs.Common.{◌≡◌, ◌≢◌, ℕ, ◌%◌, ◌<◌, ◌≤◌, Bool, true, false, ◌||◌, ltb, List, length, set, Some, sym, ap, ◌∙◌, subst, arith, ⊎_elim}
+use Rattle.std.proofs.Common.{◌≡◌, ◌≢◌, ℕ, ◌%◌, ◌<◌, ◌≤◌, Bool, true, false, ◌||◌, ltb, List, length, set, Some, sym}
+use Rattle.std.proofs.Common.{ap, ◌∙◌, subst, arith, ⊎_elim}
 use Rattle.std.specs.Option.{is_some}
 use Rattle.std.proofs.Math.Nat.{mod-lt}
 use Rattle.std.proofs.lemmas.Bool.{cases_eq, cases_Bool, lt-ltb, ltb-true}
@@ -21,32 +22,45 @@ or_keeps ways n k p q same le h =
     (cases_Bool p)
 
 -- a set is written with no more lines than it had
-set_le : (sets : List (List (ℕ × LineCopy))) (i j : ℕ) (ps : List (ℕ × LineCopy)) → i < length sets → length ps ≤ length (set_at sets i) → length (set_at (set sets i ps) j) ≤ length (set_at sets j)
+set_le : (sets : List (List (ℕ × LineCopy))) (i j : ℕ) (ps : List (ℕ × LineCopy)) → i < length sets →
+    length ps ≤ length (set_at sets i) → length (set_at (set sets i ps) j) ≤ length (set_at sets j)
 set_le sets i j ps within le =
     ⊎_elim
-    (λ (e : j ≡ i). subst (λ (k : ℕ). length (set_at (set sets i ps) k) ≤ length (set_at sets k)) (sym e) (subst (λ (n : ℕ). n ≤ length (set_at sets i)) (sym (ap length (set_at-set_same sets i ps within))) le))
-    (λ (ne : j ≡ i → ⊥). subst (λ (n : ℕ). n ≤ length (set_at sets j)) (sym (ap length (set_at-set_other sets i j ps ne))) (omega arith))
+    (λ (e : j ≡ i). subst (λ (k : ℕ). length (set_at (set sets i ps) k) ≤ length (set_at sets k)) (sym e)
+    (subst (λ (n : ℕ). n ≤ length (set_at sets i)) (sym (ap length (set_at-set_same sets i ps within))) le))
+    (λ (ne : j ≡ i → ⊥). subst (λ (n : ℕ). n ≤ length (set_at sets j))
+    (sym (ap length (set_at-set_other sets i j ps ne))) (omega arith))
     (cases_eq j i)
 
-module _ (cache : Sets LineCopy) (some : 0 < length cache.sets) (line k : ℕ) (other : k ≢ line) (place : place_for cache k ≡ true) where
+module _ (cache : Sets LineCopy) (some : 0 < length cache.sets) (line k : ℕ) (other : k ≢ line)
+    (place : place_for cache k ≡ true) where
   pub place-changed : (copy : LineCopy) → place_for (with_changed cache line copy) k ≡ true
   place-changed copy =
       let new = with_changed cache line copy in
-      or_keeps cache.ways (length (set_at cache.sets (set_of cache k))) (length (set_at new.sets (set_of new k))) (is_some (copy_of cache k)) (is_some (copy_of new k))
+      or_keeps cache.ways (length (set_at cache.sets (set_of cache k))) (length (set_at new.sets (set_of new k)))
+      (is_some (copy_of cache k)) (is_some (copy_of new k))
       (ap is_some (change_there (λ j. j) cache.sets some line copy k other))
-      (subst (λ (n : ℕ). length (set_at new.sets (k % n)) ≤ length (set_at cache.sets (set_of cache k))) (sym (length-put_within cache.sets (set_of cache line) line copy))
-      (set_le cache.sets (set_of cache line) (set_of cache k) (put_in_place (set_at cache.sets (set_of cache line)) line copy) (mod-lt line some) (let n = length-put_in_place (set_at cache.sets (set_of cache line)) line copy in omega arith)))
+      (subst (λ (n : ℕ). length (set_at new.sets (k % n)) ≤ length (set_at cache.sets (set_of cache k)))
+      (sym (length-put_within cache.sets (set_of cache line) line copy))
+      (set_le cache.sets (set_of cache line) (set_of cache k) (put_in_place (set_at cache.sets (set_of cache line))
+      line copy) (mod-lt line some) (let n =
+      length-put_in_place (set_at cache.sets (set_of cache line)) line copy in omega arith)))
       place
 
   pub place-without : place_for (without_copy cache line) k ≡ true
   place-without =
       let new = without_copy cache line in
-      or_keeps cache.ways (length (set_at cache.sets (set_of cache k))) (length (set_at new.sets (set_of new k))) (is_some (copy_of cache k)) (is_some (copy_of new k))
+      or_keeps cache.ways (length (set_at cache.sets (set_of cache k))) (length (set_at new.sets (set_of new k)))
+      (is_some (copy_of cache k)) (is_some (copy_of new k))
       (ap is_some (drop_there (λ j. j) cache.sets some line k other))
-      (subst (λ (n : ℕ). length (set_at new.sets (k % n)) ≤ length (set_at cache.sets (set_of cache k))) (sym (length-drop_line cache.sets (set_of cache line) line))
-      (set_le cache.sets (set_of cache line) (set_of cache k) (without (set_at cache.sets (set_of cache line)) line) (mod-lt line some) (length-without_le (set_at cache.sets (set_of cache line)) line)))
+      (subst (λ (n : ℕ). length (set_at new.sets (k % n)) ≤ length (set_at cache.sets (set_of cache k)))
+      (sym (length-drop_line cache.sets (set_of cache line) line))
+      (set_le cache.sets (set_of cache line) (set_of cache k) (without (set_at cache.sets (set_of cache line)) line)
+      (mod-lt line some) (length-without_le (set_at cache.sets (set_of cache line)) line)))
       place
 
 -- a copy is its own place
-pub place-there : (cache : Sets LineCopy) (line : ℕ) (copy : LineCopy) → copy_of cache line ≡ Some copy → place_for cache line ≡ true
-place-there cache line copy there = ap (λ (b : Bool). b || ltb (length (set_at cache.sets (set_of cache line))) cache.ways) (ap is_some there)
+pub place-there : (cache : Sets LineCopy) (line : ℕ) (copy : LineCopy) → copy_of cache line ≡ Some copy →
+    place_for cache line ≡ true
+place-there cache line copy there =
+    ap (λ (b : Bool). b || ltb (length (set_at cache.sets (set_of cache line))) cache.ways) (ap is_some there)

@@ -20,15 +20,18 @@ both false b p q = absurd (let z : false ≡ true = p in cc)
 
 -- what a core sends to a bank, and a bank to a core
 abbrev pub GoesUp : Body → Type 0
-GoesUp sent = (cores banks : ℕ) (from to : Node) → has_route cores banks from to sent ≡ is_core_to_bank cores banks from to
+GoesUp sent = (cores banks : ℕ) (from to : Node) → has_route cores banks from to sent ≡ is_core_to_bank
+    cores banks from to
 
 abbrev pub GoesDown : Body → Type 0
-GoesDown sent = (cores banks : ℕ) (from to : Node) → has_route cores banks from to sent ≡ is_core_to_bank cores banks to from
+GoesDown sent = (cores banks : ℕ) (from to : Node) → has_route cores banks from to sent ≡ is_core_to_bank
+    cores banks to from
 
-pub core_and_bank : (cores banks c b : ℕ) → c < cores → b < banks → is_core_to_bank cores banks (Core c) (Bank b) ≡ true
+pub core_and_bank : (cores banks c b : ℕ) → c < cores → b < banks → is_core_to_bank cores banks
+    (Core c) (Bank b) ≡ true
 core_and_bank cores banks c b p q = both _ _ (lt-ltb c cores p) (lt-ltb b banks q)
 
--- the ends of a message between a core and a bank
+-- the endpoints of a message between a core and a bank
 pub record UpEnds (cores banks : ℕ) (from to : Node) : Type 0 where
   pub core : ℕ
   pub bank : ℕ
@@ -37,8 +40,17 @@ pub record UpEnds (cores banks : ℕ) (from to : Node) : Type 0 where
   pub some_core : core < cores
   pub some_bank : bank < banks
 
-pub up_ends : (cores banks : ℕ) (from to : Node) → is_core_to_bank cores banks from to ≡ true → UpEnds cores banks from to
-up_ends cores banks (Core c) (Bank b) h = record { core = c; bank = b; from_core = refl; to_bank = refl; some_core = ltb-true c cores (left_of _ _ h); some_bank = ltb-true b banks (ownership_of _ _ h) }
+pub up_ends : (cores banks : ℕ) (from to : Node) → is_core_to_bank cores banks from to ≡ true →
+    UpEnds cores banks from to
+up_ends cores banks (Core c) (Bank b) h = record {
+  core = c;
+  bank = b;
+  from_core = refl;
+  to_bank = refl;
+  some_core =
+      ltb-true c cores (left_of _ _ h);
+  some_bank = ltb-true b banks (ownership_of _ _ h);
+}
 up_ends cores banks (Core c) (Core d) h = absurd (let z : false ≡ true = h in cc)
 up_ends cores banks (Core c) (Dram d) h = absurd (let z : false ≡ true = h in cc)
 up_ends cores banks (Bank b) to h = absurd (let z : false ≡ true = h in cc)
@@ -53,7 +65,8 @@ pub record BackEnds (banks : ℕ) (from to : Node) : Type 0 where
   pub some_bank : bank < banks
 
 pub back_ends : (banks : ℕ) (from to : Node) → is_bank_to_dram banks from to ≡ true → BackEnds banks from to
-back_ends banks (Bank b) (Dram d) h = record { bank = b; dram = d; from_bank = refl; to_dram = refl; some_bank = ltb-true b banks (left_of _ _ h) }
+back_ends banks (Bank b) (Dram d) h =
+    record { bank = b; dram = d; from_bank = refl; to_dram = refl; some_bank = ltb-true b banks (left_of _ _ h) }
 back_ends banks (Bank b) (Core d) h = absurd (let z : false ≡ true = h in cc)
 back_ends banks (Bank b) (Bank d) h = absurd (let z : false ≡ true = h in cc)
 back_ends banks (Core c) to h = absurd (let z : false ≡ true = h in cc)

@@ -1,5 +1,6 @@
--- Who has the right of a line, and where a word's value stands.
-use Rattle.std.specs.Prelude.{ℕ, ◌+◌, ◌/◌, ◌%◌, List, [], ◌∷◌, Option, Some, None, if◌then◌else◌, slice_get, slice_index}
+-- Who owns a line, and where a word's coherent value is.
+use Rattle.std.specs.Prelude.{ℕ, ◌+◌, ◌/◌, ◌%◌, List, [], ◌∷◌, Option, Some, None, if◌then◌else◌, slice_get}
+use Rattle.std.specs.Prelude.{slice_index}
 use Rattle.std.specs.Ordering.{nat_cmp}
 use Rattle.std.specs.FinMap.{FinMap}
 use Rattle.network.specs.declared.message.Body.{Body}
@@ -26,7 +27,7 @@ abbrev pub exclusive_copies : List CoreState → ℕ → ℕ
 exclusive_copies [] line = 0
 exclusive_copies (core ∷ cores) line = owner_in (copy_of core.cache line) + exclusive_copies cores line
 
--- the rights of a line: its Exclusive copies, and the grants and returns of it in flight
+-- the owners of a line: its Exclusive copies, and the grants and returns of it in flight
 abbrev pub owners : Machine → ℕ → ℕ
 owners m line = exclusive_copies m.cores line + count_messages (is_ownership_of line) m.mail.messages
 
@@ -58,7 +59,7 @@ abbrev pub cached_words : Option CoreState → ℕ → Option (List ℕ)
 cached_words None line = None
 cached_words (Some core) line = copy_words (copy_of core.cache line)
 
--- the words that come with a line's right; an upgrade stands for those that its core has
+-- the words that come with a line's ownership; an upgrade stands for those that its core has
 abbrev pub words_with : List CoreState → ℕ → Message → Body → Option (List ℕ)
 words_with cores line m (body.ExRep timed) = Some timed.words
 words_with cores line m (body.UpgradeRep rts) = cached_words (slice_get cores (core_of m.to)) line
@@ -93,7 +94,7 @@ abbrev pub words_in : Option (FinMap nat_cmp (List ℕ)) → ℕ → List ℕ
 words_in None line = []
 words_in (Some lines) line = words_of lines line
 
--- a line's words where they stand: with its owner, or with its right in flight, or else in the bank, or else in a store
+-- a line's coherent words: with its owner, or with its ownership in flight, or else in the bank, or else in a store
 -- on its way to DRAM, or else in DRAM
 abbrev pub coherent_words : Machine → ℕ → List ℕ
 coherent_words m line =
@@ -103,6 +104,6 @@ coherent_words m line =
     (or_else (stored_words (first_message (is_store_of line) m.mail.messages))
     (words_in (slice_get m.drams (line % m.config.banks)) line))))
 
--- a word's standing value
+-- a word's coherent value
 abbrev pub coherent : Machine → ℕ → ℕ
 coherent m word = slice_index (coherent_words m (word / m.config.line_words)) (word % m.config.line_words)

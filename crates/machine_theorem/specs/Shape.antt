@@ -51,16 +51,19 @@ IsHome home (Dram b) = b ≡ home
 
 -- a message that goes between nodes of its kind, and these are the homes of its line
 abbrev pub GoesHome : Config → ℕ × Message → Type 0
-GoesHome config m = IsHome (m.1.line % config.banks) m.1.from × IsHome (m.1.line % config.banks) m.1.to × (has_endpoints config.cores config.banks m.1 ≡ true)
+GoesHome config m = IsHome (m.1.line % config.banks) m.1.from × IsHome (m.1.line % config.banks) m.1.to ×
+    (has_endpoints config.cores config.banks m.1 ≡ true)
 
-pub record HasShape (config : Config) (cores : List CoreState) (banks : List BankState) (drams : List (FinMap nat_cmp (List ℕ))) (messages : List (ℕ × Message)) (issued : List (List Op)) : Type 0 where
+pub record HasShape (config : Config) (cores : List CoreState) (banks : List BankState)
+    (drams : List (FinMap nat_cmp (List ℕ))) (messages : List (ℕ × Message)) (issued : List (List Op)) : Type 0 where
   pub some_words : 0 < config.line_words
   pub some_banks : 0 < config.banks
   pub core_count : length cores ≡ config.cores
   pub bank_count : length banks ≡ config.banks
   pub dram_count : length drams ≡ config.banks
   pub lists : length issued ≡ config.cores
-  pub each_core : (c : ℕ) (core : CoreState) → slice_get cores c ≡ Some core → IsCore config c (slice_index_or issued c []) core
+  pub each_core : (c : ℕ) (core : CoreState) → slice_get cores c ≡ Some core →
+      IsCore config c (slice_index_or issued c []) core
   pub each_bank : (b : ℕ) (bank : BankState) → slice_get banks b ≡ Some bank → IsBank config b bank
   pub each_message : AllByRecursion (GoesHome config) messages
 

@@ -1,6 +1,7 @@
 -- The machine's data, seen line by line: what each table and each message says of one line, and of each core its time
 -- and its open operation.
-use Rattle.std.specs.Prelude.{ℕ, ◌%◌, ◌==◌, false, List, [], ◌∷◌, Option, Some, None, if◌then◌else◌, slice_get, slice_index_or}
+use Rattle.std.specs.Prelude.{ℕ, ◌%◌, ◌==◌, false, List, [], ◌∷◌, Option, Some, None, if◌then◌else◌, slice_get}
+use Rattle.std.specs.Prelude.{slice_index_or}
 use Rattle.physiological_order.specs.Order.{flat}
 use Rattle.network.specs.declared.message.TimedLine.{TimedLine}
 use Rattle.network.specs.declared.message.Body.{Body}
@@ -16,7 +17,9 @@ use Rattle.llc_bank.specs.BankTable.{BankState, core_of, entry_of}
 use Rattle.machine_table.specs.Machine.{Machine}
 use Rattle.machine_theorem.specs.Coherence.{words_in}
 use Rattle.protocol.specs.Machine as by_line
-use Rattle.protocol.specs.Machine.{Timed, Copy, Absent, Loading, Shared, Exclusive, Recalling, Storing, ShReq, ExReq, ShRep, ExRep, RenewRep, UpgradeRep, FlushReq, WbReq, FlushRep, WbRep, DramLd, DramLdRep, DramSt, DramStRep}
+use Rattle.protocol.specs.Machine.{Timed, Copy, Absent, Loading, Shared, Exclusive, Recalling, Storing, ShReq, ExReq}
+use Rattle.protocol.specs.Machine.{ShRep, ExRep, RenewRep, UpgradeRep, FlushReq, WbReq, FlushRep, WbRep, DramLd}
+use Rattle.protocol.specs.Machine.{DramLdRep, DramSt, DramStRep}
 
 -- a line's words and times
 abbrev pub timed : TimedLine → Timed
@@ -24,7 +27,12 @@ timed line = record { wts = line.wts; rts = line.rts; words = line.words }
 
 -- a core's copy
 abbrev pub copy_seen : LineCopy → Copy
-copy_seen copy = record { exclusive = is_exclusive copy.state; written = copy.written; line = record { wts = copy.wts; rts = copy.rts; words = copy.words } }
+copy_seen copy = record {
+  exclusive = is_exclusive copy.state;
+  written = copy.written;
+  line =
+      record { wts = copy.wts; rts = copy.rts; words = copy.words };
+}
 
 abbrev pub copy_or_none : Option LineCopy → Option Copy
 copy_or_none None = None

@@ -29,13 +29,15 @@ ghost use Rattle.machine_theorem.specs.Kept.{Invariant};
 /// A machine has the invariant if its parts have their shape and it is, seen line by line, one that the protocol reaches.
 /// What any event makes of such a machine has it as well, and no event changes how it was set up.
 pub fn events_keep_the_invariant()
-    ensures invariant { (m : Machine) (event : Event) → Invariant m → Invariant (transition m event).1 }
+    ensures invariant { (m : Machine) (event : Event) → Invariant m →
+        Invariant (transition m event).1 }
     ensures set_up { (m : Machine) (event : Event) → SetUpAs m (transition m event).1 }
 {}
 
 /// A machine that is well set up has the invariant as it opens, whatever the opening memory.
 pub fn openings_have_the_invariant()
-    ensures { (config : Config) (opening : FinMap nat_cmp ℕ) → is_good config ≡ true → Invariant (at_start config opening) }
+    ensures { (config : Config) (opening : FinMap nat_cmp ℕ) → is_good config ≡ true →
+        Invariant (at_start config opening) }
 {}
 
 /// The invariant doesn't depend on the order and the numbers of the messages in flight, on how many there may be, on the
@@ -54,13 +56,15 @@ pub fn renumberings_keep_the_invariant()
 /// issued; each core was issued what it completed, in this order, and then its open operation; a line has at most one
 /// owner; a word's coherent value is the one that the records leave; and each message in flight has its case.
 pub fn machines_with_the_invariant_are_consistent()
-    ensures legal { (m : Machine) → Invariant m → Legal (flat m.opening) (λ core. slice_index_or m.issued core []) m.records }
+    ensures legal { (m : Machine) → Invariant m → Legal (flat m.opening)
+        (λ core. slice_index_or m.issued core []) m.records }
     ensures issued { (m : Machine) → Invariant m → (core : ℕ) →
         IsIssued (slice_index_or m.issued core []) (of_core core m.records) (operation_of (slice_get m.cores core)) }
     ensures owners { (m : Machine) → Invariant m → (line : ℕ) → owners m line ≤ 1 }
     ensures coherent { (m : Machine) → Invariant m → (arranged : List Record) → Arrangement m.records arranged → (word : ℕ) →
         coherent m word ≡ replay_end (flat m.opening) (map (λ r. r.op) arranged) word }
-    ensures cases { (m : Machine) → Invariant m → AllByRecursion (λ message. has_case m message.1 ≡ true) m.mail.messages }
+    ensures cases { (m : Machine) → Invariant m →
+        AllByRecursion (λ message. has_case m message.1 ≡ true) m.mail.messages }
 {}
 
 /// After any list of events, refused ones included, of a machine that was well set up: the records are a legal history

@@ -19,7 +19,8 @@ pub record Flight : Type 0 where
 -- what is true of the slots in which the messages are kept: the numbers rise and are below the next one, so many slots
 -- have their message, no more than may be, at most one slot more than these is empty, each message has the endpoints of
 -- its kind, and the counts are below the next number
-pub record IsKept (cores banks capacity next count : ℕ) (counts : Counts) (slots : List (ℕ × Option Message)) : Type 0 where
+pub record IsKept (cores banks capacity next count : ℕ) (counts : Counts) (slots : List (ℕ × Option Message)) : Type
+    0 where
   pub rising : IsRising 0 slots next
   pub numbered : next < 2 ^ 64
   pub counted : count ≡ length (still_there slots)

@@ -15,7 +15,17 @@ pub record Mail : Type 0 where
 
 -- nothing was sent
 abbrev pub no_mail : Mail
-no_mail = record { messages = []; next = 0; counts = record { renewals = 0; upgrades = 0; flushes = 0; write_backs = 0 } }
+no_mail = record {
+  messages = [];
+  next = 0;
+  counts = record {
+    renewals = 0;
+    upgrades = 0;
+    flushes =
+        0;
+    write_backs = 0;
+  };
+}
 
 -- a message that is counted when it is sent
 abbrev pub counted : Counts → Body → Counts
@@ -36,7 +46,12 @@ has_capacity capacity mail = nat_lt (length mail.messages) capacity && has_numbe
 -- a message is sent: it gets the next number, and is counted
 abbrev pub sent : Mail → Message → Mail
 sent mail message =
-    record { messages = mail.messages ++ (mail.next, message) ∷ []; next = mail.next + 1; counts = counted mail.counts message.body }
+    record {
+      messages = mail.messages ++ (mail.next, message) ∷ [];
+      next = mail.next + 1;
+      counts =
+          counted mail.counts message.body;
+    }
 
 -- the message with a number is taken
 abbrev pub taken : Mail → ℕ → Mail

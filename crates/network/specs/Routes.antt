@@ -3,7 +3,9 @@ use Rattle.std.specs.Prelude.{ℕ, Bool, false, ◌&&◌, ◌==◌, nat_lt, List
 use Rattle.network.specs.declared.message.Node.{Node}
 use Rattle.network.specs.declared.message.Node.TheVariants.{Core, Bank, Dram}
 use Rattle.network.specs.declared.message.Body.{Body}
-use Rattle.network.specs.declared.message.Body.TheVariants.{ShReq, ExReq, ShRep, ExRep, RenewRep, UpgradeRep, FlushReq, WbReq, FlushRep, WbRep, DramLd, DramLdRep, DramSt, DramStRep}
+use Rattle.network.specs.declared.message.Body.TheVariants.{ShReq, ExReq, ShRep, ExRep, RenewRep, UpgradeRep}
+use Rattle.network.specs.declared.message.Body.TheVariants.{FlushReq, WbReq, FlushRep, WbRep, DramLd, DramLdRep}
+use Rattle.network.specs.declared.message.Body.TheVariants.{DramSt, DramStRep}
 use Rattle.network.specs.declared.message.Message.{Message}
 
 -- from a core to a bank, both of those that there are
@@ -16,7 +18,7 @@ abbrev pub is_bank_to_dram : ℕ → Node → Node → Bool
 is_bank_to_dram banks (Bank b) (Dram d) = nat_lt b banks && (b == d)
 is_bank_to_dram banks _ _ = false
 
--- the ends of each kind of message
+-- the endpoints of each kind of message
 abbrev pub has_route : ℕ → ℕ → Node → Node → Body → Bool
 has_route cores banks from to (ShReq pts version) = is_core_to_bank cores banks from to
 has_route cores banks from to (ExReq version) = is_core_to_bank cores banks from to
@@ -37,7 +39,7 @@ has_route cores banks from to DramStRep = is_bank_to_dram banks to from
 abbrev pub has_endpoints : ℕ → ℕ → Message → Bool
 has_endpoints cores banks m = has_route cores banks m.from m.to m.body
 
--- each of the messages has the ends of its kind
+-- each of the messages has the endpoints of its kind
 abbrev pub AllHaveEndpoints : ℕ → ℕ → List (ℕ × Message) → Type 0
 AllHaveEndpoints cores banks [] = Unit {0}
 AllHaveEndpoints cores banks (x ∷ xs) = IsTrue (has_endpoints cores banks x.1) × AllHaveEndpoints cores banks xs

@@ -17,7 +17,7 @@ is_same_node _ _ = false
 abbrev pub is_between : Node → Node → Message → Bool
 is_between from to m = is_same_node m.from from && is_same_node m.to to
 
--- a grant of a line, or a return of it, carries the line's right
+-- a grant of a line, or a return of it, carries the line's ownership
 abbrev pub carries_ownership : Body → Bool
 carries_ownership (ExRep line) = true
 carries_ownership (UpgradeRep rts) = true
@@ -25,7 +25,7 @@ carries_ownership (FlushRep line) = true
 carries_ownership (WbRep line) = true
 carries_ownership _ = false
 
--- whether a message carries the right of a line
+-- whether a message carries the ownership of a line
 abbrev pub is_ownership_of : ℕ → Message → Bool
 is_ownership_of line m = (m.line == line) && carries_ownership m.body
 

@@ -4,7 +4,7 @@ ghost use Rattle.network.specs.Routes.{has_endpoints, is_bank_to_dram, is_core_t
 
 use crate::message::{Body, Message, Node};
 
-// Whether the ends are a core and a bank, both of those that there are.
+// Whether the endpoints are a core and a bank, both of those that there are.
 fn is_core_to_bank(cores: u32, banks: u32, from: Node, to: Node) -> bool
     ensures { result ≡ is_core_to_bank cores banks from to }
 {
@@ -14,7 +14,7 @@ fn is_core_to_bank(cores: u32, banks: u32, from: Node, to: Node) -> bool
     }
 }
 
-// Whether the ends are a bank and the DRAM behind it.
+// Whether the endpoints are a bank and the DRAM behind it.
 fn is_bank_to_dram(banks: u32, from: Node, to: Node) -> bool
     ensures { result ≡ is_bank_to_dram banks from to }
 {

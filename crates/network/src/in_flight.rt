@@ -1,5 +1,6 @@
 //! The messages in flight, by number.
-ghost use Rattle.std.specs.Prelude.{◌≡◌, ◌+◌, ◌*◌, ◌<◌, ◌≤◌, ◌^◌, ◌++◌, ◌∷◌, [], false, IsTrue, IfOk, IfErr, IfSome, OnOk, OnErr, IsOk, Option, None, Some, option_copied, option_map, length, map};
+ghost use Rattle.std.specs.Prelude.{◌≡◌, ◌+◌, ◌*◌, ◌<◌, ◌≤◌, ◌^◌, ◌++◌, ◌∷◌, [], false, IsTrue, IfOk, IfErr, IfSome};
+ghost use Rattle.std.specs.Prelude.{OnOk, OnErr, IsOk, Option, None, Some, option_copied, option_map, length, map};
 ghost use Rattle.network.specs.SetUp.{IsInRange};
 ghost use Rattle.network.specs.Numbered.{IsRising, at_number};
 ghost use Rattle.network.specs.Routes.{has_endpoints};
@@ -58,7 +59,15 @@ impl InFlight {
     /// No message in flight, of a machine with 1 to 64 cores and 1 to 8 banks, with room for 1 to 65,536 messages.
     pub fn new(alloc: Global, cores: u32, banks: u32, capacity: u32) -> InFlight
         requires { IsInRange cores banks capacity }
-        ensures { result ≡ record { cores = cores; banks = banks; capacity = capacity; slots = 0; reserved = result.reserved; mail = no_mail } }
+        ensures { result ≡ record {
+          cores = cores;
+          banks = banks;
+          capacity = capacity;
+          slots =
+              0;
+          reserved = result.reserved;
+          mail = no_mail;
+        } }
     {
         InFlight {
             cores,
@@ -89,7 +98,8 @@ impl InFlight {
     /// The message with this number, if it is in flight.
     pub fn look(&self, number: MsgNo) -> Option<&Message>
         ensures value { option_copied result ≡ at_number number self.now.mail.messages }
-        ensures endpoints { IfSome result (λ message. IsTrue (has_endpoints self.now.cores self.now.banks message.now)) }
+        ensures endpoints { IfSome result
+            (λ message. IsTrue (has_endpoints self.now.cores self.now.banks message.now)) }
     {
         message_of(&self.slots, number.0)
     }
@@ -110,12 +120,19 @@ impl InFlight {
     pub fn send(&mut self, message: Message) -> Result<MsgNo, (SendError, Message)>
         requires { IsTrue (has_endpoints self.old.cores self.old.banks message) }
         ensures number { IfOk result (λ number. number ≡ self.old.mail.next) }
-        ensures after { OnOk result (self.new ≡ record self.old { slots = self.old.slots + 1; reserved = self.new.reserved; mail = sent self.old.mail message }) }
+        ensures after { OnOk result (self.new ≡ record self.old {
+          slots = self.old.slots + 1;
+          reserved =
+              self.new.reserved;
+          mail = sent self.old.mail message;
+        }) }
         ensures reserved { OnOk result (self.old.reserved ≤ self.new.reserved + 1) }
         ensures refused { OnErr result (self.new ≡ self.old) }
         ensures returned { IfErr result (λ refusal. refusal.1 ≡ message) }
-        ensures full { has_capacity self.old.capacity self.old.mail ≡ false → result ≡ Err (SendError.Full, message) }
-        ensures not_full { IfErr result (λ refusal. refusal.0 ≡ SendError.Full → has_capacity self.old.capacity self.old.mail ≡ false) }
+        ensures full { has_capacity self.old.capacity self.old.mail ≡ false →
+            result ≡ Err (SendError.Full, message) }
+        ensures not_full { IfErr result (λ refusal. refusal.0 ≡ SendError.Full →
+            has_capacity self.old.capacity self.old.mail ≡ false) }
         ensures had { 0 < self.old.reserved → IfErr result (λ refusal. refusal.0 ≡ SendError.Full) }
     {
         if self.count >= self.capacity {
@@ -139,9 +156,15 @@ impl InFlight {
     /// Takes the message with this number, if it is in flight. This takes no memory, and keeps what is reserved.
     pub fn take(&mut self, number: MsgNo) -> Option<Message>
         ensures value { result ≡ at_number number self.old.mail.messages }
-        ensures after { self.new ≡ record self.old { slots = self.new.slots; reserved = self.new.reserved; mail = taken self.old.mail number } }
+        ensures after { self.new ≡ record self.old {
+          slots = self.new.slots;
+          reserved =
+              self.new.reserved;
+          mail = taken self.old.mail number;
+        } }
         ensures reserved { self.old.reserved ≤ self.new.reserved }
-        ensures endpoints { IfSome result (λ message. IsTrue (has_endpoints self.old.cores self.old.banks message)) }
+        ensures endpoints { IfSome result
+            (λ message. IsTrue (has_endpoints self.old.cores self.old.banks message)) }
     {
         let message = take_message(&mut self.slots, number.0)?;
         self.count -= 1;
@@ -167,7 +190,8 @@ impl InFlight {
 
     /// The number of the first message, in the order of sending, from the one node to the other.
     pub fn oldest(&self, from: Node, to: Node) -> Option<MsgNo>
-        ensures { result ≡ option_map (λ x. x.0) (first_message (is_between from to) self.now.mail.messages) }
+        ensures { result ≡ option_map (λ x. x.0) (first_message (is_between from to)
+            self.now.mail.messages) }
     {
         let (number, _) = first_wanted(&self.slots, &Wanted::Between(from, to))?;
         Some(MsgNo(number))
@@ -190,7 +214,8 @@ impl InFlight {
 
     /// The first message, in the order of sending, that carries the line's ownership.
     pub fn ownership_of(&self, line: LineNo) -> Option<&Message>
-        ensures { option_copied result ≡ option_map (λ x. x.1) (first_message (is_ownership_of line) self.now.mail.messages) }
+        ensures { option_copied result ≡ option_map (λ x. x.1)
+            (first_message (is_ownership_of line) self.now.mail.messages) }
     {
         let (_, message) = first_wanted(&self.slots, &Wanted::OwnershipOf(line))?;
         Some(message)
@@ -198,7 +223,8 @@ impl InFlight {
 
     /// The first message, in the order of sending, that stores the line's words in DRAM.
     pub fn store_of(&self, line: LineNo) -> Option<&Message>
-        ensures { option_copied result ≡ option_map (λ x. x.1) (first_message (is_store_of line) self.now.mail.messages) }
+        ensures { option_copied result ≡ option_map (λ x. x.1) (first_message (is_store_of line)
+            self.now.mail.messages) }
     {
         let (_, message) = first_wanted(&self.slots, &Wanted::StoreOf(line))?;
         Some(message)

@@ -21,7 +21,7 @@ pub enum Reaction {
 pub enum PartError {
     /// 1: a sum of times does not fit 64 bits.
     Exhausted,
-    /// 2: a growth was refused.
+    /// 2: allocation failed.
     NoMemory,
 }
 
@@ -51,5 +51,6 @@ pub trait Part {
         ensures refused { OnErr result (self.new ≡ self.old) }
         ensures exhausted { result ≡ Err PartError.Exhausted → table self.old message.now ≡ None }
         ensures fits { table self.old message.now ≡ None → result ≡ Err PartError.Exhausted }
-        ensures wanted { result ≡ Err PartError.NoMemory → IsTrue (is_some (sent_by (table self.old message.now))) };
+        ensures wanted { result ≡ Err PartError.NoMemory →
+            IsTrue (is_some (sent_by (table self.old message.now))) };
 }

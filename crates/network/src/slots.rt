@@ -1,5 +1,7 @@
 //! Slots of numbered messages in the order of sending, some of which are empty.
-ghost use Rattle.std.specs.Prelude.{◌≡◌, ◌+◌, ◌-◌, ◌*◌, ◌<◌, ◌≤◌, ◌^◌, ℕ, None, Some, IfSome, IfNone, IfOk, OnOk, OnErr, IsOk, option_copied, option_map, length, map, slice_get, vec_capacity, vec_len};
+ghost use Rattle.std.specs.Prelude.{◌≡◌, ◌+◌, ◌-◌, ◌*◌, ◌<◌, ◌≤◌, ◌^◌, ℕ, None, Some, IfSome, IfNone, IfOk, OnOk};
+ghost use Rattle.std.specs.Prelude.{OnErr, IsOk, option_copied, option_map, length, map, slice_get, vec_capacity};
+ghost use Rattle.std.specs.Prelude.{vec_len};
 ghost use Rattle.network.specs.Asked.{is_wanted};
 ghost use Rattle.network.specs.Search.{first_message, count_messages, kept_if, with_message};
 ghost use Rattle.network.specs.Numbered.{IsRising, at_number, number_at, still_there, without_number};
@@ -35,7 +37,8 @@ pub(crate) fn first_from(slots: &[Slot], number: u64) -> usize
 /// The index of the slot with the number, or `None` where there is none.
 pub(crate) fn slot_of(slots: &[Slot], number: u64) -> Option<usize>
     requires { IsRising 0 slots.now (2 ^ 64) }
-    ensures found { IfSome result (λ at. slice_get slots.now at ≡ Some (number, at_number number (still_there slots.now))) }
+    ensures found { IfSome result (λ at. slice_get slots.now at ≡ Some
+        (number, at_number number (still_there slots.now))) }
     ensures absent { IfNone result (at_number number (still_there slots.now) ≡ None) }
 {
     let at = first_from(slots, number);
@@ -71,7 +74,8 @@ fn wanted_in<'a>(slot: &'a Slot, wanted: &Wanted) -> Option<&'a Message>
 
 /// The first message that is looked for, with its number, or `None` where there is none.
 pub(crate) fn first_wanted<'a>(slots: &'a [Slot], wanted: &Wanted) -> Option<(u64, &'a Message)>
-    ensures { option_map with_message result ≡ first_message (is_wanted wanted.now) (still_there slots.now) }
+    ensures { option_map with_message result ≡ first_message (is_wanted wanted.now)
+        (still_there slots.now) }
 {
     for slot in slots {
         if let Some(message) = wanted_in(slot, wanted) {
@@ -97,10 +101,13 @@ pub(crate) fn count_wanted(slots: &[Slot], wanted: &Wanted) -> usize
 /// Takes the message out of the slot at an index, which stays empty.
 pub(crate) fn empty_slot(slots: &mut Vec<Slot>, at: usize, number: u64) -> Option<Message>
     requires rising { IsRising 0 slots.old.items (2 ^ 64) }
-    requires here { slice_get slots.old.items at ≡ Some (number, at_number number (still_there slots.old.items)) }
+    requires here { slice_get slots.old.items at ≡ Some
+        (number, at_number number (still_there slots.old.items)) }
     ensures value { result ≡ at_number number (still_there slots.old.items) }
-    ensures after { still_there slots.new.items ≡ without_number number (still_there slots.old.items) }
-    ensures rising { (high : ℕ) → IsRising 0 slots.old.items high → IsRising 0 slots.new.items high }
+    ensures after { still_there slots.new.items ≡ without_number number
+        (still_there slots.old.items) }
+    ensures rising { (high : ℕ) → IsRising 0 slots.old.items high →
+        IsRising 0 slots.new.items high }
     ensures len { vec_len slots.new ≡ vec_len slots.old }
     ensures long { length slots.new.items ≡ length slots.old.items }
     ensures capacity { vec_capacity slots.new ≡ vec_capacity slots.old }
@@ -115,8 +122,10 @@ pub(crate) fn drop_empty(slots: &mut Vec<Slot>, count: usize)
     requires { count ≡ length (still_there slots.old.items) }
     ensures few { length slots.new.items ≤ 2 * count + 1 }
     ensures same { still_there slots.new.items ≡ still_there slots.old.items }
-    ensures rising { (high : ℕ) → IsRising 0 slots.old.items high → IsRising 0 slots.new.items high }
-    ensures room { vec_capacity slots.old - vec_len slots.old ≤ vec_capacity slots.new - vec_len slots.new }
+    ensures rising { (high : ℕ) → IsRising 0 slots.old.items high →
+        IsRising 0 slots.new.items high }
+    ensures room { vec_capacity slots.old - vec_len slots.old ≤ vec_capacity
+        slots.new - vec_len slots.new }
 {
     if slots.len() / 2 > count {
         slots.retain(|slot| slot.1.is_some());
@@ -127,8 +136,10 @@ pub(crate) fn drop_empty(slots: &mut Vec<Slot>, count: usize)
 pub(crate) fn take_message(slots: &mut Vec<Slot>, number: u64) -> Option<Message>
     requires { IsRising 0 slots.old.items (2 ^ 64) }
     ensures value { result ≡ at_number number (still_there slots.old.items) }
-    ensures after { still_there slots.new.items ≡ without_number number (still_there slots.old.items) }
-    ensures rising { (high : ℕ) → IsRising 0 slots.old.items high → IsRising 0 slots.new.items high }
+    ensures after { still_there slots.new.items ≡ without_number number
+        (still_there slots.old.items) }
+    ensures rising { (high : ℕ) → IsRising 0 slots.old.items high →
+        IsRising 0 slots.new.items high }
     ensures len { vec_len slots.new ≡ vec_len slots.old }
     ensures long { length slots.new.items ≡ length slots.old.items }
     ensures capacity { vec_capacity slots.new ≡ vec_capacity slots.old }
@@ -141,8 +152,10 @@ pub(crate) fn take_message(slots: &mut Vec<Slot>, number: u64) -> Option<Message
 pub(crate) fn reserve_slot(slots: &mut Vec<Slot>) -> Result<(), AllocError>
     ensures items { slots.new.items ≡ slots.old.items }
     ensures ok { OnOk result (vec_len slots.new < vec_capacity slots.new) }
-    ensures room { vec_capacity slots.old - vec_len slots.old ≤ vec_capacity slots.new - vec_len slots.new }
-    ensures same { OnErr result (vec_capacity slots.new - vec_len slots.new ≡ vec_capacity slots.old - vec_len slots.old) }
+    ensures room { vec_capacity slots.old - vec_len slots.old ≤ vec_capacity
+        slots.new - vec_len slots.new }
+    ensures same { OnErr result (vec_capacity slots.new - vec_len slots.new ≡ vec_capacity
+        slots.old - vec_len slots.old) }
     ensures had { 0 < vec_capacity slots.old - vec_len slots.old → IsOk result }
 {
     slots.reserve(1)

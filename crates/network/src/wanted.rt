@@ -11,7 +11,7 @@ use crate::numbers::LineNo;
 pub(crate) enum Wanted {
     /// A message from the one node to the other.
     Between(Node, Node),
-    /// A message that carries the line's right.
+    /// A message that carries the line's ownership.
     OwnershipOf(LineNo),
     /// A store of the line's words in DRAM.
     StoreOf(LineNo),
@@ -32,7 +32,7 @@ impl Node {
 }
 
 impl Body {
-    /// Whether a message that says this carries its line's right: a grant of the line, or a return of it.
+    /// Whether a message that says this carries its line's ownership: a grant of the line, or a return of it.
     pub fn carries_ownership(&self) -> bool
         ensures { result ≡ carries_ownership self.now }
     {

@@ -80,7 +80,8 @@ impl<V: Copy> NumberMap<V> {
 
 /// The entries in the order of the hash map.
 fn pairs_of<V: Copy>(alloc: Global, hash: &HashMap<u64, V>) -> Result<Vec<(u64, V)>, AllocError>
-    ensures pairs { IfOk result (λ pairs. pairs.items ≡ map (λ entry. (entry.0, entry.1)) hash.now.entries) }
+    ensures pairs { IfOk result (λ pairs. pairs.items ≡ map (λ entry. (entry.0, entry.1))
+        hash.now.entries) }
     ensures distinct { IsDistinct nat_eq (keys_of hash.now.entries) }
 {
     hash.iter()

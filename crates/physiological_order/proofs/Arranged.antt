@@ -1,27 +1,32 @@
 -- Records arranged one after another: their members, order, program orders and numbers.
-use Rattle.std.proofs.Common.{◌≡◌, ℕ, ◌+◌, ◌<◌, ◌≤◌, ◌≢◌, Bool, true, false, cond, leb, eqb, List, [], ◌∷◌, ◌++◌, length, Some, inl, inr, refl, sym, ap, ap₂, ◌∙◌, subst, arith, ⊎_elim, length-append}
+use Rattle.std.proofs.Common.{◌≡◌, ℕ, ◌+◌, ◌<◌, ◌≤◌, ◌≢◌, Bool, true, false, cond, leb, eqb, List, [], ◌∷◌, ◌++◌}
+use Rattle.std.proofs.Common.{length, Some, inl, inr, refl, sym, ap, ap₂, ◌∙◌, subst, arith, ⊎_elim, length-append}
 use Rattle.std.specs.Prelude.{count_by, slice_get, ◌==◌}
 use Rattle.std.proofs.Math.ListN.{get_or-append}
 use Rattle.std.proofs.lemmas.Option.{slice_get_within, slice_get-get_or, get_or_from_slice_get}
 use Rattle.std.specs.List.{AllByRecursion as Each}
 use Rattle.std.specs.List.Sorted.{IsPermutation}
-use Rattle.std.proofs.lemmas.List.Sorted.{IsPermutation-refl, IsPermutation-cons, IsPermutation-trans, IsPermutation-swap, IsPermutation-to_front}
+use Rattle.std.proofs.lemmas.List.Sorted.{IsPermutation-refl, IsPermutation-cons, IsPermutation-trans}
+use Rattle.std.proofs.lemmas.List.Sorted.{IsPermutation-swap, IsPermutation-to_front}
 use Rattle.std.proofs.lemmas.List.Sums.{sum_by-cons, sum_by_push}
-use Rattle.std.proofs.lemmas.Bool.{cond_both, leb-true, leb-false, cases_lt, cases_eq, cond-true, cond-false, ne_eqb, eq-eqb}
+use Rattle.std.proofs.lemmas.Bool.{cond_both, leb-true, leb-false, cases_lt, cases_eq, cond-true, cond-false, ne_eqb}
+use Rattle.std.proofs.lemmas.Bool.{eq-eqb}
 use Rattle.physiological_order.specs.declared.operation.Op.{Op}
 use Rattle.physiological_order.specs.declared.operation.Record.{Record}
 use Rattle.physiological_order.specs.Order.{Before, Rises, Follows, of_core}
 use Rattle.physiological_order.specs.Completion.{placed, arranged_from, arranged, Ascends}
 use Rattle.physiological_order.proofs.History.{Sorted, each_weaker, each_placed}
 
-pub arranged_from-push : (start : List Record) (rs : List Record) (r : Record) → arranged_from start (rs ++ r ∷ []) ≡ placed r (arranged_from start rs)
+pub arranged_from-push : (start : List Record) (rs : List Record) (r : Record) → arranged_from start (rs ++ r ∷ []) ≡
+    placed r (arranged_from start rs)
 arranged_from-push start [] r = refl
 arranged_from-push start (s ∷ ss) r = arranged_from-push (placed s start) ss r
 
 pub arranged-push : (rs : List Record) (r : Record) → arranged (rs ++ r ∷ []) ≡ placed r (arranged rs)
 arranged-push rs r = arranged_from-push [] rs r
 
-each_arranged_from : (P : Record → Type 0) (start rs : List Record) → Each P start → Each P rs → Each P (arranged_from start rs)
+each_arranged_from : (P : Record → Type 0) (start rs : List Record) → Each P start → Each P rs →
+    Each P (arranged_from start rs)
 each_arranged_from P start [] h k = h
 each_arranged_from P start (r ∷ rs) h k = each_arranged_from P (placed r start) rs (each_placed P r start k.0 h) k.1
 
@@ -40,10 +45,12 @@ pub IsPermutation-placed : (r : Record) (rs : List Record) → IsPermutation (r 
 IsPermutation-placed r [] = IsPermutation-refl (r ∷ [])
 IsPermutation-placed r (s ∷ ss) =
     cond_both (leb s.ts r.ts) (s ∷ placed r ss) (r ∷ s ∷ ss) (λ xs. IsPermutation (r ∷ s ∷ ss) xs)
-    (λ e. IsPermutation-trans (r ∷ s ∷ ss) (s ∷ r ∷ ss) (s ∷ placed r ss) (two_heads r s ss) (IsPermutation-cons s (r ∷ ss) (placed r ss) (IsPermutation-placed r ss)))
+    (λ e. IsPermutation-trans (r ∷ s ∷ ss) (s ∷ r ∷ ss) (s ∷ placed r ss) (two_heads r s ss)
+    (IsPermutation-cons s (r ∷ ss) (placed r ss) (IsPermutation-placed r ss)))
     (λ e. IsPermutation-refl (r ∷ s ∷ ss))
 
-pub IsPermutation-push_placed : (rs ss : List Record) (r : Record) → IsPermutation rs ss → IsPermutation (rs ++ r ∷ []) (placed r ss)
+pub IsPermutation-push_placed : (rs ss : List Record) (r : Record) → IsPermutation rs ss →
+    IsPermutation (rs ++ r ∷ []) (placed r ss)
 IsPermutation-push_placed rs ss r h =
     IsPermutation-trans (rs ++ r ∷ []) (r ∷ rs) (placed r ss) (IsPermutation-to_front rs r)
     (IsPermutation-trans (r ∷ rs) (r ∷ ss) (placed r ss) (IsPermutation-cons r rs ss h) (IsPermutation-placed r ss))
@@ -63,92 +70,122 @@ Rises-from_Ascends (r ∷ s ∷ ss) h = (h.0.0, Rises-from_Ascends (s ∷ ss) h.
 
 -- s before r, as its time is no later and its number smaller
 joins : (s r : Record) → s.ts ≤ r.ts → s.number < r.number → Before s r
-joins s r le lt = ⊎_elim (λ (h : s.ts < r.ts). inl h) (λ (h : r.ts ≤ s.ts). inr (omega arith, lt)) (cases_lt s.ts r.ts)
+joins s r le lt = ⊎_elim (λ (h : s.ts < r.ts). inl h) (λ (h : r.ts ≤ s.ts). inr (omega arith, lt))
+    (cases_lt s.ts r.ts)
 
 later : (r : Record) (s x : Record) → r.ts < s.ts → Before s x → Before r x
 later r s x lt (inl h) = inl (omega arith)
 later r s x lt (inr h) = inl (omega arith)
 
-pub Ascends-placed : (r : Record) (rs : List Record) → Ascends rs → Each (λ s. s.number < r.number) rs → Ascends (placed r rs)
+pub Ascends-placed : (r : Record) (rs : List Record) → Ascends rs → Each (λ s. s.number < r.number) rs →
+    Ascends (placed r rs)
 Ascends-placed r [] h n = (tt, tt)
 Ascends-placed r (s ∷ ss) h n =
     cond_both (leb s.ts r.ts) (s ∷ placed r ss) (r ∷ s ∷ ss) Ascends
-    (λ e. (each_placed (λ x. Before s x) r ss (joins s r (leb-true s.ts r.ts e) n.0) h.0, Ascends-placed r ss h.1 n.1))
+    (λ e. (
+      each_placed (λ x. Before s x) r ss (joins s r (leb-true s.ts r.ts e) n.0) h.0,
+      Ascends-placed r ss h.1 n.1,
+    ))
     (λ e. let lt = leb-false s.ts r.ts e in ((inl lt, each_weaker (λ x k. later r s x lt k) ss h.0), h))
 
 -- a core's records
 of_core_none : (c : ℕ) (rs : List Record) → Each (λ s. s.core ≢ c) rs → of_core c rs ≡ []
 of_core_none c [] h = refl
-of_core_none c (r ∷ rs) h = cond-false (eqb r.core c) (r ∷ of_core c rs) (of_core c rs) (ne_eqb r.core c h.0) ∙ of_core_none c rs h.1
+of_core_none c (r ∷ rs) h = cond-false (eqb r.core c) (r ∷ of_core c rs) (of_core c rs) (ne_eqb r.core c h.0)
+    ∙ of_core_none c rs h.1
 
-pub of_core-placed_other : (c : ℕ) (r : Record) (rs : List Record) → r.core ≢ c → of_core c (placed r rs) ≡ of_core c rs
+pub of_core-placed_other : (c : ℕ) (r : Record) (rs : List Record) → r.core ≢ c →
+    of_core c (placed r rs) ≡ of_core c rs
 of_core-placed_other c r [] ne = cond-false (eqb r.core c) (r ∷ []) [] (ne_eqb r.core c ne)
 of_core-placed_other c r (s ∷ ss) ne =
     cond_both (leb s.ts r.ts) (s ∷ placed r ss) (r ∷ s ∷ ss) (λ xs. of_core c xs ≡ of_core c (s ∷ ss))
     (λ e. ap (λ xs. cond (eqb s.core c) (s ∷ xs) xs) (of_core-placed_other c r ss ne))
     (λ e. cond-false (eqb r.core c) (r ∷ of_core c (s ∷ ss)) (of_core c (s ∷ ss)) (ne_eqb r.core c ne))
 
-cond_push : (b : Bool) (s r : Record) (xs ys : List Record) → xs ≡ ys ++ r ∷ [] → cond b (s ∷ xs) xs ≡ cond b (s ∷ ys) ys ++ r ∷ []
+cond_push : (b : Bool) (s r : Record) (xs ys : List Record) → xs ≡ ys ++ r ∷ [] → cond b (s ∷ xs) xs ≡ cond b
+    (s ∷ ys) ys ++ r ∷ []
 cond_push true s r xs ys h = ap (λ zs. s ∷ zs) h
 cond_push false s r xs ys h = h
 
-pub of_core-placed_own : (r : Record) (rs : List Record) → Sorted rs → Each (λ s. s.core ≡ r.core → s.ts ≤ r.ts) rs → of_core r.core (placed r rs) ≡ of_core r.core rs ++ r ∷ []
+pub of_core-placed_own : (r : Record) (rs : List Record) → Sorted rs → Each (λ s. s.core ≡ r.core → s.ts ≤ r.ts) rs →
+    of_core r.core (placed r rs) ≡ of_core r.core rs ++ r ∷ []
 of_core-placed_own r [] s h = cond-true (eqb r.core r.core) (r ∷ []) [] (eq-eqb r.core r.core refl)
 of_core-placed_own r (x ∷ xs) s h =
-    cond_both (leb x.ts r.ts) (x ∷ placed r xs) (r ∷ x ∷ xs) (λ ys. of_core r.core ys ≡ of_core r.core (x ∷ xs) ++ r ∷ [])
-    (λ e. cond_push (eqb x.core r.core) x r (of_core r.core (placed r xs)) (of_core r.core xs) (of_core-placed_own r xs s.1 h.1))
+    cond_both (leb x.ts r.ts) (x ∷ placed r xs) (r ∷ x ∷ xs) (λ ys. of_core r.core ys ≡ of_core r.core (x ∷ xs)
+    ++ r ∷ [])
+    (λ e. cond_push (eqb x.core r.core) x r (of_core r.core (placed r xs)) (of_core r.core xs)
+    (of_core-placed_own r xs s.1 h.1))
     (λ e.
     let lt = leb-false x.ts r.ts e in
     let none = of_core_none r.core (x ∷ xs) (apart (x ∷ xs) (lt, each_weaker (λ y k. omega arith) xs s.0) h) in
     cond-true (eqb r.core r.core) (r ∷ of_core r.core (x ∷ xs)) (of_core r.core (x ∷ xs)) (eq-eqb r.core r.core refl)
     ∙ ap (λ ys. r ∷ ys) none ∙ sym (ap (λ ys. ys ++ r ∷ []) none))
   where
-    apart : (ys : List Record) → Each (λ s. r.ts < s.ts) ys → Each (λ s. s.core ≡ r.core → s.ts ≤ r.ts) ys → Each (λ s. s.core ≢ r.core) ys
+    apart : (ys : List Record) → Each (λ s. r.ts < s.ts) ys → Each (λ s. s.core ≡ r.core → s.ts ≤ r.ts) ys →
+        Each (λ s. s.core ≢ r.core) ys
     apart [] l k = tt
-    apart (y ∷ ys) l k = (λ e. absurd (let le : y.ts ≤ r.ts = k.0 e in let lt : r.ts < y.ts = l.0 in omega arith), apart ys l.1 k.1)
+    apart (y ∷ ys) l k =
+        (λ e. absurd (let le : y.ts ≤ r.ts = k.0 e in let lt : r.ts < y.ts = l.0 in omega arith), apart ys l.1 k.1)
 
-pub Follows-push : (k : ℕ) (ops : List Op) (rs : List Record) (r : Record) → Follows k ops rs → r.place ≡ k + length rs → slice_get ops (k + length rs) ≡ Some r.op → Follows k ops (rs ++ r ∷ [])
+pub Follows-push : (k : ℕ) (ops : List Op) (rs : List Record) (r : Record) → Follows k ops rs →
+    r.place ≡ k + length rs → slice_get ops (k + length rs) ≡ Some r.op → Follows k ops (rs ++ r ∷ [])
 Follows-push k ops [] r h p o = (p ∙ omega arith, subst (λ (n : ℕ). slice_get ops n ≡ Some r.op) (omega arith) o, tt)
-Follows-push k ops (s ∷ ss) r h p o =
-    (h.0, h.1, Follows-push (k + 1) ops ss r h.2 (p ∙ omega arith) (subst (λ (n : ℕ). slice_get ops n ≡ Some r.op) (omega arith) o))
+Follows-push k ops (s ∷ ss) r h p o = (
+  h.0,
+  h.1,
+  Follows-push (k + 1) ops ss r h.2 (p ∙ omega arith)
+      (subst (λ (n : ℕ). slice_get ops n ≡ Some r.op) (omega arith) o),
+)
 
 -- numbers
 pub count_none : (k : ℕ) (rs : List Record) → Each (λ s. s.number < k) rs → count_by (λ s. s.number == k) rs ≡ 0
 count_none k [] h = refl
 count_none k (r ∷ rs) h =
     let lt : r.number < k = h.0 in
-    sum_by-cons (λ (s : Record). cond (eqb s.number k) 1 0) r rs ∙ ap₂ (λ x y. x + y) (cond-false (eqb r.number k) 1 0 (ne_eqb r.number k (λ e. absurd (omega arith)))) (count_none k rs h.1)
+    sum_by-cons (λ (s : Record). cond (eqb s.number k) 1 0) r rs
+    ∙ ap₂ (λ x y. x + y) (cond-false (eqb r.number k) 1 0 (ne_eqb r.number k (λ e. absurd (omega arith))))
+    (count_none k rs h.1)
 
-pub count-push : (k : ℕ) (rs : List Record) (r : Record) → count_by (λ s. s.number == k) (rs ++ r ∷ []) ≡ count_by (λ s. s.number == k) rs + cond (eqb r.number k) 1 0
+pub count-push : (k : ℕ) (rs : List Record) (r : Record) → count_by (λ s. s.number == k) (rs ++ r ∷ []) ≡ count_by
+    (λ s. s.number == k) rs + cond (eqb r.number k) 1 0
 count-push k rs r = sum_by_push (λ (s : Record). cond (eqb s.number k) 1 0) rs r
 
 length-push : (rs : List Record) (r : Record) → length (rs ++ r ∷ []) ≡ length rs + 1
 length-push rs r = length-append rs (r ∷ []) ∙ omega arith
 
 -- with the next number, the numbers are still 0 to n - 1, each once
-pub counts-push : (rs : List Record) (r : Record) → r.number ≡ length rs → Each (λ s. s.number < length rs) rs → ((k : ℕ) → k < length rs → count_by (λ s. s.number == k) rs ≡ 1) → (k : ℕ) → k < length (rs ++ r ∷ []) → count_by (λ s. s.number == k) (rs ++ r ∷ []) ≡ 1
+pub counts-push : (rs : List Record) (r : Record) → r.number ≡ length rs → Each (λ s. s.number < length rs) rs →
+    ((k : ℕ) → k < length rs → count_by (λ s. s.number == k) rs ≡ 1) → (k : ℕ) → k < length (rs ++ r ∷ []) →
+    count_by (λ s. s.number == k) (rs ++ r ∷ []) ≡ 1
 counts-push rs r n below once k lt =
     count-push k rs r ∙ ⊎_elim
-    (λ (e : k ≡ length rs). ap₂ (λ x y. x + y) (subst (λ (j : ℕ). count_by (λ (s : Record). s.number == j) rs ≡ 0) (sym e) (count_none (length rs) rs below)) (cond-true (eqb r.number k) 1 0 (eq-eqb r.number k (n ∙ sym e))))
-    (λ (ne : k ≡ length rs → ⊥). ap₂ (λ x y. x + y) (once k (let l = length-push rs r in ⊎_elim (λ (h : k < length rs). h) (λ (h : length rs ≤ k). absurd (ne (omega arith))) (cases_lt k (length rs)))) (cond-false (eqb r.number k) 1 0 (ne_eqb r.number k (λ e. ne (sym e ∙ n)))))
+    (λ (e : k ≡ length rs). ap₂ (λ x y. x + y) (subst (λ (j : ℕ). count_by (λ (s : Record). s.number == j) rs ≡ 0)
+    (sym e) (count_none (length rs) rs below)) (cond-true (eqb r.number k) 1 0 (eq-eqb r.number k (n ∙ sym e))))
+    (λ (ne : k ≡ length rs → ⊥). ap₂ (λ x y. x + y) (once k (let l = length-push rs r in
+    ⊎_elim (λ (h : k < length rs). h) (λ (h : length rs ≤ k). absurd (ne (omega arith)))
+    (cases_lt k (length rs)))) (cond-false (eqb r.number k) 1 0 (ne_eqb r.number k (λ e. ne (sym e ∙ n)))))
     (cases_eq k (length rs))
 
 -- how many records a core has
-length_of_core : (c : ℕ) (b : Bool) (r : Record) (xs : List Record) → length (cond b (r ∷ xs) xs) ≡ length xs + cond b 1 0
+length_of_core : (c : ℕ) (b : Bool) (r : Record) (xs : List Record) → length (cond b (r ∷ xs) xs) ≡
+    length xs + cond b 1 0
 length_of_core c true r xs = omega arith
 length_of_core c false r xs = omega arith
 
-length_placed : (c : ℕ) (r : Record) (rs : List Record) → length (of_core c (placed r rs)) ≡ length (of_core c rs) + cond (eqb r.core c) 1 0
+length_placed : (c : ℕ) (r : Record) (rs : List Record) → length (of_core c (placed r rs)) ≡ length
+    (of_core c rs) + cond (eqb r.core c) 1 0
 length_placed c r [] = length_of_core c (eqb r.core c) r []
 length_placed c r (s ∷ ss) =
-    cond_both (leb s.ts r.ts) (s ∷ placed r ss) (r ∷ s ∷ ss) (λ xs. length (of_core c xs) ≡ length (of_core c (s ∷ ss)) + cond (eqb r.core c) 1 0)
+    cond_both (leb s.ts r.ts) (s ∷ placed r ss) (r ∷ s ∷ ss) (λ xs. length (of_core c xs) ≡ length
+    (of_core c (s ∷ ss)) + cond (eqb r.core c) 1 0)
     (λ e.
     let a = length_of_core c (eqb s.core c) s (of_core c (placed r ss)) in
     let b = length_of_core c (eqb s.core c) s (of_core c ss) in
     let i = length_placed c r ss in omega arith)
     (λ e. length_of_core c (eqb r.core c) r (of_core c (s ∷ ss)))
 
-length_arranged_from : (c : ℕ) (start rs : List Record) → length (of_core c (arranged_from start rs)) ≡ length (of_core c start) + length (of_core c rs)
+length_arranged_from : (c : ℕ) (start rs : List Record) → length (of_core c (arranged_from start rs)) ≡ length
+    (of_core c start) + length (of_core c rs)
 length_arranged_from c start [] = omega arith
 length_arranged_from c start (r ∷ rs) =
     let i = length_arranged_from c (placed r start) rs in
@@ -159,11 +196,14 @@ pub length_arranged : (c : ℕ) (rs : List Record) → length (of_core c (arrang
 length_arranged c rs = length_arranged_from c [] rs ∙ omega arith
 
 -- more may be issued
-slice_get_more : {X : Type 0} (xs ys : List X) (k : ℕ) (x : X) → slice_get xs k ≡ Some x → slice_get (xs ++ ys) k ≡ Some x
+slice_get_more : {X : Type 0} (xs ys : List X) (k : ℕ) (x : X) → slice_get xs k ≡ Some x →
+    slice_get (xs ++ ys) k ≡ Some x
 slice_get_more xs ys k x h =
     let lt = slice_get_within xs k x h in
-    slice_get-get_or (xs ++ ys) k x (omega (arith, length-append xs ys)) ∙ ap Some (get_or-append xs ys x k lt ∙ get_or_from_slice_get xs k x x h)
+    slice_get-get_or (xs ++ ys) k x (omega (arith, length-append xs ys)) ∙ ap Some (get_or-append xs ys x k lt
+    ∙ get_or_from_slice_get xs k x x h)
 
 pub Follows-issued : (k : ℕ) (ops more : List Op) (rs : List Record) → Follows k ops rs → Follows k (ops ++ more) rs
 Follows-issued k ops more [] h = tt
-Follows-issued k ops more (r ∷ rs) h = (h.0, slice_get_more ops more k r.op h.1, Follows-issued (k + 1) ops more rs h.2)
+Follows-issued k ops more (r ∷ rs) h =
+    (h.0, slice_get_more ops more k r.op h.1, Follows-issued (k + 1) ops more rs h.2)

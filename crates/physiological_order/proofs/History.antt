@@ -1,5 +1,6 @@
 -- One more record behind those of its time or an earlier one: what the records receive, and the memory up to a time.
-use Rattle.std.proofs.Common.{◌≡◌, ℕ, ◌<◌, ◌≤◌, ◌≢◌, Bool, true, false, cond, leb, eqb, List, [], ◌∷◌, map, Some, refl, sym, ap, ap₂, ◌∙◌, arith}
+use Rattle.std.proofs.Common.{◌≡◌, ℕ, ◌<◌, ◌≤◌, ◌≢◌, Bool, true, false, cond, leb, eqb, List, [], ◌∷◌, map, Some}
+use Rattle.std.proofs.Common.{refl, sym, ap, ap₂, ◌∙◌, arith}
 use Rattle.std.specs.List.{AllByRecursion as Each}
 use Rattle.std.proofs.lemmas.Bool.{cond_both, leb-true, leb-false, le-leb, lt-leb, cond-false, ne_eqb}
 use Rattle.physiological_order.specs.declared.operation.Op.{Op}
@@ -20,7 +21,8 @@ each_weaker f (r ∷ rs) h = (f r h.0, each_weaker f rs h.1)
 pub each_placed : (P : Record → Type 0) (r : Record) (rs : List Record) → P r → Each P rs → Each P (placed r rs)
 each_placed P r [] p h = (p, tt)
 each_placed P r (s ∷ ss) p h =
-    cond_both (leb s.ts r.ts) (s ∷ placed r ss) (r ∷ s ∷ ss) (λ xs. Each P xs) (λ e. (h.0, each_placed P r ss p h.1)) (λ e. (p, h))
+    cond_both (leb s.ts r.ts) (s ∷ placed r ss) (r ∷ s ∷ ss) (λ xs. Each P xs) (λ e. (h.0, each_placed P r ss p h.1))
+    (λ e. (p, h))
 
 pub sorted_placed : (r : Record) (rs : List Record) → Sorted rs → Sorted (placed r rs)
 sorted_placed r [] h = (tt, tt)
@@ -32,7 +34,8 @@ sorted_placed r (s ∷ ss) h =
 -- records after a time change nothing up to it
 pub memory_at-late : (m : Memory) (rs : List Record) (t : ℕ) → Each (λ s. t < s.ts) rs → memory_at m rs t ≡ m
 memory_at-late m [] t h = refl
-memory_at-late m (r ∷ rs) t h = ap (λ b. memory_at (cond b (flat_after m r.op) m) rs t) (lt-leb r.ts t h.0) ∙ memory_at-late m rs t h.1
+memory_at-late m (r ∷ rs) t h = ap (λ b. memory_at (cond b (flat_after m r.op) m) rs t) (lt-leb r.ts t h.0)
+    ∙ memory_at-late m rs t h.1
 
 -- a word after a step depends on that word before it alone
 pub flat_after-word : (m n : Memory) (op : Op) (a : ℕ) → m a ≡ n a → flat_after m op a ≡ flat_after n op a
@@ -40,37 +43,45 @@ flat_after-word m n (Load b) a h = h
 flat_after-word m n (Store b v) a h = ap (λ x. cond (eqb a b) v x) h
 flat_after-word m n (Swap b v) a h = ap (λ x. cond (eqb a b) v x) h
 
-pub flat_received-word : (m n : Memory) (op : Op) → m (address op) ≡ n (address op) → flat_received m op ≡ flat_received n op
+pub flat_received-word : (m n : Memory) (op : Op) → m (address op) ≡ n (address op) →
+    flat_received m op ≡ flat_received n op
 flat_received-word m n (Load b) h = ap Some h
 flat_received-word m n (Store b v) h = refl
 flat_received-word m n (Swap b v) h = ap Some h
 
 -- records that don't read or write a word receive the same whatever it holds
-pub Receives-elsewhere : (m n : Memory) (w : ℕ) (rs : List Record) → ((a : ℕ) → a ≢ w → m a ≡ n a) → Each (λ s. address s.op ≢ w) rs → Receives m rs → Receives n rs
+pub Receives-elsewhere : (m n : Memory) (w : ℕ) (rs : List Record) → ((a : ℕ) → a ≢ w → m a ≡ n a) →
+    Each (λ s. address s.op ≢ w) rs → Receives m rs → Receives n rs
 Receives-elsewhere m n w [] same other h = tt
 Receives-elsewhere m n w (r ∷ rs) same other h = (
   h.0 ∙ flat_received-word m n r.op (same (address r.op) other.0),
-  Receives-elsewhere (flat_after m r.op) (flat_after n r.op) w rs (λ a ne. flat_after-word m n r.op a (same a ne)) other.1 h.1,
+  Receives-elsewhere (flat_after m r.op) (flat_after n r.op) w rs (λ a ne. flat_after-word m n r.op a (same a ne))
+      other.1 h.1,
 )
 
 with_word-other : (m : Memory) (w v a : ℕ) → a ≢ w → m a ≡ with_word m w v a
 with_word-other m w v a ne = sym (cond-false (eqb a w) v (m a) (ne_eqb a w ne))
 
 -- what stands behind r receives the same with r
-behind : (m : Memory) (op : Op) (t : ℕ) (rs : List Record) → Each (λ s. t < s.ts) rs → Undisturbed op t rs → Receives m rs → Receives (flat_after m op) rs
+behind : (m : Memory) (op : Op) (t : ℕ) (rs : List Record) → Each (λ s. t < s.ts) rs → Undisturbed op t rs →
+    Receives m rs → Receives (flat_after m op) rs
 behind m (Load a) t rs late u h = h
 behind m (Store a v) t rs late u h =
     Receives-elsewhere m (with_word m a v) a rs (with_word-other m a v) (apart rs late u) h
   where
-    apart : (xs : List Record) → Each (λ s. t < s.ts) xs → Each (λ s. address s.op ≡ a → s.ts ≤ t) xs → Each (λ s. address s.op ≢ a) xs
+    apart : (xs : List Record) → Each (λ s. t < s.ts) xs → Each (λ s. address s.op ≡ a → s.ts ≤ t) xs →
+        Each (λ s. address s.op ≢ a) xs
     apart [] l k = tt
-    apart (x ∷ xs) l k = (λ e. absurd (let le : x.ts ≤ t = k.0 e in let lt : t < x.ts = l.0 in omega arith), apart xs l.1 k.1)
+    apart (x ∷ xs) l k =
+        (λ e. absurd (let le : x.ts ≤ t = k.0 e in let lt : t < x.ts = l.0 in omega arith), apart xs l.1 k.1)
 behind m (Swap a v) t rs late u h =
     Receives-elsewhere m (with_word m a v) a rs (with_word-other m a v) (apart rs late u) h
   where
-    apart : (xs : List Record) → Each (λ s. t < s.ts) xs → Each (λ s. address s.op ≡ a → s.ts ≤ t) xs → Each (λ s. address s.op ≢ a) xs
+    apart : (xs : List Record) → Each (λ s. t < s.ts) xs → Each (λ s. address s.op ≡ a → s.ts ≤ t) xs →
+        Each (λ s. address s.op ≢ a) xs
     apart [] l k = tt
-    apart (x ∷ xs) l k = (λ e. absurd (let le : x.ts ≤ t = k.0 e in let lt : t < x.ts = l.0 in omega arith), apart xs l.1 k.1)
+    apart (x ∷ xs) l k =
+        (λ e. absurd (let le : x.ts ≤ t = k.0 e in let lt : t < x.ts = l.0 in omega arith), apart xs l.1 k.1)
 
 undisturbed_tail : (op : Op) (t : ℕ) (s : Record) (ss : List Record) → Undisturbed op t (s ∷ ss) → Undisturbed op t ss
 undisturbed_tail (Load a) t s ss u = tt
@@ -79,7 +90,8 @@ undisturbed_tail (Swap a v) t s ss u = u.1
 
 -- the key: legal values stay legal when a record is put behind all of its time, if it received what the memory at
 -- its time gives, and no record of a word that it writes stands behind it
-pub Receives-placed : (m : Memory) (r : Record) (rs : List Record) → Sorted rs → Receives m rs → r.received ≡ flat_received (memory_at m rs r.ts) r.op → Undisturbed r.op r.ts rs → Receives m (placed r rs)
+pub Receives-placed : (m : Memory) (r : Record) (rs : List Record) → Sorted rs → Receives m rs →
+    r.received ≡ flat_received (memory_at m rs r.ts) r.op → Undisturbed r.op r.ts rs → Receives m (placed r rs)
 Receives-placed m r [] s h e u = (e, tt)
 Receives-placed m r (x ∷ xs) s h e u =
     cond_both (leb x.ts r.ts) (x ∷ placed r xs) (r ∷ x ∷ xs) (Receives m)
@@ -95,17 +107,20 @@ Receives-placed m r (x ∷ xs) s h e u =
     (e ∙ ap (λ n. flat_received n r.op) (memory_at-late m (x ∷ xs) r.ts late), behind m r.op r.ts (x ∷ xs) late u h))
 
 -- a word of the memory at a time depends on that word of the opening memory alone
-step_word : (m n : Memory) (b : Bool) (op : Op) (a : ℕ) → m a ≡ n a → cond b (flat_after m op) m a ≡ cond b (flat_after n op) n a
+step_word : (m n : Memory) (b : Bool) (op : Op) (a : ℕ) → m a ≡ n a → cond b (flat_after m op) m a ≡ cond b
+    (flat_after n op) n a
 step_word m n true op a h = flat_after-word m n op a h
 step_word m n false op a h = h
 
 pub memory_at-word : (m n : Memory) (rs : List Record) (t a : ℕ) → m a ≡ n a → memory_at m rs t a ≡ memory_at n rs t a
 memory_at-word m n [] t a h = h
 memory_at-word m n (r ∷ rs) t a h =
-    memory_at-word (cond (leb r.ts t) (flat_after m r.op) m) (cond (leb r.ts t) (flat_after n r.op) n) rs t a (step_word m n (leb r.ts t) r.op a h)
+    memory_at-word (cond (leb r.ts t) (flat_after m r.op) m) (cond (leb r.ts t) (flat_after n r.op) n) rs t a
+    (step_word m n (leb r.ts t) r.op a h)
 
 -- a record changes nothing before its time
-pub memory_at-placed_before : (m : Memory) (r : Record) (rs : List Record) (t : ℕ) → t < r.ts → memory_at m (placed r rs) t ≡ memory_at m rs t
+pub memory_at-placed_before : (m : Memory) (r : Record) (rs : List Record) (t : ℕ) → t < r.ts →
+    memory_at m (placed r rs) t ≡ memory_at m rs t
 memory_at-placed_before m r [] t h = ap (λ b. cond b (flat_after m r.op) m) (lt-leb r.ts t h)
 memory_at-placed_before m r (s ∷ ss) t h =
     cond_both (leb s.ts r.ts) (s ∷ placed r ss) (r ∷ s ∷ ss) (λ xs. memory_at m xs t ≡ memory_at m (s ∷ ss) t)
@@ -128,20 +143,26 @@ step_keeps : (m : Memory) (b : Bool) (op : Op) (a : ℕ) → Keeps op a → cond
 step_keeps m true op a k = k m
 step_keeps m false op a k = refl
 
-pub memory_at-placed_keeps : (m : Memory) (r : Record) (rs : List Record) (t a : ℕ) → Keeps r.op a → memory_at m (placed r rs) t a ≡ memory_at m rs t a
+pub memory_at-placed_keeps : (m : Memory) (r : Record) (rs : List Record) (t a : ℕ) → Keeps r.op a →
+    memory_at m (placed r rs) t a ≡ memory_at m rs t a
 memory_at-placed_keeps m r [] t a k = step_keeps m (leb r.ts t) r.op a k
 memory_at-placed_keeps m r (s ∷ ss) t a k =
     cond_both (leb s.ts r.ts) (s ∷ placed r ss) (r ∷ s ∷ ss) (λ xs. memory_at m xs t a ≡ memory_at m (s ∷ ss) t a)
     (λ e. memory_at-placed_keeps (cond (leb s.ts t) (flat_after m s.op) m) r ss t a k)
-    (λ e. memory_at-word (cond (leb r.ts t) (flat_after m r.op) m) m (s ∷ ss) t a (step_keeps m (leb r.ts t) r.op a k))
+    (λ e. memory_at-word (cond (leb r.ts t) (flat_after m r.op) m) m (s ∷ ss) t a
+    (step_keeps m (leb r.ts t) r.op a k))
 
-pub memory_at-untouched : (m : Memory) (rs : List Record) (t a : ℕ) → Each (λ s. address s.op ≢ a) rs → memory_at m rs t a ≡ m a
+pub memory_at-untouched : (m : Memory) (rs : List Record) (t a : ℕ) → Each (λ s. address s.op ≢ a) rs →
+    memory_at m rs t a ≡ m a
 memory_at-untouched m [] t a h = refl
 memory_at-untouched m (r ∷ rs) t a h =
-    memory_at-untouched (cond (leb r.ts t) (flat_after m r.op) m) rs t a h.1 ∙ step_keeps m (leb r.ts t) r.op a (Keeps-other r.op a h.0)
+    memory_at-untouched (cond (leb r.ts t) (flat_after m r.op) m) rs t a h.1 ∙ step_keeps m (leb r.ts t) r.op a
+    (Keeps-other r.op a h.0)
 
 -- from its time on, a record that writes a word, and behind which no record of the word stands, gives the word's value
-pub memory_at-placed_writes : (m : Memory) (r : Record) (rs : List Record) (t a v : ℕ) → Sorted rs → Each (λ s. address s.op ≡ a → s.ts ≤ r.ts) rs → ((n : Memory) → flat_after n r.op a ≡ v) → r.ts ≤ t → memory_at m (placed r rs) t a ≡ v
+pub memory_at-placed_writes : (m : Memory) (r : Record) (rs : List Record) (t a v : ℕ) → Sorted rs →
+    Each (λ s. address s.op ≡ a → s.ts ≤ r.ts) rs → ((n : Memory) → flat_after n r.op a ≡ v) → r.ts ≤ t →
+    memory_at m (placed r rs) t a ≡ v
 memory_at-placed_writes m r [] t a v s u w h = ap (λ b. cond b (flat_after m r.op) m a) (le-leb r.ts t h) ∙ w m
 memory_at-placed_writes m r (x ∷ xs) t a v s u w h =
     cond_both (leb x.ts r.ts) (x ∷ placed r xs) (r ∷ x ∷ xs) (λ ys. memory_at m ys t a ≡ v)
@@ -152,16 +173,21 @@ memory_at-placed_writes m r (x ∷ xs) t a v s u w h =
     (apart (x ∷ xs) (lt, each_weaker (λ y k. omega arith) xs s.0) u)
     ∙ ap (λ b. cond b (flat_after m r.op) m a) (le-leb r.ts t h) ∙ w m)
   where
-    apart : (ys : List Record) → Each (λ s. r.ts < s.ts) ys → Each (λ s. address s.op ≡ a → s.ts ≤ r.ts) ys → Each (λ s. address s.op ≢ a) ys
+    apart : (ys : List Record) → Each (λ s. r.ts < s.ts) ys → Each (λ s. address s.op ≡ a → s.ts ≤ r.ts) ys →
+        Each (λ s. address s.op ≢ a) ys
     apart [] l k = tt
-    apart (y ∷ ys) l k = (λ e. absurd (let le : y.ts ≤ r.ts = k.0 e in let lt : r.ts < y.ts = l.0 in omega arith), apart ys l.1 k.1)
+    apart (y ∷ ys) l k =
+        (λ e. absurd (let le : y.ts ≤ r.ts = k.0 e in let lt : r.ts < y.ts = l.0 in omega arith), apart ys l.1 k.1)
 
 -- past all times the memory is that of the whole replay
-pub memory_at-end : (m : Memory) (rs : List Record) (t : ℕ) → Each (λ s. s.ts ≤ t) rs → memory_at m rs t ≡ replay_end m (map (λ r. r.op) rs)
+pub memory_at-end : (m : Memory) (rs : List Record) (t : ℕ) → Each (λ s. s.ts ≤ t) rs → memory_at m rs t ≡ replay_end
+    m (map (λ r. r.op) rs)
 memory_at-end m [] t h = refl
 memory_at-end m (r ∷ rs) t h =
-    ap (λ b. memory_at (cond b (flat_after m r.op) m) rs t) (le-leb r.ts t h.0) ∙ memory_at-end (flat_after m r.op) rs t h.1
+    ap (λ b. memory_at (cond b (flat_after m r.op) m) rs t) (le-leb r.ts t h.0)
+    ∙ memory_at-end (flat_after m r.op) rs t h.1
 
-pub replay-from_Receives : (m : Memory) (rs : List Record) → Receives m rs → replay m (map (λ r. r.op) rs) ≡ map (λ r. r.received) rs
+pub replay-from_Receives : (m : Memory) (rs : List Record) → Receives m rs → replay m (map (λ r. r.op) rs) ≡ map
+    (λ r. r.received) rs
 replay-from_Receives m [] h = refl
 replay-from_Receives m (r ∷ rs) h = ap₂ (λ x xs. x ∷ xs) (sym h.0) (replay-from_Receives (flat_after m r.op) rs h.1)

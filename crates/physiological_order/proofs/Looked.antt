@@ -28,11 +28,13 @@ pub looks-le : (rs : List Record) → looks rs ≤ 2 * length rs
 looks-le [] = omega arith
 looks-le (r ∷ rs) = let i = looks-le rs in let one = looks_of-le r.op in omega arith
 
-pub looks-next : (rs : List Record) (i : ℕ) (r : Record) → take (i + 1) rs ≡ take i rs ++ r ∷ [] → looks (take (i + 1) rs) ≡ looks (take i rs) + looks_of r.op
+pub looks-next : (rs : List Record) (i : ℕ) (r : Record) → take (i + 1) rs ≡ take i rs ++ r ∷ [] →
+    looks (take (i + 1) rs) ≡ looks (take i rs) + looks_of r.op
 looks-next rs i r e = ap looks e ∙ looks-push (take i rs) r
 
 pub looks-part : (rs : List Record) (i : ℕ) → looks (take i rs) ≤ 2 * length rs
 looks-part rs i = let le = looks-le (take i rs) in let l = length-take i rs in omega arith
 
-pub looks-one_more : (rs : List Record) (i : ℕ) (r : Record) → take (i + 1) rs ≡ take i rs ++ r ∷ [] → looks (take i rs) + looks_of r.op ≤ 2 * length rs
+pub looks-one_more : (rs : List Record) (i : ℕ) (r : Record) → take (i + 1) rs ≡ take i rs ++ r ∷ [] →
+    looks (take i rs) + looks_of r.op ≤ 2 * length rs
 looks-one_more rs i r e = let next = looks-next rs i r e in let part = looks-part rs (i + 1) in omega arith

@@ -1,5 +1,6 @@
 -- A replay one operation further.
-use Rattle.std.proofs.Common.{◌≡◌, ℕ, ◌+◌, ◌<◌, Bool, true, false, cond, List, [], ◌∷◌, ◌++◌, length, get_or, take, Option, Some, refl, sym, ap, ◌∙◌}
+use Rattle.std.proofs.Common.{◌≡◌, ℕ, ◌+◌, ◌<◌, Bool, true, false, cond, List, [], ◌∷◌, ◌++◌, length, get_or, take}
+use Rattle.std.proofs.Common.{Option, Some, refl, sym, ap, ◌∙◌}
 use Rattle.std.proofs.lemmas.List.{take_more}
 use Rattle.std.specs.Prelude.{eqb, unwrap_or}
 use Rattle.std.proofs.lemmas.Bool.Decides.{nat_tests}
@@ -30,30 +31,40 @@ flat-words_after words (Load a) = refl
 flat-words_after words (Store a v) = flat-insert words a v
 flat-words_after words (Swap a v) = flat-insert words a v
 
-pub flat-words_end : (words : FinMap nat_cmp ℕ) (ops : List Op) → flat (words_end words ops) ≡ replay_end (flat words) ops
+pub flat-words_end : (words : FinMap nat_cmp ℕ) (ops : List Op) → flat (words_end words ops) ≡
+    replay_end (flat words) ops
 flat-words_end words [] = refl
-flat-words_end words (op ∷ ops) = flat-words_end (words_after words op) ops ∙ ap (λ m. replay_end m ops) (flat-words_after words op)
+flat-words_end words (op ∷ ops) =
+    flat-words_end (words_after words op) ops ∙ ap (λ m. replay_end m ops) (flat-words_after words op)
 
-pub words_end-push : (words : FinMap nat_cmp ℕ) (ops : List Op) (op : Op) → words_end words (ops ++ op ∷ []) ≡ words_after (words_end words ops) op
+pub words_end-push : (words : FinMap nat_cmp ℕ) (ops : List Op) (op : Op) → words_end words (ops ++ op ∷ []) ≡
+    words_after (words_end words ops) op
 words_end-push words [] op = refl
 words_end-push words (o ∷ ops) op = words_end-push (words_after words o) ops op
 
-pub replay_end-push : (m : Memory) (ops : List Op) (op : Op) → replay_end m (ops ++ op ∷ []) ≡ flat_after (replay_end m ops) op
+pub replay_end-push : (m : Memory) (ops : List Op) (op : Op) → replay_end m (ops ++ op ∷ []) ≡ flat_after
+    (replay_end m ops) op
 replay_end-push m [] op = refl
 replay_end-push m (o ∷ ops) op = replay_end-push (flat_after m o) ops op
 
-pub replay-push : (m : Memory) (ops : List Op) (op : Op) → replay m (ops ++ op ∷ []) ≡ replay m ops ++ flat_received (replay_end m ops) op ∷ []
+pub replay-push : (m : Memory) (ops : List Op) (op : Op) → replay m (ops ++ op ∷ []) ≡ replay m ops
+    ++ flat_received (replay_end m ops) op ∷ []
 replay-push m [] op = refl
 replay-push m (o ∷ ops) op = ap (λ rest. flat_received m o ∷ rest) (replay-push (flat_after m o) ops op)
 
 -- one turn of a loop over operations
-pub take-next : (ops : List Op) (i : ℕ) (op : Op) → i < length ops → op ≡ get_or ops i op → take (i + 1) ops ≡ take i ops ++ op ∷ []
+pub take-next : (ops : List Op) (i : ℕ) (op : Op) → i < length ops → op ≡ get_or ops i op →
+    take (i + 1) ops ≡ take i ops ++ op ∷ []
 take-next ops i op lt is = take_more ops i op lt ∙ ap (λ o. take i ops ++ o ∷ []) (sym is)
 
-pub words_end-take : (words : FinMap nat_cmp ℕ) (ops : List Op) (i : ℕ) (op : Op) → i < length ops → op ≡ get_or ops i op → words_end words (take (i + 1) ops) ≡ words_after (words_end words (take i ops)) op
-words_end-take words ops i op lt is = ap (words_end words) (take-next ops i op lt is) ∙ words_end-push words (take i ops) op
+pub words_end-take : (words : FinMap nat_cmp ℕ) (ops : List Op) (i : ℕ) (op : Op) → i < length ops →
+    op ≡ get_or ops i op → words_end words (take (i + 1) ops) ≡ words_after (words_end words (take i ops)) op
+words_end-take words ops i op lt is =
+    ap (words_end words) (take-next ops i op lt is) ∙ words_end-push words (take i ops) op
 
-pub replay-take : (words : FinMap nat_cmp ℕ) (ops : List Op) (i : ℕ) (op : Op) → i < length ops → op ≡ get_or ops i op → replay (flat words) (take (i + 1) ops) ≡ replay (flat words) (take i ops) ++ flat_received (flat (words_end words (take i ops))) op ∷ []
+pub replay-take : (words : FinMap nat_cmp ℕ) (ops : List Op) (i : ℕ) (op : Op) → i < length ops →
+    op ≡ get_or ops i op → replay (flat words) (take (i + 1) ops) ≡ replay (flat words) (take i ops)
+    ++ flat_received (flat (words_end words (take i ops))) op ∷ []
 replay-take words ops i op lt is =
     ap (replay (flat words)) (take-next ops i op lt is) ∙ replay-push (flat words) (take i ops) op
     ∙ ap (λ m. replay (flat words) (take i ops) ++ flat_received m op ∷ []) (sym (flat-words_end words (take i ops)))

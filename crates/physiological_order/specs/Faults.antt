@@ -5,8 +5,10 @@ use Rattle.std.specs.declared.alloc.Global.{Global}
 use Rattle.physiological_order.specs.declared.operation.Op.{Op}
 use Rattle.physiological_order.specs.declared.operation.Record.{Record}
 use Rattle.physiological_order.specs.declared.verdict.Verdict.{Verdict}
-use Rattle.physiological_order.specs.declared.verdict.Verdict.TheVariants.{Legal as LegalVerdict, BadNumber, OutOfProgramOrder, WrongValue}
-use Rattle.physiological_order.specs.Order.{Memory, Arrangement, NumberedOnce, KeepsProgramOrder, ReceivesAsReplayed, Legal}
+use Rattle.physiological_order.specs.declared.verdict.Verdict.TheVariants.{Legal as LegalVerdict, BadNumber}
+use Rattle.physiological_order.specs.declared.verdict.Verdict.TheVariants.{OutOfProgramOrder, WrongValue}
+use Rattle.physiological_order.specs.Order.{Memory, Arrangement, NumberedOnce, KeepsProgramOrder, ReceivesAsReplayed}
+use Rattle.physiological_order.specs.Order.{Legal}
 
 -- k is the least number of 0 to n - 1 that none of the n records carries
 pub record LeastMissing (records : List Record) (k : ℕ) : Type 0 where
@@ -43,7 +45,8 @@ WalksTo opening issued arranged (OutOfProgramOrder number) = OrderFault opening 
 WalksTo opening issued arranged (WrongValue number) = ValueFault opening issued arranged number
 
 -- the numbers are right, and the arrangement has this verdict
-pub record IsWalked (opening : Memory) (issued : ℕ → List Op) (records : List Record) (verdict : Verdict) : Type 0 where
+pub record IsWalked (opening : Memory) (issued : ℕ → List Op) (records : List Record)
+    (verdict : Verdict) : Type 0 where
   pub numbers : NumberedOnce records
   pub arranged : List Record
   pub arrangement : Arrangement records arranged
@@ -53,7 +56,8 @@ pub record IsWalked (opening : Memory) (issued : ℕ → List Op) (records : Lis
 abbrev pub IsVerdict : Memory → (ℕ → List Op) → List Record → Verdict → Type 0
 IsVerdict opening issued records LegalVerdict = Legal opening issued records
 IsVerdict opening issued records (BadNumber k) = LeastMissing records k
-IsVerdict opening issued records (OutOfProgramOrder number) = IsWalked opening issued records (OutOfProgramOrder number)
+IsVerdict opening issued records (OutOfProgramOrder number) =
+    IsWalked opening issued records (OutOfProgramOrder number)
 IsVerdict opening issued records (WrongValue number) = IsWalked opening issued records (WrongValue number)
 
 -- the lists that cores were issued, by core

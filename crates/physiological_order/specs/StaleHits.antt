@@ -13,7 +13,8 @@ writes (Swap a v) b = a == b
 
 -- a load for which a store or swap of the same word has a smaller number and a greater time
 abbrev pub is_stale_load : Op → List Record → Record → Bool
-is_stale_load (Load a) records r = list_any (λ s. writes s.op a && (nat_lt s.number r.number && nat_lt r.ts s.ts)) records
+is_stale_load (Load a) records r =
+    list_any (λ s. writes s.op a && (nat_lt s.number r.number && nat_lt r.ts s.ts)) records
 is_stale_load (Store a v) records r = false
 is_stale_load (Swap a v) records r = false
 

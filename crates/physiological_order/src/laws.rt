@@ -11,7 +11,8 @@ ghost use Rattle.physiological_order.specs.Faults.{IsVerdict};
 
 /// Records have one arrangement.
 pub fn one_arrangement()
-    ensures { (records first second : List Record) → Arrangement records first → Arrangement records second → first ≡ second }
+    ensures { (records first second : List Record) → Arrangement records first →
+        Arrangement records second → first ≡ second }
 {}
 
 /// Records have one verdict, for an opening memory and issued lists.

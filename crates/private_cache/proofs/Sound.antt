@@ -1,5 +1,6 @@
 -- What a cache keeps when a copy is put, changed or taken out, and that a victim makes a place.
-use Rattle.std.proofs.Common.{◌≡◌, ◌≢◌, ℕ, zero, suc, ◌<◌, ◌≤◌, ◌%◌, true, false, ltb, List, [], ◌∷◌, length, replicate, Some, None, refl, sym, ap, ◌∙◌, arith, ⊎_elim, IsTrue}
+use Rattle.std.proofs.Common.{◌≡◌, ◌≢◌, ℕ, zero, suc, ◌<◌, ◌≤◌, ◌%◌, true, false, ltb, List, [], ◌∷◌, length}
+use Rattle.std.proofs.Common.{replicate, Some, None, refl, sym, ap, ◌∙◌, arith, ⊎_elim, IsTrue}
 use Rattle.std.specs.Option.{is_some}
 use Rattle.std.proofs.lemmas.List.{length-replicate}
 use Rattle.std.proofs.lemmas.Bool.{cases_eq, cond-true, eq-eqb, lt-ltb, or_right}
@@ -19,7 +20,8 @@ own :
     ((k j : ℕ) → j ≢ line → look new k j ≡ look sets k j) →
     ((k j : ℕ) → k ≢ line % length sets → look new k j ≡ look sets k j) → InOwnSets sets → InOwnSets new
 own sets new line len others other_sets h = λ k j there.
-    let as_before : look new k j ≡ look sets k j → j % length new ≡ k = λ same. rw len (h k j (sym (ap is_some same) ∙ there)) in
+    let as_before : look new k j ≡ look sets k j → j % length new ≡ k =
+    λ same. rw len (h k j (sym (ap is_some same) ∙ there)) in
     ⊎_elim
     (λ (e : j ≡ line).
     ⊎_elim
@@ -37,7 +39,8 @@ pub sound-put :
     new ≡ record cache { sets = put cache.sets set line copy } → IsSound new
 sound-put cache new set line copy sound is e =
     let i : line % length cache.sets < length cache.sets = below line (length cache.sets) sound.some_sets in
-    let len : length (put cache.sets (set_of cache line) line copy) ≡ length cache.sets = length-put cache.sets (set_of cache line) line copy in
+    let len : length (put cache.sets (set_of cache line) line copy) ≡ length cache.sets =
+    length-put cache.sets (set_of cache line) line copy in
     rw (e, is) (record {
       some_sets = rw len sound.some_sets;
       some_ways = sound.some_ways;
@@ -52,7 +55,8 @@ pub sound-put_within :
     new ≡ record cache { sets = put_within cache.sets set line copy } → IsSound new
 sound-put_within cache new set line copy sound is e =
     let i : line % length cache.sets < length cache.sets = below line (length cache.sets) sound.some_sets in
-    let len : length (put_within cache.sets (set_of cache line) line copy) ≡ length cache.sets = length-put_within cache.sets (set_of cache line) line copy in
+    let len : length (put_within cache.sets (set_of cache line) line copy) ≡ length cache.sets =
+    length-put_within cache.sets (set_of cache line) line copy in
     rw (e, is) (record {
       some_sets = rw len sound.some_sets;
       some_ways = sound.some_ways;
@@ -67,7 +71,8 @@ pub sound-drop_line :
     new ≡ record cache { sets = drop_line cache.sets set line } → IsSound new
 sound-drop_line cache new set line sound is e =
     let i : line % length cache.sets < length cache.sets = below line (length cache.sets) sound.some_sets in
-    let len : length (drop_line cache.sets (set_of cache line) line) ≡ length cache.sets = length-drop_line cache.sets (set_of cache line) line in
+    let len : length (drop_line cache.sets (set_of cache line) line) ≡ length cache.sets =
+    length-drop_line cache.sets (set_of cache line) line in
     rw (e, is) (record {
       some_sets = rw len sound.some_sets;
       some_ways = sound.some_ways;
@@ -89,7 +94,8 @@ sound-empty new sets ways s w e =
     rw e (record {
       some_sets = rw (length-replicate {A = List (ℕ × LineCopy)} sets []) s;
       some_ways = w;
-      own_sets = λ k j there. absurd (let z : false ≡ true = sym (ap (λ (ps : List (ℕ × LineCopy)). is_there ps j) (empty_at sets k)) ∙ there in cc);
+      own_sets = λ k j there. absurd (let z : false ≡ true =
+          sym (ap (λ (ps : List (ℕ × LineCopy)). is_there ps j) (empty_at sets k)) ∙ there in cc);
     })
 
 -- the first line of a set is there
@@ -105,7 +111,8 @@ pub victim-copy :
     first_line (set_at cache.sets (set_of cache line)) ≡ Some victim →
     (set_of cache victim ≡ set_of cache line) × (is_some (copy_of cache victim) ≡ true)
 victim-copy cache line victim sound e =
-    let there : is_there (set_at cache.sets (set_of cache line)) victim ≡ true = first-there (set_at cache.sets (set_of cache line)) victim e in
+    let there : is_there (set_at cache.sets (set_of cache line)) victim ≡ true =
+    first-there (set_at cache.sets (set_of cache line)) victim e in
     let same : set_of cache victim ≡ set_of cache line = sound.own_sets (set_of cache line) victim there in
     (same, rw same there)
 
@@ -115,16 +122,22 @@ pub victim-place :
     first_line (set_at cache.sets (set_of cache line)) ≡ Some victim →
     IsTrue (place_for (without_copy cache victim) line)
 victim-place cache line victim sound fits e =
-    let there : is_there (set_at cache.sets (set_of cache line)) victim ≡ true = first-there (set_at cache.sets (set_of cache line)) victim e in
+    let there : is_there (set_at cache.sets (set_of cache line)) victim ≡ true =
+    first-there (set_at cache.sets (set_of cache line)) victim e in
     let same : set_of cache victim ≡ set_of cache line = sound.own_sets (set_of cache line) victim there in
-    let len : length (drop_line cache.sets (set_of cache victim) victim) ≡ length cache.sets = length-drop_line cache.sets (set_of cache victim) victim in
+    let len : length (drop_line cache.sets (set_of cache victim) victim) ≡ length cache.sets =
+    length-drop_line cache.sets (set_of cache victim) victim in
     let i : set_of cache line < length cache.sets = below line (length cache.sets) sound.some_sets in
-    let at : set_at (drop_line cache.sets (set_of cache victim) victim) (set_of cache line) ≡ without (set_at cache.sets (set_of cache line)) victim =
-    rw same (set_at-set_same cache.sets (set_of cache line) (without (set_at cache.sets (set_of cache line)) victim) i) in
+    let at : set_at (drop_line cache.sets (set_of cache victim) victim) (set_of cache line) ≡ without
+    (set_at cache.sets (set_of cache line)) victim =
+    rw same (set_at-set_same cache.sets (set_of cache line) (without (set_at cache.sets (set_of cache line)) victim)
+    i) in
     let less : length (without (set_at cache.sets (set_of cache line)) victim) < cache.ways =
     omega (arith, length-without_there (set_at cache.sets (set_of cache line)) victim there) in
-    or_right (is_there (set_at (drop_line cache.sets (set_of cache victim) victim) (line % length (drop_line cache.sets (set_of cache victim) victim))) line)
-    (ltb (length (set_at (drop_line cache.sets (set_of cache victim) victim) (line % length (drop_line cache.sets (set_of cache victim) victim)))) cache.ways)
+    or_right (is_there (set_at (drop_line cache.sets (set_of cache victim) victim)
+    (line % length (drop_line cache.sets (set_of cache victim) victim))) line)
+    (ltb (length (set_at (drop_line cache.sets (set_of cache victim) victim)
+    (line % length (drop_line cache.sets (set_of cache victim) victim)))) cache.ways)
     (rw (len, at) (lt-ltb (length (without (set_at cache.sets (set_of cache line)) victim)) cache.ways less))
 
 -- the first entry of a set
@@ -146,5 +159,10 @@ victim-first table cache line set xs p view sound number lines within read =
     let sound_cache : IsSound cache = rw (← view) sound in
     let same : xs ≡ set_at cache.sets (set_of cache line) = rw (← number, ← view) lines in
     let fits : length (set_at cache.sets (set_of cache line)) ≤ cache.ways = rw (← same, ← view) within in
-    let first : first_line (set_at cache.sets (set_of cache line)) ≡ Some p.0 = first-line (set_at cache.sets (set_of cache line)) xs p same read in
-    record { there = (victim-copy cache line p.0 sound_cache first).1; makes_place = victim-place cache line p.0 sound_cache fits first }
+    let first : first_line (set_at cache.sets (set_of cache line)) ≡ Some p.0 =
+    first-line (set_at cache.sets (set_of cache line)) xs p same read in
+    record {
+      there = (victim-copy cache line p.0 sound_cache first).1;
+      makes_place =
+          victim-place cache line p.0 sound_cache fits first;
+    }

@@ -1,6 +1,7 @@
 -- A private cache by its sets of copies, each from the least recently used copy to the most recently used one, and what
 -- each change makes of it.
-use Rattle.std.specs.Prelude.{ℕ, ◌%◌, ◌==◌, Bool, true, false, List, [], ◌∷◌, length, Option, Some, None, Result, Ok, Err, if◌then◌else◌}
+use Rattle.std.specs.Prelude.{ℕ, ◌%◌, ◌==◌, Bool, true, false, List, [], ◌∷◌, length, Option, Some, None, Result, Ok}
+use Rattle.std.specs.Prelude.{Err, if◌then◌else◌}
 use Rattle.line_sets.specs.SetTable.{Sets, set_at, look, put, put_within, drop_line, has_way}
 use Rattle.network.specs.declared.message.TimedLine.{TimedLine}
 use Rattle.private_cache.specs.declared.line_copy.LineCopy.{LineCopy}

@@ -1,5 +1,6 @@
 //! A private cache, whose memory is all taken when it is made.
-ghost use Rattle.std.specs.Prelude.{◌≡◌, ◌≤◌, ◌<◌, length, IfOk, IfSome, IsPermutation, IsSorted, IsSome, IsTrue, is_some, not, true};
+ghost use Rattle.std.specs.Prelude.{◌≡◌, ◌≤◌, ◌<◌, length, IfOk, IfSome, IsPermutation, IsSorted, IsSome, IsTrue};
+ghost use Rattle.std.specs.Prelude.{is_some, not, true};
 ghost use Rattle.std.specs.Ordering.{nat_cmp};
 ghost use Rattle.std.specs.Option.{option_copied};
 ghost use Rattle.line_sets.specs.Geometry.{IsGeometry};
@@ -69,7 +70,9 @@ impl Model for Cache {
 }
 
 impl Cache {
-    ghost use Rattle.private_cache.specs.CopyTable.{changed, completed, copy_of, downgraded, evicted, filled, place_for, renewed, set_of, upgraded, victim_for, with_changed, with_used, without_copy};
+    ghost use Rattle.private_cache.specs.CopyTable.{changed, completed, copy_of, downgraded, evicted, filled};
+    ghost use Rattle.private_cache.specs.CopyTable.{place_for, renewed, set_of, upgraded, victim_for, with_changed};
+    ghost use Rattle.private_cache.specs.CopyTable.{with_used, without_copy};
 
     /// A cache without copies. All memory is taken here, for all the copies that it can have.
     pub fn new(alloc: Global, geometry: Geometry) -> Result<Cache, AllocError>
@@ -133,7 +136,8 @@ impl Cache {
     /// Makes the copy of a line Exclusive, not written yet, which others may read up to a time. NotHere exactly when
     /// there is no copy.
     pub fn upgrade(&mut self, line: LineNo, rts: u64) -> Result<(), CacheError>
-        ensures { (result, self.new) ≡ changed self.old line (upgraded rts) (copy_of self.old line) }
+        ensures { (result, self.new) ≡ changed self.old line (upgraded rts)
+            (copy_of self.old line) }
     {
         let Some(copy) = self.find(line).copied() else {
             return Err(CacheError::NotHere);
@@ -144,7 +148,8 @@ impl Cache {
 
     /// Makes the copy of a line Shared, leased up to a time. NotHere exactly when there is no copy.
     pub fn downgrade(&mut self, line: LineNo, rts: u64) -> Result<(), CacheError>
-        ensures { (result, self.new) ≡ changed self.old line (downgraded rts) (copy_of self.old line) }
+        ensures { (result, self.new) ≡ changed self.old line (downgraded rts)
+            (copy_of self.old line) }
     {
         let Some(copy) = self.find(line).copied() else {
             return Err(CacheError::NotHere);
@@ -216,7 +221,8 @@ impl Cache {
 
     /// The lines of all copies, rising.
     pub fn lines(&self) -> Result<Vec<LineNo>, AllocError>
-        ensures lines { IfOk result (λ lines. IsPermutation (all_listed (λ _. true) self.now.sets) lines.items) }
+        ensures lines { IfOk result (λ lines. IsPermutation (all_listed (λ _. true) self.now.sets)
+            lines.items) }
         ensures rising { IfOk result (λ lines. IsSorted nat_cmp lines.items) }
     {
         self.table.lines()

@@ -5,7 +5,8 @@ use Rattle.byte_streams.specs.Whole.{GrowsByFront}
 use Rattle.command_line.specs.declared.words.Job.{Job}
 use Rattle.command_line.specs.declared.words.Job.TheVariants.{Litmus as LitmusJob}
 use Rattle.command_line.specs.declared.words.WordsError.{WordsError}
-use Rattle.command_line.specs.declared.words.WordsError.TheVariants.{Refused as RefusedWords, NoMemory as NoMemoryForWords}
+use Rattle.command_line.specs.declared.words.WordsError.TheVariants.{Refused as RefusedWords}
+use Rattle.command_line.specs.declared.words.WordsError.TheVariants.{NoMemory as NoMemoryForWords}
 use Rattle.report.specs.Answers.{IsCutOff, IsReported, OfBytes}
 use Rattle.report.specs.Litmus.{HasNoReport, IsLitmusReport}
 use Rattle.run_options.specs.declared.options.LitmusOptions.{LitmusOptions}
@@ -38,7 +39,8 @@ came_text (Ok done) = []
 came_text (Err error) = error_line error
 
 -- the report went out, or a beginning of it; by another error nothing did
-abbrev pub RunsLitmus : LitmusOptions → Option (List ℕ) → Option (List ℕ) → Option (List ℕ) → Result Done RunError → Type 0
+abbrev pub RunsLitmus : LitmusOptions → Option (List ℕ) → Option (List ℕ) → Option (List ℕ) →
+    Result Done RunError → Type 0
 RunsLitmus options known old new (Ok done) =
     OfBytes known (λ bytes. IsReported (IsLitmusReport options bytes done.all_done) old new)
 RunsLitmus options known old new (Err Read) = new ≡ old

@@ -26,7 +26,8 @@ pub each_weightless : {X : Type 0} (w : X → ℕ) (xs : List X) → tally w xs 
 each_weightless w [] h = tt
 each_weightless w (x ∷ xs) h = (omega arith, each_weightless w xs (omega arith))
 
-pub each_both : {X : Type 0} {P Q R : X → Type 0} → ((x : X) → P x → Q x → R x) → (xs : List X) → Each P xs → Each Q xs → Each R xs
+pub each_both : {X : Type 0} {P Q R : X → Type 0} → ((x : X) → P x → Q x → R x) → (xs : List X) → Each P xs →
+    Each Q xs → Each R xs
 each_both f [] p q = tt
 each_both f (x ∷ xs) p q = (f x p.0 q.0, each_both f xs p.1 q.1)
 

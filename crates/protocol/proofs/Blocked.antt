@@ -2,21 +2,30 @@ use Rattle.std.proofs.Common.{◌≡◌, ◌≢◌, ℕ, ◌+◌, true, false, O
 use Rattle.physiological_order.specs.declared.operation.Op.{Op}
 use Rattle.physiological_order.specs.declared.operation.Op.TheVariants.{Load, Store, Swap}
 use Rattle.physiological_order.specs.Order.{address}
-use Rattle.protocol.specs.Machine.{Config, Copy, Line, Core, Machine, line_of, with_at, IsPast, CannotUse, LineTransition, evict_shared, evict_exclusive, flushed, written_back, Answers, shared, exclusive, renews, upgrades, Asks, to_read, to_write, Transition, issue, advance, ask, answer, complete, move, Reachable, at_first, goes_on}
+use Rattle.protocol.specs.Machine.{Config, Copy, Line, Core, Machine, line_of, with_at, IsPast, CannotUse}
+use Rattle.protocol.specs.Machine.{LineTransition, evict_shared, evict_exclusive, flushed, written_back, Answers}
+use Rattle.protocol.specs.Machine.{shared, exclusive, renews, upgrades, Asks, to_read, to_write, Transition, issue}
+use Rattle.protocol.specs.Machine.{advance, ask, answer, complete, move, Reachable, at_first, goes_on}
 use Rattle.protocol.proofs.Lines.{with_at_same, with_at_other, with_at_cases}
 use Rattle.protocol.proofs.Cores.{Some_injective}
 
 -- a core with a request out can't use what it has, and one without an operation has none out
 pub record BlockedOk (f : Config) (m : Machine) : Type 0 where
   pub idle : (c : ℕ) → (m.cores c).open_op ≡ None → (m.cores c).out ≡ false
-  pub blocked : (c : ℕ) (op : Op) → (m.cores c).open_op ≡ Some op → (m.cores c).out ≡ true → CannotUse op (m.cores c).pts ((m.lines (line_of f (address op))).copies c)
+  pub blocked : (c : ℕ) (op : Op) → (m.cores c).open_op ≡ Some op → (m.cores c).out ≡ true →
+      CannotUse op (m.cores c).pts ((m.lines (line_of f (address op))).copies c)
 
 -- no move changes a copy of a core that is pinned on the line
-moves_pinned : (lease : ℕ) (pinned : ℕ → Type 0) (t u : ℕ) (x y : Line) → LineTransition lease pinned t x u y → (c : ℕ) → pinned c → y.copies c ≡ x.copies c
-moves_pinned lease pinned t u x y (evict_shared d copy un is sh) c p = with_at_other x.copies d None c (λ e. un (subst pinned e p))
-moves_pinned lease pinned t u x y (evict_exclusive d copy un is ex) c p = with_at_other x.copies d None c (λ e. un (subst pinned e p))
-moves_pinned lease pinned t u x y (flushed d rest copy q un is ex) c p = with_at_other x.copies d None c (λ e. un (subst pinned e p))
-moves_pinned lease pinned t u x y (written_back d until rest copy q un is ex) c p = with_at_other x.copies d _ c (λ e. un (subst pinned e p))
+moves_pinned : (lease : ℕ) (pinned : ℕ → Type 0) (t u : ℕ) (x y : Line) → LineTransition lease pinned t x u y →
+    (c : ℕ) → pinned c → y.copies c ≡ x.copies c
+moves_pinned lease pinned t u x y (evict_shared d copy un is sh) c p =
+    with_at_other x.copies d None c (λ e. un (subst pinned e p))
+moves_pinned lease pinned t u x y (evict_exclusive d copy un is ex) c p =
+    with_at_other x.copies d None c (λ e. un (subst pinned e p))
+moves_pinned lease pinned t u x y (flushed d rest copy q un is ex) c p =
+    with_at_other x.copies d None c (λ e. un (subst pinned e p))
+moves_pinned lease pinned t u x y (written_back d until rest copy q un is ex) c p =
+    with_at_other x.copies d _ c (λ e. un (subst pinned e p))
 moves_pinned lease pinned t u x y _ c p = refl
 
 asks_copies : (c pts : ℕ) (op : Op) (x y : Line) → Asks c pts op x y → (d : ℕ) → y.copies d ≡ x.copies d
@@ -43,55 +52,81 @@ blocked_later op pts None k = tt
 blocked_later op pts (Some copy) k = (k.0, past_later op pts copy.line.rts k.1)
 
 -- the copies of a core on the lines where it waits stay as they were
-stays : (f : Config) (m : Machine) (lines : ℕ → Line) (d : ℕ) → ((op : Op) → (m.cores d).open_op ≡ Some op → (m.lines (line_of f (address op))).copies d ≡ (lines (line_of f (address op))).copies d) → BlockedOk f m →
-    (op : Op) → (m.cores d).open_op ≡ Some op → (m.cores d).out ≡ true → CannotUse op (m.cores d).pts ((lines (line_of f (address op))).copies d)
+stays : (f : Config) (m : Machine) (lines : ℕ → Line) (d : ℕ) → ((op : Op) → (m.cores d).open_op ≡ Some op →
+    (m.lines (line_of f (address op))).copies d ≡ (lines (line_of f (address op))).copies d) → BlockedOk f m →
+    (op : Op) → (m.cores d).open_op ≡ Some op → (m.cores d).out ≡ true → CannotUse op (m.cores d).pts
+    ((lines (line_of f (address op))).copies d)
 stays f m lines d same k op e q = subst (CannotUse op (m.cores d).pts) (same op e) (k.blocked d op e q)
 
 transition_blocked : (f : Config) (m n : Machine) → Transition f m n → BlockedOk f m → BlockedOk f n
 transition_blocked f m n (issue c op none) k =
     record {
-      idle = with_at_cases (λ d (x : Core). x.open_op ≡ None → x.out ≡ false) m.cores c _ (λ e. k.idle c none) (λ d ne. k.idle d);
-      blocked = with_at_cases (λ d (x : Core). (o : Op) → x.open_op ≡ Some o → x.out ≡ true → CannotUse o x.pts ((m.lines (line_of f (address o))).copies d)) m.cores c _
+      idle = with_at_cases (λ d (x : Core). x.open_op ≡ None → x.out ≡ false) m.cores c _ (λ e. k.idle c none)
+          (λ d ne. k.idle d);
+      blocked = with_at_cases (λ d (x : Core). (o : Op) → x.open_op ≡ Some o → x.out ≡ true →
+          CannotUse o x.pts ((m.lines (line_of f (address o))).copies d)) m.cores c _
           (λ o e q. absurd (let z : false ≡ true = sym (k.idle c none) ∙ q in cc)) (λ d ne. k.blocked d);
     }
 transition_blocked f m n (advance c) k =
     record {
-      idle = with_at_cases (λ d (x : Core). x.open_op ≡ None → x.out ≡ false) m.cores c _ (k.idle c) (λ d ne. k.idle d);
-      blocked = with_at_cases (λ d (x : Core). (o : Op) → x.open_op ≡ Some o → x.out ≡ true → CannotUse o x.pts ((m.lines (line_of f (address o))).copies d)) m.cores c _
+      idle = with_at_cases (λ d (x : Core). x.open_op ≡ None → x.out ≡ false) m.cores c _ (k.idle c)
+          (λ d ne. k.idle d);
+      blocked = with_at_cases (λ d (x : Core). (o : Op) → x.open_op ≡ Some o → x.out ≡ true →
+          CannotUse o x.pts ((m.lines (line_of f (address o))).copies d)) m.cores c _
           (λ o e q. blocked_later o _ _ (k.blocked c o e q)) (λ d ne. k.blocked d);
     }
 transition_blocked f m n (ask c op y opens quiet a) k =
     record {
-      idle = with_at_cases (λ d (x : Core). x.open_op ≡ None → x.out ≡ false) m.cores c _ (λ e. absurd (let z : Some op ≡ None = sym opens ∙ e in cc)) (λ d ne. k.idle d);
-      blocked = with_at_cases (λ d (x : Core). (o : Op) → x.open_op ≡ Some o → x.out ≡ true → CannotUse o x.pts ((with_at m.lines (line_of f (address op)) y (line_of f (address o))).copies d)) m.cores c _
+      idle = with_at_cases (λ d (x : Core). x.open_op ≡ None → x.out ≡ false) m.cores c _
+          (λ e. absurd (let z : Some op ≡ None = sym opens ∙ e in cc)) (λ d ne. k.idle d);
+      blocked = with_at_cases (λ d (x : Core). (o : Op) → x.open_op ≡ Some o → x.out ≡ true →
+          CannotUse o x.pts ((with_at m.lines (line_of f (address op)) y (line_of f (address o))).copies d)) m.cores c
+          _
           (λ o e q. let same : op ≡ o = Some_injective op o (sym opens ∙ e) in
-          subst (λ (o' : Op). CannotUse o' (m.cores c).pts ((with_at m.lines (line_of f (address op)) y (line_of f (address o'))).copies c)) same
-          (subst (λ (x : Line). CannotUse op (m.cores c).pts (x.copies c)) (sym (with_at_same m.lines (line_of f (address op)) y)) (asks_blocked c _ op _ y a)))
-          (λ d ne. stays f m (with_at m.lines (line_of f (address op)) y) d (λ o e. with_at_cases (λ l (x : Line). (m.lines l).copies d ≡ x.copies d) m.lines (line_of f (address op)) y (sym (asks_copies c _ op _ y a d)) (λ l nl. refl) (line_of f (address o))) k);
+          subst (λ (o' : Op). CannotUse o' (m.cores c).pts
+          ((with_at m.lines (line_of f (address op)) y (line_of f (address o'))).copies c)) same
+          (subst (λ (x : Line). CannotUse op (m.cores c).pts (x.copies c))
+          (sym (with_at_same m.lines (line_of f (address op)) y)) (asks_blocked c _ op _ y a)))
+          (λ d ne. stays f m (with_at m.lines (line_of f (address op)) y) d
+          (λ o e. with_at_cases (λ l (x : Line). (m.lines l).copies d ≡ x.copies d) m.lines
+          (line_of f (address op)) y (sym (asks_copies c _ op _ y a d)) (λ l nl. refl) (line_of f (address o)))
+          k);
     }
 transition_blocked f m n (answer c l y a) k =
     record {
-      idle = with_at_cases (λ d (x : Core). x.open_op ≡ None → x.out ≡ false) m.cores c _ (λ e. refl) (λ d ne. k.idle d);
-      blocked = with_at_cases (λ d (x : Core). (o : Op) → x.open_op ≡ Some o → x.out ≡ true → CannotUse o x.pts ((with_at m.lines l y (line_of f (address o))).copies d)) m.cores c _
+      idle = with_at_cases (λ d (x : Core). x.open_op ≡ None → x.out ≡ false) m.cores c _ (λ e. refl)
+          (λ d ne. k.idle d);
+      blocked = with_at_cases (λ d (x : Core). (o : Op) → x.open_op ≡ Some o → x.out ≡ true →
+          CannotUse o x.pts ((with_at m.lines l y (line_of f (address o))).copies d)) m.cores c _
           (λ o e q. absurd (cc))
-          (λ d ne. stays f m (with_at m.lines l y) d (λ o e. with_at_cases (λ i (x : Line). (m.lines i).copies d ≡ x.copies d) m.lines l y (sym (answers_copies c _ y a d ne)) (λ i nl. refl) (line_of f (address o))) k);
+          (λ d ne. stays f m (with_at m.lines l y) d
+          (λ o e. with_at_cases (λ i (x : Line). (m.lines i).copies d ≡ x.copies d) m.lines l y
+          (sym (answers_copies c _ y a d ne)) (λ i nl. refl) (line_of f (address o))) k);
     }
 transition_blocked f m n (complete c op copy new received ts opens quiet is used) k =
     let l = line_of f (address op) in
     let y : Line = record (m.lines l) { copies = with_at ((m.lines l).copies) c (Some new) } in
     record {
-      idle = with_at_cases (λ d (x : Core). x.open_op ≡ None → x.out ≡ false) m.cores c _ (λ e. refl) (λ d ne. k.idle d);
-      blocked = with_at_cases (λ d (x : Core). (o : Op) → x.open_op ≡ Some o → x.out ≡ true → CannotUse o x.pts ((with_at m.lines l y (line_of f (address o))).copies d)) m.cores c _
+      idle = with_at_cases (λ d (x : Core). x.open_op ≡ None → x.out ≡ false) m.cores c _ (λ e. refl)
+          (λ d ne. k.idle d);
+      blocked = with_at_cases (λ d (x : Core). (o : Op) → x.open_op ≡ Some o → x.out ≡ true →
+          CannotUse o x.pts ((with_at m.lines l y (line_of f (address o))).copies d)) m.cores c _
           (λ o e q. absurd (cc))
-          (λ d ne. stays f m (with_at m.lines l y) d (λ o e. with_at_cases (λ i (x : Line). (m.lines i).copies d ≡ x.copies d) m.lines l y (sym (with_at_other ((m.lines l).copies) c (Some new) d ne)) (λ i nl. refl) (line_of f (address o))) k);
+          (λ d ne. stays f m (with_at m.lines l y) d
+          (λ o e. with_at_cases (λ i (x : Line). (m.lines i).copies d ≡ x.copies d) m.lines l y
+          (sym (with_at_other ((m.lines l).copies) c (Some new) d ne)) (λ i nl. refl) (line_of f (address o))) k);
     }
 transition_blocked f m n (move l t y mv) k =
     record {
       idle = k.idle;
-      blocked = λ d. stays f m (with_at m.lines l y) d (λ o e. with_at_cases (λ i (x : Line). i ≡ line_of f (address o) → (m.lines i).copies d ≡ x.copies d) m.lines l y
+      blocked = λ d. stays f m (with_at m.lines l y) d
+          (λ o e. with_at_cases (λ i (x : Line). i ≡ line_of f (address o) → (m.lines i).copies d ≡ x.copies d)
+          m.lines l y
           (λ q. sym (moves_pinned _ _ _ _ _ y mv d (o, e, sym q))) (λ i nl q. refl) (line_of f (address o)) refl) k;
     }
 
 pub reachable_blocked : (f : Config) (m : Machine) → Reachable f m → BlockedOk f m
-reachable_blocked f m (at_first pts mts drams at opens) = record { idle = λ c e. refl; blocked = λ c op e q. absurd (cc) }
-reachable_blocked f m (goes_on {m = before} r transition) = transition_blocked f before m transition (reachable_blocked f before r)
+reachable_blocked f m (at_first pts mts drams at opens) =
+    record { idle = λ c e. refl; blocked = λ c op e q. absurd (cc) }
+reachable_blocked f m (goes_on {m = before} r transition) =
+    transition_blocked f before m transition (reachable_blocked f before r)

@@ -1,19 +1,26 @@
-use Rattle.std.proofs.Common.{◌≡◌, ℕ, ◌<◌, ◌≤◌, Bool, true, false, cond, eqb, List, [], ◌∷◌, Option, Some, None, refl, sym, ◌∙◌, subst, arith}
+use Rattle.std.proofs.Common.{◌≡◌, ℕ, ◌<◌, ◌≤◌, Bool, true, false, cond, eqb, List, [], ◌∷◌, Option, Some, None, refl}
+use Rattle.std.proofs.Common.{sym, ◌∙◌, subst, arith}
 use Rattle.std.specs.List.{AllByRecursion as Each}
 use Rattle.std.proofs.lemmas.Bool.{eqb-true}
 use Rattle.physiological_order.specs.declared.operation.Op.{Op}
 use Rattle.physiological_order.specs.Order.{Memory, address}
-use Rattle.protocol.specs.Machine.{Config, Timed, Copy, Entry, Absent, Loading, Shared, Exclusive, Recalling, Storing, Message, ShReq, ExReq, ShRep, ExRep, RenewRep, UpgradeRep, FlushReq, WbReq, FlushRep, WbRep, DramLd, DramLdRep, DramSt, DramStRep, Machine, Reachable, line_of, waits, WaitsFor, IsShared, IsGranted, HasCase}
+use Rattle.protocol.specs.Machine.{Config, Timed, Copy, Entry, Absent, Loading, Shared, Exclusive, Recalling, Storing}
+use Rattle.protocol.specs.Machine.{Message, ShReq, ExReq, ShRep, ExRep, RenewRep, UpgradeRep, FlushReq, WbReq}
+use Rattle.protocol.specs.Machine.{FlushRep, WbRep, DramLd, DramLdRep, DramSt, DramStRep, Machine, Reachable, line_of}
+use Rattle.protocol.specs.Machine.{waits, WaitsFor, IsShared, IsGranted, HasCase}
 use Rattle.protocol.proofs.Bags.{tally}
-use Rattle.protocol.proofs.Lines.{Holder, Bank, Flying, flying, right, load, store, about, about_itself, loading, storing, HasShared, MessageOk, EntryOk, LineOk}
-use Rattle.protocol.proofs.Moved.{flying_one, at_most_one, loading_one, loads_at_most_one, storing_one, stores_at_most_one}
+use Rattle.protocol.proofs.Lines.{Holder, Bank, Flying, flying, right, load, store, about, about_itself, loading}
+use Rattle.protocol.proofs.Lines.{storing, HasShared, MessageOk, EntryOk, LineOk}
+use Rattle.protocol.proofs.Moved.{flying_one, at_most_one, loading_one, loads_at_most_one, storing_one}
+use Rattle.protocol.proofs.Moved.{stores_at_most_one}
 use Rattle.protocol.proofs.Headline.{reachable_ok, busy}
 
 -- who has something to come waits for it
 waiting : (f : Config) (m : Machine) (l c : ℕ) → 1 ≤ busy f m.cores l c → WaitsFor f m l c
 waiting f m l c le = go (m.cores c).out (m.cores c).open_op refl refl le
   where
-    go : (o : Bool) (p : Option Op) → (m.cores c).out ≡ o → (m.cores c).open_op ≡ p → 1 ≤ waits f l o p → WaitsFor f m l c
+    go : (o : Bool) (p : Option Op) → (m.cores c).out ≡ o → (m.cores c).open_op ≡ p →
+        1 ≤ waits f l o p → WaitsFor f m l c
     go true None e q h = absurd (omega arith)
     go true (Some op) e q h = (e, (op, q, on (eqb (line_of f (address op)) l) refl h))
       where
@@ -33,14 +40,19 @@ granted s b t d Storing k fl = absurd (let z : Flying ≡ Bank = sym fl ∙ k.0 
 is_shared : (y : Option Copy) (P : Timed → Type 0) → HasShared y P → IsShared y
 is_shared y P k = subst IsShared (sym k.1) k.2
 
-module _ (f : Config) (m : Machine) (h : ℕ → Memory) (l t : ℕ) (s : Timed) (b : Holder) (k : LineOk f h l m.records (busy f m.cores l) t (m.lines l) s b) where
-  case_of : (x : Message) → right x ≤ flying b → load x ≤ loading (m.lines l).entry → store x ≤ storing (m.lines l).entry → ((c : ℕ) → about c x ≤ busy f m.cores l c) → MessageOk f h l k.top s (m.lines l).copies (m.lines l).dram x → HasCase f m l x
+module _ (f : Config) (m : Machine) (h : ℕ → Memory) (l t : ℕ) (s : Timed) (b : Holder)
+    (k : LineOk f h l m.records (busy f m.cores l) t (m.lines l) s b) where
+  case_of : (x : Message) → right x ≤ flying b → load x ≤ loading (m.lines l).entry →
+      store x ≤ storing (m.lines l).entry → ((c : ℕ) → about c x ≤ busy f m.cores l c) → MessageOk f h l k.top s
+      (m.lines l).copies (m.lines l).dram x → HasCase f m l x
   case_of (ShReq c p v) r d w a q = tt
   case_of (ExReq c v) r d w a q = tt
   case_of (ShRep c x) r d w a q = waiting f m l c (let i = about_itself c in let z = a c in omega arith)
   case_of (ExRep c x) r d w a q = waiting f m l c (let i = about_itself c in let z = a c in omega arith)
-  case_of (RenewRep c n) r d w a q = (waiting f m l c (let i = about_itself c in let z = a c in omega arith), is_shared _ _ q)
-  case_of (UpgradeRep c n) r d w a q = (waiting f m l c (let i = about_itself c in let z = a c in omega arith), is_shared _ _ q)
+  case_of (RenewRep c n) r d w a q =
+      (waiting f m l c (let i = about_itself c in let z = a c in omega arith), is_shared _ _ q)
+  case_of (UpgradeRep c n) r d w a q =
+      (waiting f m l c (let i = about_itself c in let z = a c in omega arith), is_shared _ _ q)
   case_of (FlushReq c) r d w a q = tt
   case_of (WbReq c n) r d w a q = tt
   case_of (FlushRep c x) r d w a q = granted s b t _ _ k.entry (flying_one b (let one = at_most_one b in omega arith))
@@ -50,14 +62,18 @@ module _ (f : Config) (m : Machine) (h : ℕ → Memory) (l t : ℕ) (s : Timed)
   case_of (DramSt ws) r d w a q = tt
   case_of DramStRep r d w a q = storing_one _ (let one = stores_at_most_one (m.lines l).entry in omega arith)
 
-  cases_of : (xs : List Message) → tally right xs ≤ flying b → tally load xs ≤ loading (m.lines l).entry → tally store xs ≤ storing (m.lines l).entry → ((c : ℕ) → tally (about c) xs ≤ busy f m.cores l c) → Each (MessageOk f h l k.top s (m.lines l).copies (m.lines l).dram) xs → Each (HasCase f m l) xs
+  cases_of : (xs : List Message) → tally right xs ≤ flying b → tally load xs ≤ loading (m.lines l).entry →
+      tally store xs ≤ storing (m.lines l).entry → ((c : ℕ) → tally (about c) xs ≤ busy f m.cores l c) →
+      Each (MessageOk f h l k.top s (m.lines l).copies (m.lines l).dram) xs → Each (HasCase f m l) xs
   cases_of [] r d w a q = tt
   cases_of (x ∷ xs) r d w a q = (
     case_of x (omega arith) (omega arith) (omega arith) (λ c. let z = a c in omega arith) q.0,
     cases_of xs (omega arith) (omega arith) (omega arith) (λ c. let z = a c in omega arith) q.1,
   )
 
-pub messages_have_cases : (f : Config) → 0 < f.line_words → (m : Machine) → Reachable f m → (l : ℕ) → Each (HasCase f m l) (m.lines l).messages
+pub messages_have_cases : (f : Config) → 0 < f.line_words → (m : Machine) → Reachable f m → (l : ℕ) →
+    Each (HasCase f m l) (m.lines l).messages
 messages_have_cases f good m r l =
     let k = (reachable_ok f good m r).lines l in
-    cases_of f m _ l _ k.0 k.1 k.2 (m.lines l).messages (let z = k.2.rights in omega arith) (let z = k.2.loads in omega arith) (let z = k.2.stores in omega arith) (λ c. let z = k.2.asks c in omega arith) k.2.messages
+    cases_of f m _ l _ k.0 k.1 k.2 (m.lines l).messages (let z = k.2.rights in omega arith) (let z = k.2.loads in
+    omega arith) (let z = k.2.stores in omega arith) (λ c. let z = k.2.asks c in omega arith) k.2.messages

@@ -1,4 +1,7 @@
-use Rattle.std.proofs.Common.{◌≡◌, ◌≢◌, ℕ, ◌+◌, ◌*◌, ◌/◌, ◌%◌, ◌<◌, ◌≤◌, max, Bool, true, false, ◌&&◌, cond, List, [], ◌∷◌, ◌++◌, set, get_or, Option, Some, None, inl, inr, refl, sym, ap, ◌∙◌, subst, arith, le_trans, le_refl, lt_of_le_of_lt, ⊎_elim, length-set, get_or-set_same, get_or-set_other}
+use Rattle.std.proofs.Common.{◌≡◌, ◌≢◌, ℕ, ◌+◌, ◌*◌, ◌/◌, ◌%◌, ◌<◌, ◌≤◌, max, Bool, true, false, ◌&&◌, cond, List, []}
+use Rattle.std.proofs.Common.{◌∷◌, ◌++◌, set, get_or, Option, Some, None, inl, inr, refl, sym, ap, ◌∙◌, subst, arith}
+use Rattle.std.proofs.Common.{le_trans, le_refl, lt_of_le_of_lt, ⊎_elim, length-set, get_or-set_same}
+use Rattle.std.proofs.Common.{get_or-set_other}
 use Rattle.std.specs.Prelude.{slice_set}
 use Rattle.std.proofs.Math.Nat.{mod-lt, div-add-mod}
 use Rattle.std.specs.List.{AllByRecursion as Each}
@@ -11,31 +14,36 @@ use Rattle.physiological_order.specs.Order.{Memory, address, flat_received, flat
 use Rattle.physiological_order.proofs.Lemmas.{Sorted, memory_at-placed_before, memory_at-placed_keeps}
 use Rattle.physiological_order.proofs.Lemmas.{memory_at-placed_writes, Keeps-load, Keeps-other, Keeps, each_weaker}
 use Rattle.physiological_order.proofs.Lemmas.{arranged-push, each_push, each_arranged}
-use Rattle.protocol.specs.Machine.{Config, Timed, Copy, Line, line_of, word_at, with_at, write_time, Uses, load_hit, load_own, store_own, swap_own}
+use Rattle.protocol.specs.Machine.{Config, Timed, Copy, Line, line_of, word_at, with_at, write_time, Uses, load_hit}
+use Rattle.protocol.specs.Machine.{load_own, store_own, swap_own}
 use Rattle.protocol.proofs.Bags.{tally}
-use Rattle.protocol.proofs.Lease.{Standing}
-use Rattle.protocol.proofs.Lines.{Holder, Bank, flying, right, CopyOk, LineOk, with_at_same, with_at_cases, messages_keep, copy_keeps}
+use Rattle.protocol.proofs.Lease.{Current}
+use Rattle.protocol.proofs.Lines.{Holder, Bank, flying, right, CopyOk, LineOk, with_at_same, with_at_cases}
+use Rattle.protocol.proofs.Lines.{messages_keep, copy_keeps}
 use Rattle.protocol.proofs.Moved.{At≢Bank, At_injective, owned, lost, Goes}
 use Rattle.protocol.proofs.Cores.{Some_injective}
 use Rattle.physiological_order.specs.Completion.{Undisturbed, arranged, memory_at}
 
 module _ (f : Config) (h g : ℕ → Memory) (l : ℕ) (records : List Record) (r : Record) where
   -- a record elsewhere, or of a load within the lease, keeps a line
-  pub ok_beside : (busy : ℕ → ℕ) (t : ℕ) (x : Line) (s : Timed) (b : Holder) → ((t a : ℕ) → line_of f a ≡ l → g t a ≡ h t a) → (line_of f (address r.op) ≡ l → r.ts ≤ s.rts) →
+  pub ok_beside : (busy : ℕ → ℕ) (t : ℕ) (x : Line) (s : Timed) (b : Holder) →
+      ((t a : ℕ) → line_of f a ≡ l → g t a ≡ h t a) → (line_of f (address r.op) ≡ l → r.ts ≤ s.rts) →
       LineOk f h l records busy t x s b → LineOk f g l (records ++ r ∷ []) busy t x s b
   ok_beside busy t x s b same late k =
       record {
-        standing = record {
-          order = k.standing.order;
-          long = k.standing.long;
-          value = λ u a on from. same u a on ∙ k.standing.value u a on from;
-          past = each_push (λ q. line_of f (address q.op) ≡ l → q.ts ≤ s.rts) records r k.standing.past late;
+        current = record {
+          order = k.current.order;
+          long = k.current.long;
+          value = λ u a on from. same u a on ∙ k.current.value u a on from;
+          past = each_push (λ q. line_of f (address q.op) ≡ l → q.ts ≤ s.rts) records r k.current.past late;
         };
         top = k.top;
         within = k.within;
-        copies = λ c cp is. copy_keeps f h g l k.top k.top s s x.copies x.copies x.dram x.dram (λ u a on le. same u a on) (le_refl _) b b c cp (inr (refl, refl, refl)) (k.copies c cp is);
+        copies = λ c cp is. copy_keeps f h g l k.top k.top s s x.copies x.copies x.dram x.dram
+            (λ u a on le. same u a on) (le_refl _) b b c cp (inr (refl, refl, refl)) (k.copies c cp is);
         held = k.held;
-        messages = messages_keep f h g l k.top k.top s s x.copies x.copies x.dram x.dram (λ u a on le. same u a on) (le_refl _) x.messages (inr refl) (inr refl) (inr (refl, refl)) (λ c. inr refl) k.messages;
+        messages = messages_keep f h g l k.top k.top s s x.copies x.copies x.dram x.dram (λ u a on le. same u a on)
+            (le_refl _) x.messages (inr refl) (inr refl) (inr (refl, refl)) (λ c. inr refl) k.messages;
         rights = k.rights;
         loads = k.loads;
         stores = k.stores;
@@ -44,10 +52,13 @@ module _ (f : Config) (h g : ℕ → Memory) (l : ℕ) (records : List Record) (
       }
 
   -- a record on the owner's copy
-  ok_own : (busy : ℕ → ℕ) (t : ℕ) (x : Line) (s : Timed) (b : Holder) (c : ℕ) (copy new : Copy) → busy c ≡ 0 → x.copies c ≡ Some copy → copy.exclusive ≡ true → new.exclusive ≡ true →
-      ((top : ℕ) → top ≤ copy.line.rts → (copy.written ≡ true → top < copy.line.wts) → ((t a : ℕ) → line_of f a ≡ l → t ≤ top → g t a ≡ h t a) × (new.written ≡ true → top < new.line.wts)) →
-      copy.line.rts ≤ new.line.rts → (Standing f h records l copy.line → Standing f g (records ++ r ∷ []) l new.line) →
-      LineOk f h l records busy t x s b → LineOk f g l (records ++ r ∷ []) busy t (record x { copies = with_at x.copies c (Some new) }) new.line b
+  ok_own : (busy : ℕ → ℕ) (t : ℕ) (x : Line) (s : Timed) (b : Holder) (c : ℕ) (copy new : Copy) → busy c ≡ 0 →
+      x.copies c ≡ Some copy → copy.exclusive ≡ true → new.exclusive ≡ true →
+      ((top : ℕ) → top ≤ copy.line.rts → (copy.written ≡ true → top < copy.line.wts) →
+      ((t a : ℕ) → line_of f a ≡ l → t ≤ top → g t a ≡ h t a) × (new.written ≡ true → top < new.line.wts)) →
+      copy.line.rts ≤ new.line.rts → (Current f h records l copy.line → Current f g (records ++ r ∷ []) l new.line) →
+      LineOk f h l records busy t x s b → LineOk f g l (records ++ r ∷ []) busy t
+      (record x { copies = with_at x.copies c (Some new) }) new.line b
   ok_own busy t x s b c copy new free is ex nex same up invariant k =
       let own = (k.copies c copy is).0 ex in
       let away : b ≢ Bank = λ e. At≢Bank c (sym own.0 ∙ e) in
@@ -56,14 +67,24 @@ module _ (f : Config) (h g : ℕ → Memory) (l : ℕ) (records : List Record) (
       let at_most : k.top ≤ copy.line.rts = subst (λ (y : Timed). k.top ≤ y.rts) (sym own.1) k.within in
       let fresh = same k.top at_most (λ w. subst (λ (y : Timed). k.top < y.wts) (sym own.1) (own.2 w)) in
       record {
-        standing = invariant (subst (Standing f h records l) (sym own.1) k.standing);
+        current = invariant (subst (Current f h records l) (sym own.1) k.current);
         top = k.top;
         within = le_trans at_most up;
-        copies = with_at_cases (λ d y. (cp : Copy) → y ≡ Some cp → CopyOk f g l k.top new.line b d cp) x.copies c (Some new)
-            (λ cp q. subst (λ (y : Copy). CopyOk f g l k.top new.line b c y) (Some_injective new cp q) (λ z. (own.0, refl, fresh.1), λ z. absurd (cc)))
-            (λ d ne cp q. copy_keeps f h g l k.top k.top s new.line x.copies x.copies x.dram x.dram fresh.0 (le_refl _) b b d cp (inl (λ w. ne (sym (At_injective c d (sym own.0 ∙ w))))) (k.copies d cp q));
-        held = λ d at. (new, subst (λ (i : ℕ). with_at x.copies c (Some new) i ≡ Some new) (At_injective c d (sym own.0 ∙ at)) (with_at_same x.copies c (Some new)), nex);
-        messages = messages_keep f h g l k.top k.top s new.line x.copies (with_at x.copies c (Some new)) x.dram x.dram fresh.0 (le_refl _) x.messages (inl no_owner) (inl (k.loads ∙ e.0)) (inl (k.stores ∙ e.1)) (lost f h l records busy x x.messages c (Some new) (k.asks c ∙ free)) k.messages;
+        copies = with_at_cases (λ d y. (cp : Copy) → y ≡ Some cp → CopyOk f g l k.top new.line b d cp)
+            x.copies c (Some new)
+            (λ cp q. subst (λ (y : Copy). CopyOk f g l k.top new.line b c y) (Some_injective new cp q)
+            (λ z. (own.0, refl, fresh.1), λ z. absurd (cc)))
+            (λ d ne cp q. copy_keeps f h g l k.top k.top s new.line x.copies x.copies x.dram x.dram fresh.0
+            (le_refl _) b b d cp (inl (λ w. ne (sym (At_injective c d (sym own.0 ∙ w))))) (k.copies d cp q));
+        held = λ d at. (
+          new,
+          subst (λ (i : ℕ). with_at x.copies c (Some new) i ≡ Some new)
+              (At_injective c d (sym own.0 ∙ at)) (with_at_same x.copies c (Some new)),
+          nex,
+        );
+        messages = messages_keep f h g l k.top k.top s new.line x.copies (with_at x.copies c (Some new)) x.dram x.dram
+            fresh.0 (le_refl _) x.messages (inl no_owner) (inl (k.loads ∙ e.0)) (inl (k.stores ∙ e.1))
+            (lost f h l records busy x x.messages c (Some new) (k.asks c ∙ free)) k.messages;
         rights = k.rights;
         loads = k.loads;
         stores = k.stores;
@@ -72,33 +93,48 @@ module _ (f : Config) (h g : ℕ → Memory) (l : ℕ) (records : List Record) (
       }
 
   -- what stands is read, and leased at least up to the read
-  Standing-read : (s : Timed) (rts : ℕ) → ((t a : ℕ) → line_of f a ≡ l → g t a ≡ h t a) → s.rts ≤ rts → r.ts ≤ rts → Standing f h records l s → Standing f g (records ++ r ∷ []) l (record s { rts = rts })
-  Standing-read s rts same up late k =
+  Current-read : (s : Timed) (rts : ℕ) → ((t a : ℕ) → line_of f a ≡ l → g t a ≡ h t a) → s.rts ≤ rts → r.ts ≤ rts →
+      Current f h records l s → Current f g (records ++ r ∷ []) l (record s { rts = rts })
+  Current-read s rts same up late k =
       record {
         order = le_trans k.order up;
         long = k.long;
         value = λ u a on from. same u a on ∙ k.value u a on from;
-        past = each_push (λ q. line_of f (address q.op) ≡ l → q.ts ≤ rts) records r (each_weaker (λ q w on. le_trans (w on) up) records k.past) (λ on. late);
+        past = each_push (λ q. line_of f (address q.op) ≡ l → q.ts ≤ rts) records r
+            (each_weaker (λ q w on. le_trans (w on) up) records k.past) (λ on. late);
       }
 
   -- two words of a line are at two places
-  apart : (a b : ℕ) → 0 < f.line_words → line_of f a ≡ l → line_of f b ≡ l → b ≢ a → b % f.line_words ≢ a % f.line_words
+  apart : (a b : ℕ) → 0 < f.line_words → line_of f a ≡ l → line_of f b ≡ l → b ≢ a →
+      b % f.line_words ≢ a % f.line_words
   apart a b good on_a on_b ne e =
-      ne (sym (div-add-mod b f.line_words) ∙ ap (λ (n : ℕ). f.line_words * n + b % f.line_words) (on_b ∙ sym on_a) ∙ ap (λ (n : ℕ). f.line_words * (a / f.line_words) + n) e ∙ div-add-mod a f.line_words)
+      ne (sym (div-add-mod b f.line_words) ∙ ap (λ (n : ℕ). f.line_words * n + b % f.line_words) (on_b ∙ sym on_a)
+      ∙ ap (λ (n : ℕ). f.line_words * (a / f.line_words) + n) e ∙ div-add-mod a f.line_words)
 
   -- what stands is written, above all that came before
-  Standing-write : (s : Timed) (a v : ℕ) → 0 < f.line_words → line_of f a ≡ l → s.rts ≤ r.ts → address r.op ≡ a → ((t b : ℕ) → b ≢ a → g t b ≡ h t b) → ((t : ℕ) → r.ts ≤ t → g t a ≡ v) →
-      Standing f h records l s → Standing f g (records ++ r ∷ []) l (record { wts = r.ts; rts = r.ts; words = slice_set s.words (a % f.line_words) v })
-  Standing-write s a v good on up at other here k =
+  Current-write : (s : Timed) (a v : ℕ) → 0 < f.line_words → line_of f a ≡ l → s.rts ≤ r.ts → address r.op ≡ a →
+      ((t b : ℕ) → b ≢ a → g t b ≡ h t b) → ((t : ℕ) → r.ts ≤ t → g t a ≡ v) →
+      Current f h records l s → Current f g (records ++ r ∷ []) l (record {
+        wts = r.ts;
+        rts = r.ts;
+        words =
+            slice_set s.words (a % f.line_words) v;
+      })
+  Current-write s a v good on up at other here k =
       record {
         order = le_refl _;
         long = (let n = length-set s.words (a % f.line_words) v in let le = k.long in omega arith);
         value = λ u b on_b from. ⊎_elim
-            (λ (e : b ≡ a). ap (g u) e ∙ here u from ∙ sym (ap (λ (i : ℕ). get_or (set s.words (a % f.line_words) v) (i % f.line_words) 0) e
-            ∙ get_or-set_same s.words (a % f.line_words) v 0 (let lt = mod-lt a good in let n = k.long in omega arith)))
-            (λ (ne : b ≡ a → ⊥). other u b ne ∙ k.value u b on_b (let o = k.order in omega arith) ∙ sym (get_or-set_other s.words (a % f.line_words) (b % f.line_words) v 0 (apart a b good on on_b ne)))
+            (λ (e : b ≡ a). ap (g u) e ∙ here u from
+            ∙ sym (ap (λ (i : ℕ). get_or (set s.words (a % f.line_words) v) (i % f.line_words) 0) e
+            ∙ get_or-set_same s.words (a % f.line_words) v 0 (let lt = mod-lt a good in
+            let n = k.long in omega arith)))
+            (λ (ne : b ≡ a → ⊥). other u b ne ∙ k.value u b on_b (let o = k.order in omega arith)
+            ∙ sym (get_or-set_other s.words (a % f.line_words) (b % f.line_words) v 0
+            (apart a b good on on_b ne)))
             (cases_eq b a);
-        past = each_push (λ q. line_of f (address q.op) ≡ l → q.ts ≤ r.ts) records r (each_weaker (λ q w y. le_trans (w y) (omega arith)) records k.past) (λ y. le_refl _);
+        past = each_push (λ q. line_of f (address q.op) ≡ l → q.ts ≤ r.ts) records r
+            (each_weaker (λ q w y. le_trans (w y) (omega arith)) records k.past) (λ y. le_refl _);
       }
 
 -- the values by the records so far
@@ -110,7 +146,8 @@ module _ (f : Config) (records : List Record) (r : Record) where
   pub values-load : (b : ℕ) → r.op ≡ Load b → (t a : ℕ) → values f (records ++ r ∷ []) t a ≡ values f records t a
   values-load b is t a =
       ap (λ (rs : List Record). memory_at f.opening rs t a) (arranged-push records r)
-      ∙ memory_at-placed_keeps f.opening r (arranged records) t a (subst (λ (o : Op). Keeps o a) (sym is) (Keeps-load b a))
+      ∙ memory_at-placed_keeps f.opening r (arranged records) t a
+      (subst (λ (o : Op). Keeps o a) (sym is) (Keeps-load b a))
 
   -- and any operation elsewhere
   pub values-other : (t a : ℕ) → a ≢ address r.op → values f (records ++ r ∷ []) t a ≡ values f records t a
@@ -123,69 +160,99 @@ module _ (f : Config) (records : List Record) (r : Record) where
       ap (λ (rs : List Record). memory_at f.opening rs t a) (arranged-push records r)
       ∙ ap (λ (n : Memory). n a) (memory_at-placed_before f.opening r (arranged records) t lt)
 
-  pub values-written : (t a v : ℕ) → Sorted (arranged records) → Each (λ s. address s.op ≡ a → s.ts ≤ r.ts) records → ((n : Memory) → flat_after n r.op a ≡ v) → r.ts ≤ t → values f (records ++ r ∷ []) t a ≡ v
+  pub values-written : (t a v : ℕ) → Sorted (arranged records) → Each (λ s. address s.op ≡ a → s.ts ≤ r.ts) records →
+      ((n : Memory) → flat_after n r.op a ≡ v) → r.ts ≤ t → values f (records ++ r ∷ []) t a ≡ v
   values-written t a v s past w le =
       ap (λ (rs : List Record). memory_at f.opening rs t a) (arranged-push records r)
-      ∙ memory_at-placed_writes f.opening r (arranged records) t a v s (each_arranged (λ q. address q.op ≡ a → q.ts ≤ r.ts) records past) w le
+      ∙ memory_at-placed_writes f.opening r (arranged records) t a v s
+      (each_arranged (λ q. address q.op ≡ a → q.ts ≤ r.ts) records past) w le
 
 -- a table changed at a place to what is there is the same table
 pub with_at_id : {X : Type 0} (g : ℕ → X) (i : ℕ) (x : X) → g i ≡ x → with_at g i x ≡ g
 with_at_id g i x e = fun_ext (λ j. with_at_cases (λ k y. y ≡ g k) g i x (sym e) (λ k ne. refl) j)
 
 -- what a completed operation leaves, and what its record meets
-pub record Completes (f : Config) (l : ℕ) (records : List Record) (busy : ℕ → ℕ) (t pts : ℕ) (y : Line) (r : Record) : Type 0 where
+pub record Completes (f : Config) (l : ℕ) (records : List Record) (busy : ℕ → ℕ) (t pts : ℕ) (y : Line)
+    (r : Record) : Type 0 where
   pub line : Goes f (values f (records ++ r ∷ [])) l (records ++ r ∷ []) busy t y
   pub value : r.received ≡ flat_received (values f records r.ts) r.op
   pub undisturbed : Undisturbed r.op r.ts (arranged records)
   pub later : pts ≤ r.ts
 
-module _ (f : Config) (good : 0 < f.line_words) (records : List Record) (sorted : Sorted (arranged records)) (busy : ℕ → ℕ) (t : ℕ) (x : Line) (c place number pts : ℕ) (free : busy c ≡ 0) where
+module _ (f : Config) (good : 0 < f.line_words) (records : List Record) (sorted : Sorted (arranged records))
+    (busy : ℕ → ℕ) (t : ℕ) (x : Line) (c place number pts : ℕ) (free : busy c ≡ 0) where
   abbrev pub record_of : Op → Option ℕ → ℕ → Record
-  record_of op received ts = record { core = c; place = place; op = op; received = received; ts = ts; number = number }
+  record_of op received ts =
+      record { core = c; place = place; op = op; received = received; ts = ts; number = number }
 
   -- no record of the word stands behind a write above all records of its line
-  none_behind : (l a ts : ℕ) (s : Timed) → line_of f a ≡ l → s.rts ≤ ts → Standing f (values f records) records l s → Each (λ q. address q.op ≡ a → q.ts ≤ ts) records
-  none_behind l a ts s on up k = each_weaker (λ q w e. le_trans (w (ap (line_of f) e ∙ on)) (omega arith)) records k.past
+  none_behind : (l a ts : ℕ) (s : Timed) → line_of f a ≡ l → s.rts ≤ ts → Current f (values f records) records l s →
+      Each (λ q. address q.op ≡ a → q.ts ≤ ts) records
+  none_behind l a ts s on up k =
+      each_weaker (λ q w e. le_trans (w (ap (line_of f) e ∙ on)) (omega arith)) records k.past
 
   -- a write's time is above all leases, and not below what came before
-  write_late : (copy : Copy) → (copy.line.rts ≤ write_time f pts copy) × (pts ≤ write_time f pts copy) × ((top : ℕ) → top ≤ copy.line.rts → copy.line.wts ≤ copy.line.rts → (copy.written ≡ true → top < copy.line.wts) → top < write_time f pts copy)
+  write_late : (copy : Copy) → (copy.line.rts ≤ write_time f pts copy) × (pts ≤ write_time f pts copy) ×
+      ((top : ℕ) → top ≤ copy.line.rts → copy.line.wts ≤ copy.line.rts → (copy.written ≡ true → top < copy.line.wts) →
+      top < write_time f pts copy)
   write_late copy = go f.private_write copy.written refl
     where
       go : (o w : Bool) → copy.written ≡ w →
-          (copy.line.rts ≤ cond (o && w) (max pts copy.line.rts) (max pts (copy.line.rts + 1))) × (pts ≤ cond (o && w) (max pts copy.line.rts) (max pts (copy.line.rts + 1)))
-          × ((top : ℕ) → top ≤ copy.line.rts → copy.line.wts ≤ copy.line.rts → (copy.written ≡ true → top < copy.line.wts) → top < cond (o && w) (max pts copy.line.rts) (max pts (copy.line.rts + 1)))
+          (copy.line.rts ≤ cond (o && w) (max pts copy.line.rts) (max pts (copy.line.rts + 1))) ×
+          (pts ≤ cond (o && w) (max pts copy.line.rts) (max pts (copy.line.rts + 1)))
+          × ((top : ℕ) → top ≤ copy.line.rts → copy.line.wts ≤ copy.line.rts →
+          (copy.written ≡ true → top < copy.line.wts) → top < cond (o && w) (max pts copy.line.rts)
+          (max pts (copy.line.rts + 1)))
       go true true e = (omega arith, omega arith, λ top le order below. let lt = below e in omega arith)
       go true false e = (omega arith, omega arith, λ top le order below. omega arith)
       go false w e = (omega arith, omega arith, λ top le order below. omega arith)
 
-  writes_ok : (l a v : ℕ) (op : Op) (received : Option ℕ) (copy : Copy) → line_of f a ≡ l → address op ≡ a → ((n : Memory) → flat_after n op a ≡ v) →
+  writes_ok : (l a v : ℕ) (op : Op) (received : Option ℕ) (copy : Copy) → line_of f a ≡ l → address op ≡ a →
+      ((n : Memory) → flat_after n op a ≡ v) →
       x.copies c ≡ Some copy → copy.exclusive ≡ true →
       Goes f (values f records) l records busy t x →
       let ts = write_time f pts copy in
       Goes f (values f (records ++ record_of op received ts ∷ [])) l (records ++ record_of op received ts ∷ []) busy t
-      (record x { copies = with_at x.copies c (Some (record copy { written = true; line = record { wts = ts; rts = ts; words = slice_set copy.line.words (a % f.line_words) v } })) })
+      (record x {
+        copies =
+            with_at x.copies c
+            (Some (record copy {
+              written = true;
+              line = record {
+                wts = ts;
+                rts = ts;
+                words =
+                    slice_set copy.line.words (a % f.line_words) v;
+              };
+            }));
+      })
   writes_ok l a v op received copy on at w is ex k =
       let ts = write_time f pts copy in
       let r = record_of op received ts in
       let u : Timed = record { wts = ts; rts = ts; words = slice_set copy.line.words (a % f.line_words) v } in
       let own = (k.2.copies c copy is).0 ex in
-      let invariant = subst (Standing f (values f records) records l) (sym own.1) k.2.standing in
+      let invariant = subst (Current f (values f records) records l) (sym own.1) k.2.current in
       let late = write_late copy in
       let past = none_behind l a ts copy.line on late.0 invariant in (
         u,
         k.1,
-        ok_own f (values f records) (values f (records ++ r ∷ [])) l records r busy t x k.0 k.1 c copy (record copy { written = true; line = u }) free is ex ex
-            (λ top le below. let lt = late.2 top le invariant.order below in (λ d b on_b to. values-before f records r d b (lt_of_le_of_lt to lt), λ z. lt)) late.0
-            (Standing-write f (values f records) (values f (records ++ r ∷ [])) l records r copy.line a v good on late.0 at
+        ok_own f (values f records) (values f (records ++ r ∷ [])) l records r busy t x k.0 k.1 c copy
+            (record copy { written = true; line = u }) free is ex ex
+            (λ top le below. let lt = late.2 top le invariant.order below in
+            (λ d b on_b to. values-before f records r d b (lt_of_le_of_lt to lt), λ z. lt)) late.0
+            (Current-write f (values f records) (values f (records ++ r ∷ [])) l records r copy.line a
+            v good on late.0 at
             (λ d b ne. values-other f records r d b (λ e. ne (e ∙ at)))
             (λ d le. values-written f records r d a v sorted past w le))
             k.2,
       )
 
   -- every completed operation keeps its line, and its record fits
-  pub uses_keep : (op : Op) (copy : Copy) (received : Option ℕ) (ts : ℕ) (new : Copy) → x.copies c ≡ Some copy → Uses f pts copy op received ts new →
+  pub uses_keep : (op : Op) (copy : Copy) (received : Option ℕ) (ts : ℕ) (new : Copy) → x.copies c ≡ Some copy →
+      Uses f pts copy op received ts new →
       Goes f (values f records) (line_of f (address op)) records busy t x →
-      Completes f (line_of f (address op)) records busy t pts (record x { copies = with_at x.copies c (Some new) }) (record_of op received ts)
+      Completes f (line_of f (address op)) records busy t pts (record x { copies = with_at x.copies c (Some new) })
+      (record_of op received ts)
   uses_keep op copy received ts new is (load_hit a sh le) k =
       let l = line_of f a in
       let r = record_of (Load a) (Some (word_at f copy.line.words a)) (max pts copy.line.wts) in
@@ -197,8 +264,10 @@ module _ (f : Config) (good : 0 < f.line_words) (records : List Record) (sorted 
         line = (
           k.0,
           k.1,
-          subst (λ (cs : ℕ → Option Copy). LineOk f (values f (records ++ r ∷ [])) l (records ++ r ∷ []) busy t (record x { copies = cs }) k.0 k.1) (sym (with_at_id x.copies c (Some copy) is))
-              (ok_beside f (values f records) (values f (records ++ r ∷ [])) l records r busy t x k.0 k.1 (λ u b on. values-load f records r a refl u b) (λ on. omega arith) k.2),
+          subst (λ (cs : ℕ → Option Copy). LineOk f (values f (records ++ r ∷ [])) l (records ++ r ∷ []) busy t
+              (record x { copies = cs }) k.0 k.1) (sym (with_at_id x.copies c (Some copy) is))
+              (ok_beside f (values f records) (values f (records ++ r ∷ [])) l records r busy t x k.0 k.1
+              (λ u b on. values-load f records r a refl u b) (λ on. omega arith) k.2),
         );
         value = ap Some (sym (lease.value r.ts a refl (omega arith) (omega arith)));
         undisturbed = tt;
@@ -209,15 +278,18 @@ module _ (f : Config) (good : 0 < f.line_words) (records : List Record) (sorted 
       let rts = max (max pts copy.line.wts) copy.line.rts in
       let r = record_of (Load a) (Some (word_at f copy.line.words a)) (max pts copy.line.wts) in
       let own = (k.2.copies c copy is).0 ex in
-      let invariant = subst (Standing f (values f records) records l) (sym own.1) k.2.standing in
-      let same : (u b : ℕ) → line_of f b ≡ l → values f (records ++ r ∷ []) u b ≡ values f records u b = λ u b on. values-load f records r a refl u b in
+      let invariant = subst (Current f (values f records) records l) (sym own.1) k.2.current in
+      let same : (u b : ℕ) → line_of f b ≡ l → values f (records ++ r ∷ []) u b ≡ values f records u b =
+      λ u b on. values-load f records r a refl u b in
       record {
         line = (
           _,
           k.1,
-          ok_own f (values f records) (values f (records ++ r ∷ [])) l records r busy t x k.0 k.1 c copy (record copy { line = record (copy.line) { rts = rts } }) free is ex ex
+          ok_own f (values f records) (values f (records ++ r ∷ [])) l records r busy t x k.0 k.1 c copy
+              (record copy { line = record (copy.line) { rts = rts } }) free is ex ex
               (λ top le below. (λ u b on e. same u b on, below)) (omega arith)
-              (Standing-read f (values f records) (values f (records ++ r ∷ [])) l records r copy.line rts same (omega arith) (omega arith)) k.2,
+              (Current-read f (values f records) (values f (records ++ r ∷ [])) l records r copy.line rts same
+              (omega arith) (omega arith)) k.2,
         );
         value = ap Some (sym (invariant.value r.ts a refl (omega arith)));
         undisturbed = tt;
@@ -226,22 +298,25 @@ module _ (f : Config) (good : 0 < f.line_words) (records : List Record) (sorted 
   uses_keep op copy received ts new is (store_own a v ex) k =
       let l = line_of f a in
       let own = (k.2.copies c copy is).0 ex in
-      let invariant = subst (Standing f (values f records) records l) (sym own.1) k.2.standing in
+      let invariant = subst (Current f (values f records) records l) (sym own.1) k.2.current in
       let late = write_late copy in
       record {
         line = writes_ok l a v (Store a v) None copy refl refl (λ n. with_at_same n a v) is ex k;
         value = refl;
-        undisturbed = each_arranged (λ q. address q.op ≡ a → q.ts ≤ write_time f pts copy) records (none_behind l a (write_time f pts copy) copy.line refl late.0 invariant);
+        undisturbed = each_arranged (λ q. address q.op ≡ a → q.ts ≤ write_time f pts copy) records
+            (none_behind l a (write_time f pts copy) copy.line refl late.0 invariant);
         later = late.1;
       }
   uses_keep op copy received ts new is (swap_own a v ex) k =
       let l = line_of f a in
       let own = (k.2.copies c copy is).0 ex in
-      let invariant = subst (Standing f (values f records) records l) (sym own.1) k.2.standing in
+      let invariant = subst (Current f (values f records) records l) (sym own.1) k.2.current in
       let late = write_late copy in
       record {
-        line = writes_ok l a v (Swap a v) (Some (word_at f copy.line.words a)) copy refl refl (λ n. with_at_same n a v) is ex k;
+        line = writes_ok l a v (Swap a v) (Some (word_at f copy.line.words a)) copy refl refl
+            (λ n. with_at_same n a v) is ex k;
         value = ap Some (sym (invariant.value (write_time f pts copy) a refl (le_trans invariant.order late.0)));
-        undisturbed = each_arranged (λ q. address q.op ≡ a → q.ts ≤ write_time f pts copy) records (none_behind l a (write_time f pts copy) copy.line refl late.0 invariant);
+        undisturbed = each_arranged (λ q. address q.op ≡ a → q.ts ≤ write_time f pts copy) records
+            (none_behind l a (write_time f pts copy) copy.line refl late.0 invariant);
         later = late.1;
       }

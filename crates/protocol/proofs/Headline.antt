@@ -1,4 +1,6 @@
-use Rattle.std.proofs.Common.{◌≡◌, ◌≢◌, ℕ, zero, suc, ◌+◌, ◌*◌, ◌%◌, ◌<◌, ◌≤◌, Bool, true, false, cond, eqb, List, [], ◌∷◌, ◌++◌, length, get_or, Option, Some, None, refl, sym, ap, ◌∙◌, subst, arith, le_trans, le_refl, ⊎_elim, append-nil, length-append}
+use Rattle.std.proofs.Common.{◌≡◌, ◌≢◌, ℕ, zero, suc, ◌+◌, ◌*◌, ◌%◌, ◌<◌, ◌≤◌, Bool, true, false, cond, eqb, List, []}
+use Rattle.std.proofs.Common.{◌∷◌, ◌++◌, length, get_or, Option, Some, None, refl, sym, ap, ◌∙◌, subst, arith}
+use Rattle.std.proofs.Common.{le_trans, le_refl, ⊎_elim, append-nil, length-append}
 use Rattle.std.specs.Prelude.{slice_get}
 use Rattle.std.proofs.Math.Nat.{mod-lt, div-add-mod'}
 use Rattle.std.proofs.Math.Seq.{get_or-append_seam}
@@ -11,9 +13,14 @@ use Rattle.physiological_order.specs.declared.operation.Record.{Record}
 use Rattle.physiological_order.specs.Order.{Memory, address, of_core, Legal}
 use Rattle.physiological_order.proofs.Lemmas.{each_push, Sorted-from_Ascends, Kept-none, Kept-issue, Kept-push}
 use Rattle.physiological_order.proofs.Lemmas.{Legal-from_Kept}
-use Rattle.protocol.specs.Machine.{Config, Timed, Copy, Entry, Absent, Loading, Shared, Exclusive, Recalling, Storing, Line, Core, Machine, line_of, with_at, word_at, waits, OpensWith, opened, IsPinned, LineTransition, evict_clean, evict_dirty, Answers, shared, exclusive, renews, upgrades, Asks, Uses, Transition, issue, advance, ask, answer, complete, move, Reachable, at_first, goes_on}
+use Rattle.protocol.specs.Machine.{Config, Timed, Copy, Entry, Absent, Loading, Shared, Exclusive, Recalling, Storing}
+use Rattle.protocol.specs.Machine.{Line, Core, Machine, line_of, with_at, word_at, waits, OpensWith, opened, IsPinned}
+use Rattle.protocol.specs.Machine.{LineTransition, evict_clean, evict_dirty, Answers, shared, exclusive, renews}
+use Rattle.protocol.specs.Machine.{upgrades, Asks, Uses, Transition, issue, advance, ask, answer, complete, move}
+use Rattle.protocol.specs.Machine.{Reachable, at_first, goes_on}
 use Rattle.protocol.proofs.Bags.{tally-taken, each_map}
-use Rattle.protocol.proofs.Lines.{Holder, Bank, about, about_itself, EntryOk, with_at_same, with_at_other, with_at_cases}
+use Rattle.protocol.proofs.Lines.{Holder, Bank, about, about_itself, EntryOk, with_at_same, with_at_other}
+use Rattle.protocol.proofs.Lines.{with_at_cases}
 use Rattle.protocol.proofs.Moved.{Goes, moves_keep}
 use Rattle.protocol.proofs.Cores.{answers_keep, asks_keep}
 use Rattle.protocol.proofs.Completed.{values, values-other, ok_beside, uses_keep}
@@ -38,7 +45,8 @@ pub record MachineOk (f : Config) (m : Machine) : Type 0 where
   pub cores : (c : ℕ) → CoreOk c (m.cores c) (m.issued c) m.records
 
 -- two tables changed at one place
-with_at_both : {X Y : Type 0} (P : ℕ → X → Y → Type 0) (g : ℕ → X) (k : ℕ → Y) (i : ℕ) (x : X) (y : Y) → P i x y → ((j : ℕ) → j ≢ i → P j (g j) (k j)) → (j : ℕ) → P j (with_at g i x j) (with_at k i y j)
+with_at_both : {X Y : Type 0} (P : ℕ → X → Y → Type 0) (g : ℕ → X) (k : ℕ → Y) (i : ℕ) (x : X) (y : Y) → P i x y →
+    ((j : ℕ) → j ≢ i → P j (g j) (k j)) → (j : ℕ) → P j (with_at g i x j) (with_at k i y j)
 with_at_both P g k i x y here there j =
     with_at_cases (λ j' z. P j' (with_at g i x j') z) k i y
     (subst (λ z. P i z y) (sym (with_at_same g i x)) here)
@@ -64,26 +72,49 @@ waits_here f op = cond-true (eqb (line_of f (address op)) (line_of f (address op
 waits_there : (f : Config) (l : ℕ) (op : Op) → l ≢ line_of f (address op) → waits f l true (Some op) ≡ 0
 waits_there f l op ne = cond-false (eqb (line_of f (address op)) l) 1 0 (ne_eqb _ _ (λ e. ne (sym e)))
 
-waits_unpinned : (f : Config) (l : ℕ) (out : Bool) (p : Option Op) → ((op : Op) × (p ≡ Some op) × (line_of f (address op) ≡ l) → ⊥) → waits f l out p ≡ 0
+waits_unpinned : (f : Config) (l : ℕ) (out : Bool) (p : Option Op) →
+    ((op : Op) × (p ≡ Some op) × (line_of f (address op) ≡ l) → ⊥) → waits f l out p ≡ 0
 waits_unpinned f l true None h = refl
-waits_unpinned f l true (Some op) h = cond-false (eqb (line_of f (address op)) l) 1 0 (ne_eqb _ _ (λ e. h (op, refl, e)))
+waits_unpinned f l true (Some op) h =
+    cond-false (eqb (line_of f (address op)) l) 1 0 (ne_eqb _ _ (λ e. h (op, refl, e)))
 waits_unpinned f l false p h = refl
 
-waits_elsewhere : (f : Config) (l k : ℕ) (out : Bool) (p : Option Op) → waits f l out p ≡ 1 → k ≢ l → waits f k out p ≡ 0
+waits_elsewhere : (f : Config) (l k : ℕ) (out : Bool) (p : Option Op) → waits f l out p ≡ 1 → k ≢ l →
+    waits f k out p ≡ 0
 waits_elsewhere f l k true None h ne = refl
 waits_elsewhere f l k true (Some op) h ne =
     ⊎_elim
     (λ (e : line_of f (address op) ≡ l). waits_there f k op (λ q. ne (q ∙ e)))
-    (λ (d : line_of f (address op) ≡ l → ⊥). absurd (let z : waits f l true (Some op) ≡ 0 = waits_there f l op (λ q. d (sym q)) in omega arith))
+    (λ (d : line_of f (address op) ≡ l → ⊥). absurd (let z : waits f l true (Some op) ≡ 0 =
+    waits_there f l op (λ q. d (sym q)) in omega arith))
     (cases_eq (line_of f (address op)) l)
 waits_elsewhere f l k false p h ne = refl
 
 -- a line under the same waits, and at a later time of its bank
-busy_same : (f : Config) (h : ℕ → Memory) (l : ℕ) (records : List Record) (p q : ℕ → ℕ) (t : ℕ) (x : Line) → ((c : ℕ) → p c ≡ q c) → Goes f h l records p t x → Goes f h l records q t x
-busy_same f h l records p q t x same k =
-    (k.0, k.1, record { standing = k.2.standing; top = k.2.top; within = k.2.within; copies = k.2.copies; held = k.2.held; messages = k.2.messages; rights = k.2.rights; loads = k.2.loads; stores = k.2.stores; asks = λ c. k.2.asks c ∙ same c; entry = k.2.entry })
+busy_same : (f : Config) (h : ℕ → Memory) (l : ℕ) (records : List Record) (p q : ℕ → ℕ) (t : ℕ) (x : Line) →
+    ((c : ℕ) → p c ≡ q c) → Goes f h l records p t x → Goes f h l records q t x
+busy_same f h l records p q t x same k = (
+  k.0,
+  k.1,
+  record {
+    current = k.2.current;
+    top = k.2.top;
+    within = k.2.within;
+    copies = k.2.copies;
+    held =
+        k.2.held;
+    messages = k.2.messages;
+    rights = k.2.rights;
+    loads = k.2.loads;
+    stores = k.2.stores;
+    asks =
+        λ c. k.2.asks c ∙ same c;
+    entry = k.2.entry;
+  },
+)
 
-entry_later : (s : Timed) (b : Holder) (t u : ℕ) (d : List ℕ) (e : Entry) → t ≤ u → EntryOk s b t d e → EntryOk s b u d e
+entry_later : (s : Timed) (b : Holder) (t u : ℕ) (d : List ℕ) (e : Entry) → t ≤ u →
+    EntryOk s b t d e → EntryOk s b u d e
 entry_later s b t u d Absent le k = (k.0, le_trans k.1 le, k.2)
 entry_later s b t u d Loading le k = (k.0, le_trans k.1 le, k.2)
 entry_later s b t u d (Shared z x) le k = k
@@ -91,16 +122,39 @@ entry_later s b t u d (Exclusive o) le k = k
 entry_later s b t u d (Recalling o) le k = k
 entry_later s b t u d Storing le k = (k.0, le_trans k.1 le)
 
-goes_later : (f : Config) (h : ℕ → Memory) (l : ℕ) (records : List Record) (p : ℕ → ℕ) (t u : ℕ) (x : Line) → t ≤ u → Goes f h l records p t x → Goes f h l records p u x
-goes_later f h l records p t u x le k =
-    (k.0, k.1, record { standing = k.2.standing; top = k.2.top; within = k.2.within; copies = k.2.copies; held = k.2.held; messages = k.2.messages; rights = k.2.rights; loads = k.2.loads; stores = k.2.stores; asks = k.2.asks; entry = entry_later k.0 k.1 t u x.dram x.entry le k.2.entry })
+goes_later : (f : Config) (h : ℕ → Memory) (l : ℕ) (records : List Record) (p : ℕ → ℕ) (t u : ℕ) (x : Line) → t ≤ u →
+    Goes f h l records p t x → Goes f h l records p u x
+goes_later f h l records p t u x le k = (
+  k.0,
+  k.1,
+  record {
+    current = k.2.current;
+    top = k.2.top;
+    within = k.2.within;
+    copies = k.2.copies;
+    held =
+        k.2.held;
+    messages = k.2.messages;
+    rights = k.2.rights;
+    loads = k.2.loads;
+    stores = k.2.stores;
+    asks =
+        k.2.asks;
+    entry = entry_later k.0 k.1 t u x.dram x.entry le k.2.entry;
+  },
+)
 
 -- a reply comes only to a core that waits for it
-answers_busy : (f : Config) (h : ℕ → Memory) (l : ℕ) (records : List Record) (p : ℕ → ℕ) (t c : ℕ) (x y : Line) → p c ≤ 1 → Answers c x y → Goes f h l records p t x → p c ≡ 1
-answers_busy f h l records p t c x y one (shared line rest q) k = let e = tally-taken (about c) x.messages _ q in let a = k.2.asks c in let i = about_itself c in omega arith
-answers_busy f h l records p t c x y one (exclusive line rest q) k = let e = tally-taken (about c) x.messages _ q in let a = k.2.asks c in let i = about_itself c in omega arith
-answers_busy f h l records p t c x y one (renews rts copy rest q is) k = let e = tally-taken (about c) x.messages _ q in let a = k.2.asks c in let i = about_itself c in omega arith
-answers_busy f h l records p t c x y one (upgrades rts copy rest q is) k = let e = tally-taken (about c) x.messages _ q in let a = k.2.asks c in let i = about_itself c in omega arith
+answers_busy : (f : Config) (h : ℕ → Memory) (l : ℕ) (records : List Record) (p : ℕ → ℕ) (t c : ℕ) (x y : Line) →
+    p c ≤ 1 → Answers c x y → Goes f h l records p t x → p c ≡ 1
+answers_busy f h l records p t c x y one (shared line rest q) k = let e =
+    tally-taken (about c) x.messages _ q in let a = k.2.asks c in let i = about_itself c in omega arith
+answers_busy f h l records p t c x y one (exclusive line rest q) k = let e =
+    tally-taken (about c) x.messages _ q in let a = k.2.asks c in let i = about_itself c in omega arith
+answers_busy f h l records p t c x y one (renews rts copy rest q is) k = let e =
+    tally-taken (about c) x.messages _ q in let a = k.2.asks c in let i = about_itself c in omega arith
+answers_busy f h l records p t c x y one (upgrades rts copy rest q is) k = let e =
+    tally-taken (about c) x.messages _ q in let a = k.2.asks c in let i = about_itself c in omega arith
 
 -- no move lowers the time of a bank
 moves_rise : (lease : ℕ) (pinned : ℕ → Type 0) (t u : ℕ) (x y : Line) → LineTransition lease pinned t x u y → t ≤ u
@@ -109,12 +163,13 @@ moves_rise lease pinned t u x y (evict_dirty line is) = omega arith
 moves_rise lease pinned t u x y _ = omega arith
 
 -- the opening
-opened_line : (f : Config) (pts mts : ℕ → ℕ) (drams : ℕ → List ℕ) → OpensWith f drams → (l : ℕ) → Goes f (values f []) l [] (busy f (opened pts mts drams).cores l) f.opening_time ((opened pts mts drams).lines l)
+opened_line : (f : Config) (pts mts : ℕ → ℕ) (drams : ℕ → List ℕ) → OpensWith f drams → (l : ℕ) →
+    Goes f (values f []) l [] (busy f (opened pts mts drams).cores l) f.opening_time ((opened pts mts drams).lines l)
 opened_line f pts mts drams opens l = (
   record { wts = f.opening_time; rts = f.opening_time; words = drams l },
   Bank,
   record {
-    standing = record {
+    current = record {
       order = le_refl _;
       long = opens.long l;
       value = λ t a on from. sym (opens.same a) ∙ ap (λ (k : ℕ). word_at f (drams k) a) on;
@@ -133,85 +188,131 @@ opened_line f pts mts drams opens l = (
   },
 )
 
-opened_ok : (f : Config) (pts mts : ℕ → ℕ) (drams : ℕ → List ℕ) → ((l : ℕ) → mts (l % f.banks) ≡ f.opening_time) → OpensWith f drams → MachineOk f (opened pts mts drams)
+opened_ok : (f : Config) (pts mts : ℕ → ℕ) (drams : ℕ → List ℕ) → ((l : ℕ) → mts (l % f.banks) ≡ f.opening_time) →
+    OpensWith f drams → MachineOk f (opened pts mts drams)
 opened_ok f pts mts drams at opens =
     record {
       kept = Kept-none f.opening (opened pts mts drams).issued;
-      lines = λ l. subst (λ (u : ℕ). Goes f (values f []) l [] (busy f (opened pts mts drams).cores l) u ((opened pts mts drams).lines l)) (sym (at l)) (opened_line f pts mts drams opens l);
+      lines = λ l. subst (λ (u : ℕ). Goes f (values f []) l [] (busy f (opened pts mts drams).cores l) u
+          ((opened pts mts drams).lines l)) (sym (at l)) (opened_line f pts mts drams opens l);
       cores = λ c. record { pts = tt; opened = refl; idle = λ e. refl };
     }
 
 issue_ok : (f : Config) (m : Machine) (c : ℕ) (op : Op) → (m.cores c).open_op ≡ None → MachineOk f m →
-    MachineOk f (record m { cores = with_at m.cores c (record (m.cores c) { open_op = Some op }); issued = with_at m.issued c (m.issued c ++ op ∷ []) })
+    MachineOk f (record m {
+      cores = with_at m.cores c (record (m.cores c) { open_op = Some op });
+      issued =
+          with_at m.issued c (m.issued c ++ op ∷ []);
+    })
 issue_ok f m c op none k =
     let core : Core = record (m.cores c) { open_op = Some op } in
     let idle = (k.cores c).idle none in
-    let at : length (m.issued c) ≡ length (of_core c m.records) = subst (Opened (m.issued c) (length (of_core c m.records))) none (k.cores c).opened in
+    let at : length (m.issued c) ≡ length (of_core c m.records) =
+    subst (Opened (m.issued c) (length (of_core c m.records))) none (k.cores c).opened in
     record {
       kept = Kept-issue f.opening m.issued (with_at m.issued c (m.issued c ++ op ∷ [])) m.records
-          (with_at_cases (λ d ops. (more : List Op) × (ops ≡ m.issued d ++ more)) m.issued c (m.issued c ++ op ∷ []) (op ∷ [], refl) (λ d ne. ([], sym (append-nil (m.issued d))))) k.kept;
-      lines = λ l. busy_same f (values f m.records) l m.records (busy f m.cores l) (busy f (with_at m.cores c core) l) (m.mts (l % f.banks)) (m.lines l)
+          (with_at_cases (λ d ops. (more : List Op) × (ops ≡ m.issued d ++ more)) m.issued c (m.issued c ++ op ∷ [])
+          (op ∷ [], refl) (λ d ne. ([], sym (append-nil (m.issued d))))) k.kept;
+      lines = λ l. busy_same f (values f m.records) l m.records (busy f m.cores l) (busy f (with_at m.cores c core) l)
+          (m.mts (l % f.banks)) (m.lines l)
           (with_at_cases (λ d y. busy f m.cores l d ≡ waits f l y.out y.open_op) m.cores c core
-          (waits_none f l (m.cores c).out (m.cores c).open_op idle ∙ sym (waits_none f l (m.cores c).out (Some op) idle)) (λ d ne. refl)) (k.lines l);
+          (waits_none f l (m.cores c).out (m.cores c).open_op idle
+          ∙ sym (waits_none f l (m.cores c).out (Some op) idle)) (λ d ne. refl)) (k.lines l);
       cores = with_at_both (λ d y ops. CoreOk d y ops m.records) m.cores m.issued c core (m.issued c ++ op ∷ [])
           (record {
             pts = (k.cores c).pts;
             opened = (
               length-append (m.issued c) (op ∷ []) ∙ omega arith,
               subst (λ (n : ℕ). slice_get (m.issued c ++ op ∷ []) n ≡ Some op) at
-                  (slice_get-get_or (m.issued c ++ op ∷ []) (length (m.issued c)) op (omega (arith, length-append (m.issued c) (op ∷ []))) ∙ ap Some (get_or-append_seam (m.issued c) op [] op)),
+                  (slice_get-get_or (m.issued c ++ op ∷ []) (length (m.issued c)) op
+                  (omega (arith, length-append (m.issued c) (op ∷ [])))
+                  ∙ ap Some (get_or-append_seam (m.issued c) op [] op)),
             );
             idle = λ e. absurd (cc);
           })
           (λ d ne. k.cores d);
     }
 
-advance_ok : (f : Config) (m : Machine) (c : ℕ) → MachineOk f m → MachineOk f (record m { cores = with_at m.cores c (record (m.cores c) { pts = (m.cores c).pts + 1 }) })
+advance_ok : (f : Config) (m : Machine) (c : ℕ) → MachineOk f m →
+    MachineOk f (record m { cores = with_at m.cores c (record (m.cores c) { pts = (m.cores c).pts + 1 }) })
 advance_ok f m c k =
     let core : Core = record (m.cores c) { pts = (m.cores c).pts + 1 } in
     record {
       kept = k.kept;
-      lines = λ l. busy_same f (values f m.records) l m.records (busy f m.cores l) (busy f (with_at m.cores c core) l) (m.mts (l % f.banks)) (m.lines l)
-          (with_at_cases (λ d y. busy f m.cores l d ≡ waits f l y.out y.open_op) m.cores c core refl (λ d ne. refl)) (k.lines l);
+      lines = λ l. busy_same f (values f m.records) l m.records (busy f m.cores l) (busy f (with_at m.cores c core) l)
+          (m.mts (l % f.banks)) (m.lines l)
+          (with_at_cases (λ d y. busy f m.cores l d ≡ waits f l y.out y.open_op) m.cores c core refl (λ d ne. refl))
+          (k.lines l);
       cores = with_at_cases (λ d y. CoreOk d y (m.issued d) m.records) m.cores c core
-          (record { pts = each_map (λ r w e. le_trans (w e) (omega arith)) m.records (k.cores c).pts; opened = (k.cores c).opened; idle = (k.cores c).idle })
+          (record {
+            pts = each_map (λ r w e. le_trans (w e) (omega arith)) m.records (k.cores c).pts;
+            opened =
+                (k.cores c).opened;
+            idle = (k.cores c).idle;
+          })
           (λ d ne. k.cores d);
     }
 
 -- the lines after one of them changed and the cores' waits with it
-ask_ok : (f : Config) (m : Machine) (c : ℕ) (op : Op) (y : Line) → (m.cores c).open_op ≡ Some op → (m.cores c).out ≡ false → Asks c (m.cores c).pts op (m.lines (line_of f (address op))) y → MachineOk f m →
-    MachineOk f (record m { cores = with_at m.cores c (record (m.cores c) { out = true }); lines = with_at m.lines (line_of f (address op)) y })
+ask_ok : (f : Config) (m : Machine) (c : ℕ) (op : Op) (y : Line) → (m.cores c).open_op ≡ Some op →
+    (m.cores c).out ≡ false → Asks c (m.cores c).pts op (m.lines (line_of f (address op))) y → MachineOk f m →
+    MachineOk f (record m {
+      cores = with_at m.cores c (record (m.cores c) { out = true });
+      lines =
+          with_at m.lines (line_of f (address op)) y;
+    })
 ask_ok f m c op y opens quiet a k =
     let core : Core = record (m.cores c) { out = true } in
     let here = line_of f (address op) in
     record {
       kept = k.kept;
-      lines = with_at_cases (λ l x. Goes f (values f m.records) l m.records (busy f (with_at m.cores c core) l) (m.mts (l % f.banks)) x) m.lines here y
-          (busy_same f (values f m.records) here m.records (with_at (busy f m.cores here) c 1) (busy f (with_at m.cores c core) here) (m.mts (here % f.banks)) y
+      lines = with_at_cases (λ l x. Goes f (values f m.records) l m.records (busy f (with_at m.cores c core) l)
+          (m.mts (l % f.banks)) x) m.lines here y
+          (busy_same f (values f m.records) here m.records (with_at (busy f m.cores here) c 1)
+          (busy f (with_at m.cores c core) here) (m.mts (here % f.banks)) y
           (with_at_both (λ d n z. n ≡ waits f here z.out z.open_op) (busy f m.cores here) m.cores c 1 core
           (sym (ap (waits f here true) opens ∙ waits_here f op)) (λ d ne. refl))
-          (asks_keep f (values f m.records) here m.records (busy f m.cores here) (m.mts (here % f.banks)) c (m.cores c).pts op (waits_none f here (m.cores c).out (m.cores c).open_op quiet) (m.lines here) y a (k.lines here)))
-          (λ l ne. busy_same f (values f m.records) l m.records (busy f m.cores l) (busy f (with_at m.cores c core) l) (m.mts (l % f.banks)) (m.lines l)
+          (asks_keep f (values f m.records) here m.records (busy f m.cores here) (m.mts (here % f.banks)) c
+          (m.cores c).pts op (waits_none f here (m.cores c).out (m.cores c).open_op quiet) (m.lines here)
+          y a (k.lines here)))
+          (λ l ne. busy_same f (values f m.records) l m.records (busy f m.cores l) (busy f (with_at m.cores c core) l)
+          (m.mts (l % f.banks)) (m.lines l)
           (with_at_cases (λ d z. busy f m.cores l d ≡ waits f l z.out z.open_op) m.cores c core
-          (waits_none f l (m.cores c).out (m.cores c).open_op quiet ∙ sym (ap (waits f l true) opens ∙ waits_there f l op ne)) (λ d nd. refl)) (k.lines l));
+          (waits_none f l (m.cores c).out (m.cores c).open_op quiet ∙ sym (ap (waits f l true) opens
+          ∙ waits_there f l op ne)) (λ d nd. refl)) (k.lines l));
       cores = with_at_cases (λ d z. CoreOk d z (m.issued d) m.records) m.cores c core
-          (record { pts = (k.cores c).pts; opened = (k.cores c).opened; idle = λ e. let z : Some op ≡ None = sym opens ∙ e in absurd (cc) })
+          (record {
+            pts = (k.cores c).pts;
+            opened = (k.cores c).opened;
+            idle = λ e. let z : Some op ≡ None = sym opens
+                ∙ e in absurd (cc);
+          })
           (λ d ne. k.cores d);
     }
 
 answer_ok : (f : Config) (m : Machine) (c l : ℕ) (y : Line) → Answers c (m.lines l) y → MachineOk f m →
-    MachineOk f (record m { cores = with_at m.cores c (record (m.cores c) { out = false }); lines = with_at m.lines l y })
+    MachineOk f (record m {
+      cores = with_at m.cores c (record (m.cores c) { out = false });
+      lines =
+          with_at m.lines l y;
+    })
 answer_ok f m c l y a k =
     let core : Core = record (m.cores c) { out = false } in
     let one = waits_at_most f l (m.cores c).out (m.cores c).open_op in
-    let waited = answers_busy f (values f m.records) l m.records (busy f m.cores l) (m.mts (l % f.banks)) c (m.lines l) y one a (k.lines l) in
+    let waited = answers_busy f (values f m.records) l m.records (busy f m.cores l) (m.mts (l % f.banks)) c
+    (m.lines l) y one a (k.lines l) in
     record {
       kept = k.kept;
-      lines = with_at_cases (λ i x. Goes f (values f m.records) i m.records (busy f (with_at m.cores c core) i) (m.mts (i % f.banks)) x) m.lines l y
-          (busy_same f (values f m.records) l m.records (with_at (busy f m.cores l) c 0) (busy f (with_at m.cores c core) l) (m.mts (l % f.banks)) y
-          (with_at_both (λ d n z. n ≡ waits f l z.out z.open_op) (busy f m.cores l) m.cores c 0 core refl (λ d ne. refl))
-          (answers_keep f (values f m.records) l m.records (busy f m.cores l) (m.mts (l % f.banks)) c one (m.lines l) y a (k.lines l)))
-          (λ i ne. busy_same f (values f m.records) i m.records (busy f m.cores i) (busy f (with_at m.cores c core) i) (m.mts (i % f.banks)) (m.lines i)
+      lines = with_at_cases (λ i x. Goes f (values f m.records) i m.records (busy f (with_at m.cores c core) i)
+          (m.mts (i % f.banks)) x) m.lines l y
+          (busy_same f (values f m.records) l m.records (with_at (busy f m.cores l) c 0)
+          (busy f (with_at m.cores c core) l) (m.mts (l % f.banks)) y
+          (with_at_both (λ d n z. n ≡ waits f l z.out z.open_op) (busy f m.cores l) m.cores c 0 core
+          refl (λ d ne. refl))
+          (answers_keep f (values f m.records) l m.records (busy f m.cores l) (m.mts (l % f.banks)) c one
+          (m.lines l) y a (k.lines l)))
+          (λ i ne. busy_same f (values f m.records) i m.records (busy f m.cores i) (busy f (with_at m.cores c core) i)
+          (m.mts (i % f.banks)) (m.lines i)
           (with_at_cases (λ d z. busy f m.cores i d ≡ waits f i z.out z.open_op) m.cores c core
           (waits_elsewhere f l i (m.cores c).out (m.cores c).open_op waited ne) (λ d nd. refl)) (k.lines i));
       cores = with_at_cases (λ d z. CoreOk d z (m.issued d) m.records) m.cores c core
@@ -219,68 +320,124 @@ answer_ok f m c l y a k =
           (λ d ne. k.cores d);
     }
 
-move_ok : (f : Config) (m : Machine) (l t : ℕ) (y : Line) → LineTransition f.lease (IsPinned f m.cores l) (m.mts (l % f.banks)) (m.lines l) t y → MachineOk f m →
+move_ok : (f : Config) (m : Machine) (l t : ℕ) (y : Line) → LineTransition f.lease (IsPinned f m.cores l)
+    (m.mts (l % f.banks)) (m.lines l) t y → MachineOk f m →
     MachineOk f (record m { mts = with_at m.mts (l % f.banks) t; lines = with_at m.lines l y })
 move_ok f m l t y mv k =
     let up = moves_rise f.lease (IsPinned f m.cores l) (m.mts (l % f.banks)) t (m.lines l) y mv in
     record {
       kept = k.kept;
-      lines = with_at_cases (λ i x. Goes f (values f m.records) i m.records (busy f m.cores i) (with_at m.mts (l % f.banks) t (i % f.banks)) x) m.lines l y
-          (subst (λ (u : ℕ). Goes f (values f m.records) l m.records (busy f m.cores l) u y) (sym (with_at_same m.mts (l % f.banks) t))
-          (moves_keep f (values f m.records) l m.records (busy f m.cores l) f.lease (IsPinned f m.cores l) (λ c un. waits_unpinned f l (m.cores c).out (m.cores c).open_op un) (m.mts (l % f.banks)) (m.lines l) t y mv (k.lines l)))
-          (λ i ne. with_at_cases (λ b u. b ≡ i % f.banks → Goes f (values f m.records) i m.records (busy f m.cores i) u (m.lines i)) m.mts (l % f.banks) t
-          (λ e. goes_later f (values f m.records) i m.records (busy f m.cores i) (m.mts (i % f.banks)) t (m.lines i) (subst (λ (b : ℕ). m.mts b ≤ t) e up) (k.lines i))
-          (λ b nb e. subst (λ (b' : ℕ). Goes f (values f m.records) i m.records (busy f m.cores i) (m.mts b') (m.lines i)) (sym e) (k.lines i))
+      lines = with_at_cases (λ i x. Goes f (values f m.records) i m.records (busy f m.cores i)
+          (with_at m.mts (l % f.banks) t (i % f.banks)) x) m.lines l y
+          (subst (λ (u : ℕ). Goes f (values f m.records) l m.records (busy f m.cores l) u y)
+          (sym (with_at_same m.mts (l % f.banks) t))
+          (moves_keep f (values f m.records) l m.records (busy f m.cores l) f.lease (IsPinned f m.cores l)
+          (λ c un. waits_unpinned f l (m.cores c).out (m.cores c).open_op un) (m.mts (l % f.banks)) (m.lines l)
+          t y mv (k.lines l)))
+          (λ i ne. with_at_cases (λ b u. b ≡ i % f.banks → Goes f (values f m.records) i m.records (busy f m.cores i)
+          u (m.lines i)) m.mts (l % f.banks) t
+          (λ e. goes_later f (values f m.records) i m.records (busy f m.cores i) (m.mts (i % f.banks)) t (m.lines i)
+          (subst (λ (b : ℕ). m.mts b ≤ t) e up) (k.lines i))
+          (λ b nb e. subst (λ (b' : ℕ). Goes f (values f m.records) i m.records (busy f m.cores i) (m.mts b')
+          (m.lines i)) (sym e) (k.lines i))
           (i % f.banks) refl);
       cores = k.cores;
     }
 
-of_core_length : (c : ℕ) (records : List Record) (r : Record) → r.core ≡ c → length (of_core c (records ++ r ∷ [])) ≡ length (of_core c records) + 1
+of_core_length : (c : ℕ) (records : List Record) (r : Record) → r.core ≡ c → length (of_core c (records ++ r ∷ [])) ≡
+    length (of_core c records) + 1
 of_core_length c records r e =
-    ap length (filter-append (λ (q : Record). eqb q.core c) records (r ∷ []) ∙ ap (λ (b : Bool). of_core c records ++ cond b (r ∷ []) []) (eq-eqb r.core c e))
+    ap length (filter-append (λ (q : Record). eqb q.core c) records (r ∷ []) ∙ ap (λ (b : Bool). of_core c records
+    ++ cond b (r ∷ []) []) (eq-eqb r.core c e))
     ∙ length-append (of_core c records) (r ∷ []) ∙ omega arith
 
-of_core_push_other : (c : ℕ) (records : List Record) (r : Record) → r.core ≢ c → of_core c (records ++ r ∷ []) ≡ of_core c records
+of_core_push_other : (c : ℕ) (records : List Record) (r : Record) → r.core ≢ c →
+    of_core c (records ++ r ∷ []) ≡ of_core c records
 of_core_push_other c records r ne =
-    filter-append (λ (q : Record). eqb q.core c) records (r ∷ []) ∙ ap (λ (b : Bool). of_core c records ++ cond b (r ∷ []) []) (ne_eqb r.core c ne) ∙ append-nil (of_core c records)
+    filter-append (λ (q : Record). eqb q.core c) records (r ∷ []) ∙ ap (λ (b : Bool). of_core c records
+    ++ cond b (r ∷ []) []) (ne_eqb r.core c ne) ∙ append-nil (of_core c records)
 
-complete_ok : (f : Config) → 0 < f.line_words → (m : Machine) (c : ℕ) (op : Op) (copy new : Copy) (received : Option ℕ) (ts : ℕ) → (m.cores c).open_op ≡ Some op → (m.cores c).out ≡ false →
-    (m.lines (line_of f (address op))).copies c ≡ Some copy → Uses f (m.cores c).pts copy op received ts new → MachineOk f m →
+complete_ok : (f : Config) → 0 < f.line_words → (m : Machine) (c : ℕ) (op : Op) (copy new : Copy)
+    (received : Option ℕ) (ts : ℕ) → (m.cores c).open_op ≡ Some op → (m.cores c).out ≡ false →
+    (m.lines (line_of f (address op))).copies c ≡ Some copy → Uses f (m.cores c).pts copy op received ts
+    new → MachineOk f m →
     MachineOk f (record m {
       cores = with_at m.cores c (record { pts = ts; open_op = None; out = false });
-      lines = with_at m.lines (line_of f (address op)) (record (m.lines (line_of f (address op))) { copies = with_at ((m.lines (line_of f (address op))).copies) c (Some new) });
-      records = m.records ++ record { core = c; place = length (of_core c m.records); op = op; received = received; ts = ts; number = length m.records } ∷ [];
+      lines = with_at m.lines (line_of f (address op)) (record (m.lines (line_of f (address op))) {
+        copies =
+            with_at ((m.lines (line_of f (address op))).copies) c (Some new);
+      });
+      records = m.records ++ record {
+        core = c;
+        place = length (of_core c m.records);
+        op = op;
+        received =
+            received;
+        ts = ts;
+        number = length m.records;
+      } ∷ [];
     })
 complete_ok f good m c op copy new received ts opens quiet is used k =
     let core : Core = record { pts = ts; open_op = None; out = false } in
     let here = line_of f (address op) in
-    let r : Record = record { core = c; place = length (of_core c m.records); op = op; received = received; ts = ts; number = length m.records } in
+    let r : Record = record {
+      core = c;
+      place = length (of_core c m.records);
+      op = op;
+      received = received;
+      ts =
+          ts;
+      number = length m.records;
+    } in
     let free = waits_none f here (m.cores c).out (m.cores c).open_op quiet in
-    let open_is : Opened (m.issued c) (length (of_core c m.records)) (Some op) = subst (Opened (m.issued c) (length (of_core c m.records))) opens (k.cores c).opened in
-    let done = uses_keep f good m.records (Sorted-from_Ascends (arranged m.records) k.kept.ascends) (busy f m.cores here) (m.mts (here % f.banks)) (m.lines here) c (length (of_core c m.records)) (length m.records) (m.cores c).pts free op copy received ts new is used (k.lines here) in
+    let open_is : Opened (m.issued c) (length (of_core c m.records)) (Some op) =
+    subst (Opened (m.issued c) (length (of_core c m.records))) opens (k.cores c).opened in
+    let done = uses_keep f good m.records (Sorted-from_Ascends (arranged m.records) k.kept.ascends)
+    (busy f m.cores here) (m.mts (here % f.banks)) (m.lines here) c (length (of_core c m.records))
+    (length m.records) (m.cores c).pts free op copy received ts new is used (k.lines here) in
     record {
       kept = Kept-push f.opening m.issued m.records r k.kept
-          (record { number = refl; place = refl; issued_there = open_is.1; pts = each_map (λ q w e. le_trans (w e) done.later) m.records (k.cores c).pts; value = done.value; undisturbed = done.undisturbed });
-      lines = with_at_cases (λ i x. Goes f (values f (m.records ++ r ∷ [])) i (m.records ++ r ∷ []) (busy f (with_at m.cores c core) i) (m.mts (i % f.banks)) x) m.lines here
+          (record {
+            number = refl;
+            place = refl;
+            issued_there = open_is.1;
+            pts =
+                each_map (λ q w e. le_trans (w e) done.later) m.records (k.cores c).pts;
+            value =
+                done.value;
+            undisturbed = done.undisturbed;
+          });
+      lines = with_at_cases (λ i x. Goes f (values f (m.records ++ r ∷ [])) i (m.records ++ r ∷ [])
+          (busy f (with_at m.cores c core) i) (m.mts (i % f.banks)) x) m.lines here
           (record (m.lines here) { copies = with_at ((m.lines here).copies) c (Some new) })
-          (busy_same f (values f (m.records ++ r ∷ [])) here (m.records ++ r ∷ []) (busy f m.cores here) (busy f (with_at m.cores c core) here) (m.mts (here % f.banks)) (record (m.lines here) { copies = with_at ((m.lines here).copies) c (Some new) })
-          (with_at_cases (λ d z. busy f m.cores here d ≡ waits f here z.out z.open_op) m.cores c core free (λ d nd. refl)) done.line)
-          (λ i ne. busy_same f (values f (m.records ++ r ∷ [])) i (m.records ++ r ∷ []) (busy f m.cores i) (busy f (with_at m.cores c core) i) (m.mts (i % f.banks)) (m.lines i)
-          (with_at_cases (λ d z. busy f m.cores i d ≡ waits f i z.out z.open_op) m.cores c core (waits_none f i (m.cores c).out (m.cores c).open_op quiet) (λ d nd. refl)) (
+          (busy_same f (values f (m.records ++ r ∷ [])) here (m.records ++ r ∷ []) (busy f m.cores here)
+          (busy f (with_at m.cores c core) here) (m.mts (here % f.banks))
+          (record (m.lines here) { copies = with_at ((m.lines here).copies) c (Some new) })
+          (with_at_cases (λ d z. busy f m.cores here d ≡ waits f here z.out z.open_op) m.cores c core free
+          (λ d nd. refl)) done.line)
+          (λ i ne. busy_same f (values f (m.records ++ r ∷ [])) i (m.records ++ r ∷ []) (busy f m.cores i)
+          (busy f (with_at m.cores c core) i) (m.mts (i % f.banks)) (m.lines i)
+          (with_at_cases (λ d z. busy f m.cores i d ≡ waits f i z.out z.open_op) m.cores c core
+          (waits_none f i (m.cores c).out (m.cores c).open_op quiet) (λ d nd. refl)) (
             (k.lines i).0,
             (k.lines i).1,
-            ok_beside f (values f m.records) (values f (m.records ++ r ∷ [])) i m.records r (busy f m.cores i) (m.mts (i % f.banks)) (m.lines i) (k.lines i).0 (k.lines i).1
-                (λ t a on. values-other f m.records r t a (λ e. ne (sym on ∙ ap (line_of f) e))) (λ on. absurd (ne (sym on))) (k.lines i).2,
+            ok_beside f (values f m.records) (values f (m.records ++ r ∷ [])) i m.records r (busy f m.cores i)
+                (m.mts (i % f.banks)) (m.lines i) (k.lines i).0 (k.lines i).1
+                (λ t a on. values-other f m.records r t a (λ e. ne (sym on ∙ ap (line_of f) e)))
+                (λ on. absurd (ne (sym on))) (k.lines i).2,
           ));
       cores = with_at_cases (λ d z. CoreOk d z (m.issued d) (m.records ++ r ∷ [])) m.cores c core
           (record {
-            pts = each_push (λ q. q.core ≡ c → q.ts ≤ ts) m.records r (each_map (λ q w e. le_trans (w e) done.later) m.records (k.cores c).pts) (λ e. le_refl _);
+            pts = each_push (λ q. q.core ≡ c → q.ts ≤ ts) m.records r (each_map (λ q w e. le_trans (w e) done.later)
+                m.records (k.cores c).pts) (λ e. le_refl _);
             opened = open_is.0 ∙ sym (of_core_length c m.records r refl);
             idle = λ e. refl;
           })
           (λ d ne. record {
-            pts = each_push (λ q. q.core ≡ d → q.ts ≤ (m.cores d).pts) m.records r (k.cores d).pts (λ e. absurd (ne (sym e)));
-            opened = subst (λ (rs : List Record). Opened (m.issued d) (length rs) (m.cores d).open_op) (sym (of_core_push_other d m.records r (λ e. ne (sym e)))) (k.cores d).opened;
+            pts = each_push (λ q. q.core ≡ d → q.ts ≤ (m.cores d).pts) m.records r (k.cores d).pts
+                (λ e. absurd (ne (sym e)));
+            opened = subst (λ (rs : List Record). Opened (m.issued d) (length rs) (m.cores d).open_op)
+                (sym (of_core_push_other d m.records r (λ e. ne (sym e)))) (k.cores d).opened;
             idle = (k.cores d).idle;
           });
     }
@@ -291,12 +448,14 @@ transition_ok f good m n (issue c op none) k = issue_ok f m c op none k
 transition_ok f good m n (advance c) k = advance_ok f m c k
 transition_ok f good m n (ask c op y opens quiet a) k = ask_ok f m c op y opens quiet a k
 transition_ok f good m n (answer c l y a) k = answer_ok f m c l y a k
-transition_ok f good m n (complete c op copy new received ts opens quiet is used) k = complete_ok f good m c op copy new received ts opens quiet is used k
+transition_ok f good m n (complete c op copy new received ts opens quiet is used) k =
+    complete_ok f good m c op copy new received ts opens quiet is used k
 transition_ok f good m n (move l t y mv) k = move_ok f m l t y mv k
 
 pub reachable_ok : (f : Config) → 0 < f.line_words → (m : Machine) → Reachable f m → MachineOk f m
 reachable_ok f good m (at_first pts mts drams at opens) = opened_ok f pts mts drams at opens
-reachable_ok f good m (goes_on {m = before} r transition) = transition_ok f good before m transition (reachable_ok f good before r)
+reachable_ok f good m (goes_on {m = before} r transition) =
+    transition_ok f good before m transition (reachable_ok f good before r)
 
 -- THE HEADLINE
 pub legal : (f : Config) → 0 < f.line_words → (m : Machine) → Reachable f m → Legal f.opening m.issued m.records

@@ -1,5 +1,6 @@
 -- The records of a core, as they complete, are of the operations that it was issued, in their order.
-use Rattle.std.proofs.Common.{◌≡◌, ◌≢◌, ℕ, zero, suc, ◌+◌, ◌<◌, Bool, List, [], ◌∷◌, ◌++◌, length, map, drop, cond, eqb, Option, Some, None, refl, sym, ap, ◌∙◌, subst, arith, ⊎_elim, append-nil}
+use Rattle.std.proofs.Common.{◌≡◌, ◌≢◌, ℕ, zero, suc, ◌+◌, ◌<◌, Bool, List, [], ◌∷◌, ◌++◌, length, map, drop, cond}
+use Rattle.std.proofs.Common.{eqb, Option, Some, None, refl, sym, ap, ◌∙◌, subst, arith, ⊎_elim, append-nil}
 use Rattle.std.specs.Prelude.{slice_get}
 use Rattle.std.proofs.lemmas.Bool.{cases_eq, eq-eqb, ne_eqb}
 use Rattle.std.proofs.Math.Seq.{drop-length}
@@ -8,47 +9,65 @@ use Rattle.physiological_order.specs.declared.operation.Op.{Op}
 use Rattle.physiological_order.specs.declared.operation.Record.{Record}
 use Rattle.physiological_order.specs.Order.{Follows, of_core}
 use Rattle.physiological_order.proofs.Lemmas.{Follows-push, Follows-issued}
-use Rattle.protocol.specs.Machine.{Config, Machine, Transition, issue, advance, ask, answer, complete, move, Reachable, at_first, goes_on}
+use Rattle.protocol.specs.Machine.{Config, Machine, Transition, issue, advance, ask, answer, complete, move}
+use Rattle.protocol.specs.Machine.{Reachable, at_first, goes_on}
 use Rattle.protocol.specs.Issued.{listed, IsIssued}
 use Rattle.protocol.proofs.Lines.{with_at_cases}
 use Rattle.protocol.proofs.Headline.{MachineOk, Opened, reachable_ok}
 
 -- one more record, of this core or of another
-pub of_core-own : (c : ℕ) (records : List Record) (r : Record) → r.core ≡ c → of_core c (records ++ r ∷ []) ≡ of_core c records ++ r ∷ []
+pub of_core-own : (c : ℕ) (records : List Record) (r : Record) → r.core ≡ c → of_core c (records ++ r ∷ []) ≡ of_core
+    c records ++ r ∷ []
 of_core-own c records r e =
-    filter-append (λ (q : Record). eqb q.core c) records (r ∷ []) ∙ ap (λ (b : Bool). of_core c records ++ cond b (r ∷ []) []) (eq-eqb r.core c e)
+    filter-append (λ (q : Record). eqb q.core c) records (r ∷ []) ∙ ap (λ (b : Bool). of_core c records
+    ++ cond b (r ∷ []) []) (eq-eqb r.core c e)
 
-pub of_core-other : (c : ℕ) (records : List Record) (r : Record) → r.core ≢ c → of_core c (records ++ r ∷ []) ≡ of_core c records
+pub of_core-other : (c : ℕ) (records : List Record) (r : Record) → r.core ≢ c →
+    of_core c (records ++ r ∷ []) ≡ of_core c records
 of_core-other c records r ne =
-    filter-append (λ (q : Record). eqb q.core c) records (r ∷ []) ∙ ap (λ (b : Bool). of_core c records ++ cond b (r ∷ []) []) (ne_eqb r.core c ne) ∙ append-nil (of_core c records)
+    filter-append (λ (q : Record). eqb q.core c) records (r ∷ []) ∙ ap (λ (b : Bool). of_core c records
+    ++ cond b (r ∷ []) []) (ne_eqb r.core c ne) ∙ append-nil (of_core c records)
 
 abbrev InProgram : Machine → Type 0
 InProgram m = (c : ℕ) → Follows 0 (m.issued c) (of_core c m.records)
 
-completed : (m : Machine) (r : Record) → r.place ≡ length (of_core r.core m.records) → slice_get (m.issued r.core) (length (of_core r.core m.records)) ≡ Some r.op → InProgram m →
+completed : (m : Machine) (r : Record) → r.place ≡ length (of_core r.core m.records) → slice_get (m.issued r.core)
+    (length (of_core r.core m.records)) ≡ Some r.op → InProgram m →
     (c : ℕ) → Follows 0 (m.issued c) (of_core c (m.records ++ r ∷ []))
 completed m r place there all c =
     let count : 0 + length (of_core r.core m.records) ≡ length (of_core r.core m.records) = omega arith in
     ⊎_elim
     (λ (same : r.core ≡ c). subst (λ (d : ℕ). Follows 0 (m.issued d) (of_core d (m.records ++ r ∷ []))) same
-    (subst (Follows 0 (m.issued r.core)) (sym (of_core-own r.core m.records r refl)) (Follows-push 0 (m.issued r.core) (of_core r.core m.records) r (all r.core) (place ∙ sym count) (subst (λ (n : ℕ). slice_get (m.issued r.core) n ≡ Some r.op) (sym count) there))))
+    (subst (Follows 0 (m.issued r.core)) (sym (of_core-own r.core m.records r refl)) (Follows-push 0 (m.issued r.core)
+    (of_core r.core m.records) r (all r.core) (place ∙ sym count)
+    (subst (λ (n : ℕ). slice_get (m.issued r.core) n ≡ Some r.op) (sym count) there))))
     (λ (other : r.core ≡ c → ⊥). subst (Follows 0 (m.issued c)) (sym (of_core-other c m.records r other)) (all c))
     (cases_eq r.core c)
 
 transition_keeps : (f : Config) (m n : Machine) → MachineOk f m → InProgram m → Transition f m n → InProgram n
 transition_keeps f m n ok all (issue c op none) =
-    with_at_cases (λ d ops. Follows 0 ops (of_core d m.records)) m.issued c (m.issued c ++ op ∷ []) (Follows-issued 0 (m.issued c) (op ∷ []) (of_core c m.records) (all c)) (λ d other. all d)
+    with_at_cases (λ d ops. Follows 0 ops (of_core d m.records)) m.issued c (m.issued c ++ op ∷ [])
+    (Follows-issued 0 (m.issued c) (op ∷ []) (of_core c m.records) (all c)) (λ d other. all d)
 transition_keeps f m n ok all (advance c) = all
 transition_keeps f m n ok all (ask c op y opens quiet asks) = all
 transition_keeps f m n ok all (answer c l y answers) = all
 transition_keeps f m n ok all (complete c op copy new received ts opens quiet is used) =
-    completed m (record { core = c; place = length (of_core c m.records); op = op; received = received; ts = ts; number = length m.records }) refl
+    completed m (record {
+      core = c;
+      place = length (of_core c m.records);
+      op = op;
+      received = received;
+      ts =
+          ts;
+      number = length m.records;
+    }) refl
     (subst (Opened (m.issued c) (length (of_core c m.records))) opens (ok.cores c).opened).1 all
 transition_keeps f m n ok all (move l t y moves) = all
 
 pub in_program : (f : Config) → 0 < f.line_words → (m : Machine) → Reachable f m → InProgram m
 in_program f some m (at_first pts mts drams at opens) c = tt
-in_program f some m (goes_on {m = before} r next) c = transition_keeps f before m (reachable_ok f some before r) (in_program f some before r) next c
+in_program f some m (goes_on {m = before} r next) c =
+    transition_keeps f before m (reachable_ok f some before r) (in_program f some before r) next c
 
 drop_from : {X : Type 0} (xs : List X) (k : ℕ) (x : X) → slice_get xs k ≡ Some x → drop k xs ≡ x ∷ drop (suc k) xs
 drop_from [] k x is = absurd (cc)
@@ -59,7 +78,8 @@ drop_all : {X : Type 0} (xs : List X) (k : ℕ) → length xs ≡ k → drop k x
 drop_all xs k is = subst (λ (n : ℕ). drop n xs ≡ []) is (drop-length xs)
 
 -- from a place on, the operations are those of the records and then the open one
-from_place : (rs : List Record) (k : ℕ) (ops : List Op) (o : Option Op) → Follows k ops rs → Opened ops (k + length rs) o → drop k ops ≡ map (λ r. r.op) rs ++ listed o
+from_place : (rs : List Record) (k : ℕ) (ops : List Op) (o : Option Op) → Follows k ops rs →
+    Opened ops (k + length rs) o → drop k ops ≡ map (λ r. r.op) rs ++ listed o
 from_place [] k ops None follows is = drop_all ops k (is ∙ omega arith)
 from_place [] k ops (Some op) follows is =
     let here : k + 0 ≡ k = omega arith in
@@ -73,12 +93,18 @@ from_place (r ∷ rs) k ops o follows is =
     (subst (λ (n : ℕ). drop n ops ≡ map (λ (x : Record). x.op) rs ++ listed o) next
     (from_place rs (k + 1) ops o follows.2 (subst (λ (n : ℕ). Opened ops n o) count is)))
 
-pub issued_is : (rs : List Record) (ops : List Op) (o : Option Op) → Follows 0 ops rs → Opened ops (length rs) o → ops ≡ map (λ r. r.op) rs ++ listed o
+pub issued_is : (rs : List Record) (ops : List Op) (o : Option Op) → Follows 0 ops rs → Opened ops (length rs) o →
+    ops ≡ map (λ r. r.op) rs ++ listed o
 issued_is rs ops o follows is =
     let count : length rs ≡ 0 + length rs = omega arith in
     from_place rs 0 ops o follows (subst (λ (n : ℕ). Opened ops n o) count is)
 
-pub what_is_issued : (f : Config) → 0 < f.line_words → (m : Machine) → Reachable f m → (core : ℕ) → IsIssued (m.issued core) (of_core core m.records) (m.cores core).open_op
+pub what_is_issued : (f : Config) → 0 < f.line_words → (m : Machine) → Reachable f m → (core : ℕ) →
+    IsIssued (m.issued core) (of_core core m.records) (m.cores core).open_op
 what_is_issued f some m reached core =
     let follows = in_program f some m reached core in
-    record { in_order = follows; all = issued_is (of_core core m.records) (m.issued core) (m.cores core).open_op follows ((reachable_ok f some m reached).cores core).opened }
+    record {
+      in_order = follows;
+      all = issued_is (of_core core m.records) (m.issued core) (m.cores core).open_op
+          follows ((reachable_ok f some m reached).cores core).opened;
+    }

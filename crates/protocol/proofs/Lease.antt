@@ -8,7 +8,7 @@ use Rattle.protocol.specs.Machine.{Config, Timed, line_of, word_at}
 -- h t a is the value of the word a at the time t, by the records so far
 
 -- what the holder of a line's right has: its words are the values from wts on, and nothing of the line comes after rts
-pub record Standing (f : Config) (h : ℕ → Memory) (records : List Record) (l : ℕ) (s : Timed) : Type 0 where
+pub record Current (f : Config) (h : ℕ → Memory) (records : List Record) (l : ℕ) (s : Timed) : Type 0 where
   pub order : s.wts ≤ s.rts
   pub long : f.line_words ≤ length s.words
   pub value : (t a : ℕ) → line_of f a ≡ l → s.wts ≤ t → h t a ≡ word_at f s.words a
@@ -22,22 +22,38 @@ pub record Leased (f : Config) (h : ℕ → Memory) (l bound : ℕ) (s : Timed) 
   pub value : (t a : ℕ) → line_of f a ≡ l → s.wts ≤ t → t ≤ s.rts → h t a ≡ word_at f s.words a
 
 -- a lease under other values and another bound
-pub Leased-keeps : (f : Config) (h g : ℕ → Memory) (l b d : ℕ) (s : Timed) → ((t a : ℕ) → line_of f a ≡ l → t ≤ b → g t a ≡ h t a) → b ≤ d → Leased f h l b s → Leased f g l d s
+pub Leased-keeps : (f : Config) (h g : ℕ → Memory) (l b d : ℕ) (s : Timed) → ((t a : ℕ) → line_of f a ≡ l → t ≤ b →
+    g t a ≡ h t a) → b ≤ d → Leased f h l b s → Leased f g l d s
 Leased-keeps f h g l b d s same le c =
-    record { order = c.order; within = le_trans c.within le; long = c.long; value = λ t a on from to. same t a on (le_trans to c.within) ∙ c.value t a on from to }
+    record {
+      order = c.order;
+      within = le_trans c.within le;
+      long = c.long;
+      value =
+          λ t a on from to. same t a on (le_trans to c.within) ∙ c.value t a on from to;
+    }
 
 -- what stands may be handed out
-pub Leased-from_Standing : (f : Config) (h : ℕ → Memory) (records : List Record) (l : ℕ) (s : Timed) → Standing f h records l s → Leased f h l s.rts s
-Leased-from_Standing f h records l s c = record { order = c.order; within = (le_refl _); long = c.long; value = λ t a on from to. c.value t a on from }
+pub Leased-from_Current : (f : Config) (h : ℕ → Memory) (records : List Record) (l : ℕ) (s : Timed) →
+    Current f h records l s → Leased f h l s.rts s
+Leased-from_Current f h records l s c =
+    record { order = c.order; within = (le_refl _); long = c.long; value = λ t a on from to. c.value t a on from }
 
 -- and read longer
-pub Standing-raise : (f : Config) (h : ℕ → Memory) (records : List Record) (l : ℕ) (s : Timed) (rts : ℕ) → s.rts ≤ rts → Standing f h records l s → Standing f h records l (record s { rts = rts })
-Standing-raise f h records l s rts le c =
-    record { order = le_trans c.order le; long = c.long; value = c.value; past = each_map (λ r k on. le_trans (k on) le) records c.past }
+pub Current-raise : (f : Config) (h : ℕ → Memory) (records : List Record) (l : ℕ) (s : Timed) (rts : ℕ) →
+    s.rts ≤ rts → Current f h records l s → Current f h records l (record s { rts = rts })
+Current-raise f h records l s rts le c =
+    record {
+      order = le_trans c.order le;
+      long = c.long;
+      value = c.value;
+      past =
+          each_map (λ r k on. le_trans (k on) le) records c.past;
+    }
 
 -- it may be held to begin later
-pub Standing-fill : (f : Config) (h : ℕ → Memory) (records : List Record) (l : ℕ) (s : Timed) (t : ℕ) (words : List ℕ) → s.rts ≤ t → words ≡ s.words → Standing f h records l s → Standing f h records l (record { wts = t; rts = t; words = words })
-Standing-fill f h records l s t words le e c =
+pub Current-fill : (f : Config) (h : ℕ → Memory) (records : List Record) (l : ℕ) (s : Timed) (t : ℕ) (words : List ℕ) → s.rts ≤ t → words ≡ s.words → Current f h records l s → Current f h records l (record { wts = t; rts = t; words = words })
+Current-fill f h records l s t words le e c =
     record {
       order = (le_refl _);
       long = subst (λ (ws : List ℕ). f.line_words ≤ length ws) (sym e) c.long;
@@ -46,23 +62,28 @@ Standing-fill f h records l s t words le e c =
     }
 
 -- an equal version has equal words, so a lease of it may be read as long as what stands
-pub Leased-renew : (f : Config) (h : ℕ → Memory) (records : List Record) (l b : ℕ) (s c : Timed) (rts : ℕ) → Standing f h records l s → Leased f h l b c → c.wts ≡ s.wts → s.wts ≤ rts → Leased f h l rts (record c { rts = rts })
+pub Leased-renew : (f : Config) (h : ℕ → Memory) (records : List Record) (l b : ℕ) (s c : Timed) (rts : ℕ) →
+    Current f h records l s → Leased f h l b c → c.wts ≡ s.wts → s.wts ≤ rts →
+    Leased f h l rts (record c { rts = rts })
 Leased-renew f h records l b s c rts st le e long =
     record {
       order = omega arith;
       within = (le_refl _);
       long = le.long;
       value = λ t a on from to.
-          st.value t a on (omega arith) ∙ sym (st.value c.wts a on (omega arith)) ∙ le.value c.wts a on (le_refl _) le.order;
+          st.value t a on (omega arith) ∙ sym (st.value c.wts a on (omega arith))
+          ∙ le.value c.wts a on (le_refl _) le.order;
     }
 
 -- and what stands may be put on with its words
-pub Standing-upgrade : (f : Config) (h : ℕ → Memory) (records : List Record) (l b : ℕ) (s c : Timed) → Standing f h records l s → Leased f h l b c → c.wts ≡ s.wts → Standing f h records l (record c { rts = s.rts })
-Standing-upgrade f h records l b s c st le e =
+pub Current-upgrade : (f : Config) (h : ℕ → Memory) (records : List Record) (l b : ℕ) (s c : Timed) →
+    Current f h records l s → Leased f h l b c → c.wts ≡ s.wts → Current f h records l (record c { rts = s.rts })
+Current-upgrade f h records l b s c st le e =
     record {
       order = (let o = st.order in omega arith);
       long = le.long;
       value = λ t a on from.
-          st.value t a on (omega arith) ∙ sym (st.value c.wts a on (omega arith)) ∙ le.value c.wts a on (le_refl _) le.order;
+          st.value t a on (omega arith) ∙ sym (st.value c.wts a on (omega arith))
+          ∙ le.value c.wts a on (le_refl _) le.order;
       past = st.past;
     }

@@ -1,11 +1,14 @@
-use Rattle.std.proofs.Common.{◌≡◌, ◌≢◌, ℕ, ◌+◌, ◌<◌, ◌≤◌, Bool, true, false, eqb, List, [], ◌∷◌, Option, Some, IfSome, ◌⊎◌, inl, inr, refl, sym, ap, ◌∙◌, subst, arith, ⊎_elim}
+use Rattle.std.proofs.Common.{◌≡◌, ◌≢◌, ℕ, ◌+◌, ◌<◌, ◌≤◌, Bool, true, false, eqb, List, [], ◌∷◌, Option, Some, IfSome}
+use Rattle.std.proofs.Common.{◌⊎◌, inl, inr, refl, sym, ap, ◌∙◌, subst, arith, ⊎_elim}
 use Rattle.std.specs.List.{AllByRecursion as Each}
 use Rattle.std.proofs.lemmas.Bool.{cases_eq, cond-true, cond-false, eq-eqb, ne_eqb}
 use Rattle.physiological_order.specs.declared.operation.Record.{Record}
 use Rattle.physiological_order.specs.Order.{Memory}
-use Rattle.protocol.specs.Machine.{Config, Timed, Copy, Entry, Absent, Loading, Shared, Exclusive, Recalling, Storing, Message, ShReq, ExReq, ShRep, ExRep, RenewRep, UpgradeRep, FlushReq, WbReq, FlushRep, WbRep, DramLd, DramLdRep, DramSt, DramStRep, Line, line_of, with_at}
+use Rattle.protocol.specs.Machine.{Config, Timed, Copy, Entry, Absent, Loading, Shared, Exclusive, Recalling, Storing}
+use Rattle.protocol.specs.Machine.{Message, ShReq, ExReq, ShRep, ExRep, RenewRep, UpgradeRep, FlushReq, WbReq}
+use Rattle.protocol.specs.Machine.{FlushRep, WbRep, DramLd, DramLdRep, DramSt, DramStRep, Line, line_of, with_at}
 use Rattle.protocol.proofs.Bags.{tally}
-use Rattle.protocol.proofs.Lease.{Standing, Leased, Leased-keeps}
+use Rattle.protocol.proofs.Lease.{Current, Leased, Leased-keeps}
 
 -- where the right of a line is
 pub data Holder : Type 0 where
@@ -75,7 +78,8 @@ EntryOk s holder t dram Storing = (holder ≡ Bank) × (s.rts ≤ t)
 
 module _ (f : Config) (h : ℕ → Memory) (l : ℕ) where
   abbrev pub MessageOk : ℕ → Timed → (ℕ → Option Copy) → List ℕ → Message → Type 0
-  MessageOk top s copies dram (ShReq c p v) = NotOwned (copies c) × IfSome v (λ w. HasShared (copies c) (λ x. x.wts ≡ w))
+  MessageOk top s copies dram (ShReq c p v) =
+      NotOwned (copies c) × IfSome v (λ w. HasShared (copies c) (λ x. x.wts ≡ w))
   MessageOk top s copies dram (ExReq c v) = IfSome v (λ w. HasShared (copies c) (λ x. x.wts ≡ w))
   MessageOk top s copies dram (ShRep c x) = NotOwned (copies c) × Leased f h l top x
   MessageOk top s copies dram (ExRep c x) = x ≡ s
@@ -91,11 +95,13 @@ module _ (f : Config) (h : ℕ → Memory) (l : ℕ) where
   MessageOk top s copies dram DramStRep = dram ≡ s.words
 
   abbrev pub CopyOk : ℕ → Timed → Holder → ℕ → Copy → Type 0
-  CopyOk top s holder c copy = (copy.exclusive ≡ true → (holder ≡ At c) × (copy.line ≡ s) × (copy.written ≡ true → top < s.wts)) × (copy.exclusive ≡ false → Leased f h l top copy.line)
+  CopyOk top s holder c copy = (copy.exclusive ≡ true → (holder ≡ At c) × (copy.line ≡ s) ×
+      (copy.written ≡ true → top < s.wts)) × (copy.exclusive ≡ false → Leased f h l top copy.line)
 
   -- what holds of a line: s is what stands, and busy says of how many replies each core waits for
-  pub record LineOk (records : List Record) (busy : ℕ → ℕ) (t : ℕ) (x : Line) (s : Timed) (holder : Holder) : Type 0 where
-    pub standing : Standing f h records l s
+  pub record LineOk (records : List Record) (busy : ℕ → ℕ) (t : ℕ) (x : Line) (s : Timed)
+      (holder : Holder) : Type 0 where
+    pub current : Current f h records l s
     -- no lease that was handed out goes past it
     pub top : ℕ
     pub within : top ≤ s.rts
@@ -115,7 +121,8 @@ with_at_same g i x = cond-true (eqb i i) x (g i) (eq-eqb i i refl)
 pub with_at_other : {X : Type 0} (g : ℕ → X) (i : ℕ) (x : X) (j : ℕ) → j ≢ i → with_at g i x j ≡ g j
 with_at_other g i x j ne = cond-false (eqb j i) x (g j) (ne_eqb j i ne)
 
-pub with_at_cases : {X : Type 0} (P : ℕ → X → Type 0) (g : ℕ → X) (i : ℕ) (x : X) → P i x → ((j : ℕ) → j ≢ i → P j (g j)) → (j : ℕ) → P j (with_at g i x j)
+pub with_at_cases : {X : Type 0} (P : ℕ → X → Type 0) (g : ℕ → X) (i : ℕ) (x : X) → P i x →
+    ((j : ℕ) → j ≢ i → P j (g j)) → (j : ℕ) → P j (with_at g i x j)
 with_at_cases P g i x here there j =
     ⊎_elim
     (λ (e : j ≡ i). subst (λ (k : ℕ). P k (with_at g i x k)) (sym e) (subst (P i) (sym (with_at_same g i x)) here))
@@ -130,14 +137,26 @@ part a b (inr p) = (λ i. p, inr p)
 pub about_itself : (c : ℕ) → one_if (eqb c c) ≡ 1
 about_itself c = ap one_if (eq-eqb c c refl)
 
-module _ (f : Config) (h g : ℕ → Memory) (l top top' : ℕ) (s u : Timed) (xs ys : ℕ → Option Copy) (dram dram' : List ℕ)
+module _ (f : Config) (h g : ℕ → Memory) (l top top' : ℕ) (s u : Timed) (xs ys : ℕ → Option Copy)
+    (dram dram' : List ℕ)
     (same : (t a : ℕ) → line_of f a ≡ l → t ≤ top → g t a ≡ h t a) (bound : top ≤ top') where
-  message_keeps : (m : Message) → (right m ≡ 1 → s ≡ u) → (load m ≡ 1 → s.words ≡ u.words) → (store m ≡ 1 → (s.words ≡ u.words) × (dram' ≡ dram)) → ((c : ℕ) → about c m ≡ 1 → xs c ≡ ys c) → MessageOk f h l top s xs dram m → MessageOk f g l top' u ys dram' m
-  message_keeps (ShReq c p v) r d w b k = subst (λ (y : Option Copy). NotOwned y × IfSome v (λ n. HasShared y (λ x. x.wts ≡ n))) (b c (about_itself c)) k
-  message_keeps (ExReq c v) r d w b k = subst (λ (y : Option Copy). IfSome v (λ n. HasShared y (λ x. x.wts ≡ n))) (b c (about_itself c)) k
-  message_keeps (ShRep c x) r d w b k = (subst NotOwned (b c (about_itself c)) k.0, Leased-keeps f h g l top top' x same bound k.1)
+  message_keeps : (m : Message) → (right m ≡ 1 → s ≡ u) → (load m ≡ 1 → s.words ≡ u.words) →
+      (store m ≡ 1 → (s.words ≡ u.words) × (dram' ≡ dram)) → ((c : ℕ) → about c m ≡ 1 → xs c ≡ ys c) →
+      MessageOk f h l top s xs dram m → MessageOk f g l top' u ys dram' m
+  message_keeps (ShReq c p v) r d w b k =
+      subst (λ (y : Option Copy). NotOwned y × IfSome v (λ n. HasShared y (λ x. x.wts ≡ n))) (b c (about_itself c)) k
+  message_keeps (ExReq c v) r d w b k =
+      subst (λ (y : Option Copy). IfSome v (λ n. HasShared y (λ x. x.wts ≡ n))) (b c (about_itself c)) k
+  message_keeps (ShRep c x) r d w b k =
+      (subst NotOwned (b c (about_itself c)) k.0, Leased-keeps f h g l top top' x same bound k.1)
   message_keeps (ExRep c x) r d w b k = k ∙ r refl
-  message_keeps (RenewRep c n) r d w b k = (k.0, sym (b c (about_itself c)) ∙ k.1, k.2, Leased-keeps f h g l top top' (record (k.0.line) { rts = n }) same bound k.3)
+  message_keeps (RenewRep c n) r d w b k = (
+    k.0,
+    sym (b c (about_itself c)) ∙ k.1,
+    k.2,
+    Leased-keeps f h g l top top'
+        (record (k.0.line) { rts = n }) same bound k.3,
+  )
   message_keeps (UpgradeRep c n) r d w b k = (k.0, sym (b c (about_itself c)) ∙ k.1, k.2, k.3 ∙ r refl)
   message_keeps (FlushReq c) r d w b k = tt
   message_keeps (WbReq c n) r d w b k = tt
@@ -149,7 +168,10 @@ module _ (f : Config) (h g : ℕ → Memory) (l top top' : ℕ) (s u : Timed) (x
   message_keeps DramStRep r d w b k = (w refl).1 ∙ k ∙ (w refl).0
 
   -- messages stay as they should be where each thing that changes is none of theirs
-  pub messages_keep : (ms : List Message) → ((tally right ms ≡ 0) ⊎ (s ≡ u)) → ((tally load ms ≡ 0) ⊎ (s.words ≡ u.words)) → ((tally store ms ≡ 0) ⊎ ((s.words ≡ u.words) × (dram' ≡ dram))) → ((c : ℕ) → (tally (about c) ms ≡ 0) ⊎ (xs c ≡ ys c)) → Each (MessageOk f h l top s xs dram) ms → Each (MessageOk f g l top' u ys dram') ms
+  pub messages_keep : (ms : List Message) → ((tally right ms ≡ 0) ⊎ (s ≡ u)) →
+      ((tally load ms ≡ 0) ⊎ (s.words ≡ u.words)) → ((tally store ms ≡ 0) ⊎ ((s.words ≡ u.words) × (dram' ≡ dram))) →
+      ((c : ℕ) → (tally (about c) ms ≡ 0) ⊎ (xs c ≡ ys c)) → Each (MessageOk f h l top s xs dram) ms →
+      Each (MessageOk f g l top' u ys dram') ms
   messages_keep [] r d w b k = tt
   messages_keep (m ∷ ms) r d w b k =
       let r' = part (right m) (tally right ms) r in
@@ -160,6 +182,16 @@ module _ (f : Config) (h g : ℕ → Memory) (l top top' : ℕ) (s u : Timed) (x
       )
 
   -- so do copies
-  pub copy_keeps : (a b : Holder) (c : ℕ) (copy : Copy) → ((a ≡ At c → ⊥) ⊎ ((s ≡ u) × (a ≡ b) × (top' ≡ top))) → CopyOk f h l top s a c copy → CopyOk f g l top' u b c copy
-  copy_keeps a b c copy (inl never) k = (λ e. absurd (never (k.0 e).0), λ e. Leased-keeps f h g l top top' copy.line same bound (k.1 e))
-  copy_keeps a b c copy (inr e) k = (λ x. (sym e.1 ∙ (k.0 x).0, (k.0 x).1 ∙ e.0, λ w. subst (λ (y : Timed). top' < y.wts) e.0 (let z = (k.0 x).2 w in let q = e.2 in omega arith)), λ x. Leased-keeps f h g l top top' copy.line same bound (k.1 x))
+  pub copy_keeps : (a b : Holder) (c : ℕ) (copy : Copy) → ((a ≡ At c → ⊥) ⊎ ((s ≡ u) × (a ≡ b) × (top' ≡ top))) →
+      CopyOk f h l top s a c copy → CopyOk f g l top' u b c copy
+  copy_keeps a b c copy (inl never) k =
+      (λ e. absurd (never (k.0 e).0), λ e. Leased-keeps f h g l top top' copy.line same bound (k.1 e))
+  copy_keeps a b c copy (inr e) k = (
+    λ x. (
+      sym e.1 ∙ (k.0 x).0,
+      (k.0 x).1 ∙ e.0,
+      λ w. subst (λ (y : Timed). top' < y.wts) e.0 (let z =
+          (k.0 x).2 w in let q = e.2 in omega arith),
+    ),
+    λ x. Leased-keeps f h g l top top' copy.line same bound (k.1 x),
+  )

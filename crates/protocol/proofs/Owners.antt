@@ -1,8 +1,10 @@
-use Rattle.std.proofs.Common.{◌≡◌, ◌≢◌, ℕ, zero, suc, ◌+◌, ◌<◌, ◌≤◌, Bool, true, false, cond, List, [], ◌∷◌, Option, Some, None, refl, sym, ap, ap₂, ◌∙◌, arith, ⊎_elim}
+use Rattle.std.proofs.Common.{◌≡◌, ◌≢◌, ℕ, zero, suc, ◌+◌, ◌<◌, ◌≤◌, Bool, true, false, cond, List, [], ◌∷◌, Option}
+use Rattle.std.proofs.Common.{Some, None, refl, sym, ap, ap₂, ◌∙◌, arith, ⊎_elim}
 use Rattle.std.proofs.lemmas.Bool.{cases_eq}
 use Rattle.physiological_order.specs.declared.operation.Record.{Record}
 use Rattle.physiological_order.specs.Order.{Memory}
-use Rattle.protocol.specs.Machine.{Config, Timed, Copy, Message, Line, Machine, Reachable, owns, owned_below, carries_ownership, owners_in, owners}
+use Rattle.protocol.specs.Machine.{Config, Timed, Copy, Message, Line, Machine, Reachable, owns, owned_below}
+use Rattle.protocol.specs.Machine.{carries_ownership, owners_in, owners}
 use Rattle.protocol.proofs.Bags.{tally}
 use Rattle.protocol.proofs.Lines.{Holder, Bank, At, Flying, right, LineOk}
 use Rattle.protocol.proofs.Headline.{reachable_ok}
@@ -27,11 +29,13 @@ one_below : (copies : ℕ → Option Copy) (c n : ℕ) → ((d : ℕ) → d ≢ 
 one_below copies c zero h = omega arith
 one_below copies c (suc n) h =
     ⊎_elim
-    (λ (e : n ≡ c). let z = none_below copies n (λ d lt. h d (λ q. absurd (omega arith))) in let o = owns_at_most (copies n) in omega arith)
+    (λ (e : n ≡ c). let z = none_below copies n (λ d lt. h d (λ q. absurd (omega arith))) in
+    let o = owns_at_most (copies n) in omega arith)
     (λ (ne : n ≡ c → ⊥). let z = h n ne in let i = one_below copies c n h in omega arith)
     (cases_eq n c)
 
-module _ (f : Config) (h : ℕ → Memory) (l : ℕ) (records : List Record) (busy : ℕ → ℕ) (t : ℕ) (x : Line) (s : Timed) where
+module _ (f : Config) (h : ℕ → Memory) (l : ℕ) (records : List Record) (busy : ℕ → ℕ) (t : ℕ)
+    (x : Line) (s : Timed) where
   owns_none : (b : Holder) → LineOk f h l records busy t x s b → (d : ℕ) → b ≢ At d → owns (x.copies d) ≡ 0
   owns_none b k d ne = go (x.copies d) refl
     where
@@ -44,11 +48,16 @@ module _ (f : Config) (h : ℕ → Memory) (l : ℕ) (records : List Record) (bu
       go (Some copy) e = shared copy copy.exclusive refl e
 
   one_owner : (b : Holder) (cores : ℕ) → LineOk f h l records busy t x s b → owners cores x ≤ 1
-  one_owner Bank cores k = let r = rights-tally x.messages ∙ k.rights in let z = none_below x.copies cores (λ d lt. owns_none Bank k d (λ e. cc)) in omega arith
-  one_owner (At c) cores k = let r = rights-tally x.messages ∙ k.rights in let z = one_below x.copies c cores (λ d ne. owns_none (At c) k d (λ e. let q : c ≡ d = cc in ne (sym q))) in omega arith
-  one_owner Flying cores k = let r = rights-tally x.messages ∙ k.rights in let z = none_below x.copies cores (λ d lt. owns_none Flying k d (λ e. cc)) in omega arith
+  one_owner Bank cores k = let r = rights-tally x.messages ∙ k.rights in let z =
+      none_below x.copies cores (λ d lt. owns_none Bank k d (λ e. cc)) in omega arith
+  one_owner (At c) cores k = let r = rights-tally x.messages ∙ k.rights in
+      let z = one_below x.copies c cores (λ d ne. owns_none (At c) k d (λ e. let q : c ≡ d = cc in ne (sym q))) in
+      omega arith
+  one_owner Flying cores k = let r = rights-tally x.messages ∙ k.rights in let z =
+      none_below x.copies cores (λ d lt. owns_none Flying k d (λ e. cc)) in omega arith
 
-pub at_most_one : (f : Config) → 0 < f.line_words → (m : Machine) → Reachable f m → (cores l : ℕ) → owners cores (m.lines l) ≤ 1
+pub at_most_one : (f : Config) → 0 < f.line_words → (m : Machine) → Reachable f m → (cores l : ℕ) →
+    owners cores (m.lines l) ≤ 1
 at_most_one f good m r cores l =
     let k = (reachable_ok f good m r).lines l in
     one_owner f _ l m.records _ _ (m.lines l) k.0 k.1 cores k.2

@@ -1,6 +1,7 @@
 -- The protocol by lines: for each line its entry, copies, messages and DRAM, for each core its time and open operation;
 -- every change that the protocol allows, and what is reached from the opening.
-use Rattle.std.specs.Prelude.{◌≡◌, ℕ, zero, suc, ◌+◌, ◌*◌, ◌/◌, ◌%◌, ◌<◌, ◌≤◌, ◌==◌, max, Bool, true, false, ◌&&◌, List, [], ◌∷◌, ◌++◌, length, Option, Some, None, if◌then◌else◌, slice_index, slice_set}
+use Rattle.std.specs.Prelude.{◌≡◌, ℕ, zero, suc, ◌+◌, ◌*◌, ◌/◌, ◌%◌, ◌<◌, ◌≤◌, ◌==◌, max, Bool, true, false, ◌&&◌}
+use Rattle.std.specs.Prelude.{List, [], ◌∷◌, ◌++◌, length, Option, Some, None, if◌then◌else◌, slice_index, slice_set}
 use Rattle.std.specs.List.Sorted.{IsPermutation}
 use Rattle.physiological_order.specs.declared.operation.Op.{Op}
 use Rattle.physiological_order.specs.declared.operation.Op.TheVariants.{Load, Store, Swap}
@@ -89,46 +90,72 @@ version_of (Some c) = Some c.line.wts
 -- on the line.
 -- mts is the memory time of the line's bank before and after
 pub data LineTransition (lease : ℕ) (pinned : ℕ → Type 0) : ℕ → Line → ℕ → Line → Type 0 where
-  evict_shared : {t : ℕ} {x : Line} (c : ℕ) (copy : Copy) → (pinned c → Prim.⊥) → x.copies c ≡ Some copy → copy.exclusive ≡ false →
+  evict_shared : {t : ℕ} {x : Line} (c : ℕ) (copy : Copy) → (pinned c → Prim.⊥) → x.copies c ≡ Some copy →
+      copy.exclusive ≡ false →
       LineTransition lease pinned t x t (record x { copies = with_at x.copies c None })
-  evict_exclusive : {t : ℕ} {x : Line} (c : ℕ) (copy : Copy) → (pinned c → Prim.⊥) → x.copies c ≡ Some copy → copy.exclusive ≡ true →
-      LineTransition lease pinned t x t (record x { copies = with_at x.copies c None; messages = FlushRep c copy.line ∷ x.messages })
+  evict_exclusive : {t : ℕ} {x : Line} (c : ℕ) (copy : Copy) → (pinned c → Prim.⊥) → x.copies c ≡ Some copy →
+      copy.exclusive ≡ true →
+      LineTransition lease pinned t x t (record x {
+        copies = with_at x.copies c None;
+        messages =
+            FlushRep c copy.line ∷ x.messages;
+      })
   dropped : {t : ℕ} {x : Line} (c : ℕ) (rest : List Message) → IsPermutation x.messages (FlushReq c ∷ rest) →
       LineTransition lease pinned t x t (record x { messages = rest })
-  wb_dropped : {t : ℕ} {x : Line} (c until : ℕ) (rest : List Message) → IsPermutation x.messages (WbReq c until ∷ rest) →
+  wb_dropped : {t : ℕ} {x : Line} (c until : ℕ) (rest : List Message) → IsPermutation x.messages
+      (WbReq c until ∷ rest) →
       LineTransition lease pinned t x t (record x { messages = rest })
-  flushed : {t : ℕ} {x : Line} (c : ℕ) (rest : List Message) (copy : Copy) → IsPermutation x.messages (FlushReq c ∷ rest) → (pinned c → Prim.⊥) →
+  flushed : {t : ℕ} {x : Line} (c : ℕ) (rest : List Message) (copy : Copy) → IsPermutation x.messages
+      (FlushReq c ∷ rest) → (pinned c → Prim.⊥) →
       x.copies c ≡ Some copy → copy.exclusive ≡ true →
-      LineTransition lease pinned t x t (record x { copies = with_at x.copies c None; messages = FlushRep c copy.line ∷ rest })
-  written_back : {t : ℕ} {x : Line} (c until : ℕ) (rest : List Message) (copy : Copy) → IsPermutation x.messages (WbReq c until ∷ rest) → (pinned c → Prim.⊥) →
+      LineTransition lease pinned t x t (record x {
+        copies = with_at x.copies c None;
+        messages =
+            FlushRep c copy.line ∷ rest;
+      })
+  written_back : {t : ℕ} {x : Line} (c until : ℕ) (rest : List Message) (copy : Copy) → IsPermutation x.messages
+      (WbReq c until ∷ rest) → (pinned c → Prim.⊥) →
       x.copies c ≡ Some copy → copy.exclusive ≡ true →
-      LineTransition lease pinned t x t (let line = record (copy.line) { rts = max (max copy.line.rts (copy.line.wts + lease)) until } in
+      LineTransition lease pinned t x t (let line =
+      record (copy.line) { rts = max (max copy.line.rts (copy.line.wts + lease)) until } in
       record x { copies = with_at x.copies c (Some (record { exclusive = false; written = false; line = line })); messages = WbRep c line ∷ rest })
   -- the bank. A request that starts a load or a recall stays
-  load_starts : {t : ℕ} {x : Line} → x.entry ≡ Absent → LineTransition lease pinned t x t (record x { entry = Loading; messages = DramLd ∷ x.messages })
-  renewed : {t : ℕ} {x : Line} (c pts : ℕ) (dirty : Bool) (line : Timed) (rest : List Message) → x.entry ≡ Shared dirty line →
+  load_starts : {t : ℕ} {x : Line} → x.entry ≡ Absent → LineTransition lease pinned t x t
+      (record x { entry = Loading; messages = DramLd ∷ x.messages })
+  renewed : {t : ℕ} {x : Line} (c pts : ℕ) (dirty : Bool) (line : Timed) (rest : List Message) →
+      x.entry ≡ Shared dirty line →
       IsPermutation x.messages (ShReq c pts (Some line.wts) ∷ rest) →
       LineTransition lease pinned t x t (let rts = max (max line.rts (line.wts + lease)) (pts + lease) in
       record x { entry = Shared dirty (record line { rts = rts }); messages = RenewRep c rts ∷ rest })
-  leased : {t : ℕ} {x : Line} (c pts : ℕ) (version : Option ℕ) (dirty : Bool) (line : Timed) (rest : List Message) → x.entry ≡ Shared dirty line →
+  leased : {t : ℕ} {x : Line} (c pts : ℕ) (version : Option ℕ) (dirty : Bool) (line : Timed) (rest : List Message) →
+      x.entry ≡ Shared dirty line →
       IsPermutation x.messages (ShReq c pts version ∷ rest) →
-      LineTransition lease pinned t x t (let leased = record line { rts = max (max line.rts (line.wts + lease)) (pts + lease) } in
+      LineTransition lease pinned t x t (let leased =
+      record line { rts = max (max line.rts (line.wts + lease)) (pts + lease) } in
       record x { entry = Shared dirty leased; messages = ShRep c leased ∷ rest })
   upgraded : {t : ℕ} {x : Line} (c : ℕ) (dirty : Bool) (line : Timed) (rest : List Message) → x.entry ≡ Shared dirty line →
       IsPermutation x.messages (ExReq c (Some line.wts) ∷ rest) →
       LineTransition lease pinned t x t (record x { entry = Exclusive c; messages = UpgradeRep c line.rts ∷ rest })
-  granted : {t : ℕ} {x : Line} (c : ℕ) (version : Option ℕ) (dirty : Bool) (line : Timed) (rest : List Message) → x.entry ≡ Shared dirty line →
+  granted : {t : ℕ} {x : Line} (c : ℕ) (version : Option ℕ) (dirty : Bool) (line : Timed) (rest : List Message) →
+      x.entry ≡ Shared dirty line →
       IsPermutation x.messages (ExReq c version ∷ rest) →
       LineTransition lease pinned t x t (record x { entry = Exclusive c; messages = ExRep c line ∷ rest })
   wb_starts : {t : ℕ} {x : Line} (owner until : ℕ) → x.entry ≡ Exclusive owner →
-      LineTransition lease pinned t x t (record x { entry = Recalling owner; messages = WbReq owner until ∷ x.messages })
+      LineTransition lease pinned t x t (record x {
+        entry = Recalling owner;
+        messages =
+            WbReq owner until ∷ x.messages;
+      })
   flush_starts : {t : ℕ} {x : Line} (owner : ℕ) → x.entry ≡ Exclusive owner →
       LineTransition lease pinned t x t (record x { entry = Recalling owner; messages = FlushReq owner ∷ x.messages })
-  flush_returns : {t : ℕ} {x : Line} (c : ℕ) (line : Timed) (rest : List Message) → IsPermutation x.messages (FlushRep c line ∷ rest) →
+  flush_returns : {t : ℕ} {x : Line} (c : ℕ) (line : Timed) (rest : List Message) → IsPermutation x.messages
+      (FlushRep c line ∷ rest) →
       LineTransition lease pinned t x t (record x { entry = Shared true line; messages = rest })
-  wb_returns : {t : ℕ} {x : Line} (c : ℕ) (line : Timed) (rest : List Message) → IsPermutation x.messages (WbRep c line ∷ rest) →
+  wb_returns : {t : ℕ} {x : Line} (c : ℕ) (line : Timed) (rest : List Message) → IsPermutation x.messages
+      (WbRep c line ∷ rest) →
       LineTransition lease pinned t x t (record x { entry = Shared true line; messages = rest })
-  loaded : {t : ℕ} {x : Line} (words : List ℕ) (rest : List Message) → IsPermutation x.messages (DramLdRep words ∷ rest) →
+  loaded : {t : ℕ} {x : Line} (words : List ℕ) (rest : List Message) → IsPermutation x.messages
+      (DramLdRep words ∷ rest) →
       LineTransition lease pinned t x t (record x { entry = Shared false (record { wts = t; rts = t; words = words }); messages = rest })
   stored : {t : ℕ} {x : Line} (rest : List Message) → IsPermutation x.messages (DramStRep ∷ rest) →
       LineTransition lease pinned t x t (record x { entry = Absent; messages = rest })
@@ -137,22 +164,38 @@ pub data LineTransition (lease : ℕ) (pinned : ℕ → Type 0) : ℕ → Line �
   evict_dirty : {t : ℕ} {x : Line} (line : Timed) → x.entry ≡ Shared true line →
       LineTransition lease pinned t x (max t line.rts) (record x { entry = Storing; messages = DramSt line.words ∷ x.messages })
   -- messages are a bag
-  shuffled : {t : ℕ} {x : Line} (messages : List Message) → IsPermutation x.messages messages → LineTransition lease pinned t x t (record x { messages = messages })
+  shuffled : {t : ℕ} {x : Line} (messages : List Message) → IsPermutation x.messages messages →
+      LineTransition lease pinned t x t (record x { messages = messages })
   -- DRAM
   dram_loads : {t : ℕ} {x : Line} (rest : List Message) → IsPermutation x.messages (DramLd ∷ rest) →
       LineTransition lease pinned t x t (record x { messages = DramLdRep x.dram ∷ rest })
-  dram_stores : {t : ℕ} {x : Line} (words : List ℕ) (rest : List Message) → IsPermutation x.messages (DramSt words ∷ rest) →
+  dram_stores : {t : ℕ} {x : Line} (words : List ℕ) (rest : List Message) → IsPermutation x.messages
+      (DramSt words ∷ rest) →
       LineTransition lease pinned t x t (record x { dram = words; messages = DramStRep ∷ rest })
 
 -- a reply that comes to a core with a request out
 pub data Answers (c : ℕ) : Line → Line → Type 0 where
   shared : {x : Line} (line : Timed) (rest : List Message) → IsPermutation x.messages (ShRep c line ∷ rest) →
-      Answers c x (record x { copies = with_at x.copies c (Some (record { exclusive = false; written = false; line = line })); messages = rest })
+      Answers c x (record x {
+        copies =
+            with_at x.copies c (Some (record { exclusive = false; written = false; line = line }));
+        messages = rest;
+      })
   exclusive : {x : Line} (line : Timed) (rest : List Message) → IsPermutation x.messages (ExRep c line ∷ rest) →
-      Answers c x (record x { copies = with_at x.copies c (Some (record { exclusive = true; written = false; line = line })); messages = rest })
-  renews : {x : Line} (rts : ℕ) (copy : Copy) (rest : List Message) → IsPermutation x.messages (RenewRep c rts ∷ rest) → x.copies c ≡ Some copy →
-      Answers c x (record x { copies = with_at x.copies c (Some (record copy { line = record (copy.line) { rts = rts } })); messages = rest })
-  upgrades : {x : Line} (rts : ℕ) (copy : Copy) (rest : List Message) → IsPermutation x.messages (UpgradeRep c rts ∷ rest) → x.copies c ≡ Some copy →
+      Answers c x (record x {
+        copies =
+            with_at x.copies c (Some (record { exclusive = true; written = false; line = line }));
+        messages = rest;
+      })
+  renews : {x : Line} (rts : ℕ) (copy : Copy) (rest : List Message) → IsPermutation x.messages (RenewRep c rts ∷ rest)
+      → x.copies c ≡ Some copy →
+      Answers c x (record x {
+        copies =
+            with_at x.copies c (Some (record copy { line = record (copy.line) { rts = rts } }));
+        messages = rest;
+      })
+  upgrades : {x : Line} (rts : ℕ) (copy : Copy) (rest : List Message) → IsPermutation x.messages
+      (UpgradeRep c rts ∷ rest) → x.copies c ≡ Some copy →
       Answers c x (record x { copies = with_at x.copies c (Some (record { exclusive = true; written = false; line = record (copy.line) { rts = rts } })); messages = rest })
 
 -- what a core has doesn't serve its operation
@@ -183,10 +226,28 @@ pub data Uses (f : Config) (pts : ℕ) (copy : Copy) : Op → Option ℕ → ℕ
       (record copy { line = record (copy.line) { rts = max (max pts copy.line.wts) copy.line.rts } })
   store_own : (a v : ℕ) → copy.exclusive ≡ true →
       Uses f pts copy (Store a v) None (write_time f pts copy)
-      (let ts = write_time f pts copy in record copy { written = true; line = record { wts = ts; rts = ts; words = slice_set copy.line.words (a % f.line_words) v } })
+      (let ts = write_time f pts copy in
+      record copy {
+        written = true;
+        line = record {
+          wts = ts;
+          rts = ts;
+          words =
+              slice_set copy.line.words (a % f.line_words) v;
+        };
+      })
   swap_own : (a v : ℕ) → copy.exclusive ≡ true →
       Uses f pts copy (Swap a v) (Some (word_at f copy.line.words a)) (write_time f pts copy)
-      (let ts = write_time f pts copy in record copy { written = true; line = record { wts = ts; rts = ts; words = slice_set copy.line.words (a % f.line_words) v } })
+      (let ts = write_time f pts copy in
+      record copy {
+        written = true;
+        line = record {
+          wts = ts;
+          rts = ts;
+          words =
+              slice_set copy.line.words (a % f.line_words) v;
+        };
+      })
 
 -- the open operation of a core is on the line
 abbrev pub IsPinned : Config → (ℕ → Core) → ℕ → ℕ → Type 0
@@ -195,23 +256,45 @@ IsPinned f cores l c = (op : Op) × ((cores c).open_op ≡ Some op) × (line_of 
 -- one accepted change
 pub data Transition (f : Config) : Machine → Machine → Type 0 where
   issue : {m : Machine} (c : ℕ) (op : Op) → (m.cores c).open_op ≡ None →
-      Transition f m (record m { cores = with_at m.cores c (record (m.cores c) { open_op = Some op }); issued = with_at m.issued c (m.issued c ++ op ∷ []) })
+      Transition f m (record m {
+        cores = with_at m.cores c (record (m.cores c) { open_op = Some op });
+        issued =
+            with_at m.issued c (m.issued c ++ op ∷ []);
+      })
   advance : {m : Machine} (c : ℕ) →
       Transition f m (record m { cores = with_at m.cores c (record (m.cores c) { pts = (m.cores c).pts + 1 }) })
   ask : {m : Machine} (c : ℕ) (op : Op) (y : Line) → (m.cores c).open_op ≡ Some op → (m.cores c).out ≡ false →
       Asks c (m.cores c).pts op (m.lines (line_of f (address op))) y →
-      Transition f m (record m { cores = with_at m.cores c (record (m.cores c) { out = true }); lines = with_at m.lines (line_of f (address op)) y })
+      Transition f m (record m {
+        cores = with_at m.cores c (record (m.cores c) { out = true });
+        lines =
+            with_at m.lines (line_of f (address op)) y;
+      })
   answer : {m : Machine} (c l : ℕ) (y : Line) → Answers c (m.lines l) y →
-      Transition f m (record m { cores = with_at m.cores c (record (m.cores c) { out = false }); lines = with_at m.lines l y })
-  complete : {m : Machine} (c : ℕ) (op : Op) (copy new : Copy) (received : Option ℕ) (ts : ℕ) → (m.cores c).open_op ≡ Some op → (m.cores c).out ≡ false →
+      Transition f m (record m {
+        cores = with_at m.cores c (record (m.cores c) { out = false });
+        lines =
+            with_at m.lines l y;
+      })
+  complete : {m : Machine} (c : ℕ) (op : Op) (copy new : Copy) (received : Option ℕ) (ts : ℕ) →
+      (m.cores c).open_op ≡ Some op → (m.cores c).out ≡ false →
       (m.lines (line_of f (address op))).copies c ≡ Some copy → Uses f (m.cores c).pts copy op received ts new →
       Transition f m (let l = line_of f (address op) in
       record m {
         cores = with_at m.cores c (record { pts = ts; open_op = None; out = false });
         lines = with_at m.lines l (record (m.lines l) { copies = with_at ((m.lines l).copies) c (Some new) });
-        records = m.records ++ record { core = c; place = length (of_core c m.records); op = op; received = received; ts = ts; number = length m.records } ∷ [];
+        records = m.records ++ record {
+          core = c;
+          place = length (of_core c m.records);
+          op = op;
+          received =
+              received;
+          ts = ts;
+          number = length m.records;
+        } ∷ [];
       })
-  move : {m : Machine} (l t : ℕ) (y : Line) → LineTransition f.lease (IsPinned f m.cores l) (m.mts (l % f.banks)) (m.lines l) t y →
+  move : {m : Machine} (l t : ℕ) (y : Line) → LineTransition f.lease (IsPinned f m.cores l)
+      (m.mts (l % f.banks)) (m.lines l) t y →
       Transition f m (record m { mts = with_at m.mts (l % f.banks) t; lines = with_at m.lines l y })
 
 -- how many replies a core waits for on a line: one where its open operation is on it and its request is out
@@ -237,7 +320,8 @@ opened pts mts drams =
     }
 
 pub data Reachable (f : Config) : Machine → Type 0 where
-  at_first : (pts mts : ℕ → ℕ) (drams : ℕ → List ℕ) → ((l : ℕ) → mts (l % f.banks) ≡ f.opening_time) → OpensWith f drams → Reachable f (opened pts mts drams)
+  at_first : (pts mts : ℕ → ℕ) (drams : ℕ → List ℕ) → ((l : ℕ) → mts (l % f.banks) ≡ f.opening_time) →
+      OpensWith f drams → Reachable f (opened pts mts drams)
   goes_on : {m n : Machine} → Reachable f m → Transition f m n → Reachable f n
 
 -- the rights of a line: Exclusive copies of the first n cores, and grants and returns in flight
@@ -299,7 +383,8 @@ stored_words (DramSt w ∷ ms) = Some w
 stored_words (_ ∷ ms) = stored_words ms
 
 abbrev pub coherent_words : ℕ → Line → List ℕ
-coherent_words cores x = or_else (owner_words x.copies cores) (or_else (granted_words x.copies x.messages) (or_else (entry_words x.entry) (or_else (stored_words x.messages) x.dram)))
+coherent_words cores x = or_else (owner_words x.copies cores) (or_else (granted_words x.copies x.messages)
+    (or_else (entry_words x.entry) (or_else (stored_words x.messages) x.dram)))
 
 abbrev pub coherent : Config → ℕ → Machine → ℕ → ℕ
 coherent f cores m a = word_at f (coherent_words cores (m.lines (line_of f a))) a

@@ -12,7 +12,8 @@ ghost use Rattle.protocol.specs.Machine.{Config, Machine, Reachable, owners, coh
 /// arrangement leaves; an operation whose request is out is not served by the
 /// copy that its core has; and every message in flight has a case in the table of the part that it goes to.
 pub fn every_reached_machine_is_consistent()
-    ensures legal { (config : Config) (m : Machine) → 0 < config.line_words → Reachable config m → Legal config.opening m.issued m.records }
+    ensures legal { (config : Config) (m : Machine) → 0 < config.line_words → Reachable config m →
+        Legal config.opening m.issued m.records }
     ensures issued { (config : Config) (m : Machine) → 0 < config.line_words → Reachable config m → (core : ℕ) →
         IsIssued (m.issued core) (of_core core m.records) (m.cores core).open_op }
     ensures owners { (config : Config) (m : Machine) → 0 < config.line_words → Reachable config m → (cores line : ℕ) →

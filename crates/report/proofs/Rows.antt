@@ -6,13 +6,16 @@ use Rattle.machine_table.specs.Machine.{Machine}
 use Rattle.machine_theorem.specs.Coherence.{coherent}
 use Rattle.report.specs.Runs.{started, threads_from, values_from}
 
-thread_behind : (test : Litmus) (start n : ℕ) → threads_from test start n ++ started test (start + n) ∷ [] ≡ threads_from test start (suc n)
+thread_behind : (test : Litmus) (start n : ℕ) → threads_from test start n ++ started test (start + n) ∷ [] ≡
+    threads_from test start (suc n)
 thread_behind test start zero = ap (λ k. started test k ∷ []) (omega arith)
 thread_behind test start (suc n) =
     ap (λ (xs : List Thread). started test start ∷ xs)
-    (ap (λ k. threads_from test (start + 1) n ++ started test k ∷ []) (omega arith) ∙ thread_behind test (start + 1) n)
+    (ap (λ k. threads_from test (start + 1) n ++ started test k ∷ []) (omega arith)
+    ∙ thread_behind test (start + 1) n)
 
-value_behind : (m : Machine) (start n : ℕ) → values_from m start n ++ coherent m (start + n) ∷ [] ≡ values_from m start (suc n)
+value_behind : (m : Machine) (start n : ℕ) → values_from m start n ++ coherent m (start + n) ∷ [] ≡
+    values_from m start (suc n)
 value_behind m start zero = ap (λ k. coherent m k ∷ []) (omega arith)
 value_behind m start (suc n) =
     ap (λ (xs : List ℕ). coherent m start ∷ xs)

@@ -1,5 +1,6 @@
 -- The end state of a run that is all done is an outcome of the sequential machine.
-use Rattle.std.proofs.Common.{◌≡◌, ℕ, zero, suc, ◌+◌, ◌<◌, List, [], ◌∷◌, length, map, replicate, Option, Some, None, IfSome, refl, sym, ap, subst, ◌∙◌, arith}
+use Rattle.std.proofs.Common.{◌≡◌, ℕ, zero, suc, ◌+◌, ◌<◌, List, [], ◌∷◌, length, map, replicate, Option, Some, None}
+use Rattle.std.proofs.Common.{IfSome, refl, sym, ap, subst, ◌∙◌, arith}
 use Rattle.std.specs.List.{slice_get, AllByRecursion}
 use Rattle.std.specs.Prelude.{slice_index_or}
 use Rattle.std.specs.FinMap.{empty}
@@ -25,15 +26,19 @@ use Rattle.report.specs.Runs.{started, state_at, thread_acts, threads_from, valu
 
 -- ---- rows of threads, values and cores, by number
 
-thread_from : (test : Litmus) (start n k : ℕ) → k < n → slice_get (threads_from test start n) k ≡ Some (started test (start + k))
+thread_from : (test : Litmus) (start n k : ℕ) → k < n → slice_get (threads_from test start n) k ≡ Some
+    (started test (start + k))
 thread_from test start zero k below = absurd (omega (arith, below))
 thread_from test start (suc n) zero below = ap (λ i. Some (started test i)) (omega arith)
-thread_from test start (suc n) (suc k) below = thread_from test (start + 1) n k (omega (arith, below)) ∙ ap (λ i. Some (started test i)) (omega arith)
+thread_from test start (suc n) (suc k) below =
+    thread_from test (start + 1) n k (omega (arith, below)) ∙ ap (λ i. Some (started test i)) (omega arith)
 
-value_from : (m : Machine) (start n k : ℕ) → k < n → slice_get (values_from m start n) k ≡ Some (coherent m (start + k))
+value_from : (m : Machine) (start n k : ℕ) → k < n → slice_get (values_from m start n) k ≡ Some
+    (coherent m (start + k))
 value_from m start zero k below = absurd (omega (arith, below))
 value_from m start (suc n) zero below = ap (λ i. Some (coherent m i)) (omega arith)
-value_from m start (suc n) (suc k) below = value_from m (start + 1) n k (omega (arith, below)) ∙ ap (λ i. Some (coherent m i)) (omega arith)
+value_from m start (suc n) (suc k) below =
+    value_from m (start + 1) n k (omega (arith, below)) ∙ ap (λ i. Some (coherent m i)) (omega arith)
 
 -- no core opens with an operation
 nothing_open : (config : Config) (start n k : ℕ) → open_op_of (slice_get (cores_from config start n) k) ≡ None
@@ -51,44 +56,57 @@ does : (t : Thread) (rs : List Record) (last : Thread) → Performs thread_acts 
 does t [] last is = is
 does t (r ∷ rs) last p = (p.0, does (done_with t r.received) rs last p.1)
 
-next_there : (threads : List Thread) (core : ℕ) (t : Thread) → slice_get threads core ≡ Some t → next_in thread_acts threads core ≡ None → next_of t ≡ None
-next_there threads core t here none = ap (λ (o : Option Thread). Rattle.worker_driver.specs.Acts.next_of thread_acts o) (sym here) ∙ none
+next_there : (threads : List Thread) (core : ℕ) (t : Thread) → slice_get threads core ≡ Some t →
+    next_in thread_acts threads core ≡ None → next_of t ≡ None
+next_there threads core t here none =
+    ap (λ (o : Option Thread). Rattle.worker_driver.specs.Acts.next_of thread_acts o) (sym here) ∙ none
 
 -- ---- a run of a test
 
 module _ (test : Litmus) (config : Config) (m : Machine) (threads : List Thread) (cores : config.cores ≡ test.threads)
-    (served : AreServed thread_acts (at_start config (words_opened test.items empty)) m (threads_from test 0 test.threads) threads) where
+    (served : AreServed thread_acts (at_start config (words_opened test.items empty)) m
+    (threads_from test 0 test.threads) threads) where
   abbrev pub issued_to : ℕ → List Op
   issued_to core = slice_index_or m.issued core []
 
-  of_thread : (t : ℕ) → t < test.threads → IsServed thread_acts t (at_start config (words_opened test.items empty)) m served.added (threads_from test 0 test.threads) threads
+  of_thread : (t : ℕ) → t < test.threads → IsServed thread_acts t (at_start config (words_opened test.items empty)) m
+      served.added (threads_from test 0 test.threads) threads
   of_thread t below = served.each t (subst (λ n. t < n) (sym cores) below) (nothing_open config 0 config.cores t)
 
   -- each thread was performed to its end
-  pub performed : ((core : ℕ) → core < config.cores → (open_op m core ≡ None) × (next_in thread_acts threads core ≡ None)) → ArePerformed test issued_to m.records threads
+  pub performed : ((core : ℕ) → core < config.cores → (open_op m core ≡ None) ×
+      (next_in thread_acts threads core ≡ None)) → ArePerformed test issued_to m.records threads
   performed done = record {
-    there = subst (AllByRecursion (λ (r : Record). r.core < test.threads)) (sym served.records) (subst (λ n. AllByRecursion (λ (r : Record). r.core < n) served.added) cores served.there);
+    there = subst (AllByRecursion (λ (r : Record). r.core < test.threads)) (sym served.records)
+        (subst (λ n. AllByRecursion (λ (r : Record). r.core < n) served.added) cores served.there);
     in_order = λ t below.
         subst (λ rs. Follows 0 (issued_to t) (of_core t rs)) (sym served.records)
-        (subst (λ (ops : List Op). Follows (length ops) (issued_to t) (of_core t served.added)) (nothing_issued config.cores t) (of_thread t below).in_order);
+        (subst (λ (ops : List Op). Follows (length ops) (issued_to t) (of_core t served.added))
+        (nothing_issued config.cores t) (of_thread t below).in_order);
     performed = λ t below.
-        let told = (of_thread t below).told (started test t) (thread_from test 0 test.threads t below ∙ ap (λ i. Some (started test i)) (omega arith)) in (
+        let told = (of_thread t below).told (started test t) (thread_from test 0 test.threads t below
+        ∙ ap (λ i. Some (started test i)) (omega arith)) in (
           told.0,
           told.1,
-          subst (λ rs. Does (started test t) (of_core t rs) told.0) (sym served.records) (does (started test t) (of_core t served.added) told.0 told.2),
+          subst (λ rs. Does (started test t) (of_core t rs) told.0) (sym served.records)
+              (does (started test t) (of_core t served.added) told.0 told.2),
           next_there threads t told.0 told.1 (done t (subst (λ n. t < n) (sym cores) below)).1,
         );
   }
 
   -- and the words are those that the records leave
-  pub left : (arranged : List Record) → ((word : ℕ) → coherent m word ≡ replay_end (memory_opened test) (map (λ r. r.op) arranged) word) →
-      (l : ℕ) → l < length test.locations → slice_get (values_from m 0 (length test.locations)) l ≡ Some (replay_end (memory_opened test) (map (λ r. r.op) arranged) l)
+  pub left : (arranged : List Record) → ((word : ℕ) → coherent m word ≡ replay_end (memory_opened test)
+      (map (λ r. r.op) arranged) word) →
+      (l : ℕ) → l < length test.locations → slice_get (values_from m 0 (length test.locations)) l ≡ Some
+      (replay_end (memory_opened test) (map (λ r. r.op) arranged) l)
   left arranged leaves l below =
-      value_from m 0 (length test.locations) l below ∙ ap (λ i. Some (coherent m i)) (omega arith) ∙ ap Some (leaves l)
+      value_from m 0 (length test.locations) l below ∙ ap (λ i. Some (coherent m i)) (omega arith)
+      ∙ ap Some (leaves l)
 
 -- only a run that is all done has a state
 pub state_of : (test : Litmus) (end : End) (threads : List Thread) (m : Machine) (P : List ℕ → Type 0) →
-    (end ≡ AllDone → P (map (end_value threads (values_from m 0 (length test.locations))) test.seen)) → IfSome (state_at test end threads m) P
+    (end ≡ AllDone → P (map (end_value threads (values_from m 0 (length test.locations))) test.seen)) →
+    IfSome (state_at test end threads m) P
 state_of test AllDone threads m P is = is refl
 state_of test Stalled threads m P is = tt
 state_of test TurnsUsed threads m P is = tt

@@ -15,7 +15,8 @@ use Rattle.run_ends.specs.declared.ends.End.TheVariants.{AllDone}
 use Rattle.run_ends.specs.declared.ends.RunEnd.{RunEnd}
 use Rattle.run_options.specs.declared.options.LitmusOptions.{LitmusOptions}
 use Rattle.run_results.specs.declared.results.RunError.{RunError}
-use Rattle.run_results.specs.declared.results.RunError.TheVariants.{Read, Write, NoMemory, Litmus as Refused, BadConfig}
+use Rattle.run_results.specs.declared.results.RunError.TheVariants.{Read, Write, NoMemory, Litmus as Refused}
+use Rattle.run_results.specs.declared.results.RunError.TheVariants.{BadConfig}
 use Rattle.sequential_machine.specs.SequentialMachine.{IsOutcome}
 use Rattle.report.specs.Runs.{IsRun}
 use Rattle.report.specs.SetUp.{config_of}

@@ -45,7 +45,8 @@ pub record IsRun (test : Litmus) (config : Config) (limit : ℕ) (run : RunEnd) 
   pub events : List Event
   pub machine : Machine
   pub threads : List Thread
-  pub ended : Ended thread_acts (plan_of config limit) (opening (at_start config (words_opened test.items empty)) (threads_from test 0 test.threads)) events machine threads run.end
+  pub ended : Ended thread_acts (plan_of config limit) (opening (at_start config (words_opened test.items empty))
+      (threads_from test 0 test.threads)) events machine threads run.end
   pub state : run.state ≡ state_at test run.end threads machine
   pub completed : run.completed ≡ length machine.records
   pub stale : run.stale ≡ stale_count machine.records

@@ -3,14 +3,17 @@ use Rattle.std.proofs.Common.{◌≡◌, ℕ, ◌+◌, List, [], ◌∷◌, ◌+
 use Rattle.run_ends.specs.declared.ends.RunEnd.{RunEnd}
 use Rattle.report_text.specs.Sums.{capped, plus, summed, sums_of}
 
-summed-next : (amount : RunEnd → ℕ) (runs : List RunEnd) (run : RunEnd) → summed amount (runs ++ run ∷ []) ≡ summed amount runs + amount run
+summed-next : (amount : RunEnd → ℕ) (runs : List RunEnd) (run : RunEnd) → summed amount (runs ++ run ∷ []) ≡ summed
+    amount runs + amount run
 summed-next amount [] run = omega arith
-summed-next amount (r ∷ runs) run = let next = summed-next amount runs run in ap (λ (n : ℕ). amount r + n) next ∙ omega arith
+summed-next amount (r ∷ runs) run = let next =
+    summed-next amount runs run in ap (λ (n : ℕ). amount r + n) next ∙ omega arith
 
 capped-next : (a b : ℕ) → capped (capped a + b) ≡ capped (a + b)
 capped-next a b = omega arith
 
-one : (amount : RunEnd → ℕ) (runs : List RunEnd) (run : RunEnd) → capped (capped (summed amount runs) + amount run) ≡ capped (summed amount (runs ++ run ∷ []))
+one : (amount : RunEnd → ℕ) (runs : List RunEnd) (run : RunEnd) → capped (capped (summed amount runs) + amount run) ≡
+    capped (summed amount (runs ++ run ∷ []))
 one amount runs run = capped-next (summed amount runs) (amount run) ∙ ap capped (sym (summed-next amount runs run))
 
 pub sums_next : (runs : List RunEnd) (run : RunEnd) → plus (sums_of runs) run ≡ sums_of (runs ++ run ∷ [])

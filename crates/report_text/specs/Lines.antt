@@ -31,7 +31,8 @@ value_text locations name value = (32 ∷ name_text locations name) ++ (61 ∷ d
 
 -- the names with their values, in order
 abbrev pub values_text : List (List ℕ) → List Name → List ℕ → List ℕ
-values_text locations (name ∷ names) (value ∷ values) = value_text locations name value ++ values_text locations names values
+values_text locations (name ∷ names) (value ∷ values) =
+    value_text locations name value ++ values_text locations names values
 values_text locations names values = []
 
 -- an end state: how often it was met, and its values

@@ -34,7 +34,8 @@ tallied (state ∷ states) = (1 + times state states, state) ∷ without state (
 -- the same list after one more state: it is counted where it stands, or is new at the end
 abbrev pub one_more : State → List (ℕ × State) → List (ℕ × State)
 one_more state [] = (1, state) ∷ []
-one_more state (entry ∷ entries) = if same_state state entry.1 then (entry.0 + 1, entry.1) ∷ entries else entry ∷ one_more state entries
+one_more state (entry ∷ entries) =
+    if same_state state entry.1 then (entry.0 + 1, entry.1) ∷ entries else entry ∷ one_more state entries
 
 -- the count that a list has of a state
 abbrev pub count_of : State → List (ℕ × State) → ℕ

@@ -38,7 +38,8 @@ is_yes Forall held all_done = held == all_done
 abbrev pub condition_text : Litmus → List RunEnd → List ℕ
 condition_text test runs = word_line (codes "condition") (quantifier_text test.quantifier)
     ++ field (codes "held") (held test runs)
-    ++ word_line (codes "verdict") (if is_yes test.quantifier (held test runs) (ended AllDone runs) then codes "yes" else codes "no")
+    ++ word_line (codes "verdict") (if is_yes test.quantifier (held test runs) (ended AllDone runs) then codes
+    "yes" else codes "no")
 
 abbrev pub sums_text : Sums → List ℕ
 sums_text sums = field (codes "completed") sums.completed
@@ -46,4 +47,5 @@ sums_text sums = field (codes "completed") sums.completed
     ++ field (codes "stale-hits") sums.stale
 
 unfoldable pub litmus_text : Litmus → List RunEnd → List ℕ
-litmus_text test runs = ends_text test runs ++ states_text test (tallied (done_states runs)) ++ condition_text test runs ++ sums_text (sums_of runs)
+litmus_text test runs = ends_text test runs ++ states_text test (tallied (done_states runs)) ++ condition_text test
+    runs ++ sums_text (sums_of runs)

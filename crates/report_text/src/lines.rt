@@ -2,7 +2,8 @@
 
 ghost use Rattle.std.specs.Prelude.{◌≡◌, ◌++◌, ◌∷◌, OnOk, map};
 ghost use Rattle.litmus_reader.specs.TestViews.{test_of};
-ghost use Rattle.report_text.specs.Lines.{name_text, register_text, state_line, value_text, values_text, quantifier_text};
+ghost use Rattle.report_text.specs.Lines.{name_text, register_text, state_line, value_text, values_text};
+ghost use Rattle.report_text.specs.Lines.{quantifier_text};
 
 use itoa::Buffer;
 use litmus_reader::{Name, Quantifier, Test};

@@ -14,7 +14,7 @@ pub enum End {
     TurnsUsed,
     /// A sum of times doesn't fit 64 bits.
     Exhausted,
-    /// A growth was refused.
+    /// Allocation failed.
     NoMemory,
 }
 

@@ -1,5 +1,6 @@
 -- Of two threads that each store 1 and then load the other's location, never both receive 0.
-use Rattle.std.proofs.Common.{◌≡◌, ◌≢◌, ℕ, zero, suc, ◌≤◌, eqb, List, [], ◌∷◌, Option, Some, None, ◌⊎◌, inl, inr, refl, sym, ap, ap₂, ◌∙◌, subst, arith, ⊎_elim}
+use Rattle.std.proofs.Common.{◌≡◌, ◌≢◌, ℕ, zero, suc, ◌≤◌, eqb, List, [], ◌∷◌, Option, Some, None, ◌⊎◌, inl, inr}
+use Rattle.std.proofs.Common.{refl, sym, ap, ap₂, ◌∙◌, subst, arith, ⊎_elim}
 use Rattle.std.specs.Prelude.{replicate}
 use Rattle.std.specs.List.{AllByRecursion as Each}
 use Rattle.std.proofs.lemmas.Bool.{cond-false, ne_eqb}
@@ -7,7 +8,8 @@ use Rattle.litmus_parser.specs.declared.syntax.Cell.{Cell}
 use Rattle.litmus_parser.specs.declared.syntax.Instruction.{Instruction}
 use Rattle.litmus_parser.specs.declared.syntax.Instruction.TheVariants as does
 use Rattle.litmus_reader.specs.ThreadSteps.{value_in, written, opened}
-use Rattle.sequential_machine.specs.SequentialMachine.{State, cells_of, opening, memory_after, registers_after, after_one, Step, next, Steps, none, more, IsOutcome}
+use Rattle.sequential_machine.specs.SequentialMachine.{State, cells_of, opening, memory_after, registers_after}
+use Rattle.sequential_machine.specs.SequentialMachine.{after_one, Step, next, Steps, none, more, IsOutcome}
 use Rattle.sequential_machine.specs.Example.{cell, store_buffering}
 use Rattle.sequential_machine.proofs.Tables.{here, elsewhere}
 use Rattle.sequential_machine.proofs.Steps.{unset}
@@ -72,34 +74,46 @@ record Comes (s : State) (t u : ℕ) (q : Place) : Type 0 where
   pub other : IsAt s u t q
   pub one_of : OneOf place q
 
-comes_to : (s : State) (t u : ℕ) (p q : Place) (i : Instruction) (rest : List Cell) → u ≢ t → rest ≡ left_at t u p → registers_after i (s.registers t) s.memory ≡ registers_at p →
-    memory_after i (s.registers t) s.memory t ≡ word_at p → memory_after i (s.registers t) s.memory u ≡ s.memory u → OneOf p q → IsAt s u t q → Comes (after_one s t i rest) t u q
+comes_to : (s : State) (t u : ℕ) (p q : Place) (i : Instruction) (rest : List Cell) → u ≢ t → rest ≡ left_at t u p →
+    registers_after i (s.registers t) s.memory ≡ registers_at p →
+    memory_after i (s.registers t) s.memory t ≡ word_at p → memory_after i (s.registers t) s.memory u ≡ s.memory u →
+    OneOf p q → IsAt s u t q → Comes (after_one s t i rest) t u q
 comes_to s t u p q i rest ne left registers word same one_of other =
     let new = registers_after i (s.registers t) s.memory in
     record {
       place = p;
       own = record { left = here s.left t rest ∙ left; registers = here s.registers t new ∙ registers; word = word };
-      other = record { left = elsewhere s.left t rest u ne ∙ other.left; registers = elsewhere s.registers t new u ne ∙ other.registers; word = same ∙ other.word };
+      other = record {
+        left = elsewhere s.left t rest u ne ∙ other.left;
+        registers = elsewhere s.registers t new u ne
+            ∙ other.registers;
+        word = same ∙ other.word;
+      };
       one_of = one_of;
     }
 
 both_same : {X : Type 0} (x y : X) (xs ys : List X) → x ∷ xs ≡ y ∷ ys → (x ≡ y) × (ys ≡ xs)
 both_same x y xs ys e = (cc, cc)
 
-comes : (s : State) (t u : ℕ) (p q : Place) (c : Cell) (rest : List Cell) → u ≢ t → left_at t u p ≡ c ∷ rest → IsAt s t u p → IsAt s u t q → Comes (after_one s t c.instruction rest) t u q
+comes : (s : State) (t u : ℕ) (p q : Place) (c : Cell) (rest : List Cell) → u ≢ t → left_at t u p ≡ c ∷ rest →
+    IsAt s t u p → IsAt s u t q → Comes (after_one s t c.instruction rest) t u q
 comes s t u Begins q c rest ne l own other =
     let e = both_same (cell t (does.Set 5 1)) c (left_at t u HasSet) rest l in
     subst (λ (x : Cell). Comes (after_one s t x.instruction rest) t u q) e.0
-    (comes_to s t u HasSet q (does.Set 5 1) rest ne e.1 (ap (λ (rs : List ℕ). written rs 5 1) own.registers) own.word refl (λ v w a b. absurd cc) other)
+    (comes_to s t u HasSet q (does.Set 5 1) rest ne e.1 (ap (λ (rs : List ℕ). written rs 5 1) own.registers) own.word
+    refl (λ v w a b. absurd cc) other)
 comes s t u HasSet q c rest ne l own other =
     let e = both_same (cell t (does.Store 5 t)) c (left_at t u HasStored) rest l in
     let value = value_in (s.registers t) 5 in
     subst (λ (x : Cell). Comes (after_one s t x.instruction rest) t u q) e.0
-    (comes_to s t u HasStored q (does.Store 5 t) rest ne e.1 own.registers (here s.memory t value ∙ ap (λ (rs : List ℕ). value_in rs 5) own.registers) (elsewhere s.memory t value u ne) (λ v w a b. absurd cc) other)
+    (comes_to s t u HasStored q (does.Store 5 t) rest ne e.1 own.registers (here s.memory t value
+    ∙ ap (λ (rs : List ℕ). value_in rs 5) own.registers) (elsewhere s.memory t value u ne)
+    (λ v w a b. absurd cc) other)
 comes s t u HasStored q c rest ne l own other =
     let e = both_same (cell t (does.Load 6 u)) c [] rest l in
     subst (λ (x : Cell). Comes (after_one s t x.instruction rest) t u q) e.0
-    (comes_to s t u (HasLoaded (word_at q)) q (does.Load 6 u) rest ne e.1 (ap₂ (λ (rs : List ℕ) (n : ℕ). written rs 6 n) own.registers other.word) own.word refl (loads q) other)
+    (comes_to s t u (HasLoaded (word_at q)) q (does.Load 6 u) rest ne e.1
+    (ap₂ (λ (rs : List ℕ) (n : ℕ). written rs 6 n) own.registers other.word) own.word refl (loads q) other)
 comes s t u (HasLoaded v) q c rest ne l own other = absurd cc
 
 -- what holds of every state
@@ -113,7 +127,8 @@ record Stands (s : State) : Type 0 where
 
 none_of : (t : ℕ) (cells : List Cell) → Each (λ c. c.thread ≢ t) cells → cells_of t cells ≡ []
 none_of t [] h = refl
-none_of t (c ∷ cells) h = cond-false (eqb c.thread t) (c ∷ cells_of t cells) (cells_of t cells) (ne_eqb c.thread t h.0) ∙ none_of t cells h.1
+none_of t (c ∷ cells) h = cond-false (eqb c.thread t) (c ∷ cells_of t cells) (cells_of t cells)
+    (ne_eqb c.thread t h.0) ∙ none_of t cells h.1
 
 opens : Stands (opening store_buffering)
 unfolding opened
@@ -130,10 +145,19 @@ opens =
           none_of t store_buffering.cells (zeroth, (first, (zeroth, (first, (zeroth, (first, tt))))));
     }
 
-turn_keeps : (s : State) (t : ℕ) (c : Cell) (rest : List Cell) → s.left t ≡ c ∷ rest → Stands s → Stands (after_one s t c.instruction rest)
+turn_keeps : (s : State) (t : ℕ) (c : Cell) (rest : List Cell) → s.left t ≡ c ∷ rest → Stands s →
+    Stands (after_one s t c.instruction rest)
 turn_keeps s zero c rest l h =
     let n = comes s 0 1 h.first h.second c rest (λ e. absurd (omega arith)) (sym h.own.left ∙ l) h.own h.other in
-    record { first = n.place; second = h.second; own = n.own; other = n.other; one_of = n.one_of; no_others = λ u le. elsewhere s.left 0 rest u (λ e. absurd (omega arith)) ∙ h.no_others u le }
+    record {
+      first = n.place;
+      second = h.second;
+      own = n.own;
+      other = n.other;
+      one_of = n.one_of;
+      no_others =
+          λ u le. elsewhere s.left 0 rest u (λ e. absurd (omega arith)) ∙ h.no_others u le;
+    }
 turn_keeps s (suc zero) c rest l h =
     let n = comes s 1 0 h.second h.first c rest (λ e. absurd (omega arith)) (sym h.other.left ∙ l) h.other h.own in
     record {
@@ -154,14 +178,16 @@ steps_keep s u none h = h
 steps_keep s u (more {u = w} a b) h = step_keeps w u b (steps_keep s w a h)
 
 -- no two places where both threads are through, and have 0
-no_end : (p q : Place) → OneOf p q → left_at 0 1 p ≡ [] → left_at 1 0 q ≡ [] → 0 ≡ value_in (registers_at p) 6 → 0 ≡ value_in (registers_at q) 6 → ⊥
+no_end : (p q : Place) → OneOf p q → left_at 0 1 p ≡ [] → left_at 1 0 q ≡ [] → 0 ≡ value_in (registers_at p) 6 →
+    0 ≡ value_in (registers_at q) 6 → ⊥
 no_end Begins q h a b v w = absurd cc
 no_end HasSet q h a b v w = absurd cc
 no_end HasStored q h a b v w = absurd cc
 no_end (HasLoaded x) Begins h a b v w = absurd cc
 no_end (HasLoaded x) HasSet h a b v w = absurd cc
 no_end (HasLoaded x) HasStored h a b v w = absurd cc
-no_end (HasLoaded x) (HasLoaded y) h a b v w = ⊎_elim (λ (e : x ≡ 1). omega arith) (λ (e : y ≡ 1). omega arith) (h x y refl refl)
+no_end (HasLoaded x) (HasLoaded y) h a b v w =
+    ⊎_elim (λ (e : x ≡ 1). omega arith) (λ (e : y ≡ 1). omega arith) (h x y refl refl)
 
 values_of : (v w x y : ℕ) → v ∷ w ∷ [] ≡ x ∷ y ∷ [] → (v ≡ x) × (w ≡ y)
 values_of v w x y e = (cc, cc)

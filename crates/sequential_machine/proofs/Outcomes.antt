@@ -1,10 +1,12 @@
 -- The end of a legal history of performed threads is an outcome of the sequential machine.
-use Rattle.std.proofs.Common.{◌≡◌, ℕ, ◌<◌, List, [], ◌∷◌, length, map, Option, Some, None, refl, sym, ap, ap₂, ◌∙◌, subst}
+use Rattle.std.proofs.Common.{◌≡◌, ℕ, ◌<◌, List, [], ◌∷◌, length, map, Option, Some, None, refl, sym, ap, ap₂, ◌∙◌}
+use Rattle.std.proofs.Common.{subst}
 use Rattle.std.specs.Prelude.{slice_get}
 use Rattle.std.specs.List.{AllByRecursion as Each}
 use Rattle.physiological_order.specs.declared.operation.Op.{Op}
 use Rattle.physiological_order.specs.declared.operation.Record.{Record}
-use Rattle.physiological_order.specs.Order.{Memory, Arrangement, Legal, KeepsProgramOrder, ReceivesAsReplayed, of_core, replay_end}
+use Rattle.physiological_order.specs.Order.{Memory, Arrangement, Legal, KeepsProgramOrder, ReceivesAsReplayed}
+use Rattle.physiological_order.specs.Order.{of_core, replay_end}
 use Rattle.physiological_order.proofs.Lemmas.{one_arrangement}
 use Rattle.litmus_parser.specs.declared.syntax.Name.{Name}
 use Rattle.litmus_parser.specs.declared.syntax.Name.TheVariants.{Register, Location}
@@ -29,19 +31,24 @@ abbrev thread_of : List Thread → ℕ → Thread
 thread_of threads t = or_none (slice_get threads t)
 
 -- each name has the same value in the threads and memory and in the state
-same_value : (threads : List Thread) (memory : List ℕ) (s : State) (n locations : ℕ) → ((t : ℕ) → t < n → slice_get threads t ≡ Some (thread_of threads t)) →
-    ((t : ℕ) → t < n → StandsAt s t (thread_of threads t)) → ((l : ℕ) → l < locations → slice_get memory l ≡ Some (s.memory l)) →
+same_value : (threads : List Thread) (memory : List ℕ) (s : State) (n locations : ℕ) →
+    ((t : ℕ) → t < n → slice_get threads t ≡ Some (thread_of threads t)) →
+    ((t : ℕ) → t < n → StandsAt s t (thread_of threads t)) →
+    ((l : ℕ) → l < locations → slice_get memory l ≡ Some (s.memory l)) →
     (name : Name) → IsThere n locations name → end_value threads memory name ≡ value_at s name
 same_value threads memory s n locations found stand words (Register t r) lt =
-    ap (λ (o : Option Thread). register_in o r) (found t lt) ∙ sym (ap (λ (rs : List ℕ). value_in rs r) (stand t lt).registers)
+    ap (λ (o : Option Thread). register_in o r) (found t lt)
+    ∙ sym (ap (λ (rs : List ℕ). value_in rs r) (stand t lt).registers)
 same_value threads memory s n locations found stand words (Location l) lt = ap or_zero (words l lt)
 
-same_values : (f g : Name → ℕ) (P : Name → Type 0) → ((name : Name) → P name → f name ≡ g name) → (names : List Name) → Each P names → map f names ≡ map g names
+same_values : (f g : Name → ℕ) (P : Name → Type 0) → ((name : Name) → P name → f name ≡ g name) →
+    (names : List Name) → Each P names → map f names ≡ map g names
 same_values f g P same [] h = refl
 same_values f g P same (name ∷ names) h = ap₂ (λ v vs. v ∷ vs) (same name h.0) (same_values f g P same names h.1)
 
 -- records that stand arranged, in which each thread's records stand as they were performed
-module _ (test : Litmus) (issued : ℕ → List Op) (records arranged : List Record) (threads : List Thread) (performed : ArePerformed test issued records threads) (arrangement : Arrangement records arranged)
+module _ (test : Litmus) (issued : ℕ → List Op) (records arranged : List Record) (threads : List Thread)
+    (performed : ArePerformed test issued records threads) (arrangement : Arrangement records arranged)
     (order : KeepsProgramOrder issued arranged) where
   found : (t : ℕ) → t < test.threads → slice_get threads t ≡ Some (thread_of threads t)
   found t lt = let p = performed.performed t lt in p.1 ∙ sym (ap (λ (o : Option Thread). Some (or_none o)) p.1)
@@ -49,29 +56,39 @@ module _ (test : Litmus) (issued : ℕ → List Op) (records arranged : List Rec
   in_place : (t : ℕ) → t < test.threads → Performs (start test t) (of_core t arranged) (thread_of threads t)
   in_place t lt =
       let p = performed.performed t lt in
-      subst (λ (rs : List Record). Performs (start test t) rs (thread_of threads t)) (same_of_core t (issued t) records arranged arrangement.same_members (performed.in_order t lt) (order t))
+      subst (λ (rs : List Record). Performs (start test t) rs (thread_of threads t))
+      (same_of_core t (issued t) records arranged arrangement.same_members (performed.in_order t lt) (order t))
       (subst (λ (q : Thread). Performs (start test t) (of_core t records) q) (sym (ap or_none p.1)) p.2)
 
   at_end : (t : ℕ) → t < test.threads → next_of (thread_of threads t) ≡ None
   at_end t lt = let p = performed.performed t lt in ap (λ (o : Option Thread). next_of (or_none o)) p.1 ∙ p.3
 
-  outcome : (memory : List ℕ) → Each (IsThere test.threads (length test.locations)) test.seen → ReceivesAsReplayed (memory_opened test) arranged →
-      ((l : ℕ) → l < length test.locations → slice_get memory l ≡ Some (replay_end (memory_opened test) (map (λ r. r.op) arranged) l)) → IsOutcome test (map (end_value threads memory) test.seen)
+  outcome : (memory : List ℕ) → Each (IsThere test.threads (length test.locations)) test.seen →
+      ReceivesAsReplayed (memory_opened test) arranged →
+      ((l : ℕ) → l < length test.locations → slice_get memory l ≡ Some (replay_end (memory_opened test)
+      (map (λ r. r.op) arranged) l)) → IsOutcome test (map (end_value threads memory) test.seen)
   outcome memory names values words =
-      let r = whole test test.threads arranged (thread_of threads) (each_permutation (λ x. x.core < test.threads) records arranged arrangement.same_members performed.there) in_place values in
+      let r = whole test test.threads arranged (thread_of threads) (each_permutation (λ x. x.core < test.threads)
+      records arranged arrangement.same_members performed.there) in_place values in
       record {
         last = r.end;
         steps = r.steps;
         finished = λ t lt. none_left r.end t (thread_of threads t) (r.stand t lt) (at_end t lt);
-        values_are = same_values (end_value threads memory) (value_at r.end) (IsThere test.threads (length test.locations))
-            (same_value threads memory r.end test.threads (length test.locations) found r.stand (λ l lt. words l lt ∙ sym (ap (λ (m : Memory). Some (m l)) r.memory)))
+        values_are =
+            same_values (end_value threads memory) (value_at r.end) (IsThere test.threads (length test.locations))
+            (same_value threads memory r.end test.threads (length test.locations) found r.stand (λ l lt. words l lt
+            ∙ sym (ap (λ (m : Memory). Some (m l)) r.memory)))
             test.seen names;
       }
 
-pub performed_outcome : (text : List ℕ) (test : Litmus) (issued : ℕ → List Op) (records arranged : List Record) (threads : List Thread) (memory : List ℕ) → IsTest text test →
-    Legal (memory_opened test) issued records → Arrangement records arranged → ArePerformed test issued records threads →
-    ((l : ℕ) → l < length test.locations → slice_get memory l ≡ Some (replay_end (memory_opened test) (map (λ r. r.op) arranged) l)) → IsOutcome test (map (end_value threads memory) test.seen)
+pub performed_outcome : (text : List ℕ) (test : Litmus) (issued : ℕ → List Op) (records arranged : List Record)
+    (threads : List Thread) (memory : List ℕ) → IsTest text test →
+    Legal (memory_opened test) issued records → Arrangement records arranged →
+    ArePerformed test issued records threads →
+    ((l : ℕ) → l < length test.locations → slice_get memory l ≡ Some (replay_end (memory_opened test)
+    (map (λ r. r.op) arranged) l)) → IsOutcome test (map (end_value threads memory) test.seen)
 performed_outcome text test issued records arranged threads memory is legal arrangement performed words =
     let e = one_arrangement records legal.arranged arranged legal.arrangement arrangement in
-    outcome test issued records arranged threads performed arrangement (subst (KeepsProgramOrder issued) e legal.program_order) memory (names_there text test is)
+    outcome test issued records arranged threads performed arrangement (subst (KeepsProgramOrder issued) e
+    legal.program_order) memory (names_there text test is)
     (subst (ReceivesAsReplayed (memory_opened test)) e legal.values) words

@@ -1,12 +1,15 @@
 -- From the opening, threads that were performed to their end are a run of the sequential machine.
-use Rattle.std.proofs.Common.{◌≡◌, ◌≢◌, ℕ, zero, suc, ◌<◌, ◌≤◌, eqb, List, [], ◌∷◌, map, Option, refl, sym, ap, ◌∙◌, subst, arith, ⊎_elim}
+use Rattle.std.proofs.Common.{◌≡◌, ◌≢◌, ℕ, zero, suc, ◌<◌, ◌≤◌, eqb, List, [], ◌∷◌, map, Option, refl, sym, ap, ◌∙◌}
+use Rattle.std.proofs.Common.{subst, arith, ⊎_elim}
 use Rattle.std.specs.List.{AllByRecursion as Each}
 use Rattle.std.proofs.lemmas.Bool.{cases_eq, cond-true, cond-false, eq-eqb, ne_eqb}
 use Rattle.physiological_order.specs.declared.operation.Record.{Record}
-use Rattle.physiological_order.specs.Order.{Memory, flat_received, flat_after, replay, replay_end, of_core, ReceivesAsReplayed}
+use Rattle.physiological_order.specs.Order.{Memory, flat_received, flat_after, replay, replay_end, of_core}
+use Rattle.physiological_order.specs.Order.{ReceivesAsReplayed}
 use Rattle.litmus_reader.specs.Litmus.{Litmus}
 use Rattle.litmus_reader.specs.ThreadSteps.{Thread, settled, done_with}
-use Rattle.sequential_machine.specs.SequentialMachine.{State, cells_of, registers_opened, memory_opened, opening, with_at, Steps, none}
+use Rattle.sequential_machine.specs.SequentialMachine.{State, cells_of, registers_opened, memory_opened, opening}
+use Rattle.sequential_machine.specs.SequentialMachine.{with_at, Steps, none}
 use Rattle.sequential_machine.specs.Performed.{Performs}
 use Rattle.sequential_machine.proofs.Tables.{everywhere}
 use Rattle.sequential_machine.specs.Threads.{StandsAt}
@@ -20,30 +23,45 @@ pub record Runs (n : ℕ) (s : State) (m : Memory) (threads : ℕ → Thread) : 
   pub stand : (t : ℕ) → t < n → StandsAt end t (threads t)
 
 -- another thread's steps leave where a thread stands
-still : (s u : State) (t : ℕ) (q : Thread) → (u.registers t ≡ s.registers t) × (u.left t ≡ s.left t) → StandsAt s t q → StandsAt u t q
-still s u t q same at = record { thread = at.thread; registers = same.0 ∙ at.registers; left = same.1 ∙ at.left; ready = at.ready }
+still : (s u : State) (t : ℕ) (q : Thread) → (u.registers t ≡ s.registers t) × (u.left t ≡ s.left t) →
+    StandsAt s t q → StandsAt u t q
+still s u t q same at =
+    record { thread = at.thread; registers = same.0 ∙ at.registers; left = same.1 ∙ at.left; ready = at.ready }
 
 first_of_core : (r : Record) (rs : List Record) → of_core r.core (r ∷ rs) ≡ r ∷ of_core r.core rs
-first_of_core r rs = cond-true (eqb r.core r.core) (r ∷ of_core r.core rs) (of_core r.core rs) (eq-eqb r.core r.core refl)
+first_of_core r rs =
+    cond-true (eqb r.core r.core) (r ∷ of_core r.core rs) (of_core r.core rs) (eq-eqb r.core r.core refl)
 
 none_of_core : (c : ℕ) (r : Record) (rs : List Record) → c ≢ r.core → of_core c (r ∷ rs) ≡ of_core c rs
-none_of_core c r rs ne = cond-false (eqb r.core c) (r ∷ of_core c rs) (of_core c rs) (ne_eqb r.core c (λ e. ne (sym e)))
+none_of_core c r rs ne =
+    cond-false (eqb r.core c) (r ∷ of_core c rs) (of_core c rs) (ne_eqb r.core c (λ e. ne (sym e)))
 
 both_same : (x y : Option ℕ) (xs ys : List (Option ℕ)) → x ∷ xs ≡ y ∷ ys → (x ≡ y) × (xs ≡ ys)
 both_same x y xs ys e = (cc, cc)
 
-pub runs : (n : ℕ) (rs : List Record) (s : State) (q last : ℕ → Thread) → ((t : ℕ) → t < n → StandsAt s t (q t)) → Each (λ r. r.core < n) rs →
-    ((t : ℕ) → t < n → Performs (q t) (of_core t rs) (last t)) → ReceivesAsReplayed s.memory rs → Runs n s (replay_end s.memory (map (λ r. r.op) rs)) last
+pub runs : (n : ℕ) (rs : List Record) (s : State) (q last : ℕ → Thread) → ((t : ℕ) → t < n → StandsAt s t (q t)) →
+    Each (λ r. r.core < n) rs →
+    ((t : ℕ) → t < n → Performs (q t) (of_core t rs) (last t)) → ReceivesAsReplayed s.memory rs →
+    Runs n s (replay_end s.memory (map (λ r. r.op) rs)) last
 runs n [] s q last stand there performed values =
-    record { end = s; steps = none; memory = refl; stand = λ t lt. subst (StandsAt s t) (sym (performed t lt)) (stand t lt) }
+    record {
+      end = s;
+      steps = none;
+      memory = refl;
+      stand =
+          λ t lt. subst (StandsAt s t) (sym (performed t lt)) (stand t lt);
+    }
 runs n (r ∷ rs) s q last stand there performed values =
     let c = r.core in
-    let p : Performs (q c) (r ∷ of_core c rs) (last c) = subst (λ (xs : List Record). Performs (q c) xs (last c)) (first_of_core r rs) (performed c there.0) in
-    let v = both_same (flat_received s.memory r.op) r.received (replay (flat_after s.memory r.op) (map (λ (x : Record). x.op) rs)) (map (λ (x : Record). x.received) rs) values in
+    let p : Performs (q c) (r ∷ of_core c rs) (last c) =
+    subst (λ (xs : List Record). Performs (q c) xs (last c)) (first_of_core r rs) (performed c there.0) in
+    let v = both_same (flat_received s.memory r.op) r.received (replay (flat_after s.memory r.op)
+    (map (λ (x : Record). x.op) rs)) (map (λ (x : Record). x.received) rs) values in
     let after = done_with (q c) r.received in
     let g = performs s c (q c) r.op r.received (stand c there.0) p.0 v.0 in
     let i = runs n rs g.end (with_at q c after) last
-    (everywhere (λ t x. t < n → StandsAt g.end t x) q c after (λ lt. g.stands) (λ u ne lt. still s g.end u (q u) (g.others u ne) (stand u lt)))
+    (everywhere (λ t x. t < n → StandsAt g.end t x) q c after (λ lt. g.stands) (λ u ne lt. still s g.end u (q u)
+    (g.others u ne) (stand u lt)))
     there.1
     (everywhere (λ t x. t < n → Performs x (of_core t rs) (last t)) q c after (λ lt. p.1)
     (λ u ne lt. subst (λ (xs : List Record). Performs (q u) xs (last u)) (none_of_core u r rs ne) (performed u lt)))
@@ -61,10 +79,20 @@ start test t = settled t (registers_opened test t) test.cells
 
 record Opens (test : Litmus) (n : ℕ) : Type 0 where
   pub runs : Runs n (opening test) (memory_opened test) (start test)
-  pub others : (t : ℕ) → n ≤ t → (runs.end.registers t ≡ registers_opened test t) × (runs.end.left t ≡ cells_of t test.cells)
+  pub others : (t : ℕ) → n ≤ t → (runs.end.registers t ≡ registers_opened test t) ×
+      (runs.end.left t ≡ cells_of t test.cells)
 
 opens : (test : Litmus) (n : ℕ) → Opens test n
-opens test zero = record { runs = record { end = opening test; steps = none; memory = refl; stand = λ t lt. absurd (omega arith) }; others = λ t le. (refl, refl) }
+opens test zero = record {
+  runs = record {
+    end = opening test;
+    steps = none;
+    memory = refl;
+    stand =
+        λ t lt. absurd (omega arith);
+  };
+  others = λ t le. (refl, refl);
+}
 opens test (suc n) =
     let o = opens test n in
     let old = o.runs.end in
@@ -76,7 +104,8 @@ opens test (suc n) =
         steps = joined (opening test) old g.end o.runs.steps g.steps;
         memory = g.memory ∙ o.runs.memory;
         stand = λ t lt. ⊎_elim
-            (λ (e : t ≡ n). subst (λ (k : ℕ). StandsAt g.end k (start test k)) (sym e) (subst (λ (rs : List ℕ). StandsAt g.end n (settled n rs test.cells)) own.0 g.stands))
+            (λ (e : t ≡ n). subst (λ (k : ℕ). StandsAt g.end k (start test k)) (sym e)
+            (subst (λ (rs : List ℕ). StandsAt g.end n (settled n rs test.cells)) own.0 g.stands))
             (λ (ne : t ≡ n → ⊥). still old g.end t (start test t) (g.others t ne) (o.runs.stand t (omega arith)))
             (cases_eq t n);
       };
@@ -91,7 +120,8 @@ pub whole : (test : Litmus) (n : ℕ) (rs : List Record) (last : ℕ → Thread)
     Runs n (opening test) (replay_end (memory_opened test) (map (λ r. r.op) rs)) last
 whole test n rs last there performed values =
     let o = (opens test n).runs in
-    let r = runs n rs o.end (start test) last o.stand there performed (subst (λ (m : Memory). ReceivesAsReplayed m rs) (sym o.memory) values) in
+    let r = runs n rs o.end (start test) last o.stand there performed (subst (λ (m : Memory). ReceivesAsReplayed m rs)
+    (sym o.memory) values) in
     record {
       end = r.end;
       steps = joined (opening test) o.end r.end o.steps r.steps;

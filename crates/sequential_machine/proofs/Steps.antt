@@ -6,7 +6,8 @@ use Rattle.std.specs.Ordering.{nat_cmp}
 use Rattle.litmus_parser.specs.declared.syntax.Cell.{Cell}
 use Rattle.litmus_reader.specs.OpeningMemory.{words_opened}
 use Rattle.litmus_reader.specs.ThreadSteps.{opened}
-use Rattle.sequential_machine.specs.SequentialMachine.{State, memory_opened, opening, after_one, next, Steps, none, more, IsOutcome}
+use Rattle.sequential_machine.specs.SequentialMachine.{State, memory_opened, opening, after_one, next, Steps, none}
+use Rattle.sequential_machine.specs.SequentialMachine.{more, IsOutcome}
 use Rattle.sequential_machine.specs.Example.{store_buffering}
 use Rattle.sequential_machine.proofs.ThreadSteps.{joined}
 
@@ -49,7 +50,13 @@ through_too (suc (suc t)) lt = absurd (omega arith)
 
 pub both_receive_one : IsOutcome store_buffering (1 ∷ 1 ∷ [])
 unfolding words_opened opened
-both_receive_one = record { last = by_turns (opening store_buffering) stores_first; steps = turns (opening store_buffering) stores_first; finished = through; values_are = refl }
+both_receive_one = record {
+  last = by_turns (opening store_buffering) stores_first;
+  steps =
+      turns (opening store_buffering) stores_first;
+  finished = through;
+  values_are = refl;
+}
 
 -- every word opens as 0
 pub unset : (a : ℕ) → memory_opened store_buffering a ≡ 0
@@ -58,4 +65,11 @@ unset a = ap (λ (o : Option ℕ). unwrap_or o 0) (get-empty nat_cmp a)
 
 pub one_receives_zero : IsOutcome store_buffering (0 ∷ 1 ∷ [])
 unfolding words_opened opened
-one_receives_zero = record { last = by_turns (opening store_buffering) one_first; steps = turns (opening store_buffering) one_first; finished = through_too; values_are = ap (λ (n : ℕ). n ∷ 1 ∷ []) (sym (unset 1)) }
+one_receives_zero = record {
+  last = by_turns (opening store_buffering) one_first;
+  steps =
+      turns (opening store_buffering) one_first;
+  finished = through_too;
+  values_are =
+      ap (λ (n : ℕ). n ∷ 1 ∷ []) (sym (unset 1));
+}

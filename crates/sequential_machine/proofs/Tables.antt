@@ -9,7 +9,8 @@ here table t x = cond-true (eqb t t) x (table t) (eq-eqb t t refl)
 pub elsewhere : {X : Type 0} (table : ℕ → X) (t : ℕ) (x : X) (u : ℕ) → u ≢ t → with_at table t x u ≡ table u
 elsewhere table t x u ne = cond-false (eqb u t) x (table u) (ne_eqb u t ne)
 
-pub everywhere : {X : Type 0} (P : ℕ → X → Type 0) (table : ℕ → X) (t : ℕ) (x : X) → P t x → ((u : ℕ) → u ≢ t → P u (table u)) → (u : ℕ) → P u (with_at table t x u)
+pub everywhere : {X : Type 0} (P : ℕ → X → Type 0) (table : ℕ → X) (t : ℕ) (x : X) → P t x →
+    ((u : ℕ) → u ≢ t → P u (table u)) → (u : ℕ) → P u (with_at table t x u)
 everywhere P table t x at others u =
     ⊎_elim
     (λ (e : u ≡ t). subst (λ (k : ℕ). P k (with_at table t x k)) (sym e) (subst (P t) (sym (here table t x)) at))

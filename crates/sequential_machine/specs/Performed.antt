@@ -14,7 +14,8 @@ Performs t [] end = end ≡ t
 Performs t (r ∷ rs) end = (next_of t ≡ Some r.op) × Performs (done_with t r.received) rs end
 
 -- the records are those of the test's threads, each performed to its end, and these are the threads then
-pub record ArePerformed (test : Litmus) (issued : ℕ → List Op) (records : List Record) (threads : List Thread) : Type 0 where
+pub record ArePerformed (test : Litmus) (issued : ℕ → List Op) (records : List Record) (threads : List Thread) : Type
+    0 where
   pub there : AllByRecursion (λ r. r.core < test.threads) records
   -- a thread's records, in the order in which they were completed, stand in its program order
   pub in_order : (t : ℕ) → t < test.threads → Follows 0 (issued t) (of_core t records)

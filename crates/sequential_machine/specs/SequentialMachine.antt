@@ -30,7 +30,8 @@ abbrev pub memory_opened : Litmus → Memory
 memory_opened test = flat (words_opened test.items empty)
 
 abbrev pub opening : Litmus → State
-opening test = record { memory = memory_opened test; registers = registers_opened test; left = λ t. cells_of t test.cells }
+opening test =
+    record { memory = memory_opened test; registers = registers_opened test; left = λ t. cells_of t test.cells }
 
 -- the memory that an instruction leaves, by its thread's registers
 abbrev pub memory_after : Instruction → List ℕ → Memory → Memory
@@ -63,7 +64,8 @@ after_one s t instruction rest =
 
 -- any thread that has instructions left does the first of them
 pub data Step : State → State → Type 0 where
-  next : {s : State} (t : ℕ) (cell : Cell) (rest : List Cell) → s.left t ≡ cell ∷ rest → Step s (after_one s t cell.instruction rest)
+  next : {s : State} (t : ℕ) (cell : Cell) (rest : List Cell) → s.left t ≡ cell ∷ rest →
+      Step s (after_one s t cell.instruction rest)
 
 -- no step, or steps and one more
 pub data Steps : State → State → Type 0 where

@@ -5,7 +5,8 @@ use Rattle.timestamp_manager.specs.LeaseLaws.{Covers, Reaches}
 pub covers :
     (b v : Bool) (wts rts pts lease : ℕ) (given : ℕ × Bool) →
     cond b (Some (max (max rts (wts + lease)) (pts + lease), v)) None ≡ Some given → Covers wts rts pts lease given.0
-covers true v wts rts pts lease given h = let e : max (max rts (wts + lease)) (pts + lease) ≡ given.0 = cc in record { before = omega arith; from_write = omega arith; from_reader = omega arith }
+covers true v wts rts pts lease given h = let e : max (max rts (wts + lease)) (pts + lease) ≡ given.0 =
+    cc in record { before = omega arith; from_write = omega arith; from_reader = omega arith }
 covers false v wts rts pts lease given h = cc
 
 pub never : (b : Bool) (time : ℕ) (given : ℕ × Bool) → cond b (Some (time, false)) None ≡ Some given → given.1 ≡ false
@@ -15,7 +16,8 @@ never false time given h = cc
 pub reaches :
     (b : Bool) (wts rts until lease given : ℕ) → cond b (Some (max (max rts (wts + lease)) until)) None ≡ Some given →
     Reaches wts rts until lease given
-reaches true wts rts until lease given h = let e : max (max rts (wts + lease)) until ≡ given = cc in record { before = omega arith; from_write = omega arith; asked = omega arith }
+reaches true wts rts until lease given h = let e : max (max rts (wts + lease)) until ≡ given =
+    cc in record { before = omega arith; from_write = omega arith; asked = omega arith }
 reaches false wts rts until lease given h = cc
 
 pub covers-shortest :

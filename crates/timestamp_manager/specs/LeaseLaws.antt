@@ -34,7 +34,8 @@ pub record Reaches (wts rts until lease given : ℕ) : Type 0 where
 
 abbrev pub ReturnedLeaseReaches : Type 0
 ReturnedLeaseReaches =
-    (wts rts until lease given : ℕ) → returned_lease wts rts until lease ≡ Some given → Reaches wts rts until lease given
+    (wts rts until lease given : ℕ) → returned_lease wts rts until lease ≡ Some given →
+    Reaches wts rts until lease given
 
 -- it goes no further: not past a time that none of the three passes
 abbrev pub ReturnedLeaseIsShortest : Type 0

@@ -1,5 +1,6 @@
 //! Laws of leases. The functions do nothing: their contracts are the laws.
-ghost use Rattle.timestamp_manager.specs.LeaseLaws.{AbsentNeverRenews, ReturnedLeaseIsShortest, ReturnedLeaseReaches, SharedLeaseCovers, SharedLeaseIsShortest};
+ghost use Rattle.timestamp_manager.specs.LeaseLaws.{AbsentNeverRenews, ReturnedLeaseIsShortest, ReturnedLeaseReaches};
+ghost use Rattle.timestamp_manager.specs.LeaseLaws.{SharedLeaseCovers, SharedLeaseIsShortest};
 
 /// A lease never falls, and covers a whole lease from the last write and from the reader's time; it goes no further. A
 /// reader without a copy is never answered by a renewal.

@@ -1,5 +1,6 @@
 -- A run that follows the schedule goes on by one step.
-use Rattle.std.proofs.Common.{◌≡◌, ℕ, if◌then◌else◌, List, [], ◌∷◌, ◌++◌, Result, Ok, Err, OnOk, IfErr, inl, inr, refl, sym, subst}
+use Rattle.std.proofs.Common.{◌≡◌, ℕ, if◌then◌else◌, List, [], ◌∷◌, ◌++◌, Result, Ok, Err, OnOk, IfErr, inl, inr}
+use Rattle.std.proofs.Common.{refl, sym, subst}
 use Rattle.machine_table.specs.declared.event.Event.{Event}
 use Rattle.machine_table.specs.declared.event.Answer.{Answer}
 use Rattle.machine_table.specs.declared.event.Answer.TheVariants.{Refused}
@@ -19,18 +20,21 @@ module _ {P : Type 0} (acts : Acts P) (plan : Plan) (start : Position P) where
   lands : (p : Point P) (rounds : ℕ) (event : Event) (answer : Answer) (m : Machine) (log : Log) →
       (answer, m) ≡ transition p.machine event → IsNoted p.log event answer log →
       Follows acts plan start p.log.events (position p rounds) → choose acts plan (position p rounds) ≡ Does event →
-      Follows acts plan start log.events (if is_exhausted answer then position (at m p.programs log OutOfTimes) rounds else answered_at acts
+      Follows acts plan start log.events (if is_exhausted answer then position (at m p.programs log OutOfTimes) rounds
+      else answered_at acts
       (position (at m p.programs log p.stage) rounds) answer p.stage)
   lands p rounds event answer m log stepped noted before next =
       let done = does before next in
-      let by_answer = subst (λ (o : Answer × Machine). Follows acts plan start (p.log.events ++ event ∷ []) (answered acts (position p rounds) o)) (sym
+      let by_answer = subst (λ (o : Answer × Machine). Follows acts plan start (p.log.events ++ event ∷ [])
+      (answered acts (position p rounds) o)) (sym
       stepped) done in
       rw (noted.events, noted.has_progressed) by_answer
 
   pub did : (p : Point P) (rounds : ℕ) (event : Event) (answer : Answer) (m : Machine) (log : Log) →
       Noted p.machine p.log event (Ok answer) m log →
       Follows acts plan start p.log.events (position p rounds) → choose acts plan (position p rounds) ≡ Does event →
-      Follows acts plan start log.events (answered_at acts (position (at m p.programs log p.stage) rounds) answer p.stage)
+      Follows acts plan start log.events (answered_at acts (position (at m p.programs log p.stage) rounds) answer
+      p.stage)
   did p rounds event answer m log noted before next =
       rw noted.1 at (lands p rounds event answer m log noted.0 noted.2 before next)
 
@@ -61,10 +65,12 @@ module _ {P : Type 0} (acts : Acts P) (plan : Plan) (p q : Point P) (first : Lea
   pub and_then : (s : Point P) → Leads acts plan q s → Leads acts plan p s
   and_then s next start rounds before = next start rounds (first start rounds before)
 
-  pub and_stops : (m : Machine) (programs : List P) (log : Log) (e : End) → Stops acts plan q m programs log e → Stops acts plan p m programs log e
+  pub and_stops : (m : Machine) (programs : List P) (log : Log) (e : End) → Stops acts plan q m programs log e →
+      Stops acts plan p m programs log e
   and_stops m programs log e next start rounds before = next start rounds (first start rounds before)
 
-  pub and_on_ok : {X : Type 0} (r : Result X End) (s : Point P) → OnOk r (Leads acts plan q s) → OnOk r (Leads acts plan p s)
+  pub and_on_ok : {X : Type 0} (r : Result X End) (s : Point P) → OnOk r (Leads acts plan q s) →
+      OnOk r (Leads acts plan p s)
   and_on_ok (Ok x) s next = and_then s next
   and_on_ok (Err e) s next = next
 

@@ -3,7 +3,8 @@ use Rattle.std.proofs.Common.{◌≡◌, ℕ, zero, suc, ◌+◌, ◌<◌, List,
 use Rattle.physiological_order.specs.declared.operation.Op.{Op}
 use Rattle.worker_driver.specs.Acts.{behind_first}
 
-pub behind_dropped : (ops : List Op) (at : ℕ) (received : Option ℕ) → at < length ops → drop (at + 1) ops ≡ behind_first (drop at ops) received
+pub behind_dropped : (ops : List Op) (at : ℕ) (received : Option ℕ) → at < length ops →
+    drop (at + 1) ops ≡ behind_first (drop at ops) received
 behind_dropped [] at received within = absurd (omega (arith, within))
 behind_dropped (op ∷ ops) zero received within = refl
 behind_dropped (op ∷ ops) (suc at) received within =

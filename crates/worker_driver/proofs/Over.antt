@@ -6,15 +6,19 @@ use Rattle.worker_driver.specs.Acts.{Acts}
 use Rattle.worker_driver.specs.Schedule.{is_over, are_over}
 
 module _ {P : Type 0} (acts : Acts P) (m : Machine) (programs : List P) where
-  pub not_over : (cores core : ℕ) → core < cores → is_over acts m programs core ≡ false → are_over acts m programs cores ≡ false
+  pub not_over : (cores core : ℕ) → core < cores → is_over acts m programs core ≡ false →
+      are_over acts m programs cores ≡ false
   not_over zero core below work = absurd (omega (arith, below))
   not_over (suc cores) core below work = ⊎_elim
-      (λ (same : core ≡ cores). and_right (are_over acts m programs cores) (is_over acts m programs cores) (subst (λ (c : ℕ). is_over acts m
+      (λ (same : core ≡ cores). and_right (are_over acts m programs cores) (is_over acts m programs cores)
+      (subst (λ (c : ℕ). is_over acts m
       programs c ≡ false) same work))
-      (λ other. and_left (are_over acts m programs cores) (is_over acts m programs cores) (not_over cores core (omega (arith, below, other)) work))
+      (λ other. and_left (are_over acts m programs cores) (is_over acts m programs cores)
+      (not_over cores core (omega (arith, below, other)) work))
       (cases_eq core cores)
 
-  pub each_over : (cores core : ℕ) → core < cores → are_over acts m programs cores ≡ true → is_over acts m programs core ≡ true
+  pub each_over : (cores core : ℕ) → core < cores → are_over acts m programs cores ≡ true →
+      is_over acts m programs core ≡ true
   each_over zero core below over = absurd (omega (arith, below))
   each_over (suc cores) core below over =
       let parts = and_parts (are_over acts m programs cores) (is_over acts m programs cores) over in

@@ -1,5 +1,6 @@
 -- What a run keeps of its start: each program was told of its core's records, and gives next what is still open.
-use Rattle.std.proofs.Common.{◌≡◌, ◌≢◌, ◌⊎◌, inl, inr, ℕ, ◌<◌, List, [], ◌∷◌, ◌++◌, Option, Some, None, IfSome, refl, sym, ap, ◌∙◌, subst, append-nil, append_assoc}
+use Rattle.std.proofs.Common.{◌≡◌, ◌≢◌, ◌⊎◌, inl, inr, ℕ, ◌<◌, List, [], ◌∷◌, ◌++◌, Option, Some, None, IfSome, refl}
+use Rattle.std.proofs.Common.{sym, ap, ◌∙◌, subst, append-nil, append_assoc}
 use Rattle.std.specs.Prelude.{slice_get}
 use Rattle.std.specs.List.{AllByRecursion}
 use Rattle.std.proofs.lemmas.Bool.{cases_eq}
@@ -16,15 +17,21 @@ use Rattle.worker_driver.proofs.TableSteps.{op_at, IsQuiet, Opens, IsDone}
 
 module _ {P : Type 0} (acts : Acts P) where
   -- a program goes on by one operation
-  performs_more : (rs : List Record) (p q : P) (r : Record) → Performs acts p rs q → acts.next q ≡ Some r.op → Performs acts p (rs ++ r ∷ []) (acts.done q r.received)
-  performs_more [] p q r is next = (subst (λ (x : P). acts.next x ≡ Some r.op) is next, ap (λ (x : P). acts.done x r.received) is)
-  performs_more (s ∷ rs) p q r performs next = (performs.0, performs_more rs (acts.done p s.received) q r performs.1 next)
+  performs_more : (rs : List Record) (p q : P) (r : Record) → Performs acts p rs q → acts.next q ≡ Some r.op →
+      Performs acts p (rs ++ r ∷ []) (acts.done q r.received)
+  performs_more [] p q r is next =
+      (subst (λ (x : P). acts.next x ≡ Some r.op) is next, ap (λ (x : P). acts.done x r.received) is)
+  performs_more (s ∷ rs) p q r performs next =
+      (performs.0, performs_more rs (acts.done p s.received) q r performs.1 next)
 
-  done_here : (programs : List P) (c : ℕ) (received : Option ℕ) (q : P) → slice_get programs c ≡ Some q → slice_get (done_in acts programs c received) c ≡ Some (acts.done q received)
+  done_here : (programs : List P) (c : ℕ) (received : Option ℕ) (q : P) → slice_get programs c ≡ Some q →
+      slice_get (done_in acts programs c received) c ≡ Some (acts.done q received)
   done_here programs c received q at =
-      ap (λ (o : Option P). slice_get (done_of acts programs c received o) c) at ∙ get-set_same programs c (acts.done q received) q at
+      ap (λ (o : Option P). slice_get (done_of acts programs c received o) c) at ∙ get-set_same programs c
+      (acts.done q received) q at
 
-  done_there : (programs : List P) (c : ℕ) (received : Option ℕ) (k : ℕ) → k ≢ c → slice_get (done_in acts programs c received) k ≡ slice_get programs k
+  done_there : (programs : List P) (c : ℕ) (received : Option ℕ) (k : ℕ) → k ≢ c →
+      slice_get (done_in acts programs c received) k ≡ slice_get programs k
   done_there programs c received k other = by_program (slice_get programs c)
     where
       by_program : (o : Option P) → slice_get (done_of acts programs c received o) k ≡ slice_get programs k
@@ -33,7 +40,8 @@ module _ {P : Type 0} (acts : Acts P) where
 
   -- a program is where it was told of these records, and gives next what is open
   abbrev pub Gone : P → List Record → Option Op → Option P → Type 0
-  Gone p rs open_op now = (q : P) × (now ≡ Some q) × Performs acts p rs q × IfSome open_op (λ op. acts.next q ≡ Some op)
+  Gone p rs open_op now =
+      (q : P) × (now ≡ Some q) × Performs acts p rs q × IfSome open_op (λ op. acts.next q ≡ Some op)
 
   module _ (start : Machine) (before : List P) where
     pub record Serving (m : Machine) (programs : List P) : Type 0 where
@@ -49,7 +57,13 @@ module _ {P : Type 0} (acts : Acts P) where
           added = [];
           records = sym (append-nil start.records);
           there = tt;
-          gone = λ core none p at. (p, at, refl, subst (λ (o : Option Op). IfSome o (λ op. acts.next p ≡ Some op)) (sym none) tt);
+          gone = λ core none p at. (
+            p,
+            at,
+            refl,
+            subst (λ (o : Option Op). IfSome o (λ op. acts.next p ≡ Some op))
+                (sym none) tt,
+          );
         }
 
     module _ (m after : Machine) (programs : List P) (so_far : Serving m programs) where
@@ -60,10 +74,12 @@ module _ {P : Type 0} (acts : Acts P) where
             records = quiet.records ∙ so_far.records;
             there = so_far.there;
             gone = λ core none p at.
-                subst (λ (o : Option Op). Gone p (of_core core so_far.added) o (slice_get programs core)) (sym (quiet.ops core)) (so_far.gone core none p at);
+                subst (λ (o : Option Op). Gone p (of_core core so_far.added) o (slice_get programs core))
+                (sym (quiet.ops core)) (so_far.gone core none p at);
           }
 
-      pub served_issue : (c : ℕ) (op : Op) → next_in acts programs c ≡ Some op → Opens m c op after → Serving after programs
+      pub served_issue : (c : ℕ) (op : Op) → next_in acts programs c ≡ Some op → Opens m c op after →
+          Serving after programs
       served_issue c op next opens =
           record {
             added = so_far.added;
@@ -72,41 +88,62 @@ module _ {P : Type 0} (acts : Acts P) where
             gone = λ core none p at. by_core core p (cases_eq core c) (so_far.gone core none p at);
           }
         where
-          by_core : (core : ℕ) (p : P) → (core ≡ c) ⊎ (core ≡ c → ⊥) → Gone p (of_core core so_far.added) (op_at m core) (slice_get programs core) →
+          by_core : (core : ℕ) (p : P) → (core ≡ c) ⊎ (core ≡ c → ⊥) → Gone p (of_core core so_far.added)
+              (op_at m core) (slice_get programs core) →
               Gone p (of_core core so_far.added) (op_at after core) (slice_get programs core)
           by_core core p (inl here) gone =
               let open_now : op_at after core ≡ Some op = ap (op_at after) here ∙ opens.opened.here in
-              let gives : acts.next gone.0 ≡ Some op = sym (ap (next_of acts) gone.1) ∙ ap (next_in acts programs) here ∙ next in
-              (gone.0, gone.1, gone.2, subst (λ (o : Option Op). IfSome o (λ x. acts.next gone.0 ≡ Some x)) (sym open_now) gives)
+              let gives : acts.next gone.0 ≡ Some op =
+              sym (ap (next_of acts) gone.1) ∙ ap (next_in acts programs) here ∙ next in (
+                gone.0,
+                gone.1,
+                gone.2,
+                subst (λ (o : Option Op). IfSome o (λ x. acts.next gone.0 ≡ Some x))
+                    (sym open_now) gives,
+              )
           by_core core p (inr other) gone =
-              subst (λ (o : Option Op). Gone p (of_core core so_far.added) o (slice_get programs core)) (sym (opens.opened.there core other)) gone
+              subst (λ (o : Option Op). Gone p (of_core core so_far.added) o (slice_get programs core))
+              (sym (opens.opened.there core other)) gone
 
-      pub served_done : (c : ℕ) (done : Record) → c < start.config.cores → IsDone m c done after → Serving after (done_in acts programs c done.received)
+      pub served_done : (c : ℕ) (done : Record) → c < start.config.cores → IsDone m c done after →
+          Serving after (done_in acts programs c done.received)
       served_done c done below is =
           record {
             added = so_far.added ++ done ∷ [];
-            records = is.records ∙ ap (λ rs. rs ++ done ∷ []) so_far.records ∙ append_assoc start.records so_far.added (done ∷ []);
-            there = each_push (λ r. r.core < start.config.cores) so_far.added done so_far.there (subst (λ (k : ℕ). k < start.config.cores) (sym is.core) below);
+            records = is.records ∙ ap (λ rs. rs ++ done ∷ []) so_far.records ∙ append_assoc start.records
+                so_far.added (done ∷ []);
+            there = each_push (λ r. r.core < start.config.cores) so_far.added done so_far.there
+                (subst (λ (k : ℕ). k < start.config.cores) (sym is.core) below);
             gone = λ core none p at. by_core core p (cases_eq core c) (so_far.gone core none p at);
           }
         where
-          by_core : (core : ℕ) (p : P) → (core ≡ c) ⊎ (core ≡ c → ⊥) → Gone p (of_core core so_far.added) (op_at m core) (slice_get programs core) →
-              Gone p (of_core core (so_far.added ++ done ∷ [])) (op_at after core) (slice_get (done_in acts programs c done.received) core)
+          by_core : (core : ℕ) (p : P) → (core ≡ c) ⊎ (core ≡ c → ⊥) → Gone p (of_core core so_far.added)
+              (op_at m core) (slice_get programs core) →
+              Gone p (of_core core (so_far.added ++ done ∷ [])) (op_at after core)
+              (slice_get (done_in acts programs c done.received) core)
           by_core core p (inl here) gone =
               let was : op_at m core ≡ Some done.op = ap (op_at m) here ∙ is.op in
-              let gives : acts.next gone.0 ≡ Some done.op = subst (λ (o : Option Op). IfSome o (λ x. acts.next gone.0 ≡ Some x)) was gone.3 in
+              let gives : acts.next gone.0 ≡ Some done.op =
+              subst (λ (o : Option Op). IfSome o (λ x. acts.next gone.0 ≡ Some x)) was gone.3 in
               let closed : op_at after core ≡ None = ap (op_at after) here ∙ is.closed.here in
               let program : slice_get programs c ≡ Some gone.0 = ap (slice_get programs) (sym here) ∙ gone.1 in
-              let now : slice_get (done_in acts programs c done.received) core ≡ Some (acts.done gone.0 done.received) =
-              ap (slice_get (done_in acts programs c done.received)) here ∙ done_here programs c done.received gone.0 program in (
+              let now : slice_get (done_in acts programs c done.received) core ≡ Some
+              (acts.done gone.0 done.received) =
+              ap (slice_get (done_in acts programs c done.received)) here ∙ done_here programs c done.received
+              gone.0 program in (
                 acts.done gone.0 done.received,
                 now,
-                subst (λ (rs : List Record). Performs acts p rs (acts.done gone.0 done.received)) (sym (of_core-own core so_far.added done (is.core ∙ sym here)))
+                subst (λ (rs : List Record). Performs acts p rs (acts.done gone.0 done.received))
+                    (sym (of_core-own core so_far.added done (is.core ∙ sym here)))
                     (performs_more (of_core core so_far.added) p gone.0 done gone.2 gives),
-                subst (λ (o : Option Op). IfSome o (λ x. acts.next (acts.done gone.0 done.received) ≡ Some x)) (sym closed) tt,
+                subst (λ (o : Option Op). IfSome o (λ x. acts.next (acts.done gone.0 done.received) ≡ Some x))
+                    (sym closed) tt,
               )
           by_core core p (inr other) gone =
-              subst (λ (rs : List Record). Gone p rs (op_at after core) (slice_get (done_in acts programs c done.received) core))
+              subst (λ (rs : List Record). Gone p rs (op_at after core)
+              (slice_get (done_in acts programs c done.received) core))
               (sym (of_core-other core so_far.added done (λ e. other (sym e ∙ is.core))))
-              (subst (λ (o : Option Op). Gone p (of_core core so_far.added) o (slice_get (done_in acts programs c done.received) core)) (sym (is.closed.there core other))
-              (subst (λ (o : Option P). Gone p (of_core core so_far.added) (op_at m core) o) (sym (done_there programs c done.received core other)) gone))
+              (subst (λ (o : Option Op). Gone p (of_core core so_far.added) o
+              (slice_get (done_in acts programs c done.received) core)) (sym (is.closed.there core other))
+              (subst (λ (o : Option P). Gone p (of_core core so_far.added) (op_at m core) o)
+              (sym (done_there programs c done.received core other)) gone))

@@ -1,5 +1,7 @@
 -- What each event that a run makes does to the open operations and the records.
-use Rattle.std.proofs.Common.{◌≡◌, ◌≢◌, ◌⊎◌, ℕ, ◌+◌, ◌-◌, ◌^◌, nat_lt, Bool, true, false, cond, List, [], ◌∷◌, ◌++◌, length, set, Option, Some, None, Result, Ok, Err, inl, inr, refl, sym, ap, ◌∙◌, subst, ⊎_elim}
+use Rattle.std.proofs.Common.{◌≡◌, ◌≢◌, ◌⊎◌, ℕ, ◌+◌, ◌-◌, ◌^◌, nat_lt, Bool, true, false, cond, List, [], ◌∷◌, ◌++◌}
+use Rattle.std.proofs.Common.{length, set, Option, Some, None, Result, Ok, Err, inl, inr, refl, sym, ap, ◌∙◌, subst}
+use Rattle.std.proofs.Common.{⊎_elim}
 use Rattle.std.specs.Prelude.{slice_get}
 use Rattle.std.specs.Ordering.{nat_cmp}
 use Rattle.std.specs.FinMap.{FinMap}
@@ -23,7 +25,8 @@ use Rattle.core_pts.specs.declared.attempt.IssueError.{IssueError}
 use Rattle.core_pts.specs.declared.attempt.IssueError.TheVariants as not_issued
 use Rattle.core_pts.specs.OnCopy.{at_core}
 use Rattle.core_pts.specs.declared.decision.CoreReaction.{CoreReaction}
-use Rattle.core_pts.specs.declared.decision.CoreReaction.TheVariants.{Arrives, Grants, Returns, Drops, Holds, TooLate, NoCase}
+use Rattle.core_pts.specs.declared.decision.CoreReaction.TheVariants.{Arrives, Grants, Returns, Drops, Holds, TooLate}
+use Rattle.core_pts.specs.declared.decision.CoreReaction.TheVariants.{NoCase}
 use Rattle.core_pts.specs.CoreTable as core_table
 use Rattle.core_pts.specs.CoreTable.{CoreState, after_reaction, is_on, pinned_line, sent_back}
 use Rattle.llc_bank.specs.declared.entry.Evict.{Evict}
@@ -34,15 +37,19 @@ use Rattle.llc_bank.specs.BankTable as bank_table
 use Rattle.llc_bank.specs.BankTable.{BankState}
 use Rattle.dram_mts.specs.Table.{dram_table, dram_has_case}
 use Rattle.machine_table.specs.declared.event.Event.{Event}
-use Rattle.machine_table.specs.declared.event.Event.TheVariants.{Issue, Attempt as AttemptOf, Deliver, EvictCache, EvictBank}
+use Rattle.machine_table.specs.declared.event.Event.TheVariants.{Issue, Attempt as AttemptOf, Deliver, EvictCache}
+use Rattle.machine_table.specs.declared.event.Event.TheVariants.{EvictBank}
 use Rattle.machine_table.specs.declared.event.Answer.{Answer}
 use Rattle.machine_table.specs.declared.event.Answer.TheVariants as answer
 use Rattle.machine_table.specs.declared.event.Refusal.TheVariants as refusal
 use Rattle.network.specs.declared.message.Body.{Body}
 use Rattle.network.specs.Mail.{has_capacity, has_number, sent}
 use Rattle.machine_table.specs.Machine.{Machine, with_core, with_bank, with_dram}
-use Rattle.machine_table.specs.Change.{Change, Keeps, Makes, record_of, attempt_open, attempted_op, requests, reacted, copy_evicted, entry_evicted}
-use Rattle.machine_table.specs.Transition.{changed, refused, issued, issue_at, attempt_at, deliver_core, deliver_bank, deliver_dram, deliver_to, deliver_message, evict_copy, evict_entry, on_event, transition}
+use Rattle.machine_table.specs.Change.{Change, Keeps, Makes, record_of, attempt_open, attempted_op, requests, reacted}
+use Rattle.machine_table.specs.Change.{copy_evicted, entry_evicted}
+use Rattle.machine_table.specs.Transition.{changed, refused, issued, issue_at, attempt_at, deliver_core, deliver_bank}
+use Rattle.machine_table.specs.Transition.{deliver_dram, deliver_to, deliver_message, evict_copy, evict_entry}
+use Rattle.machine_table.specs.Transition.{on_event, transition}
 use Rattle.machine_theorem.proofs.Lemmas.{get-set_same, get-set_other}
 use Rattle.interleaving_core.proofs.Lemmas.{Closes, attempt_closes}
 
@@ -85,7 +92,8 @@ abbrev pub Issues : Machine → ℕ → Op → Answer × Machine → Type 0
 Issues m c op o = IsQuiet m o.1 ⊎ Opens m c op o.1
 
 abbrev pub Tries : Machine → ℕ → Answer × Machine → Type 0
-Tries m c o = ((is_completion o.0 ≡ false) × IsQuiet m o.1) ⊎ ((done : Record) × (o.0 ≡ answer.Completed done) × IsDone m c done o.1)
+Tries m c o = ((is_completion o.0 ≡ false) × IsQuiet m o.1) ⊎ ((done : Record) × (o.0 ≡ answer.Completed done) ×
+    IsDone m c done o.1)
 
 module _ (m : Machine) where
   abbrev Stays : Answer × Machine → Type 0
@@ -97,13 +105,18 @@ module _ (m : Machine) where
   -- a core in its place
   module _ (c : ℕ) (core : CoreState) (at : slice_get m.cores c ≡ Some core) (new : CoreState) where
     opened : (o : Option Op) → new.open_op ≡ o → IsOpen m c o (with_core m c new)
-    opened o is = record { here = ap op_of (get-set_same m.cores c new core at) ∙ is; there = λ j other. ap op_of (get-set_other m.cores c j new other) }
+    opened o is = record {
+      here = ap op_of (get-set_same m.cores c new core at) ∙ is;
+      there =
+          λ j other. ap op_of (get-set_other m.cores c j new other);
+    }
 
     kept : new.open_op ≡ core.open_op → IsQuiet m (with_core m c new)
     kept is =
         record {
           ops = λ j. ⊎_elim
-              (λ (here : j ≡ c). subst (λ (i : ℕ). op_of (slice_get (set m.cores c new) i) ≡ op_of (slice_get m.cores i)) (sym here)
+              (λ (here : j ≡ c). subst (λ (i : ℕ). op_of (slice_get (set m.cores c new) i) ≡ op_of
+              (slice_get m.cores i)) (sym here)
               (ap op_of (get-set_same m.cores c new core at) ∙ is ∙ sym (ap op_of at)))
               (λ (other : j ≡ c → ⊥). ap op_of (get-set_other m.cores c j new other))
               (cases_eq j c);
@@ -111,7 +124,8 @@ module _ (m : Machine) where
         }
 
   -- a change that is made if a test says so
-  tested : {S : Type 0} (put : S → Machine) (b : Bool) (done : Change S) (why : Answer) → Stays (changed m put done) → Stays (changed m put (cond b done (Keeps why)))
+  tested : {S : Type 0} (put : S → Machine) (b : Bool) (done : Change S) (why : Answer) → Stays (changed m put done) →
+      Stays (changed m put (cond b done (Keeps why)))
   tested put true done why quiet = quiet
   tested put false done why quiet = same
 
@@ -120,23 +134,30 @@ module _ (m : Machine) where
   Part K None = Unit {0}
   Part K (Some (reaction, part)) = K part
 
-  reacted_stays : {S : Type 0} (n : ℕ) (put : S → Machine) (K : S → Type 0) → ((part : S) → K part → IsQuiet m (put part)) → (r : Option (Reaction × S)) → Part K r →
+  reacted_stays : {S : Type 0} (n : ℕ) (put : S → Machine) (K : S → Type 0) →
+      ((part : S) → K part → IsQuiet m (put part)) → (r : Option (Reaction × S)) → Part K r →
       Stays (changed m put (reacted m.config.messages m.mail n r))
   unfolding Part
   reacted_stays n put K puts None is = record { ops = λ core. refl; records = refl }
   reacted_stays n put K puts (Some (Held, part)) is = same
   reacted_stays n put K puts (Some (Dropped, part)) is = record { ops = λ core. refl; records = refl }
-  reacted_stays n put K puts (Some (Done None, part)) is = record { ops = (puts part is).ops; records = (puts part is).records }
+  reacted_stays n put K puts (Some (Done None, part)) is =
+      record { ops = (puts part is).ops; records = (puts part is).records }
   reacted_stays n put K puts (Some (Done (Some reply), part)) is =
       tested put (has_number m.mail) _ _ (record { ops = (puts part is).ops; records = (puts part is).records })
   reacted_stays n put K puts (Some (HeldAfter started, part)) is =
-      tested put (has_capacity m.config.messages m.mail) _ _ (record { ops = (puts part is).ops; records = (puts part is).records })
+      tested put (has_capacity m.config.messages m.mail) _ _ (record {
+        ops = (puts part is).ops;
+        records =
+            (puts part is).records;
+      })
 
   -- a message that has no case is refused
   if_case : (b : Bool) (o : Answer × Machine) → Stays o → Stays (cond b o (refused m refusal.NoSuch))
   if_case b o stays = cond_both b o (refused m refusal.NoSuch) Stays (λ t. stays) (λ t. same)
 
-  reaction_part : (core : CoreState) (line : ℕ) (r : CoreReaction) → Part (λ new. new.open_op ≡ core.open_op) (after_reaction core line r)
+  reaction_part : (core : CoreState) (line : ℕ) (r : CoreReaction) → Part (λ new. new.open_op ≡ core.open_op)
+      (after_reaction core line r)
   unfolding Part
   reaction_part core line (Arrives copy) = refl
   reaction_part core line (Grants copy) = refl
@@ -151,24 +172,33 @@ module _ (m : Machine) where
   any_part None = tt
   any_part (Some (reaction, part)) = tt
 
-  core_stays : (n : ℕ) (message : Message) (c : ℕ) (o : Option CoreState) → slice_get m.cores c ≡ o → Stays (deliver_core m n message c o)
+  core_stays : (n : ℕ) (message : Message) (c : ℕ) (o : Option CoreState) → slice_get m.cores c ≡ o →
+      Stays (deliver_core m n message c o)
   core_stays n message c None at = same
   core_stays n message c (Some core) at =
-      if_case (core_table.core_has_case core message) (changed m (with_core m c) (reacted m.config.messages m.mail n (core_table.core_table core message)))
-      (reacted_stays n (with_core m c) (λ new. new.open_op ≡ core.open_op) (λ new is. kept c core at new is) (core_table.core_table core message)
-      (reaction_part core message.line (at_core core.lease (is_on (pinned_line core) message.line) (copy_of core.cache message.line) message.body)))
+      if_case (core_table.core_has_case core message)
+      (changed m (with_core m c) (reacted m.config.messages m.mail n (core_table.core_table core message)))
+      (reacted_stays n (with_core m c) (λ new. new.open_op ≡ core.open_op) (λ new is. kept c core at new is)
+      (core_table.core_table core message)
+      (reaction_part core message.line (at_core core.lease (is_on (pinned_line core) message.line)
+      (copy_of core.cache message.line) message.body)))
 
   bank_stays : (n : ℕ) (message : Message) (b : ℕ) (o : Option BankState) → Stays (deliver_bank m n message b o)
   bank_stays n message b None = same
   bank_stays n message b (Some bank) =
-      if_case (bank_table.bank_has_case bank message) (changed m (with_bank m b) (reacted m.config.messages m.mail n (bank_table.bank_table bank message)))
-      (reacted_stays n (with_bank m b) (λ part. Unit {0}) (λ part is. record { ops = λ core. refl; records = refl }) (bank_table.bank_table bank message) (any_part (bank_table.bank_table bank message)))
+      if_case (bank_table.bank_has_case bank message)
+      (changed m (with_bank m b) (reacted m.config.messages m.mail n (bank_table.bank_table bank message)))
+      (reacted_stays n (with_bank m b) (λ part. Unit {0}) (λ part is. record { ops = λ core. refl; records = refl })
+      (bank_table.bank_table bank message) (any_part (bank_table.bank_table bank message)))
 
-  dram_stays : (n : ℕ) (message : Message) (b : ℕ) (o : Option (FinMap nat_cmp (List ℕ))) → Stays (deliver_dram m n message b o)
+  dram_stays : (n : ℕ) (message : Message) (b : ℕ) (o : Option (FinMap nat_cmp (List ℕ))) →
+      Stays (deliver_dram m n message b o)
   dram_stays n message b None = same
   dram_stays n message b (Some dram) =
-      if_case (dram_has_case dram message) (changed m (with_dram m b) (reacted m.config.messages m.mail n (dram_table dram message)))
-      (reacted_stays n (with_dram m b) (λ part. Unit {0}) (λ part is. record { ops = λ core. refl; records = refl }) (dram_table dram message) (any_part (dram_table dram message)))
+      if_case (dram_has_case dram message)
+      (changed m (with_dram m b) (reacted m.config.messages m.mail n (dram_table dram message)))
+      (reacted_stays n (with_dram m b) (λ part. Unit {0}) (λ part is. record { ops = λ core. refl; records = refl })
+      (dram_table dram message) (any_part (dram_table dram message)))
 
   delivered_stays : (n : ℕ) (o : Option Message) → Stays (deliver_message m n o)
   delivered_stays n None = same
@@ -179,28 +209,36 @@ module _ (m : Machine) where
       by_node (Bank b) = bank_stays n message b (slice_get m.banks b)
       by_node (Dram b) = dram_stays n message b (slice_get m.drams b)
 
-  copy_stays : (c : ℕ) (core : CoreState) → slice_get m.cores c ≡ Some core → (r : Result (Option Message) CacheError × CoreState) → r.1.open_op ≡ core.open_op → Stays (changed m (with_core m c) (copy_evicted m.config.messages m.mail r))
+  copy_stays : (c : ℕ) (core : CoreState) → slice_get m.cores c ≡ Some core → (r : Result (Option Message) CacheError
+      × CoreState) → r.1.open_op ≡ core.open_op →
+      Stays (changed m (with_core m c) (copy_evicted m.config.messages m.mail r))
   copy_stays c core at (Err NotHere, new) is = same
   copy_stays c core at (Err NoRoom, new) is = same
   copy_stays c core at (Err Pinned, new) is = same
   copy_stays c core at (Ok None, new) is = kept c core at new is
   copy_stays c core at (Ok (Some back), new) is =
-      let quiet = kept c core at new is in tested (with_core m c) (has_capacity m.config.messages m.mail) _ _ (record { ops = quiet.ops; records = refl })
+      let quiet = kept c core at new is in tested (with_core m c) (has_capacity m.config.messages m.mail) _ _
+      (record { ops = quiet.ops; records = refl })
 
-  sent_back_kept : (core : CoreState) (line : ℕ) (r : Result LineCopy CacheError × Sets LineCopy) → (sent_back core line r).1.open_op ≡ core.open_op
+  sent_back_kept : (core : CoreState) (line : ℕ) (r : Result LineCopy CacheError × Sets LineCopy) →
+      (sent_back core line r).1.open_op ≡ core.open_op
   sent_back_kept core line (Err e, cache) = refl
   sent_back_kept core line (Ok copy, cache) = refl
 
   evicted_stays : (c line : ℕ) (o : Option CoreState) → slice_get m.cores c ≡ o → Stays (evict_copy m c line o)
   evicted_stays c line None at = same
-  evicted_stays c line (Some core) at = copy_stays c core at (core_table.evict core line) (sent_back_kept core line (evicted core.cache line (pinned_line core) (copy_of core.cache line)))
+  evicted_stays c line (Some core) at = copy_stays c core at (core_table.evict core line)
+      (sent_back_kept core line (evicted core.cache line (pinned_line core) (copy_of core.cache line)))
 
-  entry_stays : (b : ℕ) (r : Result Evict EvictError × BankState) → Stays (changed m (with_bank m b) (entry_evicted m.config.messages m.mail r))
+  entry_stays : (b : ℕ) (r : Result Evict EvictError × BankState) →
+      Stays (changed m (with_bank m b) (entry_evicted m.config.messages m.mail r))
   entry_stays b (Err not_evicted.NotHere, bank) = same
   entry_stays b (Err not_evicted.Busy, bank) = same
   entry_stays b (Ok evict.Clean, bank) = record { ops = λ core. refl; records = refl }
-  entry_stays b (Ok (evict.Stored store), bank) = tested (with_bank m b) (has_capacity m.config.messages m.mail) _ _ (record { ops = λ core. refl; records = refl })
-  entry_stays b (Ok (evict.Recalled recall), bank) = tested (with_bank m b) (has_capacity m.config.messages m.mail) _ _ (record { ops = λ core. refl; records = refl })
+  entry_stays b (Ok (evict.Stored store), bank) = tested (with_bank m b) (has_capacity m.config.messages m.mail) _ _
+      (record { ops = λ core. refl; records = refl })
+  entry_stays b (Ok (evict.Recalled recall), bank) = tested (with_bank m b) (has_capacity m.config.messages m.mail) _
+      _ (record { ops = λ core. refl; records = refl })
 
   entry_evicted_stays : (b line : ℕ) (o : Option BankState) → Stays (evict_entry m b line o)
   entry_evicted_stays b line None = same
@@ -214,9 +252,12 @@ module _ (m : Machine) where
   issue_ready : (core : CoreState) (op : Op) (o : Option Op) → Ready op (core_table.issue_to core op o)
   unfolding Ready
   issue_ready core op (Some other) = tt
-  issue_ready core op None = cond_both (nat_lt core.issued (2 ^ 32 - 1)) (Ok tt, record core { open_op = Some op; issued = core.issued + 1 }) (Err not_issued.TooMany, core) (Ready op) (λ t. refl) (λ t. tt)
+  issue_ready core op None = cond_both (nat_lt core.issued (2 ^ 32 - 1))
+      (Ok tt, record core { open_op = Some op; issued = core.issued + 1 }) (Err not_issued.TooMany, core) (Ready op)
+      (λ t. refl) (λ t. tt)
 
-  issued_so : (c : ℕ) (core : CoreState) → slice_get m.cores c ≡ Some core → (op : Op) (r : Result (Unit {0}) IssueError × CoreState) → Ready op r → Issues m c op (issued m c op r)
+  issued_so : (c : ℕ) (core : CoreState) → slice_get m.cores c ≡ Some core →
+      (op : Op) (r : Result (Unit {0}) IssueError × CoreState) → Ready op r → Issues m c op (issued m c op r)
   unfolding Ready
   issued_so c core at op (Err not_issued.Busy, new) ready = inl same
   issued_so c core at op (Err not_issued.TooMany, new) ready = inl same
@@ -229,21 +270,37 @@ module _ (m : Machine) where
   issues c op (Some core) at = issued_so c core at op (core_table.issue core op) (issue_ready core op core.open_op)
 
   -- an attempt
-  asks : (c : ℕ) (core : CoreState) → slice_get m.cores c ≡ Some core → (op : Op) (body : Body) → Tries m c (changed m (with_core m c) (requests m.config.messages m.mail core op body))
+  asks : (c : ℕ) (core : CoreState) → slice_get m.cores c ≡ Some core → (op : Op) (body : Body) →
+      Tries m c (changed m (with_core m c) (requests m.config.messages m.mail core op body))
   asks c core at op body =
       let quiet = kept c core at (record core { is_out = true }) refl in
       by_test (has_capacity m.config.messages m.mail) quiet
     where
       by_test : (b : Bool) → IsQuiet m (with_core m c (record core { is_out = true })) →
-          Tries m c (changed m (with_core m c) (cond b (Makes answer.Requested (record core { is_out = true }) (sent m.mail (core_table.to_bank core (core_table.line_of core op) body))) (Keeps (answer.Refused refusal.NetworkFull))))
+          Tries m c (changed m (with_core m c)
+          (cond b (Makes answer.Requested (record core { is_out = true })
+          (sent m.mail (core_table.to_bank core (core_table.line_of core op) body)))
+          (Keeps (answer.Refused refusal.NetworkFull))))
       by_test true quiet = inl (refl, record { ops = quiet.ops; records = refl })
       by_test false quiet = inl (refl, same)
 
-  tried_so : (c : ℕ) (core : CoreState) → slice_get m.cores c ≡ Some core → (op : Op) → core.open_op ≡ Some op → (r : Option Attempt × CoreState) → Closes r → Tries m c (changed m (with_core m c) (attempted_op c (length m.records) m.config.messages m.mail core op r))
+  tried_so : (c : ℕ) (core : CoreState) → slice_get m.cores c ≡ Some core → (op : Op) → core.open_op ≡ Some op →
+      (r : Option Attempt × CoreState) → Closes r →
+      Tries m c (changed m (with_core m c) (attempted_op c (length m.records) m.config.messages m.mail core op r))
   tried_so c core at op opens (None, new) closes = inl (refl, record { ops = λ k. refl; records = refl })
   tried_so c core at op opens (Some (attempted.Completed received ts), new) closes =
       let is = opened c core at new None closes in
-      inr (record_of c (length m.records) core op received ts, refl, record { core = refl; op = ap op_of at ∙ opens; closed = record { here = is.here; there = is.there }; records = refl })
+      inr (
+        record_of c (length m.records) core op received ts,
+        refl,
+        record {
+          core = refl;
+          op = ap op_of at
+              ∙ opens;
+          closed = record { here = is.here; there = is.there };
+          records = refl;
+        },
+      )
   tried_so c core at op opens (Some (attempted.NeedShared pts version), new) closes = asks c core at op _
   tried_so c core at op opens (Some (attempted.NeedExclusive version), new) closes = asks c core at op _
   tried_so c core at op opens (Some attempted.NoRoom, new) closes = inl (refl, same)
@@ -254,19 +311,23 @@ module _ (m : Machine) where
   tries c None at = inl (refl, same)
   tries c (Some core) at = by_open core.open_op refl
     where
-      by_open : (o : Option Op) → core.open_op ≡ o → Tries m c (changed m (with_core m c) (attempt_open c (length m.records) m.config.messages m.mail core o))
+      by_open : (o : Option Op) → core.open_op ≡ o →
+          Tries m c (changed m (with_core m c) (attempt_open c (length m.records) m.config.messages m.mail core o))
       by_open None opens = inl (refl, same)
       by_open (Some op) opens = tried_so c core at op opens (core_table.attempt core) (attempt_closes core)
 
   -- a stopped machine refuses them all
   pub issue_does : (c : ℕ) (op : Op) → Issues m c op (transition m (Issue c op))
-  issue_does c op = cond_both m.is_stopped (refused m refusal.Stopped) (on_event m (Issue c op)) (Issues m c op) (λ t. inl same) (λ t. issues c op (slice_get m.cores c) refl)
+  issue_does c op = cond_both m.is_stopped (refused m refusal.Stopped) (on_event m (Issue c op)) (Issues m c op)
+      (λ t. inl same) (λ t. issues c op (slice_get m.cores c) refl)
 
   pub attempt_does : (c : ℕ) → Tries m c (transition m (AttemptOf c))
-  attempt_does c = cond_both m.is_stopped (refused m refusal.Stopped) (on_event m (AttemptOf c)) (Tries m c) (λ t. inl (refl, same)) (λ t. tries c (slice_get m.cores c) refl)
+  attempt_does c = cond_both m.is_stopped (refused m refusal.Stopped) (on_event m (AttemptOf c)) (Tries m c)
+      (λ t. inl (refl, same)) (λ t. tries c (slice_get m.cores c) refl)
 
   quiet_unless : (event : Event) → Stays (on_event m event) → Stays (transition m event)
-  quiet_unless event stays = cond_both m.is_stopped (refused m refusal.Stopped) (on_event m event) Stays (λ t. same) (λ t. stays)
+  quiet_unless event stays =
+      cond_both m.is_stopped (refused m refusal.Stopped) (on_event m event) Stays (λ t. same) (λ t. stays)
 
   pub delivery_stays : (n : ℕ) → Stays (transition m (Deliver n))
   delivery_stays n = quiet_unless (Deliver n) (delivered_stays n (at_number n m.mail.messages))

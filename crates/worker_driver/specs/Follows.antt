@@ -10,10 +10,13 @@ use Rattle.worker_driver.specs.Acts.{Acts}
 use Rattle.worker_driver.specs.Schedule.{RoundStart, Position, Does, Goes, Ends, choose, after}
 
 -- the events, each as the schedule has it, lead from the start to a position
-pub data Follows {P : Type 0} (acts : Acts P) (plan : Plan) (start : Position P) : List Event → Position P → Type 0 where
+pub data Follows {P : Type 0} (acts : Acts P) (plan : Plan) (start : Position P) : List Event →
+    Position P → Type 0 where
   stays : Follows acts plan start [] start
-  goes : {events : List Event} {d e : Position P} → Follows acts plan start events d → choose acts plan d ≡ Goes e → Follows acts plan start events e
-  does : {events : List Event} {d : Position P} {event : Event} → Follows acts plan start events d → choose acts plan d ≡ Does event →
+  goes : {events : List Event} {d e : Position P} → Follows acts plan start events d → choose acts plan d ≡ Goes e →
+      Follows acts plan start events e
+  does : {events : List Event} {d : Position P} {event : Event} → Follows acts plan start events d →
+      choose acts plan d ≡ Does event →
       Follows acts plan start (events ++ event ∷ []) (after acts d event)
 
 -- the plan of a run on a machine that is set up so
@@ -22,7 +25,8 @@ plan_of config limit = record { cores = config.cores; line_words = config.line_w
 
 -- a run opens before its first round
 abbrev pub opening : {P : Type 0} → Machine → List P → Position P
-opening m programs = record { machine = m; programs = programs; stage = RoundStart; has_progressed = false; rounds = 0 }
+opening m programs =
+    record { machine = m; programs = programs; stage = RoundStart; has_progressed = false; rounds = 0 }
 
 -- the events lead to this machine and these programs, where the schedule has this end, unless memory was refused
 pub record Ended {P : Type 0} (acts : Acts P) (plan : Plan) (start : Position P) (events : List Event)

@@ -59,12 +59,20 @@ at m programs log stage = record { machine = m; programs = programs; log = log; 
 -- its position, after so many rounds
 abbrev pub position : {P : Type 0} → Point P → ℕ → Position P
 position p rounds =
-    record { machine = p.machine; programs = p.programs; stage = p.stage; has_progressed = p.log.has_progressed; rounds = rounds }
+    record {
+      machine = p.machine;
+      programs = p.programs;
+      stage = p.stage;
+      has_progressed =
+          p.log.has_progressed;
+      rounds = rounds;
+    }
 
 -- a run that follows the schedule to the one point follows it to the other
 abbrev pub Leads : {P : Type 0} → Acts P → Plan → Point P → Point P → Type 0
 Leads {P} acts plan p q = (start : Position P) (rounds : ℕ) →
-    Follows acts plan start p.log.events (position p rounds) → Follows acts plan start q.log.events (position q rounds)
+    Follows acts plan start p.log.events (position p rounds) → Follows acts plan start q.log.events
+    (position q rounds)
 
 -- a run that follows the schedule to the point ends with this machine, these programs and this log
 abbrev pub Stops : {P : Type 0} → Acts P → Plan → Point P → Machine → List P → Log → End → Type 0

@@ -1,5 +1,6 @@
 -- The schedule of rounds: at which stage of a round a run is, which event comes next there, and how it ends.
-use Rattle.std.specs.Prelude.{ℕ, zero, suc, ◌+◌, ◌/◌, ◌==◌, nat_lt, Bool, true, false, ◌&&◌, ◌||◌, is_none, List, [], ◌∷◌, map, Option, Some, None, if◌then◌else◌}
+use Rattle.std.specs.Prelude.{ℕ, zero, suc, ◌+◌, ◌/◌, ◌==◌, nat_lt, Bool, true, false, ◌&&◌, ◌||◌, is_none, List, []}
+use Rattle.std.specs.Prelude.{◌∷◌, map, Option, Some, None, if◌then◌else◌}
 use Rattle.physiological_order.specs.declared.operation.Op.{Op}
 use Rattle.physiological_order.specs.Order.{address}
 use Rattle.machine_table.specs.declared.event.Event.{Event}
@@ -145,7 +146,11 @@ told acts programs core _ = programs
 abbrev pub answered_at : {P : Type 0} → Acts P → Position P → Answer → Stage → Position P
 answered_at acts d answer (Issuing core) = at_stage d (Attempting core)
 answered_at acts d answer (Attempting core) =
-    record d { programs = told acts d.programs core answer; stage = if is_no_room answer then Evicting core else Issuing (core + 1) }
+    record d {
+      programs = told acts d.programs core answer;
+      stage = if is_no_room answer then Evicting core else
+          Issuing (core + 1);
+    }
 answered_at acts d answer (Evicting core) = at_stage d (AttemptingAgain core)
 answered_at acts d answer (AttemptingAgain core) =
     record d { programs = told acts d.programs core answer; stage = Issuing (core + 1) }

@@ -103,7 +103,8 @@ impl Log {
     fn note(&mut self, event: &Event, answer: &Answer)
         requires { 0 < self.old.reserved }
         ensures events { self.new.events ≡ self.old.events ++ event.now ∷ [] }
-        ensures progressed { self.new.has_progressed ≡ (self.old.has_progressed || is_progress answer.now) }
+        ensures progressed { self.new.has_progressed ≡ (self.old.has_progressed
+            || is_progress answer.now) }
     {
         // The check finds the parts of an event only where the function names an operation's type.
         let _op: Option<Op> = None;

@@ -1,7 +1,8 @@
 //! One round: the turns of the cores, and the delivery of what is in flight. Each function takes a run from one place of
 //! the schedule to the next.
 ghost use Rattle.std.specs.Prelude.{◌≡◌, ◌+◌, ◌<◌, ◌∷◌, [], IfErr, List, OnOk, ℕ};
-ghost use Rattle.worker_driver.specs.Schedule.{Issuing, Attempting, Evicting, AttemptingAgain, Delivering, MakingRoom};
+ghost use Rattle.worker_driver.specs.Schedule.{Issuing, Attempting, Evicting, AttemptingAgain, Delivering};
+ghost use Rattle.worker_driver.specs.Schedule.{MakingRoom};
 ghost use Rattle.worker_driver.specs.Noting.{Leads, Stops, at};
 
 use crate::look_ups::{next_in, tell, victim_for};
@@ -21,8 +22,10 @@ fn issue<P: Program>(
     core: u32,
 ) -> Result<(), End>
     requires { core < plan.cores }
-    ensures goes_on { OnOk result (Leads P.acts plan (at system.old programs.old log.old (Issuing core)) (at system.new programs.new log.new (Attempting core))) }
-    ensures stops { IfErr result (Stops P.acts plan (at system.old programs.old log.old (Issuing core)) system.new programs.new log.new) }
+    ensures goes_on { OnOk result (Leads P.acts plan (at system.old programs.old log.old (Issuing core))
+        (at system.new programs.new log.new (Attempting core))) }
+    ensures stops { IfErr result (Stops P.acts plan (at system.old programs.old log.old (Issuing core))
+        system.new programs.new log.new) }
 {
     if system.open_op(core).is_some() {
         return Ok(());
@@ -43,8 +46,10 @@ fn attempt<P: Program>(
     core: u32,
 ) -> Result<(), End>
     requires { 0 < plan.line_words }
-    ensures goes_on { OnOk result (Leads P.acts plan (at system.old programs.old log.old (Attempting core)) (at system.new programs.new log.new (Issuing (core + 1)))) }
-    ensures stops { IfErr result (Stops P.acts plan (at system.old programs.old log.old (Attempting core)) system.new programs.new log.new) }
+    ensures goes_on { OnOk result (Leads P.acts plan (at system.old programs.old log.old (Attempting core))
+        (at system.new programs.new log.new (Issuing (core + 1)))) }
+    ensures stops { IfErr result (Stops P.acts plan (at system.old programs.old log.old (Attempting core))
+        system.new programs.new log.new) }
 {
     if system.open_op(core).is_none() {
         return Ok(());
@@ -66,8 +71,10 @@ fn evict<P: Program>(
     core: u32,
 ) -> Result<(), End>
     requires { 0 < plan.line_words }
-    ensures goes_on { OnOk result (Leads P.acts plan (at system.old programs.old log.old (Evicting core)) (at system.new programs.new log.new (Issuing (core + 1)))) }
-    ensures stops { IfErr result (Stops P.acts plan (at system.old programs.old log.old (Evicting core)) system.new programs.new log.new) }
+    ensures goes_on { OnOk result (Leads P.acts plan (at system.old programs.old log.old (Evicting core))
+        (at system.new programs.new log.new (Issuing (core + 1)))) }
+    ensures stops { IfErr result (Stops P.acts plan (at system.old programs.old log.old (Evicting core))
+        system.new programs.new log.new) }
 {
     let Some(line) = victim_for(plan, system, core) else {
         return attempt_again(plan, system, programs, log, core);
@@ -84,8 +91,12 @@ fn attempt_again<P: Program>(
     log: &mut Log,
     core: u32,
 ) -> Result<(), End>
-    ensures goes_on { OnOk result (Leads P.acts plan (at system.old programs.old log.old (AttemptingAgain core)) (at system.new programs.new log.new (Issuing (core + 1)))) }
-    ensures stops { IfErr result (Stops P.acts plan (at system.old programs.old log.old (AttemptingAgain core)) system.new programs.new log.new) }
+    ensures goes_on { OnOk result
+        (Leads P.acts plan (at system.old programs.old log.old (AttemptingAgain core))
+        (at system.new programs.new log.new (Issuing (core + 1)))) }
+    ensures stops { IfErr result
+        (Stops P.acts plan (at system.old programs.old log.old (AttemptingAgain core)) system.new
+        programs.new log.new) }
 {
     let second = step(log, system, &Event::Attempt(core))?;
     tell(programs, core, &second);
@@ -99,8 +110,14 @@ fn deliver<P: Program>(
     log: &mut Log,
     number: MsgNo,
 ) -> Result<(), End>
-    ensures goes_on { (programs : List P) (left : List ℕ) → OnOk result (Leads P.acts plan (at system.old programs log.old (Delivering (number ∷ left))) (at system.new programs log.new (Delivering left))) }
-    ensures stops { (programs : List P) (left : List ℕ) → IfErr result (Stops P.acts plan (at system.old programs log.old (Delivering (number ∷ left))) system.new programs log.new) }
+    ensures goes_on { (programs : List P) (left : List ℕ) →
+        OnOk result (Leads P.acts plan
+        (at system.old programs log.old (Delivering (number ∷ left)))
+        (at system.new programs log.new (Delivering left))) }
+    ensures stops { (programs : List P) (left : List ℕ) →
+        IfErr result
+        (Stops P.acts plan (at system.old programs log.old (Delivering (number ∷ left)))
+        system.new programs log.new) }
 {
     let answer = step(log, system, &Event::Deliver(number))?;
     if !is_held(&answer) {
@@ -121,8 +138,10 @@ fn turns<P: Program>(
     log: &mut Log,
 ) -> Result<(), End>
     requires { 0 < plan.line_words }
-    ensures goes_on { OnOk result (Leads P.acts plan (at system.old programs.old log.old (Issuing 0)) (at system.new programs.new log.new (Issuing plan.cores))) }
-    ensures stops { IfErr result (Stops P.acts plan (at system.old programs.old log.old (Issuing 0)) system.new programs.new log.new) }
+    ensures goes_on { OnOk result (Leads P.acts plan (at system.old programs.old log.old (Issuing 0))
+        (at system.new programs.new log.new (Issuing plan.cores))) }
+    ensures stops { IfErr result (Stops P.acts plan (at system.old programs.old log.old (Issuing 0))
+        system.new programs.new log.new) }
 {
     for core in 0..plan.cores {
         issue(plan, system, programs, log, core)?;
@@ -133,8 +152,12 @@ fn turns<P: Program>(
 
 // Each message that is in flight behind the last turn is delivered, once, in rising order.
 fn deliveries<P: Program>(plan: Plan, system: &mut System, log: &mut Log) -> Result<(), End>
-    ensures goes_on { (programs : List P) → OnOk result (Leads P.acts plan (at system.old programs log.old (Issuing plan.cores)) (at system.new programs log.new (Delivering []))) }
-    ensures stops { (programs : List P) → IfErr result (Stops P.acts plan (at system.old programs log.old (Issuing plan.cores)) system.new programs log.new) }
+    ensures goes_on { (programs : List P) →
+        OnOk result (Leads P.acts plan (at system.old programs log.old (Issuing plan.cores))
+        (at system.new programs log.new (Delivering []))) }
+    ensures stops { (programs : List P) →
+        IfErr result (Stops P.acts plan (at system.old programs log.old (Issuing plan.cores))
+        system.new programs log.new) }
 {
     let Ok(numbers) = system.in_flight() else {
         return Err(End::NoMemory);
@@ -155,8 +178,10 @@ pub(crate) fn round<P: Program>(
     log: &mut Log,
 ) -> Result<(), End>
     requires { 0 < plan.line_words }
-    ensures goes_on { OnOk result (Leads P.acts plan (at system.old programs.old log.old (Issuing 0)) (at system.new programs.new log.new (Delivering []))) }
-    ensures stops { IfErr result (Stops P.acts plan (at system.old programs.old log.old (Issuing 0)) system.new programs.new log.new) }
+    ensures goes_on { OnOk result (Leads P.acts plan (at system.old programs.old log.old (Issuing 0))
+        (at system.new programs.new log.new (Delivering []))) }
+    ensures stops { IfErr result (Stops P.acts plan (at system.old programs.old log.old (Issuing 0))
+        system.new programs.new log.new) }
 {
     turns(plan, system, programs, log)?;
     deliveries::<P>(plan, system, log)

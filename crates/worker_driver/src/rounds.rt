@@ -34,9 +34,11 @@ pub fn drive_round<P: Program>(
     limit: u32,
 ) -> Driven
     requires one_each { length programs.old ≡ system.old.config.cores }
-    ensures schedule { Ended P.acts (plan_of system.old.config limit) (opening system.old programs.old) result.events.items system.new programs.new result.end }
+    ensures schedule { Ended P.acts (plan_of system.old.config limit)
+        (opening system.old programs.old) result.events.items system.new programs.new result.end }
     ensures machine { system.new ≡ after_all system.old result.events.items }
-    ensures all_done { result.end ≡ End.AllDone → (core : ℕ) → core < system.old.config.cores → (open_op system.new core ≡ None) × (next_in P.acts programs.new core ≡ None) }
+    ensures all_done { result.end ≡ End.AllDone → (core : ℕ) → core < system.old.config.cores →
+        (open_op system.new core ≡ None) × (next_in P.acts programs.new core ≡ None) }
     ensures served { AreServed P.acts system.old system.new programs.old programs.new }
 {
     let plan = Plan {
@@ -59,7 +61,8 @@ fn rounds<P: Program>(plan: Plan, system: &mut System, programs: &mut [P], log: 
     requires words { 0 < plan.line_words }
     requires nothing_yet { log.old.events ≡ [] }
     requires no_progress_yet { log.old.has_progressed ≡ false }
-    ensures { Ended P.acts plan (opening system.old programs.old) log.new.events system.new programs.new result }
+    ensures { Ended P.acts plan (opening system.old programs.old) log.new.events system.new
+        programs.new result }
 {
     for _made in 0..plan.limit {
         if are_over(system, programs, plan.cores) {

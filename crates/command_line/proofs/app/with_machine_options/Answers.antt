@@ -16,4 +16,7 @@ returns-clause-app c =
     IfOk-weaker c.with_any-9.result _ _ (λ m h. next h e8 refl) c.with_any-9.ensures.app
 
 pub returns-clause-globals : goal.returns-clause-globals
-returns-clause-globals c = IfOk-weaker c.with_any-9.result _ _ (λ m h. h ∙ c.in_ok-command-8.ensures.globals ∙ c.in_ok-command-7.ensures.globals ∙ c.in_ok-command-6.ensures.globals ∙ c.in_ok-command-5.ensures.globals ∙ c.in_ok-command-4.ensures.globals ∙ c.in_ok-command-3.ensures.globals ∙ c.in_ok-command-2.ensures.globals ∙ c.in_ok-command.ensures.globals) c.with_any-9.ensures.globals
+returns-clause-globals c = IfOk-weaker c.with_any-9.result _ _ (λ m h. h ∙ c.in_ok-command-8.ensures.globals
+    ∙ c.in_ok-command-7.ensures.globals ∙ c.in_ok-command-6.ensures.globals ∙ c.in_ok-command-5.ensures.globals
+    ∙ c.in_ok-command-4.ensures.globals ∙ c.in_ok-command-3.ensures.globals ∙ c.in_ok-command-2.ensures.globals
+    ∙ c.in_ok-command.ensures.globals) c.with_any-9.ensures.globals

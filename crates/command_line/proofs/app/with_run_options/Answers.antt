@@ -17,4 +17,6 @@ returns-clause-app c =
     IfOk-weaker c.with-5.result _ _ (λ m h. (p.0, p.1, next h e4 c.private_write.ensures.rule)) c.with-5.ensures.app
 
 pub returns-clause-globals : goal.returns-clause-globals
-returns-clause-globals c = IfOk-weaker c.with-5.result _ _ (λ m h. h ∙ c.in_ok-command-4.ensures.globals ∙ c.in_ok-command-3.ensures.globals ∙ c.in_ok-command-2.ensures.globals ∙ c.in_ok-command.ensures.globals) c.with-5.ensures.globals
+returns-clause-globals c = IfOk-weaker c.with-5.result _ _ (λ m h. h ∙ c.in_ok-command-4.ensures.globals
+    ∙ c.in_ok-command-3.ensures.globals ∙ c.in_ok-command-2.ensures.globals ∙ c.in_ok-command.ensures.globals)
+    c.with-5.ensures.globals

@@ -20,6 +20,18 @@ returns-in-Err-2-clause-refused c =
 pub returns-clause-job : goal.returns-clause-job
 returns-clause-job c =
     let e = c.in-Ok.ensures.app in
-    let found = found_is _ e.0 _ _ _ _ e.2 c.in-Ok-try_get_matches_from.ensures.matches c.in-Some.ensures.name c.in-Some.ensures.rows in
-    let passes = no_fault _ e.0 _ e.2 c.in-Ok-try_get_matches_from.ensures.kinds in
-    (e.0, e.1, passes, _, found, (litmus_is_named e.0 (map (λ w. w.now) c.args.words.now) _ _ passes found, c.options_of.ensures, λ path is. file_is (found_of c.in-Some.inner.now) (codes "FILE") path _ _ _ c.get_str.ensures c.unwrap_or-file.ensures is))
+    let found = found_is _ e.0 _ _ _ _ e.2 c.in-Ok-try_get_matches_from.ensures.matches c.in-Some.ensures.name
+    c.in-Some.ensures.rows in
+    let passes = no_fault _ e.0 _ e.2 c.in-Ok-try_get_matches_from.ensures.kinds in (
+      e.0,
+      e.1,
+      passes,
+      _,
+      found,
+      (
+        litmus_is_named e.0 (map (λ w. w.now) c.args.words.now) _ _ passes found,
+        c.options_of.ensures,
+        λ path is. file_is (found_of c.in-Some.inner.now) (codes "FILE") path _ _ _
+            c.get_str.ensures c.unwrap_or-file.ensures is,
+      ),
+    )

@@ -4,4 +4,5 @@ use Rattle.interleaving_core.proofs.opening.open_cores.Goals as goal
 
 pub loop-number-preserved : goal.loop-number-preserved
 loop-number-preserved c =
-    c.in_ok-push.ensures.items ∙ ap₂ (λ xs x. xs ++ x ∷ []) c.loop-number.invariant c.in_ok-new.ensures ∙ next_core c.args.config c.loop-number.number
+    c.in_ok-push.ensures.items ∙ ap₂ (λ xs x. xs ++ x ∷ []) c.loop-number.invariant c.in_ok-new.ensures
+    ∙ next_core c.args.config c.loop-number.number

@@ -20,10 +20,13 @@ loop-word-preserved c = (
       ∙ sym (filled_last c.args.config c.pop.new.self.items c.in-Some.word c.loop-word.drams.items)
       ∙ ap (λ ws. filled c.args.config ws c.loop-word.drams.items) (sym c.in-Some.ensures.items)
       ∙ c.loop-word.invariant.0,
-  ap length c.in_ok-set_word.ensures ∙ set_counts c.args.config c.in-Some.word c.loop-word.drams.items ∙ c.loop-word.invariant.1,
+  ap length c.in_ok-set_word.ensures ∙ set_counts c.args.config c.in-Some.word c.loop-word.drams.items
+      ∙ c.loop-word.invariant.1,
 )
 
 pub returns : goal.returns
 returns c =
-    let none : c.loop-word.words.items ≡ [] = c.in_default.ensures.items ∙ append-nil c.pop.new.self.items ∙ c.in_default.ensures.rest ∙ ap (λ n. take (n - 1) c.loop-word.words.items) c.in_default.ensures.cases.0 in
-    ap (λ ws. filled c.args.config ws c.loop-word.drams.items) (sym none) ∙ c.loop-word.invariant.0 ∙ filled_is c.args.config (fair c.args.config c.requires).some_banks (entries c.args.memory.now)
+    let none : c.loop-word.words.items ≡ [] = c.in_default.ensures.items ∙ append-nil c.pop.new.self.items
+    ∙ c.in_default.ensures.rest ∙ ap (λ n. take (n - 1) c.loop-word.words.items) c.in_default.ensures.cases.0 in
+    ap (λ ws. filled c.args.config ws c.loop-word.drams.items) (sym none) ∙ c.loop-word.invariant.0
+    ∙ filled_is c.args.config (fair c.args.config c.requires).some_banks (entries c.args.memory.now)

@@ -5,7 +5,8 @@ use Rattle.interleaving_core.proofs.opening.open_drams.Given as goal
 
 -- the words that are left make of these DRAMs what all words make of empty ones
 abbrev pub invariant-loop-word : goal.invariant-loop-word
-invariant-loop-word l = (filled l.fn.config l.words.items l.drams.items ≡ filled l.fn.config (entries l.fn.memory) (no_words l.fn.config)) × (length l.drams.items ≡ l.fn.config.banks)
+invariant-loop-word l = (filled l.fn.config l.words.items l.drams.items ≡ filled l.fn.config (entries l.fn.memory)
+    (no_words l.fn.config)) × (length l.drams.items ≡ l.fn.config.banks)
 
 abbrev pub decreases-loop-word : goal.decreases-loop-word
 decreases-loop-word l = length l.words.items

@@ -9,8 +9,11 @@ use Rattle.interleaving_core.proofs.operations.attempt.Goals as goal
 pub returns-in-Ok-NeedShared-clause-done : goal.returns-in-Ok-NeedShared-clause-done
 returns-in-Ok-NeedShared-clause-done c =
     let opens = seen_beside _ _ _ _ (sym c.open_op.ensures ∙ c.in-Some.is) in
-    let is = sym c.attempt.ensures ∙ ap (λ r. (r, c.attempt.new.self)) (ap result_ok c.in-Ok-NeedShared.is ∙ ap Some c.in-Ok-NeedShared.field-0-is) in
+    let is = sym c.attempt.ensures ∙ ap (λ r. (r, c.attempt.new.self)) (ap result_ok c.in-Ok-NeedShared.is
+    ∙ ap Some c.in-Ok-NeedShared.field-0-is) in
     let kept = c.nothing_completed_keeps.ensures c.args.core.now c.attempt.new.self _ is refl in
-    subst (λ (x : Answer × CoreState × Mail). IfOk c.request.result (λ answer. (answer, c.request.new.core, c.request.new.flight.mail) ≡ x))
-    (attempt_requests c.args.number c.args.count c.args.flight.now.capacity c.args.flight.now.mail c.args.core.now c.attempt.new.self _ c.in-Ok-NeedShared.pts c.in-Ok-NeedShared.version kept opens is)
+    subst (λ (x : Answer × CoreState × Mail). IfOk c.request.result
+    (λ answer. (answer, c.request.new.core, c.request.new.flight.mail) ≡ x))
+    (attempt_requests c.args.number c.args.count c.args.flight.now.capacity c.args.flight.now.mail c.args.core.now
+    c.attempt.new.self _ c.in-Ok-NeedShared.pts c.in-Ok-NeedShared.version kept opens is)
     c.request.ensures.done

@@ -11,13 +11,23 @@ loop-thread-init c = let z : c.args.threads - 0 ≡ c.args.threads = omega arith
 pub returns-in_err-kept : goal.returns-in_err-kept
 returns-in_err-kept c =
     let p = err_from_is_err_and c.from_residual.result c.from_residual.ensures.1 in
-    rw (p.1, p.2) (fails-there _ (column_at c.args.items.now c.args.threads) ended c.args.threads c.loop-thread.thread _ _ c.loop-thread-test.true c.in_err-kept.ensures c.loop-thread.invariant)
+    rw (p.1, p.2) (fails-there _ (column_at c.args.items.now c.args.threads) ended c.args.threads c.loop-thread.thread
+    _ _ c.loop-thread-test.true c.in_err-kept.ensures c.loop-thread.invariant)
 
 pub loop-thread-preserved : goal.loop-thread-preserved
-loop-thread-preserved c = goes-on (column_at c.args.items.now c.args.threads) ended c.args.threads c.loop-thread.thread _ _ _ c.loop-thread-test.true c.in_ok-kept.ensures c.loop-thread.invariant
+loop-thread-preserved c = goes-on (column_at c.args.items.now c.args.threads) ended c.args.threads
+    c.loop-thread.thread _ _ _ c.loop-thread-test.true c.in_ok-kept.ensures c.loop-thread.invariant
 
 pub returns : goal.returns
 returns c =
-    let last : c.loop-thread.thread ≡ c.args.threads = omega (arith, c.loop-thread-test.false, c.loop-thread.auto.thread-end) in
-    runs-out (column_at c.args.items.now c.args.threads) ended c.args.threads c.loop-thread.thread _ _ c.loop-thread-test.false c.loop-thread.invariant
-    ∙ ap (λ (n : ℕ). Ok (n, c.loop-thread.cells.items, c.loop-thread.width, c.loop-thread.at.line, c.loop-thread.at.pieces)) last
+    let last : c.loop-thread.thread ≡ c.args.threads =
+    omega (arith, c.loop-thread-test.false, c.loop-thread.auto.thread-end) in
+    runs-out (column_at c.args.items.now c.args.threads) ended c.args.threads c.loop-thread.thread _ _
+    c.loop-thread-test.false c.loop-thread.invariant
+    ∙ ap (λ (n : ℕ). Ok (
+      n,
+      c.loop-thread.cells.items,
+      c.loop-thread.width,
+      c.loop-thread.at.line,
+      c.loop-thread.at.pieces,
+    )) last

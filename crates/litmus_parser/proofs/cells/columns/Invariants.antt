@@ -5,5 +5,6 @@ use Rattle.litmus_parser.proofs.cells.columns.Given as goal
 
 -- what is left to read is what all of it reads as
 abbrev pub invariant-loop-thread : goal.invariant-loop-thread
-invariant-loop-thread l = repeat_at (l.fn.threads - l.thread) (column_at l.fn.items l.fn.threads) ended (l.thread, l.cells.items, l.width, l.at.line, l.at.pieces)
+invariant-loop-thread l = repeat_at (l.fn.threads - l.thread) (column_at l.fn.items l.fn.threads) ended
+    (l.thread, l.cells.items, l.width, l.at.line, l.at.pieces)
     ≡ columns_at l.fn.items l.fn.threads (0, l.fn.cells.items, l.fn.width, l.fn.cursor.line, l.fn.cursor.pieces)

@@ -11,7 +11,8 @@ chain-loop-init t c =
 pub chain-returns-in_err-more : goal.chain-returns-in_err-more
 chain-returns-in_err-more t c =
     let p = err_from_is_err_and c.from_residual-in_err-more.result c.from_residual-in_err-more.ensures.1 in
-    rw (p.1, p.2) (next-fails _ (next_part_at c.args.connective c.args.items.now c.args.threads c.args.depth) c.loop.counter _ _
+    rw (p.1, p.2) (next-fails _ (next_part_at c.args.connective c.args.items.now c.args.threads c.args.depth)
+    c.loop.counter _ _
     c.loop-test.true c.in_err-more.ensures c.loop.invariant)
 
 pub chain-returns-then-not-more : goal.chain-returns-then-not-more
@@ -26,5 +27,6 @@ chain-loop-preserved t c =
 
 pub chain-returns : goal.chain-returns
 chain-returns t c =
-    rw c.fault.ensures (too-many (next_part_at c.args.connective c.args.items.now c.args.threads c.args.depth) c.loop.counter _ _
+    rw c.fault.ensures (too-many (next_part_at c.args.connective c.args.items.now c.args.threads c.args.depth)
+    c.loop.counter _ _
     c.loop-test.false c.loop.invariant)

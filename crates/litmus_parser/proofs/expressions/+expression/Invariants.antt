@@ -22,4 +22,5 @@ abbrev pub invariant-chain-loop : goal.invariant-chain-loop
 invariant-chain-loop l =
     (repeat_at (256 - l.counter) (next_part_at l.fn.connective l.fn.items l.fn.threads l.fn.depth) too_many_parts
     (tree_of l.left, (l.locations, l.atoms), l.at.line, l.at.pieces) >>= chain_result)
-    ≡ chain_at l.fn.connective l.fn.items l.fn.threads l.fn.depth (l.fn.locations, l.fn.atoms) l.fn.cursor.line l.fn.cursor.pieces
+    ≡ chain_at l.fn.connective l.fn.items l.fn.threads l.fn.depth (l.fn.locations, l.fn.atoms)
+    l.fn.cursor.line l.fn.cursor.pieces

@@ -11,13 +11,17 @@ loop-init c = refl
 pub returns-in_err-more-clause-read : goal.returns-in_err-more-clause-read
 returns-in_err-more-clause-read c =
     let p = err_from_is_err_and c.from_residual.result c.from_residual.ensures.1 in
-    rw (p.1, p.2) (fails-there _ header_line_at cut_short 65536 c.loop.counter _ _ c.loop-test.true c.in_err-more.ensures.read c.loop.invariant)
+    rw (p.1, p.2) (fails-there _ header_line_at cut_short 65536 c.loop.counter _ _ c.loop-test.true
+    c.in_err-more.ensures.read c.loop.invariant)
 
 pub returns-then-not-more-clause-read : goal.returns-then-not-more-clause-read
-returns-then-not-more-clause-read c = is-done header_line_at cut_short 65536 c.loop.counter _ _ _ c.loop-test.true (search rules) c.loop.invariant
+returns-then-not-more-clause-read c =
+    is-done header_line_at cut_short 65536 c.loop.counter _ _ _ c.loop-test.true (search rules) c.loop.invariant
 
 pub loop-preserved : goal.loop-preserved
-loop-preserved c = goes-on header_line_at cut_short 65536 c.loop.counter _ _ _ c.loop-test.true (search rules) c.loop.invariant
+loop-preserved c =
+    goes-on header_line_at cut_short 65536 c.loop.counter _ _ _ c.loop-test.true (search rules) c.loop.invariant
 
 pub returns-clause-read : goal.returns-clause-read
-returns-clause-read c = rw c.fault.ensures (runs-out header_line_at cut_short 65536 c.loop.counter _ _ c.loop-test.false c.loop.invariant)
+returns-clause-read c = rw c.fault.ensures (runs-out header_line_at cut_short 65536 c.loop.counter _ _
+    c.loop-test.false c.loop.invariant)

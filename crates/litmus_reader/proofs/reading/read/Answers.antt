@@ -1,6 +1,6 @@
 use Rattle.litmus_reader.proofs.Found.{found-told}
-use Rattle.litmus_reader.proofs.FoundAgain.{only-told}
-use Rattle.litmus_reader.proofs.ReadExplains.{fault-told, early-told}
+use Rattle.litmus_reader.proofs.Only.{only-told}
+use Rattle.litmus_reader.proofs.Fault.{fault-told, early-told}
 use Rattle.litmus_reader.proofs.Sizes.{threads-few}
 use Rattle.litmus_reader.proofs.reading.read.Goals as goal
 

@@ -7,5 +7,6 @@ use Rattle.network.proofs.slots.count_wanted.Given as goal
 abbrev pub invariant-loop-slot : goal.invariant-loop-slot
 invariant-loop-slot l = record {
   within : l.count ≤ l.slot-index;
-  counted : l.count + count_messages (is_wanted l.wanted) (still_there (drop l.slot-index l.slots)) ≡ count_messages (is_wanted l.wanted) (still_there l.slots);
+  counted : l.count + count_messages (is_wanted l.wanted) (still_there (drop l.slot-index l.slots)) ≡ count_messages
+      (is_wanted l.wanted) (still_there l.slots);
 }

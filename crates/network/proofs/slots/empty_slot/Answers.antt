@@ -3,7 +3,9 @@ use Rattle.network.proofs.Sending.{still_there-set, IsRising-set}
 use Rattle.network.proofs.slots.empty_slot.Goals as goal
 
 pub returns-clause-after : goal.returns-clause-after
-returns-clause-after c = still_there-set c.args.number 0 (2 ^ 64) c.args.at _ c.args.slots.now.items c.requires.here c.requires.rising
+returns-clause-after c =
+    still_there-set c.args.number 0 (2 ^ 64) c.args.at _ c.args.slots.now.items c.requires.here c.requires.rising
 
 pub returns-clause-rising : goal.returns-clause-rising
-returns-clause-rising c = λ high rising. IsRising-set 0 high c.args.at c.args.number _ _ c.args.slots.now.items c.requires.here rising
+returns-clause-rising c = λ high rising. IsRising-set 0 high c.args.at c.args.number _ _ c.args.slots.now.items
+    c.requires.here rising

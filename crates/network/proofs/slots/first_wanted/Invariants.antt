@@ -5,4 +5,5 @@ use Rattle.network.specs.Search.{first_message}
 use Rattle.network.proofs.slots.first_wanted.Given as goal
 
 abbrev pub invariant-loop-slot : goal.invariant-loop-slot
-invariant-loop-slot l = first_message (is_wanted l.wanted) (still_there (drop l.slot-index l.slots)) ≡ first_message (is_wanted l.wanted) (still_there l.slots)
+invariant-loop-slot l = first_message (is_wanted l.wanted) (still_there (drop l.slot-index l.slots)) ≡ first_message
+    (is_wanted l.wanted) (still_there l.slots)

@@ -5,4 +5,5 @@ use Rattle.number_map.proofs.number_map.sort_by_number.Goals as goal
 
 pub returns-clause-sorted : goal.returns-clause-sorted
 returns-clause-sorted g c =
-    on_ok_weaker c.sort_by_key.result (λ (sorted : _). IsNonDecreasingBy-from_sort_by_key (λ pair. pair.0) _ sorted (λ a r q k. search rules)) c.sort_by_key.ensures.sorted
+    on_ok_weaker c.sort_by_key.result (λ (sorted : _). IsNonDecreasingBy-from_sort_by_key (λ pair. pair.0) _ sorted
+    (λ a r q k. search rules)) c.sort_by_key.ensures.sorted

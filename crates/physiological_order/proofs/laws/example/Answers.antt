@@ -19,14 +19,32 @@ pub returns-clause-one : goal.returns-clause-one
 unfolding zeros first
 returns-clause-one c =
     Legal-from_Kept (λ a. 0) two_issued (two_records 1)
-    (Kept-push (λ a. 0) two_issued (first ∷ []) (record { core = 0; place = 1; op = Load 0; received = Some 1; ts = 1; number = 1 })
+    (Kept-push (λ a. 0) two_issued (first ∷ []) (record {
+      core = 0;
+      place = 1;
+      op = Load 0;
+      received =
+          Some 1;
+      ts = 1;
+      number = 1;
+    })
     (Kept-push (λ a. 0) two_issued [] first (Kept-none (λ a. 0) two_issued)
     (record { number = refl; place = refl; issued_there = refl; pts = tt; value = refl; undisturbed = tt }))
-    (record { number = refl; place = refl; issued_there = refl; pts = (λ e. omega arith, tt); value = refl; undisturbed = tt }))
+    (record {
+      number = refl;
+      place = refl;
+      issued_there = refl;
+      pts = (λ e. omega arith, tt);
+      value =
+          refl;
+      undisturbed = tt;
+    }))
 
 pub returns-clause-zero : goal.returns-clause-zero
 returns-clause-zero c = λ k.
-    let e = one_arrangement (two_records 0) k.arranged (two_records 0) k.arrangement (record { same_members = IsPermutation-refl (two_records 0); rises = (inr (refl, omega arith), tt) }) in
-    let v = subst (λ (rs : List Record). replay (λ a. 0) (map (λ r. r.op) rs) ≡ map (λ r. r.received) rs) e k.values in
+    let e = one_arrangement (two_records 0) k.arranged (two_records 0) k.arrangement
+    (record { same_members = IsPermutation-refl (two_records 0); rises = (inr (refl, omega arith), tt) }) in
+    let v = subst (λ (rs : List Record). replay (λ a. 0) (map (λ r. r.op) rs) ≡ map (λ r. r.received) rs) e
+    k.values in
     let z : ◌≡◌ {A = List (Option ℕ)} (None ∷ Some 1 ∷ []) (None ∷ Some 0 ∷ []) = v in
     let one : ◌≡◌ {A = ℕ} 1 0 = cc in absurd (omega arith)

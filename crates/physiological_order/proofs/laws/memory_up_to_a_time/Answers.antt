@@ -1,4 +1,5 @@
-use Rattle.physiological_order.proofs.History.{memory_at-placed_before, memory_at-placed_keeps, memory_at-placed_writes, memory_at-end}
+use Rattle.physiological_order.proofs.History.{memory_at-placed_before, memory_at-placed_keeps}
+use Rattle.physiological_order.proofs.History.{memory_at-placed_writes, memory_at-end}
 use Rattle.physiological_order.proofs.Arranged.{Sorted-from_Ascends}
 use Rattle.physiological_order.proofs.laws.memory_up_to_a_time.Goals as goal
 
@@ -10,7 +11,8 @@ returns-clause-keeps c = memory_at-placed_keeps
 
 pub returns-clause-writes : goal.returns-clause-writes
 returns-clause-writes c = λ opening next records time word value ascends unused gives later.
-    memory_at-placed_writes opening next records time word value (Sorted-from_Ascends records ascends) unused gives later
+    memory_at-placed_writes opening next records time word value (Sorted-from_Ascends records ascends) unused gives
+    later
 
 pub returns-clause-end : goal.returns-clause-end
 returns-clause-end c = memory_at-end

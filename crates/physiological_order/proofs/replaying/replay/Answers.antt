@@ -10,12 +10,16 @@ loop-operation-preserved c =
     let op = c.operation-item.result in
     let done = take c.loop-operation.operation-index c.args.operations.now in
     record {
-      memory = c.in_ok-perform.ensures.performed ∙ ap (λ words. words_after words op) c.loop-operation.invariant.memory
-          ∙ sym (words_end-take c.args.opening.now c.args.operations.now c.loop-operation.operation-index op c.loop-operation-test.true c.operation-item.is);
+      memory = c.in_ok-perform.ensures.performed ∙ ap (λ words. words_after words op)
+          c.loop-operation.invariant.memory
+          ∙ sym (words_end-take c.args.opening.now c.args.operations.now c.loop-operation.operation-index op
+          c.loop-operation-test.true c.operation-item.is);
       received = c.in_ok-push.ensures.items
           ∙ ap₂ (λ before value. before ++ value ∷ []) c.loop-operation.invariant.received
-          (c.in_ok-perform.ensures.received ∙ ap (λ words. flat_received (flat words) op) c.loop-operation.invariant.memory)
-          ∙ sym (replay-take c.args.opening.now c.args.operations.now c.loop-operation.operation-index op c.loop-operation-test.true c.operation-item.is);
+          (c.in_ok-perform.ensures.received ∙ ap (λ words. flat_received (flat words) op)
+          c.loop-operation.invariant.memory)
+          ∙ sym (replay-take c.args.opening.now c.args.operations.now c.loop-operation.operation-index op
+          c.loop-operation-test.true c.operation-item.is);
     }
 
 pub returns-clause-left : goal.returns-clause-left

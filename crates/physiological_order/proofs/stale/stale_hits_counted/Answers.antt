@@ -1,9 +1,11 @@
-use Rattle.std.proofs.Common.{◌≡◌, ℕ, ◌+◌, ◌*◌, ◌≤◌, length, cond, List, [], take, refl, sym, ap, ap₂, subst, ◌∙◌, arith}
+use Rattle.std.proofs.Common.{◌≡◌, ℕ, ◌+◌, ◌*◌, ◌≤◌, length, cond, List, [], take, refl, sym, ap, ap₂, subst, ◌∙◌}
+use Rattle.std.proofs.Common.{arith}
 use Rattle.physiological_order.specs.declared.operation.Record.{Record}
 use Rattle.physiological_order.specs.LatestWrites.{latest_after}
 use Rattle.physiological_order.proofs.Walked.{take-next}
 use Rattle.std.proofs.lemmas.List.{take_all}
-use Rattle.physiological_order.proofs.Looked.{after_none, after_more, after_at_most, looks-next, looks-part, looks-one_more}
+use Rattle.physiological_order.proofs.Looked.{after_none, after_more, after_at_most, looks-next, looks-part}
+use Rattle.physiological_order.proofs.Looked.{looks-one_more}
 use Rattle.physiological_order.specs.Counting.{after_steps, looks, looks_of}
 use Rattle.physiological_order.proofs.Latest.{Latest, Latest-none, Latest-push, stale_among-take}
 use Rattle.physiological_order.proofs.stale.stale_hits_counted.Goals as goal
@@ -26,34 +28,47 @@ loop-record-preserved c =
     let r = c.record-item.result in
     let invariant = c.loop-record.invariant in
     let stale = c.in_ok-visit.ensures.stale in
-    let counted = stale_among-take c.args.records.now i r c.loop-record.latest c.loop-record-test.true c.record-item.is c.requires invariant.latest in
+    let counted = stale_among-take c.args.records.now i r c.loop-record.latest c.loop-record-test.true
+    c.record-item.is c.requires invariant.latest in
     record {
-      latest = subst (λ (latest : _). Latest latest (take (i + 1) c.args.records.now)) (sym c.in_ok-visit.ensures.kept)
-          (subst (λ (rs : List Record). Latest (latest_after c.loop-record.latest r.op r.ts) rs) (sym (take-next c.args.records.now i r c.loop-record-test.true c.record-item.is)) (Latest-push c.loop-record.latest (take i c.args.records.now) r invariant.latest));
+      latest = subst (λ (latest : _). Latest latest (take (i + 1) c.args.records.now))
+          (sym c.in_ok-visit.ensures.kept)
+          (subst (λ (rs : List Record). Latest (latest_after c.loop-record.latest r.op r.ts) rs)
+          (sym (take-next c.args.records.now i r c.loop-record-test.true c.record-item.is))
+          (Latest-push c.loop-record.latest (take i c.args.records.now) r invariant.latest));
       counted = elim c.if-branch.branch [
-        | then-branch w ↦ w.count-is ∙ ap₂ (λ n b. n + cond b 1 0) invariant.counted (sym w.if-branch.true ∙ stale) ∙ sym counted
-        | else-branch w ↦ w.count-is ∙ no_more c.loop-record.count ∙ ap₂ (λ n b. n + cond b 1 0) invariant.counted (sym w.if-branch.false ∙ stale) ∙ sym counted
+        | then-branch w ↦ w.count-is ∙ ap₂ (λ n b. n + cond b 1 0) invariant.counted (sym w.if-branch.true ∙ stale)
+            ∙ sym counted
+        | else-branch w ↦ w.count-is ∙ no_more c.loop-record.count ∙ ap₂ (λ n b. n + cond b 1 0) invariant.counted
+            (sym w.if-branch.false ∙ stale) ∙ sym counted
       ];
       small = elim c.if-branch.branch [ then-branch w ↦ omega arith | else-branch w ↦ omega arith ];
       made = c.visit.ensures.counted ∙ ap (λ made. after_steps made (looks_of r.op)) invariant.made
           ∙ after_more c.args.steps.now (looks (take i c.args.records.now)) (looks_of r.op)
-          ∙ ap (after_steps c.args.steps.now) (sym (looks-next c.args.records.now i r (take-next c.args.records.now i r c.loop-record-test.true c.record-item.is)));
+          ∙ ap (after_steps c.args.steps.now)
+          (sym (looks-next c.args.records.now i r (take-next c.args.records.now i r c.loop-record-test.true
+          c.record-item.is)));
     }
 
 pub returns-in_err-visit-clause-bound : goal.returns-in_err-visit-clause-bound
 returns-in_err-visit-clause-bound c =
     let i = c.loop-record.record-index in
     let r = c.record-item.result in
-    let most = looks-one_more c.args.records.now i r (take-next c.args.records.now i r c.loop-record-test.true c.record-item.is) in
+    let most = looks-one_more c.args.records.now i r (take-next c.args.records.now i r c.loop-record-test.true
+    c.record-item.is) in
     subst (λ (made : ℕ). made ≤ c.args.steps.now + 2 * length c.args.records.now)
-    (sym (c.visit.ensures.counted ∙ ap (λ made. after_steps made (looks_of r.op)) c.loop-record.invariant.made ∙ after_more c.args.steps.now (looks (take i c.args.records.now)) (looks_of r.op)))
-    (after_at_most c.args.steps.now (looks (take i c.args.records.now) + looks_of r.op) (2 * length c.args.records.now) most)
+    (sym (c.visit.ensures.counted ∙ ap (λ made. after_steps made (looks_of r.op)) c.loop-record.invariant.made
+    ∙ after_more c.args.steps.now (looks (take i c.args.records.now)) (looks_of r.op)))
+    (after_at_most c.args.steps.now (looks (take i c.args.records.now) + looks_of r.op)
+    (2 * length c.args.records.now) most)
 
 pub returns-clause-looks : goal.returns-clause-looks
 returns-clause-looks c =
-    c.loop-record.invariant.made ∙ ap (λ rs. after_steps c.args.steps.now (looks rs)) (take_all c.loop-record.record-index c.args.records.now c.loop-record-test.false)
+    c.loop-record.invariant.made ∙ ap (λ rs. after_steps c.args.steps.now (looks rs))
+    (take_all c.loop-record.record-index c.args.records.now c.loop-record-test.false)
 
 pub returns-clause-bound : goal.returns-clause-bound
 returns-clause-bound c =
     subst (λ (made : ℕ). made ≤ c.args.steps.now + 2 * length c.args.records.now) (sym c.loop-record.invariant.made)
-    (after_at_most c.args.steps.now (looks (take c.loop-record.record-index c.args.records.now)) (2 * length c.args.records.now) (looks-part c.args.records.now c.loop-record.record-index))
+    (after_at_most c.args.steps.now (looks (take c.loop-record.record-index c.args.records.now))
+    (2 * length c.args.records.now) (looks-part c.args.records.now c.loop-record.record-index))

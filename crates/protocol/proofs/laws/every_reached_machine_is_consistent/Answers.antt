@@ -22,7 +22,8 @@ returns-clause-owners c = λ f m good r cores line. at_most_one f good m r cores
 pub returns-clause-coherent : goal.returns-clause-coherent
 returns-clause-coherent c = λ f m good r cores none arr is a.
     coherent_is f good m r cores none a
-    ∙ ap (λ rs. replay_end f.opening (map (λ (r : Record). r.op) rs) a) (one_arrangement m.records _ arr (arrangement_of f.opening m.issued m.records (reachable_ok f good m r).kept) is)
+    ∙ ap (λ rs. replay_end f.opening (map (λ (r : Record). r.op) rs) a) (one_arrangement m.records _ arr
+    (arrangement_of f.opening m.issued m.records (reachable_ok f good m r).kept) is)
 
 pub returns-clause-blocked : goal.returns-clause-blocked
 returns-clause-blocked c = λ f m r core op. (reachable_blocked f m r).blocked core op

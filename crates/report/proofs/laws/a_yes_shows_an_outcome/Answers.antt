@@ -1,4 +1,5 @@
-use Rattle.std.proofs.Common.{◌≡◌, ℕ, ◌<◌, Bool, true, false, cond, List, [], ◌∷◌, length, Option, Some, None, IfSome, refl, sym, ap, subst, ◌∙◌, arith}
+use Rattle.std.proofs.Common.{◌≡◌, ℕ, ◌<◌, Bool, true, false, cond, List, [], ◌∷◌, length, Option, Some, None, IfSome}
+use Rattle.std.proofs.Common.{refl, sym, ap, subst, ◌∙◌, arith}
 use Rattle.std.specs.List.{AllByRecursion, filter}
 use Rattle.std.proofs.lemmas.Bool.{ltb-true}
 use Rattle.std.proofs.lemmas.List.Sums.{length-filter}
@@ -16,24 +17,35 @@ use Rattle.report.proofs.laws.a_yes_shows_an_outcome.Goals as goal
 
 module _ (test : Litmus) (seen : test.seen ≡ seen_in test.tree []) where
   abbrev Shows : Type 0
-  Shows = (last : State) × Steps (opening test) last × ((t : ℕ) → t < test.threads → last.left t ≡ []) × (holds (value_at last) test.tree ≡ true)
+  Shows = (last : State) × Steps (opening test) last × ((t : ℕ) → t < test.threads → last.left t ≡ []) ×
+      (holds (value_at last) test.tree ≡ true)
 
-  of_values : (state : Option (List ℕ)) (end : End) → IfSome state (IsOutcome test) → holds_in test (done_state end state) ≡ true → Shows
-  of_values (Some values) AllDone is h =
-      (is.last, is.steps, is.finished, sym (truth-is (value_at is.last) test.seen test.tree seen) ∙ ap (λ vs. holds (value_of test.seen vs) test.tree) (sym is.values_are) ∙ h)
+  of_values : (state : Option (List ℕ)) (end : End) → IfSome state (IsOutcome test) →
+      holds_in test (done_state end state) ≡ true → Shows
+  of_values (Some values) AllDone is h = (
+    is.last,
+    is.steps,
+    is.finished,
+    sym (truth-is (value_at is.last) test.seen test.tree seen)
+        ∙ ap (λ vs. holds (value_of test.seen vs) test.tree) (sym is.values_are) ∙ h,
+  )
   of_values None AllDone is h = absurd cc
   of_values state Stalled is h = absurd cc
   of_values state TurnsUsed is h = absurd cc
   of_values state Exhausted is h = absurd cc
   of_values state NoMemory is h = absurd cc
 
-  first_held : (runs : List RunEnd) → AllByRecursion (HasOutcome test) runs → 0 < length (filter (is_held test) runs) → Shows
+  first_held : (runs : List RunEnd) → AllByRecursion (HasOutcome test) runs →
+      0 < length (filter (is_held test) runs) → Shows
   first_held [] each some = absurd (omega (arith, some))
   first_held (run ∷ runs) each some = by_test (is_held test run) refl (λ more. first_held runs each.1 more)
     where
       by_test : (b : Bool) → is_held test run ≡ b → (0 < length (filter (is_held test) runs) → Shows) → Shows
       by_test true h later = of_values run.state run.end each.0 h
-      by_test false h later = later (subst (λ b. 0 < length (cond b (run ∷ filter (is_held test) runs) (filter (is_held test) runs))) h some)
+      by_test false h later =
+          later (subst (λ b. 0 < length (cond b (run ∷ filter (is_held test) runs) (filter (is_held test) runs))) h
+          some)
 
 pub returns : goal.returns
-returns c = λ text test runs is each yes_. first_held test is.seen runs each (subst (λ n. 0 < n) (sym (length-filter (is_held test) runs)) (ltb-true 0 (held test runs) yes_))
+returns c = λ text test runs is each yes_. first_held test is.seen runs each
+    (subst (λ n. 0 < n) (sym (length-filter (is_held test) runs)) (ltb-true 0 (held test runs) yes_))

@@ -7,5 +7,7 @@ use Rattle.report.specs.Litmus.{HasOutcome, rounds}
 use Rattle.report.proofs.litmus.run_often.Given as goal
 
 abbrev pub invariant-loop : goal.invariant-loop
-invariant-loop l = (length l.runs.items ≡ l.counter) × AllByRecursion (IsRun (test_of l.fn.test) l.fn.config (rounds l.fn.options)) l.runs.items
-    × ((text : List ℕ) → IsTest text (test_of l.fn.test) → AllByRecursion (HasOutcome (test_of l.fn.test)) l.runs.items)
+invariant-loop l = (length l.runs.items ≡ l.counter) ×
+    AllByRecursion (IsRun (test_of l.fn.test) l.fn.config (rounds l.fn.options)) l.runs.items
+    × ((text : List ℕ) → IsTest text (test_of l.fn.test) →
+    AllByRecursion (HasOutcome (test_of l.fn.test)) l.runs.items)

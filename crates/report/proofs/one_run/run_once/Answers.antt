@@ -34,9 +34,14 @@ returns-clause-run c =
       events = c.drive_round-driven.result.events.items;
       machine = m;
       threads = c.drive_round-driven.new.programs;
-      ended = subst (λ (ts : List Thread). Ended thread_acts (plan_of c.args.config c.args.limit) (opening (at_start c.args.config (words_opened (test_of c.args.test.now).items empty)) ts) c.drive_round-driven.result.events.items m c.drive_round-driven.new.programs c.drive_round-driven.result.end)
+      ended = subst (λ (ts : List Thread). Ended thread_acts (plan_of c.args.config c.args.limit)
+          (opening (at_start c.args.config (words_opened (test_of c.args.test.now).items empty)) ts)
+          c.drive_round-driven.result.events.items m c.drive_round-driven.new.programs
+          c.drive_round-driven.result.end)
           (c.as_mut_slice-threads.ensures.value ∙ c.in_ok-started.ensures)
-          (subst (λ (k : Machine). Ended thread_acts (plan_of k.config c.args.limit) (opening k c.as_mut_slice-threads.result.now) c.drive_round-driven.result.events.items m c.drive_round-driven.new.programs c.drive_round-driven.result.end)
+          (subst (λ (k : Machine). Ended thread_acts (plan_of k.config c.args.limit)
+          (opening k c.as_mut_slice-threads.result.now) c.drive_round-driven.result.events.items m
+          c.drive_round-driven.new.programs c.drive_round-driven.result.end)
           first c.drive_round-driven.ensures.schedule);
       state = c.in_ok-state.ensures;
       completed = ap length c.records-2.ensures.records;
@@ -53,14 +58,21 @@ returns-clause-outcome c = λ text is.
     let threads : List Thread = c.drive_round-driven.new.programs in
     let events = c.drive_round-driven.result.events.items in
     let first = c.in-Ok.ensures.opened ∙ ap (at_start config) c.in_ok-memory.ensures.memory in
-    let after : m ≡ after_all (at_start config words) events = c.drive_round-driven.ensures.machine ∙ ap (λ (k : Machine). after_all k events) first in
-    let served = subst (λ (ts : List Thread). AreServed thread_acts (at_start config words) m ts threads) (c.as_mut_slice-threads.ensures.value ∙ c.in_ok-started.ensures)
-    (subst (λ (k : Machine). AreServed thread_acts k m c.as_mut_slice-threads.result.now threads) first c.drive_round-driven.ensures.served) in
-    let legal = subst (λ (k : Machine). Legal (memory_opened test) (λ core. slice_index_or k.issued core []) k.records) (sym after) (c.every_history_is_legal.ensures.legal config words events c.requires.good) in
-    let left_in = subst (λ (k : Machine). (arranged : List Record) → Arrangement k.records arranged → (word : ℕ) → coherent k word ≡ replay_end (memory_opened test) (map (λ r. r.op) arranged) word) (sym after)
+    let after : m ≡ after_all (at_start config words) events =
+    c.drive_round-driven.ensures.machine ∙ ap (λ (k : Machine). after_all k events) first in
+    let served = subst (λ (ts : List Thread). AreServed thread_acts (at_start config words) m ts threads)
+    (c.as_mut_slice-threads.ensures.value ∙ c.in_ok-started.ensures)
+    (subst (λ (k : Machine). AreServed thread_acts k m c.as_mut_slice-threads.result.now threads) first
+    c.drive_round-driven.ensures.served) in
+    let legal = subst (λ (k : Machine). Legal (memory_opened test) (λ core. slice_index_or k.issued core [])
+    k.records) (sym after) (c.every_history_is_legal.ensures.legal config words events c.requires.good) in
+    let left_in = subst (λ (k : Machine). (arranged : List Record) → Arrangement k.records arranged → (word : ℕ) →
+    coherent k word ≡ replay_end (memory_opened test) (map (λ r. r.op) arranged) word) (sym after)
     (c.every_history_is_legal.ensures.coherent config words events c.requires.good) in
     subst (λ s. IfSome s (IsOutcome test)) (sym c.in_ok-state.ensures)
     (state_of test c.drive_round-driven.result.end threads m (IsOutcome test) (λ all.
-    c.performed_histories_are_sequential.ensures text test _ m.records legal.arranged threads _ is legal legal.arrangement
-    (performed test config m threads c.requires.cores served (λ core below. c.drive_round-driven.ensures.all_done all core (subst (λ (k : Machine). core < k.config.cores) (sym first) below)))
+    c.performed_histories_are_sequential.ensures text test _ m.records legal.arranged threads _ is
+    legal legal.arrangement
+    (performed test config m threads c.requires.cores served (λ core below. c.drive_round-driven.ensures.all_done all
+    core (subst (λ (k : Machine). core < k.config.cores) (sym first) below)))
     (left test config m threads c.requires.cores served legal.arranged (left_in legal.arranged legal.arrangement))))

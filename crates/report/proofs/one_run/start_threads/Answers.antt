@@ -5,4 +5,5 @@ use Rattle.report.proofs.one_run.start_threads.Goals as goal
 
 pub loop-thread-preserved : goal.loop-thread-preserved
 loop-thread-preserved c =
-    c.in_ok-push.ensures.items ∙ ap₂ (λ xs x. xs ++ x ∷ []) c.loop-thread.invariant c.start.ensures ∙ next_thread (test_of c.args.test.now) c.loop-thread.thread
+    c.in_ok-push.ensures.items ∙ ap₂ (λ xs x. xs ++ x ∷ []) c.loop-thread.invariant c.start.ensures
+    ∙ next_thread (test_of c.args.test.now) c.loop-thread.thread

@@ -5,4 +5,5 @@ use Rattle.report.proofs.one_run.values.Goals as goal
 
 pub loop-word-preserved : goal.loop-word-preserved
 loop-word-preserved c =
-    c.in_ok-push.ensures.items ∙ ap₂ (λ xs x. xs ++ x ∷ []) c.loop-word.invariant (c.coherent.ensures.value ∙ ap (coherent c.args.system.now) c.at.ensures) ∙ next_value c.args.system.now c.loop-word.word
+    c.in_ok-push.ensures.items ∙ ap₂ (λ xs x. xs ++ x ∷ []) c.loop-word.invariant (c.coherent.ensures.value
+    ∙ ap (coherent c.args.system.now) c.at.ensures) ∙ next_value c.args.system.now c.loop-word.word

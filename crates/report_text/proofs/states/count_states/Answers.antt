@@ -7,16 +7,20 @@ use Rattle.report_text.proofs.states.count_states.Goals.{in-Some+in_ok-count_one
 
 pub count_one-requires : goal.count_one-requires
 count_one-requires c =
-    let few = few_counted c.args.runs.now c.loop-run.run-index c.in-Some.values.now _ c.loop-run.invariant c.loop-run-test.true in
+    let few = few_counted c.args.runs.now c.loop-run.run-index c.in-Some.values.now _ c.loop-run.invariant
+    c.loop-run-test.true in
     let fits : length c.args.runs.now < 2 ^ 64 = search rules in
     omega (arith, few, fits)
 
 pub loop-run-preserved : goal.loop-run-preserved
 loop-run-preserved c =
     let before = take c.loop-run.run-index c.args.runs.now in
-    let there : take (c.loop-run.run-index + 1) c.args.runs.now ≡ before ++ c.run-item.result ∷ [] = take_next c.args.runs.now c.loop-run.run-index c.run-item.result c.loop-run-test.true c.run-item.is in
+    let there : take (c.loop-run.run-index + 1) c.args.runs.now ≡ before ++ c.run-item.result ∷ [] =
+    take_next c.args.runs.now c.loop-run.run-index c.run-item.result c.loop-run-test.true c.run-item.is in
     elim c.match-done_state.branch [
       | in-Some+in_ok-count_one w ↦ rw (w.states-is, there)
-          (w.in_ok-count_one.ensures ∙ ap (one_more w.in-Some.values.now) c.loop-run.invariant ∙ sym (with_state before c.run-item.result w.in-Some.values.now (sym w.in-Some.ensures)))
-      | in_default w ↦ rw (w.states-is, there) (c.loop-run.invariant ∙ sym (with_none before c.run-item.result (sym w.in_default.ensures)))
+          (w.in_ok-count_one.ensures ∙ ap (one_more w.in-Some.values.now) c.loop-run.invariant
+          ∙ sym (with_state before c.run-item.result w.in-Some.values.now (sym w.in-Some.ensures)))
+      | in_default w ↦ rw (w.states-is, there) (c.loop-run.invariant
+          ∙ sym (with_none before c.run-item.result (sym w.in_default.ensures)))
     ]

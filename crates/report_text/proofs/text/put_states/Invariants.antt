@@ -9,7 +9,8 @@ use Rattle.report_text.proofs.text.put_states.Given as goal
 -- the lines so far
 abbrev pub invariant-loop-values : goal.invariant-loop-values
 invariant-loop-values l = record {
-  lines : l.out.items ≡ (l.fn.out.items ++ field (codes "states") (length l.states.entries)) ++ flat_map (state_line (test_of l.test)) (counted (take l.index l.states.entries));
+  lines : l.out.items ≡ (l.fn.out.items ++ field (codes "states") (length l.states.entries))
+      ++ flat_map (state_line (test_of l.test)) (counted (take l.index l.states.entries));
   within : l.index ≤ length l.states.entries;
 }
 

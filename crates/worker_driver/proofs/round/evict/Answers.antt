@@ -10,7 +10,8 @@ pub returns-in_default-clause-goes_on : goal.returns-in_default-clause-goes_on
 returns-in_default-clause-goes_on g c =
     let a = c.args in
     let n = c.attempt_again.new in
-    and_on_ok g.P.Program.acts a.plan (at a.system.now a.programs.now a.log.now (Evicting a.core)) (at a.system.now a.programs.now a.log.now
+    and_on_ok g.P.Program.acts a.plan (at a.system.now a.programs.now a.log.now (Evicting a.core))
+    (at a.system.now a.programs.now a.log.now
     (AttemptingAgain a.core))
     (no_victim g.P.Program.acts a.plan a.system.now a.programs.now a.log.now a.core (search rules))
     c.attempt_again.result (at n.system n.programs n.log (Issuing (a.core + 1))) c.attempt_again.ensures.goes_on
@@ -19,7 +20,8 @@ pub returns-in_default-clause-stops : goal.returns-in_default-clause-stops
 returns-in_default-clause-stops g c =
     let a = c.args in
     let n = c.attempt_again.new in
-    and_if_err g.P.Program.acts a.plan (at a.system.now a.programs.now a.log.now (Evicting a.core)) (at a.system.now a.programs.now a.log.now
+    and_if_err g.P.Program.acts a.plan (at a.system.now a.programs.now a.log.now (Evicting a.core))
+    (at a.system.now a.programs.now a.log.now
     (AttemptingAgain a.core))
     (no_victim g.P.Program.acts a.plan a.system.now a.programs.now a.log.now a.core (search rules))
     c.attempt_again.result n.system n.programs n.log c.attempt_again.ensures.stops
@@ -28,16 +30,19 @@ pub returns-in_err-step-clause-stops : goal.returns-in_err-step-clause-stops
 returns-in_err-step-clause-stops g c =
     let a = c.args in
     let e = err_from_is_err_and c.from_residual.result c.from_residual.ensures.1 in
-    rw (e.1, e.2) (evict_stops g.P.Program.acts a.plan a.system.now a.programs.now a.log.now a.core c.in-Some.line c.in_err-step.field-0.0
+    rw (e.1, e.2) (evict_stops g.P.Program.acts a.plan a.system.now a.programs.now a.log.now a.core c.in-Some.line
+    c.in_err-step.field-0.0
     c.step.new.system c.step.new.log (search rules) c.in_err-step.ensures)
 
 pub returns-clause-goes_on : goal.returns-clause-goes_on
 returns-clause-goes_on g c =
     let a = c.args in
     let n = c.attempt_again-2.new in
-    and_on_ok g.P.Program.acts a.plan (at a.system.now a.programs.now a.log.now (Evicting a.core)) (at c.step.new.system a.programs.now
+    and_on_ok g.P.Program.acts a.plan (at a.system.now a.programs.now a.log.now (Evicting a.core))
+    (at c.step.new.system a.programs.now
     c.step.new.log (AttemptingAgain a.core))
-    (evicted g.P.Program.acts a.plan a.system.now a.programs.now a.log.now a.core c.in-Some.line c.in_ok-step.field-0 c.step.new.system
+    (evicted g.P.Program.acts a.plan a.system.now a.programs.now a.log.now a.core c.in-Some.line
+    c.in_ok-step.field-0 c.step.new.system
     c.step.new.log (search rules) c.in_ok-step.ensures)
     c.attempt_again-2.result (at n.system n.programs n.log (Issuing (a.core + 1))) c.attempt_again-2.ensures.goes_on
 
@@ -45,8 +50,10 @@ pub returns-clause-stops : goal.returns-clause-stops
 returns-clause-stops g c =
     let a = c.args in
     let n = c.attempt_again-2.new in
-    and_if_err g.P.Program.acts a.plan (at a.system.now a.programs.now a.log.now (Evicting a.core)) (at c.step.new.system a.programs.now
+    and_if_err g.P.Program.acts a.plan (at a.system.now a.programs.now a.log.now (Evicting a.core))
+    (at c.step.new.system a.programs.now
     c.step.new.log (AttemptingAgain a.core))
-    (evicted g.P.Program.acts a.plan a.system.now a.programs.now a.log.now a.core c.in-Some.line c.in_ok-step.field-0 c.step.new.system
+    (evicted g.P.Program.acts a.plan a.system.now a.programs.now a.log.now a.core c.in-Some.line
+    c.in_ok-step.field-0 c.step.new.system
     c.step.new.log (search rules) c.in_ok-step.ensures)
     c.attempt_again-2.result n.system n.programs n.log c.attempt_again-2.ensures.stops

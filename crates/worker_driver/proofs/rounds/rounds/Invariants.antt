@@ -5,4 +5,5 @@ use Rattle.worker_driver.proofs.rounds.rounds.Given as goal
 
 abbrev pub invariant-loop-made : goal.invariant-loop-made
 invariant-loop-made g l =
-    Follows g.P.Program.acts l.fn.plan (opening l.fn.system l.fn.programs) l.log.events (position (at l.system l.programs l.log RoundStart) l._made)
+    Follows g.P.Program.acts l.fn.plan (opening l.fn.system l.fn.programs) l.log.events
+    (position (at l.system l.programs l.log RoundStart) l._made)

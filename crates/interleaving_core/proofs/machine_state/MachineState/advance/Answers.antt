@@ -15,8 +15,10 @@ pub invariant_of-self : goal.invariant_of-self
 invariant_of-self c =
     let core = c.index_mut.result.now in
     let mail : Mail = c.self.inside.flight.mail in
-    let here = slice_get_read c.self.inside.cores.items (length c.self.inside.cores.items) c.args.core c.index_mut.result.now refl (omega (arith, c.if-at-len.false, c.len.ensures)) c.index_mut.ensures.value in
-    let kept = subst (λ (x : Answer × CoreState × Mail). x.1.open_op ≡ core.open_op) (sym (c.advance-answer.ensures mail)) (kept_open core mail _ (advance_only core mail)) in
+    let here = slice_get_read c.self.inside.cores.items (length c.self.inside.cores.items) c.args.core
+    c.index_mut.result.now refl (omega (arith, c.if-at-len.false, c.len.ensures)) c.index_mut.ensures.value in
+    let kept = subst (λ (x : Answer × CoreState × Mail). x.1.open_op ≡ core.open_op)
+    (sym (c.advance-answer.ensures mail)) (kept_open core mail _ (advance_only core mail)) in
     let same = owed_kept c.self.inside.cores.items c.args.core core c.advance-answer.new.core here kept in
     record {
       cores_are = c.self.invariant.cores_are;
@@ -29,8 +31,11 @@ pub returns : goal.returns
 returns c =
     let m : Machine = the_view c.self.inside in
     let core = c.index_mut.result.now in
-    let here = slice_get_read c.self.inside.cores.items (length c.self.inside.cores.items) c.args.core c.index_mut.result.now refl (omega (arith, c.if-at-len.false, c.len.ensures)) c.index_mut.ensures.value in
-    made_without m (λ x. set m.cores c.args.core x) (λ x. m.banks) (λ x. m.drams) core (set_same m.cores c.args.core core here) refl refl
-    (SameOpen core) _ (advance_only core m.mail) c.advance-answer.result c.advance-answer.new.core m.mail c.stop.new.is_stopped (c.advance-answer.ensures m.mail) c.stop.ensures
+    let here = slice_get_read c.self.inside.cores.items (length c.self.inside.cores.items) c.args.core
+    c.index_mut.result.now refl (omega (arith, c.if-at-len.false, c.len.ensures)) c.index_mut.ensures.value in
+    made_without m (λ x. set m.cores c.args.core x) (λ x. m.banks) (λ x. m.drams) core
+    (set_same m.cores c.args.core core here) refl refl
+    (SameOpen core) _ (advance_only core m.mail) c.advance-answer.result c.advance-answer.new.core m.mail
+    c.stop.new.is_stopped (c.advance-answer.ensures m.mail) c.stop.ensures
     ∙ ap (advance_at m c.args.core) (sym here)
     ∙ ap (λ (n : Machine). advance_at n c.args.core (slice_get n.cores c.args.core)) c.self.view_is

@@ -1,4 +1,5 @@
-use Rattle.std.proofs.Common.{◌≡◌, ℕ, ◌+◌, ap, sym, subst, refl, ◌∙◌, arith, length, set, slice_get, IfSome, IsOk, IsTrue, OnErr}
+use Rattle.std.proofs.Common.{◌≡◌, ℕ, ◌+◌, ap, sym, subst, refl, ◌∙◌, arith, length, set, slice_get, IfSome, IsOk}
+use Rattle.std.proofs.Common.{IsTrue, OnErr}
 use Rattle.std.proofs.lemmas.Option.{slice_get_read}
 use Rattle.network.specs.Flight.{Flight}
 use Rattle.network.specs.Mail.{Mail}
@@ -21,35 +22,51 @@ use Rattle.interleaving_core.proofs.machine_state.MachineState.attempt.Goals as 
 pub attempt-requires-clause-number : goal.attempt-requires-clause-number
 attempt-requires-clause-number c =
     let m : Machine = the_view c.self.inside in
-    let here = slice_get_read c.self.inside.cores.items (length c.self.inside.cores.items) c.args.core c.index_mut.result.now refl (omega (arith, c.if-at-len.false, c.len.ensures)) c.index_mut.ensures.value in
-    let below = core_below m (subst Invariant (sym c.self.view_is) c.requires).whole c.args.core c.index_mut.result.now here in
+    let here = slice_get_read c.self.inside.cores.items (length c.self.inside.cores.items) c.args.core
+    c.index_mut.result.now refl (omega (arith, c.if-at-len.false, c.len.ensures)) c.index_mut.ensures.value in
+    let below = core_below m (subst Invariant (sym c.self.view_is) c.requires).whole c.args.core
+    c.index_mut.result.now here in
     omega (arith, below, c.self.invariant.cores_are)
 
 pub attempt-requires-clause-banks : goal.attempt-requires-clause-banks
 attempt-requires-clause-banks c =
     let m : Machine = the_view c.self.inside in
-    let here = slice_get_read c.self.inside.cores.items (length c.self.inside.cores.items) c.args.core c.index_mut.result.now refl (omega (arith, c.if-at-len.false, c.len.ensures)) c.index_mut.ensures.value in
-    core_banks m (subst Invariant (sym c.self.view_is) c.requires).whole c.args.core c.index_mut.result.now here ∙ sym c.self.invariant.banks_are
+    let here = slice_get_read c.self.inside.cores.items (length c.self.inside.cores.items) c.args.core
+    c.index_mut.result.now refl (omega (arith, c.if-at-len.false, c.len.ensures)) c.index_mut.ensures.value in
+    core_banks m (subst Invariant (sym c.self.view_is) c.requires).whole c.args.core c.index_mut.result.now here
+    ∙ sym c.self.invariant.banks_are
 
 pub returns-in_err-answer-clause-completed : goal.returns-in_err-answer-clause-completed
 returns-in_err-answer-clause-completed c =
-    let here = slice_get_read c.self.inside.cores.items (length c.self.inside.cores.items) c.args.core c.index_mut.result.now refl (omega (arith, c.if-at-len.false, c.len.ensures)) c.index_mut.ensures.value in
-    subst (λ o. IfSome o (λ x. IsTrue (completes x) → IsOk c.from_residual.result)) (sym here ∙ ap (λ (n : Machine). slice_get n.cores c.args.core) c.self.view_is)
+    let here = slice_get_read c.self.inside.cores.items (length c.self.inside.cores.items) c.args.core
+    c.index_mut.result.now refl (omega (arith, c.if-at-len.false, c.len.ensures)) c.index_mut.ensures.value in
+    subst (λ o. IfSome o (λ x. IsTrue (completes x) → IsOk c.from_residual.result))
+    (sym here ∙ ap (λ (n : Machine). slice_get n.cores c.args.core) c.self.view_is)
     (λ done. absurd (let no_result = c.in_err-answer.ensures.completed done in cc))
 
 pub keep-requires : goal.keep-requires
 keep-requires c =
-    let here = slice_get_read c.self.inside.cores.items (length c.self.inside.cores.items) c.args.core c.index_mut.result.now refl (omega (arith, c.if-at-len.false, c.len.ensures)) c.index_mut.ensures.value in
-    let count = subst (λ (x : Answer × CoreState × Mail). length (with_record c.self.inside.records.items x.0) + owed_for x.1.open_op ≡ length c.self.inside.records.items + owed_for c.index_mut.result.now.open_op) (sym c.in_ok-answer.ensures.done)
-    (balanced c.index_mut.result.now c.self.inside.flight.mail c.self.inside.records.items _ (attempt_only c.index_mut.result.now c.args.core c.len-count.result c.self.inside.flight.capacity c.self.inside.flight.mail)) in
+    let here = slice_get_read c.self.inside.cores.items (length c.self.inside.cores.items) c.args.core
+    c.index_mut.result.now refl (omega (arith, c.if-at-len.false, c.len.ensures)) c.index_mut.ensures.value in
+    let count = subst (λ (x : Answer × CoreState × Mail). length (with_record c.self.inside.records.items x.0) +
+    owed_for x.1.open_op ≡ length c.self.inside.records.items + owed_for c.index_mut.result.now.open_op)
+    (sym c.in_ok-answer.ensures.done)
+    (balanced c.index_mut.result.now c.self.inside.flight.mail c.self.inside.records.items _
+    (attempt_only c.index_mut.result.now c.args.core c.len-count.result c.self.inside.flight.capacity
+    c.self.inside.flight.mail)) in
     let all = owed_set c.self.inside.cores.items c.args.core c.index_mut.result.now c.attempt.new.core here in
     omega (arith, count, all, c.self.invariant.reserved)
 
 pub invariant_of-self-2 : goal.invariant_of-self-2
 invariant_of-self-2 c =
-    let here = slice_get_read c.self.inside.cores.items (length c.self.inside.cores.items) c.args.core c.index_mut.result.now refl (omega (arith, c.if-at-len.false, c.len.ensures)) c.index_mut.ensures.value in
-    let count = subst (λ (x : Answer × CoreState × Mail). length (with_record c.self.inside.records.items x.0) + owed_for x.1.open_op ≡ length c.self.inside.records.items + owed_for c.index_mut.result.now.open_op) (sym c.in_ok-answer.ensures.done)
-    (balanced c.index_mut.result.now c.self.inside.flight.mail c.self.inside.records.items _ (attempt_only c.index_mut.result.now c.args.core c.len-count.result c.self.inside.flight.capacity c.self.inside.flight.mail)) in
+    let here = slice_get_read c.self.inside.cores.items (length c.self.inside.cores.items) c.args.core
+    c.index_mut.result.now refl (omega (arith, c.if-at-len.false, c.len.ensures)) c.index_mut.ensures.value in
+    let count = subst (λ (x : Answer × CoreState × Mail). length (with_record c.self.inside.records.items x.0) +
+    owed_for x.1.open_op ≡ length c.self.inside.records.items + owed_for c.index_mut.result.now.open_op)
+    (sym c.in_ok-answer.ensures.done)
+    (balanced c.index_mut.result.now c.self.inside.flight.mail c.self.inside.records.items _
+    (attempt_only c.index_mut.result.now c.args.core c.len-count.result c.self.inside.flight.capacity
+    c.self.inside.flight.mail)) in
     let all = owed_set c.self.inside.cores.items c.args.core c.index_mut.result.now c.attempt.new.core here in
     let kept = ap length c.keep.ensures.records in
     record {
@@ -63,14 +80,18 @@ pub returns-clause-done : goal.returns-clause-done
 returns-clause-done c =
     let m : Machine = the_view c.self.inside in
     let core = c.index_mut.result.now in
-    let here = slice_get_read c.self.inside.cores.items (length c.self.inside.cores.items) c.args.core c.index_mut.result.now refl (omega (arith, c.if-at-len.false, c.len.ensures)) c.index_mut.ensures.value in
+    let here = slice_get_read c.self.inside.cores.items (length c.self.inside.cores.items) c.args.core
+    c.index_mut.result.now refl (omega (arith, c.if-at-len.false, c.len.ensures)) c.index_mut.ensures.value in
     let counted : c.len-count.result ≡ length c.self.inside.records.items = omega (arith, c.len-count.ensures) in
     let done = c.in_ok-answer.ensures.done
     ∙ ap (λ (n : ℕ). applied core m.mail (attempt c.args.core n c.self.inside.flight.capacity m.mail core)) counted
-    ∙ ap (λ (n : ℕ). applied core m.mail (attempt c.args.core (length m.records) n m.mail core)) c.self.invariant.capacity_is in
-    made_so m (λ x. set m.cores c.args.core x) (λ x. m.banks) (λ x. m.drams) core (set_same m.cores c.args.core core here) refl refl
+    ∙ ap (λ (n : ℕ). applied core m.mail (attempt c.args.core (length m.records) n m.mail core))
+    c.self.invariant.capacity_is in
+    made_so m (λ x. set m.cores c.args.core x) (λ x. m.banks) (λ x. m.drams) core
+    (set_same m.cores c.args.core core here) refl refl
     (SameOpen core) (OneLess core) _ (attempt_only core c.args.core (length m.records) m.config.messages m.mail)
-    c.in_ok-answer.answer c.attempt.new.core c.attempt.new.flight.mail c.keep.new.records.items c.stop.new.is_stopped done c.keep.ensures.records c.stop.ensures
+    c.in_ok-answer.answer c.attempt.new.core c.attempt.new.flight.mail c.keep.new.records.items c.stop.new.is_stopped
+    done c.keep.ensures.records c.stop.ensures
     ∙ ap (attempt_at m c.args.core) (sym here)
     ∙ ap (λ (n : Machine). attempt_at n c.args.core (slice_get n.cores c.args.core)) c.self.view_is
 
@@ -78,11 +99,18 @@ pub returns-in_err-answer-clause-wanted : goal.returns-in_err-answer-clause-want
 returns-in_err-answer-clause-wanted c =
     let m : Machine = the_view c.self.inside in
     let core = c.index_mut.result.now in
-    let here = slice_get_read c.self.inside.cores.items (length c.self.inside.cores.items) c.args.core c.index_mut.result.now refl (omega (arith, c.if-at-len.false, c.len.ensures)) c.index_mut.ensures.value in
+    let here = slice_get_read c.self.inside.cores.items (length c.self.inside.cores.items) c.args.core
+    c.index_mut.result.now refl (omega (arith, c.if-at-len.false, c.len.ensures)) c.index_mut.ensures.value in
     let counted : c.len-count.result ≡ length c.self.inside.records.items = omega (arith, c.len-count.ensures) in
-    let same = ap (λ (n : ℕ). (applied core m.mail (attempt c.args.core n c.self.inside.flight.capacity m.mail core)).2.next) counted
-    ∙ ap (λ (n : ℕ). (applied core m.mail (attempt c.args.core (length m.records) n m.mail core)).2.next) c.self.invariant.capacity_is in
-    subst (λ (n : Machine). OnErr c.from_residual.result (TakesMemory n (attempt_at n c.args.core (slice_get n.cores c.args.core)))) c.self.view_is
+    let same = ap
+    (λ (n : ℕ). (applied core m.mail (attempt c.args.core n c.self.inside.flight.capacity m.mail core)).2.next)
+    counted
+    ∙ ap (λ (n : ℕ). (applied core m.mail (attempt c.args.core (length m.records) n m.mail core)).2.next)
+    c.self.invariant.capacity_is in
+    subst (λ (n : Machine). OnErr c.from_residual.result
+    (TakesMemory n (attempt_at n c.args.core (slice_get n.cores c.args.core)))) c.self.view_is
     (subst (λ o. OnErr c.from_residual.result (TakesMemory m (attempt_at m c.args.core o))) (sym here)
-    (sending_takes m (λ x. set m.cores c.args.core x) (λ x. m.banks) (λ x. m.drams) core (set_same m.cores c.args.core core here) refl refl _
-    (SameOpen core) (OneLess core) _ (attempt_only core c.args.core (length m.records) m.config.messages m.mail) (omega (arith, same, c.in_err-answer.ensures.memory))))
+    (sending_takes m (λ x. set m.cores c.args.core x) (λ x. m.banks) (λ x. m.drams) core
+    (set_same m.cores c.args.core core here) refl refl _
+    (SameOpen core) (OneLess core) _ (attempt_only core c.args.core (length m.records) m.config.messages m.mail)
+    (omega (arith, same, c.in_err-answer.ensures.memory))))

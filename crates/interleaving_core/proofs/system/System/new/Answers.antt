@@ -9,6 +9,7 @@ use Rattle.interleaving_core.proofs.system.System.new.Goals as goal
 pub invariant_of-result : goal.invariant_of-result
 invariant_of-result c = (
   subst (λ (m : Machine). is_good m.config ≡ true) (sym c.in-Ok.ensures) (sym c.if-not-is_good.ensures),
-  subst Invariant (sym c.in-Ok.ensures) (at_start_invariant c.args.config c.args.memory (fair c.args.config (sym c.if-not-is_good.ensures))),
+  subst Invariant (sym c.in-Ok.ensures) (at_start_invariant c.args.config c.args.memory
+      (fair c.args.config (sym c.if-not-is_good.ensures))),
   subst (λ (m : Machine). AreNumbered 0 m.records) (sym c.in-Ok.ensures) tt,
 )

@@ -11,13 +11,16 @@ use Rattle.interleaving_core.proofs.system.System.records.Goals as goal
 
 pub returns-clause-legal : goal.returns-clause-legal
 returns-clause-legal c =
-    subst (λ (m : Machine). Legal (flat m.opening) (λ core. get_or m.issued core []) c.records.result.now) c.self.view_is
-    (subst (λ (rs : List Record). Legal (flat c.self.inside.state.opening) (λ core. get_or c.self.inside.state.issued core []) rs) (sym c.records.ensures)
+    subst (λ (m : Machine). Legal (flat m.opening) (λ core. get_or m.issued core []) c.records.result.now)
+    c.self.view_is
+    (subst (λ (rs : List Record). Legal (flat c.self.inside.state.opening) (λ core. get_or c.self.inside.state.issued
+    core []) rs) (sym c.records.ensures)
     (legal_now _ c.self.invariant.1))
 
 pub returns-clause-issued : goal.returns-clause-issued
 returns-clause-issued c = λ core.
-    subst (λ (m : Machine). IsIssued (get_or m.issued core []) (of_core core m.records) (operation_of (slice_get m.cores core))) c.self.view_is (issued_now _ c.self.invariant.1 core)
+    subst (λ (m : Machine). IsIssued (get_or m.issued core []) (of_core core m.records)
+    (operation_of (slice_get m.cores core))) c.self.view_is (issued_now _ c.self.invariant.1 core)
 
 pub returns-clause-rising : goal.returns-clause-rising
 returns-clause-rising c = subst RisesByNumber (sym c.records.ensures) (numbered_rise 0 _ c.self.invariant.2)

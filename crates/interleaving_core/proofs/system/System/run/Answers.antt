@@ -13,7 +13,8 @@ pub loop-event-init : goal.loop-event-init
 loop-event-init c =
     let none = ap length c.in_ok-answers.ensures.items in
     record {
-      ran = subst (λ (answers : List Answer). Ran c.args.self.now [] answers c.args.self.now) (sym c.in_ok-answers.ensures.items) refl;
+      ran = subst (λ (answers : List Answer). Ran c.args.self.now [] answers c.args.self.now)
+          (sym c.in_ok-answers.ensures.items) refl;
       set_up = set_up_same c.args.self.now;
       many = omega (arith, none, c.in_ok-answers.ensures.capacity);
     }
@@ -25,8 +26,10 @@ loop-event-preserved c =
     let one = ap length c.add.ensures.items in
     let more = length-append c.loop-event.answers.items (c.step-answer.result ∷ []) in
     record {
-      ran = subst (λ (es : List Event). Ran c.args.self.now es c.add.new.answers.items c.step-answer.new.self) (sym taken)
-          (subst (λ (answers : List Answer). Ran c.args.self.now (take c.loop-event.event-index c.args.events.now ++ c.event-item.result ∷ []) answers c.step-answer.new.self) (sym c.add.ensures.items)
+      ran = subst (λ (es : List Event). Ran c.args.self.now es c.add.new.answers.items c.step-answer.new.self)
+          (sym taken)
+          (subst (λ (answers : List Answer). Ran c.args.self.now (take c.loop-event.event-index c.args.events.now
+          ++ c.event-item.result ∷ []) answers c.step-answer.new.self) (sym c.add.ensures.items)
           (ran_more _ _ _ _ _ _ _ c.loop-event.invariant.ran c.step-answer.ensures.stepped));
       set_up = set_up_on _ _ _ c.loop-event.invariant.set_up c.step-answer.ensures.set_up;
       many = omega (arith, one, more, c.loop-event.invariant.many, c.add.ensures.room, c.loop-event-test.true);
@@ -34,5 +37,7 @@ loop-event-preserved c =
 
 pub returns-clause-throughout : goal.returns-clause-throughout
 returns-clause-throughout c = λ k.
-    throughout c.args.self.now c.loop-event.self c.args.events.now c.loop-event.answers.items (subst Invariant c.self.view_is c.self.invariant.1)
-    (subst (λ (es : List Event). Ran c.args.self.now es c.loop-event.answers.items c.loop-event.self) (take_all c.loop-event.event-index c.args.events.now c.loop-event-test.false) c.loop-event.invariant.ran) k
+    throughout c.args.self.now c.loop-event.self c.args.events.now c.loop-event.answers.items
+    (subst Invariant c.self.view_is c.self.invariant.1)
+    (subst (λ (es : List Event). Ran c.args.self.now es c.loop-event.answers.items c.loop-event.self)
+    (take_all c.loop-event.event-index c.args.events.now c.loop-event-test.false) c.loop-event.invariant.ran) k

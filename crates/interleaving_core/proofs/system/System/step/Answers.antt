@@ -14,7 +14,8 @@ invariant_of-self c = (
 )
 
 pub returns-clause-set_up : goal.returns-clause-set_up
-returns-clause-set_up c = subst (λ (m : Machine). SetUpAs m c.step.new.self) c.self.view_is (step_set_up _ c.args.event _ _ c.step.ensures.stepped)
+returns-clause-set_up c = subst (λ (m : Machine). SetUpAs m c.step.new.self) c.self.view_is
+    (step_set_up _ c.args.event _ _ c.step.ensures.stepped)
 
 pub returns-clause-found : goal.returns-clause-found
 returns-clause-found c = λ number delivers there.

@@ -12,4 +12,6 @@ returns g c =
     let many = i.many in let rings_many = i.tied.tied.many in let long = length-shown n (rings_of s) (omega arith) in
     let same = ap (λ a. length a.lists) c.self.view_is in let low = c.requires in
     let h = get_or s.heads.items l no_head in let some = c.if-count-eq0.false in let count = c.count.ensures in
-    sym (ap (λ a. first_cell (get_or a.lists l [])) (sym c.self.view_is) ∙ front_is n s i l (omega arith) ∙ ap (λ b. if b then None else Some h.first) (ne_eqb h.count 0 (λ e. absurd (omega (arith, e, count, some)))) ∙ ap Some (sym c.first.ensures))
+    sym (ap (λ a. first_cell (get_or a.lists l [])) (sym c.self.view_is) ∙ front_is n s i l (omega arith)
+    ∙ ap (λ b. if b then None else Some h.first) (ne_eqb h.count 0 (λ e. absurd (omega (arith, e, count, some))))
+    ∙ ap Some (sym c.first.ensures))

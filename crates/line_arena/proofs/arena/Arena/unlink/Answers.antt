@@ -19,7 +19,8 @@ unwrap-requires g c =
     let n = c.self.inside.lists in let s = c.self.inside.chains in
     let h = some_of (look_up c.args.cell c.args.self.now.lists) c.requires in
     let found = ap (λ a. look_up c.args.cell a.lists) c.self.view_is ∙ h.1 in
-    let two = sym (seen n s c.self.invariant c.args.cell h.0 found).1 ∙ ap (λ x. look_up x (rings_of s)) (sym c.cell.view_is) ∙ c.lift-item.ensures.value in
+    let two = sym (seen n s c.self.invariant c.args.cell h.0 found).1 ∙ ap (λ x. look_up x (rings_of s))
+    (sym c.cell.view_is) ∙ c.lift-item.ensures.value in
     ap is_some (sym (same_some (Some h.0) c.lift-item.result two))
 
 pub returns-clause-value : goal.returns-clause-value
@@ -27,14 +28,18 @@ returns-clause-value g c =
     let n = c.self.inside.lists in let s = c.self.inside.chains in
     let h = some_of (look_up c.args.cell c.args.self.now.lists) c.requires in
     let found = ap (λ a. look_up c.args.cell a.lists) c.self.view_is ∙ h.1 in
-    let two = sym (seen n s c.self.invariant c.args.cell h.0 found).1 ∙ ap (λ x. look_up x (rings_of s)) (sym c.cell.view_is) ∙ c.lift-item.ensures.value in
+    let two = sym (seen n s c.self.invariant c.args.cell h.0 found).1 ∙ ap (λ x. look_up x (rings_of s))
+    (sym c.cell.view_is) ∙ c.lift-item.ensures.value in
     h.1 ∙ same_some (Some h.0) c.lift-item.result two ∙ c.unwrap.ensures
 
 pub returns-clause-after : goal.returns-clause-after
 returns-clause-after g c =
-    let n = c.self.inside.lists in let s = c.self.inside.chains in let mid = c.lift-item.new.self in let x = c.cell.inside.0 in
+    let n = c.self.inside.lists in let s = c.self.inside.chains in let mid = c.lift-item.new.self in let x =
+    c.cell.inside.0 in
     let many = c.self.invariant.many in let rings_many = c.self.invariant.tied.tied.many in
-    let lists = ap (shown n) c.fill.ensures.lists ∙ shown_spare n (rings_of mid) _ ∙ ap (shown n) c.lift-item.ensures.lists ∙ shown_without n x (rings_of s) (omega arith)
-    ∙ ap (map (without x)) (ap (λ a. a.lists) c.self.view_is) ∙ ap (λ y. map (without y) c.args.self.now.lists) c.cell.view_is in
+    let lists = ap (shown n) c.fill.ensures.lists ∙ shown_spare n (rings_of mid) _
+    ∙ ap (shown n) c.lift-item.ensures.lists ∙ shown_without n x (rings_of s) (omega arith)
+    ∙ ap (map (without x)) (ap (λ a. a.lists) c.self.view_is)
+    ∙ ap (λ y. map (without y) c.args.self.now.lists) c.cell.view_is in
     let cells = c.fill.ensures.sizes.0 ∙ c.lift-item.ensures.sizes.0 ∙ ap (λ a. a.cells) c.self.view_is in
     λ i. lists_of (lists i) (cells i)

@@ -16,6 +16,11 @@ use Rattle.line_arena.proofs.cells.Cells.TheLaw.Statement.{statement}
 pub shares : (R : RattleType) (L : Laws R) → statement R L
 shares R L =
     let within = Incl-trans (meet_⊑_left (R.lives ++ []) _) (meet_⊑_left R.lives []) in
-    of_Lends (cells.struct R) (cells.the_codes R.Denot R.coded (marker.the_row RawPtr).coded) (cells.the_heap R) (cells.the_lent R)
-    (λ d p. row_shared R L.shr_laws d.at d.slots) (copy_shared (marker.the_field RawPtr) (field_copy (marker.the_type RawPtr) tt), tt)
+    of_Lends (cells.struct R) (cells.the_codes R.Denot R.coded (marker.the_row RawPtr).coded)
+    (cells.the_heap R) (cells.the_lent R)
+    (λ d p. row_shared R L.shr_laws d.at d.slots) (
+      copy_shared (marker.the_field RawPtr)
+          (field_copy (marker.the_type RawPtr) tt),
+      tt,
+    )
     (λ M 𝓤 𝓛 d p. row_lends R L (cells.the_row R).lives within 𝓛 d.at d.slots)

@@ -10,7 +10,8 @@ use contract.Monad.{fact, fact_i}
 use prog.Wp.{WpFn}
 use contract.Running.{tables}
 use contract.BorrowLft.{◌⊑◌}
-use types.Kit.{‵, raw, prop, ◌⊛◌, at_ret, regoal, use0, split3, ◌$◌, ◌∵◌, !, qed, by, move, keep, drop, use1, split, rewrite, fsplit, fjoin, feq_i, flt_l}
+use types.Kit.{‵, raw, prop, ◌⊛◌, at_ret, regoal, use0, split3, ◌$◌, ◌∵◌, !, qed, by, move, keep, drop, use1, split}
+use types.Kit.{rewrite, fsplit, fjoin, feq_i, flt_l}
 use types.Run.{stop, fld, of_opd, addr, bin, size_lit, first, blocks, exec, returns, enter}
 use types.ByLocal.{alloc_all, pass_all, free_all, look_at, get, get_in, through, sets, sets_last, env}
 use types.Part.{whole, sub}
@@ -30,7 +31,8 @@ use Rattle.core.proofs.ptr.Rows.{times_below, one_below}
 use Rattle.std_alloc.proofs.VecSteps.Shapes.{after}
 use Rattle.line_arena.specs.Filled.{IsFilled}
 use Rattle.line_arena.specs.Ownership.{lent_slot_at, lent_row_at}
-use Rattle.line_arena.proofs.Row.{CellsRow, BaseRow, Place, width, base_val, base_vals, base_tells, base_good, filled_within, slot_seen}
+use Rattle.line_arena.proofs.Row.{CellsRow, BaseRow, Place, width, base_val, base_vals, base_tells, base_good}
+use Rattle.line_arena.proofs.Row.{filled_within, slot_seen}
 use Rattle.line_arena.specs.contracts.cells.Cells.get.{ended, clauses}
 use Rattle.line_arena.specs.contracts.cells.Cells.get.Key.{name as key}
 use Rattle.line_arena.proofs.cells.Cells.get.Statement.{statement}
@@ -42,16 +44,24 @@ get_spec 𝓤 𝓛 𝓜 𝓡 wired X L =
     let fn = inst_fn (args E) code.function in let T = ended X in let c = clauses X 𝓛 𝓜.mem 𝓡.returns in
     let self = RefOf (0 ∷ []) tt (plain (λ _. CellsRow E)) (λ _. tt) in let base = plain (λ _. BaseRow E) in
     let word = plain (λ _. usize) in
-    let stays : Stays T.signature.params T.kept = (stay_dropped self yes, (stay_dropped base no, (stay_dropped word yes, tt))) in
-    proved 𝓛 T stays c 𝓜 𝓡
-    (Goes-dropped 𝓛 2 self yes (λ κs x f. refl), (Goes-dropped 𝓛 2 base no (λ κs x f. refl), (Goes-dropped 𝓛 2 word yes (λ κs x f. refl), tt)))
+    let stays : Stays T.signature.params T.kept =
+    (stay_dropped self yes, (stay_dropped base no, (stay_dropped word yes, tt))) in
+    proved 𝓛 T stays c 𝓜 𝓡 (
+      Goes-dropped 𝓛 2 self yes (λ κs x f. refl),
+      (
+        Goes-dropped 𝓛 2 base no (λ κs x f. refl),
+        (Goes-dropped 𝓛 2 word yes (λ κs x f. refl), tt),
+      ),
+    )
     (key (args E)) fn (code.unfolded 𝓤 H 𝓜 𝓡 wired (X, tt))
-    (λ κs. (shr_vals, (base_vals E, (uint_vals w64, tt)))) (λ κs. (shr_Tells (named 0) κs.0 (CellsRow E), (base_tells E, (uint_Tells w64, tt))))
+    (λ κs. (shr_vals, (base_vals E, (uint_vals w64, tt))))
+    (λ κs. (shr_Tells (named 0) κs.0 (CellsRow E), (base_tells E, (uint_Tells w64, tt))))
     (λ κs qs bounds a gh are.
     let κ = κs.0 in let rb = a.0.ref_ptr.0 in let ro = a.0.ref_ptr.1 in let d = a.0.now in let p = a.1.0.ptr in
     let i = a.1.1.0 in let s = width E in
     let passed : Ptr → List Val = λ r. vptr rb ro ∷ base_val r ∷ vint w64 i ∷ [] in
-    let y : (walk_of 𝓛 T stays c).Ghost = ((κs, qs, bounds, a, (vptr rb ro ∷ [], (base_vals E a.1.0, (vint w64 i ∷ [], tt)))), gh) in
+    let y : (walk_of 𝓛 T stays c).Ghost =
+    ((κs, qs, bounds, a, (vptr rb ro ∷ [], (base_vals E a.1.0, (vint w64 i ∷ [], tt)))), gh) in
     let Post : Val → SProp 𝓤 = (walk_of 𝓛 T stays c).post y in
     let tokens = ‵ (flft κ qs.0) ⊛ ‵ (flft κs.1.0 qs.1.0) ⊛ ‵ ftrue in
     let Cell = fact 𝓤 (p ≡ d.at) in let Filled = fact 𝓤 (IsFilled d.slots i) in
@@ -65,13 +75,16 @@ get_spec 𝓤 𝓛 𝓜 𝓡 wired X L =
     let within = filled_within d.slots i filled in let there = i * s + o in
     let tiny : s < 2 ^ 64 = omega (arith, one_below (length d.slots) s (2 ^ 63) (omega arith) short) in
     let far : i * s < 2 ^ 64 = omega (arith, times_below i (length d.slots) s (2 ^ 63) (omega arith) short) in
-    use1 𝓛 (‵ (lent_slot_at (R E) b there (get_or d.slots i None) κ)) (slot_seen E 𝓛 b κ d.slots i o there within refl) $
+    use1 𝓛 (‵ (lent_slot_at (R E) b there (get_or d.slots i None) κ))
+    (slot_seen E 𝓛 b κ d.slots i o there within refl) $
     rewrite ! 0 (λ (c : Place E). ‵ (lent_slot_at (R E) b there c κ)) filled.1 refl $ hide ! $
     regoal ! (λ (r : Ptr). prop (WpFn 𝓤 H 𝓣.C 𝓣.Λ fn (passed r) Post)) (at ∙ e) refl $
     enter ! 𝓣.C 𝓣.Λ fn (passed (block_ptr b o)) Post $
-    alloc_all ! (λ l. pass_all ! refl ((tt, tt), (base_good E (block_ptr b o), ((tt, record { fits = are.1.1.0.1 }), tt))) $
+    alloc_all ! (λ l. pass_all ! refl
+    ((tt, tt), (base_good E (block_ptr b o), ((tt, record { fits = are.1.1.0.1 }), tt))) $
     first ! $ blocks ! $
-    sets ! (bin ! (get ! refl) (size_lit ! (record { fits = tiny })) (record { fits = far })) refl (tt, record { fits = far }) $
+    sets ! (bin ! (get ! refl) (size_lit ! (record { fits = tiny })) (record { fits = far })) refl
+    (tt, record { fits = far }) $
     sets ! (bin ! (get_in ! (fld ! refl (stop !)) (sub ! 0 refl (whole !))) (get ! refl) tt) refl (tt, tt) $
     sets_last ! (addr ! (through ! refl (stop !))) refl (tt, tt) $
     exec ! 𝓣.C 𝓣.Λ (env fn.locals l) (after 1 fn.body) (at_ret _ Post) $
@@ -80,4 +93,5 @@ get_spec 𝓤 𝓛 𝓜 𝓡 wired X L =
     feq_i ! (List Val) (vptr b there ∷ []) (vptr b there ∷ []) refl $ fjoin ! $
     use0 𝓛 (raw (fact 𝓤 (get_or d.slots i None ≡ Some filled.0))) (fact_i 𝓤 _ (emp 𝓤) filled.1) $
     nothing ! $ nothing ! $ fjoin ! $ nothing ! $ fjoin ! $ nothing ! $ fjoin ! $ move ! (3 ∷ 0 ∷ 2 ∷ 1 ∷ []) $
-    by ! (leaves 𝓛 T stays c y (vptr b there) (record { ref_ptr = (b, there); now = filled.0 }) (tt, (tt, (tt, tt))) (tt, (tt, (tt, tt))))))))))
+    by ! (leaves 𝓛 T stays c y (vptr b there) (record { ref_ptr = (b, there); now = filled.0 }) (tt, (tt, (tt, tt)))
+    (tt, (tt, (tt, tt))))))))))

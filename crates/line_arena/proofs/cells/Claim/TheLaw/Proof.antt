@@ -13,6 +13,11 @@ use Rattle.line_arena.proofs.cells.Claim.TheLaw.Statement.{statement}
 
 pub shares : (R A : RattleType) (g : Ghosts A.Denot) (L : Laws R) (Z : Laws A) → statement R A g L Z
 shares R A g L Z =
-    of_Lends (claim.struct R A g) (claim.the_codes R.Denot A.Denot R.coded A.coded (marker.the_row RawPtr).coded) (claim.the_heap R A g)
-    (claim.the_lent R A g) (λ d p. nothing_shr_laws) (copy_shared (marker.the_field RawPtr) (field_copy (marker.the_type RawPtr) tt), tt)
+    of_Lends (claim.struct R A g) (claim.the_codes R.Denot A.Denot R.coded A.coded (marker.the_row RawPtr).coded)
+    (claim.the_heap R A g)
+    (claim.the_lent R A g) (λ d p. nothing_shr_laws) (
+      copy_shared (marker.the_field RawPtr)
+          (field_copy (marker.the_type RawPtr) tt),
+      tt,
+    )
     (λ M 𝓤 𝓛 d p. Lends-nothing 𝓛 (claim.the_heap R A g d) (claim.the_row R A g).lives)

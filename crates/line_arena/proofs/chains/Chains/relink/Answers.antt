@@ -14,13 +14,27 @@ returns-clause-arena g c =
     let d = c.unhook.ensures in let e = c.hook.ensures in let it = (at mid.block x).item in
     let inside = within mid.block x d.uses.1.0 d.uses.1.1 in
     let lacks = lacks_from n x s (emptied x mid) c.requires.arena c.requires.cell d.tied d.total d.uses.0
-    (get_or-set_same mid.block x None None inside) (record { capacity = d.sizes.capacity; used = d.sizes.used; lists = d.sizes.lists }) d.lists in
-    let value = same_some it (Some c.requires.value.0) (sym d.value ∙ c.requires.value.1) in let low = c.requires.list in
-    arena_from n l x it (emptied x mid) c.hook.new.self lacks (omega (arith, low)) ((λ _. (c.requires.value.0, value)), λ same. absurd (omega (arith, low, same)))
-    e.tied e.total e.uses.0 e.uses.1 (record { capacity = e.sizes.capacity; used = e.sizes.used; lists = e.sizes.lists }) e.rings
+    (get_or-set_same mid.block x None None inside) (record {
+      capacity = d.sizes.capacity;
+      used = d.sizes.used;
+      lists =
+          d.sizes.lists;
+    }) d.lists in
+    let value = same_some it (Some c.requires.value.0) (sym d.value ∙ c.requires.value.1) in let low =
+    c.requires.list in
+    arena_from n l x it (emptied x mid) c.hook.new.self lacks (omega (arith, low))
+    ((λ _. (c.requires.value.0, value)), λ same. absurd (omega (arith, low, same)))
+    e.tied e.total e.uses.0 e.uses.1 (record {
+      capacity = e.sizes.capacity;
+      used = e.sizes.used;
+      lists =
+          e.sizes.lists;
+    }) e.rings
 
 pub returns-clause-lists : goal.returns-clause-lists
 returns-clause-lists g c =
-    let s = c.args.self.now in let x = c.args.cell in let l = c.args.list in let it = (at c.unhook.new.self.block x).item in
-    subst (λ o. IfSome o (λ item. rings_of c.hook.new.self ≡ append_to l (x, item) (map (without x) (rings_of s)))) (sym c.unhook.ensures.value)
+    let s = c.args.self.now in let x = c.args.cell in let l = c.args.list in let it =
+    (at c.unhook.new.self.block x).item in
+    subst (λ o. IfSome o (λ item. rings_of c.hook.new.self ≡ append_to l (x, item) (map (without x) (rings_of s))))
+    (sym c.unhook.ensures.value)
     (c.hook.ensures.rings ∙ ap (append_to l (x, it)) c.unhook.ensures.lists)

@@ -7,7 +7,8 @@ use Rattle.line_arena.proofs.chains.Chains.take_free.Goals as goal
 pub returns-then-index-gt0-clause-full : goal.returns-then-index-gt0-clause-full
 returns-then-index-gt0-clause-full g c =
     let s = c.args.self.now in let many = c.requires.many in
-    let is = ap (λ h. h.count) (get_or_read s.heads.items c.args.spare c.index.result.now (omega arith) c.index.ensures no_head) in
+    let is = ap (λ h. h.count) (get_or_read s.heads.items c.args.spare c.index.result.now (omega arith)
+    c.index.ensures no_head) in
     let n = counted c.args.spare s c.requires in let t = c.requires.total in let some = c.if-index-gt0.true in
     ((λ e. absurd (true≢false e)), λ e. absurd (omega (arith, is, n, t.1, some, e)))
 
@@ -20,7 +21,8 @@ returns-then-self-clause-full g c =
 pub returns-clause-full : goal.returns-clause-full
 returns-clause-full g c =
     let s = c.args.self.now in let many = c.requires.many in
-    let is = ap (λ h. h.count) (get_or_read s.heads.items c.args.spare c.index.result.now (omega arith) c.index.ensures no_head) in
+    let is = ap (λ h. h.count) (get_or_read s.heads.items c.args.spare c.index.result.now (omega arith)
+    c.index.ensures no_head) in
     let n = counted c.args.spare s c.requires in let t = c.requires.total in let none = c.if-index-gt0.false in
     let full = c.if-self.false in
     ((λ _. omega (arith, is, n, t.1, none, full)), λ _. refl)

@@ -8,8 +8,10 @@ use Rattle.litmus_reader.proofs.contents.Test.opening.Given as goal
 
 -- the words so far, with those of the items that are left, are all of them; and none of these sets a location if none does
 abbrev pub invariant-loop-item : goal.invariant-loop-item
-invariant-loop-item l = (words_opened (settings_of l.left) l.memory ≡ words_opened (test_of l.fn.self).items finite.empty)
-    × (list_any (λ item. is_of_location item.0) (test_of l.fn.self).items ≡ false → list_any (λ item. is_of_location item.0) (settings_of l.left) ≡ false)
+invariant-loop-item l =
+    (words_opened (settings_of l.left) l.memory ≡ words_opened (test_of l.fn.self).items finite.empty)
+    × (list_any (λ item. is_of_location item.0) (test_of l.fn.self).items ≡ false →
+    list_any (λ item. is_of_location item.0) (settings_of l.left) ≡ false)
 
 abbrev pub decreases-loop-item : goal.decreases-loop-item
 decreases-loop-item l = length l.left

@@ -4,4 +4,5 @@ use Rattle.number_map.proofs.Hashed.{get_hashed}
 use Rattle.number_map.proofs.number_map.NumberMap.get.Goals as goal
 
 pub returns : goal.returns
-returns g c = c.copied.ensures ∙ c.get.ensures.value ∙ sym (get_hashed c.self.inside.hash.entries c.args.key) ∙ ap (λ m. map.get m c.args.key) c.self.view_is
+returns g c = c.copied.ensures ∙ c.get.ensures.value ∙ sym (get_hashed c.self.inside.hash.entries c.args.key)
+    ∙ ap (λ m. map.get m c.args.key) c.self.view_is

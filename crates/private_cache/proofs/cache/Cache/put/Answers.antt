@@ -5,5 +5,7 @@ use Rattle.private_cache.proofs.cache.Cache.put.Goals as goal
 
 pub invariant_of-self : goal.invariant_of-self
 invariant_of-self c =
-    let is : c.set_of-set.result ≡ set_of c.self.inside.table c.line.inside.0 = rw (c.self.view_is, c.line.view_is) c.set_of-set.ensures.set in
-    sound-put c.self.inside.table c.insert.new.self c.set_of-set.result c.line.inside.0 _ c.self.invariant is c.insert.ensures
+    let is : c.set_of-set.result ≡ set_of c.self.inside.table c.line.inside.0 =
+    rw (c.self.view_is, c.line.view_is) c.set_of-set.ensures.set in
+    sound-put c.self.inside.table c.insert.new.self c.set_of-set.result c.line.inside.0 _ c.self.invariant
+    is c.insert.ensures

@@ -1,5 +1,6 @@
 -- Why a location is one too many.
-use Rattle.std.proofs.Common.{◌≡◌, ℕ, ◌+◌, ◌≤◌, true, false, ltb, leb, List, [], ◌∷◌, ◌++◌, length, Ok, refl, sym, arith, inl, inr}
+use Rattle.std.proofs.Common.{◌≡◌, ℕ, ◌+◌, ◌≤◌, true, false, ltb, leb, List, [], ◌∷◌, ◌++◌, length, Ok, refl, sym}
+use Rattle.std.proofs.Common.{arith, inl, inr}
 use Rattle.std.proofs.lemmas.Bool.{cases_Bool, ltb-false, leb-true}
 use Rattle.std.proofs.lemmas.Slice.Eq.{bytes_eq-Decides}
 use Rattle.std.specs.Str.{bytes_eq}
@@ -11,20 +12,25 @@ use Rattle.litmus_lexer.specs.Reading.{fails}
 use Rattle.litmus_parser.specs.Names.{Names}
 use Rattle.litmus_parser.specs.ReadingItems.{location_at}
 use Rattle.litmus_parser.specs.LocationFaults.{IsNew, IsOneTooMany}
-use Rattle.litmus_parser.proofs.Explains.{Explains, test_explains}
+use Rattle.litmus_parser.proofs.Causes.{Explains, test_explains}
 
 -- a name that is found nowhere is new
 new-name : (word : List ℕ) (names : Names) → length names ≤ place_of word names → IsNew word names
 new-name word [] le = tt
 new-name word (name ∷ names) le =
     elim (cases_Bool (bytes_eq name word)) [
-      | inl e ↦ let zero_there : place_of word (name ∷ names) ≡ 0 = rw e refl in absurd (omega (arith, le, zero_there))
-      | inr e ↦ let further : place_of word (name ∷ names) ≡ 1 + place_of word names = rw e refl in
-          (λ same. let d : bytes_eq name word ≡ true = (bytes_eq-Decides name word).1 (sym same) in absurd cc, new-name word names (omega (arith, le, further)))
+      | inl e ↦ let zero_there : place_of word (name ∷ names) ≡ 0 =
+          rw e refl in absurd (omega (arith, le, zero_there))
+      | inr e ↦ let further : place_of word (name ∷ names) ≡ 1 + place_of word names = rw e refl in (
+        λ same. let d : bytes_eq name word ≡ true = (bytes_eq-Decides name word).1 (sym same) in
+            absurd cc,
+        new-name word names (omega (arith, le, further)),
+      )
     ]
 
 -- a word has the number of a location, or is none, or is one too many
-pub location_explains : (C : Kind → ℕ → Type 0) (kind : Kind) (word : List ℕ) (n : ℕ) (names : Names) → (is_location word ≡ false → C kind n) → (IsOneTooMany word names → C TooLarge n)
+pub location_explains : (C : Kind → ℕ → Type 0) (kind : Kind) (word : List ℕ) (n : ℕ) (names : Names) →
+    (is_location word ≡ false → C kind n) → (IsOneTooMany word names → C TooLarge n)
     → Explains C (λ (x : ℕ × Names). Unit {0}) (location_at kind word n names)
 unfolding location_at
 location_explains C kind word n names other many =

@@ -1,9 +1,11 @@
 -- Every text of the grammar is read, as the test that it stands for.
-use Rattle.std.proofs.Common.{◌≡◌, ℕ, zero, suc, ◌+◌, ◌<◌, ◌≤◌, true, false, eqb, ltb, List, [], ◌∷◌, length, Some, None, Result, Ok, refl, subst, arith}
+use Rattle.std.proofs.Common.{◌≡◌, ℕ, zero, suc, ◌+◌, ◌<◌, ◌≤◌, true, false, eqb, ltb, List, [], ◌∷◌, length, Some}
+use Rattle.std.proofs.Common.{None, Result, Ok, refl, subst, arith}
 use Rattle.std.specs.List.{prefix_len, AllByRecursion}
 use Rattle.std.proofs.lemmas.Bool.{ne_eqb, eq-eqb, le-ltb, lt-leb}
 use Rattle.litmus_lexer.specs.Pieces.{Piece, Word, pieces_of}
-use Rattle.litmus_lexer.specs.FirstLines.{IsTitle, title_of, is_header_line, begins_block, before_line_feed, behind_line_feed}
+use Rattle.litmus_lexer.specs.FirstLines.{IsTitle, title_of, is_header_line, begins_block, before_line_feed}
+use Rattle.litmus_lexer.specs.FirstLines.{behind_line_feed}
 use Rattle.litmus_lexer.specs.declared.errors.LitmusError.{LitmusError}
 use Rattle.litmus_lexer.specs.Reading.{repeat_at}
 use Rattle.litmus_lexer.proofs.Lemmas.{front-whole, title-again, header_line-no_block, block-some}
@@ -29,13 +31,15 @@ use Rattle.litmus_parser.specs.Keywords.{quantifier_of}
 
 -- ---- the first lines
 
-block_line_again : (line : ℕ) (text : List ℕ) → begins_block (before_line_feed text) ≡ true → header_line_at (line, text) ≡ Ok (false, (line, text))
+block_line_again : (line : ℕ) (text : List ℕ) → begins_block (before_line_feed text) ≡ true →
+    header_line_at (line, text) ≡ Ok (false, (line, text))
 unfolding header_line_at
 block_line_again line text b =
     let some : eqb (length text) 0 ≡ false = ne_eqb _ _ (omega (arith, block-some text b)) in
     rw (some, b) refl
 
-header_line_again : (line : ℕ) (text : List ℕ) → 0 < length text → is_header_line (before_line_feed text) ≡ true → header_line_at (line, text) ≡ Ok (true, (line + 1, behind_line_feed text))
+header_line_again : (line : ℕ) (text : List ℕ) → 0 < length text → is_header_line (before_line_feed text) ≡ true →
+    header_line_at (line, text) ≡ Ok (true, (line + 1, behind_line_feed text))
 unfolding header_line_at
 header_line_again line text lt h =
     let some : eqb (length text) 0 ≡ false = ne_eqb _ _ (omega (arith, lt)) in
@@ -49,20 +53,26 @@ header-within : {text body : List ℕ} → IsHeader text body → length body �
 header-within (ends b) = omega arith
 header-within {text} (more h rest) = omega (arith, header-within rest, length-behind_line_feed text)
 
-lines_again : (k line : ℕ) {text body : List ℕ} → length text ≤ k → IsHeader text body → (line' : ℕ) × (repeat_at k header_line_at cut_short (line, text) ≡ Ok (line', body))
+lines_again : (k line : ℕ) {text body : List ℕ} → length text ≤ k → IsHeader text body → (line' : ℕ) ×
+    (repeat_at k header_line_at cut_short (line, text) ≡ Ok (line', body))
 lines_again zero line le h = absurd (omega (arith, le, header-some h))
-lines_again (suc k) line {text} le (ends b) = (line, repeat-last header_line_at cut_short k (line, text) (line, text) (block_line_again line text b))
+lines_again (suc k) line {text} le (ends b) =
+    (line, repeat-last header_line_at cut_short k (line, text) (line, text) (block_line_again line text b))
 lines_again (suc k) line {text} le (more h rest) =
     let some : 0 < length text = omega (arith, header-some rest, length-behind_line_feed text) in
-    let r = lines_again k (line + 1) (omega (arith, le, some, length-behind_line_feed text)) rest in
-    (r.0, repeat-more header_line_at cut_short k (line, text) (line + 1, behind_line_feed text) _ (header_line_again line text some h) r.1)
+    let r = lines_again k (line + 1) (omega (arith, le, some, length-behind_line_feed text)) rest in (
+      r.0,
+      repeat-more header_line_at cut_short k (line, text) (line + 1, behind_line_feed text) _
+          (header_line_again line text some h) r.1,
+    )
 
 pub title-some : (text name : List ℕ) → IsTitle (before_line_feed text) name → 0 < length text
 unfolding title_of
 title-some [] name t = let none : None ≡ Some name = title-again [] name t in absurd cc
 title-some (b ∷ text) name t = omega arith
 
-pub opening_again : (text name body : List ℕ) → length text ≤ 65536 → IsTitle (before_line_feed text) name → IsHeader (behind_line_feed text) body → (line : ℕ) × (preamble_at text ≡ Ok (name, (line, body)))
+pub opening_again : (text name body : List ℕ) → length text ≤ 65536 → IsTitle (before_line_feed text) name →
+    IsHeader (behind_line_feed text) body → (line : ℕ) × (preamble_at text ≡ Ok (name, (line, body)))
 unfolding preamble_at first_line_at heads.header_at
 opening_again text name body le title header =
     let some : eqb (length text) 0 ≡ false = ne_eqb _ _ (omega (arith, title-some text name title)) in
@@ -75,17 +85,22 @@ there-no_absent : (threads : ℕ) (name : Name) → IsThere threads name → is_
 there-no_absent threads (Register t r) lt = lt-leb _ _ lt
 there-no_absent threads (Location l) h = refl
 
-there-none : (threads : ℕ) (items : List Item) → AllByRecursion (λ item. IsThere threads item.name) items → absent_line threads items ≡ None
+there-none : (threads : ℕ) (items : List Item) → AllByRecursion (λ item. IsThere threads item.name) items →
+    absent_line threads items ≡ None
 unfolding absent_line
 there-none threads [] h = refl
 there-none threads (item ∷ items) h = rw (there-no_absent threads item.name h.0, there-none threads items h.1) refl
 
-quantifier-ahead : (pieces after : List Piece) (w : List ℕ) (q : Quantifier) → pieces ≡ Word w ∷ after → quantifier_of w ≡ Some q → quantifier_next pieces ≡ true
+quantifier-ahead : (pieces after : List Piece) (w : List ℕ) (q : Quantifier) → pieces ≡ Word w ∷ after →
+    quantifier_of w ≡ Some q → quantifier_next pieces ≡ true
 unfolding quantifier_next
 quantifier-ahead pieces after w q e f = rw (e, f) refl
 
-table_again : (items items' : List Item) (line : ℕ) (pieces : List Piece) (threads : ℕ) (body_rows : List Piece) (cells : List Cell) (rest : List Piece)
-    → AreAlike items' items → IsHeaderRow pieces threads body_rows → AllByRecursion (λ item. IsThere threads item.name) items → AreRows items threads 0 body_rows None cells rest → quantifier_next rest ≡ true
+table_again : (items items' : List Item) (line : ℕ) (pieces : List Piece) (threads : ℕ) (body_rows : List Piece)
+    (cells : List Cell) (rest : List Piece)
+    → AreAlike items' items → IsHeaderRow pieces threads body_rows →
+    AllByRecursion (λ item. IsThere threads item.name) items → AreRows items threads 0 body_rows None cells rest →
+    quantifier_next rest ≡ true
     → (line' : ℕ) × (table_at items' line pieces ≡ Ok (threads, cells, line', rest))
 unfolding table_at
 table_again items items' line pieces threads body_rows cells rest alike header there rows ahead =
@@ -99,18 +114,24 @@ parts_again : (text : List ℕ) (test : Litmus) → IsTest text test → parts_a
 unfolding parts_at
 parts_again text test h =
     let o = opening_again text test.name h.body h.length_is h.title h.header in
-    let few : length (pieces_of h.body) ≤ 65536 = omega (arith, h.length_is, length-pieces h.body, header-within h.header, length-behind_line_feed text) in
+    let few : length (pieces_of h.body) ≤ 65536 =
+    omega (arith, h.length_is, length-pieces h.body, header-within h.header, length-behind_line_feed text) in
     let b = block_again o.0 (pieces_of h.body) h.items h.named h.table few h.block in
-    let t = table_again h.items b.0 b.1 h.table test.threads h.body_rows test.cells h.rest b.3 h.header_row h.threads_there h.rows (quantifier-ahead h.rest h.condition.1 h.condition.0 test.quantifier h.condition.4 h.condition.5) in
-    let c = condition_again h.items b.0 test.threads t.0 h.rest h.named test.quantifier test.tree test.locations (alike-address b.0 h.items b.3) h.condition in
+    let t = table_again h.items b.0 b.1 h.table test.threads h.body_rows test.cells h.rest b.3 h.header_row
+    h.threads_there h.rows (quantifier-ahead h.rest h.condition.1 h.condition.0 test.quantifier
+    h.condition.4 h.condition.5) in
+    let c = condition_again h.items b.0 test.threads t.0 h.rest h.named test.quantifier test.tree test.locations
+    (alike-address b.0 h.items b.3) h.condition in
     rw (o.1, b.2, t.1, c, b.3, ← h.items_are, ← h.seen) refl
 
 pub read_again : (text : List ℕ) (test : Litmus) → IsTest text test → read_at text ≡ Ok test
 unfolding read_at
 read_again text test h =
     let small : ltb 65536 (length text) ≡ false = le-ltb _ _ h.length_is in
-    let whole : eqb (prefix_len is_allowed text) (length text) ≡ true = eq-eqb _ _ (front-whole is_allowed text h.allowed) in
+    let whole : eqb (prefix_len is_allowed text) (length text) ≡ true =
+    eq-eqb _ _ (front-whole is_allowed text h.allowed) in
     rw (small, whole, parts_again text test h) refl
 
-pub only-told : (text : List ℕ) (r : Result Test LitmusError) → Told test_of r (read_at text) → (test : Litmus) → IsTest text test → Told test_of r (Ok test)
+pub only-told : (text : List ℕ) (r : Result Test LitmusError) → Told test_of r (read_at text) → (test : Litmus) →
+    IsTest text test → Told test_of r (Ok test)
 only-told text r told test h = subst (Told test_of r) (read_again text test h) told

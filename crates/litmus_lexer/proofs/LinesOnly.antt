@@ -1,15 +1,18 @@
 -- What the lines in front of the initial block and the pieces of a text are, as far as reading them anew needs it.
-use Rattle.std.proofs.Common.{◌≡◌, ℕ, ◌-◌, ◌<◌, ◌≤◌, Bool, true, false, cond, eqb, ◌||◌, List, [], ◌∷◌, length, drop, refl, arith}
+use Rattle.std.proofs.Common.{◌≡◌, ℕ, ◌-◌, ◌<◌, ◌≤◌, Bool, true, false, cond, eqb, ◌||◌, List, [], ◌∷◌, length, drop}
+use Rattle.std.proofs.Common.{refl, arith}
 use Rattle.std.specs.List.{prefix_len}
 use Rattle.std.specs.Prelude.{not}
 use Rattle.std.proofs.lemmas.Bool.{eqb-true, ne_eqb, false_from_ne_true, both_ways}
 use Rattle.std.proofs.lemmas.List.{length-drop}
 use Rattle.litmus_lexer.specs.Pieces.{Piece, Word, Sign, LineEnd, is_blank, is_joined, grown, lone_piece, pieces_of}
-use Rattle.litmus_lexer.specs.FirstLines.{begins_with, is_quoted, is_setting, is_header_line, begins_block, behind, before_line_feed, without_first, behind_line_feed}
+use Rattle.litmus_lexer.specs.FirstLines.{begins_with, is_quoted, is_setting, is_header_line, begins_block, behind}
+use Rattle.litmus_lexer.specs.FirstLines.{before_line_feed, without_first, behind_line_feed}
 
 -- ---- header lines
 
-brace-alone : (text : List ℕ) → begins_with 123 text ≡ true → (eqb (length text) 0 || is_quoted text || is_setting text) ≡ false
+brace-alone : (text : List ℕ) → begins_with 123 text ≡ true → (eqb (length text) 0 || is_quoted text
+    || is_setting text) ≡ false
 brace-alone [] e = absurd cc
 brace-alone (first ∷ rest) e =
     let some : eqb (length (first ∷ rest)) 0 ≡ false = ne_eqb _ _ (omega arith) in
@@ -20,7 +23,8 @@ block-no_header_line line e = brace-alone (behind is_blank line) e
 
 -- a header line doesn't begin the initial block
 pub header_line-no_block : (line : List ℕ) → is_header_line line ≡ true → begins_block line ≡ false
-header_line-no_block line h = false_from_ne_true (begins_block line) (λ e. both_ways (is_header_line line) (block-no_header_line line e) h)
+header_line-no_block line h =
+    false_from_ne_true (begins_block line) (λ e. both_ways (is_header_line line) (block-no_header_line line e) h)
 
 -- where the initial block begins there are bytes
 pub block-some : (text : List ℕ) → begins_block (before_line_feed text) ≡ true → 0 < length text
@@ -56,5 +60,7 @@ length-pieces (b ∷ text) =
     let i = length-pieces text in
     let g = length-grown b (pieces_of text) in
     let n : ℕ = length (b ∷ text) in
-    within-if (is_blank b) (pieces_of text) (cond (is_joined b text) (grown b (pieces_of text)) (lone_piece b ∷ pieces_of text)) n (omega (arith, i))
-    (within-if (is_joined b text) (grown b (pieces_of text)) (lone_piece b ∷ pieces_of text) n (omega (arith, i, g)) (omega (arith, i)))
+    within-if (is_blank b) (pieces_of text) (cond (is_joined b text) (grown b (pieces_of text))
+    (lone_piece b ∷ pieces_of text)) n (omega (arith, i))
+    (within-if (is_joined b text) (grown b (pieces_of text)) (lone_piece b ∷ pieces_of text) n (omega (arith, i, g))
+    (omega (arith, i)))

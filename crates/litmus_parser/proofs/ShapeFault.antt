@@ -1,5 +1,6 @@
 -- What the tests of a line say: that it has the shape of a row, and that the condition begins there.
-use Rattle.std.proofs.Common.{◌≡◌, ℕ, ◌+◌, ◌-◌, Bool, true, false, cond, eqb, ◌&&◌, List, [], ◌∷◌, Option, Some, None, refl, ap, subst, inl, inr, arith}
+use Rattle.std.proofs.Common.{◌≡◌, ℕ, ◌+◌, ◌-◌, Bool, true, false, cond, eqb, ◌&&◌, List, [], ◌∷◌, Option, Some, None}
+use Rattle.std.proofs.Common.{refl, ap, subst, inl, inr, arith}
 use Rattle.std.proofs.lemmas.Bool.{eqb-true, eqb-false, ne_eqb, and_parts}
 use Rattle.litmus_lexer.specs.Pieces.{Piece, Word, Sign, LineEnd}
 use Rattle.litmus_parser.specs.Names.{is_there}
@@ -39,7 +40,9 @@ ends_line_there : (pieces after : List Piece) → EndsLine pieces after → ends
 ends_line_there pieces after (inl e) = ap ends_line e
 ends_line_there pieces after (inr e) = ap ends_line e.0
 
-fewer_bars : (bars : ℕ) (pieces : List Piece) (none : Bool) → eqb bars 0 ≡ none → cond none false (has_shape (bars - 1) pieces) ≡ true → (has_shape (bars - 1) pieces ≡ true → HasShape (bars - 1) pieces)
+fewer_bars : (bars : ℕ) (pieces : List Piece) (none : Bool) → eqb bars 0 ≡ none →
+    cond none false (has_shape (bars - 1) pieces) ≡ true → (has_shape (bars - 1) pieces ≡ true →
+    HasShape (bars - 1) pieces)
     → HasShape bars (Sign 124 ∷ pieces)
 fewer_bars bars pieces true z e go = absurd cc
 fewer_bars bars pieces false z e go =
@@ -49,13 +52,15 @@ fewer_bars bars pieces false z e go =
 
 -- by whether the sign is ; and whether it is |
 sign_shape : (bars b : ℕ) (pieces : List Piece) (last middle : Bool) → eqb b 59 ≡ last → eqb b 124 ≡ middle
-    → cond last (eqb bars 0 && ends_line pieces) (cond middle (cond (eqb bars 0) false (has_shape (bars - 1) pieces)) (has_shape bars pieces)) ≡ true
+    → cond last (eqb bars 0 && ends_line pieces) (cond middle (cond (eqb bars 0) false (has_shape (bars - 1) pieces))
+    (has_shape bars pieces)) ≡ true
     → ((n : ℕ) → has_shape n pieces ≡ true → HasShape n pieces) → HasShape bars (Sign b ∷ pieces)
 sign_shape bars b pieces true middle l m e go =
     let parts = and_parts (eqb bars 0) (ends_line pieces) e in
     let end = line_ends_here pieces parts.1 in
     rw (eqb-true bars 0 parts.0, eqb-true b 59 l) (ends end.1)
-sign_shape bars b pieces false true l m e go = rw (eqb-true b 124 m) (fewer_bars bars pieces (eqb bars 0) refl e (go (bars - 1)))
+sign_shape bars b pieces false true l m e go =
+    rw (eqb-true b 124 m) (fewer_bars bars pieces (eqb bars 0) refl e (go (bars - 1)))
 sign_shape bars b pieces false false l m e go = sign b (eqb-false b 59 l) (eqb-false b 124 m) (go bars e)
 
 pub shape_stands : (bars : ℕ) (pieces : List Piece) → has_shape bars pieces ≡ true → HasShape bars pieces
@@ -63,7 +68,8 @@ unfolding has_shape
 shape_stands bars [] e = absurd cc
 shape_stands bars (LineEnd ∷ pieces) e = absurd cc
 shape_stands bars (Word w ∷ pieces) e = word w (shape_stands bars pieces e)
-shape_stands bars (Sign b ∷ pieces) e = sign_shape bars b pieces (eqb b 59) (eqb b 124) refl refl e (λ n. shape_stands n pieces)
+shape_stands bars (Sign b ∷ pieces) e =
+    sign_shape bars b pieces (eqb b 59) (eqb b 124) refl refl e (λ n. shape_stands n pieces)
 
 pub shape_again : {bars : ℕ} {pieces : List Piece} → HasShape bars pieces → has_shape bars pieces ≡ true
 unfolding has_shape

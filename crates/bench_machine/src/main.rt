@@ -49,11 +49,7 @@ fn operation_of(number: u64, words: u64) -> Op {
 /// The line of a core's open operation, in one-word lines.
 fn line_of(system: &System, core: u32) -> Option<LineNo> {
     let (op, _) = system.open_op(core)?;
-    Some(LineNo(match op {
-        Op::Load(word) => word.word(),
-        Op::Store(word, _) => word.word(),
-        Op::Swap(word, _) => word.word(),
-    }))
+    Some(LineNo(op.word()))
 }
 
 /// A core is issued its next operation where none is open, and attempts it; without room a copy goes.

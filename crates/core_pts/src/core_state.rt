@@ -6,7 +6,6 @@ ghost use Rattle.std.specs.Result.{result_ok};
 ghost use Rattle.line_sets.specs.Geometry.{IsGeometry};
 ghost use Rattle.line_sets.specs.SetTable.{all_listed};
 ghost use Rattle.private_cache.specs.CopyTable.{copy_of, place_for, victim_for, without_copy};
-ghost use Rattle.physiological_order.specs.Order.{address};
 ghost use Rattle.core_pts.specs.SetUp.{IsInRange};
 ghost use Rattle.core_pts.specs.CoreTable.{advance, attempt, attempt_unserved, attempt_without, completed_at, evict};
 ghost use Rattle.core_pts.specs.CoreTable.{index_of, is_on, issue, line_of, need, opened, pinned_line, to_bank};
@@ -137,7 +136,7 @@ impl Core {
     fn line_of_word(&self, op: &Op) -> LineNo
         ensures { result ≡ line_of self.now op.now }
     {
-        LineNo(word_of(op) / self.config.line_words as u64)
+        LineNo(op.word() / self.config.line_words as u64)
     }
 
     // The index in its line of an operation's word.
@@ -145,7 +144,7 @@ impl Core {
         ensures value { result ≡ index_of self.now op.now }
         ensures bound { result < 8 }
     {
-        (word_of(op) % self.config.line_words as u64) as usize
+        (op.word() % self.config.line_words as u64) as usize
     }
 
     /// A message of the core about a line to the line's bank, one of the banks that there are.
@@ -301,17 +300,6 @@ impl Core {
             return Ok(None);
         }
         Ok(Some(self.to_bank(line, Body::FlushRep(words_of_copy(&copy)))))
-    }
-}
-
-// The word of an operation.
-fn word_of(op: &Op) -> u64
-    ensures { result ≡ address op.now }
-{
-    match *op {
-        Op::Load(word) => word.word(),
-        Op::Store(word, _) => word.word(),
-        Op::Swap(word, _) => word.word(),
     }
 }
 

@@ -1,6 +1,5 @@
 //! What a round looks up in the machine and the programs.
 ghost use Rattle.std.specs.Prelude.{◌≡◌, ◌/◌, ◌<◌};
-ghost use Rattle.physiological_order.specs.Order.{address};
 ghost use Rattle.interleaving_core.specs.LookUps.{open_op};
 ghost use Rattle.worker_driver.specs.Acts.{next_in, done_in};
 ghost use Rattle.worker_driver.specs.Schedule.{are_over, is_over, told, victim_for};
@@ -11,24 +10,13 @@ use interleaving_core::{Answer, System};
 use network::LineNo;
 use physiological_order::Op;
 
-// The word of an operation.
-fn word_of(op: Op) -> u64
-    ensures { result ≡ address op }
-{
-    match op {
-        Op::Load(word) => word.word(),
-        Op::Store(word, _) => word.word(),
-        Op::Swap(word, _) => word.word(),
-    }
-}
-
 // The copy to evict for the line of a core's open operation.
 pub(crate) fn victim_for(plan: Plan, system: &System, core: u32) -> Option<LineNo>
     requires { 0 < plan.line_words }
     ensures { result ≡ victim_for plan system.now core (open_op system.now core) }
 {
     let (op, _) = system.open_op(core)?;
-    system.victim(core, LineNo(word_of(op) / u64::from(plan.line_words)))
+    system.victim(core, LineNo(op.word() / u64::from(plan.line_words)))
 }
 
 // The next operation of a core's program.

@@ -140,6 +140,28 @@ module _ {S : Type 0} (m : Machine) (cores : S → List CoreState) (banks : S �
       inr (subst (λ (x : Answer × Machine). m.mail.next < x.1.mail.next) (is_changed made completed change only)
       sends)
 
+  -- an event of the part: what the table makes of the machine is the change, of messages of this capacity. The machine is
+  -- seen as a model.
+  module _ (made : S → Type 0) (change : ℕ → Change S) (only : Only made (λ x. ⊥) (change m.config.messages))
+      (capacity : ℕ) (same_capacity : capacity ≡ m.config.messages)
+      (seen : Machine) (is_view : m ≡ seen) (event : Machine → Answer × Machine)
+      (changes : changed m put (change m.config.messages) ≡ event m) where
+    pub event_done : (answer : Answer) (new : S) (mail : Mail) (stopped : Bool) → (answer, new, mail) ≡ applied part
+        m.mail (change capacity) → stopped ≡ (stops answer || m.is_stopped) →
+        (answer, record (put new) { mail = mail; is_stopped = stopped }) ≡ event seen
+    event_done answer new mail stopped is stop =
+        made_without made (change m.config.messages) only answer new mail stopped
+        (is ∙ ap (λ (k : ℕ). applied part m.mail (change k)) same_capacity) stop
+        ∙ changes ∙ ap event is_view
+
+    pub event_wanted : {X E : Type 0} (result : Result X E) →
+        m.mail.next < (applied part m.mail (change capacity)).2.next → OnErr result (TakesMemory seen (event seen))
+    event_wanted result sends =
+        subst (λ (n : Machine). OnErr result (TakesMemory n (event n))) is_view
+        (subst (λ (x : Answer × Machine). OnErr result (TakesMemory m x)) changes
+        (sending_takes result made (λ x. ⊥) (change m.config.messages) only
+        (subst (λ (k : ℕ). m.mail.next < (applied part m.mail (change k)).2.next) same_capacity sends)))
+
 -- what an option has that isn't empty
 pub had : {X : Type 0} (o : Option X) → IsSome o → (x : X) × (o ≡ Some x)
 had None h = absurd (let z : false ≡ true = h in cc)

@@ -1,17 +1,19 @@
 -- What parts send goes between nodes of its kind, and messages in flight find their part.
-use Rattle.std.proofs.Common.{◌≡◌, ℕ, ◌<◌, ◌%◌, ◌++◌, Bool, true, false, cond, List, [], ◌∷◌, Option, Some, None, Ok}
-use Rattle.std.proofs.Common.{Err, IsTrue, refl, subst, arith}
+use Rattle.std.proofs.Common.{◌≡◌, ℕ, ◌+◌, ◌<◌, ◌≤◌, ◌%◌, ◌++◌, Bool, true, false, cond, List, [], ◌∷◌, length}
+use Rattle.std.proofs.Common.{Option, Some, None, Ok, Err, IsTrue, refl, sym, ap, ◌∙◌, subst, arith}
 use Rattle.std.specs.List.{slice_get, AllByRecursion as Each}
 use Rattle.std.specs.Ordering.{nat_cmp}
 use Rattle.std.specs.FinMap.{FinMap}
 use Rattle.std.proofs.lemmas.Bool.{eq-eqb, lt-ltb}
 use Rattle.std.proofs.Math.Nat.{mod-lt}
 use Rattle.std.proofs.lemmas.Option.{slice_get_within}
+use Rattle.physiological_order.specs.declared.operation.Record.{Record}
 use Rattle.network.specs.declared.message.Message.{Message}
 use Rattle.network.specs.declared.message.Node.TheVariants as node
 use Rattle.network.specs.declared.message.Body.TheVariants.{FlushRep}
 use Rattle.network.specs.declared.part.Reaction.{Reaction}
 use Rattle.network.specs.declared.part.Reaction.TheVariants.{Done, Dropped, Held, HeldAfter}
+use Rattle.network.specs.Flight.{Flight}
 use Rattle.network.specs.Numbered.{at_number}
 use Rattle.network.specs.Routes.{has_endpoints}
 use Rattle.network.specs.Sent.{sent_by}
@@ -28,6 +30,7 @@ use Rattle.llc_bank.specs.BankTable as bank_table
 use Rattle.llc_bank.specs.BankTable.{BankState}
 use Rattle.dram_mts.specs.Table.{dram_has_case, dram_table}
 use Rattle.network.specs.Mail.{Mail, sent, taken, answered}
+use Rattle.machine_table.specs.declared.config.Config.{Config}
 use Rattle.machine_table.specs.Machine.{Machine, with_core, with_bank, with_dram}
 use Rattle.machine_table.specs.Change.{Keeps, Makes, can_send, reacted}
 use Rattle.machine_table.specs.Transition.{changed, refused, deliver_core, deliver_bank, deliver_dram}
@@ -38,6 +41,7 @@ use Rattle.machine_theorem.specs.Shape.{GoesHome, IsOwnedBelow, IsWhole}
 use Rattle.machine_theorem.specs.Kept.{Invariant}
 use Rattle.machine_theorem.proofs.Lemmas.{each_at_number, messages_find_cases, both, core_and_bank, any_core_delivery}
 use Rattle.machine_theorem.proofs.Lemmas.{any_bank_delivery, any_dram_delivery}
+use Rattle.interleaving_core.specs.Reserved.{IsFitted, owed}
 use Rattle.interleaving_core.specs.Endpoints.{BackHasEndpoints, EvictedHasEndpoints, ReactionHasEndpoints}
 
 each_last : {X : Type 0} (P : X → Type 0) (xs : List X) (x : X) → Each P (xs ++ x ∷ []) → P x
@@ -48,6 +52,33 @@ each_last P (y ∷ ys) x each = each_last P ys x each.1
 pub with_case : {X : Type 0} (b : Bool) (x y : X) → b ≡ true → cond b x y ≡ x
 with_case true x y is = refl
 with_case false x y is = cc
+
+-- messages in flight that are fitted to the machine
+module _ (config : Config) (flight : Flight) (cores : List CoreState) (records : List Record) (capacity : ℕ)
+    (fits : IsFitted config flight cores records capacity) where
+  pub fitted_ends : (Ends : ℕ → ℕ → Type 0) → Ends config.cores config.banks → Ends flight.cores flight.banks
+  fitted_ends Ends ends = subst (λ k. Ends k flight.banks) (sym fits.cores_are) (subst (λ k. Ends config.cores k)
+      (sym fits.banks_are) ends)
+
+  pub fitted_reaction : {S : Type 0} (reaction : Option (Reaction × S)) →
+      (can_send config.messages flight.mail (sent_by reaction) ≡ true → ReactionHasEndpoints config.cores
+      config.banks reaction) →
+      IsTrue (can_send flight.capacity flight.mail (sent_by reaction)) → ReactionHasEndpoints flight.cores
+      flight.banks reaction
+  fitted_reaction reaction ends can =
+      fitted_ends (λ a b. ReactionHasEndpoints a b reaction)
+      (ends (subst (λ k. can_send k flight.mail (sent_by reaction) ≡ true) fits.capacity_is can))
+
+  -- they stay so while the machine's set-up does
+  pub still_fitted : (new : Flight) (after : List CoreState) (more : List Record) (room : ℕ) →
+      new ≡ record flight { slots = new.slots; reserved = new.reserved; mail = new.mail } →
+      length more + owed after ≤ room → IsFitted config new after more room
+  still_fitted new after more room set_up reserved = record {
+    cores_are = ap (λ (t : Flight). t.cores) set_up ∙ fits.cores_are;
+    banks_are = ap (λ (t : Flight). t.banks) set_up ∙ fits.banks_are;
+    capacity_is = ap (λ (t : Flight). t.capacity) set_up ∙ fits.capacity_is;
+    reserved = reserved;
+  }
 
 -- what a reaction sends is in flight in a machine that has the invariant
 module _ {S : Type 0} (m : Machine) (n : ℕ) (put : S → Machine) (config : (x : S) → (put x).config ≡ m.config) where
@@ -75,8 +106,15 @@ module _ {S : Type 0} (m : Machine) (n : ℕ) (put : S → Machine) (config : (x
       Invariant (changed m put (cond b (Makes Started x (sent m.mail started)) (Keeps (Refused NetworkFull)))).1)
       can invariant)
 
-module _ (m : Machine) (invariant : Invariant m) (n : ℕ) (message : Message) (found : at_number n m.mail.messages ≡
-    Some message) where
+-- messages in flight in a machine, which is seen as a model
+module _ (m seen : Machine) (is_view : m ≡ seen) (holds : Invariant seen) (n : ℕ) (message : Message)
+    (there : at_number n seen.mail.messages ≡ Some message) where
+  invariant : Invariant m
+  invariant = subst Invariant (sym is_view) holds
+
+  found : at_number n m.mail.messages ≡ Some message
+  found = ap (λ (k : Machine). at_number n k.mail.messages) is_view ∙ there
+
   found_case : has_case m message ≡ true
   found_case = each_at_number (λ x. has_case m x.1 ≡ true) n m.mail.messages message found
       (messages_find_cases m invariant) (λ k p. p)
@@ -97,6 +135,11 @@ module _ (m : Machine) (invariant : Invariant m) (n : ℕ) (message : Message) (
         (subst (λ o. Invariant (deliver_core m n message c o).1) here (any_core_delivery m invariant n message found c
         (slice_get m.cores c) refl)))
 
+    pub core_delivers : changed m (with_core m c) (reacted m.config.messages m.mail n
+        (core_table.core_table core message)) ≡ deliver_core m n message c (slice_get m.cores c)
+    core_delivers = sym (with_case (core_table.core_has_case core message) _ _ core_has)
+        ∙ ap (deliver_core m n message c) (sym here)
+
   -- a message that goes to a bank
   module _ (b : ℕ) (to : message.to ≡ node.Bank b) (bank : BankState) (here : slice_get m.banks b ≡ Some bank) where
     pub bank_has : bank_table.bank_has_case bank message ≡ true
@@ -112,6 +155,11 @@ module _ (m : Machine) (invariant : Invariant m) (n : ℕ) (message : Message) (
         (refused m NoSuch)).1) bank_has
         (subst (λ o. Invariant (deliver_bank m n message b o).1) here (any_bank_delivery m invariant n
         message found b to)))
+
+    pub bank_delivers : changed m (with_bank m b) (reacted m.config.messages m.mail n
+        (bank_table.bank_table bank message)) ≡ deliver_bank m n message b (slice_get m.banks b)
+    bank_delivers = sym (with_case (bank_table.bank_has_case bank message) _ _ bank_has)
+        ∙ ap (deliver_bank m n message b) (sym here)
 
   -- a message that goes to a DRAM
   module _ (b : ℕ) (to : message.to ≡ node.Dram b) (lines : FinMap nat_cmp (List ℕ))
@@ -129,6 +177,11 @@ module _ (m : Machine) (invariant : Invariant m) (n : ℕ) (message : Message) (
         (refused m NoSuch)).1) dram_has
         (subst (λ o. Invariant (deliver_dram m n message b o).1) here (any_dram_delivery m invariant n
         message found b to)))
+
+    pub dram_delivers : changed m (with_dram m b) (reacted m.config.messages m.mail n (dram_table lines message)) ≡
+        deliver_dram m n message b (slice_get m.drams b)
+    dram_delivers = sym (with_case (dram_has_case lines message) _ _ dram_has)
+        ∙ ap (deliver_dram m n message b) (sym here)
 
 -- what a core sends back goes to a bank
 module _ (m : Machine) (whole : IsWhole m) (c : ℕ) (core : CoreState) (here : slice_get m.cores c ≡ Some core) where

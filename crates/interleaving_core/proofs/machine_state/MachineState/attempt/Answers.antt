@@ -1,7 +1,6 @@
 use Rattle.std.proofs.Common.{◌≡◌, ℕ, ◌+◌, ap, sym, subst, refl, ◌∙◌, arith, length, set, slice_get, IfSome, IsOk}
 use Rattle.std.proofs.Common.{IsTrue, OnErr}
 use Rattle.std.proofs.lemmas.Option.{slice_get_read}
-use Rattle.network.specs.Flight.{Flight}
 use Rattle.network.specs.Mail.{Mail}
 use Rattle.core_pts.specs.CoreTable.{CoreState}
 use Rattle.machine_table.specs.declared.event.Answer.{Answer}
@@ -16,6 +15,7 @@ use Rattle.interleaving_core.specs.Stepped.{TakesMemory}
 use Rattle.interleaving_core.proofs.Applied.{made_so, sending_takes, set_same}
 use Rattle.interleaving_core.proofs.Only.{OneLess, SameOpen, attempt_only, balanced}
 use Rattle.interleaving_core.proofs.Owed.{owed_set}
+use Rattle.interleaving_core.proofs.Endpoints.{still_fitted}
 use Rattle.interleaving_core.proofs.Parts.{core_below, core_banks}
 use Rattle.interleaving_core.proofs.machine_state.MachineState.attempt.Goals as goal
 
@@ -69,12 +69,9 @@ invariant_of-self-2 c =
     c.self.inside.flight.mail)) in
     let all = owed_set c.self.inside.cores.items c.args.core c.index_mut.result.now c.attempt.new.core here in
     let kept = ap length c.keep.ensures.records in
-    record {
-      cores_are = ap (λ (t : Flight). t.cores) c.in_ok-answer.ensures.set_up ∙ c.self.invariant.cores_are;
-      banks_are = ap (λ (t : Flight). t.banks) c.in_ok-answer.ensures.set_up ∙ c.self.invariant.banks_are;
-      capacity_is = ap (λ (t : Flight). t.capacity) c.in_ok-answer.ensures.set_up ∙ c.self.invariant.capacity_is;
-      reserved = omega (arith, count, all, kept, c.keep.ensures.capacity, c.self.invariant.reserved);
-    }
+    still_fitted c.self.inside.config c.self.inside.flight c.self.inside.cores.items c.self.inside.records.items _
+    c.self.invariant _ _ _ _ c.in_ok-answer.ensures.set_up
+    (omega (arith, count, all, kept, c.keep.ensures.capacity, c.self.invariant.reserved))
 
 pub returns-clause-done : goal.returns-clause-done
 returns-clause-done c =

@@ -28,10 +28,14 @@ GROUPS = [
         ("interleaving_core/specs/Stepped.antt", "Stepped Ran"),
         ("interleaving_core/specs/Midway.antt", "IsMidway"),
         ("interleaving_core/specs/Reserved.antt", "completes"),
+        ("interleaving_core/specs/Issuing.antt", "*"),
+        ("interleaving_core/specs/Sending.antt", "*"),
         ("interleaving_core/specs/LookUps.antt", "open_op victim copies entries make_room")]),
-    ("The checker: `check`, `arrange`, `replay` and `stale_hits`", [
+    ("The checker: `check`, `arrange`, `replay` and `stale_hits`, and their counted steps", [
         ("physiological_order/specs/Faults.antt", "*"),
-        ("physiological_order/specs/StaleHits.antt", "*")]),
+        ("physiological_order/specs/StaleHits.antt", "*"),
+        ("physiological_order/specs/Picking.antt", "TimesRise"),
+        ("physiological_order/specs/Counting.antt", "*")]),
     ("The litmus text: which one is read, as which test, and why one is refused", [
         ("litmus_reader/specs/Grammar.antt", "*"),
         ("litmus_reader/specs/Faults.antt", "*")]),

@@ -236,6 +236,17 @@ fn a_stale_hit_is_legal_and_counted(rt: HostRuntime) -> Result<(), Fail> {
 }
 
 #[test]
+fn a_swap_makes_an_earlier_load_stale(rt: HostRuntime) -> Result<(), Fail> {
+    let records = [
+        record(0, 0, Op::Swap(word(0), 1), Some(0), 9, 0),
+        record(1, 0, load(0), Some(0), 4, 1),
+    ];
+    assert!(rt; rises_by_number(&records));
+    assert_eq!(rt; stale_hits(rt.alloc(), &records)?, 1);
+    Ok(())
+}
+
+#[test]
 fn only_later_writes_of_the_word_make_a_load_stale(rt: HostRuntime) -> Result<(), Fail> {
     let records = [
         record(0, 0, store(0, 1), None, 5, 0),

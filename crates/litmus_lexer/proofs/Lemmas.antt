@@ -2,19 +2,14 @@
 
 -- The longest front of one kind of bytes.
 pub use Rattle.litmus_lexer.proofs.Fronts.{front-all, front-whole, whole-front}
-
 -- What the lines in front of the initial block and the pieces of a text are, as far as reading them anew needs it.
 pub use Rattle.litmus_lexer.proofs.LinesAgain.{block-some, header_line-no_block, length-behind_line_feed}
 pub use Rattle.litmus_lexer.proofs.LinesAgain.{length-pieces}
-
 -- The name of a location is no number of a thread.
 pub use Rattle.litmus_lexer.proofs.LocationWords.{location-no_thread}
-
 -- Steps one after another, until one says that it is the last.
 pub use Rattle.litmus_lexer.proofs.Repeats.{fails-there, goes-on, is-done, repeat-takes, runs-out}
-
 -- Steps of which each gives what is known, until one says that it is the last.
 pub use Rattle.litmus_lexer.proofs.RepeatsAgain.{repeat-last, repeat-more}
-
 -- The first line, both ways.
 pub use Rattle.litmus_lexer.proofs.Titles.{title-again, title-takes}

@@ -2,43 +2,30 @@
 
 -- The initial block of the grammar is read, item by item.
 pub use Rattle.litmus_parser.proofs.BlockAgain.{AreAlike, alike-address, alike-all, block_again}
-
 -- The initial block is read, or its fault has its cause.
 pub use Rattle.litmus_parser.proofs.BlockExplains.{block_explains, block_place}
-
 -- What is read as the initial block is in the grammar.
 pub use Rattle.litmus_parser.proofs.BlockTakes.{block_takes}
-
 -- A condition that is in the grammar is read.
 pub use Rattle.litmus_parser.proofs.ConditionAgain.{condition_again}
-
 -- A condition that is refused has the cause of its fault in the fault's line.
 pub use Rattle.litmus_parser.proofs.ConditionExplains.{condition_explains}
-
 -- What is read as the condition is in the grammar.
 pub use Rattle.litmus_parser.proofs.ConditionTakes.{condition_takes}
-
 -- A reading leads on, or its fault has its cause.
 pub use Rattle.litmus_parser.proofs.Explains.{Explains, Onto, bind_explains, found_explains, repeat_counted}
 pub use Rattle.litmus_parser.proofs.Explains.{test_explains, told}
-
 -- The header row is read, or its fault has its cause in its line.
 pub use Rattle.litmus_parser.proofs.HeaderExplains.{header_explains, header_place, header_threads}
-
 -- What is said of a reading, said of its answer; and faults of which more is known.
 pub use Rattle.litmus_parser.proofs.Outcomes.{answered}
-
 -- What the tests of a line say: that it has the shape of a row, and that the condition begins there.
 pub use Rattle.litmus_parser.proofs.ShapeExplains.{begins-next}
-
 -- What one step of reading shows of the pieces in front.
 pub use Rattle.litmus_parser.proofs.Steps.{bind_ok, either_ok, else_ok, found_ok, never, ok_is, then_ok}
-
 -- What the grammar has as the table is read.
 pub use Rattle.litmus_parser.proofs.TableAgain.{header_again, rows_again}
-
 -- The rows of the table are read, or their fault has its cause in its line.
 pub use Rattle.litmus_parser.proofs.TableExplains.{rows_explain, rows_place}
-
 -- What is read as the table is in the grammar.
 pub use Rattle.litmus_parser.proofs.TableTakes.{header_takes, rows_take}

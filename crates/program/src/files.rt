@@ -1,7 +1,7 @@
 //! Files that are opened by name.
 
-ghost use Rattle.std.specs.Prelude.{List, Option, ℕ, IfOk};
-ghost use Rattle.program.specs.Files.{AreBytes};
+ghost use Rattle.std.specs.Prelude.{List, Result, ℕ};
+ghost use Rattle.byte_streams.specs.declared.device.DeviceError.{DeviceError};
 
 use byte_streams::{DeviceError, Source};
 
@@ -9,11 +9,10 @@ use byte_streams::{DeviceError, Source};
 pub trait Files {
     type File: Source + Drop;
 
-    /// The bytes of the file that has a name, if they are known.
-    ghost bytes: { Self → List ℕ → Option (List ℕ) };
+    /// What may come of opening the file that has a name: which file, with which bytes, or that it can't be opened.
+    ghost opens: { Self → List ℕ → Result Self.File DeviceError → Type 0 };
 
     /// Opens a file for reading.
     fn open(&self, name: &str) -> Result<Self::File, DeviceError>
-        ensures { IfOk result (λ file.
-            AreBytes (bytes self.now name.now) (Self.File.remaining file)) };
+        ensures { opens self.now name.now result };
 }

@@ -1,7 +1,5 @@
 //! The files of the host.
 
-ghost use Rattle.std.specs.Prelude.{None};
-
 use byte_streams::{DeviceError, FromRead};
 use program::Files;
 use std::fs::File;
@@ -15,7 +13,7 @@ pub(crate) struct HostFiles<'a> {
 impl Files for HostFiles<'_> {
     type File = FromRead<File>;
 
-    ghost bytes = { λ _ _. None };
+    ghost opens = { λ _ _ _. Unit {0} };
 
     fn open(&self, name: &str) -> Result<FromRead<File>, DeviceError> {
         match File::open(self.rt, name) {

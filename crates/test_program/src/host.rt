@@ -1,7 +1,5 @@
 //! A host that is made for a test: one file, an output and an output of errors, which move few bytes a call.
 
-ghost use Rattle.std.specs.Prelude.{None};
-
 use byte_streams::{DeviceError, FromRead, ToWrite};
 use program::{Files, answer};
 use std::alloc::Global;
@@ -23,7 +21,7 @@ pub(crate) struct Shelf<'a> {
 impl<'a> Files for Shelf<'a> {
     type File = FromRead<Limited<&'a [u8]>>;
 
-    ghost bytes = { λ _ _. None };
+    ghost opens = { λ _ _ _. Unit {0} };
 
     fn open(&self, name: &str) -> Result<FromRead<Limited<&'a [u8]>>, DeviceError> {
         if name != NAME {

@@ -13,6 +13,3 @@ pub use litmus_lexer::{Kind, LitmusError};
 pub use litmus_parser::{Name, Quantifier};
 pub use reading::read;
 pub use threads::ThreadState;
-
-#[cfg(test)]
-mod tests;

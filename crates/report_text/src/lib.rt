@@ -8,6 +8,3 @@ mod sums;
 mod text;
 
 pub use text::litmus_text;
-
-#[cfg(test)]
-mod tests;

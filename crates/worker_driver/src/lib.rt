@@ -13,6 +13,3 @@ pub mod rounds;
 pub use op_program::OpProgram;
 pub use program::Program;
 pub use rounds::{Driven, drive_round};
-
-#[cfg(test)]
-mod tests;

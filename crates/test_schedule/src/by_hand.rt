@@ -1,13 +1,12 @@
 //! Runs by hand: store buffering by two lists of operations, and the ends.
 ghost use Rattle.std.specs.Prelude.{◌≡◌, ◌≤◌, IfOk, length};
 
-use crate::op_program::OpProgram;
-use crate::rounds::{Driven, drive_round};
 use interleaving_core::{Config, System};
 use physiological_order::{Memory, Op, Record, WordAddr};
 use run_ends::End;
 use std::alloc::{AllocError, Global};
 use std::test::Fail;
+use worker_driver::{Driven, OpProgram, drive_round};
 
 // Two cores and one bank, with one-word lines.
 fn machine(alloc: Global, messages: u32) -> Result<System, AllocError>

@@ -1,7 +1,7 @@
 //! Whole texts, worked out by hand.
-use crate::litmus_text;
 use litmus_reader::{EndState, Test, read};
 use machine_table::Counts;
+use report_text::litmus_text;
 use run_ends::{End, RunEnd};
 use std::alloc::Global;
 use std::test::Fail;

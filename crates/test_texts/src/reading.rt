@@ -1,5 +1,5 @@
 //! Texts with their tests and their faults, worked out by hand.
-use crate::{Kind, LitmusError, Name, Quantifier, Test, read};
+use litmus_reader::{Kind, LitmusError, Name, Quantifier, Test, read};
 use physiological_order::{Op, WordAddr};
 use std::alloc::Global;
 use std::process::Abort;

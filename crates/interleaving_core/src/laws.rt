@@ -10,7 +10,7 @@ ghost use Rattle.interleaving_core.specs.Sending.{AreCounted, AreNext, all_sent}
 ghost use Rattle.interleaving_core.specs.Stepped.{Ran};
 
 /// After each beginning of a list of events, from any machine with the invariant on, as each has it that opened: the
-/// records are legal, a line has at most one right, and every word stands as the records leave it.
+/// records are legal, a line has at most one owner, and every word has the coherent value that the records leave.
 pub fn runs_are_legal_throughout()
     ensures { (m after : Machine) (events : List Event) (answers : List Answer) → Invariant m →
         Ran m events answers after → (k : ℕ) → IsMidway m events answers after k }

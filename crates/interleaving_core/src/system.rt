@@ -128,7 +128,7 @@ impl System {
         Ok(answers)
     }
 
-    /// How many cores there are. The machine has its shape, and line by line it is one that the protocol reaches.
+    /// How many cores there are: the machine has that many.
     pub fn cores(&self) -> u32
         ensures cores { result ≡ self.now.config.cores }
         ensures count { length self.now.cores ≡ result }

@@ -324,7 +324,7 @@ pub data Reachable (f : Config) : Machine → Type 0 where
       OpensWith f drams → Reachable f (opened pts mts drams)
   goes_on : {m n : Machine} → Reachable f m → Transition f m n → Reachable f n
 
--- the rights of a line: Exclusive copies of the first n cores, and grants and returns in flight
+-- the owners of a line: Exclusive copies of the first n cores, and grants and returns in flight
 abbrev pub owns : Option Copy → ℕ
 owns None = 0
 owns (Some copy) = if copy.exclusive then 1 else 0

@@ -1,7 +1,8 @@
-//! A line for each kind of fault: as the line is made, and as the program tells it of a text.
+//! A line for each kind of fault: as the line is made, and as the program tells it of a text; and the number, the exit
+//! status and the line of each other error.
 use crate::host::{ALL, NAME, Shelf, answered};
 use litmus_lexer::{Kind, LitmusError};
-use run_results::{RunError, error_line};
+use run_results::{RunError, error_line, exit_status};
 
 // Every kind, in a line of its own, as it is told.
 const KINDS: [(Kind, usize, &[u8]); 14] = [
@@ -100,6 +101,23 @@ const FAULTS: [(&[u8], &[u8]); 13] = [
         b"tardis: line 5: 14 CutShort\n",
     ),
 ];
+
+// The errors that aren't about a text: the number, the exit status and the line.
+const ERRORS: [(RunError, u8, u8, &[u8]); 4] = [
+    (RunError::Read, 1, 4, b"tardis: read failed\n"),
+    (RunError::Write, 2, 4, b"tardis: write failed\n"),
+    (RunError::NoMemory, 3, 1, b"tardis: no memory\n"),
+    (RunError::BadConfig, 6, 3, b"tardis: bad configuration\n"),
+];
+
+#[test]
+fn each_error_has_its_number_status_and_line(rt: HostRuntime) {
+    for (error, number, status, line) in ERRORS {
+        assert_eq!(rt; error.number(), number);
+        assert_eq!(rt; exit_status(&Err(error)), status);
+        assert!(rt; error_line(&error).as_slice() == line, "error {number}");
+    }
+}
 
 #[test]
 fn each_kind_has_its_line(rt: HostRuntime) {

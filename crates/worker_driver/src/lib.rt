@@ -13,3 +13,4 @@ pub mod rounds;
 pub use op_program::OpProgram;
 pub use program::Program;
 pub use rounds::{Driven, drive_round};
+pub use run_ends::{End, RunEnd};

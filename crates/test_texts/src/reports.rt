@@ -15,6 +15,9 @@ const NEVER_BOTH: &[u8] =
 const LOCATIONS: &[u8] =
     b"RISCV L\n{ 0:x5=1; 0:x6=data; 1:x6=flag_1; }\n P0          | P1          ;\n sw x5,0(x6) | lw x7,0(x6) ;\nforall flag_1=0 /\\ (data=1 \\/ 1:x7=3)\n";
 
+// Without parentheses: /\ binds closer than \/.
+const MIXED: &[u8] = b"RISCV M\n{ x=1; }\n P0 ;\n fence rw,rw ;\nexists x=1 \\/ x=0 /\\ y=5\n";
+
 const NONE_SENT: Counts = Counts {
     renewals: 0,
     upgrades: 0,
@@ -130,6 +133,20 @@ fn names_of_locations_and_great_sums(rt: HostRuntime) -> Result<(), Fail> {
     assert!(rt;
         text.as_slice()
             == b"test L\nthreads 2\nruns 3\nall-done 2\nstalled 0\nlimit 1\nexhausted 0\nmemory 0\nstates 2\n1 flag_1=0 data=1 1:x7=0\n1 flag_1=18446744073709551615 data=1 1:x7=0\ncondition forall\nheld 1\nverdict no\ncompleted 36893488147419103234\nrenewals 340282366920938463463374607431768211455\nupgrades 8\nflushes 0\nwrite-backs 0\nstale-hits 2\n".as_slice()
+    );
+    Ok(())
+}
+
+#[test]
+fn and_binds_closer_than_or(rt: HostRuntime) -> Result<(), Fail> {
+    let test = read(rt.alloc(), MIXED).ok().ok_or("it is read")?;
+    let mut threads = Vec::new(rt.alloc());
+    threads.push(test.start(0))?;
+    let run = all_done(test.end(&threads, &[1, 0])?);
+    let text = litmus_text(rt.alloc(), &test, &[run])?;
+    assert!(rt;
+        text.as_slice()
+            == b"test M\nthreads 1\nruns 1\nall-done 1\nstalled 0\nlimit 0\nexhausted 0\nmemory 0\nstates 1\n1 x=1 y=0\ncondition exists\nheld 1\nverdict yes\ncompleted 4\nrenewals 0\nupgrades 0\nflushes 0\nwrite-backs 0\nstale-hits 1\n".as_slice()
     );
     Ok(())
 }

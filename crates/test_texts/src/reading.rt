@@ -276,6 +276,85 @@ fn texts_that_are_accepted(rt: HostRuntime) -> Result<(), Fail> {
     Ok(())
 }
 
+/// Tabs are blanks, and a name may have each of its six signs.
+#[test]
+fn spellings_that_are_accepted(rt: HostRuntime) -> Result<(), Fail> {
+    let texts: [&[u8]; 2] = [
+        b"RISCV\tT\n{\t0:x6=x; }\n\tP0\t;\n\tlw\tx7,0(x6)\t;\nexists\t(0:x7=0)\n",
+        b"RISCV a_1+b.c-[d]\n{ }\n P0 ;\n fence rw,rw ;\nexists (x=0)\n",
+    ];
+    for text in texts {
+        assert!(rt; read(rt.alloc(), text).is_ok());
+    }
+    Ok(())
+}
+
+/// Within a cell its form goes before its numbers, these before the width, and that before its operands. No register that
+/// is set to a location gets or gives a value, and `x99` is no location.
+#[test]
+fn cells_with_more_than_one_fault(rt: HostRuntime) {
+    let texts: [(&[u8], usize, Kind); 11] = [
+        (
+            b"RISCV T\n{ }\n P0 ;\n ori x5,x1,2048 ;\nexists (x=0)\n",
+            4,
+            Kind::BadInstruction,
+        ),
+        (
+            b"RISCV T\n{ }\n P0 ;\n ori x5,x1,1 ;\nexists (x=0)\n",
+            4,
+            Kind::BadInstruction,
+        ),
+        (
+            b"RISCV T\n{ 0:x6=x; }\n P0 ;\n li x6,2147483648 ;\nexists (x=0)\n",
+            4,
+            Kind::ValueRange,
+        ),
+        (
+            b"RISCV T\n{ 0:x6=x; }\n P0 ;\n lw x7,0(x6) ;\n ld x7,0(x5) ;\nexists (x=0)\n",
+            5,
+            Kind::MixedWidth,
+        ),
+        (
+            b"RISCV T\n{ 0:x6=x; }\n P0 ;\n lw x7,0(x6) ;\n amoswap.d x7,x7,(x6) ;\nexists (x=0)\n",
+            5,
+            Kind::MixedWidth,
+        ),
+        (
+            b"RISCV T\n{ 0:x6=x; }\n P0 ;\n amoswap.d x7,x7,(x6) ;\n lw x7,0(x6) ;\nexists (x=0)\n",
+            5,
+            Kind::MixedWidth,
+        ),
+        (
+            b"RISCV T\n{ 0:x6=x; }\n P0 ;\n li x6,3 ;\nexists (x=0)\n",
+            4,
+            Kind::AddressAsValue,
+        ),
+        (
+            b"RISCV T\n{ 0:x6=x; }\n P0 ;\n lw x6,0(x6) ;\nexists (x=0)\n",
+            4,
+            Kind::AddressAsValue,
+        ),
+        (
+            b"RISCV T\n{ 0:x6=x; }\n P0 ;\n amoswap.w x6,x7,(x6) ;\nexists (x=0)\n",
+            4,
+            Kind::AddressAsValue,
+        ),
+        (
+            b"RISCV T\n{ 0:x6=x; }\n P0 ;\n amoswap.w x7,x6,(x6) ;\nexists (x=0)\n",
+            4,
+            Kind::AddressAsValue,
+        ),
+        (
+            b"RISCV T\n{ }\n P0 ;\n fence rw,rw ;\nexists (x99=0)\n",
+            5,
+            Kind::BadCondition,
+        ),
+    ];
+    for (text, line, kind) in texts {
+        refused(&rt, rt.alloc(), text, line, kind);
+    }
+}
+
 #[test]
 fn a_text_that_is_too_long(rt: HostRuntime) -> Result<(), Fail> {
     let mut text = Vec::new(rt.alloc());

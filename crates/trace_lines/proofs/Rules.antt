@@ -1,0 +1,43 @@
+-- What is read of the next field: rules for what holds of every reading, and for what is read.
+use Rattle.std.proofs.Common.{◌≡◌, ℕ, List, [], ◌∷◌, Option, Some, None, refl, sym, ◌∙◌}
+use Rattle.std.specs.Prelude.{Result, Ok, Err}
+use Rattle.trace_lines.specs.declared.errors.Kind.{Kind}
+use Rattle.trace_lines.specs.Causes.{Missing}
+use Rattle.trace_lines.specs.Reading.{◌>>=◌, found, field_at}
+
+-- the next field is missing, or says nothing
+abbrev pub Blank : {X : Type 0} → (List ℕ → Option X) → List (List ℕ) → Type 0
+Blank says [] = Unit {0}
+Blank says (field ∷ fields) = says field ≡ None
+
+found-judged : {X Y : Type 0} (P : Result Y Kind → Type 0) (kind : Kind) (o : Option X) (fields : List (List ℕ))
+    (f : X × List (List ℕ) → Result Y Kind) → (o ≡ None → P (Err kind)) → ((x : X) → o ≡ Some x → P (f (x, fields)))
+    → P (found kind o (λ x. Ok (x, fields)) >>= f)
+found-judged P kind (Some x) fields f bad good = good x refl
+found-judged P kind None fields f bad good = bad refl
+
+-- what holds where the field is blank, and where it says something, holds of the reading
+pub judged : {X Y : Type 0} (P : List (List ℕ) → Result Y Kind → Type 0) (kind : Kind) (says : List ℕ → Option X)
+    (fields : List (List ℕ)) (f : X × List (List ℕ) → Result Y Kind)
+    → (Blank says fields → P fields (Err kind))
+    → ((field : List ℕ) (rest : List (List ℕ)) (x : X) → says field ≡ Some x → P (field ∷ rest) (f (x, rest)))
+    → P fields (field_at kind says fields >>= f)
+unfolding field_at
+judged P kind says [] f bad good = bad tt
+judged P kind says (field ∷ fields) f bad good =
+    found-judged (P (field ∷ fields)) kind (says field) fields f bad (good field fields)
+
+-- where each field of a kind says something, a blank field is missing
+pub missing : {X : Type 0} (P : List ℕ → Type 0) (says : List ℕ → Option X)
+    → ((field : List ℕ) → P field → (x : X) × (says field ≡ Some x))
+    → (fields : List (List ℕ)) → Blank says fields → Missing P fields
+missing P says spelled [] h = tt
+missing P says spelled (field ∷ fields) h = λ p. let s = spelled field p in
+    let never : None ≡ Some s.0 = sym h ∙ s.1 in absurd cc
+
+-- a field that says x is read as x
+pub read_as : {X Y : Type 0} (kind : Kind) (says : List ℕ → Option X) (field : List ℕ) (fields : List (List ℕ))
+    (x : X) (f : X × List (List ℕ) → Result Y Kind) (y : Result Y Kind) → says field ≡ Some x → f (x, fields) ≡ y →
+    (field_at kind says (field ∷ fields) >>= f) ≡ y
+unfolding field_at
+read_as kind says field fields x f y e g = rw e g

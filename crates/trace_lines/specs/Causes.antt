@@ -1,0 +1,97 @@
+-- What stands in a line that is refused, for each kind of fault.
+use Rattle.std.specs.Prelude.{◌≡◌, ℕ, zero, suc, ◌^◌, List, [], ◌∷◌, ◌++◌, codes, Option, ◌⊎◌}
+use Rattle.physiological_order.specs.declared.operation.Op.{Op}
+use Rattle.trace_lines.specs.declared.errors.Kind.{Kind}
+use Rattle.trace_lines.specs.declared.errors.Kind.TheVariants.{BadCore, BadOperation, BadAddress, BadValue}
+use Rattle.trace_lines.specs.declared.errors.Kind.TheVariants.{ExtraWords, BadForm}
+use Rattle.trace_lines.specs.declared.steps.Form.{Form}
+use Rattle.trace_lines.specs.declared.steps.Form.TheVariants.{One, Two}
+use Rattle.trace_lines.specs.declared.steps.Step.{Step}
+use Rattle.trace_lines.specs.Grammar.{IsNumber, IsCore, IsValue, IsAddress, IsStep, IsCompletion}
+use Rattle.trace_lines.specs.Spelling.{core_count}
+
+-- the next field is missing, or is not of this kind
+abbrev pub Missing : (List ℕ → Type 0) → List (List ℕ) → Type 0
+Missing P [] = Unit {0}
+Missing P (field ∷ fields) = P field → ⊥
+
+-- a field of this kind stands, and this holds of the fields behind it
+abbrev pub Behind : (List ℕ → Type 0) → (List (List ℕ) → Type 0) → List (List ℕ) → Type 0
+Behind P Q [] = ⊥
+Behind P Q (field ∷ fields) = P field × Q fields
+
+-- fields follow some that are whole
+abbrev pub Follows : (List (List ℕ) → Type 0) → List (List ℕ) → Type 0
+Follows Whole fields = (front : List (List ℕ)) × (field : List ℕ) × (back : List (List ℕ))
+    × (fields ≡ front ++ field ∷ back) × Whole front
+
+abbrev pub HasCore : ℕ → List ℕ → Type 0
+HasCore cores field = (core : ℕ) × IsCore cores field core
+
+abbrev pub HasPlace : List ℕ → Type 0
+HasPlace field = (place : ℕ) × IsNumber 20 (2 ^ 32) field place
+
+abbrev pub HasValue : List ℕ → Type 0
+HasValue field = (value : ℕ) × IsValue field value
+
+abbrev pub HasAddress : List ℕ → Type 0
+HasAddress field = (word : ℕ) × IsAddress field word
+
+-- W, S
+abbrev pub IsWriting : List ℕ → Type 0
+IsWriting field = (field ≡ codes "W") ⊎ (field ≡ codes "S")
+
+-- R, W, S
+abbrev pub IsAccess : List ℕ → Type 0
+IsAccess field = (field ≡ codes "R") ⊎ IsWriting field
+
+-- R, W, S, and in form 2 also A
+abbrev pub IsStepWord : Form → List ℕ → Type 0
+IsStepWord One field = IsAccess field
+IsStepWord Two field = (field ≡ codes "A") ⊎ IsAccess field
+
+-- what is wrong behind the core of a trace's line
+abbrev pub StepCause : Form → Kind → List (List ℕ) → Type 0
+StepCause form BadOperation fields = Missing (IsStepWord form) fields
+StepCause form BadAddress fields = Behind IsAccess (Missing HasAddress) fields
+StepCause form BadValue fields = Behind IsWriting (Behind HasAddress (Missing HasValue)) fields
+StepCause form ExtraWords fields = Follows (λ front. (told : Step) × IsStep form front told) fields
+StepCause form kind fields = ⊥
+
+-- what is wrong with a trace's line
+abbrev pub TraceCause : Form → Kind → List (List ℕ) → Type 0
+TraceCause form BadCore fields = Missing (HasCore (core_count form)) fields
+TraceCause form kind fields = Behind (HasCore (core_count form)) (StepCause form kind) fields
+
+-- so many values do not stand: the first of them that is missing, or is none, stands behind the others
+unfoldable pub FewValues : ℕ → List (List ℕ) → Type 0
+FewValues zero fields = ⊥
+FewValues (suc count) fields = Missing HasValue fields ⊎ Behind HasValue (FewValues count) fields
+
+-- R, W
+abbrev pub IsSingle : List ℕ → Type 0
+IsSingle field = (field ≡ codes "R") ⊎ (field ≡ codes "W")
+
+-- what is wrong behind the core and the place of a record's line
+abbrev pub CompletionCause : Kind → List (List ℕ) → Type 0
+CompletionCause BadOperation fields = Missing IsAccess fields
+CompletionCause BadAddress fields = Behind IsAccess (Missing HasAddress) fields
+CompletionCause BadValue fields = Behind IsSingle (Behind HasAddress (FewValues 3)) fields
+    ⊎ Behind (λ field. field ≡ codes "S") (Behind HasAddress (FewValues 4)) fields
+CompletionCause ExtraWords fields = Follows (λ front. (op : Op) × (received : Option ℕ) × (ts : ℕ) × (number : ℕ)
+    × IsCompletion front op received ts number) fields
+CompletionCause kind fields = ⊥
+
+-- what is wrong with a record's line
+abbrev pub RecordCause : Kind → List (List ℕ) → Type 0
+RecordCause BadCore fields = Missing (HasCore 64) fields
+RecordCause BadValue fields = Behind (HasCore 64) (Missing HasPlace) fields
+    ⊎ Behind (HasCore 64) (Behind HasPlace (CompletionCause BadValue)) fields
+RecordCause kind fields = Behind (HasCore 64) (Behind HasPlace (CompletionCause kind)) fields
+
+-- what is wrong with a form line, which begins with trace
+abbrev pub FormCause : Kind → List (List ℕ) → Type 0
+FormCause BadForm fields =
+    Behind (λ first. first ≡ codes "trace") (Missing (λ second. second ≡ codes "2")) fields
+FormCause ExtraWords fields = Follows (λ front. front ≡ codes "trace" ∷ codes "2" ∷ []) fields
+FormCause kind fields = ⊥

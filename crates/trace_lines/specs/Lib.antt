@@ -1,0 +1,7 @@
+pub mod Kinds
+pub mod Fields
+pub mod Spelling
+pub mod Reading
+pub mod Views
+pub mod Grammar
+pub mod Causes

@@ -1,0 +1,17 @@
+//! What one line of a trace or of a list of records says, or why it is refused.
+#![tactic(auto)]
+
+mod errors;
+mod forms;
+mod lines;
+mod reads;
+mod records;
+mod steps;
+mod traces;
+mod words;
+
+pub use errors::{Kind, TraceError};
+pub use forms::form_line;
+pub use records::record_line;
+pub use steps::{Form, Step};
+pub use traces::trace_line;

@@ -1,0 +1,91 @@
+//! Fields that are read from the left, each by its rule.
+
+ghost use Rattle.std.specs.Prelude.{◌≡◌, ◌≤◌, ◌<◌, ◌^◌, IfOk};
+ghost use Rattle.trace_lines.specs.Fields.{parted};
+ghost use Rattle.trace_lines.specs.Reading.{field_at, decimal_in, core_at, place_at, number_at};
+ghost use Rattle.trace_lines.specs.Reading.{operation_at, address_at};
+ghost use Rattle.trace_lines.specs.Views.{Gives, view_read};
+
+use crate::errors::Kind;
+use crate::lines::next_field;
+use crate::steps::Access;
+use crate::words::{VALUE_BOUND, access, address, decimal};
+
+/// One more than the largest number of 32 bits.
+const PLACE_BOUND: u128 = 1 << 32;
+
+#[tactic(auto, unfolding(crate::specs::Reading::field_at))]
+fn decimal_field<'a>(
+    line: &'a [u8],
+    digits: usize,
+    bound: u128,
+    kind: Kind,
+) -> Result<(u64, &'a [u8]), Kind>
+    requires { bound ≤ 2 ^ 64 }
+    ensures read { Gives view_read result
+        (field_at kind (decimal_in digits bound) (parted line.now)) }
+    ensures small { IfOk result (λ read. read.0 < bound) }
+{
+    let Some((field, rest)) = next_field(line) else {
+        return Err(kind);
+    };
+    match decimal(field, digits, bound) {
+        Some(number) => Ok((number, rest)),
+        None => Err(kind),
+    }
+}
+
+/// A core, where there are so many.
+#[tactic(auto, unfolding(crate::specs::Reading::core_at))]
+pub(crate) fn core_field<'a>(line: &'a [u8], cores: u8) -> Result<(u32, &'a [u8]), Kind>
+    ensures { Gives view_read result (core_at cores (parted line.now)) }
+{
+    let (core, rest) = decimal_field(line, 2, u128::from(cores), Kind::BadCore)?;
+    Ok((core as u32, rest))
+}
+
+/// The place of an operation in its core's program order.
+#[tactic(auto, unfolding(crate::specs::Reading::place_at))]
+pub(crate) fn place_field(line: &[u8]) -> Result<(u32, &[u8]), Kind>
+    ensures { Gives view_read result (place_at (parted line.now)) }
+{
+    let (place, rest) = decimal_field(line, 20, PLACE_BOUND, Kind::BadValue)?;
+    Ok((place as u32, rest))
+}
+
+/// A value, a received value, a time or a completion number.
+#[tactic(auto, unfolding(crate::specs::Reading::number_at))]
+pub(crate) fn number_field(line: &[u8]) -> Result<(u64, &[u8]), Kind>
+    ensures { Gives view_read result (number_at (parted line.now)) }
+{
+    decimal_field(line, 20, VALUE_BOUND, Kind::BadValue)
+}
+
+/// The access that `R`, `W` or `S` stands for.
+#[tactic(auto, unfolding(crate::specs::Reading::operation_at, crate::specs::Reading::field_at))]
+pub(crate) fn operation_field(line: &[u8]) -> Result<(Access, &[u8]), Kind>
+    ensures { Gives view_read result (operation_at (parted line.now)) }
+{
+    let Some((field, rest)) = next_field(line) else {
+        return Err(Kind::BadOperation);
+    };
+    match access(field) {
+        Some(access) => Ok((access, rest)),
+        None => Err(Kind::BadOperation),
+    }
+}
+
+/// The number of a byte address's word.
+#[tactic(auto, unfolding(crate::specs::Reading::address_at, crate::specs::Reading::field_at))]
+pub(crate) fn address_field(line: &[u8]) -> Result<(u64, &[u8]), Kind>
+    ensures read { Gives view_read result (address_at (parted line.now)) }
+    ensures small { IfOk result (λ read. read.0 < 2 ^ 61) }
+{
+    let Some((field, rest)) = next_field(line) else {
+        return Err(Kind::BadAddress);
+    };
+    match address(field) {
+        Some(word) => Ok((word.word(), rest)),
+        None => Err(Kind::BadAddress),
+    }
+}

@@ -1,0 +1,30 @@
+//! What a line of a trace says: the step of a core. And the forms of a trace.
+
+use physiological_order::Op;
+
+/// A step of a core.
+#[derive(Clone, Copy, Debug, PartialEq, Eq)]
+pub enum Step {
+    /// The core issues an operation.
+    Op(Op),
+    /// The core advances by one step of its own.
+    Advance,
+}
+
+/// The form of a trace, which its first line with fields tells (docs/TEXTS.md).
+#[derive(Clone, Copy, Debug, PartialEq, Eq)]
+pub enum Form {
+    /// Cores 0 to 15 and operations alone.
+    One,
+    /// Cores 0 to 63, operations and advances.
+    Two,
+}
+
+/// What an operation does to its word.
+#[derive(Clone, Copy, Debug)]
+pub(crate) enum Access {
+    Read,
+    Write,
+    /// Reads and writes.
+    Swap,
+}

@@ -1,0 +1,128 @@
+//! The lines of a trace.
+
+ghost use Rattle.std.specs.Prelude.{◌≡◌, ℕ, [], Ok, Some, None, option_map, MatchOption, IfOk, IfErr};
+ghost use Rattle.trace_lines.specs.Causes.{TraceCause};
+ghost use Rattle.trace_lines.specs.Grammar.{IsTraceLine};
+ghost use Rattle.trace_lines.specs.declared.steps.Step.{Step};
+ghost use Rattle.trace_lines.specs.Fields.{fields_of, parted};
+ghost use Rattle.trace_lines.specs.Reading.{ended, operand_at, op_at, behind_advance, step_at, trace_at};
+ghost use Rattle.trace_lines.specs.Reading.{trace_line_at};
+ghost use Rattle.trace_lines.specs.Spelling.{core_count};
+
+use crate::errors::Kind;
+use crate::lines::{before_comment, next_field};
+use crate::reads::{address_field, core_field, number_field, operation_field};
+use crate::steps::{Access, Form, Step};
+use physiological_order::{Op, WordAddr};
+
+/// How many cores a trace may name.
+fn core_count(form: Form) -> u8
+    ensures { result ≡ core_count form }
+{
+    match form {
+        Form::One => 16,
+        Form::Two => 64,
+    }
+}
+
+/// An operation that no field follows.
+#[tactic(auto, unfolding(crate::specs::Reading::ended))]
+fn ended_op(op: Op, line: &[u8]) -> Result<Op, Kind>
+    ensures { result ≡ ended op (parted line.now) }
+{
+    match next_field(line) {
+        None => Ok(op),
+        Some(_) => Err(Kind::ExtraWords),
+    }
+}
+
+/// The operation on a word, with its value if it writes one, where no field follows.
+fn operand_fields(access: Access, word: WordAddr, line: &[u8]) -> Result<Op, Kind>
+    ensures { result ≡ operand_at access word (parted line.now) }
+{
+    match access {
+        Access::Read => ended_op(Op::Load(word), line),
+        Access::Write => {
+            let (value, rest) = number_field(line)?;
+            ended_op(Op::Store(word, value), rest)
+        }
+        Access::Swap => {
+            let (value, rest) = number_field(line)?;
+            ended_op(Op::Swap(word, value), rest)
+        }
+    }
+}
+
+#[tactic(auto, unfolding(crate::specs::Reading::op_at))]
+fn op_fields(line: &[u8]) -> Result<Op, Kind>
+    ensures { result ≡ op_at (parted line.now) }
+{
+    let (access, rest) = operation_field(line)?;
+    let (word, rest) = address_field(rest)?;
+    operand_fields(access, WordAddr::at(word), rest)
+}
+
+/// What follows `A`, which form 2 has.
+fn behind_advance(form: Form, line: &[u8]) -> Option<&[u8]>
+    ensures { option_map (λ rest. parted rest.now) result
+        ≡ behind_advance form (parted line.now) }
+{
+    match (form, next_field(line)) {
+        (Form::Two, Some((b"A", rest))) => Some(rest),
+        _ => None,
+    }
+}
+
+#[tactic(auto, unfolding(crate::specs::Reading::step_at, crate::specs::Reading::ended))]
+fn step_fields(form: Form, line: &[u8]) -> Result<Step, Kind>
+    ensures { result ≡ step_at form (parted line.now) }
+{
+    match behind_advance(form, line) {
+        Some(rest) => match next_field(rest) {
+            None => Ok(Step::Advance),
+            Some(_) => Err(Kind::ExtraWords),
+        },
+        None => {
+            let op = op_fields(line)?;
+            Ok(Step::Op(op))
+        }
+    }
+}
+
+#[tactic(auto, unfolding(crate::specs::Reading::trace_at))]
+fn trace_fields(form: Form, line: &[u8]) -> Result<(u32, Step), Kind>
+    ensures { result ≡ trace_at form (parted line.now) }
+{
+    let (core, rest) = core_field(line, core_count(form))?;
+    let step = step_fields(form, rest)?;
+    Ok((core, step))
+}
+
+#[tactic(auto, unfolding(crate::specs::Reading::trace_line_at))]
+fn told(form: Form, line: &[u8]) -> Result<Option<(u32, Step)>, Kind>
+    ensures { result ≡ trace_line_at form (fields_of line.now) }
+{
+    let line = before_comment(line);
+    match next_field(line) {
+        None => Ok(None),
+        Some(_) => {
+            let told = trace_fields(form, line)?;
+            Ok(Some(told))
+        }
+    }
+}
+
+/// What a line of a trace says, given without its line feed: a core, 0 to 15 in form 1 and 0 to 63 in form 2, and its
+/// step; nothing if the line has no fields. A fault is the first from the left: `BadCore`, `BadOperation`, `BadAddress`
+/// or `BadValue` if the field is missing or is none, `ExtraWords` if more fields follow (docs/TEXTS.md).
+pub fn trace_line(form: Form, line: &[u8]) -> Result<Option<(u32, Step)>, Kind>
+    ensures told { result ≡ trace_line_at form (fields_of line.now) }
+    ensures nothing { fields_of line.now ≡ [] → result ≡ Ok None }
+    ensures found { IfOk result (λ told. MatchOption told (fields_of line.now ≡ [])
+        (λ read. IsTraceLine form (fields_of line.now) read.0 read.1)) }
+    ensures only { (core : ℕ) (step : Step) → IsTraceLine form (fields_of line.now) core step →
+        result ≡ Ok (Some (core, step)) }
+    ensures fault { IfErr result (λ kind. TraceCause form kind (fields_of line.now)) }
+{
+    told(form, line)
+}

@@ -1,5 +1,5 @@
 //! A source and a sink that take one byte a call, and some that fail in mid-stream.
-use crate::running::report_from;
+use crate::runs::report_from;
 use crate::texts::{BYTES, with_bytes};
 use report::{Done, RunError};
 use std::io;

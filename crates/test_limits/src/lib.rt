@@ -5,9 +5,11 @@
 #[cfg(test)]
 mod devices;
 #[cfg(test)]
+mod long_names;
+#[cfg(test)]
 mod many_runs;
 #[cfg(test)]
-mod running;
+mod runs;
 #[cfg(test)]
 mod small_limits;
 #[cfg(test)]

@@ -1,5 +1,5 @@
 //! Reports of many runs.
-use crate::running::gives;
+use crate::runs::gives;
 use litmus_reader::{Test, read};
 use machine_table::Counts;
 use report_text::litmus_text;

@@ -1,5 +1,5 @@
 //! Numbers, threads and registers at the ends of their ranges.
-use crate::running::fault;
+use crate::runs::fault;
 use litmus_reader::Kind;
 use std::test::Fail;
 

@@ -1,11 +1,12 @@
 //! Each limit of a text, reached and passed by one.
-use crate::running::{fault, gives};
+use crate::runs::{fault, gives, report_from};
 use crate::texts::{
     BYTES, put_registers, with_atoms, with_bytes, with_cells, with_lines, with_locations,
     with_locations_seen, with_name, with_parentheses, with_registers, with_rows, with_threads,
 };
-use litmus_reader::{Kind, Test, read};
+use litmus_reader::{Kind, LitmusError, Test, read};
 use physiological_order::WordAddr;
+use report::RunError;
 use std::alloc::{AllocError, Global};
 use std::test::Fail;
 
@@ -72,6 +73,21 @@ fn texts_past_their_limits_are_refused(rt: HostRuntime) -> Result<(), Fail> {
             "text {index}"
         );
     }
+    Ok(())
+}
+
+// All bytes of a source come, also of a text that is too long.
+#[test]
+fn a_source_with_a_text_that_is_too_long(rt: HostRuntime) -> Result<(), Fail> {
+    let text = with_bytes(rt.alloc(), BYTES + 1)?;
+    let mut out = Vec::new(rt.alloc());
+    let done = report_from(rt.alloc(), text.as_bytes(), &mut out, 1);
+    let too_large = LitmusError {
+        line: 1,
+        kind: Kind::TooLarge,
+    };
+    assert_eq!(rt; done, Err(RunError::Litmus(too_large)));
+    assert_eq!(rt; out.len(), 0);
     Ok(())
 }
 

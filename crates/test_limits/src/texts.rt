@@ -193,8 +193,8 @@ pub(crate) fn with_cells(alloc: Global) -> Result<String, AllocError> {
     Ok(text)
 }
 
-// A piece, so often.
-fn repeat(text: &mut String, piece: &str, times: usize) -> Result<(), AllocError> {
+/// A piece, so often.
+pub(crate) fn repeat(text: &mut String, piece: &str, times: usize) -> Result<(), AllocError> {
     for _ in 0..times {
         text.push_str(piece)?;
     }

@@ -10,3 +10,5 @@ mod many_events;
 mod many_messages;
 #[cfg(test)]
 mod many_parts;
+#[cfg(test)]
+mod opening_words;

@@ -122,8 +122,10 @@ fn each_error_has_its_number_status_and_line(rt: HostRuntime) {
 #[test]
 fn each_kind_has_its_line(rt: HostRuntime) {
     for (kind, line, text) in KINDS {
-        let told = error_line(&RunError::Litmus(LitmusError { line, kind }));
-        assert!(rt; told.as_slice() == text, "line {line}");
+        let error = RunError::Litmus(LitmusError { line, kind });
+        assert_eq!(rt; error.number(), 4);
+        assert_eq!(rt; exit_status(&Err(error)), 2);
+        assert!(rt; error_line(&error).as_slice() == text, "line {line}");
     }
 }
 

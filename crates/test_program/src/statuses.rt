@@ -4,7 +4,8 @@ use byte_streams::ToWrite;
 use program::{refuse, refuse_memory};
 use std::alloc::Global;
 
-// One thread stores 1 to x and loads it, on a machine of the defaults: the line is asked for once, and nothing is sent back.
+// One thread stores 1 to x and loads it, on a machine of the defaults: the line is asked for once, and nothing is
+// sent back.
 const STORE: &[u8] =
     b"RISCV S\n{ 0:x5=1; 0:x6=x; }\n P0 ;\n sw x5,0(x6) ;\n lw x7,0(x6) ;\nexists (0:x7=1)\n";
 

@@ -23,6 +23,16 @@ fn all_bytes_come(rt: HostRuntime) -> Result<(), Fail> {
 }
 
 #[test]
+fn many_bytes_come(rt: HostRuntime) -> Result<(), Fail> {
+    let bytes: Vec<u8> = (0..70_000u32).map(|i| (i % 251) as u8).collect(rt.alloc())?;
+    let mut source = FromRead::new(bytes.as_slice());
+    assert!(rt;
+        read_all(rt.alloc(), &mut source).is_ok_and(|all| all.as_slice() == bytes.as_slice())
+    );
+    Ok(())
+}
+
+#[test]
 fn a_reader_fails_in_mid_stream(rt: HostRuntime) {
     let mut source = FromRead::new(Limited {
         inner: b"abcdefgh".as_slice(),

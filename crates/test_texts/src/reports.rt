@@ -127,12 +127,13 @@ fn names_of_locations_and_great_sums(rt: HostRuntime) -> Result<(), Fail> {
     not_held.counts.renewals = 340282366920938463463374607431768211455;
     not_held.completed = 18446744073709551615;
     let mut third = ended(End::TurnsUsed, 18446744073709551615);
+    third.stale = 18446744073709551615;
     third.counts.renewals = 7;
     third.counts.upgrades = 8;
     let text = litmus_text(rt.alloc(), &test, &[held, not_held, third])?;
     assert!(rt;
         text.as_slice()
-            == b"test L\nthreads 2\nruns 3\nall-done 2\nstalled 0\nlimit 1\nexhausted 0\nmemory 0\nstates 2\n1 flag_1=0 data=1 1:x7=0\n1 flag_1=18446744073709551615 data=1 1:x7=0\ncondition forall\nheld 1\nverdict no\ncompleted 36893488147419103234\nrenewals 340282366920938463463374607431768211455\nupgrades 8\nflushes 0\nwrite-backs 0\nstale-hits 2\n".as_slice()
+            == b"test L\nthreads 2\nruns 3\nall-done 2\nstalled 0\nlimit 1\nexhausted 0\nmemory 0\nstates 2\n1 flag_1=0 data=1 1:x7=0\n1 flag_1=18446744073709551615 data=1 1:x7=0\ncondition forall\nheld 1\nverdict no\ncompleted 36893488147419103234\nrenewals 340282366920938463463374607431768211455\nupgrades 8\nflushes 0\nwrite-backs 0\nstale-hits 18446744073709551617\n".as_slice()
     );
     Ok(())
 }

@@ -1,0 +1,366 @@
+//! Each call on histories that are worked out by hand.
+use physiological_order::{
+    Memory, Op, Record, Steps, Verdict, WordAddr, arrange, check, check_counted, replay,
+    rises_by_number, stale_hits, stale_hits_counted,
+};
+use std::alloc::{AllocError, Global};
+use std::process::Abort;
+use std::test::Fail;
+
+fn word(number: u64) -> WordAddr {
+    WordAddr::at(number % 64)
+}
+
+/// A record: its core and place, its operation and what it received, its time and its number.
+fn record(core: u32, place: u32, op: Op, received: Option<u64>, ts: u64, number: u64) -> Record {
+    Record {
+        core,
+        place,
+        op,
+        received,
+        ts,
+        number,
+    }
+}
+
+fn load(number: u64) -> Op {
+    Op::Load(word(number))
+}
+
+fn store(number: u64, value: u64) -> Op {
+    Op::Store(word(number), value)
+}
+
+/// The verdict over a memory of zeros.
+fn verdict(alloc: Global, issued: &[Vec<Op>], records: &[Record]) -> Result<Verdict, AllocError> {
+    check(alloc, &Memory::new(alloc), issued, records)
+}
+
+/// A store of 1 to word 0, then a load of it, by one core.
+fn store_then_load(alloc: Global) -> Result<Vec<Vec<Op>>, AllocError> {
+    let one = vec![in alloc; store(0, 1), load(0)]?;
+    let mut issued = Vec::new(alloc);
+    issued.push(one)?;
+    Ok(issued)
+}
+
+fn same<R: Abort>(rt: &R, got: Verdict, wanted: Verdict) {
+    assert_eq!(rt; got, wanted);
+}
+
+#[test]
+fn word_addresses(rt: HostRuntime) -> Result<(), Fail> {
+    assert_eq!(rt; WordAddr::new(4), None);
+    let addr = WordAddr::new(24).ok_or("24 is a multiple of 8")?;
+    assert_eq!(rt; addr.word(), 3);
+    assert_eq!(rt; addr.byte(), 24);
+    assert_eq!(rt; addr, WordAddr::at(3));
+    let last = WordAddr::new(18446744073709551608).ok_or("it is a multiple of 8")?;
+    assert_eq!(rt; last.word(), 2305843009213693951);
+    assert_eq!(rt; WordAddr::new(18446744073709551615), None);
+    Ok(())
+}
+
+#[test]
+fn a_memory_keeps_what_is_set(rt: HostRuntime) -> Result<(), Fail> {
+    let mut memory = Memory::new(rt.alloc());
+    assert_eq!(rt; memory.get(word(5)), 0);
+    memory.set(word(9), 90)?;
+    memory.set(word(5), 50)?;
+    memory.set(word(9), 91)?;
+    assert_eq!(rt; memory.perform(load(9))?, Some(91));
+    assert_eq!(rt; memory.perform(store(2, 20))?, None);
+    assert_eq!(rt; memory.perform(Op::Swap(word(5), 51))?, Some(50));
+    let copy = memory.try_clone()?;
+    let words = copy.words()?;
+    assert_eq!(rt;
+        words.as_slice(),
+        [(word(2), 20), (word(5), 51), (word(9), 91)].as_slice()
+    );
+    Ok(())
+}
+
+#[test]
+fn a_replay_receives_old_values(rt: HostRuntime) -> Result<(), Fail> {
+    let mut opening = Memory::new(rt.alloc());
+    opening.set(word(0), 9)?;
+    let operations = [load(0), Op::Swap(word(0), 4), store(1, 7), load(0), load(1)];
+    let (received, end) = replay(rt.alloc(), &opening, &operations)?;
+    assert_eq!(rt;
+        received.as_slice(),
+        [Some(9), Some(9), None, Some(4), Some(7)].as_slice()
+    );
+    assert_eq!(rt; end.get(word(0)), 4);
+    assert_eq!(rt; end.get(word(1)), 7);
+    assert_eq!(rt; opening.get(word(0)), 9);
+    Ok(())
+}
+
+fn late() -> Record {
+    record(0, 1, load(0), Some(1), 11, 1)
+}
+
+fn tied() -> Record {
+    record(1, 0, load(1), Some(0), 11, 0)
+}
+
+fn early() -> Record {
+    record(0, 0, store(0, 1), None, 3, 2)
+}
+
+#[test]
+fn records_are_arranged_by_time_then_number(rt: HostRuntime) -> Result<(), Fail> {
+    let arranged = arrange(rt.alloc(), &[late(), tied(), early()])?;
+    assert_eq!(rt; arranged.as_slice(), [early(), tied(), late()].as_slice());
+    assert!(rt; arrange(rt.alloc(), &[])?.is_empty());
+    Ok(())
+}
+
+#[test]
+fn a_history_is_legal_in_any_order_of_its_records(rt: HostRuntime) -> Result<(), Fail> {
+    let issued = store_then_load(rt.alloc())?;
+    let first = record(0, 0, store(0, 1), None, 1, 0);
+    let second = record(0, 1, load(0), Some(1), 1, 1);
+    same(
+        &rt,
+        verdict(rt.alloc(), &issued, &[first, second])?,
+        Verdict::Legal,
+    );
+    same(
+        &rt,
+        verdict(rt.alloc(), &issued, &[second, first])?,
+        Verdict::Legal,
+    );
+    same(&rt, verdict(rt.alloc(), &[], &[])?, Verdict::Legal);
+    Ok(())
+}
+
+#[test]
+fn a_number_that_is_missing_comes_first(rt: HostRuntime) -> Result<(), Fail> {
+    let issued = store_then_load(rt.alloc())?;
+    let first = record(0, 0, store(0, 1), None, 1, 0);
+    let skipped = record(0, 1, load(0), Some(1), 1, 2);
+    same(
+        &rt,
+        verdict(rt.alloc(), &issued, &[first, skipped])?,
+        Verdict::BadNumber(1),
+    );
+    same(
+        &rt,
+        verdict(rt.alloc(), &issued, &[first, first])?,
+        Verdict::BadNumber(1),
+    );
+    let wrong = record(7, 3, load(0), Some(8), 1, 4);
+    same(
+        &rt,
+        verdict(rt.alloc(), &issued, &[wrong])?,
+        Verdict::BadNumber(0),
+    );
+    Ok(())
+}
+
+#[test]
+fn program_order_goes_before_values(rt: HostRuntime) -> Result<(), Fail> {
+    let issued = store_then_load(rt.alloc())?;
+    let swapped = [
+        record(0, 1, store(0, 1), None, 1, 0),
+        record(0, 0, load(0), Some(1), 1, 1),
+    ];
+    same(
+        &rt,
+        verdict(rt.alloc(), &issued, &swapped)?,
+        Verdict::OutOfProgramOrder(0),
+    );
+    let turned = [
+        record(0, 0, store(0, 1), None, 2, 0),
+        record(0, 1, load(0), Some(1), 1, 1),
+    ];
+    same(
+        &rt,
+        verdict(rt.alloc(), &issued, &turned)?,
+        Verdict::OutOfProgramOrder(1),
+    );
+    let stale = [
+        record(0, 0, store(0, 1), None, 1, 0),
+        record(0, 1, load(0), Some(0), 1, 1),
+    ];
+    same(
+        &rt,
+        verdict(rt.alloc(), &issued, &stale)?,
+        Verdict::WrongValue(1),
+    );
+    let nobody = [record(1, 0, load(0), Some(0), 0, 0)];
+    same(
+        &rt,
+        verdict(rt.alloc(), &issued, &nobody)?,
+        Verdict::OutOfProgramOrder(0),
+    );
+    let other = [record(0, 0, store(0, 2), None, 1, 0)];
+    same(
+        &rt,
+        verdict(rt.alloc(), &issued, &other)?,
+        Verdict::OutOfProgramOrder(0),
+    );
+    Ok(())
+}
+
+/// Core 1 loads a word, core 0 stores 1 to it at time 11, and core 1 loads it once more at time 0; core 2 swaps 5
+/// for the 1 at time 12, and loads at time 12 what it put there.
+fn three_cores() -> [Record; 5] {
+    [
+        record(1, 0, load(0), Some(0), 0, 0),
+        record(0, 0, store(0, 1), None, 11, 1),
+        record(1, 1, load(0), Some(0), 0, 2),
+        record(2, 0, Op::Swap(word(0), 5), Some(1), 12, 3),
+        record(2, 1, load(0), Some(5), 12, 4),
+    ]
+}
+
+#[test]
+fn a_stale_hit_is_legal_and_counted(rt: HostRuntime) -> Result<(), Fail> {
+    let mut issued = Vec::new(rt.alloc());
+    issued.push(vec![in rt.alloc(); store(0, 1)]?)?;
+    issued.push(vec![in rt.alloc(); load(0), load(0)]?)?;
+    issued.push(vec![in rt.alloc(); Op::Swap(word(0), 5), load(0)]?)?;
+    let records = three_cores();
+    same(&rt, verdict(rt.alloc(), &issued, &records)?, Verdict::Legal);
+    assert!(rt; rises_by_number(&records));
+    assert_eq!(rt; stale_hits(rt.alloc(), &records)?, 1);
+    // Two are compared with the one before on their core; the lanes of cores 1 and 0 are merged by two comparisons, and
+    // that of core 2 with them by three. Three loads look once each, a store and a swap look and write.
+    let mut steps = Steps::new();
+    let opening = Memory::new(rt.alloc());
+    let counted = check_counted(rt.alloc(), &mut steps, &opening, &issued, &records)?;
+    same(&rt, counted, Verdict::Legal);
+    assert_eq!(rt; steps.made(), 7);
+    assert_eq!(rt; stale_hits_counted(rt.alloc(), &mut steps, &records)?, 1);
+    assert_eq!(rt; steps.made(), 14);
+    Ok(())
+}
+
+#[test]
+fn a_swap_makes_an_earlier_load_stale(rt: HostRuntime) -> Result<(), Fail> {
+    let records = [
+        record(0, 0, Op::Swap(word(0), 1), Some(0), 9, 0),
+        record(1, 0, load(0), Some(0), 4, 1),
+    ];
+    assert!(rt; rises_by_number(&records));
+    assert_eq!(rt; stale_hits(rt.alloc(), &records)?, 1);
+    Ok(())
+}
+
+#[test]
+fn only_later_writes_of_the_word_make_a_load_stale(rt: HostRuntime) -> Result<(), Fail> {
+    let records = [
+        record(0, 0, store(0, 1), None, 5, 0),
+        record(1, 0, load(1), Some(0), 0, 1),
+        record(1, 1, load(0), Some(1), 5, 2),
+        record(1, 2, load(0), Some(0), 4, 3),
+        record(0, 1, store(0, 2), None, 6, 4),
+    ];
+    assert!(rt; rises_by_number(&records));
+    assert_eq!(rt; stale_hits(rt.alloc(), &records)?, 1);
+    assert_eq!(rt; stale_hits(rt.alloc(), &[])?, 0);
+    assert!(rt; !rises_by_number(&[late(), late()]));
+    Ok(())
+}
+
+#[test]
+fn the_least_of_two_missing_numbers_is_told(rt: HostRuntime) -> Result<(), Fail> {
+    let issued = store_then_load(rt.alloc())?;
+    // Of 0 to 3 neither 1 nor 2 is carried; 3 is carried twice, and 7 is none of the four.
+    let records = [
+        record(0, 0, store(0, 1), None, 1, 3),
+        record(0, 1, load(0), Some(1), 1, 0),
+        record(0, 1, load(0), Some(1), 1, 7),
+        record(0, 1, load(0), Some(1), 1, 3),
+    ];
+    same(
+        &rt,
+        verdict(rt.alloc(), &issued, &records)?,
+        Verdict::BadNumber(1),
+    );
+    Ok(())
+}
+
+/// Core 1 stores 1 to word 0 with number 0, core 0 stores 2 to it at the same time with number 1, and core 0 loads it
+/// later: by number the 2 is there, and by core the 1 would be.
+fn tied_stores(received: u64) -> [Record; 3] {
+    [
+        record(0, 0, store(0, 2), None, 5, 1),
+        record(0, 1, load(0), Some(received), 6, 2),
+        record(1, 0, store(0, 1), None, 5, 0),
+    ]
+}
+
+#[test]
+fn equal_times_are_taken_by_number(rt: HostRuntime) -> Result<(), Fail> {
+    let mut issued = Vec::new(rt.alloc());
+    issued.push(vec![in rt.alloc(); store(0, 2), load(0)]?)?;
+    issued.push(vec![in rt.alloc(); store(0, 1)]?)?;
+    let by_number = verdict(rt.alloc(), &issued, &tied_stores(2))?;
+    same(&rt, by_number, Verdict::Legal);
+    let by_core = verdict(rt.alloc(), &issued, &tied_stores(1))?;
+    same(&rt, by_core, Verdict::WrongValue(2));
+    Ok(())
+}
+
+/// A core's load completes first, at time 5, and its store behind it, at time 3: by time they stand in its program
+/// order.
+fn falling_times(received: u64) -> [Record; 2] {
+    [
+        record(0, 1, load(0), Some(received), 5, 0),
+        record(0, 0, store(0, 1), None, 3, 1),
+    ]
+}
+
+#[test]
+fn records_whose_times_fall_are_arranged(rt: HostRuntime) -> Result<(), Fail> {
+    let issued = store_then_load(rt.alloc())?;
+    let right = verdict(rt.alloc(), &issued, &falling_times(1))?;
+    same(&rt, right, Verdict::Legal);
+    let wrong = verdict(rt.alloc(), &issued, &falling_times(0))?;
+    same(&rt, wrong, Verdict::WrongValue(0));
+    Ok(())
+}
+
+#[test]
+fn the_greatest_time_of_a_write_is_kept(rt: HostRuntime) -> Result<(), Fail> {
+    // The second store's time is smaller, so 9 stays the greatest: only the load at 6 is before it.
+    let records = [
+        record(0, 0, store(0, 1), None, 9, 0),
+        record(1, 0, store(0, 2), None, 4, 1),
+        record(2, 0, load(0), Some(2), 6, 2),
+        record(2, 1, load(0), Some(1), 9, 3),
+    ];
+    assert!(rt; rises_by_number(&records));
+    assert_eq!(rt; stale_hits(rt.alloc(), &records)?, 1);
+    Ok(())
+}
+
+/// The steps of a check of one core's records added to those that were made.
+fn checked(alloc: Global, steps: &mut Steps, records: &[Record]) -> Result<u128, AllocError> {
+    let issued = store_then_load(alloc)?;
+    let _verdict = check_counted(alloc, steps, &Memory::new(alloc), &issued, records)?;
+    Ok(steps.made())
+}
+
+#[test]
+fn counts_add_up(rt: HostRuntime) -> Result<(), Fail> {
+    let first = record(0, 0, store(0, 1), None, 1, 0);
+    let second = record(0, 1, load(0), Some(1), 1, 1);
+    let records = [first, second];
+    let mut steps = Steps::new();
+    // The load is compared with the store before it, and one lane is merged with none.
+    assert_eq!(rt; checked(rt.alloc(), &mut steps, &records)?, 1);
+    assert_eq!(rt; checked(rt.alloc(), &mut steps, &[second, first])?, 2);
+    // A number is missing, and nothing is compared.
+    assert_eq!(rt; checked(rt.alloc(), &mut steps, &[second])?, 2);
+    // One comparison finds that the times fall, and what `arrange` compares isn't counted.
+    assert_eq!(rt; checked(rt.alloc(), &mut steps, &falling_times(1))?, 3);
+    // The store looks and writes, the load looks.
+    assert!(rt; rises_by_number(&records));
+    assert_eq!(rt; stale_hits_counted(rt.alloc(), &mut steps, &records)?, 0);
+    assert_eq!(rt; steps.made(), 6);
+    Ok(())
+}

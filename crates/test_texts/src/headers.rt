@@ -1,0 +1,59 @@
+//! Names of tests and header lines, worked out by hand. Which bytes each may have is a law of the lexer.
+use litmus_reader::{Kind, LitmusError, read};
+use std::test::Fail;
+
+// The text behind the first lines: no test is smaller.
+const BODY: &[u8] = b"\n{ }\nP0 ;\nexists x=0\n";
+
+const ACCEPTED: [&[u8]; 12] = [
+    b"RISCV a_1+b.c-[d]",
+    b" \tRISCV\t.\r",
+    b"RISCV a\nkey=value",
+    b"RISCV a\nK9_k=",
+    b"RISCV a\n \tk \t= {v} \"w\" = 1;",
+    b"RISCV a\nk==",
+    b"RISCV a\n\"\"",
+    b"RISCV a\n\t\"a { string = \" \t",
+    b"RISCV a\n\n \t\r",
+    b"RISCV a\nz=0\nk=v\n\"s\"",
+    b"RISCV a\nz=:~!#$%&'()*,/;<>?@^`|}",
+    b"RISCV a\nA=\\",
+];
+
+const REFUSED: [(&[u8], usize, Kind); 15] = [
+    (b"RISCV a b", 1, Kind::BadHeader),
+    (b"RISCV a_b/c", 1, Kind::BadHeader),
+    (b"RISCVa", 1, Kind::BadHeader),
+    (b"RISCV \"a\"", 1, Kind::BadHeader),
+    (b"riscv a", 1, Kind::BadHeader),
+    (b"RISCV a\n9k=v", 2, Kind::BadHeader),
+    (b"RISCV a\n_k=v", 2, Kind::BadHeader),
+    (b"RISCV a\n=v", 2, Kind::BadHeader),
+    (b"RISCV a\nk-k=v", 2, Kind::BadHeader),
+    (b"RISCV a\nk k=v", 2, Kind::BadHeader),
+    (b"RISCV a\n\n\"a\"b\"", 3, Kind::BadHeader),
+    (b"RISCV a\nk=v\n\"s\" t", 3, Kind::BadHeader),
+    (b"RISCV a\n\"s", 2, Kind::BadHeader),
+    (b"RISCV a\n{k=v", 2, Kind::BadInitial),
+    (b"RISCV a\nk=\x7f", 2, Kind::BadByte),
+];
+
+#[test]
+fn first_lines(rt: HostRuntime) -> Result<(), Fail> {
+    for front in ACCEPTED {
+        let mut text = Vec::new(rt.alloc());
+        text.extend_from_slice(front)?;
+        text.extend_from_slice(BODY)?;
+        assert!(rt; read(rt.alloc(), &text).is_ok());
+    }
+    for (front, line, kind) in REFUSED {
+        let mut text = Vec::new(rt.alloc());
+        text.extend_from_slice(front)?;
+        text.extend_from_slice(BODY)?;
+        assert_eq!(rt;
+            read(rt.alloc(), &text).err(),
+            Some(LitmusError { line, kind })
+        );
+    }
+    Ok(())
+}

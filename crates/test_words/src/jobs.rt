@@ -1,0 +1,89 @@
+//! Command lines that are taken, with what they ask for.
+use command_line::{Job, read_words};
+use run_options::{LitmusOptions, MachineOptions, RunOptions, Schedule};
+use std::test::Fail;
+
+static PLAIN: [&str; 3] = ["tardis", "litmus", "sb.litmus"];
+
+static FULL: [&str; 26] = [
+    "tardis",
+    "litmus",
+    "--schedule",
+    "round",
+    "--limit=4294967295",
+    "--runs",
+    "1000000",
+    "--workers",
+    "16",
+    "--private-write",
+    "--lease",
+    "18446744073709551615",
+    "--time=7",
+    "--banks",
+    "2",
+    "--sets=3",
+    "mp.litmus",
+    "--ways",
+    "5",
+    "--bank-sets=6",
+    "--bank-ways",
+    "9",
+    "--line-words",
+    "8",
+    "--messages",
+    "0",
+];
+
+#[test]
+fn defaults(rt: HostRuntime) -> Result<(), Fail> {
+    let job = read_words(rt.alloc(), PLAIN.as_slice())
+        .ok()
+        .ok_or("a job")?;
+    let Job::Litmus(options, file) = job;
+    assert_eq!(rt; options, LitmusOptions::DEFAULT);
+    assert_eq!(rt; file, "sb.litmus");
+    Ok(())
+}
+
+#[test]
+fn a_long_path(rt: HostRuntime) -> Result<(), Fail> {
+    let mut path = String::new(rt.alloc());
+    for _ in 0..5_000 {
+        path.push_str("a")?;
+    }
+    let words: [&str; 3] = ["tardis", "litmus", &path];
+    let job = read_words(rt.alloc(), &words).ok().ok_or("a job")?;
+    let Job::Litmus(_, file) = job;
+    assert_eq!(rt; file.len(), 5_000);
+    Ok(())
+}
+
+#[test]
+fn all_options(rt: HostRuntime) -> Result<(), Fail> {
+    let job = read_words(rt.alloc(), FULL.as_slice()).ok().ok_or("a job")?;
+    let Job::Litmus(options, file) = job;
+    let wanted = LitmusOptions {
+        runs: 1000000,
+        run: RunOptions {
+            schedule: Schedule::Round,
+            seed: 0,
+            workers: 16,
+            limit: 4294967295,
+            machine: MachineOptions {
+                lease: 18446744073709551615,
+                time: 7,
+                banks: 2,
+                sets: 3,
+                ways: 5,
+                bank_sets: 6,
+                bank_ways: 9,
+                line_words: 8,
+                messages: 0,
+                private_write: true,
+            },
+        },
+    };
+    assert_eq!(rt; options, wanted);
+    assert_eq!(rt; file, "mp.litmus");
+    Ok(())
+}

@@ -14,39 +14,30 @@ from pathlib import Path
 TOP = Path(__file__).resolve().parent.parent
 CRATES = TOP / "crates"
 
-# The definitions that the public contracts of each group cite. A reader must trust these and what they are made of.
+# The public functions of each group, by crate: all (*), or those of a list; and clauses that are left to a later group.
+# What these contracts cite, and what that is made of, must be read by those who trust them.
 GROUPS = [
     ("The theorem: `records`, `owners` and `coherent` of `System`", [
-        ("physiological_order/specs/Order.antt", "Legal Arrangement replay_end flat of_core"),
-        ("physiological_order/specs/StaleHits.antt", "RisesByNumber"),
-        ("machine_theorem/specs/Coherence.antt", "owners coherent"),
-        ("machine_table/specs/Machine.antt", "operation_of"),
-        ("protocol/specs/Issued.antt", "IsIssued")]),
-    ("The machine's table: `new`, `step` and `run`, and what is looked up", [
-        ("machine_table/specs/SetUp.antt", "is_good"),
-        ("machine_table/specs/Opening.antt", "at_start"),
-        ("interleaving_core/specs/Stepped.antt", "Stepped Ran"),
-        ("interleaving_core/specs/Midway.antt", "IsMidway"),
-        ("interleaving_core/specs/Reserved.antt", "completes"),
-        ("interleaving_core/specs/Issuing.antt", "*"),
-        ("interleaving_core/specs/Sending.antt", "*"),
-        ("interleaving_core/specs/LookUps.antt", "open_op victim copies entries make_room")]),
+        ("interleaving_core", "records owners coherent", "")]),
+    ("The machine's table: `new` and `step`", [
+        ("interleaving_core", "new step", "")]),
+    ("Lists of events and what is looked up: `run`, `victim`, `make_room` and the others", [
+        ("interleaving_core", "*", "")]),
     ("The checker: `check`, `arrange`, `replay` and `stale_hits`, and their counted steps", [
-        ("physiological_order/specs/Faults.antt", "*"),
-        ("physiological_order/specs/StaleHits.antt", "*"),
-        ("physiological_order/specs/Picking.antt", "TimesRise"),
-        ("physiological_order/specs/Counting.antt", "*")]),
+        ("physiological_order", "*", "")]),
     ("The litmus text: which one is read, as which test, and why one is refused", [
-        ("litmus_reader/specs/Grammar.antt", "*"),
-        ("litmus_reader/specs/Faults.antt", "*")]),
+        ("litmus_reader", "*", "told early")]),
+    ("The readings: which of a text's faults is told", [
+        ("litmus_reader", "*", "")]),
     ("Runs and reports: the schedule, the sequential machine, the text, the program", [
-        ("worker_driver/specs/Follows.antt", "*"),
-        ("worker_driver/specs/Told.antt", "*"),
-        ("sequential_machine/specs/SequentialMachine.antt", "*"),
-        ("report_text/specs/Text.antt", "*"),
-        ("report/specs/Litmus.antt", "*"),
-        ("program/specs/Answers.antt", "*")]),
+        (name, "*", "") for name in ("byte_streams", "run_ends", "worker_driver", "sequential_machine", "report_text", "report",
+                                     "run_results", "command_line", "program")]),
+    ("Laws for later layers: of the table's histories, of the moves of a state, of the protocol by lines", [
+        ("machine_theorem", "*", ""), ("machine_moves", "*", ""), ("protocol", "*", "")]),
 ]
+
+# How many lines of definitions are read in a minute.
+LINES_A_MINUTE = 10
 
 
 def lines_of_crates():
@@ -94,8 +85,8 @@ class Definitions:
         self.blocks, self.names, self.modules = {}, {}, {}
         block, name = [], None
         for line in path.read_text(encoding="utf-8").splitlines() + [""]:
-            if line.startswith("use "):
-                self.read_import(line)
+            if line.startswith(("use ", "pub use ")):
+                self.read_import(line.removeprefix("pub "))
                 continue
             if not line.strip():
                 if name:
@@ -106,6 +97,16 @@ class Definitions:
             found = re.match(r"(?:abbrev pub|unfoldable pub|pub record|pub data|pub|record|data|abbrev) ([^ :]+)", line)
             if found and not name:
                 name = found.group(1)
+
+    @staticmethod
+    def of_source(path):
+        """The definitions that a source file brings in for its contracts."""
+        found = Definitions.__new__(Definitions)
+        found.blocks, found.names, found.modules = {}, {}, {}
+        for line in path.read_text(encoding="utf-8").splitlines():
+            if line.lstrip().startswith("ghost use "):
+                found.read_import(line.strip()[len("ghost "):].rstrip(";"))
+        return found
 
     def read_import(self, line):
         found = re.match(r"use Rattle\.([a-z_]+)\.specs\.([A-Z][A-Za-z]*)(?:\.\{([^}]*)\})?(?: as (\w+))?$", line)
@@ -143,35 +144,85 @@ def made_of(module, name):
             yield file.names[word]
 
 
+def given_out(crate):
+    """The modules and the names that a crate's root gives out."""
+    root = (crate / "src/lib.rt").read_text(encoding="utf-8")
+    names = re.findall(r"^pub use \w+(?:::\w+)*::(?:\{([^}]*)\}|(\w+));", root, re.M)
+    return (re.findall(r"^pub mod (\w+);", root, re.M),
+            {n.strip().split(" as ")[0] for many, one in names for n in (many or one).split(",")})
+
+
+def contracts(file, is_open, names):
+    """The public functions of a source file, each with its contract's words, and what public types and traits say of
+    themselves to contracts."""
+    lines = file.read_text(encoding="utf-8").splitlines()
+    owner, is_trait, function, indent, taken = None, False, None, "", []
+    for line in lines:
+        found = re.match(r"(?:pub )?(impl|trait)(?:<.*?>)? (?:\w+(?:<.*?>)? for )?(\w+)", line)
+        if found:
+            owner, is_trait = found.group(2), found.group(1) == "trait" or " for " in line
+        elif line == "}":
+            owner, is_trait = None, False
+        if owner in names and re.match(r"    ghost (?!use |invariant|coded)", line):
+            yield "", line
+        found = re.match(r"(\s*)(pub )?fn (\w+)", line)
+        if found:
+            is_public = (found.group(2) or is_trait) and (is_open or (owner or found.group(3)) in names)
+            function, indent, taken = (found.group(3) if is_public else None), found.group(1), []
+        elif function and line in (indent + "{", indent + "{}") or function and taken and line.endswith(";"):
+            yield function, "\n".join(taken)
+            function = None
+        elif function and (taken or re.match(r"\s*(ensures|requires)\b", line)):
+            if not line.lstrip().startswith("//"):
+                taken.append(line)
+
+
+def cited(name, functions, left):
+    """The definitions that the contracts of a crate's public functions cite, but for the clauses that are left."""
+    modules, names = given_out(CRATES / name)
+    for file in sorted((CRATES / name / "src").rglob("*.rt")):
+        imports = Definitions.of_source(file)
+        for function, text in contracts(file, file.stem in modules, names):
+            if functions != "*" and function not in functions.split():
+                continue
+            for clause in left.split():
+                text = re.sub(r"ensures %s \{.*?(?=ensures |\Z)" % clause, "", text, flags=re.S)
+            for alias, word in re.findall(r"(?<![\w.])(\w+)\.([\w-]+)", text):
+                if alias in imports.modules:
+                    yield imports.modules[alias], word
+            for word in re.findall(r"[\w-]+|[◌>=&|]+", text):
+                if word in imports.names:
+                    yield imports.names[word]
+
+
 def reached(roots):
     """All definitions that these are made of, in the order in which they are met."""
-    left = []
-    for module, names in roots:
-        left += [(module, n) for n in (definitions(module).blocks if names == "*" else names.split())]
-    seen = []
+    left = [d for root in roots for d in cited(*root)]
+    seen, known = [], set()
     while left:
         one = left.pop(0)
-        if one not in seen and one[1] in definitions(one[0]).blocks:
+        if one not in known and one[1] in definitions(one[0]).blocks:
             seen.append(one)
+            known.add(one)
             left += sorted(made_of(*one))
     return seen
 
 
 def trust():
     """The files of definitions by group, and how many lines of each belong to the group and to none before it."""
-    rows, told = ["| Definitions | Lines |", "|---|---|"], set()
+    rows, told = ["| Definitions | Lines | Minutes |", "|---|---|---|"], set()
     for title, roots in GROUPS:
-        for module, names in roots:
-            for name in names.split() if names != "*" else ():
-                if name not in definitions(module).blocks:
-                    raise SystemExit("documents.py: no definition %s in %s" % (name, module))
         mine, lines = [d for d in reached(roots) if d not in told], {}
         told.update(mine)
         for module, name in mine:
             lines[module] = lines.get(module, 0) + len(definitions(module).blocks[name])
-        rows.append("| **%s** | **%d** |" % (title, sum(lines.values())))
-        rows += ["| `%s` | %d |" % item for item in lines.items()]
+        rows.append("| **%s** | **%d** | **%d** |" % (title, sum(lines.values()), minutes(sum(lines.values()))))
+        rows += ["| `%s` | %d | %d |" % (module, count, minutes(count)) for module, count in lines.items()]
     return rows
+
+
+def minutes(lines):
+    return -(-lines // LINES_A_MINUTE)
 
 
 def with_table(text, name, rows):

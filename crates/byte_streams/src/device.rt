@@ -15,8 +15,8 @@ pub trait Source {
     /// How many calls have failed.
     ghost failures: { Self → ℕ };
 
-    /// Puts the next bytes into the front of the buffer, and says how many. There are none only at the end, or where the
-    /// buffer is empty.
+    /// Puts the next bytes into the front of the buffer, and says how many. There are none only at the end, or where
+    /// the buffer is empty.
     fn read(&mut self, buffer: &mut [u8]) -> Result<usize, DeviceError>
         ensures bytes { Gives (remaining self.old) (remaining self.new) result buffer.new }
         ensures count { Counts (failures self.old) (failures self.new) result };

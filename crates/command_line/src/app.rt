@@ -107,7 +107,8 @@ fn with_any<'a>(
     help: &'a str,
 ) -> Result<Command<'a>, AllocError>
     ensures app { IfOk result (λ c. app_of c
-        ≡ with_rule (app_of command.entry) (number_rule name.entry.now default.entry.now any_number)) }
+        ≡ with_rule (app_of command.entry) (number_rule name.entry.now default.entry.now
+        any_number)) }
     ensures globals { IfOk result (λ c.
         (fields_of c).has_globals ≡ (fields_of command.entry).has_globals) }
 {

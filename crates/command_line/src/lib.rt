@@ -6,8 +6,3 @@ mod options;
 mod words;
 
 pub use words::{Job, WordsError, read_words};
-
-#[cfg(test)]
-mod refusals;
-#[cfg(test)]
-mod tests;

@@ -16,7 +16,7 @@ use Rattle.line_sets.specs.SetTable.{Sets, empty_sets}
 use Rattle.private_cache.specs.declared.line_copy.LineCopy.{LineCopy}
 use Rattle.private_cache.specs.declared.cache.CacheError.{CacheError}
 use Rattle.private_cache.specs.declared.cache.Geometry.{Geometry}
-pub use Rattle.private_cache.specs.CopyTable.{is_pinned as is_on}
+pub use Rattle.private_cache.specs.CopyTable.{is_pinned}
 use Rattle.private_cache.specs.CopyTable.{copy_of, place_for, with_used, with_changed, without_copy, evicted}
 use Rattle.timestamp_manager.specs.Lease.{fits}
 use Rattle.core_pts.specs.declared.config.CoreConfig.{CoreConfig}
@@ -168,7 +168,7 @@ after_reaction core line NoCase = Some (Dropped, core)
 
 -- what the core decides at a message about a line
 abbrev pub decided : CoreState → ℕ → Body → CoreReaction
-decided core line body = at_core core.lease (is_on (pinned_line core) line) (copy_of core.cache line) body
+decided core line body = at_core core.lease (is_pinned (pinned_line core) line) (copy_of core.cache line) body
 
 -- what a message about a line makes of the core
 abbrev pub after_body : CoreState → ℕ → Body → Option (Reaction × CoreState)
@@ -179,7 +179,7 @@ core_table core m = after_body core m.line m.body
 
 -- a reply comes only to a core that waits for it: with a request out for the line of its open operation
 abbrev pub waits_for : CoreState → ℕ → Bool
-waits_for core line = core.is_out && is_on (pinned_line core) line
+waits_for core line = core.is_out && is_pinned (pinned_line core) line
 
 abbrev pub is_shared_copy : Option LineCopy → Bool
 is_shared_copy None = false

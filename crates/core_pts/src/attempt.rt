@@ -30,9 +30,9 @@ impl IssueError {
     ghost use Rattle.std.specs.Prelude.{◌≡◌};
 
     /// The error's number.
-    pub fn number(&self) -> u32
-        ensures busy { self.now ≡ IssueError.Busy → result ≡ 1 }
-        ensures too_many { self.now ≡ IssueError.TooMany → result ≡ 2 }
+    pub fn number(self) -> u8
+        ensures busy { self ≡ IssueError.Busy → result ≡ 1 }
+        ensures too_many { self ≡ IssueError.TooMany → result ≡ 2 }
     {
         match self {
             IssueError::Busy => 1,

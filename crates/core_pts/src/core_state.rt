@@ -8,7 +8,7 @@ ghost use Rattle.line_sets.specs.SetTable.{all_listed};
 ghost use Rattle.private_cache.specs.CopyTable.{copy_of, place_for, victim_for, without_copy};
 ghost use Rattle.core_pts.specs.SetUp.{IsInRange};
 ghost use Rattle.core_pts.specs.CoreTable.{advance, attempt, attempt_unserved, attempt_without, completed_at, evict};
-ghost use Rattle.core_pts.specs.CoreTable.{index_of, is_on, issue, line_of, need, opened, pinned_line, to_bank};
+ghost use Rattle.core_pts.specs.CoreTable.{index_of, is_pinned, issue, line_of, need, opened, pinned_line, to_bank};
 
 use crate::attempt::{Attempt, IssueError};
 use crate::config::CoreConfig;
@@ -118,7 +118,8 @@ impl Core {
 
     /// The lines of all copies, rising.
     pub fn lines(&self) -> Result<Vec<LineNo>, AllocError>
-        ensures lines { IfOk result (λ lines. IsPermutation (all_listed (λ _. true) self.now.cache.sets)
+        ensures lines { IfOk result (λ lines. IsPermutation (all_listed (λ _. true)
+            self.now.cache.sets)
             lines.items) }
         ensures rising { IfOk result (λ lines. IsSorted nat_cmp lines.items) }
     {
@@ -185,9 +186,9 @@ impl Core {
         }
     }
 
-    // Whether the open operation is on a line.
-    pub(crate) fn is_pinned(&self, line: LineNo) -> bool
-        ensures { result ≡ is_on (pinned_line self.now) line }
+    /// Whether the open operation is on a line.
+    pub fn is_pinned(&self, line: LineNo) -> bool
+        ensures { result ≡ is_pinned (pinned_line self.now) line }
     {
         self.pinned_line() == Some(line)
     }

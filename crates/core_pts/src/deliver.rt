@@ -1,6 +1,6 @@
 //! What a core does with a message.
 ghost use Rattle.std.specs.Prelude.{◌≡◌, ◌≢◌, IfOk, IsSome, IsTrue, is_some, Err, None, OnErr, Some};
-ghost use Rattle.network.specs.Sent.{sent_by};
+ghost use Rattle.network.specs.Sends.{sent_by};
 ghost use Rattle.private_cache.specs.CopyTable.{copy_of, place_for};
 ghost use Rattle.core_pts.specs.OnCopy.{finds_place};
 ghost use Rattle.core_pts.specs.CoreTable.{core_has_case, core_table, decided, kept_in};

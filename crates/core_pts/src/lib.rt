@@ -8,8 +8,6 @@ pub mod decision;
 mod deliver;
 pub mod laws;
 mod on_copy;
-#[cfg(test)]
-mod tests;
 
 pub use attempt::{Attempt, IssueError};
 pub use config::CoreConfig;

@@ -9,19 +9,12 @@ use Rattle.network.specs.declared.message.Body.TheVariants.{DramLd, DramLdRep, D
 use Rattle.network.specs.declared.message.Message.{Message}
 use Rattle.network.specs.declared.part.Reaction.{Reaction}
 use Rattle.network.specs.declared.part.Reaction.TheVariants.{Done, Dropped}
+use Rattle.network.specs.Search.{is_dram_store}
 use Rattle.dram_mts.specs.Lines.{words_of}
 
 abbrev pub is_dram : Node → Bool
 is_dram (Dram bank) = true
 is_dram _ = false
-
-abbrev pub is_load : Body → Bool
-is_load DramLd = true
-is_load _ = false
-
-abbrev pub is_store : Body → Bool
-is_store (DramSt words) = true
-is_store _ = false
 
 -- loads and stores come to a DRAM, and nothing else
 abbrev pub comes_to_dram : Body → Bool
@@ -47,4 +40,4 @@ dram_table lines m = dram_case lines m m.body
 
 -- memory is asked for only by the first store of a line
 abbrev pub needs_memory : map.FinMap nat_cmp (List ℕ) → Message → Bool
-needs_memory lines m = is_store m.body && is_none (map.get lines m.line)
+needs_memory lines m = is_dram_store m.body && is_none (map.get lines m.line)

@@ -91,7 +91,7 @@ fn answer_to(message: &Message, body: Body) -> Message
 }
 
 impl Part for Dram {
-    ghost use Rattle.network.specs.Sent.{sent_by};
+    ghost use Rattle.network.specs.Sends.{sent_by};
     ghost use Rattle.dram_mts.specs.Table.{dram_table, dram_has_case, needs_memory};
 
     ghost has_case = { dram_has_case };
@@ -124,65 +124,5 @@ impl Part for Dram {
             _ => Body::DramLdRep(self.load(message.line)),
         };
         Ok(Reaction::Done(Some(answer_to(message, body))))
-    }
-}
-
-#[cfg(test)]
-mod tests {
-    use super::*;
-    use std::test::Fail;
-
-    // What a part answers, through its table alone.
-    fn delivered<P: Part>(part: &mut P, message: &Message) -> Result<Reaction, PartError>
-        requires { IsTrue (P.has_case part.old message.now) }
-    {
-        let _sends = part.sends(message);
-        part.deliver(message)
-    }
-
-    // Sets a word, stores the line by a message, and loads it by another.
-    #[test]
-    fn answers_with_the_words_stored(rt: HostRuntime) -> Result<(), Fail> {
-        let mut dram = Dram::new(rt.alloc());
-        assert_eq!(rt; dram.load(LineNo(3)), Words::zeros());
-        assert!(rt; dram.set_word(LineNo(3), 2, 9).is_ok());
-        assert_eq!(rt; dram.load(LineNo(3)).get(2), 9);
-        let mut words = Words::zeros();
-        words.set(7, 5);
-        let store = Message {
-            from: Node::Bank(1),
-            to: Node::Dram(1),
-            line: LineNo(3),
-            body: Body::DramSt(words),
-        };
-        let answer = Message {
-            from: Node::Dram(1),
-            to: Node::Bank(1),
-            line: LineNo(3),
-            body: Body::DramStRep,
-        };
-        assert_eq!(rt; dram.sends(&store), Some((Node::Bank(1), false)));
-        assert_eq!(rt;
-            delivered(&mut dram, &store),
-            Ok(Reaction::Done(Some(answer)))
-        );
-        let load = Message {
-            from: Node::Bank(1),
-            to: Node::Dram(1),
-            line: LineNo(3),
-            body: Body::DramLd,
-        };
-        let loaded = Message {
-            from: Node::Dram(1),
-            to: Node::Bank(1),
-            line: LineNo(3),
-            body: Body::DramLdRep(words),
-        };
-        assert_eq!(rt; dram.deliver(&load), Ok(Reaction::Done(Some(loaded))));
-        assert!(rt; dram.store(LineNo(4), words).is_ok());
-        assert_eq!(rt; dram.load(LineNo(4)).get(7), 5);
-        assert_eq!(rt; dram.load(LineNo(4)).get(2), 0);
-        assert_eq!(rt; dram.load(LineNo(5)), Words::zeros());
-        Ok(())
     }
 }

@@ -41,16 +41,3 @@ impl MemoryTime {
         self.time
     }
 }
-
-#[cfg(test)]
-mod tests {
-    use super::*;
-
-    #[test]
-    fn never_falls(rt: HostRuntime) {
-        let mut time = MemoryTime::new(4);
-        time.raise(9);
-        time.raise(7);
-        assert_eq!(rt; time.now(), 9);
-    }
-}

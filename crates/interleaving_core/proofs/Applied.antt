@@ -7,7 +7,7 @@ use Rattle.std.specs.Ordering.{nat_cmp}
 use Rattle.std.specs.FinMap.{FinMap}
 use Rattle.physiological_order.specs.declared.operation.Record.{Record}
 use Rattle.network.specs.Mail.{Mail, has_capacity, has_number, taken}
-use Rattle.network.specs.Numbered.{at_number}
+use Rattle.network.specs.NumberedMessages.{at_number}
 use Rattle.network.proofs.Lemmas.{length-without_number}
 use Rattle.core_pts.specs.CoreTable.{CoreState}
 use Rattle.llc_bank.specs.BankTable.{BankState}
@@ -17,8 +17,8 @@ use Rattle.machine_table.specs.declared.event.Refusal.TheVariants as refusal
 use Rattle.machine_table.specs.Machine.{Machine}
 use Rattle.machine_table.specs.Change.{Change, Keeps, Exhausts, Drops, Makes, Completes}
 use Rattle.machine_table.specs.Transition.{changed}
-use Rattle.interleaving_core.specs.Applied.{applied, stops, with_record}
-use Rattle.interleaving_core.specs.Stepped.{TakesMemory}
+use Rattle.interleaving_core.specs.PartChanges.{applied, stops, with_record}
+use Rattle.interleaving_core.specs.StepAnswers.{TakesMemory}
 use Rattle.interleaving_core.proofs.Only.{Only}
 
 -- a list in which what is there is put where it is
@@ -140,8 +140,8 @@ module _ {S : Type 0} (m : Machine) (cores : S → List CoreState) (banks : S �
       inr (subst (λ (x : Answer × Machine). m.mail.next < x.1.mail.next) (is_changed made completed change only)
       sends)
 
-  -- an event of the part: what the table makes of the machine is the change, of messages of this capacity. The machine is
-  -- seen as a model.
+  -- an event of the part: what the table makes of the machine is the change, of messages of this capacity. The
+  -- machine is seen as a model.
   module _ (made : S → Type 0) (change : ℕ → Change S) (only : Only made (λ x. ⊥) (change m.config.messages))
       (capacity : ℕ) (same_capacity : capacity ≡ m.config.messages)
       (seen : Machine) (is_view : m ≡ seen) (event : Machine → Answer × Machine)

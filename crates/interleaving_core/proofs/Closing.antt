@@ -14,7 +14,7 @@ use Rattle.core_pts.specs.CoreTable as core_table
 use Rattle.core_pts.specs.CoreTable.{CoreState, attempt, attempt_on, attempt_unserved, completed_at, line_of, need}
 use Rattle.machine_table.specs.Change as change
 use Rattle.machine_table.specs.Change.{attempt_open, attempted_op, requests}
-use Rattle.interleaving_core.specs.Applied.{applied}
+use Rattle.interleaving_core.specs.PartChanges.{applied}
 
 -- either no completion, or the operation is closed
 abbrev pub Closes : Option Attempt × CoreState → Type 0

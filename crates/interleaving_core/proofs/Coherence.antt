@@ -1,6 +1,6 @@
 -- What a step of the machine in memory keeps.
 use Rattle.std.proofs.Common.{◌≡◌, ◌≢◌, inl, inr, ℕ, IsSome, sym, ap, ◌∙◌, subst}
-use Rattle.network.specs.Numbered.{at_number}
+use Rattle.network.specs.NumberedMessages.{at_number}
 use Rattle.machine_table.specs.declared.event.Event.{Event}
 use Rattle.machine_table.specs.declared.event.Event.TheVariants.{Deliver}
 use Rattle.machine_table.specs.declared.event.Answer.{Answer}
@@ -12,7 +12,7 @@ use Rattle.machine_table.specs.SetUp.{SetUpAs}
 use Rattle.machine_theorem.specs.Kept.{Invariant}
 use Rattle.machine_theorem.proofs.Lemmas.{any_transition, delivery_found, messages_find_cases, set_up_same}
 use Rattle.machine_theorem.proofs.Lemmas.{transition_same}
-use Rattle.interleaving_core.specs.Stepped.{Stepped}
+use Rattle.interleaving_core.specs.StepAnswers.{Stepped}
 use Rattle.interleaving_core.proofs.Applied.{had}
 
 pub step_invariant : (m : Machine) (event : Event) (answer : Answer) (after : Machine) → Invariant m →

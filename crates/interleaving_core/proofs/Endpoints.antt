@@ -14,9 +14,9 @@ use Rattle.network.specs.declared.message.Body.TheVariants.{FlushRep}
 use Rattle.network.specs.declared.part.Reaction.{Reaction}
 use Rattle.network.specs.declared.part.Reaction.TheVariants.{Done, Dropped, Held, HeldAfter}
 use Rattle.network.specs.Flight.{Flight}
-use Rattle.network.specs.Numbered.{at_number}
+use Rattle.network.specs.NumberedMessages.{at_number}
 use Rattle.network.specs.Routes.{has_endpoints}
-use Rattle.network.specs.Sent.{sent_by}
+use Rattle.network.specs.Sends.{sent_by}
 use Rattle.private_cache.specs.declared.cache.CacheError.TheVariants.{Pinned}
 use Rattle.private_cache.specs.declared.line_copy.LineCopy.{LineCopy}
 use Rattle.private_cache.specs.CopyTable.{copy_of, without_copy, is_pinned, evicted as left_cache}
@@ -41,7 +41,7 @@ use Rattle.machine_theorem.specs.Shape.{GoesHome, IsOwnedBelow, IsWhole}
 use Rattle.machine_theorem.specs.Kept.{Invariant}
 use Rattle.machine_theorem.proofs.Lemmas.{each_at_number, messages_find_cases, both, core_and_bank, any_core_delivery}
 use Rattle.machine_theorem.proofs.Lemmas.{any_bank_delivery, any_dram_delivery}
-use Rattle.interleaving_core.specs.Reserved.{IsFitted, owed}
+use Rattle.interleaving_core.specs.Reservation.{IsFitted, owed}
 use Rattle.interleaving_core.specs.Endpoints.{BackHasEndpoints, EvictedHasEndpoints, ReactionHasEndpoints}
 
 each_last : {X : Type 0} (P : X → Type 0) (xs : List X) (x : X) → Each P (xs ++ x ∷ []) → P x

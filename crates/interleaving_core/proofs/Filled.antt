@@ -7,7 +7,7 @@ use Rattle.std.proofs.lemmas.Bool.{eq-eqb, ne_eqb, cond-true, cond-false}
 use Rattle.std.proofs.Math.Nat.{mod-lt}
 use Rattle.machine_table.specs.declared.config.Config.{Config}
 use Rattle.machine_table.specs.Opening.{with_word, dram_of, drams_from}
-use Rattle.interleaving_core.specs.Filling.{word_set}
+use Rattle.interleaving_core.specs.OpeningWords.{word_set}
 
 abbrev Drams : Type 0
 Drams = List (FinMap nat_cmp (List ℕ))

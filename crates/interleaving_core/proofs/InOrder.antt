@@ -13,8 +13,8 @@ use Rattle.machine_table.specs.declared.event.Refusal.TheVariants.{NoMemory, Exh
 use Rattle.machine_table.specs.Machine.{Machine}
 use Rattle.machine_table.specs.Answered.{Answered, RefusedSo}
 use Rattle.machine_table.proofs.Lemmas.{every_answer}
-use Rattle.interleaving_core.specs.InOrder.{AreNumbered}
-use Rattle.interleaving_core.specs.Stepped.{Stepped}
+use Rattle.interleaving_core.specs.RecordOrder.{AreNumbered}
+use Rattle.interleaving_core.specs.StepAnswers.{Stepped}
 
 -- one more with the next number
 one_more : (k : ℕ) (rs : List Record) (r : Record) → r.number ≡ k + length rs → AreNumbered k rs →

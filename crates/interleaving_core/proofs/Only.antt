@@ -22,7 +22,7 @@ use Rattle.core_pts.specs.declared.decision.CoreReaction.{CoreReaction}
 use Rattle.core_pts.specs.declared.decision.CoreReaction.TheVariants.{Arrives, Grants, Returns, Drops as DropsThere}
 use Rattle.core_pts.specs.declared.decision.CoreReaction.TheVariants.{Holds, TooLate, NoCase}
 use Rattle.core_pts.specs.CoreTable as core_table
-use Rattle.core_pts.specs.CoreTable.{CoreState, core_table, is_on, pinned_line, sent_back, to_bank}
+use Rattle.core_pts.specs.CoreTable.{CoreState, core_table, pinned_line, sent_back, to_bank}
 use Rattle.llc_bank.specs.declared.decision.Decision.{Decision}
 use Rattle.llc_bank.specs.declared.decision.Decision.TheVariants as decision
 use Rattle.llc_bank.specs.declared.decision.Eviction.{Eviction}
@@ -36,8 +36,8 @@ use Rattle.machine_table.specs.declared.event.Answer.TheVariants as answer
 use Rattle.machine_table.specs.declared.event.Refusal.TheVariants as refusal
 use Rattle.machine_table.specs.Change.{Change, Keeps, Exhausts, Drops, Makes, Completes, attempt, attempt_open}
 use Rattle.machine_table.specs.Change.{attempted_op, reacted, copy_evicted, entry_evicted, advanced}
-use Rattle.interleaving_core.specs.Applied.{IsQuiet, applied, stops, with_record}
-use Rattle.interleaving_core.specs.Reserved.{owed_for}
+use Rattle.interleaving_core.specs.PartChanges.{IsQuiet, applied, stops, with_record}
+use Rattle.interleaving_core.specs.Reservation.{owed_for}
 use Rattle.interleaving_core.proofs.Closing.{Closes, attempt_closes}
 
 -- an answer that adds no record and doesn't stop the machine
@@ -149,7 +149,8 @@ module _ (core : CoreState) where
   -- a message reaches the core
   module _ (message : Message) where
     pub core_quiet : IsQuiet core (core_table core message)
-    core_quiet = quiet (at_core core.lease (is_on (pinned_line core) message.line) (copy_of core.cache message.line)
+    core_quiet = quiet (at_core core.lease (is_pinned (pinned_line core) message.line) (copy_of core.cache
+        message.line)
         message.body)
       where
         quiet : (r : CoreReaction) → IsQuiet core (core_table.after_reaction core message.line r)
@@ -163,7 +164,7 @@ module _ (core : CoreState) where
 
     pub core_only : (capacity : ℕ) (mail : Mail) (n : ℕ) → Only SameOpen (λ after. ⊥)
         (reacted capacity mail n (core_table core message))
-    core_only capacity mail n = by_reaction (at_core core.lease (is_on (pinned_line core) message.line)
+    core_only capacity mail n = by_reaction (at_core core.lease (is_pinned (pinned_line core) message.line)
         (copy_of core.cache message.line) message.body)
       where
         by_reaction : (r : CoreReaction) → Only SameOpen (λ after. ⊥)

@@ -6,7 +6,7 @@ use Rattle.physiological_order.specs.declared.operation.Op.{Op}
 use Rattle.core_pts.specs.CoreTable.{CoreState}
 use Rattle.machine_table.specs.declared.config.Config.{Config}
 use Rattle.machine_table.specs.Opening.{cores_from}
-use Rattle.interleaving_core.specs.Reserved.{owed_for, owed}
+use Rattle.interleaving_core.specs.Reservation.{owed_for, owed}
 
 -- where a core changes, its open operation counts anew
 pub owed_set : (cores : List CoreState) (c : ℕ) (old new : CoreState) → slice_get cores c ≡ Some old →

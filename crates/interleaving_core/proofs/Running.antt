@@ -4,7 +4,7 @@ use Rattle.machine_table.specs.Machine.{Machine}
 use Rattle.machine_table.specs.declared.event.Event.{Event}
 use Rattle.machine_table.specs.declared.event.Answer.{Answer}
 use Rattle.machine_table.specs.SetUp.{SetUpAs}
-use Rattle.interleaving_core.specs.Stepped.{Ran, Stepped}
+use Rattle.interleaving_core.specs.StepAnswers.{Ran, Stepped}
 
 pub ran_more : (es : List Event) (answers : List Answer) (old mid new : Machine) (e : Event) (a : Answer) →
     Ran old es answers mid → Stepped mid e a new → Ran old (es ++ e ∷ []) (answers ++ a ∷ []) new

@@ -1,8 +1,10 @@
 -- What a list of events issues and sends.
-use Rattle.std.proofs.Common.{◌≡◌, inl, inr, ℕ, ◌+◌, ◌++◌, get_or, Bool, cond, List, [], ◌∷◌, refl, sym, ap, ◌∙◌}
+use Rattle.std.proofs.Common.{◌≡◌, inl, inr, ℕ, ◌+◌, ◌++◌, get_or, replicate, length, Bool, cond, List, [], ◌∷◌}
+use Rattle.std.proofs.Common.{refl, sym, ap, ◌∙◌}
 use Rattle.std.proofs.Common.{subst, arith}
-use Rattle.std.proofs.lemmas.Bool.{le-ltb, lt-ltb}
-use Rattle.std.proofs.lemmas.List.{append-nil, append_assoc}
+use Rattle.std.proofs.lemmas.Bool.{cases_lt, le-ltb, lt-ltb}
+use Rattle.std.proofs.lemmas.List.{append-nil, append_assoc, get_or-replicate, get_or_past, length-replicate}
+use Rattle.physiological_order.specs.declared.operation.Op.{Op}
 use Rattle.network.specs.declared.counts.Counts.{Counts}
 use Rattle.network.specs.declared.message.Body.{Body}
 use Rattle.network.specs.declared.message.Body.TheVariants.{RenewRep, UpgradeRep, FlushRep, WbRep}
@@ -12,12 +14,25 @@ use Rattle.machine_table.specs.declared.event.Event.{Event}
 use Rattle.machine_table.specs.declared.event.Answer.{Answer}
 use Rattle.machine_table.specs.Machine.{Machine}
 use Rattle.machine_theorem.specs.Kept.{Invariant}
-use Rattle.interleaving_core.specs.Issuing.{issued_by, issued_in}
-use Rattle.interleaving_core.specs.Sending.{last_of, newly_sent, all_sent, AreNext, AreCounted, how_many, is_renewal}
-use Rattle.interleaving_core.specs.Sending.{is_upgrade, is_flush, is_write_back}
-use Rattle.interleaving_core.specs.Stepped.{Ran}
+use Rattle.interleaving_core.specs.IssuedOps.{issued_by, issued_in}
+use Rattle.interleaving_core.specs.SentMessages.{last_of, newly_sent, all_sent, AreNext, AreCounted, how_many}
+use Rattle.interleaving_core.specs.SentMessages.{is_renewal}
+use Rattle.interleaving_core.specs.SentMessages.{is_upgrade, is_flush, is_write_back}
+use Rattle.interleaving_core.specs.StepAnswers.{Ran}
 use Rattle.interleaving_core.proofs.Coherence.{step_invariant}
 use Rattle.interleaving_core.proofs.Told.{SendsOne, step_told}
+
+abbrev no_ops : List Op
+no_ops = []
+
+-- of lists that are all empty each is, also one past the last
+pub none_at : (n i : ℕ) → get_or (replicate n no_ops) i no_ops ≡ no_ops
+none_at n i =
+    let count : length (replicate n no_ops) ≡ n = length-replicate n no_ops in
+    elim (cases_lt i n) [
+      | inl below ↦ get_or-replicate n i no_ops no_ops below
+      | inr past ↦ get_or_past (replicate n no_ops) i no_ops (omega arith)
+    ]
 
 pub run_issues : (events : List Event) (answers : List Answer) (m after : Machine) → Invariant m →
     Ran m events answers after → (core : ℕ) →

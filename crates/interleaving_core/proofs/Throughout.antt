@@ -1,14 +1,15 @@
 -- After each beginning of a run the invariant holds.
-use Rattle.std.proofs.Common.{ℕ, zero, suc, List, [], ◌∷◌, take, drop, refl}
+use Rattle.std.proofs.Common.{ℕ, zero, suc, List, [], ◌∷◌, take, drop, refl, sym, subst}
 use Rattle.machine_table.specs.declared.event.Event.{Event}
 use Rattle.machine_table.specs.declared.event.Answer.{Answer}
 use Rattle.machine_table.specs.Machine.{Machine}
 use Rattle.machine_table.specs.SetUp.{SetUpAs}
 use Rattle.machine_theorem.specs.Kept.{Invariant}
 use Rattle.machine_theorem.proofs.Lemmas.{legal_now, one_owner, value_left, set_up_same}
-use Rattle.interleaving_core.specs.Stepped.{Ran}
+use Rattle.interleaving_core.specs.StepAnswers.{Ran}
 use Rattle.interleaving_core.specs.Midway.{IsMidway}
 use Rattle.interleaving_core.proofs.Running.{set_up_on}
+use Rattle.interleaving_core.proofs.Runs.{run_issues, run_sends}
 use Rattle.interleaving_core.proofs.Coherence.{step_set_up, step_invariant}
 
 -- the machine after the first k events
@@ -50,4 +51,15 @@ throughout m after events answers invariant ran k =
       legal = legal_now r.mid r.invariant;
       one_owner = one_owner r.mid r.invariant;
       coherent = value_left r.mid r.invariant;
+      issued = run_issues (take k events) (take k answers) m r.mid invariant r.before;
+      counted = (run_sends (take k events) (take k answers) m r.mid r.before).counts;
     }
+
+-- after a whole list of events
+pub ran_invariant : (events : List Event) (answers : List Answer) (m after : Machine) → Invariant m →
+    Ran m events answers after → Invariant after
+ran_invariant [] [] m after invariant ran = subst Invariant (sym ran) invariant
+ran_invariant (event ∷ events) (answer ∷ answers) m after invariant (next, step, rest) =
+    ran_invariant events answers next after (step_invariant m event answer next invariant step) rest
+ran_invariant [] (answer ∷ answers) m after invariant never = absurd never
+ran_invariant (event ∷ events) [] m after invariant never = absurd never

@@ -14,7 +14,7 @@ use Rattle.network.specs.declared.message.Node.TheVariants as node
 use Rattle.network.specs.declared.message.Message.{Message}
 use Rattle.network.specs.declared.part.Reaction.{Reaction}
 use Rattle.network.specs.declared.part.Reaction.TheVariants.{Done, Dropped, Held, HeldAfter}
-use Rattle.network.specs.Numbered.{at_number}
+use Rattle.network.specs.NumberedMessages.{at_number}
 use Rattle.network.specs.Mail.{Mail, has_capacity, has_number, sent, taken}
 use Rattle.private_cache.specs.declared.cache.CacheError.{CacheError}
 use Rattle.private_cache.specs.declared.cache.CacheError.TheVariants.{NoRoom, NotHere, Pinned}
@@ -44,8 +44,8 @@ use Rattle.machine_table.specs.Change.{reacted, copy_evicted, entry_evicted, adv
 use Rattle.machine_table.specs.Transition.{refused, changed, issued, issue_at, attempt_at, deliver_core, deliver_bank}
 use Rattle.machine_table.specs.Transition.{deliver_dram, deliver_to, deliver_message, evict_copy, evict_entry}
 use Rattle.machine_table.specs.Transition.{advance_at, on_event, transition}
-use Rattle.interleaving_core.specs.Issuing.{issued_by}
-use Rattle.interleaving_core.specs.Stepped.{Stepped}
+use Rattle.interleaving_core.specs.IssuedOps.{issued_by}
+use Rattle.interleaving_core.specs.StepAnswers.{Stepped}
 
 -- no message is sent, or one, perhaps after one was taken
 abbrev pub SendsOne : Mail → Mail → Type 0

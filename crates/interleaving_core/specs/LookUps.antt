@@ -8,7 +8,7 @@ use Rattle.network.specs.declared.message.Body.TheVariants.{ShReq, ExReq}
 use Rattle.network.specs.declared.message.Message.{Message}
 use Rattle.network.specs.declared.message.Node.{Node}
 use Rattle.network.specs.declared.message.Node.TheVariants.{Bank}
-use Rattle.network.specs.Numbered.{at_number}
+use Rattle.network.specs.NumberedMessages.{at_number}
 use Rattle.private_cache.specs.CopyTable.{victim_for}
 use Rattle.core_pts.specs.CoreTable.{CoreState}
 use Rattle.llc_bank.specs.BankTable as bank_table

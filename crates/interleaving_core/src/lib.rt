@@ -1,5 +1,5 @@
-//! The machine: any list of events, answered one by one as the machine's table says, under the theorem. docs/PROTOCOL.md
-//! has the order of refusals.
+//! The machine: any list of events, answered one by one as the machine's table says, under the theorem.
+//! docs/PROTOCOL.md has the order of refusals.
 #![tactic(auto)]
 
 pub mod laws;

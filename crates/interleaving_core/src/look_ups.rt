@@ -1,7 +1,7 @@
 //! What is looked up in a machine.
 ghost use Rattle.std.specs.Prelude.{◌≡◌, IfOk, IsPermutation, IsSorted, map};
 ghost use Rattle.std.specs.Ordering.{nat_cmp};
-ghost use Rattle.network.specs.Numbered.{IsRising};
+ghost use Rattle.network.specs.NumberedMessages.{IsRising};
 ghost use Rattle.interleaving_core.specs.LookUps.{copies, entries, is_request, make_room, open_op, room_at, victim};
 
 use crate::machine_state::MachineState;

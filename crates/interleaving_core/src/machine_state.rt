@@ -30,7 +30,7 @@ impl Model for MachineState {
     ghost use Rattle.std.specs.FinMap as map;
     ghost use Rattle.std.specs.Ordering.{nat_cmp};
     ghost use Rattle.machine_table.specs.Machine.{Machine};
-    ghost use Rattle.interleaving_core.specs.Reserved.{IsFitted};
+    ghost use Rattle.interleaving_core.specs.Reservation.{IsFitted};
 
     ghost Value = { Machine };
 

@@ -4,7 +4,7 @@ ghost use Rattle.std.specs.FinMap.{empty, entries};
 ghost use Rattle.machine_table.specs.SetUp.{is_good};
 ghost use Rattle.machine_table.specs.Opening.{at_start, bank_config, banks_from, core_config, cores_from, drams_from};
 ghost use Rattle.machine_table.specs.Opening.{geometry};
-ghost use Rattle.interleaving_core.specs.Filling.{word_set};
+ghost use Rattle.interleaving_core.specs.OpeningWords.{word_set};
 
 use crate::machine_state::MachineState;
 use crate::op_list::OpList;

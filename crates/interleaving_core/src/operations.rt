@@ -1,14 +1,14 @@
 //! Events of one core or one bank: what they make of it and of the messages in flight.
 ghost use Rattle.std.specs.Prelude.{◌≡◌, ◌<◌, ◌+◌, ◌++◌, ◌∷◌, [], false, true, IfOk, IsOk, IsTrue, OnErr, length};
 ghost use Rattle.std.specs.Prelude.{Some, vec_capacity};
-ghost use Rattle.core_pts.specs.CoreTable.{advance, evict, is_on, pinned_line};
+ghost use Rattle.core_pts.specs.CoreTable.{advance, evict};
 ghost use Rattle.network.specs.Mail.{Mail};
 ghost use Rattle.llc_bank.specs.BankTable as bank_table;
 ghost use Rattle.interleaving_core.specs.LookUps.{is_request};
 ghost use Rattle.machine_table.specs.Change.{advanced, attempt, copy_evicted, entry_evicted, requests};
-ghost use Rattle.interleaving_core.specs.Applied.{applied};
+ghost use Rattle.interleaving_core.specs.PartChanges.{applied};
 ghost use Rattle.interleaving_core.specs.Endpoints.{BackHasEndpoints, EvictedHasEndpoints, is_sent_back};
-ghost use Rattle.interleaving_core.specs.Reserved.{completes};
+ghost use Rattle.interleaving_core.specs.Reservation.{completes};
 
 use crate::reactions::send;
 use core_pts::{Attempt, Core, nothing_completed_keeps};
@@ -20,8 +20,8 @@ use private_cache::{CacheError, CopyState};
 use std::alloc::AllocError;
 use timestamp_manager::Exhausted;
 
-/// A core of this number attempts its open operation, where so many operations were completed before. A completion takes
-/// no memory.
+/// A core of this number attempts its open operation, where so many operations were completed before. A completion
+/// takes no memory.
 pub(crate) fn attempt(
     core: &mut Core,
     flight: &mut InFlight,
@@ -207,15 +207,5 @@ fn sends_back(core: &Core, line: LineNo) -> bool
     let Some(copy) = core.copy(line) else {
         return false;
     };
-    matches!(copy.state, CopyState::Exclusive) && !is_pinned(core, line)
-}
-
-// Whether the open operation is on a line.
-fn is_pinned(core: &Core, line: LineNo) -> bool
-    ensures { result ≡ is_on (pinned_line core.now) line }
-{
-    match core.open_op() {
-        Some((op, _)) => core.line_of(op) == line,
-        None => false,
-    }
+    matches!(copy.state, CopyState::Exclusive) && !core.is_pinned(line)
 }

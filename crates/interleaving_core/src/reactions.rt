@@ -1,11 +1,11 @@
 //! A message in flight is handed to the part that it goes to.
 ghost use Rattle.std.specs.Prelude.{◌≡◌, ◌<◌, ◌≤◌, IfOk, IsSome, IsTrue, OnErr, Some};
 ghost use Rattle.network.specs.Mail.{answered, has_capacity, has_number, sent, taken};
-ghost use Rattle.network.specs.Numbered.{at_number};
+ghost use Rattle.network.specs.NumberedMessages.{at_number};
 ghost use Rattle.network.specs.Routes.{has_endpoints};
-ghost use Rattle.network.specs.Sent.{sent_by, sent_in};
+ghost use Rattle.network.specs.Sends.{sent_by, sent_in};
 ghost use Rattle.machine_table.specs.Change.{can_send, reacted};
-ghost use Rattle.interleaving_core.specs.Applied.{IsQuiet, applied, settled};
+ghost use Rattle.interleaving_core.specs.PartChanges.{IsQuiet, applied, settled};
 ghost use Rattle.interleaving_core.specs.Endpoints.{ReactionHasEndpoints, SendsWithEndpoints};
 
 use machine_table::{Answer, Refusal};

@@ -1,6 +1,6 @@
 //! What an answer leaves in the machine: the record of a completion, and the stop of exhausted times.
 ghost use Rattle.std.specs.Prelude.{◌≡◌, ◌+◌, ◌≤◌, ◌||◌, length, OnOk, vec_capacity};
-ghost use Rattle.interleaving_core.specs.Applied.{stops, with_record};
+ghost use Rattle.interleaving_core.specs.PartChanges.{stops, with_record};
 
 use machine_table::{Answer, Refusal};
 use physiological_order::{Op, Record};

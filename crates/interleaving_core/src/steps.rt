@@ -1,11 +1,11 @@
 //! One event of the machine.
 ghost use Rattle.std.specs.Prelude.{◌≡◌, ◌≢◌, ℕ, IfOk, IfSome, IsOk, IsTrue, OnErr, Some, slice_get};
-ghost use Rattle.network.specs.Numbered.{at_number};
+ghost use Rattle.network.specs.NumberedMessages.{at_number};
 ghost use Rattle.machine_table.specs.Transition.{advance_at, attempt_at, deliver_core, deliver_bank, deliver_dram};
 ghost use Rattle.machine_table.specs.Transition.{deliver_message, evict_copy, evict_entry, issue_at, transition};
 ghost use Rattle.machine_theorem.specs.Kept.{Invariant};
-ghost use Rattle.interleaving_core.specs.Reserved.{completes};
-ghost use Rattle.interleaving_core.specs.Stepped.{Stepped, TakesMemory};
+ghost use Rattle.interleaving_core.specs.Reservation.{completes};
+ghost use Rattle.interleaving_core.specs.StepAnswers.{Stepped, TakesMemory};
 
 use crate::machine_state::MachineState;
 use crate::operations;
@@ -147,7 +147,8 @@ impl MachineState {
         ensures done { IfOk result (λ answer. (answer, self.new) ≡ deliver_core self.old number
             message.now core (slice_get self.old.cores core)) }
         ensures refused { OnErr result (self.new ≡ self.old) }
-        ensures wanted { OnErr result (TakesMemory self.old (deliver_core self.old number message.now core
+        ensures wanted { OnErr result (TakesMemory self.old (deliver_core self.old number
+            message.now core
             (slice_get self.old.cores core))) }
     {
         let at = core as usize;
@@ -172,7 +173,8 @@ impl MachineState {
         ensures done { IfOk result (λ answer. (answer, self.new) ≡ deliver_bank self.old number
             message.now bank (slice_get self.old.banks bank)) }
         ensures refused { OnErr result (self.new ≡ self.old) }
-        ensures wanted { OnErr result (TakesMemory self.old (deliver_bank self.old number message.now bank
+        ensures wanted { OnErr result (TakesMemory self.old (deliver_bank self.old number
+            message.now bank
             (slice_get self.old.banks bank))) }
     {
         let at = bank as usize;
@@ -197,7 +199,8 @@ impl MachineState {
         ensures done { IfOk result (λ answer. (answer, self.new) ≡ deliver_dram self.old number
             message.now bank (slice_get self.old.drams bank)) }
         ensures refused { OnErr result (self.new ≡ self.old) }
-        ensures wanted { OnErr result (TakesMemory self.old (deliver_dram self.old number message.now bank
+        ensures wanted { OnErr result (TakesMemory self.old (deliver_dram self.old number
+            message.now bank
             (slice_get self.old.drams bank))) }
     {
         let at = bank as usize;

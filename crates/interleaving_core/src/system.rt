@@ -6,7 +6,7 @@ ghost use Rattle.std.specs.Ordering.{nat_cmp};
 ghost use Rattle.physiological_order.specs.Order.{flat, Legal, Arrangement, of_core, replay_end};
 ghost use Rattle.physiological_order.specs.StaleHits.{RisesByNumber};
 ghost use Rattle.physiological_order.specs.declared.operation.Record.{Record};
-ghost use Rattle.network.specs.Numbered.{IsRising, at_number};
+ghost use Rattle.network.specs.NumberedMessages.{IsRising, at_number};
 ghost use Rattle.machine_table.specs.SetUp.{SetUpAs, is_good};
 ghost use Rattle.machine_table.specs.Machine.{operation_of};
 ghost use Rattle.machine_table.specs.Opening.{at_start};
@@ -14,9 +14,9 @@ ghost use Rattle.protocol.specs.Issued.{IsIssued};
 ghost use Rattle.machine_theorem.specs.Coherence.{owners, coherent};
 ghost use Rattle.machine_theorem.specs.Kept.{Invariant};
 ghost use Rattle.interleaving_core.specs.LookUps.{copies, entries, make_room, open_op, victim};
-ghost use Rattle.interleaving_core.specs.Reserved.{completes};
+ghost use Rattle.interleaving_core.specs.Reservation.{completes};
 ghost use Rattle.interleaving_core.specs.Midway.{IsMidway};
-ghost use Rattle.interleaving_core.specs.Stepped.{Stepped, Ran};
+ghost use Rattle.interleaving_core.specs.StepAnswers.{Stepped, Ran};
 ghost use Rattle.interleaving_core.specs.OpenNumbers.{number_of};
 
 use crate::machine_state::MachineState;
@@ -47,8 +47,9 @@ impl OpenError {
     }
 }
 
-/// A machine: its cores, its banks, the DRAM behind each bank and the messages in flight. Contracts see it as data. It is
-/// always one that the protocol reaches from an opening: what `records`, `owners` and `coherent` say holds at every point.
+/// A machine: its cores, its banks, the DRAM behind each bank and the messages in flight. Contracts see it as data.
+/// It is always one that the protocol reaches from an opening: what `records`, `owners` and `coherent` say holds at
+/// every point.
 #[derive(Drop)]
 pub struct System {
     state: MachineState,
@@ -61,7 +62,7 @@ impl Model for System {
     ghost use Rattle.machine_table.specs.Machine.{Machine};
     ghost use Rattle.machine_table.specs.SetUp.{is_good};
     ghost use Rattle.machine_theorem.specs.Kept.{Invariant};
-    ghost use Rattle.interleaving_core.specs.InOrder.{AreNumbered};
+    ghost use Rattle.interleaving_core.specs.RecordOrder.{AreNumbered};
     ghost use Rattle.std.specs.Prelude.{◌≡◌, true};
 
     ghost Value = { Machine };
@@ -76,8 +77,8 @@ impl Model for System {
 }
 
 impl System {
-    /// A machine that is set up so, with this memory. BadConfig exactly where a value of the configuration is out of its
-    /// range; where the machine is refused the memory is given up.
+    /// A machine that is set up so, with this memory. BadConfig exactly where a value of the configuration is out of
+    /// its range; where the machine is refused the memory is given up.
     pub fn new(alloc: Global, config: Config, memory: Memory) -> Result<System, OpenError>
         ensures opened { IfOk result (λ system. system ≡ at_start config memory) }
         ensures bad { is_good config ≡ false → IfErr result (λ e. e ≡ OpenError.BadConfig) }
@@ -92,10 +93,10 @@ impl System {
         }
     }
 
-    /// One event. The answer and the machine afterwards are those of the machine's table; or allocation failed, the answer
-    /// is NoMemory, and the machine is unchanged. That comes only if the table issues an operation or sends a message:
-    /// nothing else takes memory. A message in flight always finds its part, with a case for it: its delivery is never
-    /// answered NoSuch.
+    /// One event. The answer and the machine afterwards are those of the machine's table; or allocation failed, the
+    /// answer is NoMemory, and the machine is unchanged. That comes only if the table issues an operation or sends a
+    /// message: nothing else takes memory. A message in flight always finds its part, with a case for it: its
+    /// delivery is never answered NoSuch.
     pub fn step(&mut self, event: Event) -> Answer
         ensures stepped { Stepped self.old event result self.new }
         ensures set_up { SetUpAs self.old self.new }
@@ -104,15 +105,17 @@ impl System {
         ensures completed { (core : ℕ) → event ≡ Event.Attempt core →
             IfSome (slice_get self.old.cores core) (λ c. IsTrue (completes c) →
             result ≢ Answer.Refused Refusal.NoMemory) }
-        ensures found { (number : ℕ) → event ≡ Event.Deliver number → IsSome (at_number number self.old.mail.messages) →
+        ensures found { (number : ℕ) → event ≡ Event.Deliver number → IsSome (at_number number
+            self.old.mail.messages) →
             result ≢ Answer.Refused Refusal.NoSuch }
     {
         self.state.step(event)
     }
 
-    /// A list of events, one after the other, with their answers. After each beginning of the list the records are a legal
-    /// history, a line has at most one owner, and each word's coherent value is what the records leave. Memory for all
-    /// answers is reserved first: if that fails nothing happened.
+    /// A list of events, one after the other, with their answers. After each beginning of the list the records are a
+    /// legal history, a line has at most one owner, and each word's coherent value is what the records leave; each
+    /// core was issued the operations of its Issue events that were answered Issued, in order, and the counts rose by
+    /// the messages that were sent. Memory for all answers is reserved first: if that fails nothing happened.
     pub fn run(&mut self, events: &[Event]) -> Result<Vec<Answer>, AllocError>
         ensures ran { IfOk result (λ answers. Ran self.old events.now answers.items self.new) }
         ensures throughout { IfOk result (λ answers. (k : ℕ) → IsMidway self.old events.now
@@ -144,8 +147,9 @@ impl System {
         self.state.config.line_words
     }
 
-    /// The records of the completed operations by number. They are a legal history of the opening memory and of what the
-    /// cores were issued. Each core was issued the operations of its records, in their order, and then its open one.
+    /// The records of the completed operations by number. They are a legal history of the opening memory and of what
+    /// the cores were issued. Each core was issued the operations of its records, in their order, and then its open
+    /// one.
     pub fn records(&self) -> &[Record]
         ensures records { result.now ≡ self.now.records }
         ensures legal { Legal (flat self.now.opening) (λ core. slice_index_or self.now.issued
@@ -167,9 +171,9 @@ impl System {
         }
     }
 
-    /// A word's value where its line now stands: with the line's owner, or with its ownership in flight, or else in the bank,
-    /// or else in a store on its way to DRAM, or else in DRAM. It is the value that the records leave, one after the
-    /// other in the order of their times, on the opening memory.
+    /// A word's value where its line now stands: with the line's owner, or with its ownership in flight, or else in
+    /// the bank, or else in a store on its way to DRAM, or else in DRAM. It is the value that the records leave, one
+    /// after the other in the order of their times, on the opening memory.
     pub fn coherent(&self, addr: WordAddr) -> u64
         ensures value { result ≡ coherent self.now addr }
         ensures left { (arranged : List Record) → Arrangement self.now.records arranged →
@@ -207,17 +211,17 @@ impl System {
         self.state.open_op(core)
     }
 
-    /// The copy to evict from a core's cache to make a place for a line, where there is none: the least recently used one
-    /// of the line's set.
+    /// The copy to evict from a core's cache to make a place for a line, where there is none: the least recently used
+    /// one of the line's set.
     pub fn victim(&self, core: u32, line: LineNo) -> Option<LineNo>
         ensures { result ≡ victim self.now core line }
     {
         self.state.victim(core, line)
     }
 
-    /// The bank and the line to evict from it so that this message, a request that is held for want of room, finds room:
-    /// the least recently used line of the set that no core owns, else the least recently used one. None where the bank
-    /// has the line or room for it, and where a line of the set is being loaded, recalled or stored.
+    /// The bank and the line to evict from it so that this message, a request that is held for want of room, finds
+    /// room: the least recently used line of the set that no core owns, else the least recently used one. None where
+    /// the bank has the line or room for it, and where a line of the set is being loaded, recalled or stored.
     pub fn make_room(&self, number: MsgNo) -> Option<(u32, LineNo)>
         ensures { result ≡ make_room self.now number }
     {
@@ -242,7 +246,8 @@ impl System {
 
     /// The numbers of the messages in flight, rising.
     pub fn in_flight(&self) -> Result<Vec<MsgNo>, AllocError>
-        ensures numbers { IfOk result (λ numbers. numbers.items ≡ map (λ m. m.0) self.now.mail.messages) }
+        ensures numbers { IfOk result (λ numbers. numbers.items ≡ map (λ m. m.0)
+            self.now.mail.messages) }
         ensures rising { IsRising 0 self.now.mail.messages self.now.mail.next }
     {
         self.state.flight.numbers()

@@ -1,5 +1,6 @@
 -- A row of places as a proof by hand sees it: one place is taken out of the row, put back, or seen through a `&`.
---     base_tells, base_good, base_made, cells_tell, claim_tells, mark_made    machine values of a base, and of structs without bytes
+--     base_tells, base_good, base_made, cells_tell, claim_tells, mark_made    machine values of a base, and of
+-- structs without bytes
 --     filled_within          a place that holds a value is in the row
 --     slot_out, slot_in      one place apart from the others, and back
 --     room_cut, room_joined  a block of room is a row of empty places

@@ -107,7 +107,8 @@ module _ {X : Type 0} where
   values_without x (a ∷ xs) =
       elim a.1 as (λ o. values (if nat_eq a.0 x then without x xs else (a.0, o) ∷ without x xs) ≡ without x
       (with_value a.0 o (values xs))) [
-        | None ↦ elim (nat_eq a.0 x) as (λ b. values (if b then without x xs else (a.0, None) ∷ without x xs) ≡ without x
+        | None ↦ elim (nat_eq a.0 x) as (λ b. values (if b then without x xs else (a.0, None) ∷ without x xs) ≡
+            without x
             (values xs)) [ true ↦ values_without x xs | false ↦ values_without x xs ]
         | Some v ↦ elim (nat_eq a.0 x) as (λ b. values (if b then without x xs else (a.0, Some v) ∷ without x xs) ≡
             (if b then without x (values xs) else (a.0, v) ∷ without x (values xs))) [

@@ -35,8 +35,8 @@ pub enum ArenaError {
 
 impl ArenaError {
     /// The error's number.
-    pub fn number(&self) -> u32
-        ensures { result ≡ error_number self.now }
+    pub fn number(self) -> u8
+        ensures { result ≡ error_number self }
     {
         match self {
             ArenaError::NoMemory => 1,

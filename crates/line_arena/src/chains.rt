@@ -157,7 +157,8 @@ impl<T> Chains<T> {
         requires room { total self.old.heads.items < 2 ^ 24 }
         ensures tied { IsTied self.new }
         ensures rings { rings_of self.new
-            ≡ append_to list (cell, (at self.old.block cell).item) (rings_of (emptied cell self.old)) }
+            ≡ append_to list (cell, (at self.old.block cell).item) (rings_of (emptied cell
+            self.old)) }
         ensures total { total self.new.heads.items ≡ total self.old.heads.items + 1 }
         ensures uses { SameUse cell (emptied cell self.old) self.new ×
             IsFilled self.new.block cell }
@@ -214,7 +215,8 @@ impl<T> Chains<T> {
         requires value { (v : T) × (look_up cell (rings_of self.old) ≡ Some (Some v)) }
         ensures arena { IsArena spare self.new }
         ensures lists { IfSome (look_up cell (rings_of self.old)) (λ item.
-            rings_of self.new ≡ append_to list (cell, item) (map (without cell) (rings_of self.old))) }
+            rings_of self.new ≡ append_to list (cell, item) (map (without cell) (rings_of
+            self.old))) }
         ensures sizes { (self.new.capacity ≡ self.old.capacity) × (self.new.used ≡ self.old.used) }
     {
         self.unhook(cell);
@@ -274,7 +276,8 @@ impl<T> Chains<T> {
     pub(crate) fn take_free(&mut self, spare: u32) -> Option<u32>
         requires { IsArena spare self.old }
         ensures lacks { IfSome result (λ x. Lacks spare x self.new) }
-        ensures same { OnSome result ((shown spare (rings_of self.new) ≡ shown spare (rings_of self.old))
+        ensures same { OnSome result ((shown spare (rings_of self.new) ≡ shown spare (rings_of
+            self.old))
             × (self.new.capacity ≡ self.old.capacity)) }
         ensures none { IfNone result (self.new ≡ self.old) }
         ensures full { IsNone result ↔ (free_cells (model spare self.old) ≡ 0) }

@@ -6,7 +6,7 @@ use Rattle.std.specs.Global.{Vec}
 use Rattle.std.proofs.lemmas.List.{map-set}
 use Rattle.std.proofs.lemmas.Bool.{or_cases, ltb-true}
 use Rattle.line_sets.specs.Order.{is_there, put_last, put_in_place, without}
-use Rattle.line_sets.specs.SetTable.{Sets, set_at, has_way}
+use Rattle.line_sets.specs.SetTable.{Sets, set_at, has_place}
 use Rattle.line_sets.specs.Stored.{IsReady, AllReady, entries_of}
 use Rattle.line_sets.proofs.OrderLaws.{length-put_last_there, length-put_last_le, length-put_in_place}
 use Rattle.line_sets.proofs.OrderLaws.{length-without_le, IsDistinct-put_last, IsDistinct-put_in_place}
@@ -65,7 +65,7 @@ ready_of {X} ways vs i v h is all =
 pub ready-put :
     {X : Type 0} (ways : ℕ) (vs : List (Vec (ℕ × X))) (i : ℕ) (v w : Vec (ℕ × X)) (line : ℕ) (x : X) →
     AllReady ways vs → i < length (entries_of vs) → v ≡ get_or vs i v →
-    has_way (table_of ways (entries_of vs)) i line ≡ true → w.items ≡ put_last v.items line x →
+    has_place (table_of ways (entries_of vs)) i line ≡ true → w.items ≡ put_last v.items line x →
     vec_capacity w ≡ vec_capacity v → AllReady ways (set vs i w)
 ready-put {X} ways vs i v w line x all h is way e cap =
     let below : i < length vs = omega (arith, length-entries_of vs) in

@@ -37,8 +37,8 @@ abbrev pub has_room : {X : Type 0} → Sets X → ℕ → Bool
 has_room table i = nat_lt (length (set_at table.sets i)) table.ways
 
 -- a line has a way in its set, or finds a free one
-abbrev pub has_way : {X : Type 0} → Sets X → ℕ → ℕ → Bool
-has_way table i line = is_there (set_at table.sets i) line || has_room table i
+abbrev pub has_place : {X : Type 0} → Sets X → ℕ → ℕ → Bool
+has_place table i line = is_there (set_at table.sets i) line || has_room table i
 
 -- the lines of all sets, set by set, of values that a test passes
 abbrev pub all_listed : {X : Type 0} → (X → Bool) → List (List (ℕ × X)) → List ℕ

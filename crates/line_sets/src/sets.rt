@@ -3,7 +3,7 @@ ghost use Rattle.std.specs.Prelude.{◌≡◌, ◌<◌, ◌≤◌, IfOk, IsPermu
 ghost use Rattle.std.specs.Option.{option_copied};
 ghost use Rattle.line_sets.specs.Order.{is_there, IsDistinct};
 ghost use Rattle.std.specs.Ordering.{nat_cmp};
-ghost use Rattle.line_sets.specs.SetTable.{all_listed, drop_line, empty_sets, has_way, has_room, look, put};
+ghost use Rattle.line_sets.specs.SetTable.{all_listed, drop_line, empty_sets, has_place, has_room, look, put};
 ghost use Rattle.line_sets.specs.SetTable.{put_within, set_at};
 
 use crate::entries::{find_entry, put_entry_last, remove_entry, replace_entry};
@@ -91,7 +91,7 @@ impl<V: Copy> LineSets<V> {
     /// Puts a line that is in the set, or has room there, with this value, and makes it the most recently used one.
     pub fn insert(&mut self, set: usize, line: u64, value: V)
         requires in_table { set < length self.old.sets }
-        requires way { IsTrue (has_way self.old set line) }
+        requires way { IsTrue (has_place self.old set line) }
         ensures { self.new ≡ record self.old { sets = put self.old.sets set line value } }
     {
         put_entry_last(&mut self.sets[set], line, value);
@@ -139,52 +139,5 @@ impl<V: Copy + Listed> LineSets<V> {
         }
         lines.sort_unstable();
         Ok(lines)
-    }
-}
-
-#[cfg(test)]
-mod tests {
-    use super::*;
-
-    // A value; odd ones are listed.
-    #[derive(Clone, Copy, Debug, PartialEq, Eq)]
-    struct Mark(u64);
-
-    impl Listed for Mark {
-        ghost use Rattle.std.specs.Prelude.{◌==◌, ◌%◌};
-
-        ghost is_listed = { λ mark. mark.0 % 2 == 1 };
-
-        fn is_listed(&self) -> bool {
-            self.0 % 2 == 1
-        }
-    }
-
-    #[test]
-    fn keeps_the_order_of_use(rt: HostRuntime) -> Result<(), std::test::Fail> {
-        let mut table: LineSets<Mark> = LineSets::new(rt.alloc(), 2, 2)?;
-        assert_eq!(rt; table.sets(), 2);
-        assert_eq!(rt; table.ways(), 2);
-        assert!(rt; table.has_room(1));
-        table.insert(1, 9, Mark(1));
-        assert!(rt; table.has_room(1));
-        table.insert(1, 5, Mark(3));
-        assert!(rt; !table.has_room(1));
-        table.insert(0, 6, Mark(4));
-        assert_eq!(rt; table.contents(1), [(9, Mark(1)), (5, Mark(3))].as_slice());
-        table.insert(1, 9, Mark(7));
-        assert_eq!(rt; table.contents(1), [(5, Mark(3)), (9, Mark(7))].as_slice());
-        table.replace(1, 5, Mark(11));
-        assert_eq!(rt; table.contents(1), [(5, Mark(11)), (9, Mark(7))].as_slice());
-        assert_eq!(rt; table.find(1, 9), Some(&Mark(7)));
-        assert_eq!(rt; table.find(0, 9), None);
-        assert_eq!(rt;
-            table.lines()?.as_slice(),
-            [LineNo(5), LineNo(9)].as_slice()
-        );
-        assert_eq!(rt; table.remove(1, 5), Some(Mark(11)));
-        assert_eq!(rt; table.remove(1, 5), None);
-        assert_eq!(rt; table.contents(1), [(9, Mark(7))].as_slice());
-        Ok(())
     }
 }

@@ -1,6 +1,10 @@
 //! What the limits and the signs of a text are. The functions do nothing: their contracts are the laws.
 
 ghost use Rattle.std.specs.Prelude.{◌≡◌, ◌+◌, ◌^◌, [], ◌∷◌, codes};
+ghost use Rattle.std.specs.List.{filter, range_with_len};
+ghost use Rattle.litmus_lexer.specs.FirstLines.{is_title_byte};
+ghost use Rattle.litmus_lexer.specs.Pieces.{is_blank, is_letter, is_slash};
+ghost use Rattle.litmus_lexer.specs.Spelling.{is_digit, is_name_byte};
 ghost use Rattle.litmus_lexer.specs.declared.limits.TheConstants as limit;
 ghost use Rattle.litmus_lexer.specs.declared.signs.TheConstants as sign;
 
@@ -33,4 +37,18 @@ pub fn signs_are_these_characters()
     ensures closing_brace { codes "}" ≡ sign.CLOSING_BRACE ∷ [] }
     ensures opening_parenthesis { codes "(" ≡ sign.OPENING_PARENTHESIS ∷ [] }
     ensures closing_parenthesis { codes ")" ≡ sign.CLOSING_PARENTHESIS ∷ [] }
+{}
+
+/// Which bytes are blanks and parts of words, of names of tests, of keys and locations, and of numbers: of all 256, in
+/// order.
+pub fn bytes_are_of_these_kinds()
+    ensures blanks { filter is_blank (range_with_len 0 256) ≡ 9 ∷ 13 ∷ 32 ∷ [] }
+    ensures words { filter is_letter (range_with_len 0 256) ≡
+        codes ".0123456789ABCDEFGHIJKLMNOPQRSTUVWXYZ_abcdefghijklmnopqrstuvwxyz~" }
+    ensures slashes { filter is_slash (range_with_len 0 256) ≡ 47 ∷ 92 ∷ [] }
+    ensures titles { filter is_title_byte (range_with_len 0 256) ≡
+        codes "+-.0123456789ABCDEFGHIJKLMNOPQRSTUVWXYZ[]_abcdefghijklmnopqrstuvwxyz" }
+    ensures names { filter is_name_byte (range_with_len 0 256) ≡
+        codes "0123456789ABCDEFGHIJKLMNOPQRSTUVWXYZ_abcdefghijklmnopqrstuvwxyz" }
+    ensures digits { filter is_digit (range_with_len 0 256) ≡ codes "0123456789" }
 {}

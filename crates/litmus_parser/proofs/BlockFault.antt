@@ -15,11 +15,11 @@ use Rattle.litmus_parser.specs.ReadingItems.{location_at, number_at, setting_at,
 use Rattle.litmus_parser.specs.ReadingItems.{item_of, item_at}
 use Rattle.litmus_parser.specs.ReadingBlock.{Block, separated, added, whole_item_at, entry_of, entry_at, unended}
 use Rattle.litmus_parser.specs.ReadingBlock.{items_at, block_at}
-use Rattle.litmus_parser.specs.Places.{Place}
+use Rattle.litmus_parser.specs.RestLines.{RestAt}
 use Rattle.litmus_parser.specs.BlockFaults.{BlockCause}
 use Rattle.litmus_parser.specs.BlockParts.{Wanted, OpeningBrace, ItemOrBrace, Colon, RegisterWord, RegisterEquals}
 use Rattle.litmus_parser.specs.BlockParts.{RegisterValue, LocationEquals, LocationValue, SemicolonOrBrace, fits}
-use Rattle.litmus_parser.specs.BlockParts.{is_settable, StandItems, no_item, one_more, InLines, none, further}
+use Rattle.litmus_parser.specs.BlockParts.{is_settable, ItemsUpTo, no_item, one_more, InLines, none, further}
 use Rattle.litmus_parser.specs.BlockParts.{ItemUpTo, at_item, thread_there, colon_there, register_there, equals_there}
 use Rattle.litmus_parser.specs.BlockParts.{location_there, equals_behind, BlockUpTo, at_block, in_item, behind_item}
 use Rattle.litmus_parser.specs.GrammarWords.{Next}
@@ -32,7 +32,7 @@ use Rattle.litmus_parser.proofs.BlockFound.{location_takes, item_takes, Separate
 use Rattle.litmus_parser.proofs.BlockFound.{items_stand}
 use Rattle.litmus_parser.proofs.Causes.{Explains, Onto, start, beyond, over_word, over_sign, over_end, bind_explains}
 use Rattle.litmus_parser.proofs.Causes.{test_explains, found_explains, told, repeat_counted}
-use Rattle.litmus_parser.proofs.Outcomes.{answered}
+use Rattle.litmus_parser.proofs.ReadAnswers.{answered}
 use Rattle.litmus_parser.proofs.LocationFault.{location_explains}
 use Rattle.litmus_parser.proofs.WantedFault.{neither, Taken, Wants, next_wanted, word_wanted, sign_wanted}
 use Rattle.litmus_parser.proofs.WantedFault.{expect_wanted, number_wanted}
@@ -44,7 +44,7 @@ module _ (line : ℕ) (pieces : List Piece) where
   C kind n = BlockCause line pieces kind n
 
   -- what is wanted where the block stands up to here
-  wants : (wanted : Wanted) (n : ℕ) (rest : List Piece) → Place line pieces n rest → BlockUpTo pieces wanted rest →
+  wants : (wanted : Wanted) (n : ℕ) (rest : List Piece) → RestAt line pieces n rest → BlockUpTo pieces wanted rest →
       Wants C BadInitial (fits wanted) n rest
   wants wanted n rest at upto = record {
     ends = λ m p e. (wanted, rest, upto, e, beyond at p);
@@ -57,31 +57,31 @@ module _ (line : ℕ) (pieces : List Piece) where
         stands = upto;
         next =
             t.1;
-        place = beyond at t.0;
+        rest_at = beyond at t.0;
       },
       unfit,
     );
   }
 
-  value_above : (wanted : Wanted) (n : ℕ) (rest : List Piece) → Place line pieces n rest → BlockUpTo pieces wanted
+  value_above : (wanted : Wanted) (n : ℕ) (rest : List Piece) → RestAt line pieces n rest → BlockUpTo pieces wanted
       rest → (wanted ≡ RegisterValue) ⊎ (wanted ≡ LocationValue)
       → (w : List ℕ) (m : ℕ) (after : List Piece) → Taken n rest (Word w) m after → is_number w ≡ true →
       2147483648 ≤ number_of w → C ValueRange m
   value_above wanted n rest at upto value w m after t number above = (
     wanted,
     w,
-    record { there = rest; rest = after; stands = upto; next = t.1; place = beyond at t.0 },
+    record { there = rest; rest = after; stands = upto; next = t.1; rest_at = beyond at t.0 },
     value,
     number,
     above,
   )
 
   -- after items, of an item that begins here
-  module _ (items : List Item) (names : Names) (here : List Piece) (st : StandItems pieces items names here) where
+  module _ (items : List Item) (names : Names) (here : List Piece) (st : ItemsUpTo pieces items names here) where
     location_of_block : (wanted : Wanted) (there : List Piece) → ItemUpTo names here wanted there →
         (wanted ≡ ItemOrBrace) ⊎ (wanted ≡ RegisterValue)
         → (word : List ℕ) (n : ℕ) (rest : List Piece) → Next there (Word word) rest →
-        Place line pieces n (Word word ∷ rest) → (is_location word ≡ false → C BadInitial n)
+        RestAt line pieces n (Word word ∷ rest) → (is_location word ≡ false → C BadInitial n)
         → Explains C (λ (x : ℕ × Names). Unit {0}) (location_at BadInitial word n names)
     location_of_block wanted there upto place_is word n rest next at other =
         location_explains C BadInitial word n names other (λ many.
@@ -98,14 +98,14 @@ module _ (line : ℕ) (pieces : List Piece) where
           item = upto;
           place_is = place_is;
           next = next;
-          place = at;
+          rest_at = at;
           many = many;
         })
 
     abbrev SettingRead : ℕ → List Piece → (Setting × Names) × ℕ × List Piece → Type 0
-    SettingRead n rest x = Place n rest x.1 x.2
+    SettingRead n rest x = RestAt n rest x.1 x.2
 
-    setting_explains : (n : ℕ) (rest : List Piece) → Place line pieces n rest → ItemUpTo names here RegisterValue
+    setting_explains : (n : ℕ) (rest : List Piece) → RestAt line pieces n rest → ItemUpTo names here RegisterValue
         rest → Explains C (SettingRead n rest) (setting_at names n rest)
     unfolding setting_at
     setting_explains n rest at upto =
@@ -129,9 +129,10 @@ module _ (line : ℕ) (pieces : List Piece) where
 
     -- the item's line is where it begins
     abbrev ItemRead : ℕ → List Piece → (Item × Names) × ℕ × List Piece → Type 0
-    ItemRead n rest x = (x.0.0.line ≡ n) × Place n rest x.1 x.2
+    ItemRead n rest x = (x.0.0.line ≡ n) × RestAt n rest x.1 x.2
 
-    register_item_explains : (thread n : ℕ) (rest : List Piece) → Place line pieces n rest → ItemUpTo names here Colon
+    register_item_explains : (thread n : ℕ) (rest : List Piece) → RestAt line pieces n rest → ItemUpTo names here
+        Colon
         rest → Explains C (ItemRead n rest) (register_item_at thread names n rest)
     unfolding register_item_at
     register_item_explains thread n rest at upto =
@@ -140,14 +141,14 @@ module _ (line : ℕ) (pieces : List Piece) where
         (expect_wanted C BadInitial (fits Colon) n rest (wants Colon n rest at (in_item st upto)) 58 (λ p. refl))
         (λ colon e p.
         let colon_stands : ItemUpTo names here RegisterWord colon.1 = colon_there upto p.1 in
-        let behind_colon : Place n rest colon.0 colon.1 = over_sign p.0 in
+        let behind_colon : RestAt n rest colon.0 colon.1 = over_sign p.0 in
         let register : Wants C BadInitial (fits RegisterWord) colon.0 colon.1 =
         wants RegisterWord colon.0 colon.1 (beyond at behind_colon) (in_item st colon_stands) in
         bind_explains C (λ (x : List ℕ × ℕ × List Piece). Taken colon.0 colon.1 (Word x.0) x.1 x.2) Q
         (word_at BadInitial colon.0 colon.1) _
         (word_wanted C BadInitial (fits RegisterWord) colon.0 colon.1 register (λ w. is_settable (register_of w))
         (λ p. refl)) (λ w e' q.
-        let behind_word : Place n rest w.1 w.2 = beyond behind_colon (over_word q.0) in
+        let behind_word : RestAt n rest w.1 w.2 = beyond behind_colon (over_word q.0) in
         found_explains C Q BadInitial (register_of w.0) w.1 _ (λ nothing. register.wrong (Word w.0) w.1 w.2 q
         (ap is_settable nothing)) (λ r some.
         test_explains C Q (eqb r 0) (fails BadInitial w.1) _ (λ zero_. register.wrong (Word w.0) w.1 w.2 q
@@ -159,14 +160,14 @@ module _ (line : ℕ) (pieces : List Piece) where
         (expect_wanted C BadInitial (fits RegisterEquals) w.1 w.2
         (wants RegisterEquals w.1 w.2 (beyond at behind_word) (in_item st register_stands)) 61 (λ p. refl))
         (λ equals e'' s.
-        let behind_equals : Place n rest equals.0 equals.1 = beyond behind_word (over_sign s.0) in
+        let behind_equals : RestAt n rest equals.0 equals.1 = beyond behind_word (over_sign s.0) in
         bind_explains C (SettingRead equals.0 equals.1) Q (setting_at names equals.0 equals.1)
         (λ v. Ok ((record { line = n; name = Register thread r; setting = v.0.0 }, v.0.1), v.1, v.2))
         (setting_explains equals.0 equals.1 (beyond at behind_equals) (equals_there register_stands s.1))
         (λ v e3 h. (refl, beyond behind_equals h)))))))
 
     location_item_explains : (first : List ℕ) (n : ℕ) (rest : List Piece) → Next here (Word first) rest →
-        Place line pieces n (Word first ∷ rest) → (is_location first ≡ false → C BadInitial n)
+        RestAt line pieces n (Word first ∷ rest) → (is_location first ≡ false → C BadInitial n)
         → Explains C (ItemRead n rest) (location_item_at first names n rest)
     unfolding location_item_at
     location_item_explains first n rest next at other =
@@ -178,9 +179,9 @@ module _ (line : ℕ) (pieces : List Piece) where
         bind_explains C (λ (x : ℕ × List Piece). Taken n rest (Sign 61) x.0 x.1) Q (expect_at 61 BadInitial n rest) _
         (expect_wanted C BadInitial (fits LocationEquals) n rest (wants LocationEquals n rest (over_word at)
         (in_item st location_stands)) 61 (λ p. refl)) (λ equals e' p.
-        let behind_equals : Place line pieces equals.0 equals.1 = beyond (over_word at) (over_sign p.0) in
+        let behind_equals : RestAt line pieces equals.0 equals.1 = beyond (over_word at) (over_sign p.0) in
         let value_stands : BlockUpTo pieces LocationValue equals.1 = in_item st (equals_behind location_stands p.1) in
-        bind_explains C (λ (x : ℕ × ℕ × List Piece). Place equals.0 equals.1 x.1 x.2) Q
+        bind_explains C (λ (x : ℕ × ℕ × List Piece). RestAt equals.0 equals.1 x.1 x.2) Q
         (number_at BadInitial equals.0 equals.1)
         (λ v. Ok ((record { line = n; name = Location l.0; setting = Number v.0 }, l.1), v.1, v.2))
         (number_wanted C BadInitial (fits LocationValue) equals.0 equals.1 (wants LocationValue equals.0 equals.1
@@ -188,7 +189,7 @@ module _ (line : ℕ) (pieces : List Piece) where
         (value_above LocationValue equals.0 equals.1 behind_equals value_stands (inr refl)))
         (λ v e'' q. (refl, beyond (over_sign p.0) q))))
 
-    item_of_explains : (o : Option ℕ) (first : List ℕ) (m n : ℕ) (rest : List Piece) → Place line pieces m here →
+    item_of_explains : (o : Option ℕ) (first : List ℕ) (m n : ℕ) (rest : List Piece) → RestAt line pieces m here →
         Taken m here (Word first) n rest → small_of 15 first ≡ o
         → Explains C (ItemRead n rest) (item_of o first names n rest)
     item_of_explains (Some thread) first m n rest at t is =
@@ -199,16 +200,16 @@ module _ (line : ℕ) (pieces : List Piece) where
         (neither (is_there (small_of 15 first) || is_location first) false (neither (is_there (small_of 15 first))
         (is_location first) (ap is_there is) no_location) refl))
 
-    item_explains : (first : List ℕ) (m n : ℕ) (rest : List Piece) → Place line pieces m here →
+    item_explains : (first : List ℕ) (m n : ℕ) (rest : List Piece) → RestAt line pieces m here →
         Taken m here (Word first) n rest → Explains C (ItemRead n rest) (item_at first names n rest)
     unfolding item_at
     item_explains first m n rest at t = item_of_explains (small_of 15 first) first m n rest at t refl
 
-  separated_explains : (n : ℕ) (rest : List Piece) → Place line pieces n rest → BlockUpTo pieces SemicolonOrBrace
-      rest → Explains C (λ (x : Bool × ℕ × List Piece). Place n rest x.1 x.2) (separated n rest)
+  separated_explains : (n : ℕ) (rest : List Piece) → RestAt line pieces n rest → BlockUpTo pieces SemicolonOrBrace
+      rest → Explains C (λ (x : Bool × ℕ × List Piece). RestAt n rest x.1 x.2) (separated n rest)
   unfolding separated
   separated_explains n rest at upto =
-      let Q : Bool × ℕ × List Piece → Type 0 = λ x. Place n rest x.1 x.2 in
+      let Q : Bool × ℕ × List Piece → Type 0 = λ x. RestAt n rest x.1 x.2 in
       let either : Wants C BadInitial (fits SemicolonOrBrace) n rest = wants SemicolonOrBrace n rest at upto in
       bind_explains C (λ (x : ℕ × ℕ × List Piece). Taken n rest (Sign x.0) x.1 x.2) Q (sign_at BadInitial n rest) _
       (sign_wanted C BadInitial (fits SemicolonOrBrace) n rest either (λ w. refl) refl) (λ s e p.
@@ -224,10 +225,10 @@ module _ (line : ℕ) (pieces : List Piece) where
 
   -- the state between two items: the items so far, the names so far, the line and the pieces that are left
   abbrev Stands : Block → Type 0
-  Stands s = Place line pieces s.2 s.3 × InLines line pieces s.0
+  Stands s = RestAt line pieces s.2 s.3 × InLines line pieces s.0
 
   abbrev Left : ℕ → Block → Type 0
-  Left k s = Stands s × Enough k s.3 × StandItems pieces s.0 s.1 s.3
+  Left k s = Stands s × Enough k s.3 × ItemsUpTo pieces s.0 s.1 s.3
 
   -- the cause in a block that isn't too long
   abbrev ShortCause : Kind → ℕ → Type 0
@@ -237,7 +238,7 @@ module _ (line : ℕ) (pieces : List Piece) where
   in_short P (Ok y) h = h
   in_short P (Err e) h = λ short. h
 
-  place-shorter : (n : ℕ) (middle : List Piece) (m : ℕ) (rest : List Piece) → Place n middle m rest →
+  place-shorter : (n : ℕ) (middle : List Piece) (m : ℕ) (rest : List Piece) → RestAt n middle m rest →
       length rest ≤ length middle
   place-shorter n middle m rest p =
       let e : length middle ≡ length (p.front ++ rest) = ap length p.split in
@@ -245,30 +246,30 @@ module _ (line : ℕ) (pieces : List Piece) where
       omega (arith, e, f)
 
   onto-either : (k : ℕ) (more : Bool) (t : Block) → Stands t → Enough k t.3 →
-      (more ≡ true → StandItems pieces t.0 t.1 t.3) → Onto (Left k) Stands (more, t)
+      (more ≡ true → ItemsUpTo pieces t.0 t.1 t.3) → Onto (Left k) Stands (more, t)
   onto-either k true t stands short items = (stands, short, items refl)
   onto-either k false t stands short items = stands
 
   -- the item after the ones that stand, where a ; follows it
   one_more_stands : (s : Block) (item : Item) (after : Names) (here : List Piece) (items : List Item) (m : ℕ)
-      (r : List Piece) → StandItems pieces s.0 s.1 s.3
+      (r : List Piece) → ItemsUpTo pieces s.0 s.1 s.3
       → IsItem s.3 s.1 item.name item.setting after here → list_any (λ other. same_name other.name item.name)
       s.0 ≡ false → items ≡ s.0 ++ item ∷ []
-      → (more : Bool) → Separates here (more, m, r) → more ≡ true → StandItems pieces items after r
+      → (more : Bool) → Separates here (more, m, r) → more ≡ true → ItemsUpTo pieces items after r
   one_more_stands s item after here items m r st is fresh e true next t =
-      subst (λ (x : List Item). StandItems pieces x after r) (sym e) (one_more item here st is fresh next)
+      subst (λ (x : List Item). ItemsUpTo pieces x after r) (sym e) (one_more item here st is fresh next)
   one_more_stands s item after here items m r st is fresh e false next t = absurd cc
 
   -- after the item there are fewer pieces
   item-shorter : (s : Block) (first : List ℕ) (n : ℕ) (rest : List Piece) (m : ℕ) (r : List Piece) (k : ℕ) →
-      Place s.2 s.3 n (Word first ∷ rest) → Place n rest m r → length s.3 ≤ suc k → length r ≤ k
+      RestAt s.2 s.3 n (Word first ∷ rest) → RestAt n rest m r → length s.3 ≤ suc k → length r ≤ k
   item-shorter s first n rest m r k p q le =
       let a : length (Word first ∷ rest) ≤ length s.3 = place-shorter s.2 s.3 n (Word first ∷ rest) p in
       let b : length r ≤ length rest = place-shorter n rest m r q in
       omega (arith, a, b, le)
 
   added_explains : (s : Block) (item : Item) (after : Names) (rest : List Piece) (first : List ℕ) (n : ℕ)
-      (more : List Piece) → Place line pieces s.2 s.3 → StandItems pieces s.0 s.1 s.3
+      (more : List Piece) → RestAt line pieces s.2 s.3 → ItemsUpTo pieces s.0 s.1 s.3
       → Taken s.2 s.3 (Word first) n more → item.line ≡ n → IsItem s.3 s.1 item.name item.setting after rest →
       Explains C (λ (items : List Item). items ≡ s.0 ++ item ∷ []) (added s.0 item)
   unfolding added
@@ -290,7 +291,7 @@ module _ (line : ℕ) (pieces : List Piece) where
           first,
           more,
           t.1,
-          subst (λ m. Place line pieces m (Word first ∷ more))
+          subst (λ m. RestAt line pieces m (Word first ∷ more))
               (sym in_line) (beyond at t.0),
         );
       }) (λ fresh. refl)
@@ -300,20 +301,20 @@ module _ (line : ℕ) (pieces : List Piece) where
       → Explains C (Onto (Left k) Stands) (whole_item_at first (s.0, s.1, n, rest))
   unfolding whole_item_at
   whole_item_explains k s first n rest l t =
-      let at : Place line pieces s.2 s.3 = l.0.0 in
-      let st : StandItems pieces s.0 s.1 s.3 = l.2 in
+      let at : RestAt line pieces s.2 s.3 = l.0.0 in
+      let st : ItemsUpTo pieces s.0 s.1 s.3 = l.2 in
       let Q : Bool × Block → Type 0 = Onto (Left k) Stands in
       bind_explains C (ItemRead s.0 s.1 s.3 st n rest) Q (item_at first s.1 n rest) _
       (item_explains s.0 s.1 s.3 st first s.2 n rest at t) (λ x e i.
       let is : IsItem s.3 s.1 x.0.0.name x.0.0.setting x.0.1 x.2 = item_takes s.3 first s.1 n rest x t.1 e in
-      let on : Place line pieces x.1 x.2 = beyond at (beyond (over_word t.0) i.1) in
-      let begins = subst (λ m. Place line pieces m (Word first ∷ rest)) (sym i.0) (beyond at t.0) in
+      let on : RestAt line pieces x.1 x.2 = beyond at (beyond (over_word t.0) i.1) in
+      let begins = subst (λ m. RestAt line pieces m (Word first ∷ rest)) (sym i.0) (beyond at t.0) in
       bind_explains C (λ (items : List Item). items ≡ s.0 ++ x.0.0 ∷ []) Q (added s.0 x.0.0) _
       (added_explains s x.0.0 x.0.1 x.2 first n rest at st t i.0 is) (λ items e' a.
       let fresh = (added_takes s.0 x.0.0 items e').0 in
       let lines : InLines line pieces items =
       subst (InLines line pieces) (sym a) (further x.0.0 l.0.1 st (first, rest, t.1, begins)) in
-      bind_explains C (λ (y : Bool × ℕ × List Piece). Place x.1 x.2 y.1 y.2) Q (separated x.1 x.2)
+      bind_explains C (λ (y : Bool × ℕ × List Piece). RestAt x.1 x.2 y.1 y.2) Q (separated x.1 x.2)
       (λ more. Ok (more.0, (items, x.0.1, more.1, more.2)))
       (separated_explains x.1 x.2 on (behind_item x.0.0 x.0.1 st is fresh)) (λ more e'' p.
       onto-either k more.0 (items, x.0.1, more.1, more.2) (beyond on p, lines) (λ short. item-shorter s first n rest
@@ -346,12 +347,12 @@ module _ (line : ℕ) (pieces : List Piece) where
       let none_left : s.3 ≡ [] = nil_from_length s.3 (omega (arith, few)) in (
         ItemOrBrace,
         [],
-        in_item (subst (λ rest. StandItems pieces s.0 s.1 rest) none_left l.2) at_item,
+        in_item (subst (λ rest. ItemsUpTo pieces s.0 s.1 rest) none_left l.2) at_item,
         tt,
-        subst (λ rest. Place line pieces s.2 rest) none_left l.0.0,
+        subst (λ rest. RestAt line pieces s.2 rest) none_left l.0.0,
       )
 
-  items_explain : (n : ℕ) (rest : List Piece) → Place line pieces n rest → Next pieces (Sign 123) rest →
+  items_explain : (n : ℕ) (rest : List Piece) → RestAt line pieces n rest → Next pieces (Sign 123) rest →
       Explains ShortCause Stands (items_at [] n rest)
   unfolding items_at
   items_explain n rest at next =
@@ -362,8 +363,8 @@ module _ (line : ℕ) (pieces : List Piece) where
 
   -- the line ends after the closing brace, or there is more on it
   line_ended : (opened : List Piece) (items : List Item) (names : Names) (n : ℕ) (rest : List Piece) →
-      Next pieces (Sign 123) opened → AreItems [] opened [] items names rest → Place line pieces n rest
-      → Explains ShortCause (λ (x : ℕ × List Piece). Place n rest x.0 x.1) (end_line_at BadInitial n rest)
+      Next pieces (Sign 123) opened → AreItems [] opened [] items names rest → RestAt line pieces n rest
+      → Explains ShortCause (λ (x : ℕ × List Piece). RestAt n rest x.0 x.1) (end_line_at BadInitial n rest)
   unfolding end_line_at
   line_ended opened items names n [] brace are at = start n []
   line_ended opened items names n (LineEnd ∷ rest) brace are at = over_end (start n (LineEnd ∷ rest))
@@ -378,7 +379,7 @@ module _ (line : ℕ) (pieces : List Piece) where
             brace;
         are = are;
         no_end = λ e. absurd cc;
-        place = at;
+        rest_at = at;
       })
   line_ended opened items names n (Sign b ∷ rest) brace are at =
       λ short. inr (record {
@@ -391,7 +392,7 @@ module _ (line : ℕ) (pieces : List Piece) where
             brace;
         are = are;
         no_end = λ e. absurd cc;
-        place = at;
+        rest_at = at;
       })
 
   whole_block : Explains ShortCause Stands (block_at [] line pieces)
@@ -405,7 +406,8 @@ module _ (line : ℕ) (pieces : List Piece) where
       pieces opening 123 (λ p. refl))) (λ brace e p.
       bind_explains ShortCause Stands Stands (items_at [] brace.0 brace.1) _
       (items_explain brace.0 brace.1 (over_sign p.0) p.1) (λ b e' st.
-      bind_explains ShortCause (λ (x : ℕ × List Piece). Place b.2 b.3 x.0 x.1) Stands (end_line_at BadInitial b.2 b.3)
+      bind_explains ShortCause (λ (x : ℕ × List Piece). RestAt b.2 b.3 x.0 x.1) Stands (end_line_at BadInitial b.2
+      b.3)
       (λ next. Ok (b.0, b.1, next.0, next.1))
       (line_ended brace.1 b.0 b.1 b.2 b.3 p.1 (items_stand [] brace.0 brace.1 b e') st.0)
       (λ next e'' q. (beyond st.0 q, st.1))))
@@ -418,6 +420,6 @@ block_explains line pieces e short is =
     told (ShortCause line pieces) (Stands line pieces) (block_at [] line pieces) e (whole_block line pieces) is short
 
 pub block_place : (line : ℕ) (pieces : List Piece) (b : Block) → block_at [] line pieces ≡ Ok b →
-    Place line pieces b.2 b.3 × InLines line pieces b.0
+    RestAt line pieces b.2 b.3 × InLines line pieces b.0
 block_place line pieces b is = answered (ShortCause line pieces) (Stands line pieces) (block_at [] line pieces) b
     (whole_block line pieces) is

@@ -34,19 +34,19 @@ pub location_takes : (kind : Kind) (word : List ℕ) (line : ℕ) (names : Names
     location_at kind word line names ≡ Ok x → IsNumbered word names x.0 x.1
 unfolding location_at
 location_takes kind word line names x e =
-    let place : ℕ = place_of word names in
-    let le : place ≤ length names = prefix_len-le-length (λ other. not (bytes_eq other word)) names in
-    let t = then_ok (is_location word) (cond (ltb place (length names)) (Ok (place, names))
+    let rest_at : ℕ = place_of word names in
+    let le : rest_at ≤ length names = prefix_len-le-length (λ other. not (bytes_eq other word)) names in
+    let t = then_ok (is_location word) (cond (ltb rest_at (length names)) (Ok (rest_at, names))
     (cond (nat_le 64 (length names)) (fails TooLarge line) (Ok (length names, names ++ word ∷ [])))) _ x e in
-    elim (either_ok (ltb place (length names)) (Ok (place, names)) (cond (nat_le 64 (length names))
+    elim (either_ok (ltb rest_at (length names)) (Ok (rest_at, names)) (cond (nat_le 64 (length names))
     (fails TooLarge line) (Ok (length names, names ++ word ∷ []))) x t.1) [
-      | inl h ↦ let lt : place < length names = ltb-true _ _ h.0 in
-          subst (λ (y : ℕ × Names). IsNumbered word names y.0 y.1) (ok_is (place, names) x h.1)
+      | inl h ↦ let lt : rest_at < length names = ltb-true _ _ h.0 in
+          subst (λ (y : ℕ × Names). IsNumbered word names y.0 y.1) (ok_is (rest_at, names) x h.1)
           (t.0, refl, inl (lt, refl))
-      | inr h ↦ let ge : length names ≤ place = ltb-false _ _ h.0 in
+      | inr h ↦ let ge : length names ≤ rest_at = ltb-false _ _ h.0 in
           let u = else_ok (nat_le 64 (length names)) _ (Ok (length names, names ++ word ∷ [])) x h.1 in
           let few : length names < 64 = leb-false _ _ u.0 in
-          let same : length names ≡ place = omega (arith, le, ge) in
+          let same : length names ≡ rest_at = omega (arith, le, ge) in
           subst (λ (y : ℕ × Names). IsNumbered word names y.0 y.1) (ok_is (length names, names ++ word ∷ []) x u.1)
           (t.0, same, inr (refl, few, refl))
     ]

@@ -6,7 +6,7 @@ use Rattle.litmus_lexer.specs.declared.errors.Kind.{Kind}
 use Rattle.litmus_lexer.specs.declared.errors.Kind.TheVariants.{CutShort}
 use Rattle.litmus_lexer.specs.declared.errors.LitmusError.{LitmusError}
 use Rattle.litmus_lexer.specs.Reading.{◌>>=◌, found, repeat_at}
-use Rattle.litmus_parser.specs.Places.{Place, line_ends}
+use Rattle.litmus_parser.specs.RestLines.{RestAt, line_ends}
 
 -- ---- places
 
@@ -17,13 +17,13 @@ line-ends-append (LineEnd ∷ xs) ys = let i = line-ends-append xs ys in omega a
 line-ends-append (Word w ∷ xs) ys = line-ends-append xs ys
 line-ends-append (Sign b ∷ xs) ys = line-ends-append xs ys
 
-unfoldable pub start : (line : ℕ) (pieces : List Piece) → Place line pieces line pieces
+unfoldable pub start : (line : ℕ) (pieces : List Piece) → RestAt line pieces line pieces
 unfolding line_ends
 start line pieces = record { front = []; split = refl; line_is = omega arith }
 
 -- a place behind a place is a place of the whole
 unfoldable pub beyond : {line : ℕ} {pieces : List Piece} {n : ℕ} {middle : List Piece} {m : ℕ} {rest : List Piece} →
-    Place line pieces n middle → Place n middle m rest → Place line pieces m rest
+    RestAt line pieces n middle → RestAt n middle m rest → RestAt line pieces m rest
 beyond {rest = rest} p q =
     let e = line-ends-append p.front q.front in
     record {
@@ -34,17 +34,17 @@ beyond {rest = rest} p q =
     }
 
 unfoldable pub over_word : {line : ℕ} {pieces : List Piece} {n : ℕ} {w : List ℕ} {rest : List Piece} →
-    Place line pieces n (Word w ∷ rest) → Place line pieces n rest
+    RestAt line pieces n (Word w ∷ rest) → RestAt line pieces n rest
 unfolding line_ends
 over_word {w = w} p = beyond p (record { front = Word w ∷ []; split = refl; line_is = omega arith })
 
 unfoldable pub over_sign : {line : ℕ} {pieces : List Piece} {n b : ℕ} {rest : List Piece} →
-    Place line pieces n (Sign b ∷ rest) → Place line pieces n rest
+    RestAt line pieces n (Sign b ∷ rest) → RestAt line pieces n rest
 unfolding line_ends
 over_sign {b = b} p = beyond p (record { front = Sign b ∷ []; split = refl; line_is = omega arith })
 
 unfoldable pub over_end : {line : ℕ} {pieces : List Piece} {n : ℕ} {rest : List Piece} →
-    Place line pieces n (LineEnd ∷ rest) → Place line pieces (n + 1) rest
+    RestAt line pieces n (LineEnd ∷ rest) → RestAt line pieces (n + 1) rest
 unfolding line_ends
 over_end p = beyond p (record { front = LineEnd ∷ []; split = refl; line_is = omega arith })
 
@@ -111,4 +111,4 @@ repeat_counted C P Q step out more end (suc k) s h =
 -- ---- pieces of a part that begins in a line; where they are all taken, the text is cut short
 
 abbrev pub EndsShort : (Kind → ℕ → Type 0) → ℕ → List Piece → Type 0
-EndsShort C line pieces = (n : ℕ) → Place line pieces n [] → C CutShort n
+EndsShort C line pieces = (n : ℕ) → RestAt line pieces n [] → C CutShort n

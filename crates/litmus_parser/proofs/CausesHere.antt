@@ -7,7 +7,7 @@ use Rattle.litmus_lexer.specs.Reading.{fails, as_word, as_wanted, here_at, word_
 use Rattle.litmus_lexer.specs.Reading.{end_line_at}
 use Rattle.litmus_parser.specs.GrammarWords.{EndsLine}
 use Rattle.litmus_parser.specs.GrammarTable.{Begins}
-use Rattle.litmus_parser.specs.Places.{Place}
+use Rattle.litmus_parser.specs.RestLines.{RestAt}
 use Rattle.litmus_parser.proofs.Causes.{Explains, EndsShort, over_end, bind_explains, test_explains}
 
 -- the next piece of the line: the line stays, and it stood in front
@@ -55,15 +55,15 @@ expect_here_explains C wanted kind n rest c =
 
 -- a place whose rest is known by an equation
 pub at_rest : {line : ℕ} {pieces : List Piece} {n : ℕ} {rest : List Piece} {m : ℕ} {other : List Piece} → m ≡ n →
-    rest ≡ other → Place line pieces n rest → Place line pieces m other
-at_rest {line = line} {pieces = pieces} {n = n} e f p = rw e (subst (λ r. Place line pieces n r) f p)
+    rest ≡ other → RestAt line pieces n rest → RestAt line pieces m other
+at_rest {line = line} {pieces = pieces} {n = n} e f p = rw e (subst (λ r. RestAt line pieces n r) f p)
 
 -- ---- lines
 
 -- the place where a line begins that is not blank
 pub start_explains : (C : Kind → ℕ → Type 0) (line : ℕ) (pieces : List Piece) → EndsShort C line pieces →
-    (n : ℕ) (rest : List Piece) → Place line pieces n rest
-    → Explains C (λ (x : ℕ × List Piece). Place line pieces x.0 x.1 × Begins rest x.1) (start_at n rest)
+    (n : ℕ) (rest : List Piece) → RestAt line pieces n rest
+    → Explains C (λ (x : ℕ × List Piece). RestAt line pieces x.0 x.1 × Begins rest x.1) (start_at n rest)
 unfolding start_at
 start_explains C line pieces short n [] p = short n p
 start_explains C line pieces short n (LineEnd ∷ rest) p = start_explains C line pieces short (n + 1) rest (over_end p)
@@ -71,8 +71,8 @@ start_explains C line pieces short n (Word w ∷ rest) p = (p, refl)
 start_explains C line pieces short n (Sign b ∷ rest) p = (p, refl)
 
 pub end_line_explains : (C : Kind → ℕ → Type 0) (line : ℕ) (pieces : List Piece) (kind : Kind) (n : ℕ)
-    (rest : List Piece) → C kind n → Place line pieces n rest
-    → Explains C (λ (x : ℕ × List Piece). Place line pieces x.0 x.1 × EndsLine rest x.1) (end_line_at kind n rest)
+    (rest : List Piece) → C kind n → RestAt line pieces n rest
+    → Explains C (λ (x : ℕ × List Piece). RestAt line pieces x.0 x.1 × EndsLine rest x.1) (end_line_at kind n rest)
 unfolding end_line_at
 end_line_explains C line pieces kind n [] c p = (p, inr (refl, refl))
 end_line_explains C line pieces kind n (LineEnd ∷ rest) c p = (over_end p, inl refl)

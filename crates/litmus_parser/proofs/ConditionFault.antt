@@ -17,7 +17,7 @@ use Rattle.litmus_lexer.proofs.Lemmas.{location-no_thread}
 use Rattle.litmus_parser.specs.Names.{Names, address_of, is_there}
 use Rattle.litmus_parser.specs.Keywords.{quantifier_of, BeginsCondition}
 use Rattle.litmus_parser.specs.Trees.{Tree, Is, Both, Either}
-use Rattle.litmus_parser.specs.Places.{Place}
+use Rattle.litmus_parser.specs.RestLines.{RestAt}
 use Rattle.litmus_parser.specs.GrammarWords.{Next}
 use Rattle.litmus_parser.specs.GrammarCondition.{Sight, Part, and_word, or_word, Chained, one, more, IsFactor}
 use Rattle.litmus_parser.specs.GrammarCondition.{IsExpression}
@@ -67,14 +67,14 @@ not_next test n (Word w ∷ rest) e p after next =
 not_next test n (Sign b ∷ rest) e p after next = subst (λ q. is_word test q ≡ false) next.0 refl
 
 place_if : (b : Bool) (n : ℕ) (w : List ℕ) (rest : List Piece) (at : ℕ × List Piece) → cond b (Some (n, rest)) None ≡
-    Some at → Place n (Word w ∷ rest) at.0 at.1
+    Some at → RestAt n (Word w ∷ rest) at.0 at.1
 place_if true n w rest at e =
     let same : (let y : ℕ × List Piece = (n, rest) in y) ≡ at = cc in
-    subst (λ (y : ℕ × List Piece). Place n (Word w ∷ rest) y.0 y.1) same (over_word (start n (Word w ∷ rest)))
+    subst (λ (y : ℕ × List Piece). RestAt n (Word w ∷ rest) y.0 y.1) same (over_word (start n (Word w ∷ rest)))
 place_if false n w rest at e = absurd cc
 
 joined_place : (test : List ℕ → Bool) (n : ℕ) (rest : List Piece) (at : ℕ × List Piece) → joined_at test n rest ≡ Some
-    at → Place n rest at.0 at.1
+    at → RestAt n rest at.0 at.1
 unfolding joined_at
 joined_place test n [] at e = absurd cc
 joined_place test n (LineEnd ∷ rest) at e =
@@ -96,7 +96,7 @@ further_piece n (Word w ∷ rest) m e = (
   Word w,
   rest,
   (
-    subst (λ k. Place n (Word w ∷ rest) k (Word w ∷ rest)) (some_is n m e) (start n (Word w ∷ rest)),
+    subst (λ k. RestAt n (Word w ∷ rest) k (Word w ∷ rest)) (some_is n m e) (start n (Word w ∷ rest)),
     (refl, refl),
   ),
 )
@@ -104,7 +104,7 @@ further_piece n (Sign b ∷ rest) m e = (
   Sign b,
   rest,
   (
-    subst (λ k. Place n (Sign b ∷ rest) k (Sign b ∷ rest)) (some_is n m e) (start n (Sign b ∷ rest)),
+    subst (λ k. RestAt n (Sign b ∷ rest) k (Sign b ∷ rest)) (some_is n m e) (start n (Sign b ∷ rest)),
     (refl, refl),
   ),
 )
@@ -137,13 +137,13 @@ module _ (items : List Item) (threads : ℕ) (known : Names) (line : ℕ) (piece
   C BadCondition n = HasWrongPiece items threads known line pieces n ⊎ HasMoreAfter items threads known line pieces n
   C kind n = ExpressionCause items threads known line pieces kind n
 
-  piece_at : (wanted : Wanted) (n : ℕ) (rest : List Piece) → Place line pieces n rest → Whole wanted rest →
+  piece_at : (wanted : Wanted) (n : ℕ) (rest : List Piece) → RestAt line pieces n rest → Whole wanted rest →
       (p : Piece) (m : ℕ) (after : List Piece) → Taken n rest p m after → PieceAt items threads known
       line pieces m wanted p
   piece_at wanted n rest at upto p m after t =
-      record { there = rest; rest = after; stands = upto; next = t.1; place = beyond at t.0 }
+      record { there = rest; rest = after; stands = upto; next = t.1; rest_at = beyond at t.0 }
 
-  wants : (wanted : Wanted) (n : ℕ) (rest : List Piece) → Place line pieces n rest → Whole wanted rest →
+  wants : (wanted : Wanted) (n : ℕ) (rest : List Piece) → RestAt line pieces n rest → Whole wanted rest →
       Wants C BadCondition (fits threads wanted) n rest
   wants wanted n rest at upto = record {
     ends = λ m p e. (wanted, rest, upto, e, beyond at p);
@@ -156,10 +156,10 @@ module _ (items : List Item) (threads : ℕ) (known : Names) (line : ℕ) (piece
 
   -- a reading of parts whose beginnings are B, with R after them
   abbrev After : (List Piece → Type 0) → (Tree × Sight) × ℕ × List Piece → Type 0
-  After R x = Place line pieces x.1 x.2 × R x.2
+  After R x = RestAt line pieces x.1 x.2 × R x.2
 
   abbrev Sound : Beginning → (List Piece → Type 0) → Reader → Type 0
-  Sound B R read = (s : Sight) (n : ℕ) (rest : List Piece) → Place line pieces n rest → Begins (B s rest) →
+  Sound B R read = (s : Sight) (n : ℕ) (rest : List Piece) → RestAt line pieces n rest → Begins (B s rest) →
       Explains C (After R) (read s n rest)
 
   abbrev Anything : List Piece → Type 0
@@ -167,7 +167,7 @@ module _ (items : List Item) (threads : ℕ) (known : Names) (line : ℕ) (piece
 
   -- ---- atoms
 
-  module _ (depth : ℕ) (s : Sight) (m : ℕ) (here : List Piece) (at : Place line pieces m here)
+  module _ (depth : ℕ) (s : Sight) (m : ℕ) (here : List Piece) (at : RestAt line pieces m here)
       (begins : Begins (AtomUpTo items threads depth s here)) where
     factor : Whole (Factor depth s) here
     factor = begins (Factor depth s) here at_factor
@@ -182,12 +182,12 @@ module _ (items : List Item) (threads : ℕ) (known : Names) (line : ℕ) (piece
 
     register_explains : (w : List ℕ) (thread n : ℕ) (rest : List Piece) → s.1 < 256 → Taken m here (Word w) n rest →
         small_of 15 w ≡ Some thread
-        → Explains C (λ (x : Name × ℕ × List Piece). Place line pieces x.1 x.2)
+        → Explains C (λ (x : Name × ℕ × List Piece). RestAt line pieces x.1 x.2)
         (register_name_at items threads thread n rest)
     unfolding register_name_at
     register_explains w thread n rest few t is =
-        let Q : Name × ℕ × List Piece → Type 0 = λ x. Place line pieces x.1 x.2 in
-        let behind_thread : Place line pieces n rest = beyond at (over_word t.0) in
+        let Q : Name × ℕ × List Piece → Type 0 = λ x. RestAt line pieces x.1 x.2 in
+        let behind_thread : RestAt line pieces n rest = beyond at (over_word t.0) in
         test_explains C Q (leb threads thread) (fails BadCondition n) _ (λ absent.
         no_atom w n rest t (ap (is_below threads) is ∙ ap not absent)
         (false_from_ne_true (is_location w) (λ location. let same = sym is ∙ location-no_thread w 15 location in
@@ -198,7 +198,7 @@ module _ (items : List Item) (threads : ℕ) (known : Names) (line : ℕ) (piece
         _
         (expect_wanted C BadCondition (fits threads (Colon thread)) n rest (wants (Colon thread) n rest behind_thread
         colon_next) 58 (λ p. refl)) (λ colon e p.
-        let behind_colon : Place line pieces colon.0 colon.1 = beyond behind_thread (over_sign p.0) in
+        let behind_colon : RestAt line pieces colon.0 colon.1 = beyond behind_thread (over_sign p.0) in
         let register_next : Whole (RegisterOf thread) colon.1 = begins (RegisterOf thread) colon.1
         (colon_there (thread_there w thread few t.1 is (leb-false _ _ present)) p.1) in
         let register : Wants C BadCondition (fits threads (RegisterOf thread)) colon.0 colon.1 =
@@ -224,11 +224,11 @@ module _ (items : List Item) (threads : ℕ) (known : Names) (line : ℕ) (piece
         )) (λ plain. beyond behind_colon (over_word q.0)))))))
 
     location_name_explains : (w : List ℕ) (n : ℕ) (rest : List Piece) → Taken m here (Word w) n rest →
-        small_of 15 w ≡ None → Explains C (λ (x : (Name × Names) × ℕ × List Piece). Place line pieces x.1 x.2)
+        small_of 15 w ≡ None → Explains C (λ (x : (Name × Names) × ℕ × List Piece). RestAt line pieces x.1 x.2)
         (location_name_at w s.0 n rest)
     unfolding location_name_at
     location_name_explains w n rest t is =
-        let Q : (Name × Names) × ℕ × List Piece → Type 0 = λ x. Place line pieces x.1 x.2 in
+        let Q : (Name × Names) × ℕ × List Piece → Type 0 = λ x. RestAt line pieces x.1 x.2 in
         bind_explains C (λ (x : ℕ × Names). Unit {0}) Q (location_at BadCondition w n s.0)
         (λ l. Ok ((Location l.0, l.1), n, rest))
         (location_explains C BadCondition w n s.0 (no_atom w n rest t (ap (is_below threads) is))
@@ -237,11 +237,11 @@ module _ (items : List Item) (threads : ℕ) (known : Names) (line : ℕ) (piece
 
     name_of_explains : (o : Option ℕ) (w : List ℕ) (n : ℕ) (rest : List Piece) → s.1 < 256 → Taken m here (Word w) n
         rest → small_of 15 w ≡ o
-        → Explains C (λ (x : (Name × Names) × ℕ × List Piece). Place line pieces x.1 x.2)
+        → Explains C (λ (x : (Name × Names) × ℕ × List Piece). RestAt line pieces x.1 x.2)
         (name_of items threads o w s.0 n rest)
     name_of_explains (Some thread) w n rest few t is =
-        bind_explains C (λ (x : Name × ℕ × List Piece). Place line pieces x.1 x.2)
-        (λ (x : (Name × Names) × ℕ × List Piece). Place line pieces x.1 x.2)
+        bind_explains C (λ (x : Name × ℕ × List Piece). RestAt line pieces x.1 x.2)
+        (λ (x : (Name × Names) × ℕ × List Piece). RestAt line pieces x.1 x.2)
         (register_name_at items threads thread n rest) (λ r. Ok ((r.0, s.0), r.1, r.2))
         (register_explains w thread n rest few t is) (λ r e q. q)
     name_of_explains None w n rest few t is = location_name_explains w n rest t is
@@ -260,7 +260,7 @@ module _ (items : List Item) (threads : ℕ) (known : Names) (line : ℕ) (piece
           inr (leb-true _ _ many),
         )) (λ few.
         let lt : s.1 < 256 = leb-false _ _ few in
-        bind_explains C (λ (x : (Name × Names) × ℕ × List Piece). Place line pieces x.1 x.2) Q
+        bind_explains C (λ (x : (Name × Names) × ℕ × List Piece). RestAt line pieces x.1 x.2) Q
         (name_of items threads (small_of 15 w) w s.0 n rest) _ (name_of_explains (small_of 15 w) w n rest lt
         t refl) (λ name e q.
         let named : AtomUpTo items threads depth s here Equals name.2 = name_there name.0.0 name.0.1 lt
@@ -269,9 +269,9 @@ module _ (items : List Item) (threads : ℕ) (known : Names) (line : ℕ) (piece
         (expect_at 61 BadCondition name.1 name.2) _
         (expect_wanted C BadCondition (fits threads Equals) name.1 name.2
         (wants Equals name.1 name.2 q (begins Equals name.2 named)) 61 (λ p. refl)) (λ equals f p.
-        let behind_equals : Place line pieces equals.0 equals.1 = beyond q (over_sign p.0) in
+        let behind_equals : RestAt line pieces equals.0 equals.1 = beyond q (over_sign p.0) in
         let value_next : Whole Value equals.1 = begins Value equals.1 (equals_there named p.1) in
-        bind_explains C (λ (x : ℕ × ℕ × List Piece). Place equals.0 equals.1 x.1 x.2) Q
+        bind_explains C (λ (x : ℕ × ℕ × List Piece). RestAt equals.0 equals.1 x.1 x.2) Q
         (number_at BadCondition equals.0 equals.1) (λ v. Ok ((Is name.0.0 v.0, (name.0.1, s.1 + 1)), v.1, v.2))
         (number_wanted C BadCondition (fits threads Value) equals.0 equals.1
         (wants Value equals.0 equals.1 behind_equals value_next) (λ p. refl)
@@ -289,10 +289,10 @@ module _ (items : List Item) (threads : ℕ) (known : Names) (line : ℕ) (piece
       (takes : IsSound read P) (counts : Counts P) (sound : Sound B R read) where
     -- from the chain's first part on: the parts so far
     abbrev Turn : Sight → List Piece → ℕ → Chain → Type 0
-    Turn s rest k c = Place line pieces c.2 c.3 × R c.3 × Chained P sign join s rest c.0 c.1 c.3 × (256 < c.1.1 + k)
+    Turn s rest k c = RestAt line pieces c.2 c.3 × R c.3 × Chained P sign join s rest c.0 c.1 c.3 × (256 < c.1.1 + k)
 
     abbrev Ended : Chain → Type 0
-    Ended c = Place line pieces c.2 c.3 × R c.3 × NotNext test c.3
+    Ended c = RestAt line pieces c.2 c.3 × R c.3 × NotNext test c.3
 
     step_of : (s : Sight) (rest : List Piece) → Begins (ChainUpTo P B sign join s rest) → (k : ℕ) (c : Chain) →
         Turn s rest (suc k) c → (o : Option (ℕ × List Piece)) → joined_at test c.2 c.3 ≡ o
@@ -349,7 +349,7 @@ module _ (items : List Item) (threads : ℕ) (known : Names) (line : ℕ) (piece
       (chain_takes F and_word Both is_and ands read takes) (chain_counts F and_word Both counts)
       (chain_explains is_and and_word ands Both read F (FactorUpTo items threads depth) Anything takes counts sound)
 
-  factor_begins : (depth : ℕ) (inner : Reader) (s : Sight) (n : ℕ) (rest : List Piece) → Place line pieces n rest →
+  factor_begins : (depth : ℕ) (inner : Reader) (s : Sight) (n : ℕ) (rest : List Piece) → RestAt line pieces n rest →
       Begins (AtomUpTo items threads depth s rest)
       → ((m : ℕ) (after : List Piece) → Taken n rest (Sign 40) m after →
       Explains C (After Anything) (inner s m after))
@@ -365,7 +365,7 @@ module _ (items : List Item) (threads : ℕ) (known : Names) (line : ℕ) (piece
   factor_begins depth inner s n rest at begins sound LineEnd m after t =
       (wants (Factor depth s) n rest at (begins (Factor depth s) rest at_factor)).wrong LineEnd m after t refl
 
-  from_next : (depth : ℕ) (inner : Reader) (s : Sight) (n : ℕ) (rest : List Piece) → Place line pieces n rest →
+  from_next : (depth : ℕ) (inner : Reader) (s : Sight) (n : ℕ) (rest : List Piece) → RestAt line pieces n rest →
       Begins (AtomUpTo items threads depth s rest)
       → ((m : ℕ) (after : List Piece) → Taken n rest (Sign 40) m after → Explains C (After Anything)
       (inner s m after)) → Explains C (After Anything) (next_at n rest >>= factor_of items threads inner s)
@@ -375,7 +375,7 @@ module _ (items : List Item) (threads : ℕ) (known : Names) (line : ℕ) (piece
       (next_wanted C n rest (wants (Factor depth s) n rest at (begins (Factor depth s) rest at_factor)).ends)
       (λ x e t. factor_begins depth inner s n rest at begins sound x.0 x.1 x.2 t)
 
-  closing_explains : (n : ℕ) (rest : List Piece) → Place line pieces n rest → Over rest → Whole Closing rest →
+  closing_explains : (n : ℕ) (rest : List Piece) → RestAt line pieces n rest → Over rest → Whole Closing rest →
       Explains C (λ (x : ℕ × List Piece). Taken n rest (Sign 41) x.0 x.1) (expect_at 41 BadCondition n rest)
   closing_explains n rest at over upto =
       let closing : Wants C BadCondition (fits threads Closing) n rest = wants Closing n rest at upto in
@@ -388,7 +388,7 @@ module _ (items : List Item) (threads : ℕ) (known : Names) (line : ℕ) (piece
       }) 41 (λ p. refl)
 
   paren_explains : (depth : ℕ) → Sound (ExpressionUpTo items threads depth) Over (expression_at items threads depth) →
-      (s : Sight) (n : ℕ) (rest : List Piece) → Place line pieces n rest
+      (s : Sight) (n : ℕ) (rest : List Piece) → RestAt line pieces n rest
       → Begins (FactorUpTo items threads (suc depth) s rest) → (m : ℕ) (after : List Piece) → Taken n rest (Sign 40) m
       after → Explains C (After Anything) (in_parentheses (expression_at items threads depth) s m after)
   paren_explains depth sound s n rest at begins m after t =
@@ -435,7 +435,7 @@ module _ (items : List Item) (threads : ℕ) (known : Names) (line : ℕ) (piece
         rest = f.1;
         is = expression_takes items threads 64 (known, 0) line pieces r e;
         next = f.2.1;
-        place = beyond h.0 f.2.0;
+        rest_at = beyond h.0 f.2.0;
         no_and = isn't is_and f.0 and_word (h.1.0.1 f.0 f.1 f.2.1) refl;
         no_or = isn't is_or f.0 or_word (h.1.1 f.0 f.1 f.2.1) refl;
       })) tt)

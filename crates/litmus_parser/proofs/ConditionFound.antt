@@ -15,7 +15,7 @@ use Rattle.litmus_parser.specs.ReadingCondition.{Reader, Chain, joined_with, too
 use Rattle.litmus_parser.specs.ReadingCondition.{in_parentheses, factor_of, too_deep, factor_at, term_at}
 use Rattle.litmus_parser.specs.ReadingCondition.{expression_at}
 use Rattle.litmus_parser.specs.ReadingEnd.{keyword_at, further_at, unless_further, whole_at, condition_at}
-use Rattle.litmus_parser.specs.GrammarWords.{Next, Ends}
+use Rattle.litmus_parser.specs.GrammarWords.{Next, AtTextEnd}
 use Rattle.litmus_parser.specs.GrammarCondition.{IsNamed, IsAtom, and_word, or_word, Part, Chained, one, more}
 use Rattle.litmus_parser.specs.GrammarCondition.{IsFactor, IsExpression, IsCondition, Sight}
 use Rattle.litmus_parser.specs.declared.syntax.Item.{Item}
@@ -268,7 +268,7 @@ expression_takes items threads depth =
 
 -- ---- the whole condition
 
-ends-there : (line : ℕ) (pieces : List Piece) → further_at line pieces ≡ None → Ends pieces
+ends-there : (line : ℕ) (pieces : List Piece) → further_at line pieces ≡ None → AtTextEnd pieces
 unfolding further_at
 ends-there line [] e = tt
 ends-there line (LineEnd ∷ pieces) e = ends-there (line + 1) pieces e

@@ -16,7 +16,7 @@ use Rattle.litmus_parser.specs.ReadingCondition.{Reader, joined_with, too_many_p
 use Rattle.litmus_parser.specs.ReadingCondition.{in_parentheses, factor_of, too_deep, factor_at, term_at}
 use Rattle.litmus_parser.specs.ReadingCondition.{expression_at}
 use Rattle.litmus_parser.specs.ReadingEnd.{keyword_at, further_at, whole_at, condition_at}
-use Rattle.litmus_parser.specs.GrammarWords.{Next, Ends}
+use Rattle.litmus_parser.specs.GrammarWords.{Next, AtTextEnd}
 use Rattle.litmus_parser.specs.GrammarCondition.{IsNamed, IsAtom, and_word, or_word, Part, Chained, one, more}
 use Rattle.litmus_parser.specs.GrammarCondition.{IsFactor, IsExpression, IsCondition, Sight}
 use Rattle.litmus_parser.specs.declared.syntax.Item.{Item}
@@ -237,7 +237,7 @@ word-stops is_sign w other (LineEnd ∷ pieces) rest n line = word-stops is_sign
 word-stops is_sign w other (Word v ∷ pieces) rest n line = let same : v ≡ w = cc in rw (same, other) refl
 word-stops is_sign w other (Sign b ∷ pieces) rest n line = refl
 
-pub end-stops : (is_sign : List ℕ → Bool) (pieces : List Piece) → Ends pieces → Stops is_sign pieces
+pub end-stops : (is_sign : List ℕ → Bool) (pieces : List Piece) → AtTextEnd pieces → Stops is_sign pieces
 unfolding joined_at
 end-stops is_sign [] e line = refl
 end-stops is_sign (LineEnd ∷ pieces) e line = end-stops is_sign pieces e (line + 1)
@@ -326,7 +326,7 @@ expression_again items items' threads depth agree =
 
 -- ---- the whole condition
 
-pub none_again : (line : ℕ) (pieces : List Piece) → Ends pieces → further_at line pieces ≡ None
+pub none_again : (line : ℕ) (pieces : List Piece) → AtTextEnd pieces → further_at line pieces ≡ None
 unfolding further_at
 none_again line [] e = refl
 none_again line (LineEnd ∷ pieces) e = none_again (line + 1) pieces e

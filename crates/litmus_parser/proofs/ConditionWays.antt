@@ -18,7 +18,7 @@ use Rattle.litmus_parser.specs.ReadingAtoms.{joined_at, register_name_at, locati
 use Rattle.litmus_parser.specs.ReadingCondition.{Reader, Chain, joined_with, too_many_parts, chain_result, chained}
 use Rattle.litmus_parser.specs.ReadingCondition.{in_parentheses, factor_of, too_deep, factor_at, expression_at}
 use Rattle.litmus_parser.specs.ReadingEnd.{further_at, unless_further, whole_at}
-use Rattle.litmus_parser.specs.Places.{line_ends}
+use Rattle.litmus_parser.specs.RestLines.{line_ends}
 use Rattle.litmus_parser.specs.ConditionFaults.{IsWhole, HasNoWayOn}
 use Rattle.litmus_parser.specs.declared.syntax.Item.{Item}
 use Rattle.litmus_parser.specs.declared.syntax.Name.{Name}

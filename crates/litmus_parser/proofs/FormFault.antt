@@ -6,7 +6,7 @@ use Rattle.litmus_lexer.specs.declared.errors.Kind.{Kind}
 use Rattle.litmus_lexer.specs.declared.errors.Kind.TheVariants.{BadInstruction}
 use Rattle.litmus_lexer.specs.Reading.{◌>>=◌, Read, Passed, fails, word_here_at, expect_here_at}
 use Rattle.litmus_parser.specs.Mnemonics.{mnemonic_of, is_zero, is_fence_set}
-use Rattle.litmus_parser.specs.Places.{Place}
+use Rattle.litmus_parser.specs.RestLines.{RestAt}
 use Rattle.litmus_parser.specs.ReadingForms.{register_at, based_at, offset_at, swapped_at, number_word_at, set_at}
 use Rattle.litmus_parser.specs.ReadingForms.{fence_at, li_at, ori_at, operands_at, form_at}
 use Rattle.litmus_parser.specs.declared.forms.Mnemonic.{Mnemonic}
@@ -23,7 +23,7 @@ BadHere line kind n = (kind ≡ BadInstruction) × (n ≡ line)
 
 -- a place of pieces that begin in the same line
 abbrev pub On : ℕ → List Piece → ℕ → List Piece → Type 0
-On line pieces n rest = (n ≡ line) × Place line pieces n rest
+On line pieces n rest = (n ≡ line) × RestAt line pieces n rest
 
 module _ (line : ℕ) (pieces : List Piece) where
   abbrev pub Reads : {X : Type 0} → Read X → Type 0

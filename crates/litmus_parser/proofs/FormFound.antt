@@ -12,7 +12,7 @@ use Rattle.litmus_parser.specs.ReadingForms.{register_at, based_at, offset_at, s
 use Rattle.litmus_parser.specs.ReadingForms.{fence_at, li_at, ori_at, operands_at, form_at}
 use Rattle.litmus_parser.specs.Verdicts.{same_width, kept_at, value_register_at, or_no_address, base_at, judged_at}
 use Rattle.litmus_parser.specs.GrammarForms.{IsRegister, IsBased, IsOffset, IsSwapped, IsAnyNumber, IsFenceSet}
-use Rattle.litmus_parser.specs.GrammarForms.{IsForm, HasWidth, HoldsValue, StandsFor}
+use Rattle.litmus_parser.specs.GrammarForms.{IsForm, HasWidth, HoldsValue, Means}
 use Rattle.litmus_parser.specs.declared.syntax.Width.{Width}
 use Rattle.litmus_parser.specs.declared.syntax.Width.TheVariants.{Single, Double}
 use Rattle.litmus_parser.specs.declared.syntax.Item.{Item}
@@ -265,14 +265,14 @@ swap_same : (d s d' s' l : ℕ) → d ≡ d' → s ≡ s' → Swap d' s' l ≡ S
 swap_same d s d' s' l e f = ap (λ x. Swap x s' l) (sym e) ∙ ap (λ x. Swap d x l) (sym f)
 
 pub judged_takes : (items : List Item) (t : ℕ) (before : Option Width) (f : Form) (line : ℕ) (x : Instruction ×
-    Option Width) → judged_at items t before f line ≡ Ok x → StandsFor items t before f x.0 x.1
+    Option Width) → judged_at items t before f line ≡ Ok x → Means items t before f x.0 x.1
 unfolding judged_at
 judged_takes items t before (form.Load own target base) line x e =
     let w = bind_ok (kept_at before own line) _ x e in
     let d = bind_ok (value_register_at items t target line) _ x w.2 in
     let b = bind_ok (base_at items t base line) (λ b. Ok (Load d.0 b, w.0)) x d.2 in
     let v = value_register_takes items t target line d.0 d.1 in
-    subst (λ (y : Instruction × Option Width). StandsFor items t before (form.Load own target base) y.0 y.1)
+    subst (λ (y : Instruction × Option Width). Means items t before (form.Load own target base) y.0 y.1)
     (ok_is (Load d.0 b.0, w.0) x b.2) (
       b.0,
       two_same Load target d.0 b.0 v.1,
@@ -286,7 +286,7 @@ judged_takes items t before (form.Store own source base) line x e =
     let s = bind_ok (value_register_at items t source line) _ x w.2 in
     let b = bind_ok (base_at items t base line) (λ b. Ok (Store s.0 b, w.0)) x s.2 in
     let v = value_register_takes items t source line s.0 s.1 in
-    subst (λ (y : Instruction × Option Width). StandsFor items t before (form.Store own source base) y.0 y.1)
+    subst (λ (y : Instruction × Option Width). Means items t before (form.Store own source base) y.0 y.1)
     (ok_is (Store s.0 b.0, w.0) x b.2) (
       b.0,
       two_same Store source s.0 b.0 v.1,
@@ -302,7 +302,7 @@ judged_takes items t before (form.Swap own target source base) line x e =
     let b = bind_ok (base_at items t base line) (λ b. Ok (Swap d.0 s.0 b, w.0)) x s.2 in
     let v = value_register_takes items t target line d.0 d.1 in
     let u = value_register_takes items t source line s.0 s.1 in
-    subst (λ (y : Instruction × Option Width). StandsFor items t before (form.Swap own target source base) y.0 y.1)
+    subst (λ (y : Instruction × Option Width). Means items t before (form.Swap own target source base) y.0 y.1)
     (ok_is (Swap d.0 s.0 b.0, w.0) x b.2) (
       b.0,
       swap_same target source d.0 s.0 b.0 v.1 u.1,
@@ -317,7 +317,7 @@ judged_takes items t before (form.Li target value) line x e =
     x e in
     let d = bind_ok (value_register_at items t target line) (λ d. Ok (Set d value, before)) x f.1 in
     let v = value_register_takes items t target line d.0 d.1 in
-    subst (λ (y : Instruction × Option Width). StandsFor items t before (form.Li target value) y.0 y.1)
+    subst (λ (y : Instruction × Option Width). Means items t before (form.Li target value) y.0 y.1)
     (ok_is (Set d.0 value, before) x d.2)
     (two_same Set target d.0 value v.1, ltb-true _ _ f.0, v.0, refl)
 judged_takes items t before (form.Ori target value) line x e =
@@ -325,9 +325,9 @@ judged_takes items t before (form.Ori target value) line x e =
     e in
     let d = bind_ok (value_register_at items t target line) (λ d. Ok (Set d value, before)) x f.1 in
     let v = value_register_takes items t target line d.0 d.1 in
-    subst (λ (y : Instruction × Option Width). StandsFor items t before (form.Ori target value) y.0 y.1)
+    subst (λ (y : Instruction × Option Width). Means items t before (form.Ori target value) y.0 y.1)
     (ok_is (Set d.0 value, before) x d.2)
     (two_same Set target d.0 value v.1, ltb-false _ _ f.0, v.0, refl)
 judged_takes items t before form.Fence line x e =
-    subst (λ (y : Instruction × Option Width). StandsFor items t before form.Fence y.0 y.1)
+    subst (λ (y : Instruction × Option Width). Means items t before form.Fence y.0 y.1)
     (ok_is (Fence, before) x e) (refl, refl)

@@ -9,7 +9,7 @@ use Rattle.litmus_parser.specs.ReadingForms.{register_at, based_at, offset_at, s
 use Rattle.litmus_parser.specs.ReadingForms.{fence_at, li_at, ori_at, operands_at, form_at}
 use Rattle.litmus_parser.specs.Verdicts.{same_width, kept_at, value_register_at, base_at, judged_at}
 use Rattle.litmus_parser.specs.GrammarForms.{IsRegister, IsBased, IsOffset, IsSwapped, IsAnyNumber, IsFenceSet}
-use Rattle.litmus_parser.specs.GrammarForms.{IsForm, HasWidth, HoldsValue, StandsFor}
+use Rattle.litmus_parser.specs.GrammarForms.{IsForm, HasWidth, HoldsValue, Means}
 use Rattle.litmus_parser.specs.declared.syntax.Width.{Width}
 use Rattle.litmus_parser.specs.declared.syntax.Width.TheVariants.{Single, Double}
 use Rattle.litmus_parser.specs.declared.syntax.Item.{Item}
@@ -148,7 +148,7 @@ base_again items items' t r l line same h = rw (same, h) refl
 
 pub judged_again : (items items' : List Item) (t : ℕ) (before after : Option Width) (form : Form)
     (i : Instruction) (line : ℕ)
-    → ((r : ℕ) → address_of t r items' ≡ address_of t r items) → StandsFor items t before form i after →
+    → ((r : ℕ) → address_of t r items' ≡ address_of t r items) → Means items t before form i after →
     judged_at items' t before form line ≡ Ok (i, after)
 unfolding judged_at
 judged_again items items' t before after (form.Load width d b) i line same h =

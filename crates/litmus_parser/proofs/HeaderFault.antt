@@ -7,16 +7,16 @@ use Rattle.litmus_lexer.specs.declared.errors.Kind.{Kind}
 use Rattle.litmus_lexer.specs.declared.errors.Kind.TheVariants.{BadTable, TooLarge, CutShort}
 use Rattle.litmus_lexer.specs.declared.errors.LitmusError.{LitmusError}
 use Rattle.litmus_lexer.specs.Reading.{◌>>=◌, fails, here_at, word_here_at, start_at, end_line_at, repeat_at}
-use Rattle.litmus_parser.specs.Places.{Place}
+use Rattle.litmus_parser.specs.RestLines.{RestAt}
 use Rattle.litmus_parser.specs.GrammarWords.{EndsLine}
 use Rattle.litmus_parser.specs.ReadingTable.{is_thread, separated_by, separated, Headings, heading_at, too_many}
 use Rattle.litmus_parser.specs.ReadingTable.{headings_at, header_at}
 use Rattle.litmus_parser.specs.GrammarTable.{Begins, AreHeadings, last, more, IsHeaderRow}
-use Rattle.litmus_parser.specs.TableFaults.{LineAt, StandHeadings, no_heading, one_more, HasSeventeenth, HeaderCause}
+use Rattle.litmus_parser.specs.TableFaults.{LineAt, HeadingsUpTo, no_heading, one_more, HasSeventeenth, HeaderCause}
 use Rattle.litmus_parser.proofs.Causes.{Explains, Onto, start, beyond, over_word, over_sign, bind_explains}
 use Rattle.litmus_parser.proofs.Causes.{test_explains, weaker, told, repeat_counted}
 use Rattle.litmus_parser.proofs.CausesHere.{word_here_explains, here_explains, end_line_explains, at_rest}
-use Rattle.litmus_parser.proofs.Outcomes.{answered, begins_explains}
+use Rattle.litmus_parser.proofs.ReadAnswers.{answered, begins_explains}
 use Rattle.litmus_parser.proofs.FormFault.{On}
 use Rattle.litmus_parser.proofs.TableFound.{is_thread-is}
 use Rattle.litmus_parser.proofs.TableOnly.{heading_more_again, header_again}
@@ -31,27 +31,27 @@ AnyCause kind n = Unit {0}
 -- after | the row goes on in its line
 abbrev Goes : ℕ → List Piece → List Piece → Bool × ℕ × List Piece → Type 0
 Goes first row before (true, n, rest) = On first row n rest × (before ≡ Sign 124 ∷ rest)
-Goes first row before (false, n, rest) = Place first row n rest
+Goes first row before (false, n, rest) = RestAt first row n rest
 
 -- so many headings are taken, and the next one is in the row's line
 abbrev NextHeading : ℕ → List Piece → ℕ → Headings → Type 0
-NextHeading first row k h = (h.0 + k ≡ 17) × (h.0 ≤ 16) × On first row h.1 h.2 × StandHeadings row h.0 h.2
+NextHeading first row k h = (h.0 + k ≡ 17) × (h.0 ≤ 16) × On first row h.1 h.2 × HeadingsUpTo row h.0 h.2
 
 abbrev Headed : ℕ → List Piece → Headings → Type 0
-Headed first row h = Place first row h.1 h.2
+Headed first row h = RestAt first row h.1 h.2
 
 goes_onto : (first : ℕ) (row : List Piece) (k t : ℕ) (w : List ℕ) (before : List Piece) (s : Bool × ℕ × List Piece) →
-    t + 1 + k ≡ 17 → t + 1 ≤ 16 → StandHeadings row t (Word w ∷ before) → thread_named w ≡ Some t
+    t + 1 + k ≡ 17 → t + 1 ≤ 16 → HeadingsUpTo row t (Word w ∷ before) → thread_named w ≡ Some t
     → Goes first row before s → Onto (NextHeading first row k) (Headed first row) (s.0, (t + 1, s.1, s.2))
 goes_onto first row k t w before (true, n, rest) e le st named g =
-    (e, le, g.0, one_more w (subst (λ (r : List Piece). StandHeadings row t (Word w ∷ r)) g.1 st) named)
+    (e, le, g.0, one_more w (subst (λ (r : List Piece). HeadingsUpTo row t (Word w ∷ r)) g.1 st) named)
 goes_onto first row k t w before (false, n, rest) e le st named g = g
 
 -- a header row that begins in this line; C is the cause of a kind
 module _ (C : Kind → ℕ → Type 0) (first : ℕ) (row : List Piece) (bad : C BadTable first) (large : HasSeventeenth row →
     C TooLarge first) where
   separated_by_explains : (before : List Piece) (p : Piece) (n : ℕ) (rest : List Piece) → n ≡ first →
-      before ≡ p ∷ rest → Place first row n (p ∷ rest) → Explains C (Goes first row before)
+      before ≡ p ∷ rest → RestAt first row n (p ∷ rest) → Explains C (Goes first row before)
       (separated_by (p, n, rest))
   separated_by_explains before (Word w) n rest e f p = rw e bad
   separated_by_explains before LineEnd n rest e f p = rw e bad
@@ -60,7 +60,7 @@ module _ (C : Kind → ℕ → Type 0) (first : ℕ) (row : List Piece) (bad : C
       (λ t. ((e, over_sign p), f ∙ ap (λ c. Sign c ∷ rest) (eqb-true b 124 t))) (λ u.
       test_explains C (Goes first row before) (eqb b 59) (end_line_at BadTable n rest >>= λ next.
       Ok (false, next.0, next.1)) (fails BadTable n)
-      (λ t. bind_explains C (λ (x : ℕ × List Piece). Place first row x.0 x.1 × EndsLine rest x.1)
+      (λ t. bind_explains C (λ (x : ℕ × List Piece). RestAt first row x.0 x.1 × EndsLine rest x.1)
       (Goes first row before) (end_line_at BadTable n rest) (λ next. Ok (false, next.0, next.1))
       (end_line_explains C first row BadTable n rest (rw e bad) (over_sign p)) (λ next is q. q.0)) (λ g. rw e bad))
 
@@ -73,10 +73,10 @@ module _ (C : Kind → ℕ → Type 0) (first : ℕ) (row : List Piece) (bad : C
       (here_explains C BadTable n rest (rw o.0 bad)) (λ x is h. separated_by_explains rest x.0 x.1 x.2 (h.0 ∙ o.0) h.1
       (at_rest h.0 h.1 o.1))
 
-  seventeenth : (w : List ℕ) (n t : ℕ) (rest : List Piece) → n ≡ first → StandHeadings row t (Word w ∷ rest) →
+  seventeenth : (w : List ℕ) (n t : ℕ) (rest : List Piece) → n ≡ first → HeadingsUpTo row t (Word w ∷ rest) →
       t ≡ 16 → thread_named w ≡ Some t → C TooLarge n
   seventeenth w n t rest e st many named =
-      rw e (large (w, rest, subst (λ k. StandHeadings row k (Word w ∷ rest)) many st, named ∙ ap Some many))
+      rw e (large (w, rest, subst (λ k. HeadingsUpTo row k (Word w ∷ rest)) many st, named ∙ ap Some many))
 
   heading_explains : (k : ℕ) (h : Headings) → NextHeading first row (suc k) h →
       Explains C (Onto (NextHeading first row k) (Headed first row)) (heading_at h)
@@ -86,9 +86,9 @@ module _ (C : Kind → ℕ → Type 0) (first : ℕ) (row : List Piece) (bad : C
       (Onto (NextHeading first row k) (Headed first row)) (word_here_at BadTable h.1 h.2) _
       (word_here_explains C BadTable h.1 h.2 (rw s.2.0 bad)) (λ w is q.
       let here : w.1 ≡ first = q.0 ∙ s.2.0 in
-      let place : Place first row w.1 (Word w.0 ∷ w.2) = at_rest q.0 q.1 s.2.1 in
-      let stand : StandHeadings row h.0 (Word w.0 ∷ w.2) =
-      subst (λ (r : List Piece). StandHeadings row h.0 r) q.1 s.3 in
+      let rest_at : RestAt first row w.1 (Word w.0 ∷ w.2) = at_rest q.0 q.1 s.2.1 in
+      let stand : HeadingsUpTo row h.0 (Word w.0 ∷ w.2) =
+      subst (λ (r : List Piece). HeadingsUpTo row h.0 r) q.1 s.3 in
       test_explains C (Onto (NextHeading first row k) (Headed first row)) (is_thread (thread_named w.0) h.0) _
       (fails BadTable w.1) (λ named.
       let named_is : thread_named w.0 ≡ Some h.0 = is_thread-is (thread_named w.0) h.0 named in
@@ -96,7 +96,7 @@ module _ (C : Kind → ℕ → Type 0) (first : ℕ) (row : List Piece) (bad : C
       let le = leb-true _ _ many in
       seventeenth w.0 w.1 h.0 w.2 here stand (omega (arith, s.1, le)) named_is) (λ few.
       bind_explains C (Goes first row w.2) (Onto (NextHeading first row k) (Headed first row)) (separated w.1 w.2)
-      (λ s. Ok (s.0, (h.0 + 1, s.1, s.2))) (separated_explains w.1 w.2 (here, over_word place)) (λ x is g.
+      (λ s. Ok (s.0, (h.0 + 1, s.1, s.2))) (separated_explains w.1 w.2 (here, over_word rest_at)) (λ x is g.
       goes_onto first row k h.0 w.0 w.2 x (omega (arith, s.0)) (let lt = leb-false _ _ few in omega (arith, lt)) stand
       named_is g))) (λ other. rw here bad))
 
@@ -110,11 +110,11 @@ module _ (C : Kind → ℕ → Type 0) (first : ℕ) (row : List Piece) (bad : C
 header_from : (C : Kind → ℕ → Type 0) (line : ℕ) (pieces : List Piece) →
     ((n : ℕ) (row : List Piece) → LineAt line pieces n row → C BadTable n)
     → ((n : ℕ) (row : List Piece) → LineAt line pieces n row → HasSeventeenth row → C TooLarge n)
-    → ((n : ℕ) → Place line pieces n [] → ((row : List Piece) → Begins pieces row → ⊥) → C CutShort n) →
+    → ((n : ℕ) → RestAt line pieces n [] → ((row : List Piece) → Begins pieces row → ⊥) → C CutShort n) →
     Explains C (Headed line pieces) (header_at line pieces)
 unfolding header_at
 header_from C line pieces bad large short =
-    bind_explains C (λ (x : ℕ × List Piece). Place line pieces x.0 x.1 × Begins pieces x.1) (Headed line pieces)
+    bind_explains C (λ (x : ℕ × List Piece). RestAt line pieces x.0 x.1 × Begins pieces x.1) (Headed line pieces)
     (start_at line pieces) (λ at. headings_at at.0 at.1)
     (begins_explains C line pieces line pieces (start line pieces) short) (λ at is p.
     weaker C (Headed at.0 at.1) (Headed line pieces) (headings_at at.0 at.1) (λ h q. beyond p.0 q)
@@ -129,7 +129,7 @@ no_header line pieces e fault threads rest h =
     absurd cc
 
 -- headings that stand are read, up to their place
-headings_reached : (line : ℕ) (row : List Piece) {t : ℕ} {rest : List Piece} → StandHeadings row t rest → t ≤ 16 →
+headings_reached : (line : ℕ) (row : List Piece) {t : ℕ} {rest : List Piece} → HeadingsUpTo row t rest → t ≤ 16 →
     repeat_at (17 - t) heading_at too_many (t, line, rest) ≡ headings_at line row
 unfolding headings_at
 headings_reached line row no_heading le = refl
@@ -175,7 +175,7 @@ header_explains line pieces e fault =
     (λ n row l seventeen same. (row, l, seventeen)) (λ n p no same. (no, p))) fault refl
 
 pub header_place : (line : ℕ) (pieces : List Piece) (h : Headings) → header_at line pieces ≡ Ok h →
-    Place line pieces h.1 h.2
+    RestAt line pieces h.1 h.2
 header_place line pieces h is = answered AnyCause (Headed line pieces) (header_at line pieces) h
     (header_from AnyCause line pieces (λ n row l. tt) (λ n row l seventeen. tt) (λ n p no. tt)) is
 

@@ -18,7 +18,7 @@ pub use Rattle.litmus_parser.proofs.Causes.{test_explains, told}
 -- The header row is read, or its fault has its cause in its line.
 pub use Rattle.litmus_parser.proofs.HeaderFault.{header_explains, header_place, header_threads}
 -- What is said of a reading, said of its answer; and faults of which more is known.
-pub use Rattle.litmus_parser.proofs.Outcomes.{answered}
+pub use Rattle.litmus_parser.proofs.ReadAnswers.{answered}
 -- What the tests of a line say: that it has the shape of a row, and that the condition begins there.
 pub use Rattle.litmus_parser.proofs.ShapeFault.{begins-next}
 -- What one step of reading shows of the pieces in front.

@@ -14,7 +14,7 @@ mod ConditionOnly
 mod BlockOnly
 mod Causes
 mod CausesHere
-mod Outcomes
+mod ReadAnswers
 mod LocationFault
 mod WantedFault
 mod BlockFault

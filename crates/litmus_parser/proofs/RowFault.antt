@@ -8,7 +8,7 @@ use Rattle.litmus_lexer.specs.declared.errors.Kind.{Kind}
 use Rattle.litmus_lexer.specs.declared.errors.Kind.TheVariants.{BadTable, BadInstruction}
 use Rattle.litmus_lexer.specs.declared.errors.LitmusError.{LitmusError}
 use Rattle.litmus_lexer.specs.Reading.{fails, behind, expect_here_at, end_line_at, passed_at, repeat_at}
-use Rattle.litmus_parser.specs.Places.{Place}
+use Rattle.litmus_parser.specs.RestLines.{RestAt}
 use Rattle.litmus_parser.specs.ReadingForms.{form_at}
 use Rattle.litmus_parser.specs.Verdicts.{judged_at}
 use Rattle.litmus_parser.specs.ReadingRows.{Rows, Columns, ends_line, has_shape, instruction_at, cell_at, column_at}
@@ -30,7 +30,7 @@ use Rattle.litmus_parser.proofs.OnwardHere.{expect_here_again}
 use Rattle.litmus_parser.proofs.TableFound.{cell_takes}
 use Rattle.litmus_parser.proofs.TableOnly.{passed_again, cells_shape}
 use Rattle.litmus_parser.proofs.Steps.{passed_takes}
-use Rattle.litmus_parser.proofs.Outcomes.{otherwise}
+use Rattle.litmus_parser.proofs.ReadAnswers.{otherwise}
 use Rattle.litmus_parser.proofs.ShapeFault.{shape_stands, shape_again}
 use Rattle.litmus_parser.proofs.VerdictFault.{Any, WidthFrom, width_beyond, judged_explains, width_onward}
 
@@ -99,8 +99,8 @@ module _ (items : List Item) (threads line : ℕ) (pieces : List Piece) where
       → ((rest : List Piece) → here ≢ Sign (end_of threads t) ∷ rest) → NoForm (end_of threads t) here → m ≡ n →
       BadHere m e.kind e.line → C e.kind e.line
   bad_cell t n m before here e cell lt some none same bad =
-      let place : e.line ≡ n = bad.1 ∙ same in
-      rw (bad.0, place) (t, before, here, cell, lt, some, none)
+      let rest_at : e.line ≡ n = bad.1 ∙ same in
+      rw (bad.0, rest_at) (t, before, here, cell, lt, some, none)
 
   instruction_explains : (t : ℕ) (s : Rows) → CellAt items threads line pieces t s.2 s.1 s.3 → t < threads →
       WidthFrom items threads line pieces s.1 s.2 s.3
@@ -129,15 +129,15 @@ module _ (items : List Item) (threads line : ℕ) (pieces : List Piece) where
         is = subst (IsForm s.3 f.0) q.1 (form_takes s.2 s.3 f is);
       } in
       let same : next.0 ≡ s.2 = q.0 ∙ p.0 in
-      let place : Place s.2 next.1 next.0 next.1 = at_rest same refl (start s.2 next.1) in
-      let whole : Place s.2 s.3 next.0 next.1 = over_sign (at_rest q.0 q.1 p.1) in
+      let rest_at : RestAt s.2 next.1 next.0 next.1 = at_rest same refl (start s.2 next.1) in
+      let whole : RestAt s.2 s.3 next.0 next.1 = over_sign (at_rest q.0 q.1 p.1) in
       bind_explains C Any (Stays s) (judged_at items t s.1 f.0 next.0)
       (λ i. Ok (s.0 ++ (record { thread = t; instruction = i.0 }) ∷ [], i.1, next.0, next.1))
       (subst (λ m. Explains C Any (judged_at items t s.1 f.0 m)) (sym same) (judged_explains items threads line pieces
       s.1 t s.2 f.0 form w)) (λ i stands u. (
         (same, whole),
         width_onward items threads line pieces s.1 t s.2 f.0 form w i.0 i.1
-            (judged_takes items t s.1 f.0 next.0 i stands) next.0 next.1 place whole,
+            (judged_takes items t s.1 f.0 next.0 i stands) next.0 next.1 rest_at whole,
       ))))
 
   behind_explains : (t : ℕ) (s : Rows) → CellAt items threads line pieces t s.2 s.1 s.3 → t < threads →
@@ -152,8 +152,8 @@ module _ (items : List Item) (threads line : ℕ) (pieces : List Piece) where
       let same = sym e ∙ passed_again (end_of threads t) s.2 s.3 at.1 ends in
       let stays : at.0 ≡ s.2 =
       ap (λ (x : ℕ × List Piece). x.0) (let p : (let y : ℕ × List Piece = at in y) ≡ (s.2, at.1) = cc in p) in
-      let place : Place s.2 s.3 at.0 at.1 = over_sign (at_rest stays ends (start s.2 s.3)) in
-      ((stays, place), width_beyond items threads line pieces s.1 s.2 s.3 at.0 at.1 w place)
+      let rest_at : RestAt s.2 s.3 at.0 at.1 = over_sign (at_rest stays ends (start s.2 s.3)) in
+      ((stays, rest_at), width_beyond items threads line pieces s.1 s.2 s.3 at.0 at.1 w rest_at)
 
   cell_explains : (t : ℕ) (s : Rows) → CellAt items threads line pieces t s.2 s.1 s.3 → t < threads →
       WidthFrom items threads line pieces s.1 s.2 s.3
@@ -176,7 +176,7 @@ module _ (items : List Item) (threads line : ℕ) (pieces : List Piece) where
         (let e : suc t ≡ t + 1 = omega arith in e)
         (cells_end items threads t 0 t cell.start cell.width cell.cells more s.1 x.1 s.3 x.3
         (omega arith) cell.stand is);
-    place = subst (λ n. Place n cell.start x.2 x.3) (sym on.0) (beyond cell.place on.1);
+    rest_at = subst (λ n. RestAt n cell.start x.2 x.3) (sym on.0) (beyond cell.rest_at on.1);
   }
 
   -- ---- rows
@@ -197,7 +197,7 @@ module _ (items : List Item) (threads line : ℕ) (pieces : List Piece) where
       (omega (arith, h.0), next_cell c.0 (c.1, c.2, c.3, c.4) x taken.0 h.1 taken.2 p.0, p.1))
 
   line_ended : (n : ℕ) (rest : List Piece) → ends_line rest ≡ true →
-      Explains C (λ (x : ℕ × List Piece). Place n rest x.0 x.1) (end_line_at BadTable n rest)
+      Explains C (λ (x : ℕ × List Piece). RestAt n rest x.0 x.1) (end_line_at BadTable n rest)
   unfolding end_line_at
   line_ended n [] e = start n []
   line_ended n (LineEnd ∷ rest) e = over_end (start n (LineEnd ∷ rest))
@@ -206,7 +206,7 @@ module _ (items : List Item) (threads line : ℕ) (pieces : List Piece) where
 
   -- after rows that stand there
   abbrev pub Follows : Option Width → ℕ → List Piece → Type 0
-  Follows width n rest = Place line pieces n rest × WidthFrom items threads line pieces width n rest
+  Follows width n rest = RestAt line pieces n rest × WidthFrom items threads line pieces width n rest
 
   pub row_explains : (rows : ℕ) (s : Rows) → 0 < threads → rows < 1024 → RowAt items threads line pieces rows s.2 s.1
       s.3 → WidthFrom items threads line pieces s.1 s.2 s.3
@@ -230,16 +230,16 @@ module _ (items : List Item) (threads line : ℕ) (pieces : List Piece) where
           shaped =
               shape_stands (threads - 1) s.3 shaped;
           stand = (refl, refl, refl);
-          place = start s.2 s.3;
+          rest_at = start s.2 s.3;
         },
         w,
       )) (λ c is h.
       let ended_there = cells_ended items threads c.0 h.1.start h.1.width h.1.cells c.2 c.4 lt (omega (arith, h.0))
       h.1.stand (shape_again h.1.shaped) in
-      bind_explains C (λ (x : ℕ × List Piece). Place c.3 c.4 x.0 x.1) (λ (x : Rows). Follows x.1 x.2 x.3)
+      bind_explains C (λ (x : ℕ × List Piece). RestAt c.3 c.4 x.0 x.1) (λ (x : Rows). Follows x.1 x.2 x.3)
       (end_line_at BadTable c.3 c.4) (λ next. Ok (c.1, c.2, next.0, next.1)) (line_ended c.3 c.4 ended_there)
       (λ next there p. (
-        beyond (beyond h.1.row.place h.1.place) p,
+        beyond (beyond h.1.row.rest_at h.1.rest_at) p,
         width_beyond items threads line pieces c.2 c.3 c.4 next.0 next.1 h.2
             p,
       )))) (λ wrong. (

@@ -7,12 +7,12 @@ use Rattle.litmus_lexer.specs.declared.errors.Kind.{Kind}
 use Rattle.litmus_lexer.specs.declared.errors.Kind.TheVariants.{TooLarge}
 use Rattle.litmus_lexer.specs.declared.errors.LitmusError.{LitmusError}
 use Rattle.litmus_lexer.specs.Reading.{fails, start_at}
-use Rattle.litmus_parser.specs.Places.{Place}
+use Rattle.litmus_parser.specs.RestLines.{RestAt}
 use Rattle.litmus_parser.specs.ReadingRows.{Rows, row_at}
 use Rattle.litmus_parser.specs.Keywords.{BeginsCondition}
 use Rattle.litmus_parser.specs.ReadingTable.{quantifier_next, Table, next_row_at, too_long, table_at, rows_at}
 use Rattle.litmus_parser.specs.GrammarTable.{AreRows, Begins}
-use Rattle.litmus_parser.specs.TableFaults.{StandRows, none, row, RowAt, RowsCause}
+use Rattle.litmus_parser.specs.TableFaults.{RowsUpTo, none, row, RowAt, RowsCause}
 use Rattle.litmus_parser.specs.declared.syntax.Item.{Item}
 use Rattle.litmus_parser.specs.declared.syntax.Cell.{Cell}
 use Rattle.litmus_parser.proofs.Causes.{Explains, Onto, start, beyond, bind_explains, test_explains, told}
@@ -20,7 +20,7 @@ use Rattle.litmus_parser.proofs.Causes.{repeat_counted}
 use Rattle.litmus_parser.proofs.TableFound.{row_takes}
 use Rattle.litmus_parser.proofs.TableOnly.{rows_again}
 use Rattle.litmus_parser.proofs.VerdictFault.{width_beyond}
-use Rattle.litmus_parser.proofs.Outcomes.{answered, begins_explains}
+use Rattle.litmus_parser.proofs.ReadAnswers.{answered, begins_explains}
 use Rattle.litmus_parser.proofs.ShapeFault.{next-begins, begins-next}
 use Rattle.litmus_parser.proofs.RowFault.{Follows, row_explains}
 
@@ -30,30 +30,30 @@ module _ (items : List Item) (threads line : ℕ) (pieces : List Piece) (some : 
 
   -- so many rows may follow those that stand there
   abbrev NextRow : ℕ → Table → Type 0
-  NextRow k t = (t.0 + k ≡ 1025) × (t.0 ≤ 1024) × StandRows items threads pieces t.0 t.2 t.4 ×
+  NextRow k t = (t.0 + k ≡ 1025) × (t.0 ≤ 1024) × RowsUpTo items threads pieces t.0 t.2 t.4 ×
       Follows items threads line pieces t.2 t.3 t.4
 
   abbrev Through : Table → Type 0
-  Through t = Place line pieces t.3 t.4 × (quantifier_next t.4 ≡ true)
+  Through t = RestAt line pieces t.3 t.4 × (quantifier_next t.4 ≡ true)
 
   next_row_explains : (k : ℕ) (t : Table) → NextRow (suc k) t → Explains C (Onto (NextRow k) Through)
       (next_row_at items threads t)
   unfolding next_row_at
   next_row_explains k t h =
-      bind_explains C (λ (x : ℕ × List Piece). Place t.3 t.4 x.0 x.1 × Begins t.4 x.1) (Onto (NextRow k) Through)
+      bind_explains C (λ (x : ℕ × List Piece). RestAt t.3 t.4 x.0 x.1 × Begins t.4 x.1) (Onto (NextRow k) Through)
       (start_at t.3 t.4) _
       (begins_explains C t.3 t.4 t.3 t.4 (start t.3 t.4) (λ n p no. (t.0, t.2, t.4, h.2, no, beyond h.3.0 p)))
       (λ at is p.
-      let place = beyond h.3.0 p.0 in
+      let rest_at = beyond h.3.0 p.0 in
       test_explains C (Onto (NextRow k) Through) (quantifier_next at.1) (Ok (false, (t.0 + 1, t.1, t.2, at.0, at.1)))
-      _ (λ q. (place, q)) (λ q.
+      _ (λ q. (rest_at, q)) (λ q.
       let row_there : RowAt items threads line pieces t.0 at.0 t.2 at.1 = record {
         above = t.4;
         stand = h.2;
         begins =
             p.1;
         no_condition = λ b. both_ways (quantifier_next at.1) q (begins-next at.1 b);
-        place = place;
+        rest_at = rest_at;
       } in
       test_explains C (Onto (NextRow k) Through) (leb 1024 t.0) (fails TooLarge at.0) _ (λ many.
       let le = leb-true _ _ many in
@@ -67,11 +67,11 @@ module _ (items : List Item) (threads line : ℕ) (pieces : List Piece) (some : 
       let taken = row_takes items threads (t.1, t.2, at.0, at.1) r read in
       (omega (arith, h.0), omega (arith, lt), row at.1 taken.0 h.2 p.1 taken.2, f)))))
 
-  rows_through : Explains C (λ (x : List Cell × ℕ × List Piece). Place line pieces x.1 x.2 ×
+  rows_through : Explains C (λ (x : List Cell × ℕ × List Piece). RestAt line pieces x.1 x.2 ×
       (quantifier_next x.2 ≡ true)) (rows_at items threads [] line pieces)
   unfolding rows_at table_at
   rows_through =
-      bind_explains C Through (λ (x : List Cell × ℕ × List Piece). Place line pieces x.1 x.2 ×
+      bind_explains C Through (λ (x : List Cell × ℕ × List Piece). RestAt line pieces x.1 x.2 ×
       (quantifier_next x.2 ≡ true)) (table_at items threads [] line pieces) (λ t. Ok (t.1, t.3, t.4))
       (repeat_counted C NextRow Through (next_row_at items threads) too_long next_row_explains
       (λ t h. absurd (omega (arith, h.0, h.1))) 1025 (0, [], None, line, pieces)
@@ -80,16 +80,17 @@ module _ (items : List Item) (threads line : ℕ) (pieces : List Piece) (some : 
 pub rows_explain : (items : List Item) (threads line : ℕ) (pieces : List Piece) (e : LitmusError) → 0 < threads →
     rows_at items threads [] line pieces ≡ Err e → RowsCause items threads line pieces e.kind e.line
 rows_explain items threads line pieces e some fault =
-    told (λ kind n. RowsCause items threads line pieces kind n) (λ (x : List Cell × ℕ × List Piece). Place line pieces
+    told (λ kind n. RowsCause items threads line pieces kind n) (λ (x : List Cell × ℕ × List Piece). RestAt line
+    pieces
     x.1 x.2 × (quantifier_next x.2 ≡ true)) (rows_at items threads [] line pieces) e
     (rows_through items threads line pieces some) fault
 
 pub rows_place : (items : List Item) (threads line : ℕ) (pieces : List Piece) (r : List Cell × ℕ × List Piece) →
     0 < threads → rows_at items threads [] line pieces ≡ Ok r
-    → Place line pieces r.1 r.2 × BeginsCondition r.2
+    → RestAt line pieces r.1 r.2 × BeginsCondition r.2
 rows_place items threads line pieces r some is =
     let through = answered (λ kind n. RowsCause items threads line pieces kind n) (λ (x : List Cell × ℕ × List Piece).
-    Place line pieces x.1 x.2 × (quantifier_next x.2 ≡ true)) (rows_at items threads [] line pieces) r
+    RestAt line pieces x.1 x.2 × (quantifier_next x.2 ≡ true)) (rows_at items threads [] line pieces) r
     (rows_through items threads line pieces some) is in
     (through.0, next-begins r.2 through.1)
 

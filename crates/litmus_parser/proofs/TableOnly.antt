@@ -18,7 +18,7 @@ use Rattle.litmus_parser.specs.ReadingTable.{separated, heading_at, too_many, he
 use Rattle.litmus_parser.specs.ReadingTable.{Table, next_row_at, too_long, table_at, rows_at}
 use Rattle.litmus_parser.specs.GrammarWords.{EndsLine}
 use Rattle.litmus_parser.specs.GrammarForms.{IsRegister, IsBased, IsOffset, IsSwapped, IsAnyNumber, IsFenceSet}
-use Rattle.litmus_parser.specs.GrammarForms.{IsForm, StandsFor}
+use Rattle.litmus_parser.specs.GrammarForms.{IsForm, Means}
 use Rattle.litmus_parser.specs.TableFaults.{end_of}
 use Rattle.litmus_parser.specs.GrammarTable.{Begins, AreHeadings, last, more, IsHeaderRow, IsCell, AreCells, IsRow}
 use Rattle.litmus_parser.specs.GrammarTable.{AreRows, none, row}
@@ -88,7 +88,7 @@ form_word pieces form.Fence rest h = (h.0, h.1, word.Fence, h.3, h.4)
 -- what is read of an instruction, and what it stands for
 abbrev IsInstruction : List Item → ℕ → ℕ → List Piece → Option Width → List Cell → Option Width → List Piece → Type 0
 IsInstruction items t end pieces before cells after rest = (f : Form) × (i : Instruction) ×
-    IsForm pieces f (Sign end ∷ rest) × StandsFor items t before f i after ×
+    IsForm pieces f (Sign end ∷ rest) × Means items t before f i after ×
     (cells ≡ (record { thread = t; instruction = i }) ∷ [])
 
 instruction_again : (items items' : List Item) (t end : ℕ) (so_far : List Cell) (before : Option Width) (line : ℕ)

@@ -6,9 +6,9 @@ use Rattle.litmus_lexer.specs.declared.errors.Kind.{Kind}
 use Rattle.litmus_lexer.specs.declared.errors.Kind.TheVariants.{MixedWidth, ValueRange, AddressAsValue}
 use Rattle.litmus_lexer.specs.Reading.{fails}
 use Rattle.litmus_parser.specs.Names.{address_of, is_there}
-use Rattle.litmus_parser.specs.Places.{Place}
+use Rattle.litmus_parser.specs.RestLines.{RestAt}
 use Rattle.litmus_parser.specs.Verdicts.{same_width, kept_at, value_register_at, or_no_address, base_at, judged_at}
-use Rattle.litmus_parser.specs.GrammarForms.{HasWidth, StandsFor}
+use Rattle.litmus_parser.specs.GrammarForms.{HasWidth, Means}
 use Rattle.litmus_parser.specs.TableFaults.{FormAt, width_of, HasValueIn, HasAddressIn, RowsCause}
 use Rattle.litmus_parser.specs.declared.syntax.Width.{Width}
 use Rattle.litmus_parser.specs.declared.syntax.Width.TheVariants.{Single, Double}
@@ -38,10 +38,10 @@ module _ (items : List Item) (threads line : ℕ) (pieces : List Piece) where
   abbrev pub WidthFrom : Option Width → ℕ → List Piece → Type 0
   WidthFrom None n rest = Unit {0}
   WidthFrom (Some v) n rest = (s m : ℕ) × (other : Form) × (there : FormAt items threads line pieces s m other) ×
-      (width_of other ≡ Some v) × Place m there.rest n rest
+      (width_of other ≡ Some v) × RestAt m there.rest n rest
 
   pub width_beyond : (width : Option Width) (n : ℕ) (rest : List Piece) (m : ℕ) (further : List Piece) →
-      WidthFrom width n rest → Place n rest m further → WidthFrom width m further
+      WidthFrom width n rest → RestAt n rest m further → WidthFrom width m further
   width_beyond None n rest m further w p = tt
   width_beyond (Some v) n rest m further w p = (w.0, w.1, w.2, w.3, w.4, beyond w.5 p)
 
@@ -114,8 +114,8 @@ module _ (items : List Item) (threads line : ℕ) (pieces : List Piece) where
   -- the width that an instruction leaves
   pub width_onward : (before : Option Width) (t n : ℕ) (form : Form) (f : FormAt items threads line pieces t n form) →
       WidthFrom before n f.here
-      → (i : Instruction) (after : Option Width) → StandsFor items t before form i after →
-      (m : ℕ) (rest : List Piece) → Place n f.rest m rest → Place n f.here m rest → WidthFrom after m rest
+      → (i : Instruction) (after : Option Width) → Means items t before form i after →
+      (m : ℕ) (rest : List Piece) → RestAt n f.rest m rest → RestAt n f.here m rest → WidthFrom after m rest
   width_onward before t n (form.Load own target base) f w i after h m rest p q =
       rw (has_width before own after h.2) (t, n, form.Load own target base, f, refl, p)
   width_onward before t n (form.Store own source base) f w i after h m rest p q =

@@ -8,8 +8,8 @@ use Rattle.litmus_lexer.specs.declared.errors.Kind.{Kind}
 use Rattle.litmus_lexer.specs.declared.errors.Kind.TheVariants.{ValueRange, CutShort}
 use Rattle.litmus_lexer.specs.Reading.{fails, as_word, as_sign, next_at, word_at, sign_at, expect_at}
 use Rattle.litmus_parser.specs.ReadingItems.{number_at}
-use Rattle.litmus_parser.specs.Places.{Place}
-use Rattle.litmus_parser.specs.GrammarWords.{Next, Ends}
+use Rattle.litmus_parser.specs.RestLines.{RestAt}
+use Rattle.litmus_parser.specs.GrammarWords.{Next, AtTextEnd}
 use Rattle.litmus_parser.specs.BlockParts.{is_sign, is_word}
 use Rattle.litmus_parser.proofs.Causes.{Explains, start, beyond, over_word, over_end, bind_explains, test_explains}
 use Rattle.litmus_parser.proofs.Causes.{weaker}
@@ -19,20 +19,20 @@ neither a b e f = rw (e, f) refl
 
 -- the piece comes next, after line ends
 abbrev pub Taken : ℕ → List Piece → Piece → ℕ → List Piece → Type 0
-Taken n rest p m after = Place n rest m (p ∷ after) × Next rest p after
+Taken n rest p m after = RestAt n rest m (p ∷ after) × Next rest p after
 
 -- the causes where the pieces end here, and where a piece comes next that doesn't fit
 pub record Wants (C : Kind → ℕ → Type 0) (kind : Kind) (fit : Piece → Bool) (n : ℕ) (rest : List Piece) : Type 0 where
-  pub ends : (m : ℕ) → Place n rest m [] → Ends rest → C CutShort m
+  pub ends : (m : ℕ) → RestAt n rest m [] → AtTextEnd rest → C CutShort m
   pub wrong : (p : Piece) (m : ℕ) (after : List Piece) → Taken n rest p m after → fit p ≡ false → C kind m
 
 pub next_wanted : (C : Kind → ℕ → Type 0) (n : ℕ) (rest : List Piece) →
-    ((m : ℕ) → Place n rest m [] → Ends rest → C CutShort m)
+    ((m : ℕ) → RestAt n rest m [] → AtTextEnd rest → C CutShort m)
     → Explains C (λ (x : Piece × ℕ × List Piece). Taken n rest x.0 x.1 x.2) (next_at n rest)
 unfolding next_at
 next_wanted C n [] short = short n (start n []) tt
 next_wanted C n (LineEnd ∷ rest) short =
-    let over : Place n (LineEnd ∷ rest) (n + 1) rest = over_end (start n (LineEnd ∷ rest)) in
+    let over : RestAt n (LineEnd ∷ rest) (n + 1) rest = over_end (start n (LineEnd ∷ rest)) in
     weaker C (λ (x : Piece × ℕ × List Piece). Taken (n + 1) rest x.0 x.1 x.2) (λ (x : Piece × ℕ × List Piece).
     Taken n (LineEnd ∷ rest) x.0 x.1 x.2) (next_at (n + 1) rest) (λ x t. (beyond over t.0, t.1))
     (next_wanted C (n + 1) rest (λ m p e. short m (beyond over p) e))
@@ -92,10 +92,10 @@ module _ (C : Kind → ℕ → Type 0) (kind : Kind) (fit : Piece → Bool) (n :
   -- a number that fits
   pub number_wanted : ((p : Piece) → fit p ≡ is_word is_number p) → ((w : List ℕ) (m : ℕ) (after : List Piece) →
       Taken n rest (Word w) m after → is_number w ≡ true → 2147483648 ≤ number_of w → C ValueRange m)
-      → Explains C (λ (x : ℕ × ℕ × List Piece). Place n rest x.1 x.2) (number_at kind n rest)
+      → Explains C (λ (x : ℕ × ℕ × List Piece). RestAt n rest x.1 x.2) (number_at kind n rest)
   unfolding number_at
   number_wanted same above =
-      let Q : ℕ × ℕ × List Piece → Type 0 = λ x. Place n rest x.1 x.2 in
+      let Q : ℕ × ℕ × List Piece → Type 0 = λ x. RestAt n rest x.1 x.2 in
       bind_explains C WordTaken Q (word_at kind n rest) _ (word_wanted is_number same) (λ w e t.
       test_explains C Q (is_number w.0) _ (fails kind w.1) (λ d.
       test_explains C Q (ltb (number_of w.0) 2147483648) (Ok (number_of w.0, w.1, w.2)) (fails ValueRange w.1)

@@ -1,4 +1,5 @@
--- What a reading does is told by the pieces that it took and one more: it passes them, or it is refused at the last of them, whatever follows.
+-- What a reading does is told by the pieces that it took and one more: it passes them, or it is refused at the last
+-- of them, whatever follows.
 use Rattle.std.proofs.Common.{◌≡◌, ◌≢◌, ℕ, ◌+◌, Bool, true, false, cond, eqb, List, [], ◌∷◌, ◌++◌, Option, Some, None}
 use Rattle.std.proofs.Common.{Result, Ok, Err, refl, sym, ap, subst, ◌∙◌, ◌⊎◌, inl, inr, append_assoc, append-nil}
 use Rattle.std.proofs.Common.{arith}
@@ -7,7 +8,7 @@ use Rattle.litmus_lexer.specs.declared.errors.Kind.{Kind}
 use Rattle.litmus_lexer.specs.declared.errors.Kind.TheVariants.{CutShort}
 use Rattle.litmus_lexer.specs.declared.errors.LitmusError.{LitmusError}
 use Rattle.litmus_lexer.specs.Reading.{◌>>=◌, fails, found, as_word, as_sign, next_at, word_at, sign_at, expect_at}
-use Rattle.litmus_parser.specs.Places.{line_ends}
+use Rattle.litmus_parser.specs.RestLines.{line_ends}
 use Rattle.litmus_parser.proofs.Causes.{line-ends-append}
 
 -- a piece that is no line end
@@ -28,8 +29,8 @@ pub record Looks (L : List Piece → List Piece → Type 0) : Type 0 where
 abbrev pub Front : Type 0 → List Piece → Type 0
 Front B front = (B × (front ≡ [])) ⊎ ((f : List Piece) × (x : Piece) × Plain x × (front ≡ f ++ x ∷ []))
 
--- g, from the pieces that are left in line n: passes some, and answers the same before all u that L allows; is refused at a piece, whatever
--- follows; is refused at once, where A holds; or has a fault that is not of kind K
+-- g, from the pieces that are left in line n: passes some, and answers the same before all u that L allows; is
+-- refused at a piece, whatever follows; is refused at once, where A holds; or has a fault that is not of kind K
 pub data Way (K : Kind) (E A : Type 0) (L : List Piece → List Piece → Type 0) {X Y : Type 0} (make : X → ℕ →
     List Piece → Y) (g : Reading Y) (n : ℕ) (rest : List Piece) : Type 0 where
   passes : (x : X) (front : List Piece) (m : ℕ) (after : List Piece) → rest ≡ front ++ after →

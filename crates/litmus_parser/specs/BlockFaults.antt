@@ -9,11 +9,11 @@ use Rattle.litmus_lexer.specs.declared.errors.Kind.{Kind}
 use Rattle.litmus_lexer.specs.declared.errors.Kind.TheVariants.{TooLarge, BadInitial, DoubleInitial, ValueRange}
 use Rattle.litmus_lexer.specs.declared.errors.Kind.TheVariants.{CutShort}
 use Rattle.litmus_parser.specs.Names.{Names, same_name}
-use Rattle.litmus_parser.specs.Places.{Place}
+use Rattle.litmus_parser.specs.RestLines.{RestAt}
 use Rattle.litmus_parser.specs.LocationFaults.{IsOneTooMany}
-use Rattle.litmus_parser.specs.GrammarWords.{Next, Ends}
+use Rattle.litmus_parser.specs.GrammarWords.{Next, AtTextEnd}
 use Rattle.litmus_parser.specs.GrammarBlock.{IsItem, AreItems}
-use Rattle.litmus_parser.specs.BlockParts.{Wanted, ItemOrBrace, RegisterValue, LocationValue, fits, StandItems}
+use Rattle.litmus_parser.specs.BlockParts.{Wanted, ItemOrBrace, RegisterValue, LocationValue, fits, ItemsUpTo}
 use Rattle.litmus_parser.specs.BlockParts.{BeginsIn, ItemUpTo, BlockUpTo}
 use Rattle.litmus_parser.specs.declared.syntax.Item.{Item}
 
@@ -23,7 +23,7 @@ pub record PieceAt (line : ℕ) (pieces : List Piece) (n : ℕ) (wanted : Wanted
   pub rest : List Piece
   pub stands : BlockUpTo pieces wanted there
   pub next : Next there piece rest
-  pub place : Place line pieces n (piece ∷ rest)
+  pub rest_at : RestAt line pieces n (piece ∷ rest)
 
 -- that piece isn't one that is wanted
 abbrev pub HasWrongPiece : ℕ → List Piece → ℕ → Type 0
@@ -40,12 +40,13 @@ pub record HasMoreOnLine (line : ℕ) (pieces : List Piece) (n : ℕ) : Type 0 w
   pub brace : Next pieces (Sign OPENING_BRACE) start
   pub are : AreItems [] start [] items names (piece ∷ rest)
   pub no_end : piece ≢ LineEnd
-  pub place : Place line pieces n (piece ∷ rest)
+  pub rest_at : RestAt line pieces n (piece ∷ rest)
 
--- the block stands up to a place where a further piece is wanted, and there is none up to the end of the text, which is in line n
+-- the block stands up to a place where a further piece is wanted, and there is none up to the end of the text, which
+-- is in line n
 abbrev pub EndsEarly : ℕ → List Piece → ℕ → Type 0
-EndsEarly line pieces n = (wanted : Wanted) × (there : List Piece) × BlockUpTo pieces wanted there × Ends there ×
-    Place line pieces n []
+EndsEarly line pieces n = (wanted : Wanted) × (there : List Piece) × BlockUpTo pieces wanted there × AtTextEnd there ×
+    RestAt line pieces n []
 
 -- a value is wanted, and a number above 2147483647 comes next
 abbrev pub HasValueAbove : ℕ → List Piece → ℕ → Type 0
@@ -60,12 +61,13 @@ pub record SetTwice (line : ℕ) (pieces : List Piece) (n : ℕ) : Type 0 where
   pub after : Names
   pub here : List Piece
   pub rest : List Piece
-  pub stand : StandItems pieces items before here
+  pub stand : ItemsUpTo pieces items before here
   pub is : IsItem here before item.name item.setting after rest
   pub twice : list_any (λ other. same_name other.name item.name) items ≡ true
   pub begins : BeginsIn line pieces n here
 
--- after items with these locations an item or what a register is set to is wanted, and a location that is one too many comes next, in line n
+-- after items with these locations an item or what a register is set to is wanted, and a location that is one too
+-- many comes next, in line n
 pub record HasLocationTooMany (line : ℕ) (pieces : List Piece) (n : ℕ) : Type 0 where
   pub items : List Item
   pub names : Names
@@ -74,11 +76,11 @@ pub record HasLocationTooMany (line : ℕ) (pieces : List Piece) (n : ℕ) : Typ
   pub there : List Piece
   pub w : List ℕ
   pub rest : List Piece
-  pub stand : StandItems pieces items names here
+  pub stand : ItemsUpTo pieces items names here
   pub item : ItemUpTo names here wanted there
   pub place_is : (wanted ≡ ItemOrBrace) ⊎ (wanted ≡ RegisterValue)
   pub next : Next there (Word w) rest
-  pub place : Place line pieces n (Word w ∷ rest)
+  pub rest_at : RestAt line pieces n (Word w ∷ rest)
   pub many : IsOneTooMany w names
 
 -- what stands in line n where the initial block, whose pieces begin in this line, has a fault of the kind

@@ -6,7 +6,7 @@ use Rattle.litmus_lexer.specs.declared.signs.TheConstants.{CLOSING_BRACE, COLON,
 use Rattle.litmus_lexer.specs.Pieces.{Piece, Word, Sign, LineEnd}
 use Rattle.litmus_lexer.specs.Spelling.{is_number, small_of, register_of, is_location}
 use Rattle.litmus_parser.specs.Names.{Names, same_name, is_there}
-use Rattle.litmus_parser.specs.Places.{Place}
+use Rattle.litmus_parser.specs.RestLines.{RestAt}
 use Rattle.litmus_parser.specs.GrammarWords.{Next, IsNumbered}
 use Rattle.litmus_parser.specs.GrammarBlock.{IsItem}
 use Rattle.litmus_parser.specs.declared.syntax.Item.{Item}
@@ -62,24 +62,25 @@ fits LocationValue piece = is_word is_number piece
 -- ; or }
 fits SemicolonOrBrace piece = is_sign SEMICOLON piece || is_sign CLOSING_BRACE piece
 
--- after the opening brace these items stand up to this place, each ended by ; and none setting a name that an earlier one set
-pub data StandItems (pieces : List Piece) : List Item → Names → List Piece → Type 0 where
-  no_item : {rest : List Piece} → Next pieces (Sign OPENING_BRACE) rest → StandItems pieces [] [] rest
+-- after the opening brace these items stand up to this place, each ended by ; and none setting a name that an earlier
+-- one set
+pub data ItemsUpTo (pieces : List Piece) : List Item → Names → List Piece → Type 0 where
+  no_item : {rest : List Piece} → Next pieces (Sign OPENING_BRACE) rest → ItemsUpTo pieces [] [] rest
   one_more : {items : List Item} {before after : Names} {here rest : List Piece} (item : Item) (behind : List Piece) →
-      StandItems pieces items before here → IsItem here before item.name item.setting after behind
+      ItemsUpTo pieces items before here → IsItem here before item.name item.setting after behind
       → list_any (λ other. same_name other.name item.name) items ≡ false → Next behind (Sign SEMICOLON) rest →
-      StandItems pieces (items ++ item ∷ []) after rest
+      ItemsUpTo pieces (items ++ item ∷ []) after rest
 
 -- the next piece, after line ends, is a word in line n
 abbrev pub BeginsIn : ℕ → List Piece → ℕ → List Piece → Type 0
 BeginsIn line pieces n here = (w : List ℕ) × (rest : List Piece) × Next here (Word w) rest ×
-    Place line pieces n (Word w ∷ rest)
+    RestAt line pieces n (Word w ∷ rest)
 
 -- of a block whose pieces begin in this line, each item begins in its own line
 pub data InLines (line : ℕ) (pieces : List Piece) : List Item → Type 0 where
   none : InLines line pieces []
   further : {items : List Item} {names : Names} {here : List Piece} (item : Item) → InLines line pieces items →
-      StandItems pieces items names here → BeginsIn line pieces item.line here →
+      ItemsUpTo pieces items names here → BeginsIn line pieces item.line here →
       InLines line pieces (items ++ item ∷ [])
 
 -- of an item that begins here all parts stand up to the place where this is wanted
@@ -90,19 +91,20 @@ pub data ItemUpTo (names : Names) (here : List Piece) : Wanted → List Piece �
   thread_there : {rest : List Piece} (w : List ℕ) (t : ℕ) → Next here (Word w) rest → small_of LAST_THREAD w ≡ Some
       t → ItemUpTo names here Colon rest
   -- T:
-  colon_there : {place rest : List Piece} → ItemUpTo names here Colon place → Next place (Sign COLON) rest →
+  colon_there : {rest_at rest : List Piece} → ItemUpTo names here Colon rest_at → Next rest_at (Sign COLON) rest →
       ItemUpTo names here RegisterWord rest
   -- T:xR
-  register_there : {place rest : List Piece} (w : List ℕ) (r : ℕ) → ItemUpTo names here RegisterWord place →
-      Next place (Word w) rest → register_of w ≡ Some r → r ≢ 0 → ItemUpTo names here RegisterEquals rest
+  register_there : {rest_at rest : List Piece} (w : List ℕ) (r : ℕ) → ItemUpTo names here RegisterWord rest_at →
+      Next rest_at (Word w) rest → register_of w ≡ Some r → r ≢ 0 → ItemUpTo names here RegisterEquals rest
   -- T:xR=
-  equals_there : {place rest : List Piece} → ItemUpTo names here RegisterEquals place → Next place (Sign EQUALS)
+  equals_there : {rest_at rest : List Piece} → ItemUpTo names here RegisterEquals rest_at → Next rest_at (Sign EQUALS)
       rest → ItemUpTo names here RegisterValue rest
   -- L
   location_there : {rest : List Piece} (w : List ℕ) (l : ℕ) (after : Names) → Next here (Word w) rest →
       IsNumbered w names l after → ItemUpTo names here LocationEquals rest
   -- L=
-  equals_behind : {place rest : List Piece} → ItemUpTo names here LocationEquals place → Next place (Sign EQUALS)
+  equals_behind : {rest_at rest : List Piece} → ItemUpTo names here LocationEquals rest_at → Next rest_at (Sign
+      EQUALS)
       rest → ItemUpTo names here LocationValue rest
 
 -- of a block all parts stand up to the place where this is wanted
@@ -110,9 +112,9 @@ pub data BlockUpTo (pieces : List Piece) : Wanted → List Piece → Type 0 wher
   -- nothing yet
   at_block : BlockUpTo pieces OpeningBrace pieces
   -- items and, after them, the beginning of one
-  in_item : {items : List Item} {names : Names} {here place : List Piece} {wanted : Wanted} → StandItems pieces items
-      names here → ItemUpTo names here wanted place → BlockUpTo pieces wanted place
+  in_item : {items : List Item} {names : Names} {here rest_at : List Piece} {wanted : Wanted} → ItemsUpTo pieces items
+      names here → ItemUpTo names here wanted rest_at → BlockUpTo pieces wanted rest_at
   -- items and, after them, one of a name that they don't set
-  behind_item : {items : List Item} {before : Names} {here place : List Piece} (item : Item) (after : Names) →
-      StandItems pieces items before here → IsItem here before item.name item.setting after place
-      → list_any (λ other. same_name other.name item.name) items ≡ false → BlockUpTo pieces SemicolonOrBrace place
+  behind_item : {items : List Item} {before : Names} {here rest_at : List Piece} (item : Item) (after : Names) →
+      ItemsUpTo pieces items before here → IsItem here before item.name item.setting after rest_at
+      → list_any (λ other. same_name other.name item.name) items ≡ false → BlockUpTo pieces SemicolonOrBrace rest_at

@@ -10,9 +10,9 @@ use Rattle.litmus_lexer.specs.declared.errors.Kind.TheVariants.{CutShort}
 use Rattle.litmus_parser.specs.Names.{Names, address_of, is_there}
 use Rattle.litmus_parser.specs.Keywords.{quantifier_of}
 use Rattle.litmus_parser.specs.Trees.{Tree}
-use Rattle.litmus_parser.specs.GrammarWords.{Next, Ends}
+use Rattle.litmus_parser.specs.GrammarWords.{Next, AtTextEnd}
 use Rattle.litmus_parser.specs.GrammarCondition.{Sight, and_word, or_word, IsExpression}
-use Rattle.litmus_parser.specs.Places.{Place}
+use Rattle.litmus_parser.specs.RestLines.{RestAt}
 use Rattle.litmus_parser.specs.LocationFaults.{IsOneTooMany}
 use Rattle.litmus_parser.specs.ConditionParts.{Wanted, Factor, RegisterOf, Value, fits, ExpressionUpTo}
 use Rattle.litmus_parser.specs.declared.syntax.Item.{Item}
@@ -21,12 +21,12 @@ use Rattle.litmus_parser.specs.declared.syntax.Quantifier.{Quantifier}
 -- the pieces are an expression up to the end of the text; the names are those of the locations known before
 abbrev pub IsWhole : List Item → ℕ → Names → List Piece → Type 0
 IsWhole items threads names pieces = (tree : Tree) × (after : Sight) × (rest : List Piece) ×
-    IsExpression items threads MOST_DEPTH (names, 0) pieces tree after rest × Ends rest
+    IsExpression items threads MOST_DEPTH (names, 0) pieces tree after rest × AtTextEnd rest
 
 -- in line n stands a piece up to which no expression goes: whatever follows it, the pieces are none
 abbrev pub HasNoWayOn : List Item → ℕ → Names → ℕ → List Piece → ℕ → Type 0
 HasNoWayOn items threads names line pieces n =
-    (x : Piece) × (rest : List Piece) × (p : Place line pieces n (x ∷ rest)) × (x ≢ LineEnd)
+    (x : Piece) × (rest : List Piece) × (p : RestAt line pieces n (x ∷ rest)) × (x ≢ LineEnd)
     × ((others : List Piece) → IsWhole items threads names (p.front ++ x ∷ others) → ⊥)
 
 -- the expression stands up to a place where this is wanted, and the next piece is this one, in line n
@@ -36,7 +36,7 @@ pub record PieceAt (items : List Item) (threads : ℕ) (names : Names) (line : �
   pub rest : List Piece
   pub stands : ExpressionUpTo items threads MOST_DEPTH (names, 0) pieces wanted there
   pub next : Next there piece rest
-  pub place : Place line pieces n (piece ∷ rest)
+  pub rest_at : RestAt line pieces n (piece ∷ rest)
 
 -- that piece isn't one that is wanted
 abbrev pub HasWrongPiece : List Item → ℕ → Names → ℕ → List Piece → ℕ → Type 0
@@ -53,14 +53,15 @@ pub record HasMoreAfter (items : List Item) (threads : ℕ) (names : Names) (lin
   pub rest : List Piece
   pub is : IsExpression items threads MOST_DEPTH (names, 0) pieces tree after there
   pub next : Next there piece rest
-  pub place : Place line pieces n (piece ∷ rest)
+  pub rest_at : RestAt line pieces n (piece ∷ rest)
   pub no_and : piece ≢ and_word
   pub no_or : piece ≢ or_word
 
--- the expression stands up to a place where a further piece is wanted, and there is none up to the end of the text, which is in line n
+-- the expression stands up to a place where a further piece is wanted, and there is none up to the end of the text,
+-- which is in line n
 abbrev pub EndsEarly : List Item → ℕ → Names → ℕ → List Piece → ℕ → Type 0
 EndsEarly items threads names line pieces n = (wanted : Wanted) × (there : List Piece) × ExpressionUpTo items threads
-    MOST_DEPTH (names, 0) pieces wanted there × Ends there × Place line pieces n []
+    MOST_DEPTH (names, 0) pieces wanted there × AtTextEnd there × RestAt line pieces n []
 
 -- a value is wanted, and a number above 2147483647 comes next
 abbrev pub HasValueAbove : List Item → ℕ → Names → ℕ → List Piece → ℕ → Type 0
@@ -86,7 +87,8 @@ IsTooDeep items threads names line pieces n =
 
 -- the causes in an expression that begins in this line; the names are the locations of the initial block
 abbrev pub ExpressionCause : List Item → ℕ → Names → ℕ → List Piece → Kind → ℕ → Type 0
--- a piece there isn't one that the grammar has after what stands before it; and there is one up to which no expression goes
+-- a piece there isn't one that the grammar has after what stands before it; and there is one up to which no
+-- expression goes
 ExpressionCause items threads names line pieces BadCondition n =
     (HasWrongPiece items threads names line pieces n ⊎ HasMoreAfter items threads names line pieces n) ×
     HasNoWayOn items threads names line pieces n

@@ -54,14 +54,14 @@ pub data AtomUpTo (items : List Item) (threads depth : ℕ) (before : Sight) (he
   thread_there : {rest : List Piece} (w : List ℕ) (t : ℕ) → before.1 < MOST_ATOMS → Next here (Word w) rest →
       small_of LAST_THREAD w ≡ Some t → t < threads → AtomUpTo items threads depth before here (Colon t) rest
   -- T:
-  colon_there : {place rest : List Piece} {t : ℕ} → AtomUpTo items threads depth before here (Colon t) place →
-      Next place (Sign COLON) rest → AtomUpTo items threads depth before here (RegisterOf t) rest
+  colon_there : {rest_at rest : List Piece} {t : ℕ} → AtomUpTo items threads depth before here (Colon t) rest_at →
+      Next rest_at (Sign COLON) rest → AtomUpTo items threads depth before here (RegisterOf t) rest
   -- T:xR or L
   name_there : {rest : List Piece} (name : Name) (after : Names) → before.1 < MOST_ATOMS → IsNamed items threads here
       before.0 name after rest → AtomUpTo items threads depth before here Equals rest
   -- T:xR= or L=
-  equals_there : {place rest : List Piece} → AtomUpTo items threads depth before here Equals place →
-      Next place (Sign EQUALS) rest → AtomUpTo items threads depth before here Value rest
+  equals_there : {rest_at rest : List Piece} → AtomUpTo items threads depth before here Equals rest_at →
+      Next rest_at (Sign EQUALS) rest → AtomUpTo items threads depth before here Value rest
 
 -- of a part that begins here, after what was seen so far, all stands up to the place where this is wanted
 abbrev pub Beginning : Type 1

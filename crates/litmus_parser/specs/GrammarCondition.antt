@@ -7,7 +7,7 @@ use Rattle.litmus_lexer.specs.Spelling.{small_of, register_of}
 use Rattle.litmus_parser.specs.Names.{Names, address_of, is_there}
 use Rattle.litmus_parser.specs.Trees.{Tree, Is, Both, Either}
 use Rattle.litmus_parser.specs.Keywords.{quantifier_of}
-use Rattle.litmus_parser.specs.GrammarWords.{Next, Ends, IsValue, IsNumbered}
+use Rattle.litmus_parser.specs.GrammarWords.{Next, AtTextEnd, IsValue, IsNumbered}
 use Rattle.litmus_parser.specs.declared.syntax.Item.{Item}
 use Rattle.litmus_parser.specs.declared.syntax.Name.{Name}
 use Rattle.litmus_parser.specs.declared.syntax.Name.TheVariants.{Register, Location}
@@ -67,4 +67,4 @@ IsExpression items threads depth = Chained (Chained (IsFactor items threads dept
 abbrev pub IsCondition : List Item → ℕ → List Piece → Names → Quantifier → Tree → Names → Type 0
 IsCondition items threads pieces before quantifier tree after = (w : List ℕ) × (a b : List Piece) × (atoms : ℕ)
     × (pieces ≡ Word w ∷ a) × (quantifier_of w ≡ Some quantifier) × IsExpression items threads MOST_DEPTH (before, 0)
-    a tree (after, atoms) b × Ends b
+    a tree (after, atoms) b × AtTextEnd b

@@ -66,16 +66,17 @@ HasWidth (Some first) own after = (first ≡ own) × (after ≡ Some own)
 abbrev pub HoldsValue : List Item → ℕ → ℕ → Type 0
 HoldsValue items t r = is_there (address_of t r items) ≡ false
 
--- what a form of a thread stands for: numbers fit, the width is kept, and a register holds an address exactly where an address is wanted
-abbrev pub StandsFor : List Item → ℕ → Option Width → Form → Instruction → Option Width → Type 0
-StandsFor items t before (form.Load width d b) i after =
+-- what a form of a thread stands for: numbers fit, the width is kept, and a register holds an address exactly where
+-- an address is wanted
+abbrev pub Means : List Item → ℕ → Option Width → Form → Instruction → Option Width → Type 0
+Means items t before (form.Load width d b) i after =
     (l : ℕ) × (i ≡ Load d l) × HasWidth before width after × HoldsValue items t d × (address_of t b items ≡ Some l)
-StandsFor items t before (form.Store width s b) i after =
+Means items t before (form.Store width s b) i after =
     (l : ℕ) × (i ≡ Store s l) × HasWidth before width after × HoldsValue items t s × (address_of t b items ≡ Some l)
-StandsFor items t before (form.Swap width d s b) i after = (l : ℕ) × (i ≡ Swap d s l) × HasWidth before width after ×
+Means items t before (form.Swap width d s b) i after = (l : ℕ) × (i ≡ Swap d s l) × HasWidth before width after ×
     HoldsValue items t d × HoldsValue items t s × (address_of t b items ≡ Some l)
-StandsFor items t before (form.Li d n) i after =
+Means items t before (form.Li d n) i after =
     (i ≡ Set d n) × (n < VALUE_BOUND) × HoldsValue items t d × (after ≡ before)
-StandsFor items t before (form.Ori d n) i after =
+Means items t before (form.Ori d n) i after =
     (i ≡ Set d n) × (n ≤ MOST_ORI) × HoldsValue items t d × (after ≡ before)
-StandsFor items t before form.Fence i after = (i ≡ Fence) × (after ≡ before)
+Means items t before form.Fence i after = (i ≡ Fence) × (after ≡ before)

@@ -5,7 +5,7 @@ use Rattle.litmus_lexer.specs.declared.limits.TheConstants.{MOST_ROWS, MOST_THRE
 use Rattle.litmus_lexer.specs.declared.signs.TheConstants.{BAR, SEMICOLON}
 use Rattle.litmus_lexer.specs.Pieces.{Piece, Word, Sign, LineEnd}
 use Rattle.litmus_parser.specs.GrammarWords.{EndsLine}
-use Rattle.litmus_parser.specs.GrammarForms.{IsForm, StandsFor}
+use Rattle.litmus_parser.specs.GrammarForms.{IsForm, Means}
 use Rattle.litmus_parser.specs.declared.syntax.Width.{Width}
 use Rattle.litmus_parser.specs.declared.syntax.Item.{Item}
 use Rattle.litmus_parser.specs.declared.syntax.Instruction.{Instruction}
@@ -20,7 +20,8 @@ Begins (LineEnd ∷ pieces) rest = Begins pieces rest
 Begins (Word w ∷ pieces) rest = rest ≡ Word w ∷ pieces
 Begins (Sign b ∷ pieces) rest = rest ≡ Sign b ∷ pieces
 
--- the headings from a thread on: P and the thread's number, then | and the next one, or ; and the line's end; at most 16
+-- the headings from a thread on: P and the thread's number, then | and the next one, or ; and the line's end; at most
+-- 16
 pub data AreHeadings : ℕ → List Piece → ℕ → List Piece → Type 0 where
   last : {t : ℕ} {w : List ℕ} {ps rest : List Piece} → thread_named w ≡ Some t → t < MOST_THREADS → EndsLine ps rest →
       AreHeadings t (Word w ∷ Sign SEMICOLON ∷ ps) (t + 1) rest
@@ -34,7 +35,7 @@ IsHeaderRow pieces threads rest = (a : List Piece) × Begins pieces a × AreHead
 abbrev pub IsCell : List Item → ℕ → ℕ → List Piece → Option Width → List Cell → Option Width → List Piece → Type 0
 IsCell items t end pieces before cells after rest =
     ((pieces ≡ Sign end ∷ rest) × (cells ≡ []) × (after ≡ before))
-    ⊎ ((form : Form) × (i : Instruction) × IsForm pieces form (Sign end ∷ rest) × StandsFor items t before form i
+    ⊎ ((form : Form) × (i : Instruction) × IsForm pieces form (Sign end ∷ rest) × Means items t before form i
     after × (cells ≡ (record { thread = t; instruction = i }) ∷ []))
 
 -- so many cells from a thread on, each with | after it, the last one with ;

@@ -18,11 +18,11 @@ abbrev pub EndsLine : List Piece → List Piece → Type 0
 EndsLine pieces rest = (pieces ≡ LineEnd ∷ rest) ⊎ ((pieces ≡ []) × (rest ≡ []))
 
 -- only line ends are left
-abbrev pub Ends : List Piece → Type 0
-Ends [] = Unit {0}
-Ends (LineEnd ∷ pieces) = Ends pieces
-Ends (Word w ∷ pieces) = ⊥
-Ends (Sign b ∷ pieces) = ⊥
+abbrev pub AtTextEnd : List Piece → Type 0
+AtTextEnd [] = Unit {0}
+AtTextEnd (LineEnd ∷ pieces) = AtTextEnd pieces
+AtTextEnd (Word w ∷ pieces) = ⊥
+AtTextEnd (Sign b ∷ pieces) = ⊥
 
 -- a number below 2147483648
 abbrev pub IsValue : List ℕ → ℕ → Type 0

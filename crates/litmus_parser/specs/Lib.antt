@@ -1,4 +1,4 @@
-pub mod Places
+pub mod RestLines
 pub mod LocationFaults
 pub mod Names
 pub mod ReadingItems
@@ -14,7 +14,7 @@ pub mod TreeViews
 pub mod ReadingAtoms
 pub mod ReadingCondition
 pub mod ReadingHeader
-pub mod Reachable
+pub mod Extents
 pub mod ReadingEnd
 pub mod GrammarWords
 pub mod GrammarBlock

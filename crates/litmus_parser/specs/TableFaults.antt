@@ -9,7 +9,7 @@ use Rattle.litmus_lexer.specs.declared.errors.Kind.{Kind}
 use Rattle.litmus_lexer.specs.declared.errors.Kind.TheVariants.{TooLarge, BadTable, BadInstruction, ValueRange}
 use Rattle.litmus_lexer.specs.declared.errors.Kind.TheVariants.{MixedWidth, AddressAsValue, ValueAsAddress, CutShort}
 use Rattle.litmus_parser.specs.Names.{address_of, is_there}
-use Rattle.litmus_parser.specs.Places.{Place}
+use Rattle.litmus_parser.specs.RestLines.{RestAt}
 use Rattle.litmus_parser.specs.GrammarWords.{EndsLine}
 use Rattle.litmus_parser.specs.Keywords.{BeginsCondition}
 use Rattle.litmus_parser.specs.GrammarForms.{IsForm}
@@ -22,17 +22,17 @@ use Rattle.litmus_parser.specs.declared.forms.Form.TheVariants as form
 
 -- after blank lines, a line begins here, and it is line n
 abbrev pub LineAt : ℕ → List Piece → ℕ → List Piece → Type 0
-LineAt line pieces n start = Begins pieces start × Place line pieces n start
+LineAt line pieces n start = Begins pieces start × RestAt line pieces n start
 
 -- so many headings stand from P0 on up to this place, each with | after it
-pub data StandHeadings (first : List Piece) : ℕ → List Piece → Type 0 where
-  no_heading : StandHeadings first 0 first
-  one_more : {t : ℕ} {rest : List Piece} (w : List ℕ) → StandHeadings first t (Word w ∷ Sign BAR ∷ rest) →
-      thread_named w ≡ Some t → StandHeadings first (t + 1) rest
+pub data HeadingsUpTo (first : List Piece) : ℕ → List Piece → Type 0 where
+  no_heading : HeadingsUpTo first 0 first
+  one_more : {t : ℕ} {rest : List Piece} (w : List ℕ) → HeadingsUpTo first t (Word w ∷ Sign BAR ∷ rest) →
+      thread_named w ≡ Some t → HeadingsUpTo first (t + 1) rest
 
 -- after sixteen headings a seventeenth begins
 abbrev pub HasSeventeenth : List Piece → Type 0
-HasSeventeenth row = (w : List ℕ) × (rest : List Piece) × StandHeadings row MOST_THREADS (Word w ∷ rest) ×
+HasSeventeenth row = (w : List ℕ) × (rest : List Piece) × HeadingsUpTo row MOST_THREADS (Word w ∷ rest) ×
     (thread_named w ≡ Some MOST_THREADS)
 
 -- the cause of a fault of the header row in line n
@@ -43,16 +43,16 @@ HeaderCause line pieces BadTable n = (row : List Piece) × LineAt line pieces n 
 -- its line is line n, in which a seventeenth heading begins
 HeaderCause line pieces TooLarge n = (row : List Piece) × LineAt line pieces n row × HasSeventeenth row
 -- no line begins up to the end of the text, which is in line n
-HeaderCause line pieces CutShort n = ((row : List Piece) → Begins pieces row → ⊥) × Place line pieces n []
+HeaderCause line pieces CutShort n = ((row : List Piece) → Begins pieces row → ⊥) × RestAt line pieces n []
 HeaderCause line pieces kind n = ⊥
 
 -- so many rows stand from the first place to this one, and give the test its width
-pub data StandRows (items : List Item) (threads : ℕ) (pieces : List Piece) : ℕ → Option Width →
+pub data RowsUpTo (items : List Item) (threads : ℕ) (pieces : List Piece) : ℕ → Option Width →
     List Piece → Type 0 where
-  none : StandRows items threads pieces 0 None pieces
+  none : RowsUpTo items threads pieces 0 None pieces
   row : {n : ℕ} {w v : Option Width} {ps rest : List Piece} (qs : List Piece) (cells : List Cell) →
-      StandRows items threads pieces n w ps → Begins ps qs → IsRow items threads qs w cells v rest
-      → StandRows items threads pieces (n + 1) v rest
+      RowsUpTo items threads pieces n w ps → Begins ps qs → IsRow items threads qs w cells v rest
+      → RowsUpTo items threads pieces (n + 1) v rest
 
 -- the shape of a row: words and signs, among them so many |, up to its only ;, with which its line ends
 pub data HasShape : ℕ → List Piece → Type 0 where
@@ -66,12 +66,13 @@ pub data HasShape : ℕ → List Piece → Type 0 where
 pub record RowAt (items : List Item) (threads line : ℕ) (pieces : List Piece) (rows n : ℕ) (before : Option Width)
     (start : List Piece) : Type 0 where
   pub above : List Piece
-  pub stand : StandRows items threads pieces rows before above
+  pub stand : RowsUpTo items threads pieces rows before above
   pub begins : Begins above start
   pub no_condition : BeginsCondition start → ⊥
-  pub place : Place line pieces n start
+  pub rest_at : RestAt line pieces n start
 
--- of one of 1024 rows at most, with the right shape, in line n, the cells of the threads below t stand before this place
+-- of one of 1024 rows at most, with the right shape, in line n, the cells of the threads below t stand before this
+-- place
 pub record CellAt (items : List Item) (threads line : ℕ) (pieces : List Piece) (t n : ℕ) (before : Option Width)
     (here : List Piece) : Type 0 where
   pub rows : ℕ
@@ -82,7 +83,7 @@ pub record CellAt (items : List Item) (threads line : ℕ) (pieces : List Piece)
   pub few : rows < MOST_ROWS
   pub shaped : HasShape (threads - 1) start
   pub stand : AreCells items threads t 0 start width cells before here
-  pub place : Place n start n here
+  pub rest_at : RestAt n start n here
 
 -- what ends the cell of a thread
 abbrev pub end_of : ℕ → ℕ → ℕ
@@ -136,8 +137,8 @@ RowsCause items threads line pieces TooLarge n =
     (before : Option Width) × (start : List Piece) × RowAt items threads line pieces MOST_ROWS n before start
 -- after rows no line begins up to the end of the text, which is in line n
 RowsCause items threads line pieces CutShort n = (rows : ℕ) × (before : Option Width) × (above : List Piece)
-    × StandRows items threads pieces rows before above × ((start : List Piece) → Begins above start → ⊥) ×
-    Place line pieces n []
+    × RowsUpTo items threads pieces rows before above × ((start : List Piece) → Begins above start → ⊥) ×
+    RestAt line pieces n []
 -- a cell is neither blank nor an instruction
 RowsCause items threads line pieces BadInstruction n = (t : ℕ) × (before : Option Width) × (here : List Piece) ×
     CellAt items threads line pieces t n before here × (t < threads)
@@ -149,7 +150,7 @@ RowsCause items threads line pieces ValueRange n =
 -- an instruction has another width than one before it, in line m
 RowsCause items threads line pieces MixedWidth n = (t s m : ℕ) × (form other : Form) × (own first : Width)
     × (there : FormAt items threads line pieces s m other) × (here : FormAt items threads line pieces t n form) ×
-    Place m there.rest n here.here
+    RestAt m there.rest n here.here
     × (width_of form ≡ Some own) × (width_of other ≡ Some first) × (first ≢ own)
 -- an instruction has a register as a value that the block sets to an address
 RowsCause items threads line pieces AddressAsValue n = (t r : ℕ) × (form : Form) × FormAt items threads line pieces t

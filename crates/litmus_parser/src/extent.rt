@@ -2,7 +2,7 @@
 
 ghost use Rattle.std.specs.Prelude.{◌≡◌, ◌≤◌, ◌==◌, not, ℕ, length};
 ghost use Rattle.std.specs.List.{prefix_len};
-ghost use Rattle.litmus_parser.specs.Reachable.{is_allowed, line_feeds, inner_line_feeds, tail_of, reach};
+ghost use Rattle.litmus_parser.specs.Extents.{is_allowed, line_feeds, inner_line_feeds, tail_of, reach};
 
 use litmus_lexer::{Kind, LitmusError, MOST_BYTES};
 
@@ -19,7 +19,7 @@ fn allowed_count(text: &[u8]) -> usize
     text.iter().take_while(|b| is_allowed(**b)).count()
 }
 
-#[tactic(auto, unfolding(crate::specs::Reachable::line_feeds))]
+#[tactic(auto, unfolding(crate::specs::Extents::line_feeds))]
 fn line_feeds(text: &[u8]) -> usize
     ensures count { result ≡ line_feeds text.now }
     ensures within { result ≤ length text.now }
@@ -36,7 +36,7 @@ fn line_feeds(text: &[u8]) -> usize
 }
 
 /// How many line feeds begin a further line: all but one that is the last byte.
-#[tactic(auto, unfolding(crate::specs::Reachable::inner_line_feeds))]
+#[tactic(auto, unfolding(crate::specs::Extents::inner_line_feeds))]
 fn inner_line_feeds(text: &[u8]) -> usize
     ensures count { result ≡ inner_line_feeds text.now }
     ensures within { result ≤ length text.now }
@@ -56,7 +56,7 @@ fn inner_line_feeds(text: &[u8]) -> usize
 }
 
 /// How many bytes come after the last line feed.
-#[tactic(auto, unfolding(crate::specs::Reachable::tail_of))]
+#[tactic(auto, unfolding(crate::specs::Extents::tail_of))]
 fn tail(text: &[u8]) -> usize
     ensures count { result ≡ tail_of 0 text.now }
     ensures within { result ≤ length text.now }

@@ -18,7 +18,7 @@ use Rattle.litmus_lexer.specs.declared.errors.ReadError.TheVariants.{Memory, Fau
 use Rattle.litmus_lexer.specs.Reading.{Fails}
 use Rattle.litmus_lexer.proofs.Lemmas.{front-all, whole-front, front-whole}
 use Rattle.litmus_parser.specs.ReadingHeader.{preamble_at}
-use Rattle.litmus_parser.specs.Reachable.{is_allowed, line_feeds, inner_line_feeds, tail_of, good, whole_lines, reach}
+use Rattle.litmus_parser.specs.Extents.{is_allowed, line_feeds, inner_line_feeds, tail_of, good, whole_lines, reach}
 use Rattle.litmus_parser.proofs.Lemmas.{Explains, test_explains, told}
 use Rattle.litmus_reader.specs.Litmus.{Litmus}
 use Rattle.litmus_reader.specs.TestViews.{test_of}
@@ -28,6 +28,7 @@ use Rattle.litmus_reader.specs.Faults.{cut_short}
 use Rattle.litmus_reader.specs.declared.contents.Test.{Test}
 use Rattle.litmus_reader.proofs.Found.{parts_take}
 use Rattle.litmus_reader.proofs.FaultParts.{above_refused, parts_explain}
+use Rattle.litmus_reader.proofs.NoMemoryFault.{never_memory}
 
 -- ---- how far a text can be read
 
@@ -171,7 +172,8 @@ fault-told text (Err e) (inr fault) = inr (read_explains text e fault)
 pub early-told : (text : List ℕ) (r : Result Test LitmusError) →
     (65536 < length text → r ≡ Err (record { line = 1; kind = TooLarge })) →
     ((e : LitmusError) → preamble_at (reach text).0 ≡ Err e → ToldSurely test_of r (read_at text))
-    → (kind : Kind) (n : ℕ) → FaultBefore (good_lines text) kind n → IfErr r (λ e. Fault text e.kind e.line)
+    → (kind : Kind) (n : ℕ) → FaultBefore (good_lines text) kind n →
+    IfErr r (λ e. (e.kind ≢ NoMemory) × Fault text e.kind e.line)
 early-told text r large sure kind n fault =
     elim (cases_Bool (ltb 65536 (length text))) [
       | inl more ↦ told-large text r (ltb-true _ _ more) (large (ltb-true _ _ more))
@@ -181,13 +183,16 @@ early-told text r large sure kind n fault =
     ]
   where
     told-large : (text : List ℕ) (r : Result Test LitmusError) → 65536 < length text →
-        r ≡ Err (record { line = 1; kind = TooLarge }) → IfErr r (λ e. Fault text e.kind e.line)
+        r ≡ Err (record { line = 1; kind = TooLarge }) → IfErr r (λ e. (e.kind ≢ NoMemory) × Fault text e.kind e.line)
     told-large text (Ok test) more is = tt
     told-large text (Err e) more is =
         let same : e ≡ record { line = 1; kind = TooLarge } = cc in
-        subst (λ (x : LitmusError). Fault text x.kind x.line) (sym same) (too_large more)
+        subst (λ (x : LitmusError). (x.kind ≢ NoMemory) × Fault text x.kind x.line) (sym same)
+        (λ lacks. absurd cc, too_large more)
 
     told-sure : (text : List ℕ) (r : Result Test LitmusError) → ToldSurely test_of r (read_at text) →
-        IfErr r (λ e. Fault text e.kind e.line)
+        IfErr r (λ e. (e.kind ≢ NoMemory) × Fault text e.kind e.line)
     told-sure text (Ok test) h = tt
-    told-sure text (Err e) h = read_explains text e h
+    told-sure text (Err e) h =
+        let fault = read_explains text e h in
+        (λ lacks. never_memory (subst (λ (k : Kind). Fault text k e.line) lacks fault), fault)

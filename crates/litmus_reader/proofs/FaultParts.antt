@@ -195,7 +195,7 @@ block_part text s h =
       block = block_takes s.0 (pieces_of s.1) b answer;
       lines =
           p.1;
-      place = p.0;
+      rest_at = p.0;
     })
 
 -- ---- the table
@@ -214,7 +214,7 @@ header_part text b has =
       pieces = b.3;
       block = has;
       row = header_takes b.2 b.3 h answer;
-      place =
+      rest_at =
           header_place b.2 b.3 h answer;
     })
 
@@ -301,7 +301,7 @@ rows_part text b h has there =
       rows =
           rows_take b.0 h.0 h.1 h.2 r answer;
       keyword = p.1;
-      place = p.0;
+      rest_at = p.0;
     })
 
 table_part : (text : List ℕ) (b : Block) → HasBlock text b.0 b.1 b.2 b.3 → Explains (FaultIn text) (Rowed text b)

@@ -16,7 +16,7 @@ use Rattle.litmus_parser.specs.ReadingHeader as heads
 use Rattle.litmus_parser.specs.ReadingBlock.{block_at}
 use Rattle.litmus_parser.specs.ReadingTable.{is_absent, absent_line, header_at, rows_at}
 use Rattle.litmus_parser.specs.ReadingEnd.{condition_at}
-use Rattle.litmus_parser.specs.Reachable.{is_allowed, good, whole_lines, inner_line_feeds, line_feeds, reach}
+use Rattle.litmus_parser.specs.Extents.{is_allowed, good, whole_lines, inner_line_feeds, line_feeds, reach}
 use Rattle.litmus_parser.specs.GrammarTable.{IsHeaderRow, AreRows}
 use Rattle.litmus_parser.specs.declared.syntax.Name.{Name}
 use Rattle.litmus_parser.specs.declared.syntax.Name.TheVariants.{Register, Location}

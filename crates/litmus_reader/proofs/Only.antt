@@ -13,7 +13,7 @@ use Rattle.litmus_lexer.proofs.Lemmas.{length-behind_line_feed, length-pieces, r
 use Rattle.litmus_parser.specs.ReadingHeader.{Lines, first_line_at, header_line_at, cut_short, preamble_at}
 use Rattle.litmus_parser.specs.ReadingHeader as heads
 use Rattle.litmus_parser.specs.ReadingTable.{is_absent, absent_line, quantifier_next}
-use Rattle.litmus_parser.specs.Reachable.{is_allowed}
+use Rattle.litmus_parser.specs.Extents.{is_allowed}
 use Rattle.litmus_parser.specs.GrammarTable.{IsHeaderRow, AreRows}
 use Rattle.litmus_parser.specs.declared.syntax.Name.{Name}
 use Rattle.litmus_parser.specs.declared.syntax.Name.TheVariants.{Register, Location}

@@ -7,9 +7,9 @@ use Rattle.litmus_lexer.specs.FirstLines.{IsTitle, is_header_line, begins_block,
 use Rattle.litmus_lexer.specs.declared.errors.Kind.{Kind}
 use Rattle.litmus_lexer.specs.declared.errors.Kind.TheVariants.{TooLarge, BadByte, BadHeader, BadInitial, CutShort}
 use Rattle.litmus_parser.specs.Names.{Names}
-use Rattle.litmus_parser.specs.Places.{Place}
+use Rattle.litmus_parser.specs.RestLines.{RestAt}
 use Rattle.litmus_parser.specs.Trees.{Tree}
-use Rattle.litmus_parser.specs.Reachable.{is_allowed, line_feeds, inner_line_feeds, good, reach}
+use Rattle.litmus_parser.specs.Extents.{is_allowed, line_feeds, inner_line_feeds, good, reach}
 use Rattle.litmus_parser.specs.Keywords.{BeginsCondition}
 use Rattle.litmus_parser.specs.GrammarBlock.{IsBlock}
 use Rattle.litmus_parser.specs.GrammarTable.{IsHeaderRow, AreRows}
@@ -48,7 +48,7 @@ pub record HasBlock (text : List ℕ) (items : List Item) (names : Names) (n : �
   pub opens : OpensBlock text first body
   pub block : IsBlock (pieces_of body) items names rest
   pub lines : InLines first (pieces_of body) items
-  pub place : Place first (pieces_of body) n rest
+  pub rest_at : RestAt first (pieces_of body) n rest
 
 -- then the header row leads to line n
 pub record HasHeaderRow (text : List ℕ) (items : List Item) (names : Names) (threads n : ℕ)
@@ -57,7 +57,7 @@ pub record HasHeaderRow (text : List ℕ) (items : List Item) (names : Names) (t
   pub pieces : List Piece
   pub block : HasBlock text items names first pieces
   pub row : IsHeaderRow pieces threads rest
-  pub place : Place first pieces n rest
+  pub rest_at : RestAt first pieces n rest
 
 -- every item is of a thread that the header row names; then rows lead to line n, where a keyword stands
 pub record HasRows (text : List ℕ) (items : List Item) (names : Names) (threads n : ℕ)
@@ -69,7 +69,7 @@ pub record HasRows (text : List ℕ) (items : List Item) (names : Names) (thread
   pub there : AllByRecursion (λ item. IsThere threads item.name) items
   pub rows : AreRows items threads 0 pieces None cells rest
   pub keyword : BeginsCondition rest
-  pub place : Place first pieces n rest
+  pub rest_at : RestAt first pieces n rest
 
 -- the first item for a thread that isn't there stands in line n
 pub record HasAbsentThread (items : List Item) (threads n : ℕ) : Type 0 where
@@ -98,7 +98,8 @@ pub data FaultBefore (text : List ℕ) : Kind → ℕ → Type 0 where
   -- nothing stands after the header lines
   header_ends : {n : ℕ} → IsHeaded text n [] → FaultBefore text CutShort n
 
--- The part in which a text can't go on: what stands before it is in the grammar, it is not, and here is why, and in which line.
+-- The part in which a text can't go on: what stands before it is in the grammar, it is not, and here is why, and in
+-- which line.
 pub data FaultIn (text : List ℕ) : Kind → ℕ → Type 0 where
   above : {kind : Kind} {n : ℕ} → FaultBefore text kind n → FaultIn text kind n
   block : {kind : Kind} {first n : ℕ} {body : List ℕ} → OpensBlock text first body

@@ -5,7 +5,7 @@ use Rattle.litmus_lexer.specs.declared.limits.TheConstants.{MOST_BYTES}
 use Rattle.litmus_lexer.specs.Pieces.{Piece, pieces_of}
 use Rattle.litmus_lexer.specs.FirstLines.{IsTitle, is_header_line, begins_block, before_line_feed, behind_line_feed}
 use Rattle.litmus_parser.specs.Names.{Names}
-use Rattle.litmus_parser.specs.Reachable.{is_allowed}
+use Rattle.litmus_parser.specs.Extents.{is_allowed}
 use Rattle.litmus_parser.specs.GrammarBlock.{IsBlock}
 use Rattle.litmus_parser.specs.GrammarTable.{IsHeaderRow, AreRows}
 use Rattle.litmus_parser.specs.GrammarCondition.{IsCondition}

@@ -11,7 +11,7 @@ use Rattle.litmus_parser.specs.ReadingHeader.{preamble_at}
 use Rattle.litmus_parser.specs.ReadingBlock.{block_at}
 use Rattle.litmus_parser.specs.ReadingTable.{header_at, absent_line, rows_at}
 use Rattle.litmus_parser.specs.ReadingEnd.{condition_at}
-use Rattle.litmus_parser.specs.Reachable.{reach}
+use Rattle.litmus_parser.specs.Extents.{reach}
 use Rattle.litmus_parser.specs.declared.syntax.Item.{Item}
 use Rattle.litmus_parser.specs.declared.syntax.Cell.{Cell}
 use Rattle.litmus_reader.specs.Litmus.{Litmus, settings_of}

@@ -1,6 +1,6 @@
 //! Reading a whole text.
 
-ghost use Rattle.std.specs.Prelude.{◌≡◌, ◌<◌, ◌≤◌, ◌⊎◌, ℕ, [], Ok, Err, IfOk, IfErr, OnOk, length};
+ghost use Rattle.std.specs.Prelude.{◌≡◌, ◌≢◌, ◌<◌, ◌≤◌, ◌⊎◌, ℕ, [], Ok, Err, IfOk, IfErr, OnOk, length};
 ghost use Rattle.std.specs.List.{list_any};
 ghost use Rattle.litmus_lexer.specs.Reading.{Gives};
 ghost use Rattle.litmus_parser.specs.Names.{same_name};
@@ -159,7 +159,7 @@ pub fn read(alloc: Global, text: &[u8]) -> Result<Test, LitmusError>
         (e ≡ record { line = 0; kind = NoMemory }) ⊎ Fault text.now e.kind e.line) }
     // A text with a fault before its initial block is told its fault: that takes no memory.
     ensures early { (kind : Kind) (n : ℕ) → FaultBefore (good_lines text.now) kind n →
-        IfErr result (λ e. Fault text.now e.kind e.line) }
+        IfErr result (λ e. (e.kind ≢ Kind.NoMemory) × Fault text.now e.kind e.line) }
     // A text that is too long wants no memory.
     ensures large { MOST_BYTES < length text.now →
         result ≡ Err (record { line = 1; kind = Kind.TooLarge }) }

@@ -99,9 +99,9 @@ evicted (Some (Recalling owner)) = IsBusy
 evicted (Some Storing) = IsBusy
 
 -- what a decision writes has a way: an entry that is there is changed, and one that is loaded finds room
-abbrev pub finds_way : (there room : Bool) → Decision → Bool
-finds_way there room Loads = room
-finds_way there room (Recalls owner sent) = there
-finds_way there room (Grants entry sent) = there
-finds_way there room (Becomes entry) = there
-finds_way there room _ = true
+abbrev pub finds_place : (there room : Bool) → Decision → Bool
+finds_place there room Loads = room
+finds_place there room (Recalls owner sent) = there
+finds_place there room (Grants entry sent) = there
+finds_place there room (Becomes entry) = there
+finds_place there room _ = true

@@ -4,9 +4,9 @@ ghost use Rattle.std.specs.Prelude.{IsTrue, is_some, Err, None, OnErr, Some};
 ghost use Rattle.std.specs.Ordering.{nat_cmp};
 ghost use Rattle.std.specs.Option.{option_copied};
 ghost use Rattle.line_sets.specs.Geometry.{IsGeometry};
-ghost use Rattle.line_sets.specs.SetTable.{all_listed, has_room, has_way};
+ghost use Rattle.line_sets.specs.SetTable.{all_listed, has_room, has_place};
 ghost use Rattle.llc_bank.specs.SetUp.{IsInRange};
-ghost use Rattle.llc_bank.specs.OnEntry.{finds_way};
+ghost use Rattle.llc_bank.specs.OnEntry.{finds_place};
 ghost use Rattle.llc_bank.specs.Settled.{is_settled};
 ghost use Rattle.llc_bank.specs.BankTable.{core_of};
 
@@ -102,7 +102,7 @@ impl Bank {
 
     // Sets the entry of a line that is there, or has room, and makes it the most recently used of its set.
     fn use_entry(&mut self, line: LineNo, entry: Entry)
-        requires { IsTrue (has_way self.old.table (set_of self.old line) line) }
+        requires { IsTrue (has_place self.old.table (set_of self.old line) line) }
         ensures { self.new ≡ with_used self.old line entry }
     {
         let set = self.set_of(line);
@@ -148,7 +148,7 @@ impl Bank {
     // What the bank does at a message.
     fn decided(&self, message: &Message) -> Decision
         ensures decision { result ≡ decided self.now message.now }
-        ensures way { IsTrue (finds_way (is_some (entry_of self.now message.now.line)) (has_room
+        ensures way { IsTrue (finds_place (is_some (entry_of self.now message.now.line)) (has_room
             self.now.table (set_of self.now message.now.line)) result) }
     {
         decide(
@@ -231,7 +231,8 @@ impl Bank {
 
     /// The lines that are Shared or Exclusive, rising.
     pub fn lines(&self) -> Result<Vec<LineNo>, AllocError>
-        ensures lines { IfOk result (λ lines. IsPermutation (all_listed is_settled self.now.table.sets)
+        ensures lines { IfOk result (λ lines. IsPermutation (all_listed is_settled
+            self.now.table.sets)
             lines.items) }
         ensures rising { IfOk result (λ lines. IsSorted nat_cmp lines.items) }
     {
@@ -250,7 +251,7 @@ fn core_of(node: Node) -> u32
 }
 
 impl Part for Bank {
-    ghost use Rattle.network.specs.Sent.{sent_by};
+    ghost use Rattle.network.specs.Sends.{sent_by};
     ghost use Rattle.llc_bank.specs.BankTable.{bank_has_case, bank_table};
 
     ghost has_case = { bank_has_case };

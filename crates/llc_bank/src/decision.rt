@@ -1,7 +1,7 @@
 //! What a message and an eviction do with a bank's entry of one line: decisions, which change nothing.
 ghost use Rattle.std.specs.Prelude.{◌≡◌, IsTrue, is_some};
 ghost use Rattle.std.specs.Result.{result_ok};
-ghost use Rattle.llc_bank.specs.OnEntry.{asked_back, at_bank, evicted, exclusive_request, filled, finds_way};
+ghost use Rattle.llc_bank.specs.OnEntry.{asked_back, at_bank, evicted, exclusive_request, filled, finds_place};
 ghost use Rattle.llc_bank.specs.OnEntry.{given_back, leased, loaded, read_answer, shared_request, stored};
 
 use crate::entry::Entry;
@@ -199,7 +199,7 @@ pub(crate) fn decide(
     body: &Body,
 ) -> Decision
     ensures decision { result ≡ at_bank lease mts room core entry body.now }
-    ensures way { IsTrue (finds_way (is_some entry) room result) }
+    ensures way { IsTrue (finds_place (is_some entry) room result) }
 {
     match *body {
         Body::ShReq { pts, version } => shared_request(lease, room, pts, version, entry),

@@ -71,9 +71,9 @@ impl EvictError {
     ghost use Rattle.std.specs.Prelude.{◌≡◌};
 
     /// The error's number.
-    pub fn number(&self) -> u32
-        ensures not_here { self.now ≡ EvictError.NotHere → result ≡ 1 }
-        ensures busy { self.now ≡ EvictError.Busy → result ≡ 2 }
+    pub fn number(self) -> u8
+        ensures not_here { self ≡ EvictError.NotHere → result ≡ 1 }
+        ensures busy { self ≡ EvictError.Busy → result ≡ 2 }
     {
         match self {
             EvictError::NotHere => 1,

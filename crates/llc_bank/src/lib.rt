@@ -8,8 +8,6 @@ pub mod config;
 pub mod decision;
 pub mod entry;
 pub mod laws;
-#[cfg(test)]
-mod tests;
 
 pub use bank::Bank;
 pub use config::BankConfig;

@@ -3,7 +3,7 @@ use Rattle.std.proofs.Common.{◌≡◌, ℕ, ◌+◌, true, false, eqb, List, [
 use Rattle.std.proofs.Common.{sym, ap, ◌∙◌, arith, ⊎_elim}
 use Rattle.std.proofs.lemmas.Bool.{cases_Bool, cond-true, cond-false}
 use Rattle.network.specs.declared.message.Message.{Message}
-use Rattle.network.specs.Numbered.{IsRising, at_number, without_number}
+use Rattle.network.specs.NumberedMessages.{IsRising, at_number, without_number}
 use Rattle.machine_theorem.specs.Bags.{weigh, SameBag, bag_of}
 use Rattle.machine_moves.specs.States.{numbered_from}
 

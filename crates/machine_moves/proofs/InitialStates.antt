@@ -7,7 +7,7 @@ use Rattle.llc_bank.specs.BankTable.{empty_bank}
 use Rattle.machine_table.specs.declared.config.Config.{Config}
 use Rattle.machine_table.specs.Opening.{core_config, bank_config, geometry, dram_of, cores_from, banks_from}
 use Rattle.machine_table.specs.Opening.{drams_from, at_start}
-use Rattle.machine_moves.specs.States.{Same, seen, opening_state}
+use Rattle.machine_moves.specs.States.{Same, seen, initial_state}
 
 -- a list of parts from a number on, part by part
 module _ {X : Type 0} (part : ℕ → X) (list : ℕ → ℕ → List X) (none : (k : ℕ) → list k zero ≡ []) (more : (k n : ℕ) →
@@ -32,7 +32,7 @@ none_issued (suc n) zero = refl
 none_issued (suc n) (suc k) = none_issued n k
 
 pub opening_same : (config : Config) (opening : FinMap nat_cmp ℕ) →
-    Same (opening_state config opening) (seen (at_start config opening))
+    Same (initial_state config opening) (seen (at_start config opening))
 opening_same config opening =
     record {
       cores = parts_at (λ c. opened (core_config config c) (geometry config)) (cores_from config) (λ k. refl)

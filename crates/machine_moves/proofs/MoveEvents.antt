@@ -15,7 +15,7 @@ use Rattle.network.specs.declared.message.Message.{Message}
 use Rattle.network.specs.declared.part.Reaction.{Reaction}
 use Rattle.network.specs.declared.part.Reaction.TheVariants.{Done, Dropped, HeldAfter}
 use Rattle.network.specs.Mail.{has_number, has_capacity, sent, taken}
-use Rattle.network.specs.Numbered.{at_number, without_number}
+use Rattle.network.specs.NumberedMessages.{at_number, without_number}
 use Rattle.private_cache.specs.declared.cache.CacheError.{CacheError}
 use Rattle.core_pts.specs.declared.attempt.Attempt.{Attempt}
 use Rattle.core_pts.specs.declared.attempt.Attempt.TheVariants as attempted

@@ -55,8 +55,8 @@ seen m = record {
 }
 
 -- the initial state
-abbrev pub opening_state : Config → FinMap nat_cmp ℕ → State
-opening_state config opening = record {
+abbrev pub initial_state : Config → FinMap nat_cmp ℕ → State
+initial_state config opening = record {
   cores = λ c. opened (core_config config c) (geometry config);
   banks = λ b. empty_bank (bank_config config b);
   drams = λ b. dram_of config b (entries opening);

@@ -21,7 +21,7 @@ ghost use Rattle.machine_theorem.specs.Coherence as machine;
 ghost use Rattle.machine_theorem.specs.Kept.{Invariant};
 ghost use Rattle.machine_theorem.specs.Shape.{IsCore, IsBank};
 ghost use Rattle.machine_moves.specs.Laws.{Laws};
-ghost use Rattle.machine_moves.specs.States.{State, Same, seen, numbered, opening_state};
+ghost use Rattle.machine_moves.specs.States.{State, Same, seen, numbered, initial_state};
 ghost use Rattle.machine_moves.specs.Moves.{Move, Reached};
 ghost use Rattle.machine_moves.specs.Events.{Shows, IsEvent};
 ghost use Rattle.machine_moves.specs.Effects.{Effect};
@@ -71,10 +71,10 @@ pub fn histories_are_reached()
     laws_of_machines();
 }
 
-/// Every state that moves reach from the initial state of a machine that is well set up: its records are a legal history
-/// of the opening memory and of what its cores were issued; a line has at most one owner, where grants and returns in
-/// flight count; a word's coherent value is the one that the records leave; and the part that a message in flight goes
-/// to has a case for it.
+/// Every state that moves reach from the initial state of a machine that is well set up: its records are a legal
+/// history of the opening memory and of what its cores were issued; a line has at most one owner, where grants and
+/// returns in flight count; a word's coherent value is the one that the records leave; and the part that a message in
+/// flight goes to has a case for it.
 pub fn reached_states_are_consistent()
     ensures { (config : Config) (opening : FinMap nat_cmp ℕ) (a : State) → is_good config ≡ true →
         Reached config opening a → Consistent config opening a }
@@ -147,9 +147,9 @@ pub fn records_are_in_order()
 /// The initial state, part by part, is that of the machine as it opens, and is reached.
 pub fn initial_states_are_reached()
     ensures same { (config : Config) (opening : FinMap nat_cmp ℕ) →
-        Same (opening_state config opening) (seen (at_start config opening)) }
+        Same (initial_state config opening) (seen (at_start config opening)) }
     ensures reached { (config : Config) (opening : FinMap nat_cmp ℕ) →
-        Reached config opening (opening_state config opening) }
+        Reached config opening (initial_state config opening) }
 {}
 
 /// In every reached state, each core and each bank that there is knows its number and how the machine was set up, and a

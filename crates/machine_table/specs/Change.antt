@@ -10,7 +10,7 @@ use Rattle.network.specs.declared.message.Node.{Node}
 use Rattle.network.specs.declared.part.Reaction.{Reaction}
 use Rattle.network.specs.declared.part.Reaction.TheVariants.{Done, Dropped, Held, HeldAfter}
 use Rattle.network.specs.Mail.{Mail, has_number, has_capacity, sent, taken, answered}
-use Rattle.network.specs.Sent.{sent_in}
+use Rattle.network.specs.Sends.{sent_in}
 use Rattle.private_cache.specs.declared.cache.CacheError.{CacheError}
 use Rattle.private_cache.specs.declared.cache.CacheError.TheVariants.{NoRoom, NotHere, Pinned}
 use Rattle.core_pts.specs.declared.attempt.Attempt.{Attempt}

@@ -14,7 +14,7 @@ use Rattle.network.specs.declared.message.Body.TheVariants as body
 use Rattle.network.specs.declared.message.Message.{Message}
 use Rattle.network.specs.declared.part.Reaction.{Reaction}
 use Rattle.network.specs.declared.part.Reaction.TheVariants.{Done, HeldAfter}
-use Rattle.network.specs.Numbered.{at_number, without_number}
+use Rattle.network.specs.NumberedMessages.{at_number, without_number}
 use Rattle.llc_bank.specs.declared.entry.Entry.{Entry}
 use Rattle.llc_bank.specs.declared.entry.Entry.TheVariants as entry
 use Rattle.llc_bank.specs.OnEntry as on_entry

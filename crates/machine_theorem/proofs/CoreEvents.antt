@@ -22,7 +22,7 @@ use Rattle.core_pts.specs.declared.attempt.Attempt.{Attempt}
 use Rattle.core_pts.specs.declared.attempt.Attempt.TheVariants as attempted
 use Rattle.core_pts.specs.declared.attempt.IssueError.TheVariants as not_issued
 use Rattle.core_pts.specs.CoreTable as core_table
-use Rattle.core_pts.specs.CoreTable.{CoreState, to_bank, pinned_line, line_of_open, is_on, completed_at}
+use Rattle.core_pts.specs.CoreTable.{CoreState, to_bank, pinned_line, line_of_open, is_pinned, completed_at}
 use Rattle.core_pts.specs.OnCopy.{is_exclusive, serves, time_of, received_at, copy_after, words_of_copy}
 use Rattle.machine_table.specs.Machine.{Machine, with_core}
 use Rattle.network.specs.Mail.{has_capacity}
@@ -182,21 +182,21 @@ module _ (m : Machine) (s : Invariant m) (core : CoreState) (at : slice_get m.co
   idle none = sym (ap (λ (y : Core). y.out) seen) ∙ (reachable_blocked (set_up m) (view m) s.reached).idle c
       (ap (λ (y : Core). y.open_op) seen ∙ none)
 
-  pub off_line : (l : ℕ) → is_on (pinned_line core) l ≡ false → (op : Op) → core.open_op ≡ Some op →
+  pub off_line : (l : ℕ) → is_pinned (pinned_line core) l ≡ false → (op : Op) → core.open_op ≡ Some op →
       core_table.line_of core op ≢ l
   off_line l off op opens q =
       let z : eqb (core_table.line_of core op) l ≡ true = eq-eqb _ _ q in
       let w : eqb (core_table.line_of core op) l ≡ false =
-      sym (ap (λ (o : Option Op). is_on (line_of_open core o) l) opens) ∙ off in
+      sym (ap (λ (o : Option Op). is_pinned (line_of_open core o) l) opens) ∙ off in
       cc
 
-  pub unpinned : (l : ℕ) → is_on (pinned_line core) l ≡ false → IsPinned (set_up m) (view m).cores l c → ⊥
+  pub unpinned : (l : ℕ) → is_pinned (pinned_line core) l ≡ false → IsPinned (set_up m) (view m).cores l c → ⊥
   unpinned l off p =
       let opens : core.open_op ≡ Some p.0 = sym (ap (λ (y : Core). y.open_op) seen) ∙ p.1 in
       let z : eqb (core_table.line_of core p.0) l ≡ true =
       eq-eqb _ _ (ap (λ (k : ℕ). address p.0 / k) is.line_words ∙ p.2) in
       let w : eqb (core_table.line_of core p.0) l ≡ false =
-      sym (ap (λ (o : Option Op). is_on (line_of_open core o) l) opens) ∙ off in
+      sym (ap (λ (o : Option Op). is_pinned (line_of_open core o) l) opens) ∙ off in
       cc
 
   -- Issue
@@ -491,12 +491,12 @@ module _ (m : Machine) (s : Invariant m) (core : CoreState) (at : slice_get m.co
   pub eviction_goes : (l : ℕ) (o : Option LineCopy) → copy_of core.cache l ≡ o →
       Invariant (copy_evicted m c (core_table.sent_back core l (cache.evicted core.cache l (pinned_line core) o))).1
   eviction_goes l None there = s
-  eviction_goes l (Some copy) there = by_pin (is_on (pinned_line core) l) refl
+  eviction_goes l (Some copy) there = by_pin (is_pinned (pinned_line core) l) refl
     where
       new : CoreState
       new = record core { cache = without_copy core.cache l }
 
-      gone : is_on (pinned_line core) l ≡ false → IsCore m.config c ops new
+      gone : is_pinned (pinned_line core) l ≡ false → IsCore m.config c ops new
       gone off = record {
         numbered = refl;
         banks = is.banks;
@@ -514,7 +514,7 @@ module _ (m : Machine) (s : Invariant m) (core : CoreState) (at : slice_get m.co
       copy_is : (line_in m l).copies c ≡ Some (copy_seen copy)
       copy_is = copies_at l ∙ ap copy_or_none there
 
-      by_state : is_on (pinned_line core) l ≡ false → (b : Bool) → is_exclusive copy.state ≡ b →
+      by_state : is_pinned (pinned_line core) l ≡ false → (b : Bool) → is_exclusive copy.state ≡ b →
           Invariant (copy_evicted m c (
             Ok (cond b (Some (to_bank core l (body.FlushRep (words_of_copy copy)))) None),
             new,
@@ -544,7 +544,7 @@ module _ (m : Machine) (s : Invariant m) (core : CoreState) (at : slice_get m.co
             (unpinned l off) copy_is sh) s.reached;
       }
 
-      by_pin : (b : Bool) → is_on (pinned_line core) l ≡ b →
+      by_pin : (b : Bool) → is_pinned (pinned_line core) l ≡ b →
           Invariant (copy_evicted m c
           (core_table.sent_back core l (cond b (Err Pinned, core.cache) (Ok copy, without_copy core.cache l)))).1
       by_pin true p = s

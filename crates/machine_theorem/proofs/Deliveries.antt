@@ -10,12 +10,12 @@ use Rattle.network.specs.declared.message.Node.TheVariants as node
 use Rattle.network.specs.declared.message.Body.{Body}
 use Rattle.network.specs.declared.message.Body.TheVariants as body
 use Rattle.network.specs.declared.message.Message.{Message}
-use Rattle.network.specs.Numbered.{at_number, without_number}
+use Rattle.network.specs.NumberedMessages.{at_number, without_number}
 use Rattle.private_cache.specs.declared.line_copy.LineCopy.{LineCopy}
 use Rattle.physiological_order.specs.declared.operation.Op.{Op}
 use Rattle.private_cache.specs.CopyTable.{copy_of, place_for, with_used, with_changed}
 use Rattle.core_pts.specs.CoreTable as core_table
-use Rattle.core_pts.specs.CoreTable.{CoreState, to_bank, pinned_line, is_on, kept_in, is_this_core, comes_to_core}
+use Rattle.core_pts.specs.CoreTable.{CoreState, to_bank, pinned_line, is_pinned, kept_in, is_this_core, comes_to_core}
 use Rattle.core_pts.specs.CoreTable.{core_has_case}
 use Rattle.core_pts.specs.OnCopy.{at_core}
 use Rattle.core_pts.specs.declared.decision.CoreReaction.{CoreReaction}
@@ -134,7 +134,7 @@ module _ (m : Machine) (s : Invariant m) (core : CoreState) (at : slice_get m.co
   kept_room (Some copy) k ne place = place-changed core.cache is.sets l k ne place copy
 
   reaction_goes : (r : CoreReaction) → CoreFits m.config.lease (IsPinned (set_up m) (view m).cores l)
-      ((view m).mts (l % m.config.banks)) c (line_in m l) (messages_of rest l) (is_on (pinned_line core) l)
+      ((view m).mts (l % m.config.banks)) c (line_in m l) (messages_of rest l) (is_pinned (pinned_line core) l)
       (copy_of core.cache l) r →
       Invariant (reacted m n put (core_table.after_reaction core l r)).1
   reaction_goes (Arrives copy) fit =
@@ -195,11 +195,11 @@ module _ (m : Machine) (s : Invariant m) (core : CoreState) (at : slice_get m.co
   delivered : is_this_core core.number message.to ≡ true → comes_to_core core l message.body ≡ true →
       Invariant (reacted m n put (core_table.core_table core message)).1
   delivered this comes =
-      let b = is_on (pinned_line core) l in
+      let b = is_pinned (pinned_line core) l in
       let came = messages-taken m.mail.messages n message found in
       reaction_goes (at_core core.lease b (copy_of core.cache l) message.body)
       (subst (λ (lease : ℕ). CoreFits m.config.lease (IsPinned (set_up m) (view m).cores l)
-      ((view m).mts (l % m.config.banks)) c (line_in m l) (messages_of rest l) (is_on (pinned_line core) l)
+      ((view m).mts (l % m.config.banks)) c (line_in m l) (messages_of rest l) (is_pinned (pinned_line core) l)
       (copy_of core.cache l) (at_core lease b (copy_of core.cache l) message.body)) (sym is.lease)
       (core_fits m.config.lease (IsPinned (set_up m) (view m).cores l) ((view m).mts (l % m.config.banks)) c
       (line_in m l) (messages_of rest l) b core l message.body (λ e. events.unpinned m s core at l e) comes

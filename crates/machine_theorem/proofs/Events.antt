@@ -4,7 +4,7 @@ use Rattle.std.specs.List.{slice_get}
 use Rattle.network.specs.declared.message.Node.{Node}
 use Rattle.network.specs.declared.message.Node.TheVariants as node
 use Rattle.network.specs.declared.message.Message.{Message}
-use Rattle.network.specs.Numbered.{at_number}
+use Rattle.network.specs.NumberedMessages.{at_number}
 use Rattle.machine_table.specs.declared.event.Event.{Event}
 use Rattle.machine_table.specs.declared.event.Event.TheVariants.{Issue, Attempt, Deliver, EvictCache, EvictBank}
 use Rattle.machine_table.specs.declared.event.Event.TheVariants.{Advance}

@@ -16,7 +16,7 @@ use Rattle.network.specs.Routes.{has_route}
 use Rattle.private_cache.specs.declared.line_copy.LineCopy.{LineCopy}
 use Rattle.private_cache.specs.CopyTable.{copy_of, place_for}
 use Rattle.core_pts.specs.CoreTable as core_table
-use Rattle.core_pts.specs.CoreTable.{CoreState, pinned_line, line_of_open, is_on, waits_for, is_shared_copy}
+use Rattle.core_pts.specs.CoreTable.{CoreState, pinned_line, line_of_open, is_pinned, waits_for, is_shared_copy}
 use Rattle.core_pts.specs.CoreTable.{is_this_core, comes_to_core, core_has_case}
 use Rattle.llc_bank.specs.declared.entry.Entry.{Entry}
 use Rattle.llc_bank.specs.declared.entry.Entry.TheVariants as entry
@@ -97,7 +97,7 @@ module _ (m : Machine) (s : Invariant m) (x : Message) (n : ℕ) (goes : GoesHom
     on w = ap (λ (k : ℕ). address w.1.0 / k) is.line_words ∙ w.1.2
 
     waiting : WaitsFor (set_up m) (view m) x.line c → waits_for core x.line ≡ true
-    waiting w = both _ _ (out w) (ap (λ (o : Option Op). is_on (line_of_open core o) x.line) (opens w)
+    waiting w = both _ _ (out w) (ap (λ (o : Option Op). is_pinned (line_of_open core o) x.line) (opens w)
         ∙ eq-eqb _ _ (on w))
 
     place : WaitsFor (set_up m) (view m) x.line c → place_for core.cache x.line ≡ true

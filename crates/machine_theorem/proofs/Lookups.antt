@@ -9,7 +9,7 @@ use Rattle.std.proofs.lemmas.List.Sorted.{IsPermutation-refl, IsPermutation-sym,
 use Rattle.std.proofs.lemmas.List.Sorted.{IsPermutation-trans, IsPermutation-swap, IsPermutation-to_front}
 use Rattle.std.proofs.lemmas.Bool.{cases_eq, cases_Bool, ne_eqb, eq-eqb, cond-true, cond-false}
 use Rattle.network.specs.declared.message.Message.{Message}
-use Rattle.network.specs.Numbered.{at_number, without_number}
+use Rattle.network.specs.NumberedMessages.{at_number, without_number}
 use Rattle.line_sets.specs.SetTable.{look, put, put_within, drop_line}
 use Rattle.line_sets.proofs.Lemmas.{look-put_same, look-put_other, look-put_within_same, look-put_within_other}
 use Rattle.line_sets.proofs.Lemmas.{look-drop_line_same, look-drop_line_other, length-put, length-put_within}

@@ -29,8 +29,8 @@ IsFor c (entry.Exclusive owner) = owner ≡ c
 IsFor c (entry.Recalling owner) = owner ≡ c
 IsFor c _ = Unit {0}
 
--- whatever holds after each move that a bank may decide on, holds after its table: rest are the messages of the line but
--- the delivered one, c the core that this is from
+-- whatever holds after each move that a bank may decide on, holds after its table: rest are the messages of the line
+-- but the delivered one, c the core that this is from
 module _ (lease : ℕ) (pinned : ℕ → Type 0) (t : ℕ) (x : Line) (rest : List Message) (c : ℕ) (bank : BankState)
     (m : network.Message) (cores banks : ℕ) (P : Option (Reaction × BankState) → Type 0)
     (seen : x.entry ≡ entry_seen (entry_of bank m.line))

@@ -11,7 +11,7 @@ use Rattle.network.specs.declared.message.Node.TheVariants as node
 use Rattle.network.specs.declared.message.Message.{Message}
 use Rattle.network.specs.declared.part.Reaction.{Reaction}
 use Rattle.network.specs.declared.part.Reaction.TheVariants.{Done, Dropped, Held, HeldAfter}
-use Rattle.network.specs.Numbered.{at_number}
+use Rattle.network.specs.NumberedMessages.{at_number}
 use Rattle.private_cache.specs.declared.cache.CacheError.{CacheError}
 use Rattle.private_cache.specs.declared.cache.CacheError.TheVariants.{NoRoom, NotHere, Pinned}
 use Rattle.core_pts.specs.declared.attempt.Attempt.{Attempt}

@@ -14,7 +14,7 @@ use Rattle.llc_bank.specs.BankTable.{BankState, entry_of}
 use Rattle.dram_mts.specs.Lines.{words_of}
 use Rattle.machine_table.specs.Machine.{Machine}
 use Rattle.protocol.specs.Machine as by_line
-use Rattle.protocol.specs.Machine.{Config, Copy, Line, Core, with_at, IsPinned, LineTransition, shuffled, move}
+use Rattle.protocol.specs.Machine.{Config, Copy, Line, Core, with_at, IsPinned, LineTransition, shuffled, line_changes}
 use Rattle.protocol.specs.Machine.{Reachable, goes_on}
 use Rattle.protocol.proofs.Lemmas.{with_at_same, with_at_other, with_at_cases, with_at_id}
 use Rattle.machine_theorem.specs.View.{copy_in, core_seen, entry_seen, entry_in, time_in, messages_of, set_up}
@@ -40,7 +40,7 @@ pub line_same : (x y : Line) → x.entry ≡ y.entry → ((c : ℕ) → x.copies
 line_same x y entry copies messages dram =
     λ i. record { entry = entry i; copies = λ c. copies c i; messages = messages i; dram = dram i }
 
--- a move of one line, and its messages in any order, lead to each machine that looks so
+-- a line_changes of one line, and its messages in any order, lead to each machine that looks so
 pub moved_to : (f : Config) (m n : by_line.Machine) (l t : ℕ) (y : Line) → LineTransition f.lease
     (IsPinned f m.cores l) (m.mts (l % f.banks)) (m.lines l) t y → IsPermutation y.messages (n.lines l).messages →
     record y { messages = (n.lines l).messages } ≡ n.lines l → ((j : ℕ) → j ≢ l → m.lines j ≡ n.lines j) →
@@ -53,13 +53,13 @@ moved_to f m n l t y mv p here there time times cores issued records r =
     let z : Line = record y { messages = ms } in
     let m' : by_line.Machine = record m { mts = with_at m.mts b t; lines = with_at m.lines l y } in
     let m'' : by_line.Machine = record m' { mts = with_at m'.mts b t; lines = with_at m'.lines l z } in
-    let one : Reachable f m' = goes_on r (move l t y mv) in
+    let one : Reachable f m' = goes_on r (line_changes l t y mv) in
     let mv' : LineTransition f.lease (IsPinned f m'.cores l) (m'.mts b) (m'.lines l) t z =
     subst (λ (u : ℕ). LineTransition f.lease (IsPinned f m'.cores l) u (m'.lines l) t z)
     (sym (with_at_same m.mts b t))
     (subst (λ (x : Line). LineTransition f.lease (IsPinned f m'.cores l) t x t z) (sym (with_at_same m.lines l y))
     (shuffled ms p)) in
-    let two : Reachable f m'' = goes_on one (move l t z mv') in
+    let two : Reachable f m'' = goes_on one (line_changes l t z mv') in
     subst (Reachable f)
     (machine_same m'' n
     (with_at_cases (λ j x. x ≡ n.lines j) m'.lines l z here (λ j ne. with_at_other m.lines l y j ne ∙ there j ne))
@@ -133,7 +133,7 @@ module _ (m : Machine) (c : ℕ) (core new : CoreState) (at : slice_get m.cores 
       (λ b. ap (λ (g : ℕ → ℕ). g b) mts) (λ d. cores d ∙ cores_view d) (λ d. ap (λ (g : ℕ → List Op). g d) issued)
       records r
 
-  -- a move that changes one core's copy
+  -- a line_changes that changes one core's copy
   pub core_move : (l : ℕ) (y : Option Copy) (front : List by_line.Message) (ms : List (ℕ × Message)) →
       core_seen (Some new) ≡ core_seen (Some core) → copy_in (Some new) l ≡ y →
       ((k : ℕ) → k ≢ l → copy_in (Some new) k ≡ copy_in (Some core) k) → IsPermutation front (messages_of ms l) →
@@ -153,7 +153,7 @@ module _ (m : Machine) (c : ℕ) (core new : CoreState) (at : slice_get m.cores 
       (λ d. ap (λ (g : ℕ → Core). g d)
       (sym (with_at_id v.cores c (core_seen (Some new)) (ap core_seen at ∙ sym same)))) refl refl refl refl
       (λ d. ap (λ (w : Option Copy). with_at ((v.lines l).copies) c w d) (sym here)) bags there bags_there
-      (goes_on r (move l (v.mts b) z mv))
+      (goes_on r (line_changes l (v.mts b) z mv))
 
 -- one bank changed
 pub bank_transition : (m : Machine) (bank new : BankState) (l : ℕ) (y : Line) (ms : List (ℕ × Message)) →

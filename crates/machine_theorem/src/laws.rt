@@ -11,7 +11,7 @@ ghost use Rattle.machine_table.specs.SetUp.{SetUpAs, is_good};
 ghost use Rattle.machine_table.specs.Opening.{at_start};
 ghost use Rattle.machine_table.specs.declared.event.Event.{Event};
 ghost use Rattle.network.specs.declared.message.Message.{Message};
-ghost use Rattle.network.specs.Numbered.{at_number};
+ghost use Rattle.network.specs.NumberedMessages.{at_number};
 ghost use Rattle.machine_table.specs.declared.event.Event.TheVariants.{Deliver};
 ghost use Rattle.machine_table.specs.declared.event.Answer.TheVariants.{Refused};
 ghost use Rattle.machine_table.specs.declared.event.Refusal.TheVariants.{NoSuch};
@@ -26,8 +26,8 @@ ghost use Rattle.machine_theorem.specs.StaleHit.{two_cores, stale_hit, stale_rec
 ghost use Rattle.machine_theorem.specs.Coherence.{owners, coherent};
 ghost use Rattle.machine_theorem.specs.Kept.{Invariant};
 
-/// A machine has the invariant if its parts have their shape and it is, seen line by line, one that the protocol reaches.
-/// What any event makes of such a machine has it as well, and no event changes how it was set up.
+/// A machine has the invariant if its parts have their shape and it is, seen line by line, one that the protocol
+/// reaches. What any event makes of such a machine has it as well, and no event changes how it was set up.
 pub fn events_keep_the_invariant()
     ensures invariant { (m : Machine) (event : Event) → Invariant m →
         Invariant (transition m event).1 }
@@ -40,8 +40,8 @@ pub fn openings_have_the_invariant()
         Invariant (at_start config opening) }
 {}
 
-/// The invariant doesn't depend on the order and the numbers of the messages in flight, on how many there may be, on the
-/// counts, and on the stop.
+/// The invariant doesn't depend on the order and the numbers of the messages in flight, on how many there may be, on
+/// the counts, and on the stop.
 pub fn renumberings_keep_the_invariant()
     ensures { (m : Machine) (capacity : ℕ) (mail : Mail) (is_stopped : Bool) → Invariant m →
         SameBag (bag_of m.mail.messages) (bag_of mail.messages) →
@@ -52,16 +52,19 @@ pub fn renumberings_keep_the_invariant()
         }) }
 {}
 
-/// Of every machine with the invariant: its records are a legal history of its opening memory and of what its cores were
-/// issued; each core was issued what it completed, in this order, and then its open operation; a line has at most one
-/// owner; a word's coherent value is the one that the records leave; and each message in flight has its case.
+/// Of every machine with the invariant: its records are a legal history of its opening memory and of what its cores
+/// were issued; each core was issued what it completed, in this order, and then its open operation; a line has at
+/// most one owner; a word's coherent value is the one that the records leave; and each message in flight has its
+/// case.
 pub fn machines_with_the_invariant_are_consistent()
     ensures legal { (m : Machine) → Invariant m → Legal (flat m.opening)
         (λ core. slice_index_or m.issued core []) m.records }
     ensures issued { (m : Machine) → Invariant m → (core : ℕ) →
-        IsIssued (slice_index_or m.issued core []) (of_core core m.records) (operation_of (slice_get m.cores core)) }
+        IsIssued (slice_index_or m.issued core []) (of_core core m.records) (operation_of (slice_get
+        m.cores core)) }
     ensures owners { (m : Machine) → Invariant m → (line : ℕ) → owners m line ≤ 1 }
-    ensures coherent { (m : Machine) → Invariant m → (arranged : List Record) → Arrangement m.records arranged → (word : ℕ) →
+    ensures coherent { (m : Machine) → Invariant m → (arranged : List Record) → Arrangement
+        m.records arranged → (word : ℕ) →
         coherent m word ≡ replay_end (flat m.opening) (map (λ r. r.op) arranged) word }
     ensures cases { (m : Machine) → Invariant m →
         AllByRecursion (λ message. has_case m message.1 ≡ true) m.mail.messages }
@@ -73,19 +76,24 @@ pub fn machines_with_the_invariant_are_consistent()
 /// their times, on the opening memory. And the part that a message in flight goes to has a case for it, with
 /// a place for the line that it brings: a delivery of it is never answered that there is no such thing.
 pub fn every_history_is_legal()
-    ensures legal { (config : Config) (opening : FinMap nat_cmp ℕ) (events : List Event) → is_good config ≡ true →
+    ensures legal { (config : Config) (opening : FinMap nat_cmp ℕ) (events : List Event) → is_good
+        config ≡ true →
         let m = after_all (at_start config opening) events in
         Legal (flat opening) (λ core. slice_index_or m.issued core []) m.records }
-    ensures owners { (config : Config) (opening : FinMap nat_cmp ℕ) (events : List Event) → is_good config ≡ true →
+    ensures owners { (config : Config) (opening : FinMap nat_cmp ℕ) (events : List Event) → is_good
+        config ≡ true →
         (line : ℕ) → owners (after_all (at_start config opening) events) line ≤ 1 }
-    ensures coherent { (config : Config) (opening : FinMap nat_cmp ℕ) (events : List Event) → is_good config ≡ true →
+    ensures coherent { (config : Config) (opening : FinMap nat_cmp ℕ) (events : List Event) →
+        is_good config ≡ true →
         let m = after_all (at_start config opening) events in
         (arranged : List Record) → Arrangement m.records arranged → (word : ℕ) →
         coherent m word ≡ replay_end (flat opening) (map (λ r. r.op) arranged) word }
-    ensures cases { (config : Config) (opening : FinMap nat_cmp ℕ) (events : List Event) → is_good config ≡ true →
+    ensures cases { (config : Config) (opening : FinMap nat_cmp ℕ) (events : List Event) → is_good
+        config ≡ true →
         let m = after_all (at_start config opening) events in
         AllByRecursion (λ message. has_case m message.1 ≡ true) m.mail.messages }
-    ensures found { (config : Config) (opening : FinMap nat_cmp ℕ) (events : List Event) → is_good config ≡ true →
+    ensures found { (config : Config) (opening : FinMap nat_cmp ℕ) (events : List Event) → is_good
+        config ≡ true →
         let m = after_all (at_start config opening) events in
         (number : ℕ) (message : Message) → at_number number m.mail.messages ≡ Some message →
         (transition m (Deliver number)).0 ≢ Refused NoSuch }
@@ -99,8 +107,8 @@ pub fn stale_hits_happen()
         (after_all (at_start two_cores opening) stale_hit).records ≡ stale_records (flat opening 0) }
 {}
 
-/// A run by the table under private writes, whatever the opening memory: a core writes a word twice at one time, and then
-/// reads what it wrote last.
+/// A run by the table under private writes, whatever the opening memory: a core writes a word twice at one time, and
+/// then reads what it wrote last.
 pub fn private_writes_happen()
     ensures good { is_good private_cores ≡ true }
     ensures records { (opening : FinMap nat_cmp ℕ) →

@@ -3,7 +3,7 @@ use Rattle.std.proofs.Common.{◌≡◌, ℕ, ◌+◌, ◌<◌, ◌≤◌, ◌++
 use Rattle.std.proofs.Common.{refl, ap, arith}
 use Rattle.std.proofs.lemmas.Bool.Decides.{nat_tests}
 use Rattle.network.specs.declared.message.Message.{Message}
-use Rattle.network.specs.Numbered.{IsRising, at_number, without_number}
+use Rattle.network.specs.NumberedMessages.{IsRising, at_number, without_number}
 use Rattle.network.specs.Search.{first_message, count_messages}
 use Rattle.network.proofs.Sending.{IsRising-lower}
 

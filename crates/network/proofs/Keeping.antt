@@ -7,7 +7,7 @@ use Rattle.network.specs.declared.message.Body.{Body}
 use Rattle.network.specs.declared.message.Body.TheVariants.{RenewRep, UpgradeRep, FlushRep, WbRep}
 use Rattle.network.specs.Flight.{IsKept}
 use Rattle.network.specs.Mail.{AreCounts, counted}
-use Rattle.network.specs.Numbered.{IsRising, at_number, without_number, still_there}
+use Rattle.network.specs.NumberedMessages.{IsRising, at_number, without_number, still_there}
 use Rattle.network.specs.Routes.{has_endpoints}
 use Rattle.network.proofs.Sending.{still_there-append, IsRising-append, without_number-none, length-without_number}
 use Rattle.network.proofs.Sending.{AllHaveEndpoints-append, AllHaveEndpoints-without_number}

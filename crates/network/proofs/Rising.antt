@@ -3,7 +3,7 @@ use Rattle.std.proofs.Common.{◌≡◌, ℕ, zero, suc, ◌+◌, ◌<◌, ◌�
 use Rattle.std.proofs.Common.{refl, sym, ap, ◌∙◌, inl, inr, ◌⊎◌, arith}
 use Rattle.std.specs.Prelude.{slice_get}
 use Rattle.std.proofs.lemmas.Bool.Decides.{nat_tests}
-use Rattle.network.specs.Numbered.{IsRising, at_number, number_at, still_there, given}
+use Rattle.network.specs.NumberedMessages.{IsRising, at_number, number_at, still_there, given}
 
 module _ {X : Type 0} where
   -- an element's number is the number at its index

@@ -6,7 +6,7 @@ use Rattle.std.specs.Prelude.{slice_get, slice_set, IsTrue}
 use Rattle.std.proofs.lemmas.Bool.Decides.{nat_tests}
 use Rattle.std.proofs.lemmas.Option.{slice_get_within}
 use Rattle.network.specs.declared.message.Message.{Message}
-use Rattle.network.specs.Numbered.{IsRising, at_number, without_number, still_there, given}
+use Rattle.network.specs.NumberedMessages.{IsRising, at_number, without_number, still_there, given}
 use Rattle.network.specs.Routes.{has_endpoints, AllHaveEndpoints}
 use Rattle.network.proofs.Rising.{at_number-below, number_at-within, number_at-slice_get}
 

@@ -3,7 +3,7 @@ use Rattle.std.specs.Prelude.{ℕ, ◌≡◌, ◌+◌, ◌*◌, ◌≤◌, ◌<�
 use Rattle.network.specs.declared.counts.Counts.{Counts}
 use Rattle.network.specs.declared.message.Message.{Message}
 use Rattle.network.specs.Mail.{Mail, AreCounts}
-use Rattle.network.specs.Numbered.{IsRising, still_there}
+use Rattle.network.specs.NumberedMessages.{IsRising, still_there}
 use Rattle.network.specs.Routes.{AllHaveEndpoints}
 
 -- the messages in flight between so many cores and banks, how many there may be, how many slots are kept for them, the

@@ -4,7 +4,7 @@ use Rattle.network.specs.declared.counts.Counts.{Counts}
 use Rattle.network.specs.declared.message.Body.{Body}
 use Rattle.network.specs.declared.message.Body.TheVariants.{RenewRep, UpgradeRep, FlushRep, WbRep}
 use Rattle.network.specs.declared.message.Message.{Message}
-use Rattle.network.specs.Numbered.{without_number}
+use Rattle.network.specs.NumberedMessages.{without_number}
 
 -- the messages in flight by rising number, the number that the next one gets, and how many of the counted kinds were
 -- sent so far

@@ -2,19 +2,20 @@
 ghost use Rattle.std.specs.Prelude.{◌≡◌, ◌+◌, ◌*◌, ◌<◌, ◌≤◌, ◌^◌, ◌++◌, ◌∷◌, [], false, IsTrue, IfOk, IfErr, IfSome};
 ghost use Rattle.std.specs.Prelude.{OnOk, OnErr, IsOk, Option, None, Some, option_copied, option_map, length, map};
 ghost use Rattle.network.specs.SetUp.{IsInRange};
-ghost use Rattle.network.specs.Numbered.{IsRising, at_number};
+ghost use Rattle.network.specs.NumberedMessages.{IsRising, at_number};
 ghost use Rattle.network.specs.Routes.{has_endpoints};
 ghost use Rattle.network.specs.Search.{count_messages, first_message, is_between, is_ownership_of, is_store_of};
+ghost use Rattle.network.specs.ErrorNumbers.{send_number};
 ghost use Rattle.network.specs.Mail.{has_capacity, has_number, no_mail, sent, taken};
 
 use crate::counts::Counts;
+use crate::criteria::Wanted;
 use crate::message::{Message, Node};
 use crate::numbers::{LineNo, MsgNo};
 use crate::slots::{
     Slot, count_wanted, drop_empty, first_wanted, message_of, numbers_of, reserve_slot,
     take_message,
 };
-use crate::wanted::Wanted;
 use std::alloc::{AllocError, Global};
 use std::marker::Model;
 
@@ -25,6 +26,18 @@ pub enum SendError {
     Full,
     /// 2: allocation failed.
     NoMemory,
+}
+
+impl SendError {
+    /// The error's number, as above.
+    pub fn number(self) -> u8
+        ensures { result ≡ send_number self }
+    {
+        match self {
+            SendError::Full => 1,
+            SendError::NoMemory => 2,
+        }
+    }
 }
 
 /// The messages in flight, each with the number that it got when it was sent. Contracts see the list of both by rising
@@ -46,7 +59,7 @@ pub struct InFlight {
 impl Model for InFlight {
     ghost use Rattle.std.specs.Prelude.{◌-◌, length, vec_capacity, vec_len};
     ghost use Rattle.network.specs.Flight.{Flight, IsKept};
-    ghost use Rattle.network.specs.Numbered.{still_there};
+    ghost use Rattle.network.specs.NumberedMessages.{still_there};
 
     ghost Value = { Flight };
 
@@ -115,8 +128,8 @@ impl InFlight {
         reserve_slot(&mut self.slots)
     }
 
-    /// Sends a message, which has the endpoints of its kind: it gets the next number. Else the message is given back, and
-    /// nothing changes: Full goes before NoMemory.
+    /// Sends a message, which has the endpoints of its kind: it gets the next number. Else the message is given back,
+    /// and nothing changes: Full goes before NoMemory.
     pub fn send(&mut self, message: Message) -> Result<MsgNo, (SendError, Message)>
         requires { IsTrue (has_endpoints self.old.cores self.old.banks message) }
         ensures number { IfOk result (λ number. number ≡ self.old.mail.next) }
@@ -172,8 +185,8 @@ impl InFlight {
         Some(message)
     }
 
-    /// How many slots are kept: one for each message in flight, and those of taken messages that weren't given back yet. At
-    /// most one more of them is empty than has its message, so old messages leave nothing behind.
+    /// How many slots are kept: one for each message in flight, and those of taken messages that weren't given back
+    /// yet. At most one more of them is empty than has its message, so old messages leave nothing behind.
     pub fn slots(&self) -> usize
         ensures slots { result ≡ self.now.slots }
         ensures bound { result ≤ 2 * length self.now.mail.messages + 1 }
@@ -199,7 +212,8 @@ impl InFlight {
 
     /// The numbers of the messages in flight, rising.
     pub fn numbers(&self) -> Result<Vec<MsgNo>, AllocError>
-        ensures numbers { IfOk result (λ numbers. numbers.items ≡ map (λ x. x.0) self.now.mail.messages) }
+        ensures numbers { IfOk result (λ numbers. numbers.items ≡ map (λ x. x.0)
+            self.now.mail.messages) }
         ensures rising { IsRising 0 self.now.mail.messages self.now.mail.next }
     {
         numbers_of(*self.slots.allocator(), &self.slots)
@@ -228,89 +242,5 @@ impl InFlight {
     {
         let (_, message) = first_wanted(&self.slots, &Wanted::StoreOf(line))?;
         Some(message)
-    }
-}
-
-#[cfg(test)]
-mod tests {
-    use super::*;
-    use crate::message::Body;
-    use crate::words::Words;
-    use std::test::Fail;
-
-    fn message(from: Node, to: Node, body: Body) -> Message
-        ensures { result ≡ record { from = from; to = to; line = 7; body = body } }
-    {
-        Message {
-            from,
-            to,
-            line: LineNo(7),
-            body,
-        }
-    }
-
-    // Three places: sends until there is none, takes one, sends again.
-    #[test]
-    fn keeps_messages_by_number(rt: HostRuntime) -> Result<(), Fail> {
-        let core = Node::Core(1);
-        let bank = Node::Bank(0);
-        let grant = message(bank, core, Body::UpgradeRep { rts: 11 });
-        let store = message(bank, Node::Dram(0), Body::DramSt(Words::zeros()));
-        let request = message(core, bank, Body::ExReq { version: None });
-        let mut flight = InFlight::new(rt.alloc(), 2, 1, 3);
-        assert!(rt; flight.reserve().is_ok());
-        assert_eq!(rt; flight.send(request), Ok(MsgNo(0)));
-        assert_eq!(rt; flight.send(grant), Ok(MsgNo(1)));
-        assert_eq!(rt; flight.send(store), Ok(MsgNo(2)));
-        assert!(rt; flight.has_number() && !flight.has_capacity());
-        assert_eq!(rt; flight.send(request), Err((SendError::Full, request)));
-        assert_eq!(rt; flight.owners(LineNo(7)), 1);
-        assert_eq!(rt; flight.ownership_of(LineNo(7)), Some(&grant));
-        assert_eq!(rt; flight.store_of(LineNo(7)), Some(&store));
-        assert_eq!(rt; flight.take(MsgNo(1)), Some(grant));
-        assert_eq!(rt; flight.take(MsgNo(1)), None);
-        assert_eq!(rt; flight.look(MsgNo(1)), None);
-        assert_eq!(rt; flight.look(MsgNo(2)), Some(&store));
-        assert_eq!(rt; flight.send(request), Ok(MsgNo(3)));
-        assert_eq!(rt; flight.oldest(core, bank), Some(MsgNo(0)));
-        assert_eq!(rt; flight.oldest(bank, core), None);
-        let numbers = flight.numbers()?;
-        assert_eq!(rt;
-            numbers.as_slice(),
-            [MsgNo(0), MsgNo(2), MsgNo(3)].as_slice()
-        );
-        Ok(())
-    }
-
-    // One more message is sent and taken: how many slots are kept then.
-    fn slots_after_another(flight: &mut InFlight) -> usize
-        requires cores { flight.old.cores ≡ 2 }
-        requires banks { flight.old.banks ≡ 1 }
-        ensures cores { flight.new.cores ≡ 2 }
-        ensures banks { flight.new.banks ≡ 1 }
-    {
-        let request = message(Node::Core(1), Node::Bank(0), Body::ExReq { version: None });
-        if let Ok(number) = flight.send(request) {
-            let _taken = flight.take(number);
-        }
-        flight.slots()
-    }
-
-    // The first message stays in flight, six others come and go. A slot is kept for the first one and for up to two that
-    // were taken; with the third these three are given back.
-    #[test]
-    fn gives_slots_back(rt: HostRuntime) {
-        let mut flight = InFlight::new(rt.alloc(), 2, 1, 3);
-        let first = message(Node::Core(0), Node::Bank(0), Body::ExReq { version: None });
-        assert_eq!(rt; flight.slots(), 0);
-        assert_eq!(rt; flight.send(first), Ok(MsgNo(0)));
-        assert_eq!(rt; slots_after_another(&mut flight), 2);
-        assert_eq!(rt; slots_after_another(&mut flight), 3);
-        assert_eq!(rt; slots_after_another(&mut flight), 1);
-        assert_eq!(rt; slots_after_another(&mut flight), 2);
-        assert_eq!(rt; slots_after_another(&mut flight), 3);
-        assert_eq!(rt; slots_after_another(&mut flight), 1);
-        let again = message(Node::Core(0), Node::Bank(0), Body::ExReq { version: None });
-        assert_eq!(rt; flight.send(again), Ok(MsgNo(7)));
     }
 }

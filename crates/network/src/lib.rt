@@ -3,13 +3,14 @@
 #![tactic(auto)]
 
 pub mod counts;
+mod criteria;
 pub mod endpoints;
 pub mod in_flight;
+pub mod laws;
 pub mod message;
 pub mod numbers;
 pub mod part;
 mod slots;
-mod wanted;
 pub mod words;
 
 pub use counts::Counts;

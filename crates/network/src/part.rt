@@ -25,11 +25,25 @@ pub enum PartError {
     NoMemory,
 }
 
+impl PartError {
+    ghost use Rattle.network.specs.ErrorNumbers.{part_number};
+
+    /// The error's number, as above.
+    pub fn number(self) -> u8
+        ensures { result ≡ part_number self }
+    {
+        match self {
+            PartError::Exhausted => 1,
+            PartError::NoMemory => 2,
+        }
+    }
+}
+
 /// A part that messages are delivered to.
 pub trait Part {
     ghost use Rattle.network.specs.declared.message.Message.{Message};
     ghost use Rattle.network.specs.declared.part.Reaction.{Reaction};
-    ghost use Rattle.network.specs.Sent.{sent_by};
+    ghost use Rattle.network.specs.Sends.{sent_by};
 
     /// Whether the part's table has a case for the message.
     ghost has_case: { Self → Message → Bool };
@@ -47,7 +61,10 @@ pub trait Part {
     /// only where the part would send a message.
     fn deliver(&mut self, message: &Message) -> Result<Reaction, PartError>
         requires { IsTrue (has_case self.old message.now) }
-        ensures done { IfOk result (λ reaction. table self.old message.now ≡ Some (reaction, self.new)) }
+        ensures done { IfOk result (λ reaction. table self.old message.now ≡ Some (
+          reaction,
+          self.new,
+        )) }
         ensures refused { OnErr result (self.new ≡ self.old) }
         ensures exhausted { result ≡ Err PartError.Exhausted → table self.old message.now ≡ None }
         ensures fits { table self.old message.now ≡ None → result ≡ Err PartError.Exhausted }

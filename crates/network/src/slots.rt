@@ -2,13 +2,13 @@
 ghost use Rattle.std.specs.Prelude.{◌≡◌, ◌+◌, ◌-◌, ◌*◌, ◌<◌, ◌≤◌, ◌^◌, ℕ, None, Some, IfSome, IfNone, IfOk, OnOk};
 ghost use Rattle.std.specs.Prelude.{OnErr, IsOk, option_copied, option_map, length, map, slice_get, vec_capacity};
 ghost use Rattle.std.specs.Prelude.{vec_len};
-ghost use Rattle.network.specs.Asked.{is_wanted};
+ghost use Rattle.network.specs.Requests.{is_wanted};
 ghost use Rattle.network.specs.Search.{first_message, count_messages, kept_if, with_message};
-ghost use Rattle.network.specs.Numbered.{IsRising, at_number, number_at, still_there, without_number};
+ghost use Rattle.network.specs.NumberedMessages.{IsRising, at_number, number_at, still_there, without_number};
 
+use crate::criteria::Wanted;
 use crate::message::Message;
 use crate::numbers::MsgNo;
-use crate::wanted::Wanted;
 use std::alloc::{AllocError, Global};
 
 /// The number of a message, and the message until it is taken.

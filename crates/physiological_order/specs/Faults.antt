@@ -31,7 +31,8 @@ pub record OrderFault (opening : Memory) (issued : ℕ → List Op) (arranged : 
   pub upto : UpTo opening issued arranged number
   pub fault : KeepsProgramOrder issued (upto.before ++ upto.faulty ∷ []) → ⊥
 
--- the first record with a fault is the next of its core's program order, and received another value than the memory gives
+-- the first record with a fault is the next of its core's program order, and received another value than the memory
+-- gives
 pub record ValueFault (opening : Memory) (issued : ℕ → List Op) (arranged : List Record) (number : ℕ) : Type 0 where
   pub upto : UpTo opening issued arranged number
   pub in_order : KeepsProgramOrder issued (upto.before ++ upto.faulty ∷ [])

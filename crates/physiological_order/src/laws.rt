@@ -17,17 +17,22 @@ pub fn one_arrangement()
 
 /// Records have one verdict, for an opening memory and issued lists.
 pub fn one_verdict()
-    ensures { (opening : Memory) (issued : ℕ → List Op) (records : List Record) (first second : Verdict) →
-        IsVerdict opening issued records first → IsVerdict opening issued records second → first ≡ second }
+    ensures { (opening : Memory) (issued : ℕ → List Op) (records : List Record) (first second :
+        Verdict) →
+        IsVerdict opening issued records first → IsVerdict opening issued records second → first ≡
+        second }
 {}
 
 /// No records are kept; a record that fits keeps them, and so does one more operation issued; kept records are legal.
 pub fn kept_records_are_legal()
     ensures none { (opening : Memory) (issued : ℕ → List Op) → Kept opening issued [] }
-    ensures completed { (opening : Memory) (issued : ℕ → List Op) (records : List Record) (next : Record) →
-        Kept opening issued records → Fits opening issued records next → Kept opening issued (records ++ next ∷ []) }
+    ensures completed { (opening : Memory) (issued : ℕ → List Op) (records : List Record) (next :
+        Record) →
+        Kept opening issued records → Fits opening issued records next → Kept opening issued
+        (records ++ next ∷ []) }
     ensures issued { (opening : Memory) (old new : ℕ → List Op) (records : List Record) →
-        ((core : ℕ) → (more : List Op) × (new core ≡ old core ++ more)) → Kept opening old records → Kept opening new records }
+        ((core : ℕ) → (more : List Op) × (new core ≡ old core ++ more)) → Kept opening old records →
+        Kept opening new records }
     ensures legal { (opening : Memory) (issued : ℕ → List Op) (records : List Record) →
         Kept opening issued records → Legal opening issued records }
 {}
@@ -37,15 +42,19 @@ pub fn kept_records_are_legal()
 /// past all times it is what the replay leaves.
 pub fn memory_up_to_a_time()
     ensures before { (opening : Memory) (next : Record) (records : List Record) (time : ℕ) →
-        time < next.ts → memory_at opening (placed next records) time ≡ memory_at opening records time }
+        time < next.ts → memory_at opening (placed next records) time ≡ memory_at opening records
+        time }
     ensures keeps { (opening : Memory) (next : Record) (records : List Record) (time word : ℕ) →
         ((m : Memory) → flat_after m next.op word ≡ m word) →
         memory_at opening (placed next records) time word ≡ memory_at opening records time word }
-    ensures writes { (opening : Memory) (next : Record) (records : List Record) (time word value : ℕ) → Ascends records →
-        Each (λ r. address r.op ≡ word → r.ts ≤ next.ts) records → ((m : Memory) → flat_after m next.op word ≡ value) →
+    ensures writes { (opening : Memory) (next : Record) (records : List Record) (time word value :
+        ℕ) → Ascends records →
+        Each (λ r. address r.op ≡ word → r.ts ≤ next.ts) records → ((m : Memory) → flat_after m
+        next.op word ≡ value) →
         next.ts ≤ time → memory_at opening (placed next records) time word ≡ value }
     ensures end { (opening : Memory) (records : List Record) (time : ℕ) →
-        Each (λ r. r.ts ≤ time) records → memory_at opening records time ≡ replay_end opening (map (λ r. r.op) records) }
+        Each (λ r. r.ts ≤ time) records → memory_at opening records time ≡ replay_end opening (map
+        (λ r. r.op) records) }
 {}
 
 /// A store of 1 and a load behind it that receives 1 are legal; with 0 received they are not.

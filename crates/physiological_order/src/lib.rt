@@ -2,30 +2,27 @@
 //! records is sequentially consistent by its timestamps. docs/ORDER.md tells what is promised.
 #![tactic(auto)]
 
-pub mod arranging;
-pub mod checking;
-mod dealing;
+pub mod arrangement;
+pub mod checks;
+mod core_lists;
 pub mod laws;
 pub mod memory;
-mod merging;
-mod numbering;
+mod merged_lists;
+mod number_places;
 pub mod operation;
-pub mod replaying;
+pub mod replays;
 pub mod stale;
 pub mod steps;
 pub mod verdict;
 mod walk;
 pub mod word_addr;
 
-pub use arranging::arrange;
-pub use checking::{check, check_counted};
+pub use arrangement::arrange;
+pub use checks::{check, check_counted};
 pub use memory::Memory;
 pub use operation::{Op, Record};
-pub use replaying::replay;
+pub use replays::replay;
 pub use stale::{rises_by_number, stale_hits, stale_hits_counted};
 pub use steps::Steps;
 pub use verdict::Verdict;
 pub use word_addr::WordAddr;
-
-#[cfg(test)]
-mod tests;

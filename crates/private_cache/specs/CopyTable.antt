@@ -2,7 +2,7 @@
 -- each change makes of it.
 use Rattle.std.specs.Prelude.{ℕ, ◌%◌, ◌==◌, Bool, true, false, List, [], ◌∷◌, length, Option, Some, None, Result, Ok}
 use Rattle.std.specs.Prelude.{Err, if◌then◌else◌}
-use Rattle.line_sets.specs.SetTable.{Sets, set_at, look, put, put_within, drop_line, has_way}
+use Rattle.line_sets.specs.SetTable.{Sets, set_at, look, put, put_within, drop_line, has_place}
 use Rattle.network.specs.declared.message.TimedLine.{TimedLine}
 use Rattle.private_cache.specs.declared.line_copy.LineCopy.{LineCopy}
 use Rattle.private_cache.specs.declared.line_copy.CopyState.{CopyState}
@@ -20,7 +20,7 @@ copy_of cache line = look cache.sets (set_of cache line) line
 
 -- there is a copy of the line, or room for one in its set
 abbrev pub place_for : Sets LineCopy → ℕ → Bool
-place_for cache line = has_way cache (set_of cache line) line
+place_for cache line = has_place cache (set_of cache line) line
 
 -- the copy of the line is this one, now the most recently used of its set
 abbrev pub with_used : Sets LineCopy → ℕ → LineCopy → Sets LineCopy

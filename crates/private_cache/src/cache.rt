@@ -37,10 +37,10 @@ impl CacheError {
     ghost use Rattle.std.specs.Prelude.{◌≡◌};
 
     /// The error's number.
-    pub fn number(&self) -> u32
-        ensures no_room { self.now ≡ CacheError.NoRoom → result ≡ 1 }
-        ensures not_here { self.now ≡ CacheError.NotHere → result ≡ 2 }
-        ensures pinned { self.now ≡ CacheError.Pinned → result ≡ 3 }
+    pub fn number(self) -> u8
+        ensures no_room { self ≡ CacheError.NoRoom → result ≡ 1 }
+        ensures not_here { self ≡ CacheError.NotHere → result ≡ 2 }
+        ensures pinned { self ≡ CacheError.Pinned → result ≡ 3 }
     {
         match self {
             CacheError::NoRoom => 1,
@@ -210,7 +210,8 @@ impl Cache {
         ensures line { result ≡ victim_for self.now line }
         ensures full { is_some result ≡ not (place_for self.now line) }
         ensures there { IfSome result (λ victim. IsSome (copy_of self.now victim)) }
-        ensures makes_place { IfSome result (λ victim. IsTrue (place_for (without_copy self.now victim) line)) }
+        ensures makes_place { IfSome result (λ victim. IsTrue (place_for (without_copy self.now
+            victim) line)) }
     {
         if self.place(line) {
             return None;
@@ -226,122 +227,5 @@ impl Cache {
         ensures rising { IfOk result (λ lines. IsSorted nat_cmp lines.items) }
     {
         self.table.lines()
-    }
-}
-
-#[cfg(test)]
-mod tests {
-    use super::*;
-    use network::Words;
-
-    fn timed(wts: u64, rts: u64) -> TimedLine {
-        TimedLine {
-            wts,
-            rts,
-            words: Words::zeros(),
-        }
-    }
-
-    fn copy(state: CopyState, wts: u64, rts: u64, written: bool) -> LineCopy {
-        LineCopy {
-            state,
-            wts,
-            rts,
-            words: Words::zeros(),
-            written,
-        }
-    }
-
-    const X: LineNo = LineNo(3);
-
-    const Y: LineNo = LineNo(8);
-
-    const Z: LineNo = LineNo(5);
-
-    // One set of two ways, with X and then Y.
-    fn full(alloc: Global) -> Result<Cache, std::test::Fail> {
-        let mut cache = Cache::new(alloc, Geometry { sets: 1, ways: 2 })?;
-        let _x = cache.fill(X, CopyState::Shared, timed(1, 11));
-        let _y = cache.fill(Y, CopyState::Shared, timed(2, 12));
-        Ok(cache)
-    }
-
-    #[test]
-    fn a_full_set(rt: HostRuntime) -> Result<(), std::test::Fail> {
-        let mut cache = full(rt.alloc())?;
-        assert_eq!(rt;
-            cache.fill(Z, CopyState::Shared, timed(4, 4)),
-            Err(CacheError::NoRoom)
-        );
-        assert_eq!(rt; cache.victim(Z), Some(X));
-        assert_eq!(rt; cache.victim(Y), None);
-        assert!(rt; cache.place(Y));
-        assert_eq!(rt; cache.lines()?.as_slice(), [X, Y].as_slice());
-        let owned = copy(CopyState::Exclusive, 21, 21, true);
-        assert_eq!(rt; cache.complete(X, owned), Ok(()));
-        assert_eq!(rt; cache.victim(Z), Some(Y));
-        Ok(())
-    }
-
-    // Line X is there already and arrives again.
-    #[test]
-    fn an_arrival_is_a_use(rt: HostRuntime) -> Result<(), std::test::Fail> {
-        let mut cache = full(rt.alloc())?;
-        assert_eq!(rt; cache.fill(X, CopyState::Exclusive, timed(5, 6)), Ok(()));
-        assert_eq!(rt;
-            cache.find(X),
-            Some(&copy(CopyState::Exclusive, 5, 6, false))
-        );
-        assert_eq!(rt; cache.victim(Z), Some(Y));
-        Ok(())
-    }
-
-    // Two sets of one way: lines 3 and 5 share a set, and line 8 is in the other one.
-    #[test]
-    fn lines_go_round_the_sets(rt: HostRuntime) -> Result<(), std::test::Fail> {
-        let mut cache = Cache::new(rt.alloc(), Geometry { sets: 2, ways: 1 })?;
-        assert_eq!(rt; cache.fill(X, CopyState::Shared, timed(1, 11)), Ok(()));
-        assert!(rt; cache.place(Y));
-        assert_eq!(rt; cache.fill(Y, CopyState::Shared, timed(2, 12)), Ok(()));
-        assert_eq!(rt; cache.victim(Z), Some(X));
-        assert_eq!(rt; cache.victim(LineNo(0)), Some(Y));
-        Ok(())
-    }
-
-    #[test]
-    fn numbers_of_errors(rt: HostRuntime) {
-        assert_eq!(rt; CacheError::NoRoom.number(), 1);
-        assert_eq!(rt; CacheError::NotHere.number(), 2);
-        assert_eq!(rt; CacheError::Pinned.number(), 3);
-    }
-
-    #[test]
-    fn grants(rt: HostRuntime) -> Result<(), std::test::Fail> {
-        let mut cache = full(rt.alloc())?;
-        assert_eq!(rt; cache.renew(X, 30), Ok(()));
-        assert_eq!(rt; cache.find(X), Some(&copy(CopyState::Shared, 1, 30, false)));
-        assert_eq!(rt; cache.upgrade(X, 41), Ok(()));
-        assert_eq!(rt;
-            cache.find(X),
-            Some(&copy(CopyState::Exclusive, 1, 41, false))
-        );
-        assert_eq!(rt; cache.downgrade(X, 50), Ok(()));
-        assert_eq!(rt; cache.find(X), Some(&copy(CopyState::Shared, 1, 50, false)));
-        assert_eq!(rt; cache.victim(Z), Some(X));
-        Ok(())
-    }
-
-    #[test]
-    fn evictions(rt: HostRuntime) -> Result<(), std::test::Fail> {
-        let mut cache = full(rt.alloc())?;
-        assert_eq!(rt; cache.evict(Z, Some(Z)), Err(CacheError::NotHere));
-        assert_eq!(rt; cache.evict(X, Some(X)), Err(CacheError::Pinned));
-        assert_eq!(rt;
-            cache.evict(Y, Some(X)),
-            Ok(copy(CopyState::Shared, 2, 12, false))
-        );
-        assert_eq!(rt; cache.find(Y), None);
-        assert!(rt; cache.place(Z));
-        Ok(())
     }
 }

@@ -36,7 +36,8 @@ pub fn answer<F: Files, K: Sink, E: Sink>(
         × IsAskedBy (map (λ w. w.now) words.entry.now) job
         × F.opens files.now (name_of job) opened
         × (result ≡ status_of came)
-        × Runs F.File.remaining F.File.failures K.contents K.failures (options_of job) opened out.old out.new came
+        × Runs F.File.remaining F.File.failures K.contents K.failures (options_of job) opened
+        out.old out.new came
         × Told (E.contents errors.old) (E.contents errors.new)
         (E.failures errors.old) (E.failures errors.new) (came_text came)) }
 {

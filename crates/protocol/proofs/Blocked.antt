@@ -5,7 +5,7 @@ use Rattle.physiological_order.specs.Order.{address}
 use Rattle.protocol.specs.Machine.{Config, Copy, Line, Core, Machine, line_of, with_at, IsPast, CannotUse}
 use Rattle.protocol.specs.Machine.{LineTransition, evict_shared, evict_exclusive, flushed, written_back, Answers}
 use Rattle.protocol.specs.Machine.{shared, exclusive, renews, upgrades, Asks, to_read, to_write, Transition, issue}
-use Rattle.protocol.specs.Machine.{advance, ask, answer, complete, move, Reachable, at_first, goes_on}
+use Rattle.protocol.specs.Machine.{advance, ask, answer, complete, line_changes, Reachable, at_first, goes_on}
 use Rattle.protocol.proofs.Lines.{with_at_same, with_at_other, with_at_cases}
 use Rattle.protocol.proofs.Cores.{Some_injective}
 
@@ -116,7 +116,7 @@ transition_blocked f m n (complete c op copy new received ts opens quiet is used
           (λ o e. with_at_cases (λ i (x : Line). (m.lines i).copies d ≡ x.copies d) m.lines l y
           (sym (with_at_other ((m.lines l).copies) c (Some new) d ne)) (λ i nl. refl) (line_of f (address o))) k);
     }
-transition_blocked f m n (move l t y mv) k =
+transition_blocked f m n (line_changes l t y mv) k =
     record {
       idle = k.idle;
       blocked = λ d. stays f m (with_at m.lines l y) d

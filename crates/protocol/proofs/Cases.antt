@@ -11,8 +11,8 @@ use Rattle.protocol.specs.Machine.{waits, WaitsFor, IsShared, IsGranted, HasCase
 use Rattle.protocol.proofs.Bags.{tally}
 use Rattle.protocol.proofs.Lines.{Holder, Bank, Flying, flying, right, load, store, about, about_itself, loading}
 use Rattle.protocol.proofs.Lines.{storing, HasShared, MessageOk, EntryOk, LineOk}
-use Rattle.protocol.proofs.Moved.{flying_one, at_most_one, loading_one, loads_at_most_one, storing_one}
-use Rattle.protocol.proofs.Moved.{stores_at_most_one}
+use Rattle.protocol.proofs.LineChanges.{flying_one, at_most_one, loading_one, loads_at_most_one, storing_one}
+use Rattle.protocol.proofs.LineChanges.{stores_at_most_one}
 use Rattle.protocol.proofs.Headline.{reachable_ok, busy}
 
 -- who has something to come waits for it
@@ -75,5 +75,5 @@ pub messages_have_cases : (f : Config) → 0 < f.line_words → (m : Machine) �
     Each (HasCase f m l) (m.lines l).messages
 messages_have_cases f good m r l =
     let k = (reachable_ok f good m r).lines l in
-    cases_of f m _ l _ k.0 k.1 k.2 (m.lines l).messages (let z = k.2.rights in omega arith) (let z = k.2.loads in
+    cases_of f m _ l _ k.0 k.1 k.2 (m.lines l).messages (let z = k.2.owner_count in omega arith) (let z = k.2.loads in
     omega arith) (let z = k.2.stores in omega arith) (λ c. let z = k.2.asks c in omega arith) k.2.messages

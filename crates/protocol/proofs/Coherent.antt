@@ -110,7 +110,7 @@ module _ (f : Config) (h : ℕ → Memory) (l : ℕ) (records : List Record) (bu
   at_the_bank cores few o g Bank e = e
   at_the_bank cores few o g (At c) e = absurd (owner_none cores c (few c e) e o)
   at_the_bank cores few o g Flying e =
-      absurd (let z = granted_none x.messages k.messages g in let r = k.rights ∙ ap flying e in omega arith)
+      absurd (let z = granted_none x.messages k.messages g in let r = k.owner_count ∙ ap flying e in omega arith)
 
   pub current_is : (cores : ℕ) → ((c : ℕ) → b ≡ At c → c < cores) → coherent_words cores x ≡ s.words
   current_is cores few =

@@ -20,7 +20,7 @@ use Rattle.protocol.proofs.Bags.{tally}
 use Rattle.protocol.proofs.Lease.{Current}
 use Rattle.protocol.proofs.Lines.{Holder, Bank, flying, right, CopyOk, LineOk, with_at_same, with_at_cases}
 use Rattle.protocol.proofs.Lines.{messages_keep, copy_keeps}
-use Rattle.protocol.proofs.Moved.{At≢Bank, At_injective, owned, lost, Goes}
+use Rattle.protocol.proofs.LineChanges.{At≢Bank, At_injective, owned, lost, Goes}
 use Rattle.protocol.proofs.Cores.{Some_injective}
 use Rattle.physiological_order.specs.Completion.{Undisturbed, arranged, memory_at}
 
@@ -44,7 +44,7 @@ module _ (f : Config) (h g : ℕ → Memory) (l : ℕ) (records : List Record) (
         held = k.held;
         messages = messages_keep f h g l k.top k.top s s x.copies x.copies x.dram x.dram (λ u a on le. same u a on)
             (le_refl _) x.messages (inr refl) (inr refl) (inr (refl, refl)) (λ c. inr refl) k.messages;
-        rights = k.rights;
+        owner_count = k.owner_count;
         loads = k.loads;
         stores = k.stores;
         asks = k.asks;
@@ -62,7 +62,7 @@ module _ (f : Config) (h g : ℕ → Memory) (l : ℕ) (records : List Record) (
   ok_own busy t x s b c copy new free is ex nex same up invariant k =
       let own = (k.copies c copy is).0 ex in
       let away : b ≢ Bank = λ e. At≢Bank c (sym own.0 ∙ e) in
-      let no_owner : tally right x.messages ≡ 0 = k.rights ∙ ap flying own.0 in
+      let no_owner : tally right x.messages ≡ 0 = k.owner_count ∙ ap flying own.0 in
       let e = owned f h l records busy s b t x.dram x.entry k.entry away in
       let at_most : k.top ≤ copy.line.rts = subst (λ (y : Timed). k.top ≤ y.rts) (sym own.1) k.within in
       let fresh = same k.top at_most (λ w. subst (λ (y : Timed). k.top < y.wts) (sym own.1) (own.2 w)) in
@@ -85,7 +85,7 @@ module _ (f : Config) (h g : ℕ → Memory) (l : ℕ) (records : List Record) (
         messages = messages_keep f h g l k.top k.top s new.line x.copies (with_at x.copies c (Some new)) x.dram x.dram
             fresh.0 (le_refl _) x.messages (inl no_owner) (inl (k.loads ∙ e.0)) (inl (k.stores ∙ e.1))
             (lost f h l records busy x x.messages c (Some new) (k.asks c ∙ free)) k.messages;
-        rights = k.rights;
+        owner_count = k.owner_count;
         loads = k.loads;
         stores = k.stores;
         asks = k.asks;

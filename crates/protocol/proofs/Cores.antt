@@ -14,7 +14,7 @@ use Rattle.protocol.proofs.Lease.{Leased}
 use Rattle.protocol.proofs.Lines.{Holder, Bank, At, Flying, right, load, store, about, one_if, about_itself}
 use Rattle.protocol.proofs.Lines.{HasShared, NotOwned, MessageOk, CopyOk, LineOk, with_at_same, with_at_other}
 use Rattle.protocol.proofs.Lines.{with_at_cases, copy_keeps}
-use Rattle.protocol.proofs.Moved.{At≢Bank, At_injective, flying_one, at_most_one, owned, keep, lost, Goes}
+use Rattle.protocol.proofs.LineChanges.{At≢Bank, At_injective, flying_one, at_most_one, owned, keep, lost, Goes}
 
 pub Some_injective : {X : Type 0} (x y : X) → Some x ≡ Some y → x ≡ y
 Some_injective x y e = cc
@@ -33,7 +33,7 @@ module _ (f : Config) (h : ℕ → Memory) (l : ℕ) (records : List Record) whe
       let e_loads = tally-taken load x.messages (m ∷ rest) p in
       let e_stores = tally-taken store x.messages (m ∷ rest) p in
       let e_asks = tally-taken (about c) x.messages (m ∷ rest) p in
-      let rights = k.rights in
+      let owner_count = k.owner_count in
       let loads = k.loads in
       let stores = k.stores in
       let asks = k.asks c in
@@ -55,7 +55,7 @@ module _ (f : Config) (h : ℕ → Memory) (l : ℕ) (records : List Record) whe
             (own.0, with_at_other x.copies c (Some new) d ne ∙ own.1, own.2);
         messages = keep f h l records busy k.top s x (with_at x.copies c (Some new)) rest
             (lost f h l records busy x rest c (Some new) no_asks) each.1;
-        rights = omega arith;
+        owner_count = omega arith;
         loads = omega arith;
         stores = omega arith;
         asks = with_at_cases (λ d n. tally (about d) rest ≡ n) busy c 0 no_asks
@@ -77,7 +77,7 @@ module _ (f : Config) (h : ℕ → Memory) (l : ℕ) (records : List Record) whe
       let e_loads = tally-taken load x.messages (m ∷ rest) p in
       let e_stores = tally-taken store x.messages (m ∷ rest) p in
       let e_asks = tally-taken (about c) x.messages (m ∷ rest) p in
-      let rights = k.rights in
+      let owner_count = k.owner_count in
       let loads = k.loads in
       let stores = k.stores in
       let asks = k.asks c in
@@ -107,7 +107,7 @@ module _ (f : Config) (h : ℕ → Memory) (l : ℕ) (records : List Record) whe
         );
         messages = keep f h l records busy k.top s x (with_at x.copies c (Some new)) rest
             (lost f h l records busy x rest c (Some new) no_asks) each.1;
-        rights = omega arith;
+        owner_count = omega arith;
         loads = omega arith;
         stores = omega arith;
         asks = with_at_cases (λ d n. tally (about d) rest ≡ n) busy c 0 no_asks
@@ -173,7 +173,7 @@ module _ (f : Config) (h : ℕ → Memory) (l : ℕ) (records : List Record) whe
       ((top : ℕ) → MessageOk f h l top s x.copies x.dram m) → LineOk f h l records busy t x s b →
       LineOk f h l records (with_at busy c 1) t (record x { messages = m ∷ x.messages }) s b
   ok_asks busy t x s b c m free rm dm wm am others fine k =
-      let rights = k.rights in
+      let owner_count = k.owner_count in
       let loads = k.loads in
       let stores = k.stores in
       let asks = k.asks c in
@@ -184,7 +184,7 @@ module _ (f : Config) (h : ℕ → Memory) (l : ℕ) (records : List Record) whe
         copies = k.copies;
         held = k.held;
         messages = (fine k.top, k.messages);
-        rights = omega arith;
+        owner_count = omega arith;
         loads = omega arith;
         stores = omega arith;
         asks = with_at_cases (λ d n. about d m + tally (about d) x.messages ≡ n) busy c 1 (omega arith)

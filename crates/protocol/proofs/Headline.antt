@@ -16,12 +16,13 @@ use Rattle.physiological_order.proofs.Lemmas.{Legal-from_Kept}
 use Rattle.protocol.specs.Machine.{Config, Timed, Copy, Entry, Absent, Loading, Shared, Exclusive, Recalling, Storing}
 use Rattle.protocol.specs.Machine.{Line, Core, Machine, line_of, with_at, word_at, waits, OpensWith, opened, IsPinned}
 use Rattle.protocol.specs.Machine.{LineTransition, evict_clean, evict_dirty, Answers, shared, exclusive, renews}
-use Rattle.protocol.specs.Machine.{upgrades, Asks, Uses, Transition, issue, advance, ask, answer, complete, move}
+use Rattle.protocol.specs.Machine.{upgrades, Asks, Uses, Transition, issue, advance, ask, answer, complete}
+use Rattle.protocol.specs.Machine.{line_changes}
 use Rattle.protocol.specs.Machine.{Reachable, at_first, goes_on}
 use Rattle.protocol.proofs.Bags.{tally-taken, each_map}
 use Rattle.protocol.proofs.Lines.{Holder, Bank, about, about_itself, EntryOk, with_at_same, with_at_other}
 use Rattle.protocol.proofs.Lines.{with_at_cases}
-use Rattle.protocol.proofs.Moved.{Goes, moves_keep}
+use Rattle.protocol.proofs.LineChanges.{Goes, moves_keep}
 use Rattle.protocol.proofs.Cores.{answers_keep, asks_keep}
 use Rattle.protocol.proofs.Completed.{values, values-other, ok_beside, uses_keep}
 use Rattle.physiological_order.specs.Completion.{Kept, arranged}
@@ -104,7 +105,7 @@ busy_same f h l records p q t x same k = (
     held =
         k.2.held;
     messages = k.2.messages;
-    rights = k.2.rights;
+    owner_count = k.2.owner_count;
     loads = k.2.loads;
     stores = k.2.stores;
     asks =
@@ -135,7 +136,7 @@ goes_later f h l records p t u x le k = (
     held =
         k.2.held;
     messages = k.2.messages;
-    rights = k.2.rights;
+    owner_count = k.2.owner_count;
     loads = k.2.loads;
     stores = k.2.stores;
     asks =
@@ -180,7 +181,7 @@ opened_line f pts mts drams opens l = (
     copies = λ c cp e. absurd (cc);
     held = λ c at. absurd (cc);
     messages = tt;
-    rights = refl;
+    owner_count = refl;
     loads = refl;
     stores = refl;
     asks = λ c. refl;
@@ -450,7 +451,7 @@ transition_ok f good m n (ask c op y opens quiet a) k = ask_ok f m c op y opens 
 transition_ok f good m n (answer c l y a) k = answer_ok f m c l y a k
 transition_ok f good m n (complete c op copy new received ts opens quiet is used) k =
     complete_ok f good m c op copy new received ts opens quiet is used k
-transition_ok f good m n (move l t y mv) k = move_ok f m l t y mv k
+transition_ok f good m n (line_changes l t y mv) k = move_ok f m l t y mv k
 
 pub reachable_ok : (f : Config) → 0 < f.line_words → (m : Machine) → Reachable f m → MachineOk f m
 reachable_ok f good m (at_first pts mts drams at opens) = opened_ok f pts mts drams at opens

@@ -9,7 +9,7 @@ use Rattle.physiological_order.specs.declared.operation.Op.{Op}
 use Rattle.physiological_order.specs.declared.operation.Record.{Record}
 use Rattle.physiological_order.specs.Order.{Follows, of_core}
 use Rattle.physiological_order.proofs.Lemmas.{Follows-push, Follows-issued}
-use Rattle.protocol.specs.Machine.{Config, Machine, Transition, issue, advance, ask, answer, complete, move}
+use Rattle.protocol.specs.Machine.{Config, Machine, Transition, issue, advance, ask, answer, complete, line_changes}
 use Rattle.protocol.specs.Machine.{Reachable, at_first, goes_on}
 use Rattle.protocol.specs.Issued.{listed, IsIssued}
 use Rattle.protocol.proofs.Lines.{with_at_cases}
@@ -62,7 +62,7 @@ transition_keeps f m n ok all (complete c op copy new received ts opens quiet is
       number = length m.records;
     }) refl
     (subst (Opened (m.issued c) (length (of_core c m.records))) opens (ok.cores c).opened).1 all
-transition_keeps f m n ok all (move l t y moves) = all
+transition_keeps f m n ok all (line_changes l t y moves) = all
 
 pub in_program : (f : Config) → 0 < f.line_words → (m : Machine) → Reachable f m → InProgram m
 in_program f some m (at_first pts mts drams at opens) c = tt

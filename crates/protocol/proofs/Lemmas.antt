@@ -1,7 +1,7 @@
 -- What the proofs of this crate give to the crates above: they import this file and no other of this folder.
 
--- A machine that the protocol reaches from its opening: its records are legal, no line has two owners, a word's coherent
--- value is what the records leave, and each core was issued its records' operations in their order.
+-- A machine that the protocol reaches from its opening: its records are legal, no line has two owners, a word's
+-- coherent value is what the records leave, and each core was issued its records' operations in their order.
 pub use Rattle.protocol.proofs.Headline.{Opened, legal, reachable_ok}
 pub use Rattle.protocol.proofs.Owners.{at_most_one}
 pub use Rattle.protocol.proofs.Coherent.{coherent_is}

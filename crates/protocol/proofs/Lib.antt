@@ -1,7 +1,7 @@
 mod Bags
 mod Lease
 mod Lines
-mod Moved
+mod LineChanges
 mod Cores
 mod Completed
 mod Headline

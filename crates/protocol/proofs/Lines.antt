@@ -108,7 +108,7 @@ module _ (f : Config) (h : ℕ → Memory) (l : ℕ) where
     pub copies : (c : ℕ) (copy : Copy) → x.copies c ≡ Some copy → CopyOk top s holder c copy
     pub held : (c : ℕ) → holder ≡ At c → (copy : Copy) × (x.copies c ≡ Some copy) × (copy.exclusive ≡ true)
     pub messages : Each (MessageOk top s x.copies x.dram) x.messages
-    pub rights : tally right x.messages ≡ flying holder
+    pub owner_count : tally right x.messages ≡ flying holder
     pub loads : tally load x.messages ≡ loading x.entry
     pub stores : tally store x.messages ≡ storing x.entry
     pub asks : (c : ℕ) → tally (about c) x.messages ≡ busy c

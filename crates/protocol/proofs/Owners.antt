@@ -9,9 +9,9 @@ use Rattle.protocol.proofs.Bags.{tally}
 use Rattle.protocol.proofs.Lines.{Holder, Bank, At, Flying, right, LineOk}
 use Rattle.protocol.proofs.Headline.{reachable_ok}
 
-rights-tally : (ms : List Message) → owners_in ms ≡ tally right ms
-rights-tally [] = refl
-rights-tally (m ∷ ms) = ap (λ n. carries_ownership m + n) (rights-tally ms)
+owner_count-tally : (ms : List Message) → owners_in ms ≡ tally right ms
+owner_count-tally [] = refl
+owner_count-tally (m ∷ ms) = ap (λ n. carries_ownership m + n) (owner_count-tally ms)
 
 owns_at_most : (y : Option Copy) → owns y ≤ 1
 owns_at_most None = omega arith
@@ -48,12 +48,12 @@ module _ (f : Config) (h : ℕ → Memory) (l : ℕ) (records : List Record) (bu
       go (Some copy) e = shared copy copy.exclusive refl e
 
   one_owner : (b : Holder) (cores : ℕ) → LineOk f h l records busy t x s b → owners cores x ≤ 1
-  one_owner Bank cores k = let r = rights-tally x.messages ∙ k.rights in let z =
+  one_owner Bank cores k = let r = owner_count-tally x.messages ∙ k.owner_count in let z =
       none_below x.copies cores (λ d lt. owns_none Bank k d (λ e. cc)) in omega arith
-  one_owner (At c) cores k = let r = rights-tally x.messages ∙ k.rights in
+  one_owner (At c) cores k = let r = owner_count-tally x.messages ∙ k.owner_count in
       let z = one_below x.copies c cores (λ d ne. owns_none (At c) k d (λ e. let q : c ≡ d = cc in ne (sym q))) in
       omega arith
-  one_owner Flying cores k = let r = rights-tally x.messages ∙ k.rights in let z =
+  one_owner Flying cores k = let r = owner_count-tally x.messages ∙ k.owner_count in let z =
       none_below x.copies cores (λ d lt. owns_none Flying k d (λ e. cc)) in omega arith
 
 pub at_most_one : (f : Config) → 0 < f.line_words → (m : Machine) → Reachable f m → (cores l : ℕ) →

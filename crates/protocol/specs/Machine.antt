@@ -293,7 +293,7 @@ pub data Transition (f : Config) : Machine → Machine → Type 0 where
           number = length m.records;
         } ∷ [];
       })
-  move : {m : Machine} (l t : ℕ) (y : Line) → LineTransition f.lease (IsPinned f m.cores l)
+  line_changes : {m : Machine} (l t : ℕ) (y : Line) → LineTransition f.lease (IsPinned f m.cores l)
       (m.mts (l % f.banks)) (m.lines l) t y →
       Transition f m (record m { mts = with_at m.mts (l % f.banks) t; lines = with_at m.lines l y })
 

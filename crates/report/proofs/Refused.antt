@@ -1,5 +1,7 @@
 -- A text that is refused is no test.
-use Rattle.std.proofs.Common.{◌≡◌, ◌≢◌, ℕ, List, [], Option, Some, None, Ok, Err, ap, refl, subst, ◌⊎◌, inl, inr}
+use Rattle.std.proofs.Common.{◌≡◌, ◌≢◌, ℕ, ◌<◌, List, [], ◌∷◌, ◌++◌, length, Option, Some, None, IfSome, Ok, Err}
+use Rattle.std.proofs.Common.{ap, refl}
+use Rattle.std.proofs.Common.{subst, ◌⊎◌, inl, inr, codes, length-append, arith}
 use Rattle.byte_streams.specs.Whole.{ReadsAll}
 use Rattle.litmus_lexer.specs.declared.errors.Kind.{Kind}
 use Rattle.litmus_lexer.specs.declared.errors.Kind.TheVariants.{NoMemory as LackOfMemory, TooLarge, BadByte}
@@ -8,7 +10,7 @@ use Rattle.litmus_lexer.specs.declared.errors.Kind.TheVariants.{BadInstruction, 
 use Rattle.litmus_lexer.specs.declared.errors.Kind.TheVariants.{AddressAsValue, ValueAsAddress, BadCondition}
 use Rattle.litmus_lexer.specs.declared.errors.Kind.TheVariants.{CutShort}
 use Rattle.litmus_lexer.specs.declared.errors.LitmusError.{LitmusError}
-use Rattle.litmus_reader.specs.Faults.{Fault}
+use Rattle.litmus_reader.specs.Faults.{Fault, FaultBefore, empty, good_lines}
 use Rattle.litmus_reader.specs.Grammar.{IsTest}
 use Rattle.litmus_reader.specs.Litmus.{Litmus}
 use Rattle.litmus_reader.specs.ReadingTest.{Told, read_at}
@@ -27,27 +29,28 @@ module _ (options : LitmusOptions) (text : List ℕ) (error : LitmusError) where
   or_memory P found (inl none) = absurd (found (ap (λ (e : LitmusError). e.kind) none))
   or_memory P found (inr is) = is
 
-  refused_as : (kind : Kind) → (kind ≢ LackOfMemory → IsFault text error) → HasNoReport options text
-      (refusal_of kind error)
-  refused_as LackOfMemory is = tt
-  refused_as TooLarge is = is (λ e. absurd cc)
-  refused_as BadByte is = is (λ e. absurd cc)
-  refused_as BadHeader is = is (λ e. absurd cc)
-  refused_as BadInitial is = is (λ e. absurd cc)
-  refused_as DoubleInitial is = is (λ e. absurd cc)
-  refused_as BadTable is = is (λ e. absurd cc)
-  refused_as BadInstruction is = is (λ e. absurd cc)
-  refused_as ValueRange is = is (λ e. absurd cc)
-  refused_as MixedWidth is = is (λ e. absurd cc)
-  refused_as AddressAsValue is = is (λ e. absurd cc)
-  refused_as ValueAsAddress is = is (λ e. absurd cc)
-  refused_as BadCondition is = is (λ e. absurd cc)
-  refused_as CutShort is = is (λ e. absurd cc)
+  refused_as : (kind : Kind) → (kind ≡ LackOfMemory → 0 < length text) → (kind ≢ LackOfMemory → IsFault text error) →
+      HasNoReport options text (refusal_of kind error)
+  refused_as LackOfMemory some is = some refl
+  refused_as TooLarge some is = is (λ e. absurd cc)
+  refused_as BadByte some is = is (λ e. absurd cc)
+  refused_as BadHeader some is = is (λ e. absurd cc)
+  refused_as BadInitial some is = is (λ e. absurd cc)
+  refused_as DoubleInitial some is = is (λ e. absurd cc)
+  refused_as BadTable some is = is (λ e. absurd cc)
+  refused_as BadInstruction some is = is (λ e. absurd cc)
+  refused_as ValueRange some is = is (λ e. absurd cc)
+  refused_as MixedWidth some is = is (λ e. absurd cc)
+  refused_as AddressAsValue some is = is (λ e. absurd cc)
+  refused_as ValueAsAddress some is = is (λ e. absurd cc)
+  refused_as BadCondition some is = is (λ e. absurd cc)
+  refused_as CutShort some is = is (λ e. absurd cc)
 
   pub refused : (error ≡ record { line = 0; kind = LackOfMemory }) ⊎ Fault text error.kind error.line
       → ((test : Litmus) → IsTest text test → Told test_of (Err error) (Ok test)) → Told test_of (Err error)
-      (read_at text) → HasNoReport options text (refusal error)
-  refused fault only told = refused_as error.kind (λ found. (
+      (read_at text) → ((kind : Kind) (n : ℕ) → FaultBefore (good_lines text) kind n →
+      (error.kind ≢ LackOfMemory) × Fault text error.kind error.line) → HasNoReport options text (refusal error)
+  refused fault only told early = refused_as error.kind (some_text text early) (λ found. (
     or_memory _ found told,
     (
       λ test is. let bad : Ok test ≡ Err error = or_memory _ found (only test is) in
@@ -56,19 +59,39 @@ module _ (options : LitmusOptions) (text : List ℕ) (error : LitmusError) where
     ),
     found,
   ))
+    where
+      -- a text of nothing has a fault before its initial block
+      some_text : (bytes : List ℕ) → ((kind : Kind) (n : ℕ) → FaultBefore (good_lines bytes) kind n →
+          (error.kind ≢ LackOfMemory) × Fault bytes error.kind error.line) → error.kind ≡ LackOfMemory →
+          0 < length bytes
+      some_text [] early lacks = absurd ((early CutShort 1 (empty refl)).0 lacks)
+      some_text (b ∷ bytes) early lacks = omega arith
 
-some_bytes : (known : Option (List ℕ)) → OfBytes known (λ bytes. Unit {0})
-some_bytes None = ([], tt, tt)
-some_bytes (Some bytes) = (bytes, refl, tt)
+-- nor is nothing a test
+pub some_test : (text : List ℕ) (test : Litmus) → IsTest text test → 0 < length text
+some_test [] test is =
+    let title = is.title in
+    let count : 0 ≡ length (title.front ++ (codes "RISCV" ++ (title.gap ++ (test.name ++ title.back)))) =
+    ap length title.spelled in
+    let front = length-append title.front (codes "RISCV" ++ (title.gap ++ (test.name ++ title.back))) in
+    omega (arith, count, front)
+some_test (b ∷ text) test is = omega arith
 
--- want of memory says nothing of the bytes
+-- of a source whose bytes aren't known there may be some
+some_bytes : (known : Option (List ℕ)) → IfSome known (λ bytes. 0 < length bytes) →
+    OfBytes known (λ bytes. 0 < length bytes)
+some_bytes None some = (0 ∷ [], tt, omega arith)
+some_bytes (Some bytes) some = (bytes, refl, some)
+
+-- want of memory says that there are bytes
 pub unread : (known : Option (List ℕ)) (options : LitmusOptions) (before after : ℕ) (e : RunError) →
-    IsReadError before after e → e ≢ Read → OfBytes known (λ bytes. HasNoReport options bytes e)
-unread known options before after Read is other = absurd (other refl)
-unread known options before after NoMemory is other = some_bytes known
-unread known options before after Write is other = absurd is
-unread known options before after (Refused e) is other = absurd is
-unread known options before after BadConfig is other = absurd is
+    IsReadError before after e → (e ≡ NoMemory → IfSome known (λ bytes. 0 < length bytes)) → e ≢ Read →
+    OfBytes known (λ bytes. HasNoReport options bytes e)
+unread known options before after Read is some other = absurd (other refl)
+unread known options before after NoMemory is some other = some_bytes known (some refl)
+unread known options before after Write is some other = absurd is
+unread known options before after (Refused e) is some other = absurd is
+unread known options before after BadConfig is some other = absurd is
 
 -- and a fault speaks of those that were read
 pub unreported : (known : Option (List ℕ)) (options : LitmusOptions) (bytes text : List ℕ) (e : RunError) →

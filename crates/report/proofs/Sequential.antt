@@ -21,7 +21,7 @@ use Rattle.run_ends.specs.declared.ends.End.TheVariants.{AllDone, Stalled, Turns
 use Rattle.sequential_machine.specs.SequentialMachine.{memory_opened}
 use Rattle.sequential_machine.specs.Performed.{ArePerformed, Performs as Does}
 use Rattle.worker_driver.specs.Acts.{next_in}
-use Rattle.worker_driver.specs.Told.{AreServed, IsServed, Performs}
+use Rattle.worker_driver.specs.Service.{AreServed, IsServed, Performs}
 use Rattle.report.specs.Runs.{started, state_at, thread_acts, threads_from, values_from}
 
 -- ---- rows of threads, values and cores, by number

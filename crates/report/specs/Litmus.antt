@@ -1,5 +1,5 @@
 -- The report on a litmus text, and why a text has none.
-use Rattle.std.specs.Prelude.{◌≡◌, ◌≢◌, ℕ, min, Bool, true, false, List, length, Err, IfSome}
+use Rattle.std.specs.Prelude.{◌≡◌, ◌≢◌, ℕ, ◌<◌, min, Bool, true, false, List, length, Err, IfSome}
 use Rattle.std.specs.List.{list_all, AllByRecursion}
 use Rattle.litmus_lexer.specs.declared.errors.Kind.{Kind}
 use Rattle.litmus_lexer.specs.declared.errors.Kind.TheVariants.{NoMemory as LackOfMemory}
@@ -58,7 +58,8 @@ abbrev pub HasNoReport : LitmusOptions → List ℕ → RunError → Type 0
 HasNoReport options bytes (Refused e) = IsFault bytes e
 HasNoReport options bytes BadConfig =
     (test : Litmus) × IsTest bytes test × (is_good (config_of options.run.machine test.threads) ≡ false)
-HasNoReport options bytes NoMemory = Unit {0}
+-- memory was refused for bytes that there are
+HasNoReport options bytes NoMemory = 0 < length bytes
 HasNoReport options bytes Read = ⊥
 HasNoReport options bytes Write = ⊥
 

@@ -21,9 +21,9 @@ use run_options::LitmusOptions;
 use run_results::{Done, RunError};
 use std::alloc::{AllocError, Global};
 
-/// Reads a litmus test to the end of the source, runs it as the options say, and writes the report of the runs. Each end
-/// state in the report is an outcome of the sequential machine. Read goes before Litmus, that before BadConfig, and Write
-/// comes last; by an error but Write the sink is unchanged.
+/// Reads a litmus test to the end of the source, runs it as the options say, and writes the report of the runs. Each
+/// end state in the report is an outcome of the sequential machine. Read goes before Litmus, that before BadConfig,
+/// and Write comes last; by an error but Write the sink is unchanged.
 pub fn run_litmus<S: Source, K: Sink>(
     alloc: Global,
     source: &mut S,

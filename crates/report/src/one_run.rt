@@ -15,8 +15,8 @@ use sequential_machine::laws::performed_histories_are_sequential;
 use std::alloc::{AllocError, Global};
 use worker_driver::drive_round;
 
-/// A run of the test on a machine with a core for each thread, by the schedule of rounds, with at most so many rounds. The
-/// end state of a run that is all done is an outcome of the sequential machine.
+/// A run of the test on a machine with a core for each thread, by the schedule of rounds, with at most so many
+/// rounds. The end state of a run that is all done is an outcome of the sequential machine.
 pub(crate) fn run_once(
     alloc: Global,
     test: &Test,

@@ -26,8 +26,8 @@ pub fn put_word(out: &mut Vec<u8>, label: &[u8], word: &[u8]) -> Result<(), Allo
     Ok(())
 }
 
-/// How many renewals, upgrades, flushes and write-backs were sent, a line each. If allocation fails, some of it may stand in
-/// the text.
+/// How many renewals, upgrades, flushes and write-backs were sent, a line each. If allocation fails, some of it may
+/// stand in the text.
 pub fn put_counts(out: &mut Vec<u8>, counts: Counts) -> Result<(), AllocError>
     ensures { OnOk result (out.new.items ≡ out.old.items ++ counts_text counts) }
 {

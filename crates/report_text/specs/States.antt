@@ -1,4 +1,5 @@
--- The end states of the runs that are all done, each once with how often it was met, in the order in which they were first met.
+-- The end states of the runs that are all done, each once with how often it was met, in the order in which they were
+-- first met.
 use Rattle.std.specs.Prelude.{ℕ, ◌+◌, Bool, not, if◌then◌else◌, List, [], ◌∷◌, map, filter}
 use Rattle.std.specs.Borrow.{Bor}
 use Rattle.std.specs.List.{filter_map}

@@ -60,7 +60,8 @@ fn put_value(out: &mut Vec<u8>, test: &Test, name: Name, value: u64) -> Result<(
 /// The condition's names with their values, in order.
 fn put_values(out: &mut Vec<u8>, test: &Test, values: &[u64]) -> Result<(), AllocError>
     ensures { OnOk result (out.new.items ≡
-        out.old.items ++ values_text (test_of test.now).locations (test_of test.now).seen values.now) }
+        out.old.items ++ values_text (test_of test.now).locations (test_of test.now).seen
+        values.now) }
 {
     let mut names = test.seen();
     let mut left = values;

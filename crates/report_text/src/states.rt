@@ -1,4 +1,5 @@
-//! The end states of the runs that are all done, each with how often it was met, in the order in which they were first met.
+//! The end states of the runs that are all done, each with how often it was met, in the order in which they were
+//! first met.
 
 ghost use Rattle.std.specs.Prelude.{◌≡◌, ◌<◌, ◌-◌, ◌^◌, OnOk, IfOk, option_map};
 ghost use Rattle.report_text.specs.Ends.{done_state};

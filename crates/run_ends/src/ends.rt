@@ -26,8 +26,8 @@ pub struct RunEnd {
     pub state: Option<EndState>,
     /// How many operations completed, over all threads.
     pub completed: u64,
-    /// How many of these are loads that received a value which had been overwritten: a store or swap of the same word has
-    /// a smaller completion number and a greater timestamp.
+    /// How many of these are loads that received a value which had been overwritten: a store or swap of the same word
+    /// has a smaller completion number and a greater timestamp.
     pub stale: u64,
     /// How many renewals, upgrades, flushes and write-backs were sent.
     pub counts: Counts,

@@ -6,9 +6,9 @@ ghost use Rattle.run_options.specs.declared.options.TheConstants.MachineOptions.
 ghost use Rattle.run_options.specs.declared.options.TheConstants.RunOptions.{DEFAULT as run_default};
 ghost use Rattle.run_options.specs.declared.options.TheConstants.LitmusOptions.{DEFAULT as litmus_default};
 
-/// A machine has a lease of 10, the time 0, one bank, private caches of 64 sets of 4 lines, a bank of 256 sets of 8 lines,
-/// lines of one word, 4,096 messages in flight and no private writes. A run is by rounds, at most 100,000 of them, with
-/// one worker. A test is run once.
+/// A machine has a lease of 10, the time 0, one bank, private caches of 64 sets of 4 lines, a bank of 256 sets of 8
+/// lines, lines of one word, 4,096 messages in flight and no private writes. A run is by rounds, at most 100,000 of
+/// them, with one worker. A test is run once.
 pub fn defaults_are_these()
     ensures machine { machine_default ≡ record {
       lease = 10;

@@ -1,5 +1,5 @@
-//! What the options of a run say. A number without a range here is any of 64 bits; what no machine can have, as no banks, is
-//! for the machine's configuration to refuse.
+//! What the options of a run say. A number without a range here is any of 64 bits; what no machine can have, as no
+//! banks, is for the machine's configuration to refuse.
 
 /// The order in which a run takes its events.
 #[derive(Clone, Copy, Debug, PartialEq, Eq)]

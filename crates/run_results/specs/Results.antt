@@ -12,8 +12,8 @@ run_number NoMemory = 3
 run_number (Litmus fault) = 4
 run_number BadConfig = 6
 
--- 0 if all runs are all done; 1 if one isn't, or there was no memory; 2 if the text is refused; 3 if the configuration is; 4
--- if reading or writing failed
+-- 0 if all runs are all done; 1 if one isn't, or there was no memory; 2 if the text is refused; 3 if the
+-- configuration is; 4 if reading or writing failed
 abbrev pub status_of : Result Done RunError → ℕ
 status_of (Ok done) = if done.all_done then 0 else 1
 status_of (Err NoMemory) = 1

@@ -1,4 +1,5 @@
-//! What a run of the program comes to: done, or an error with its number, its line on standard error and its exit status.
+//! What a run of the program comes to: done, or an error with its number, its line on standard error and its exit
+//! status.
 #![tactic(auto)]
 
 mod line;

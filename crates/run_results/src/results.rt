@@ -48,8 +48,8 @@ impl RunError {
     }
 }
 
-/// The exit status: 0 all done, 1 a run ended otherwise or there was no memory, 2 the text is refused, 3 the configuration
-/// is, 4 reading or writing failed.
+/// The exit status: 0 all done, 1 a run ended otherwise or there was no memory, 2 the text is refused, 3 the
+/// configuration is, 4 reading or writing failed.
 pub fn exit_status(came: &Result<Done, RunError>) -> u8
     ensures { result ≡ status_of came.now }
 {

@@ -8,7 +8,7 @@ use Rattle.litmus_parser.specs.declared.syntax.Cell.{Cell}
 use Rattle.litmus_parser.specs.declared.syntax.Instruction.{Instruction}
 use Rattle.litmus_parser.specs.declared.syntax.Instruction.TheVariants as does
 use Rattle.litmus_reader.specs.ThreadSteps.{value_in, written, opened}
-use Rattle.sequential_machine.specs.SequentialMachine.{State, cells_of, opening, memory_after, registers_after}
+use Rattle.sequential_machine.specs.SequentialMachine.{State, cells_of, initial, memory_after, registers_after}
 use Rattle.sequential_machine.specs.SequentialMachine.{after_one, Step, next, Steps, none, more, IsOutcome}
 use Rattle.sequential_machine.specs.Example.{cell, store_buffering}
 use Rattle.sequential_machine.proofs.Tables.{here, elsewhere}
@@ -130,7 +130,7 @@ none_of t [] h = refl
 none_of t (c ∷ cells) h = cond-false (eqb c.thread t) (c ∷ cells_of t cells) (cells_of t cells)
     (ne_eqb c.thread t h.0) ∙ none_of t cells h.1
 
-opens : Stands (opening store_buffering)
+opens : Stands (initial store_buffering)
 unfolding opened
 opens =
     record {
@@ -194,7 +194,7 @@ values_of v w x y e = (cc, cc)
 
 pub never_both : IsOutcome store_buffering (0 ∷ 0 ∷ []) → ⊥
 never_both o =
-    let h = steps_keep (opening store_buffering) o.last o.steps opens in
+    let h = steps_keep (initial store_buffering) o.last o.steps opens in
     let value = λ (t : ℕ). value_in (o.last.registers t) 6 in
     let v = values_of 0 0 (value 0) (value 1) o.values_are in
     no_end h.first h.second h.one_of

@@ -16,7 +16,7 @@ use Rattle.litmus_reader.specs.Truth.{register_in, end_value}
 use Rattle.litmus_reader.specs.Grammar.{IsTest}
 use Rattle.sequential_machine.specs.SequentialMachine.{State, memory_opened, value_at, IsOutcome}
 use Rattle.sequential_machine.specs.Performed.{Performs, ArePerformed}
-use Rattle.sequential_machine.specs.Threads.{StandsAt}
+use Rattle.sequential_machine.specs.Threads.{ThreadIsAt}
 use Rattle.sequential_machine.proofs.ThreadSteps.{none_left}
 use Rattle.sequential_machine.proofs.Runs.{start, whole}
 use Rattle.sequential_machine.proofs.Places.{each_permutation, same_of_core}
@@ -33,7 +33,7 @@ thread_of threads t = or_none (slice_get threads t)
 -- each name has the same value in the threads and memory and in the state
 same_value : (threads : List Thread) (memory : List ℕ) (s : State) (n locations : ℕ) →
     ((t : ℕ) → t < n → slice_get threads t ≡ Some (thread_of threads t)) →
-    ((t : ℕ) → t < n → StandsAt s t (thread_of threads t)) →
+    ((t : ℕ) → t < n → ThreadIsAt s t (thread_of threads t)) →
     ((l : ℕ) → l < locations → slice_get memory l ≡ Some (s.memory l)) →
     (name : Name) → IsThere n locations name → end_value threads memory name ≡ value_at s name
 same_value threads memory s n locations found stand words (Register t r) lt =

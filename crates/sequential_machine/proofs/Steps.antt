@@ -6,7 +6,7 @@ use Rattle.std.specs.Ordering.{nat_cmp}
 use Rattle.litmus_parser.specs.declared.syntax.Cell.{Cell}
 use Rattle.litmus_reader.specs.OpeningMemory.{words_opened}
 use Rattle.litmus_reader.specs.ThreadSteps.{opened}
-use Rattle.sequential_machine.specs.SequentialMachine.{State, memory_opened, opening, after_one, next, Steps, none}
+use Rattle.sequential_machine.specs.SequentialMachine.{State, memory_opened, initial, after_one, next, Steps, none}
 use Rattle.sequential_machine.specs.SequentialMachine.{more, IsOutcome}
 use Rattle.sequential_machine.specs.Example.{store_buffering}
 use Rattle.sequential_machine.proofs.ThreadSteps.{joined}
@@ -38,12 +38,12 @@ stores_first = 0 ∷ 1 ∷ 0 ∷ 1 ∷ 0 ∷ 1 ∷ []
 abbrev one_first : List ℕ
 one_first = 0 ∷ 0 ∷ 0 ∷ 1 ∷ 1 ∷ 1 ∷ []
 
-through : (t : ℕ) → t < 2 → (by_turns (opening store_buffering) stores_first).left t ≡ []
+through : (t : ℕ) → t < 2 → (by_turns (initial store_buffering) stores_first).left t ≡ []
 through zero lt = refl
 through (suc zero) lt = refl
 through (suc (suc t)) lt = absurd (omega arith)
 
-through_too : (t : ℕ) → t < 2 → (by_turns (opening store_buffering) one_first).left t ≡ []
+through_too : (t : ℕ) → t < 2 → (by_turns (initial store_buffering) one_first).left t ≡ []
 through_too zero lt = refl
 through_too (suc zero) lt = refl
 through_too (suc (suc t)) lt = absurd (omega arith)
@@ -51,9 +51,9 @@ through_too (suc (suc t)) lt = absurd (omega arith)
 pub both_receive_one : IsOutcome store_buffering (1 ∷ 1 ∷ [])
 unfolding words_opened opened
 both_receive_one = record {
-  last = by_turns (opening store_buffering) stores_first;
+  last = by_turns (initial store_buffering) stores_first;
   steps =
-      turns (opening store_buffering) stores_first;
+      turns (initial store_buffering) stores_first;
   finished = through;
   values_are = refl;
 }
@@ -66,9 +66,9 @@ unset a = ap (λ (o : Option ℕ). unwrap_or o 0) (get-empty nat_cmp a)
 pub one_receives_zero : IsOutcome store_buffering (0 ∷ 1 ∷ [])
 unfolding words_opened opened
 one_receives_zero = record {
-  last = by_turns (opening store_buffering) one_first;
+  last = by_turns (initial store_buffering) one_first;
   steps =
-      turns (opening store_buffering) one_first;
+      turns (initial store_buffering) one_first;
   finished = through_too;
   values_are =
       ap (λ (n : ℕ). n ∷ 1 ∷ []) (sym (unset 1));

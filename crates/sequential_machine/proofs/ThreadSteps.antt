@@ -9,7 +9,7 @@ use Rattle.litmus_parser.specs.declared.syntax.Instruction.{Instruction}
 use Rattle.litmus_parser.specs.declared.syntax.Instruction.TheVariants as does
 use Rattle.litmus_reader.specs.ThreadSteps.{Thread, value_in, after_local, goes_on, settled, operation_of}
 use Rattle.litmus_reader.specs.ThreadSteps.{first_operation, next_of, received_by, behind_first, done_with}
-use Rattle.sequential_machine.specs.Threads.{Ready, StandsAt, Goes}
+use Rattle.sequential_machine.specs.Threads.{Ready, ThreadIsAt, Goes}
 use Rattle.sequential_machine.specs.SequentialMachine.{State, cells_of, memory_after, registers_after, after_one}
 use Rattle.sequential_machine.specs.SequentialMachine.{next, Steps, none, more}
 use Rattle.sequential_machine.proofs.Tables.{here, elsewhere}
@@ -139,7 +139,8 @@ first_performed s t rs (cell ∷ rest) x received r l ready e v =
     (goes-behind s t cell rest (l ∙ first_of t cell rest ready.0) (settles t rest)))
 
 -- a thread's next operation is performed, and it receives what the memory gives
-pub performs : (s : State) (t : ℕ) (q : Thread) (x : Op) (received : Option ℕ) → StandsAt s t q → next_of q ≡ Some x →
+pub performs : (s : State) (t : ℕ) (q : Thread) (x : Op) (received : Option ℕ) → ThreadIsAt s t q → next_of q ≡ Some x
+    →
     flat_received s.memory x ≡ received →
     Goes s t (flat_after s.memory x) (done_with q received)
 performs s t q x received at e v =
@@ -159,5 +160,5 @@ none_in t rs [] ready e = refl
 none_in t rs (cell ∷ rest) ready e = absurd (never_both cell.instruction rs e ready.1)
 
 -- where a thread has no next operation, it has no instruction left
-pub none_left : (s : State) (t : ℕ) (q : Thread) → StandsAt s t q → next_of q ≡ None → s.left t ≡ []
+pub none_left : (s : State) (t : ℕ) (q : Thread) → ThreadIsAt s t q → next_of q ≡ None → s.left t ≡ []
 none_left s t q at e = at.left ∙ none_in t q.registers q.rest at.ready e

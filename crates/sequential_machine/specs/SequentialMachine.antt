@@ -29,8 +29,8 @@ registers_opened test t = opened t test.items (replicate 32 0)
 abbrev pub memory_opened : Litmus → Memory
 memory_opened test = flat (words_opened test.items empty)
 
-abbrev pub opening : Litmus → State
-opening test =
+abbrev pub initial : Litmus → State
+initial test =
     record { memory = memory_opened test; registers = registers_opened test; left = λ t. cells_of t test.cells }
 
 -- the memory that an instruction leaves, by its thread's registers
@@ -80,6 +80,6 @@ value_at s (Location l) = s.memory l
 -- the values of the test's names, in their order, where steps from the opening leave no thread an instruction
 pub record IsOutcome (test : Litmus) (values : List ℕ) : Type 0 where
   pub last : State
-  pub steps : Steps (opening test) last
+  pub steps : Steps (initial test) last
   pub finished : (t : ℕ) → t < test.threads → last.left t ≡ []
   pub values_are : values ≡ map (value_at last) test.seen

@@ -11,7 +11,7 @@ Ready t registers [] = Unit {0}
 Ready t registers (cell ∷ rest) = (cell.thread ≡ t) × (after_local cell.instruction registers ≡ None)
 
 -- a thread of the machine that has come to its next memory instruction
-pub record StandsAt (s : State) (t : ℕ) (q : Thread) : Type 0 where
+pub record ThreadIsAt (s : State) (t : ℕ) (q : Thread) : Type 0 where
   pub thread : q.thread ≡ t
   pub registers : s.registers t ≡ q.registers
   pub left : s.left t ≡ cells_of t q.rest
@@ -23,4 +23,4 @@ pub record Goes (s : State) (t : ℕ) (m : Memory) (q : Thread) : Type 0 where
   pub steps : Steps s end
   pub memory : end.memory ≡ m
   pub others : (u : ℕ) → u ≢ t → (end.registers u ≡ s.registers u) × (end.left u ≡ s.left u)
-  pub stands : StandsAt end t q
+  pub stands : ThreadIsAt end t q

@@ -9,7 +9,7 @@ ghost use Rattle.litmus_reader.specs.ThreadSteps.{Thread, done_with, next_of, se
 ghost use Rattle.litmus_reader.specs.Truth.{end_value};
 ghost use Rattle.sequential_machine.specs.SequentialMachine.{State, cells_of, memory_opened, registers_opened};
 ghost use Rattle.sequential_machine.specs.SequentialMachine.{IsOutcome};
-ghost use Rattle.sequential_machine.specs.Threads.{Goes, StandsAt};
+ghost use Rattle.sequential_machine.specs.Threads.{Goes, ThreadIsAt};
 ghost use Rattle.sequential_machine.specs.Performed.{ArePerformed};
 ghost use Rattle.sequential_machine.specs.Example.{store_buffering};
 
@@ -23,17 +23,18 @@ pub fn programs_are_threads()
         → s.registers t ≡ registers_opened test t → s.left t ≡ cells_of t test.cells →
         Goes s t s.memory (settled t (registers_opened test t) test.cells) }
     ensures performed { (s : State) (t : ℕ) (program : Thread) (op : Op)
-        → StandsAt s t program → next_of program ≡ Some op →
+        → ThreadIsAt s t program → next_of program ≡ Some op →
         Goes s t (flat_after s.memory op) (done_with program (flat_received s.memory op)) }
     ensures finished { (s : State) (t : ℕ) (program : Thread)
-        → StandsAt s t program → next_of program ≡ None → s.left t ≡ [] }
+        → ThreadIsAt s t program → next_of program ≡ None → s.left t ≡ [] }
 {}
 
 /// A legal history of a test in which each thread was performed to its end is a run of the
 /// sequential machine: the values that the test's names have after it, with the memory after the
 /// records in the order of their times, are an outcome of it.
 pub fn performed_histories_are_sequential()
-    ensures { (text : List ℕ) (test : Litmus) (issued : ℕ → List Op) (records arranged : List Record)
+    ensures { (text : List ℕ) (test : Litmus) (issued : ℕ → List Op) (records arranged : List
+        Record)
         (threads : List Thread) (memory : List ℕ) →
         IsTest text test → Legal (memory_opened test) issued records →
         Arrangement records arranged → ArePerformed test issued records threads →

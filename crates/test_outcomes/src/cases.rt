@@ -309,7 +309,8 @@ exists (1:x7=0 /\\ 1:x9=3)
     never: [0, 3, NONE, NONE, NONE, NONE],
 };
 
-// What x0 receives is lost, so it stores 0. Who sees that in y sees the swap of x before it; else the swaps go both ways.
+// What x0 receives is lost, so it stores 0. Who sees that in y sees the swap of x before it; else the swaps go both
+// ways.
 const REGISTER_ZERO: Case = Case {
     text: b"RISCV REGISTER-ZERO
 { x=6; y=7; 0:x5=2; 0:x6=x; 0:x8=y; 1:x6=x; 1:x8=y; }

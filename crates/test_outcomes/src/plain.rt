@@ -10,7 +10,8 @@ const WORDS: usize = 3;
 
 pub(crate) const VALUES: usize = 6;
 
-/// How many numbers have nine digits to the base of three: each is an order of nine steps, and its last digits one of fewer.
+/// How many numbers have nine digits to the base of three: each is an order of nine steps, and its last digits one of
+/// fewer.
 const ORDERS: usize = 19_683;
 
 /// Stands where an end state has no value.

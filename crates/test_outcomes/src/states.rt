@@ -57,7 +57,8 @@ fn number_behind(line: &[u8], word: &[u8]) -> Option<u64> {
     numbers(rest).first().copied()
 }
 
-/// How many runs a report says are all done, where it counts as many in its states, and each of these is one of the ends.
+/// How many runs a report says are all done, where it counts as many in its states, and each of these is one of the
+/// ends.
 pub(crate) fn runs_in(report: &[u8], ends: &[End]) -> Option<u64> {
     let mut all_done = 0;
     let mut states = 0_u64;

@@ -1,4 +1,5 @@
-//! Whole runs of litmus tests: the examples of the folder examples/, each report compared byte for byte, and some that were
+//! Whole runs of litmus tests: the examples of the folder examples/, each report compared byte for byte, and some
+//! that were
 //! worked out by hand.
 #![tactic(auto)]
 
@@ -7,4 +8,4 @@ mod tests;
 #[cfg(test)]
 mod texts;
 #[cfg(test)]
-mod worked;
+mod worked_examples;

@@ -6,4 +6,4 @@ mod by_hand;
 #[cfg(test)]
 mod cases;
 #[cfg(test)]
-mod driving;
+mod driver;

@@ -1,6 +1,6 @@
 -- A run that follows the schedule goes on by one step.
 use Rattle.std.proofs.Common.{◌≡◌, ℕ, if◌then◌else◌, List, [], ◌∷◌, ◌++◌, Result, Ok, Err, OnOk, IfErr, inl, inr}
-use Rattle.std.proofs.Common.{refl, sym, subst}
+use Rattle.std.proofs.Common.{refl, sym, subst, ◌∙◌}
 use Rattle.machine_table.specs.declared.event.Event.{Event}
 use Rattle.machine_table.specs.declared.event.Answer.{Answer}
 use Rattle.machine_table.specs.declared.event.Answer.TheVariants.{Refused}
@@ -11,9 +11,9 @@ use Rattle.run_ends.specs.declared.ends.End.{End}
 use Rattle.run_ends.specs.declared.ends.End.TheVariants as end
 use Rattle.worker_driver.specs.declared.plan.Plan.{Plan}
 use Rattle.worker_driver.specs.Acts.{Acts}
-use Rattle.worker_driver.specs.Schedule.{OutOfTimes, Position, Does, choose, answered, answered_at, is_exhausted}
-use Rattle.worker_driver.specs.Follows.{Follows, does, Ended}
-use Rattle.worker_driver.specs.Noting.{Log, IsNoted, Noted, Point, at, position, Leads, Stops}
+use Rattle.worker_driver.specs.Schedule.{OutOfTimes, Position, Does, Ends, choose, answered, answered_at, is_exhausted}
+use Rattle.worker_driver.specs.RunEvents.{Follows, does, Ended}
+use Rattle.worker_driver.specs.Notes.{Log, IsNoted, Noted, Point, at, position, Leads, Stops}
 
 module _ {P : Type 0} (acts : Acts P) (plan : Plan) (start : Position P) where
   -- the position that an answered event leads to
@@ -54,7 +54,11 @@ module _ {P : Type 0} (acts : Acts P) (plan : Plan) (start : Position P) where
     follows = rw noted.1.events before;
     machine_is = sym noted.0;
     programs_are = refl;
-    ends = inr refl;
+    ends = inr (
+      refl,
+      λ other ends. let bad : Does event ≡ Ends other = sym next ∙ ends in
+          absurd cc,
+    );
   }
   stopped p rounds event end.AllDone m log noted before next = absurd noted
   stopped p rounds event end.Stalled m log noted before next = absurd noted

@@ -6,8 +6,8 @@ use Rattle.run_ends.specs.declared.ends.End.TheVariants as end
 use Rattle.worker_driver.specs.declared.plan.Plan.{Plan}
 use Rattle.worker_driver.specs.Acts.{Acts}
 use Rattle.worker_driver.specs.Schedule.{RoundStart, Issuing, Delivering, Position, begin, are_over}
-use Rattle.worker_driver.specs.Follows.{Follows, goes, Ended}
-use Rattle.worker_driver.specs.Noting.{Log, at, position}
+use Rattle.worker_driver.specs.RunEvents.{Follows, goes, Ended}
+use Rattle.worker_driver.specs.Notes.{Log, at, position}
 
 module _ {P : Type 0} (acts : Acts P) (plan : Plan) (start : Position P) (m : Machine) (programs : List P)
     (log : Log) (made : ℕ) where

@@ -17,7 +17,7 @@ use Rattle.worker_driver.specs.Schedule.{Stage, RoundStart, Issuing, Attempting,
 use Rattle.worker_driver.specs.Schedule.{Delivering, MakingRoom, OutOfTimes, Position, Choice, Does, Goes, Ends}
 use Rattle.worker_driver.specs.Schedule.{choose, choose_at, begin, issue, attempt, evict, evict_bank, in_flight}
 use Rattle.worker_driver.specs.Schedule.{victim_for, answered, answered_at, is_progress, is_exhausted, are_over}
-use Rattle.worker_driver.specs.Follows.{Follows, stays, goes, does, Ended}
+use Rattle.worker_driver.specs.RunEvents.{Follows, stays, goes, does, Ended}
 use Rattle.worker_driver.proofs.Over.{each_over}
 
 -- one more event
@@ -218,4 +218,4 @@ module _ {P : Type 0} (acts : Acts P) (plan : Plan) where
   run_leaves_nothing start events m programs e ended done core below =
       rw (ended.machine_is, ended.programs_are) at
       (nothing_left ended.last (⊎_elim (λ ends. ends ∙ ap Ends done) (λ memory. absurd (other (sym
-      done ∙ memory))) ended.ends) core below)
+      done ∙ memory.0))) ended.ends) core below)

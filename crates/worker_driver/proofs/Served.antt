@@ -29,8 +29,8 @@ use Rattle.worker_driver.specs.Schedule.{Delivering, MakingRoom, OutOfTimes, Pos
 use Rattle.worker_driver.specs.Schedule.{choose, choose_at, begin, issue, attempt, evict, evict_bank, in_flight}
 use Rattle.worker_driver.specs.Schedule.{victim_for, after, answered, answered_at, at_stage, told, is_progress}
 use Rattle.worker_driver.specs.Schedule.{is_exhausted, are_over}
-use Rattle.worker_driver.specs.Follows.{Follows, stays, goes, does, Ended}
-use Rattle.worker_driver.specs.Told.{still_open, AreServed}
+use Rattle.worker_driver.specs.RunEvents.{Follows, stays, goes, does, Ended}
+use Rattle.worker_driver.specs.Service.{still_open, AreServed}
 use Rattle.worker_driver.proofs.InProgram.{behind}
 use Rattle.worker_driver.proofs.TableSteps.{op_of, op_at, IsQuiet, Opens, IsDone, Tries, is_completion, issue_does}
 use Rattle.worker_driver.proofs.TableSteps.{attempt_does, delivery_stays, cache_eviction_stays, bank_eviction_stays}

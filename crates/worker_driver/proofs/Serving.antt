@@ -11,7 +11,7 @@ use Rattle.physiological_order.proofs.Lemmas.{each_push}
 use Rattle.machine_table.specs.Machine.{Machine}
 use Rattle.machine_theorem.proofs.Lemmas.{get-set_same, get-set_other}
 use Rattle.worker_driver.specs.Acts.{Acts, next_of, next_in, done_of, done_in}
-use Rattle.worker_driver.specs.Told.{Performs}
+use Rattle.worker_driver.specs.Service.{Performs}
 use Rattle.worker_driver.proofs.InProgram.{of_core-own, of_core-other}
 use Rattle.worker_driver.proofs.TableSteps.{op_at, IsQuiet, Opens, IsDone}
 

@@ -13,7 +13,7 @@ use Rattle.network.specs.declared.message.Node.TheVariants.{Core, Bank, Dram}
 use Rattle.network.specs.declared.message.Message.{Message}
 use Rattle.network.specs.declared.part.Reaction.{Reaction}
 use Rattle.network.specs.declared.part.Reaction.TheVariants.{Done, Dropped, Held, HeldAfter}
-use Rattle.network.specs.Numbered.{at_number}
+use Rattle.network.specs.NumberedMessages.{at_number}
 use Rattle.line_sets.specs.SetTable.{Sets}
 use Rattle.private_cache.specs.declared.line_copy.LineCopy.{LineCopy}
 use Rattle.private_cache.specs.declared.cache.CacheError.{CacheError}
@@ -28,7 +28,7 @@ use Rattle.core_pts.specs.declared.decision.CoreReaction.{CoreReaction}
 use Rattle.core_pts.specs.declared.decision.CoreReaction.TheVariants.{Arrives, Grants, Returns, Drops, Holds, TooLate}
 use Rattle.core_pts.specs.declared.decision.CoreReaction.TheVariants.{NoCase}
 use Rattle.core_pts.specs.CoreTable as core_table
-use Rattle.core_pts.specs.CoreTable.{CoreState, after_reaction, is_on, pinned_line, sent_back}
+use Rattle.core_pts.specs.CoreTable.{CoreState, after_reaction, is_pinned, pinned_line, sent_back}
 use Rattle.llc_bank.specs.declared.entry.Evict.{Evict}
 use Rattle.llc_bank.specs.declared.entry.Evict.TheVariants as evict
 use Rattle.llc_bank.specs.declared.entry.EvictError.{EvictError}
@@ -180,7 +180,7 @@ module _ (m : Machine) where
       (changed m (with_core m c) (reacted m.config.messages m.mail n (core_table.core_table core message)))
       (reacted_stays n (with_core m c) (λ new. new.open_op ≡ core.open_op) (λ new is. kept c core at new is)
       (core_table.core_table core message)
-      (reaction_part core message.line (at_core core.lease (is_on (pinned_line core) message.line)
+      (reaction_part core message.line (at_core core.lease (is_pinned (pinned_line core) message.line)
       (copy_of core.cache message.line) message.body)))
 
   bank_stays : (n : ℕ) (message : Message) (b : ℕ) (o : Option BankState) → Stays (deliver_bank m n message b o)

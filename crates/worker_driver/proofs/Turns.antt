@@ -1,6 +1,6 @@
 -- Each place of a round leads to the next.
 use Rattle.std.proofs.Common.{◌≡◌, ℕ, ◌+◌, ◌<◌, Bool, true, false, is_some, is_none, List, ◌∷◌, Option, Some, None}
-use Rattle.std.proofs.Common.{Ok, Err, inr, refl, ap, ◌∙◌, subst, le_refl}
+use Rattle.std.proofs.Common.{Ok, Err, inr, refl, sym, ap, ◌∙◌, subst, le_refl}
 use Rattle.std.proofs.lemmas.Bool.{lt-ltb, le-ltb, true≢false, false≢true}
 use Rattle.physiological_order.specs.declared.operation.Op.{Op}
 use Rattle.machine_table.specs.declared.event.Event.{Event}
@@ -13,10 +13,10 @@ use Rattle.run_ends.specs.declared.ends.End.TheVariants.{NoMemory}
 use Rattle.worker_driver.specs.declared.plan.Plan.{Plan}
 use Rattle.worker_driver.specs.Acts.{Acts, next_in}
 use Rattle.worker_driver.specs.Schedule.{Stage, Issuing, Attempting, Evicting, AttemptingAgain, Delivering}
-use Rattle.worker_driver.specs.Schedule.{MakingRoom, Position, Does, Goes, choose, answered_at, at_stage, issue}
+use Rattle.worker_driver.specs.Schedule.{MakingRoom, Position, Does, Goes, Ends, choose, answered_at, at_stage, issue}
 use Rattle.worker_driver.specs.Schedule.{attempt, evict, evict_bank, victim_for, told, is_held, is_no_room, in_flight}
-use Rattle.worker_driver.specs.Follows.{Follows, goes}
-use Rattle.worker_driver.specs.Noting.{Log, Noted, Point, at, position, Leads, Stops}
+use Rattle.worker_driver.specs.RunEvents.{Follows, goes}
+use Rattle.worker_driver.specs.Notes.{Log, Noted, Point, at, position, Leads, Stops}
 use Rattle.worker_driver.proofs.Following.{did, stopped}
 
 module _ {P : Type 0} (acts : Acts P) (plan : Plan) where
@@ -264,19 +264,27 @@ module _ {P : Type 0} (acts : Acts P) (plan : Plan) where
         stops_by (at m programs log (MakingRoom number left)) (EvictBank bank line) e after after_log
         (room_next bank line some) noted
 
-  -- behind the last turn
-  pub turns_over : (m : Machine) (programs : List P) (log : Log) →
-      Leads acts plan (at m programs log (Issuing plan.cores)) (at m programs log (Delivering (in_flight m)))
-  turns_over m programs log =
-      leads_over m programs log (Issuing plan.cores) (Delivering (in_flight m)) (λ rounds. rw (le-ltb plan.cores
-      plan.cores (le_refl plan.cores)) refl)
+  module _ (m : Machine) (programs : List P) (log : Log) where
+    -- behind the last turn
+    last_turn : (rounds : ℕ) → choose acts plan (position (at m programs log (Issuing plan.cores)) rounds) ≡ Goes
+        (position (at m programs log (Delivering (in_flight m))) rounds)
+    last_turn rounds = rw (le-ltb plan.cores plan.cores (le_refl plan.cores)) refl
 
-  -- where memory is refused the run ends as it stands
-  pub no_memory : (p : Point P) → Stops acts plan p p.machine p.programs p.log NoMemory
-  no_memory p start rounds before = record {
-    last = position p rounds;
-    follows = before;
-    machine_is = refl;
-    programs_are = refl;
-    ends = inr refl;
-  }
+    pub turns_over : Leads acts plan (at m programs log (Issuing plan.cores)) (at m programs log
+        (Delivering (in_flight m)))
+    turns_over = leads_over m programs log (Issuing plan.cores) (Delivering (in_flight m)) last_turn
+
+    -- where memory is refused there the run ends as it stands
+    pub no_memory : Stops acts plan (at m programs log (Issuing plan.cores)) m programs log NoMemory
+    no_memory start rounds before = record {
+      last = position (at m programs log (Issuing plan.cores)) rounds;
+      follows = before;
+      machine_is = refl;
+      programs_are = refl;
+      ends = inr (
+        refl,
+        λ other ends. let bad : Goes (position (at m programs log (Delivering (in_flight m))) rounds) ≡ Ends other =
+            sym (last_turn rounds) ∙ ends in
+            absurd cc,
+      );
+    }

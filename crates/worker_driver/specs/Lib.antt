@@ -1,5 +1,5 @@
 pub mod Acts
 pub mod Schedule
-pub mod Follows
-pub mod Noting
-pub mod Told
+pub mod RunEvents
+pub mod Notes
+pub mod Service

@@ -1,9 +1,10 @@
-//! Drives a machine by a schedule: programs give its cores their operations, and each event that the machine is given is
-//! the one that the schedule has next. docs/SCHEDULES.md has the schedule.
+//! Drives a machine by a schedule: programs give its cores their operations, and each event that the machine is given
+//! is the one that the schedule has next. docs/SCHEDULES.md has the schedule.
 #![tactic(auto)]
 
+pub mod laws;
+mod log;
 mod look_ups;
-mod noting;
 mod op_program;
 mod plan;
 pub mod program;

@@ -1,12 +1,12 @@
-//! One round: the turns of the cores, and the delivery of what is in flight. Each function takes a run from one place of
-//! the schedule to the next.
+//! One round: the turns of the cores, and the delivery of what is in flight. Each function takes a run from one place
+//! of the schedule to the next.
 ghost use Rattle.std.specs.Prelude.{◌≡◌, ◌+◌, ◌<◌, ◌∷◌, [], IfErr, List, OnOk, ℕ};
 ghost use Rattle.worker_driver.specs.Schedule.{Issuing, Attempting, Evicting, AttemptingAgain, Delivering};
 ghost use Rattle.worker_driver.specs.Schedule.{MakingRoom};
-ghost use Rattle.worker_driver.specs.Noting.{Leads, Stops, at};
+ghost use Rattle.worker_driver.specs.Notes.{Leads, Stops, at};
 
+use crate::log::{Log, is_held, is_no_room, step};
 use crate::look_ups::{next_in, tell, victim_for};
-use crate::noting::{Log, is_held, is_no_room, step};
 use crate::plan::Plan;
 use crate::program::Program;
 use interleaving_core::{Event, System};
@@ -22,9 +22,11 @@ fn issue<P: Program>(
     core: u32,
 ) -> Result<(), End>
     requires { core < plan.cores }
-    ensures goes_on { OnOk result (Leads P.acts plan (at system.old programs.old log.old (Issuing core))
+    ensures goes_on { OnOk result (Leads P.acts plan (at system.old programs.old log.old (Issuing
+        core))
         (at system.new programs.new log.new (Attempting core))) }
-    ensures stops { IfErr result (Stops P.acts plan (at system.old programs.old log.old (Issuing core))
+    ensures stops { IfErr result (Stops P.acts plan (at system.old programs.old log.old (Issuing
+        core))
         system.new programs.new log.new) }
 {
     if system.open_op(core).is_some() {
@@ -46,9 +48,11 @@ fn attempt<P: Program>(
     core: u32,
 ) -> Result<(), End>
     requires { 0 < plan.line_words }
-    ensures goes_on { OnOk result (Leads P.acts plan (at system.old programs.old log.old (Attempting core))
+    ensures goes_on { OnOk result (Leads P.acts plan (at system.old programs.old log.old (Attempting
+        core))
         (at system.new programs.new log.new (Issuing (core + 1)))) }
-    ensures stops { IfErr result (Stops P.acts plan (at system.old programs.old log.old (Attempting core))
+    ensures stops { IfErr result (Stops P.acts plan (at system.old programs.old log.old (Attempting
+        core))
         system.new programs.new log.new) }
 {
     if system.open_op(core).is_none() {
@@ -71,9 +75,11 @@ fn evict<P: Program>(
     core: u32,
 ) -> Result<(), End>
     requires { 0 < plan.line_words }
-    ensures goes_on { OnOk result (Leads P.acts plan (at system.old programs.old log.old (Evicting core))
+    ensures goes_on { OnOk result (Leads P.acts plan (at system.old programs.old log.old (Evicting
+        core))
         (at system.new programs.new log.new (Issuing (core + 1)))) }
-    ensures stops { IfErr result (Stops P.acts plan (at system.old programs.old log.old (Evicting core))
+    ensures stops { IfErr result (Stops P.acts plan (at system.old programs.old log.old (Evicting
+        core))
         system.new programs.new log.new) }
 {
     let Some(line) = victim_for(plan, system, core) else {
@@ -138,7 +144,8 @@ fn turns<P: Program>(
     log: &mut Log,
 ) -> Result<(), End>
     requires { 0 < plan.line_words }
-    ensures goes_on { OnOk result (Leads P.acts plan (at system.old programs.old log.old (Issuing 0))
+    ensures goes_on { OnOk result (Leads P.acts plan (at system.old programs.old log.old (Issuing
+        0))
         (at system.new programs.new log.new (Issuing plan.cores))) }
     ensures stops { IfErr result (Stops P.acts plan (at system.old programs.old log.old (Issuing 0))
         system.new programs.new log.new) }
@@ -178,7 +185,8 @@ pub(crate) fn round<P: Program>(
     log: &mut Log,
 ) -> Result<(), End>
     requires { 0 < plan.line_words }
-    ensures goes_on { OnOk result (Leads P.acts plan (at system.old programs.old log.old (Issuing 0))
+    ensures goes_on { OnOk result (Leads P.acts plan (at system.old programs.old log.old (Issuing
+        0))
         (at system.new programs.new log.new (Delivering []))) }
     ensures stops { IfErr result (Stops P.acts plan (at system.old programs.old log.old (Issuing 0))
         system.new programs.new log.new) }

@@ -3,11 +3,11 @@ ghost use Rattle.std.specs.Prelude.{◌≡◌, ◌<◌, [], None, false, length,
 ghost use Rattle.machine_table.specs.Runs.{after_all};
 ghost use Rattle.interleaving_core.specs.LookUps.{open_op};
 ghost use Rattle.worker_driver.specs.Acts.{next_in};
-ghost use Rattle.worker_driver.specs.Follows.{Ended, opening, plan_of};
-ghost use Rattle.worker_driver.specs.Told.{AreServed};
+ghost use Rattle.worker_driver.specs.RunEvents.{Ended, initial, plan_of};
+ghost use Rattle.worker_driver.specs.Service.{AreServed};
 
+use crate::log::Log;
 use crate::look_ups::are_over;
-use crate::noting::Log;
 use crate::plan::Plan;
 use crate::program::Program;
 use crate::round::round;
@@ -35,7 +35,7 @@ pub fn drive_round<P: Program>(
 ) -> Driven
     requires one_each { length programs.old ≡ system.old.config.cores }
     ensures schedule { Ended P.acts (plan_of system.old.config limit)
-        (opening system.old programs.old) result.events.items system.new programs.new result.end }
+        (initial system.old programs.old) result.events.items system.new programs.new result.end }
     ensures machine { system.new ≡ after_all system.old result.events.items }
     ensures all_done { result.end ≡ End.AllDone → (core : ℕ) → core < system.old.config.cores →
         (open_op system.new core ≡ None) × (next_in P.acts programs.new core ≡ None) }
@@ -61,7 +61,7 @@ fn rounds<P: Program>(plan: Plan, system: &mut System, programs: &mut [P], log: 
     requires words { 0 < plan.line_words }
     requires nothing_yet { log.old.events ≡ [] }
     requires no_progress_yet { log.old.has_progressed ≡ false }
-    ensures { Ended P.acts plan (opening system.old programs.old) log.new.events system.new
+    ensures { Ended P.acts plan (initial system.old programs.old) log.new.events system.new
         programs.new result }
 {
     for _made in 0..plan.limit {

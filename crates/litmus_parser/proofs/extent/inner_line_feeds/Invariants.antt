@@ -1,5 +1,5 @@
 use Rattle.std.proofs.Common.{◌≡◌, ◌+◌, ◌≤◌, length}
-use Rattle.litmus_parser.specs.Reachable.{inner_line_feeds}
+use Rattle.litmus_parser.specs.Extents.{inner_line_feeds}
 use Rattle.litmus_parser.proofs.extent.inner_line_feeds.Given as goal
 
 abbrev pub invariant-loop-b : goal.invariant-loop-b

@@ -1,5 +1,5 @@
 use Rattle.std.proofs.Common.{◌≡◌, ◌+◌, ◌≤◌, length}
-use Rattle.litmus_parser.specs.Reachable.{tail_of}
+use Rattle.litmus_parser.specs.Extents.{tail_of}
 use Rattle.litmus_parser.proofs.extent.tail.Given as goal
 
 abbrev pub invariant-loop-b : goal.invariant-loop-b

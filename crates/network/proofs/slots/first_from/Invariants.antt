@@ -1,5 +1,5 @@
 use Rattle.std.proofs.Common.{◌-◌, ◌<◌, ◌≤◌, ℕ, length}
-use Rattle.network.specs.Numbered.{number_at}
+use Rattle.network.specs.NumberedMessages.{number_at}
 use Rattle.network.proofs.slots.first_from.Given as goal
 
 abbrev pub invariant-loop-low : goal.invariant-loop-low

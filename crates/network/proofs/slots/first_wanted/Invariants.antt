@@ -1,6 +1,6 @@
 use Rattle.std.proofs.Common.{◌≡◌, drop}
-use Rattle.network.specs.Asked.{is_wanted}
-use Rattle.network.specs.Numbered.{still_there}
+use Rattle.network.specs.Requests.{is_wanted}
+use Rattle.network.specs.NumberedMessages.{still_there}
 use Rattle.network.specs.Search.{first_message}
 use Rattle.network.proofs.slots.first_wanted.Given as goal
 

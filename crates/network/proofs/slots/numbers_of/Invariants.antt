@@ -1,5 +1,5 @@
 use Rattle.std.proofs.Common.{◌≡◌, ◌++◌, map, drop}
-use Rattle.network.specs.Numbered.{still_there}
+use Rattle.network.specs.NumberedMessages.{still_there}
 use Rattle.network.proofs.slots.numbers_of.Given as goal
 
 abbrev pub invariant-loop-slot : goal.invariant-loop-slot

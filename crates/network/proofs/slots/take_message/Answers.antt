@@ -1,5 +1,5 @@
 use Rattle.std.proofs.Common.{sym}
-use Rattle.network.specs.Numbered.{still_there}
+use Rattle.network.specs.NumberedMessages.{still_there}
 use Rattle.network.proofs.Sending.{without_number-none}
 use Rattle.network.proofs.slots.take_message.Goals as goal
 

@@ -11,13 +11,13 @@ use Rattle.report_text.specs.Ends.{done_state, held, holds_in, is_held}
 use Rattle.run_ends.specs.declared.ends.End.{End}
 use Rattle.run_ends.specs.declared.ends.End.TheVariants.{AllDone, Stalled, TurnsUsed, Exhausted, NoMemory}
 use Rattle.run_ends.specs.declared.ends.RunEnd.{RunEnd}
-use Rattle.sequential_machine.specs.SequentialMachine.{State, Steps, IsOutcome, opening, value_at}
+use Rattle.sequential_machine.specs.SequentialMachine.{State, Steps, IsOutcome, initial, value_at}
 use Rattle.report.specs.Litmus.{HasOutcome}
 use Rattle.report.proofs.laws.a_yes_shows_an_outcome.Goals as goal
 
 module _ (test : Litmus) (seen : test.seen ≡ seen_in test.tree []) where
   abbrev Shows : Type 0
-  Shows = (last : State) × Steps (opening test) last × ((t : ℕ) → t < test.threads → last.left t ≡ []) ×
+  Shows = (last : State) × Steps (initial test) last × ((t : ℕ) → t < test.threads → last.left t ≡ []) ×
       (holds (value_at last) test.tree ≡ true)
 
   of_values : (state : Option (List ℕ)) (end : End) → IfSome state (IsOutcome test) →

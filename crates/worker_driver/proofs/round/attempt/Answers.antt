@@ -1,7 +1,7 @@
 use Rattle.std.proofs.Common.{◌+◌, sym, rules}
 use Rattle.std.proofs.lemmas.Result.{err_from_is_err_and}
 use Rattle.worker_driver.specs.Schedule.{Attempting, Evicting, Issuing}
-use Rattle.worker_driver.specs.Noting.{at}
+use Rattle.worker_driver.specs.Notes.{at}
 use Rattle.worker_driver.proofs.Following.{and_on_ok, and_if_err}
 use Rattle.worker_driver.proofs.Turns.{attempt_idle, attempted, attempted_without_room, attempt_stops}
 use Rattle.worker_driver.proofs.round.attempt.Goals as goal

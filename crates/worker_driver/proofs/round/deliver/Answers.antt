@@ -1,7 +1,7 @@
 use Rattle.std.proofs.Common.{◌∷◌, rules}
 use Rattle.std.proofs.lemmas.Result.{err_from_is_err_and}
 use Rattle.worker_driver.specs.Schedule.{Delivering, MakingRoom}
-use Rattle.worker_driver.specs.Noting.{at}
+use Rattle.worker_driver.specs.Notes.{at}
 use Rattle.worker_driver.proofs.Following.{and_then, and_stops}
 use Rattle.worker_driver.proofs.Turns.{delivered, held, delivery_stops, no_line, room_made, room_stops}
 use Rattle.worker_driver.proofs.round.deliver.Goals as goal

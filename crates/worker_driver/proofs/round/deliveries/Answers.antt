@@ -1,7 +1,7 @@
 use Rattle.std.proofs.Common.{◌≡◌, ◌∷◌, rules}
 use Rattle.std.proofs.lemmas.Result.{err_from_is_err_and}
 use Rattle.worker_driver.specs.Schedule.{Issuing, Delivering}
-use Rattle.worker_driver.specs.Noting.{at}
+use Rattle.worker_driver.specs.Notes.{at}
 use Rattle.worker_driver.proofs.Following.{and_stops}
 use Rattle.worker_driver.proofs.Turns.{turns_over, no_memory}
 use Rattle.worker_driver.proofs.round.deliveries.Goals as goal
@@ -9,7 +9,7 @@ use Rattle.worker_driver.proofs.round.deliveries.Goals as goal
 pub returns-in_default-clause-stops : goal.returns-in_default-clause-stops
 returns-in_default-clause-stops g c programs =
     let a = c.args in
-    no_memory g.P.Program.acts a.plan (at a.system.now programs a.log.now (Issuing a.plan.cores))
+    no_memory g.P.Program.acts a.plan a.system.now programs a.log.now
 
 pub loop-number-init : goal.loop-number-init
 loop-number-init g c programs =

@@ -1,6 +1,6 @@
 use Rattle.std.proofs.Common.{List, length}
 use Rattle.worker_driver.specs.Schedule.{Issuing, Delivering}
-use Rattle.worker_driver.specs.Noting.{Leads, at}
+use Rattle.worker_driver.specs.Notes.{Leads, at}
 use Rattle.worker_driver.proofs.round.deliveries.Given as goal
 
 abbrev pub invariant-loop-number : goal.invariant-loop-number

@@ -1,7 +1,7 @@
 use Rattle.std.proofs.Common.{◌+◌, rules}
 use Rattle.std.proofs.lemmas.Result.{err_from_is_err_and}
 use Rattle.worker_driver.specs.Schedule.{Evicting, AttemptingAgain, Issuing}
-use Rattle.worker_driver.specs.Noting.{at}
+use Rattle.worker_driver.specs.Notes.{at}
 use Rattle.worker_driver.proofs.Following.{and_on_ok, and_if_err}
 use Rattle.worker_driver.proofs.Turns.{no_victim, evicted, evict_stops}
 use Rattle.worker_driver.proofs.round.evict.Goals as goal

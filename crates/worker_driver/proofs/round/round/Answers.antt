@@ -1,6 +1,6 @@
 use Rattle.std.proofs.Common.{[]}
 use Rattle.worker_driver.specs.Schedule.{Issuing, Delivering}
-use Rattle.worker_driver.specs.Noting.{at}
+use Rattle.worker_driver.specs.Notes.{at}
 use Rattle.worker_driver.proofs.Following.{and_on_ok, and_if_err}
 use Rattle.worker_driver.proofs.round.round.Goals as goal
 

@@ -1,6 +1,6 @@
 use Rattle.std.proofs.lemmas.Result.{err_from_is_err_and}
 use Rattle.worker_driver.specs.Schedule.{Issuing, Attempting}
-use Rattle.worker_driver.specs.Noting.{at}
+use Rattle.worker_driver.specs.Notes.{at}
 use Rattle.worker_driver.proofs.Following.{and_then, and_stops}
 use Rattle.worker_driver.proofs.round.turns.Goals as goal
 

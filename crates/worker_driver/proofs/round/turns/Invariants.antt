@@ -1,5 +1,5 @@
 use Rattle.worker_driver.specs.Schedule.{Issuing}
-use Rattle.worker_driver.specs.Noting.{Leads, at}
+use Rattle.worker_driver.specs.Notes.{Leads, at}
 use Rattle.worker_driver.proofs.round.turns.Given as goal
 
 abbrev pub invariant-loop-core : goal.invariant-loop-core

@@ -1,5 +1,5 @@
 use Rattle.std.proofs.Common.{◌∙◌, arith}
-use Rattle.worker_driver.specs.Follows.{opening}
+use Rattle.worker_driver.specs.RunEvents.{initial}
 use Rattle.worker_driver.proofs.RunLaws.{run_makes, run_leaves_nothing}
 use Rattle.worker_driver.proofs.Served.{all_served}
 use Rattle.worker_driver.proofs.rounds.drive_round.Goals as goal
@@ -13,7 +13,7 @@ returns-clause-machine g c =
       line_words =
           c.line_words.result;
       limit = a.limit;
-    }) (opening a.system.now a.programs.now) n.log.events n.system n.programs
+    }) (initial a.system.now a.programs.now) n.log.events n.system n.programs
     c.rounds-end.result c.rounds-end.ensures)
 
 pub returns-clause-all_done : goal.returns-clause-all_done
@@ -25,7 +25,7 @@ returns-clause-all_done g c done core below =
       line_words = c.line_words.result;
       limit =
           a.limit;
-    }) (opening a.system.now a.programs.now) n.log.events n.system n.programs c.rounds-end.result
+    }) (initial a.system.now a.programs.now) n.log.events n.system n.programs c.rounds-end.result
     c.rounds-end.ensures done core
     (omega (arith, below, c.cores.ensures.cores))
 
@@ -34,6 +34,6 @@ returns-clause-served g c =
     let a = c.args in
     let n = c.rounds-end.new in
     all_served g.P.Program.acts (record { cores = c.cores.result; line_words = c.line_words.result; limit = a.limit })
-    (opening a.system.now a.programs.now)
+    (initial a.system.now a.programs.now)
     (c.cores.ensures.count ∙ c.cores.ensures.cores) (c.records-before.ensures.issued) n.log.events n.system n.programs
     c.rounds-end.result c.records-after.ensures.issued c.rounds-end.ensures

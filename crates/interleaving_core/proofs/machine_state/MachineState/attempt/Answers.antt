@@ -9,9 +9,9 @@ use Rattle.machine_table.specs.Change.{attempt}
 use Rattle.machine_table.specs.Transition.{attempt_at}
 use Rattle.machine_theorem.specs.Kept.{Invariant}
 use Rattle.interleaving_core.specs.contracts.machine_state.MachineState.{the_view}
-use Rattle.interleaving_core.specs.Applied.{applied, with_record}
-use Rattle.interleaving_core.specs.Reserved.{completes, owed_for}
-use Rattle.interleaving_core.specs.Stepped.{TakesMemory}
+use Rattle.interleaving_core.specs.PartChanges.{applied, with_record}
+use Rattle.interleaving_core.specs.Reservation.{completes, owed_for}
+use Rattle.interleaving_core.specs.StepAnswers.{TakesMemory}
 use Rattle.interleaving_core.proofs.Applied.{made_so, sending_takes, set_same}
 use Rattle.interleaving_core.proofs.Only.{OneLess, SameOpen, attempt_only, balanced}
 use Rattle.interleaving_core.proofs.Owed.{owed_set}

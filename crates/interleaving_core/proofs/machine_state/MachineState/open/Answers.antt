@@ -1,5 +1,5 @@
 use Rattle.std.proofs.Common.{ap, ◌∙◌, arith, length}
-use Rattle.interleaving_core.specs.Reserved.{owed}
+use Rattle.interleaving_core.specs.Reservation.{owed}
 use Rattle.network.specs.Flight.{Flight}
 use Rattle.interleaving_core.proofs.Owed.{none_at_first}
 use Rattle.interleaving_core.proofs.machine_state.MachineState.open.Goals as goal

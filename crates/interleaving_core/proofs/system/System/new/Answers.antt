@@ -3,7 +3,7 @@ use Rattle.machine_table.specs.Machine.{Machine}
 use Rattle.machine_table.specs.SetUp.{is_good}
 use Rattle.machine_theorem.specs.Kept.{Invariant}
 use Rattle.machine_theorem.proofs.Lemmas.{at_start_invariant, fair}
-use Rattle.interleaving_core.specs.InOrder.{AreNumbered}
+use Rattle.interleaving_core.specs.RecordOrder.{AreNumbered}
 use Rattle.interleaving_core.proofs.system.System.new.Goals as goal
 
 pub invariant_of-result : goal.invariant_of-result

@@ -3,7 +3,7 @@ use Rattle.std.proofs.lemmas.List.{take_all, take_more}
 use Rattle.machine_table.specs.declared.event.Answer.{Answer}
 use Rattle.machine_table.specs.declared.event.Event.{Event}
 use Rattle.machine_theorem.proofs.Lemmas.{set_up_same}
-use Rattle.interleaving_core.specs.Stepped.{Ran}
+use Rattle.interleaving_core.specs.StepAnswers.{Ran}
 use Rattle.machine_theorem.specs.Kept.{Invariant}
 use Rattle.interleaving_core.proofs.Throughout.{throughout}
 use Rattle.interleaving_core.proofs.Running.{ran_more, set_up_on}

@@ -1,6 +1,6 @@
 use Rattle.std.proofs.Common.{◌+◌, ◌-◌, ◌≤◌, length, take, vec_capacity}
 use Rattle.machine_table.specs.SetUp.{SetUpAs}
-use Rattle.interleaving_core.specs.Stepped.{Ran}
+use Rattle.interleaving_core.specs.StepAnswers.{Ran}
 use Rattle.interleaving_core.proofs.system.System.run.Given as goal
 
 -- the events so far, with their answers, and places for those to come

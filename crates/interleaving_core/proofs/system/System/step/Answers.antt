@@ -1,5 +1,5 @@
 use Rattle.std.proofs.Common.{IsSome, ap, sym, subst, ◌∙◌}
-use Rattle.network.specs.Numbered.{at_number}
+use Rattle.network.specs.NumberedMessages.{at_number}
 use Rattle.machine_table.specs.Machine.{Machine}
 use Rattle.machine_table.specs.SetUp.{SetUpAs, is_good}
 use Rattle.interleaving_core.proofs.InOrder.{step_numbers}

@@ -34,7 +34,8 @@ returns g c =
       (
         refl,
         λ w. (arena_written n s i x v.0 w found).1
-            ∙ (λ k. lists_of (map (rewritten (c.cell.view_is k) w) (c.self.view_is k).lists) (c.self.view_is k).cells),
+            ∙ (λ k. lists_of (map (rewritten (c.cell.view_is k) w) (c.self.view_is k).lists) (c.self.view_is
+            k).cells),
       ),
       record { writes_back = tt; value = v.1 ∙ c.value_mut.ensures.value _ (found_is_held n s i x v.0 found) },
     )

@@ -6,7 +6,8 @@ use Rattle.litmus_reader.specs.Litmus.{settings_of}
 use Rattle.litmus_reader.specs.TestViews.{test_of}
 use Rattle.litmus_reader.proofs.contents.Test.opening.Given as goal
 
--- the words so far, with those of the items that are left, are all of them; and none of these sets a location if none does
+-- the words so far, with those of the items that are left, are all of them; and none of these sets a location if none
+-- does
 abbrev pub invariant-loop-item : goal.invariant-loop-item
 invariant-loop-item l =
     (words_opened (settings_of l.left) l.memory ≡ words_opened (test_of l.fn.self).items finite.empty)

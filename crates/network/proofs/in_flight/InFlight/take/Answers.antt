@@ -1,7 +1,7 @@
 use Rattle.std.proofs.Common.{◌^◌, sym, ◌∙◌, arith}
 use Rattle.network.proofs.Keeping.{IsKept-none, IsKept-take}
 use Rattle.network.proofs.Sending.{IsRising-higher, AllHaveEndpoints-at_number, length-without_number}
-use Rattle.network.specs.Numbered.{still_there}
+use Rattle.network.specs.NumberedMessages.{still_there}
 use Rattle.network.proofs.in_flight.InFlight.take.Goals as goal
 
 pub take_message-requires : goal.take_message-requires

@@ -1,0 +1,134 @@
+//! The events that a run made, each noted as it is answered.
+ghost use Rattle.std.specs.Prelude.{◌≡◌, ◌<◌, ◌++◌, ◌∷◌, [], false, ◌||◌, OnErr, OnOk};
+ghost use Rattle.worker_driver.specs.Notes.{Noted, is_no_memory};
+ghost use Rattle.worker_driver.specs.Schedule.{is_exhausted, is_held, is_progress, is_no_room};
+
+use interleaving_core::{Answer, Event, Refusal, System};
+use machine_table::laws::every_answer_keeps_its_word;
+use physiological_order::Op;
+use run_ends::End;
+use std::alloc::{AllocError, Global};
+use std::marker::Model;
+
+// The events of a run so far, and whether one of them was progress in this round.
+#[derive(Drop)]
+pub(crate) struct Log {
+    events: Vec<Event>,
+    has_progressed: bool,
+}
+
+impl Model for Log {
+    ghost use Rattle.std.specs.Prelude.{◌-◌, vec_capacity, vec_len};
+    ghost use Rattle.worker_driver.specs.Notes.{Log};
+
+    ghost Value = { Log };
+
+    ghost view = { λ a. record { events = a.events.items; has_progressed = a.has_progressed; reserved = vec_capacity a.events - vec_len a.events } };
+}
+
+// Whether an answer is more than Waiting, Held or a refusal.
+fn is_progress(answer: &Answer) -> bool
+    ensures { result ≡ is_progress answer.now }
+{
+    !matches!(*answer, Answer::Waiting | Answer::Held | Answer::Refused(_))
+}
+
+pub(crate) fn is_held(answer: &Answer) -> bool
+    ensures { result ≡ is_held answer.now }
+{
+    matches!(*answer, Answer::Held)
+}
+
+pub(crate) fn is_no_room(answer: &Answer) -> bool
+    ensures { result ≡ is_no_room answer.now }
+{
+    matches!(*answer, Answer::Refused(Refusal::NoRoom))
+}
+
+fn is_no_memory(answer: &Answer) -> bool
+    ensures { result ≡ is_no_memory answer.now }
+{
+    matches!(*answer, Answer::Refused(Refusal::NoMemory))
+}
+
+fn is_exhausted(answer: &Answer) -> bool
+    ensures { result ≡ is_exhausted answer.now }
+{
+    matches!(*answer, Answer::Refused(Refusal::Exhausted))
+}
+
+impl Log {
+    // Nothing is noted; this takes no memory yet.
+    pub(crate) fn new(alloc: Global) -> Log
+        ensures events { result.events ≡ [] }
+        ensures progressed { result.has_progressed ≡ false }
+    {
+        Log {
+            events: Vec::new(alloc),
+            has_progressed: false,
+        }
+    }
+
+    // A round begins.
+    pub(crate) fn begin_round(&mut self)
+        ensures { self.new ≡ record self.old { has_progressed = false } }
+    {
+        self.has_progressed = false;
+    }
+
+    // Whether an answer of this round was progress.
+    pub(crate) fn has_progressed(&self) -> bool
+        ensures { result ≡ self.now.has_progressed }
+    {
+        self.has_progressed
+    }
+
+    // The events.
+    pub(crate) fn into_events(self) -> Vec<Event>
+        ensures { result.items ≡ self.events }
+    {
+        self.events
+    }
+
+    // Reserves memory for one more event.
+    fn reserve(&mut self) -> Result<(), AllocError>
+        ensures events { self.new.events ≡ self.old.events }
+        ensures progressed { self.new.has_progressed ≡ self.old.has_progressed }
+        ensures ok { OnOk result (0 < self.new.reserved) }
+    {
+        self.events.reserve(1)
+    }
+
+    // An answered event is added, for which memory was reserved.
+    fn note(&mut self, event: &Event, answer: &Answer)
+        requires { 0 < self.old.reserved }
+        ensures events { self.new.events ≡ self.old.events ++ event.now ∷ [] }
+        ensures progressed { self.new.has_progressed ≡ (self.old.has_progressed
+            || is_progress answer.now) }
+    {
+        // The check finds the parts of an event only where the function names an operation's type.
+        let _op: Option<Op> = None;
+        self.events.push_reserved(*event);
+        self.has_progressed = self.has_progressed || is_progress(answer);
+    }
+}
+
+// Gives the machine an event and notes it. An error ends the run: NoMemory, where nothing changed and the event is not
+// noted, or Exhausted, where it is.
+pub(crate) fn step(log: &mut Log, system: &mut System, event: &Event) -> Result<Answer, End>
+    ensures { Noted system.old log.old event.now result system.new log.new }
+{
+    every_answer_keeps_its_word();
+    if log.reserve().is_err() {
+        return Err(End::NoMemory);
+    }
+    let answer = system.step(*event);
+    if is_no_memory(&answer) {
+        return Err(End::NoMemory);
+    }
+    log.note(event, &answer);
+    if is_exhausted(&answer) {
+        return Err(End::Exhausted);
+    }
+    Ok(answer)
+}

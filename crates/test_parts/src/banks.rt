@@ -289,20 +289,6 @@ fn a_dirty_line_is_stored(rt: HostRuntime) -> Result<(), Fail> {
     Ok(())
 }
 
-#[test]
-fn a_clean_line_raises_the_memory_time(rt: HostRuntime) -> Result<(), Fail> {
-    let mut bank = bank(rt.alloc(), 4, 2, 0)?;
-    fill(&mut bank, 0, 7);
-    let _read = delivered(&mut bank, &read(0, 0, 0, None));
-    assert_eq!(rt; would_evict(&bank, 0), Ok(None));
-    assert_eq!(rt; evicted(&mut bank, 0), Ok(Evict::Clean));
-    assert_eq!(rt; bank.memory_time(), 10);
-    assert_eq!(rt; evicted(&mut bank, 0), Err(EvictError::NotHere));
-    fill(&mut bank, 0, 7);
-    assert_eq!(rt; kept(&bank, 0), clean(timed(10, 10, 7)));
-    Ok(())
-}
-
 // One set of two ways.
 #[test]
 fn room_is_made_in_the_order_of_use(rt: HostRuntime) -> Result<(), Fail> {
@@ -317,95 +303,6 @@ fn room_is_made_in_the_order_of_use(rt: HostRuntime) -> Result<(), Fail> {
     assert_eq!(rt; victim(&bank, 1), None);
     let _read = delivered(&mut bank, &read(0, 0, 0, None));
     assert_eq!(rt; victim(&bank, 2), Some(1));
-    Ok(())
-}
-
-// Fills lines 0 and 1 of a set of two ways, and delivers the messages: the line to evict for line 2 then, or none if a
-// message is not answered as expected.
-fn victim_after(alloc: Global, steps: &[(Message, Delivered)]) -> Result<Option<u64>, AllocError> {
-    let mut bank = bank(alloc, 1, 2, 0)?;
-    fill(&mut bank, 0, 7);
-    fill(&mut bank, 1, 7);
-    match first_wrong(&mut bank, steps) {
-        None => Ok(victim(&bank, 2)),
-        Some(_) => Ok(None),
-    }
-}
-
-// A request of core 0 to read a line without a copy is answered by its words, leased up to 10.
-fn first_reader(line: u64) -> (Message, Delivered) {
-    let answer = answers(0, line, Body::ShRep(timed(0, 10, 7)));
-    (read(0, line, 0, None), answer)
-}
-
-// A request of core 0 to own a line without a copy is answered by its words, which nobody reads after 0.
-fn first_owner(line: u64) -> (Message, Delivered) {
-    let answer = answers(0, line, Body::ExRep(timed(0, 0, 7)));
-    (own(0, line, None), answer)
-}
-
-// Each of the four answers to a request makes line 0 the most recently used one; if cores own both lines, the line that
-// makes room shows it.
-#[test]
-fn answers_are_uses(rt: HostRuntime) -> Result<(), Fail> {
-    let renewal = answers(0, 0, Body::RenewRep { rts: 10 });
-    let upgrade = answers(0, 0, Body::UpgradeRep { rts: 0 });
-    let none: [(Message, Delivered); 0] = [];
-    assert_eq!(rt; victim_after(rt.alloc(), &none)?, Some(0));
-    let steps = [first_reader(0)];
-    assert_eq!(rt; victim_after(rt.alloc(), &steps)?, Some(1));
-    let steps = [(read(0, 0, 0, Some(0)), renewal)];
-    assert_eq!(rt; victim_after(rt.alloc(), &steps)?, Some(1));
-    let steps = [first_owner(1), first_owner(0)];
-    assert_eq!(rt; victim_after(rt.alloc(), &steps)?, Some(1));
-    let steps = [first_owner(1), (own(0, 0, Some(0)), upgrade)];
-    assert_eq!(rt; victim_after(rt.alloc(), &steps)?, Some(1));
-    Ok(())
-}
-
-// Neither a recall of line 0 nor its return is a use: line 1 is read between the grant of line 0 and its recall.
-#[test]
-fn recalls_are_no_uses(rt: HostRuntime) -> Result<(), Fail> {
-    let written_back = to_bank(Node::Core(0), 0, Body::WbRep(timed(2, 12, 9)));
-    let steps = [
-        first_owner(0),
-        first_reader(1),
-        (read(1, 0, 3, None), asks(0, 0, Body::WbReq { rts: 13 })),
-        (written_back, CONSUMED),
-    ];
-    assert_eq!(rt; victim_after(rt.alloc(), &steps)?, Some(0));
-    let steps = [
-        first_owner(0),
-        first_reader(1),
-        (own(1, 0, None), asks(0, 0, Body::FlushReq)),
-        (flushed(0, 0, timed(2, 2, 9)), CONSUMED),
-    ];
-    assert_eq!(rt; victim_after(rt.alloc(), &steps)?, Some(0));
-    Ok(())
-}
-
-// A line is used when its load begins and not when its words come; the recall of an evicted line is no use either.
-#[test]
-fn loads_are_uses_as_they_begin(rt: HostRuntime) -> Result<(), Fail> {
-    let mut bank = bank(rt.alloc(), 1, 2, 0)?;
-    let steps = [
-        (read(0, 0, 0, None), loads(0)),
-        (read(0, 1, 0, None), loads(1)),
-        (loaded(1, 7), CONSUMED),
-        (loaded(0, 7), CONSUMED),
-    ];
-    assert_eq!(rt; first_wrong(&mut bank, &steps), None);
-    assert_eq!(rt; victim(&bank, 2), Some(0));
-    let steps = [first_owner(0), first_reader(1)];
-    assert_eq!(rt; first_wrong(&mut bank, &steps), None);
-    let recall = from_bank(Node::Core(0), 0, Body::FlushReq);
-    assert_eq!(rt; evicted(&mut bank, 0), Ok(Evict::Recalled(recall)));
-    let steps = [(flushed(0, 0, timed(2, 2, 9)), CONSUMED)];
-    assert_eq!(rt; first_wrong(&mut bank, &steps), None);
-    assert_eq!(rt; victim(&bank, 2), Some(0));
-    let store = from_bank(Node::Dram(0), 0, Body::DramSt(timed(0, 0, 9).words));
-    assert_eq!(rt; evicted(&mut bank, 0), Ok(Evict::Stored(store)));
-    assert_eq!(rt; victim(&bank, 2), None);
     Ok(())
 }
 
@@ -426,20 +323,6 @@ fn owned_lines_make_room_last(rt: HostRuntime) -> Result<(), Fail> {
     assert_eq!(rt; evicted(&mut bank, 1), Ok(Evict::Recalled(recall)));
     assert_eq!(rt; bank.lines()?.as_slice(), [LineNo(0)].as_slice());
     assert_eq!(rt; victim(&bank, 2), None);
-    Ok(())
-}
-
-// Two sets of one way: lines 0 and 2 share a set.
-#[test]
-fn a_second_line_waits_for_room(rt: HostRuntime) -> Result<(), Fail> {
-    let mut bank = bank(rt.alloc(), 2, 1, 0)?;
-    fill(&mut bank, 0, 7);
-    fill(&mut bank, 1, 8);
-    assert_eq!(rt; delivered(&mut bank, &own(0, 2, None)), HELD);
-    assert_eq!(rt; victim(&bank, 2), Some(0));
-    assert_eq!(rt; victim(&bank, 3), Some(1));
-    assert_eq!(rt; evicted(&mut bank, 0), Ok(Evict::Clean));
-    assert_eq!(rt; delivered(&mut bank, &own(0, 2, None)), loads(2));
     Ok(())
 }
 

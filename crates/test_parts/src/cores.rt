@@ -19,8 +19,6 @@ const X: LineNo = LineNo(0);
 
 const Y: LineNo = LineNo(1);
 
-const Z: LineNo = LineNo(2);
-
 fn word(number: u64) -> WordAddr {
     WordAddr::at(number % 64)
 }
@@ -165,12 +163,12 @@ fn returned(body: Body) -> Handed {
     }
 }
 
-// Hands core 0 a message of bank 0.
-fn hand<R: Abort>(rt: &R, core: &mut Core, line: LineNo, body: Body) -> Handed {
+// Hands core 0 a message of bank 0, about line x.
+fn hand<R: Abort>(rt: &R, core: &mut Core, body: Body) -> Handed {
     let message = Message {
         from: Node::Bank(0),
         to: Node::Core(0),
-        line,
+        line: X,
         body,
     };
     assert!(rt; has_case(core, &message));
@@ -186,15 +184,12 @@ enum Step {
     Issue(Op, Result<(), IssueError>),
     Attempt(Result<Attempt, Exhausted>),
     Requested,
-    // A message about line x, and one about line y that is consumed.
+    // A message about line x.
     Hand(Body, Handed),
-    HandY(Body),
     Advance(Result<(), Exhausted>),
     Evict(LineNo, Result<Option<Message>, CacheError>),
     OpenOp(Option<(Op, bool)>),
     CopyOfX(Option<LineCopy>),
-    // The copy to evict for line z.
-    VictimForZ(Option<LineNo>),
 }
 
 fn make<R: Abort>(rt: &R, core: &mut Core, step: Step) {
@@ -202,13 +197,11 @@ fn make<R: Abort>(rt: &R, core: &mut Core, step: Step) {
         Step::Issue(op, wanted) => assert_eq!(rt; core.issue(op), wanted),
         Step::Attempt(wanted) => assert_eq!(rt; core.attempt(), wanted),
         Step::Requested => core.requested(),
-        Step::Hand(body, wanted) => assert_eq!(rt; hand(rt, core, X, body), wanted),
-        Step::HandY(body) => assert_eq!(rt; hand(rt, core, Y, body), CONSUMED),
+        Step::Hand(body, wanted) => assert_eq!(rt; hand(rt, core, body), wanted),
         Step::Advance(wanted) => assert_eq!(rt; core.advance(), wanted),
         Step::Evict(line, wanted) => assert_eq!(rt; core.evict(line), wanted),
         Step::OpenOp(wanted) => assert_eq!(rt; core.open_op(), wanted),
         Step::CopyOfX(wanted) => assert_eq!(rt; core.copy(X).copied(), wanted),
-        Step::VictimForZ(wanted) => assert_eq!(rt; core.victim(Z), wanted),
     }
 }
 
@@ -298,131 +291,6 @@ fn a_load_then_a_store(rt: HostRuntime) -> Result<(), Fail> {
 }
 
 #[test]
-fn a_hit_past_the_lease(rt: HostRuntime) -> Result<(), Fail> {
-    let mut core = core_of(rt.alloc(), 0, false, 4)?;
-    load_shared(&rt, &mut core, 0, 10);
-    for _ in 0..10 {
-        make(&rt, &mut core, Step::Advance(Ok(())));
-    }
-    let steps = [
-        issued(load_x()),
-        loaded(0, 10),
-        Step::Advance(Ok(())),
-        issued(load_x()),
-        needs_read(11, Some(0)),
-        Step::Requested,
-        consumed(Body::RenewRep { rts: 21 }),
-        Step::CopyOfX(Some(copy(CopyState::Shared, 0, 21, 0, false))),
-        loaded(0, 11),
-    ];
-    make_all(&rt, &mut core, &steps);
-    Ok(())
-}
-
-// A load at the time of the words' version, if that is later than the core's; a store at the core's time, if that is
-// later than the end of the lease; and an owner's load, which leases the copy up to its time.
-#[test]
-fn times_of_operations(rt: HostRuntime) -> Result<(), Fail> {
-    let mut core = core_of(rt.alloc(), 2, false, 4)?;
-    load_shared(&rt, &mut core, 5, 9);
-    make_all(&rt, &mut core, &[Step::Advance(Ok(())); 8]);
-    let steps = [
-        issued(store_x(4)),
-        needs_owning(Some(5)),
-        Step::Requested,
-        consumed(Body::UpgradeRep { rts: 9 }),
-        stored(13),
-        Step::Advance(Ok(())),
-        Step::Advance(Ok(())),
-        issued(load_x()),
-        loaded(4, 15),
-        Step::CopyOfX(Some(copy(CopyState::Exclusive, 13, 15, 4, true))),
-        issued(store_x(6)),
-        stored(16),
-    ];
-    make_all(&rt, &mut core, &steps);
-    Ok(())
-}
-
-// A core whose set has two ways loads x, leased up to 10, and then y.
-fn load_two_lines<R: Abort>(rt: &R, core: &mut Core) {
-    load_shared(rt, core, 0, 10);
-    let steps = [
-        Step::VictimForZ(None),
-        issued(Op::Load(word(1))),
-        Step::Requested,
-        Step::HandY(Body::ShRep(timed(0, 40, 0))),
-        Step::VictimForZ(Some(X)),
-        loaded(0, 0),
-        Step::VictimForZ(Some(X)),
-    ];
-    make_all(rt, core, &steps);
-}
-
-// A renewal is no use of the copy, and the load that it serves is one.
-#[test]
-fn a_renewed_copy_in_the_order_of_use(rt: HostRuntime) -> Result<(), Fail> {
-    let mut core = core_of(rt.alloc(), 0, false, 2)?;
-    load_two_lines(&rt, &mut core);
-    make_all(&rt, &mut core, &[Step::Advance(Ok(())); 11]);
-    let steps = [
-        issued(load_x()),
-        needs_read(11, Some(0)),
-        Step::Requested,
-        consumed(Body::RenewRep { rts: 21 }),
-        Step::VictimForZ(Some(X)),
-        loaded(0, 11),
-        Step::VictimForZ(Some(Y)),
-    ];
-    make_all(&rt, &mut core, &steps);
-    Ok(())
-}
-
-// Neither a grant of the copy nor a write back is a use of it, and the store between them is one.
-#[test]
-fn an_upgraded_copy_in_the_order_of_use(rt: HostRuntime) -> Result<(), Fail> {
-    let mut core = core_of(rt.alloc(), 0, false, 2)?;
-    load_two_lines(&rt, &mut core);
-    let steps = [
-        issued(store_x(7)),
-        needs_owning(Some(0)),
-        Step::Requested,
-        consumed(Body::UpgradeRep { rts: 10 }),
-        Step::VictimForZ(Some(X)),
-        stored(11),
-        Step::VictimForZ(Some(Y)),
-        issued(Op::Load(word(1))),
-        loaded(0, 11),
-        Step::VictimForZ(Some(X)),
-        Step::Hand(
-            Body::WbReq { rts: 5 },
-            returned(Body::WbRep(timed(11, 21, 7))),
-        ),
-        Step::VictimForZ(Some(X)),
-    ];
-    make_all(&rt, &mut core, &steps);
-    Ok(())
-}
-
-// Other words of a line that is there arrive, which is a use.
-#[test]
-fn an_arrival_in_the_order_of_use(rt: HostRuntime) -> Result<(), Fail> {
-    let mut core = core_of(rt.alloc(), 0, false, 2)?;
-    load_two_lines(&rt, &mut core);
-    make_all(&rt, &mut core, &[Step::Advance(Ok(())); 11]);
-    let steps = [
-        issued(load_x()),
-        Step::Requested,
-        consumed(Body::ShRep(timed(12, 22, 9))),
-        Step::VictimForZ(Some(Y)),
-        Step::CopyOfX(Some(copy(CopyState::Shared, 12, 22, 9, false))),
-        loaded(9, 12),
-    ];
-    make_all(&rt, &mut core, &steps);
-    Ok(())
-}
-
-#[test]
 fn recalls(rt: HostRuntime) -> Result<(), Fail> {
     let mut core = core_of(rt.alloc(), 10, false, 4)?;
     store_owned(&rt, &mut core, 10, 11, 7);
@@ -437,40 +305,6 @@ fn recalls(rt: HostRuntime) -> Result<(), Fail> {
         Step::Hand(Body::WbReq { rts: 30 }, DROPPED),
     ];
     make_all(&rt, &mut core, &steps);
-    Ok(())
-}
-
-#[test]
-fn a_write_back(rt: HostRuntime) -> Result<(), Fail> {
-    let mut core = core_of(rt.alloc(), 10, false, 4)?;
-    store_owned(&rt, &mut core, 10, 11, 7);
-    let back = returned(Body::WbRep(timed(11, 24, 7)));
-    let steps = [
-        Step::Hand(Body::WbReq { rts: 24 }, back),
-        Step::CopyOfX(Some(copy(CopyState::Shared, 11, 24, 7, false))),
-    ];
-    make_all(&rt, &mut core, &steps);
-    Ok(())
-}
-
-// Three stores, at these times.
-fn three_stores<R: Abort>(rt: &R, core: &mut Core, times: [u64; 3]) {
-    store_owned(rt, core, 0, times[0], 1);
-    let steps = [
-        issued(store_x(2)),
-        stored(times[1]),
-        issued(store_x(3)),
-        stored(times[2]),
-    ];
-    make_all(rt, core, &steps);
-}
-
-#[test]
-fn private_writes(rt: HostRuntime) -> Result<(), Fail> {
-    let mut with = core_of(rt.alloc(), 0, true, 4)?;
-    three_stores(&rt, &mut with, [1, 1, 1]);
-    let mut without = core_of(rt.alloc(), 0, false, 4)?;
-    three_stores(&rt, &mut without, [1, 2, 3]);
     Ok(())
 }
 

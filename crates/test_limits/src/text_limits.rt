@@ -2,7 +2,8 @@
 use crate::runs::{fault, gives, report_from};
 use crate::texts::{
     BYTES, put_registers, with_atoms, with_bytes, with_cells, with_lines, with_locations,
-    with_locations_seen, with_name, with_parentheses, with_registers, with_rows, with_threads,
+    with_locations_seen, with_name, with_parentheses, with_registers, with_rest, with_rows,
+    with_threads,
 };
 use litmus_reader::{Kind, LitmusError, Test, read};
 use physiological_order::WordAddr;
@@ -27,7 +28,7 @@ fn at_limits(alloc: Global) -> Result<[String; 10], Fail> {
 }
 
 // Texts past their limits, each with the line and the kind of its fault.
-fn past_limits(alloc: Global) -> Result<[(String, usize, Kind); 12], Fail> {
+fn past_limits(alloc: Global) -> Result<[(String, usize, Kind); 14], Fail> {
     Ok([
         (with_bytes(alloc, BYTES + 1)?, 1, Kind::TooLarge),
         (
@@ -49,6 +50,16 @@ fn past_limits(alloc: Global) -> Result<[(String, usize, Kind); 12], Fail> {
         (with_atoms(alloc, 257, "0")?, 261, Kind::TooLarge),
         (with_parentheses(alloc, 65)?, 69, Kind::TooLarge),
         (with_threads(alloc, 0)?, 3, Kind::BadTable),
+        (
+            with_rest(alloc, 65_000, "{ ; }\n")?,
+            65_002,
+            Kind::BadInitial,
+        ),
+        (
+            with_rest(alloc, 65_000, "{ }\nP1 ;\n")?,
+            65_003,
+            Kind::BadTable,
+        ),
     ])
 }
 

@@ -28,6 +28,15 @@ pub(crate) fn with_lines(
     Ok(text)
 }
 
+/// A text with so many blank header lines, and then this.
+pub(crate) fn with_rest(alloc: Global, lines: usize, rest: &str) -> Result<String, AllocError> {
+    let mut text = String::new(alloc);
+    text.push_str("RISCV L\n")?;
+    repeat(&mut text, "\n", lines)?;
+    text.push_str(rest)?;
+    Ok(text)
+}
+
 /// A text whose name has so many characters.
 pub(crate) fn with_name(alloc: Global, characters: usize) -> Result<String, AllocError> {
     let mut text = String::new(alloc);

@@ -20,8 +20,9 @@ use Rattle.run_ends.specs.declared.ends.End.{End}
 use Rattle.run_ends.specs.declared.ends.End.TheVariants.{AllDone, Stalled, TurnsUsed, Exhausted, NoMemory}
 use Rattle.sequential_machine.specs.SequentialMachine.{memory_opened}
 use Rattle.sequential_machine.specs.Performed.{ArePerformed, Performs as Does}
-use Rattle.worker_driver.specs.Acts.{next_in}
-use Rattle.worker_driver.specs.Service.{AreServed, IsServed, Performs}
+use Rattle.trace_lines.specs.declared.steps.Step.TheVariants as step
+use Rattle.worker_driver.specs.Acts.{as_step, next_in}
+use Rattle.worker_driver.specs.Service.{AreServed, IsServed, Performs, rests, waits, does as performs}
 use Rattle.report.specs.Runs.{started, state_at, thread_acts, threads_from, values_from}
 
 -- ---- rows of threads, values and cores, by number
@@ -52,14 +53,30 @@ nothing_issued (suc n) zero = refl
 nothing_issued (suc n) (suc k) = nothing_issued n k
 
 -- what a program of a thread gave, the thread did
-does : (t : Thread) (rs : List Record) (last : Thread) → Performs thread_acts t rs last → Does t rs last
-does t [] last is = is
-does t (r ∷ rs) last p = (p.0, does (done_with t r.received) rs last p.1)
+operation : (o : Option Op) (op : Op) → as_step o ≡ Some (step.Op op) → o ≡ Some op
+operation None op is = absurd cc
+operation (Some other) op is = cc
+
+never_waits : (o : Option Op) → as_step o ≡ Some step.Advance → ⊥
+never_waits None is = cc
+never_waits (Some op) is = cc
+
+does : (t : Thread) (rs : List Record) (last : Thread) → Performs thread_acts rs t last → Does t rs last
+does t rs last rests = refl
+does t rs last (waits waiting more) = absurd (never_waits (next_of t) waiting)
+does t rs last (performs {r = r} {rs = left} next more) =
+    (operation (next_of t) r.op next, does (done_with t r.received) left last more)
+
+-- a thread that gives no step has finished
+no_operation : (o : Option Op) → as_step o ≡ None → o ≡ None
+no_operation None is = refl
+no_operation (Some op) is = absurd cc
 
 next_there : (threads : List Thread) (core : ℕ) (t : Thread) → slice_get threads core ≡ Some t →
     next_in thread_acts threads core ≡ None → next_of t ≡ None
 next_there threads core t here none =
-    ap (λ (o : Option Thread). Rattle.worker_driver.specs.Acts.next_of thread_acts o) (sym here) ∙ none
+    no_operation (next_of t)
+    (ap (λ (o : Option Thread). Rattle.worker_driver.specs.Acts.next_of thread_acts o) (sym here) ∙ none)
 
 -- ---- a run of a test
 

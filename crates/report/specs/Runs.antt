@@ -14,12 +14,14 @@ use Rattle.machine_theorem.specs.Coherence.{coherent}
 use Rattle.run_ends.specs.declared.ends.End.{End}
 use Rattle.run_ends.specs.declared.ends.End.TheVariants.{AllDone}
 use Rattle.run_ends.specs.declared.ends.RunEnd.{RunEnd}
-use Rattle.worker_driver.specs.Acts.{Acts}
-use Rattle.worker_driver.specs.RunEvents.{Ended, initial, plan_of}
+use Rattle.worker_driver.specs.Acts.{Acts, as_step}
+use Rattle.worker_driver.specs.RoundSchedule.{no_round, rounds}
+use Rattle.worker_driver.specs.Runs.{plan_of}
+use Rattle.worker_driver.specs.RunEvents.{Ended, initial}
 
 -- what the threads of a test do
 abbrev pub thread_acts : Acts Thread
-thread_acts = record { next = next_of; done = done_with }
+thread_acts = record { next = λ thread. as_step (next_of thread); done = done_with }
 
 -- a thread as the test opens it, and so many of them from this number on
 abbrev pub started : Litmus → ℕ → Thread
@@ -40,14 +42,14 @@ state_at test AllDone threads m = Some (map (end_value threads (values_from m 0 
 state_at test end threads m = None
 
 -- events by the schedule of rounds lead from the machine and the threads that the test opens to the run's end; its
--- numbers
--- are those of the machine then
+-- numbers are those of the machine then
 pub record IsRun (test : Litmus) (config : Config) (limit : ℕ) (run : RunEnd) : Type 0 where
   pub events : List Event
   pub machine : Machine
   pub threads : List Thread
-  pub ended : Ended thread_acts (plan_of config limit) (initial (at_start config (words_opened test.items empty))
-      (threads_from test 0 test.threads)) events machine threads run.end
+  pub ended : Ended (plan_of thread_acts (rounds thread_acts) limit)
+      (initial (at_start config (words_opened test.items empty)) (threads_from test 0 test.threads)
+      (no_round config.cores)) events machine threads run.end
   pub state : run.state ≡ state_at test run.end threads machine
   pub completed : run.completed ≡ length machine.records
   pub stale : run.stale ≡ stale_count machine.records

@@ -14,11 +14,12 @@ pub(crate) struct Case {
     pub(crate) made: &'static [Made],
 }
 
-/// An operation on the word of a number.
+/// A step: an operation on the word of a number, or an advance.
 #[derive(Clone, Copy, Debug)]
 pub(crate) enum On {
     Load(u64),
     Store(u64, u64),
+    Advance,
 }
 
 /// An event.
@@ -29,6 +30,7 @@ pub(crate) enum Made {
     Deliver(u64),
     EvictCache(u32, u64),
     EvictBank(u32, u64),
+    Advance(u32),
 }
 
 const X: u64 = 0;
@@ -79,6 +81,71 @@ const LATE: Config = Config {
 };
 
 pub(crate) const CASES: &[Case] = &[
+    Case {
+        shows: "an advance is the step of a core's turn, and no attempt follows it in that round",
+        config: USUAL,
+        programs: [
+            &[On::Advance, On::Load(X), On::Advance, On::Load(X)],
+            &[],
+            &[On::Advance],
+        ],
+        limit: 100,
+        end: End::AllDone,
+        made: &[
+            // round 1
+            Made::Advance(0),
+            Made::Advance(2),
+            // round 2
+            Made::Issue(0, On::Load(X)),
+            Made::Attempt(0),
+            Made::Deliver(0),
+            // round 3
+            Made::Attempt(0),
+            Made::Deliver(0),
+            Made::Deliver(1),
+            // round 4
+            Made::Attempt(0),
+            Made::Deliver(0),
+            Made::Deliver(2),
+            // round 5
+            Made::Attempt(0),
+            Made::Deliver(0),
+            // round 6
+            Made::Attempt(0),
+            Made::Deliver(3),
+            // round 7
+            Made::Attempt(0),
+            // round 8
+            Made::Advance(0),
+            // round 9
+            Made::Issue(0, On::Load(X)),
+            Made::Attempt(0),
+        ],
+    },
+    Case {
+        shows: "an advance that is left is a next step",
+        config: USUAL,
+        programs: [&[On::Advance, On::Advance], &[], &[]],
+        limit: 1,
+        end: End::TurnsUsed,
+        made: &[Made::Advance(0)],
+    },
+    Case {
+        shows: "all is done once the last advance was made",
+        config: USUAL,
+        programs: [&[On::Advance, On::Advance], &[], &[]],
+        limit: 2,
+        end: End::AllDone,
+        made: &[Made::Advance(0), Made::Advance(0)],
+    },
+    Case {
+        shows: "an advance past the last time ends the run",
+        config: LATE,
+        programs: [&[On::Advance, On::Advance], &[On::Advance], &[]],
+        limit: 100,
+        end: End::Exhausted,
+        made: &[Made::Advance(0), Made::Advance(1), Made::Advance(0)],
+    },
     Case {
         shows: "a core attempts its operation in each round, and what deliveries send waits for the next round",
         config: USUAL,

@@ -1,4 +1,4 @@
-//! Drives lists of operations by rounds, and compares the events and the end with a case's.
+//! Drives lists of steps and of operations by rounds, and compares the events and the end with a case's.
 ghost use Rattle.std.specs.Prelude.{◌≡◌, ◌≤◌, IfOk, length};
 
 use crate::cases::{CASES, Case, Made, On, USUAL};
@@ -8,7 +8,7 @@ use physiological_order::{Memory, Op, WordAddr};
 use run_ends::End;
 use std::alloc::{AllocError, Global};
 use std::test::Fail;
-use worker_driver::{Driven, OpProgram, drive_round};
+use worker_driver::{Driven, OpProgram, Step, StepProgram, drive_round};
 
 /// So many loads are more than 65,536.
 const LOADS: u32 = 66_000;
@@ -17,16 +17,25 @@ fn word(number: u64) -> WordAddr {
     WordAddr::at(number % 64)
 }
 
-fn op(on: &On) -> Op {
+fn step(on: &On) -> Step {
     match on {
-        On::Load(at) => Op::Load(word(*at)),
-        On::Store(at, value) => Op::Store(word(*at), *value),
+        On::Load(at) => Step::Op(Op::Load(word(*at))),
+        On::Store(at, value) => Step::Op(Op::Store(word(*at), *value)),
+        On::Advance => Step::Advance,
+    }
+}
+
+fn issue(core: u32, on: &On) -> Event {
+    match step(on) {
+        Step::Op(op) => Event::Issue(core, op),
+        Step::Advance => Event::Advance(core),
     }
 }
 
 fn event(made: &Made) -> Event {
     match made {
-        Made::Issue(core, on) => Event::Issue(*core, op(on)),
+        Made::Issue(core, on) => issue(*core, on),
+        Made::Advance(core) => Event::Advance(*core),
         Made::Attempt(core) => Event::Attempt(*core),
         Made::Deliver(number) => Event::Deliver(MsgNo(*number)),
         Made::EvictCache(core, line) => Event::EvictCache(*core, LineNo(*line)),
@@ -61,25 +70,27 @@ fn machine(alloc: Global, config: Config) -> Result<System, AllocError>
     }
 }
 
-fn program(alloc: Global, list: &[On]) -> Result<OpProgram, AllocError> {
-    let mut ops = Vec::new(alloc);
+fn steps(alloc: Global, list: &[On]) -> Result<Vec<Step>, AllocError> {
+    let mut steps = Vec::new(alloc);
     for on in list {
-        ops.push(op(on))?;
+        steps.push(step(on))?;
     }
-    if ops.len() > 1000 {
-        return Err(AllocError);
-    }
-    Ok(OpProgram::new(ops))
+    Ok(steps)
 }
 
 // Drives the programs of a case.
 fn run(alloc: Global, case: &Case) -> Result<Driven, AllocError> {
     let mut system = machine(alloc, case.config)?;
     let [first, second, third] = case.programs;
+    let (first, second, third) = (
+        steps(alloc, first)?,
+        steps(alloc, second)?,
+        steps(alloc, third)?,
+    );
     let mut programs = [
-        program(alloc, first)?,
-        program(alloc, second)?,
-        program(alloc, third)?,
+        StepProgram::new(&first),
+        StepProgram::new(&second),
+        StepProgram::new(&third),
     ];
     Ok(drive_round(alloc, &mut system, &mut programs, case.limit))
 }
@@ -110,9 +121,9 @@ fn many_loads(alloc: Global) -> Result<OpProgram, AllocError> {
 fn run_long(alloc: Global) -> Result<(Driven, u64), AllocError> {
     let mut system = machine(alloc, USUAL)?;
     let mut programs = [
-        program(alloc, &[])?,
+        OpProgram::new(Vec::new(alloc)),
         many_loads(alloc)?,
-        program(alloc, &[])?,
+        OpProgram::new(Vec::new(alloc)),
     ];
     let driven = drive_round(alloc, &mut system, &mut programs, 100_000);
     Ok((driven, system.records().len() as u64))

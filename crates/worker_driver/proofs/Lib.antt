@@ -1,8 +1,10 @@
 mod Over
-mod Lists
+mod DoneOps
 mod Following
-mod Turns
-mod RoundEnds
+mod TurnSteps
+mod TurnEnds
+mod Deliveries
+mod RoundSteps
 mod InProgram
 mod TableSteps
 mod Serving

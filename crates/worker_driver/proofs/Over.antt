@@ -3,7 +3,7 @@ use Rattle.std.proofs.Common.{◌≡◌, ℕ, zero, suc, ◌<◌, true, false, L
 use Rattle.std.proofs.lemmas.Bool.{cases_eq, and_left, and_right, and_parts}
 use Rattle.machine_table.specs.Machine.{Machine}
 use Rattle.worker_driver.specs.Acts.{Acts}
-use Rattle.worker_driver.specs.Schedule.{is_over, are_over}
+use Rattle.worker_driver.specs.Runs.{is_over, are_over}
 
 module _ {P : Type 0} (acts : Acts P) (m : Machine) (programs : List P) where
   pub not_over : (cores core : ℕ) → core < cores → is_over acts m programs core ≡ false →

@@ -8,21 +8,29 @@ use Rattle.physiological_order.specs.declared.operation.Op.{Op}
 use Rattle.physiological_order.specs.declared.operation.Record.{Record}
 use Rattle.physiological_order.specs.Order.{of_core}
 use Rattle.physiological_order.proofs.Lemmas.{each_push}
+use Rattle.trace_lines.specs.declared.steps.Step.TheVariants as step
 use Rattle.machine_table.specs.Machine.{Machine}
 use Rattle.machine_theorem.proofs.Lemmas.{get-set_same, get-set_other}
 use Rattle.worker_driver.specs.Acts.{Acts, next_of, next_in, done_of, done_in}
-use Rattle.worker_driver.specs.Service.{Performs}
+use Rattle.worker_driver.specs.Service.{Performs, rests, waits, does}
 use Rattle.worker_driver.proofs.InProgram.{of_core-own, of_core-other}
 use Rattle.worker_driver.proofs.TableSteps.{op_at, IsQuiet, Opens, IsDone}
 
 module _ {P : Type 0} (acts : Acts P) where
-  -- a program goes on by one operation
-  performs_more : (rs : List Record) (p q : P) (r : Record) → Performs acts p rs q → acts.next q ≡ Some r.op →
-      Performs acts p (rs ++ r ∷ []) (acts.done q r.received)
-  performs_more [] p q r is next =
-      (subst (λ (x : P). acts.next x ≡ Some r.op) is next, ap (λ (x : P). acts.done x r.received) is)
-  performs_more (s ∷ rs) p q r performs next =
-      (performs.0, performs_more rs (acts.done p s.received) q r performs.1 next)
+  -- a program goes on by one operation, or by an advance
+  performs_more : (rs : List Record) (p q : P) (r : Record) → Performs acts rs p q →
+      acts.next q ≡ Some (step.Op r.op) → Performs acts (rs ++ r ∷ []) p (acts.done q r.received)
+  performs_more rs p q r rests next = does next rests
+  performs_more rs p q r (waits waiting more) next = waits waiting (performs_more rs (acts.done p None) q r more next)
+  performs_more rs p q r (does {r = s} {rs = left} is more) next =
+      does is (performs_more left (acts.done p s.received) q r more next)
+
+  waits_more : (rs : List Record) (p q : P) → Performs acts rs p q → acts.next q ≡ Some step.Advance →
+      Performs acts rs p (acts.done q None)
+  waits_more rs p q rests next = waits next rests
+  waits_more rs p q (waits waiting more) next = waits waiting (waits_more rs (acts.done p None) q more next)
+  waits_more rs p q (does {r = s} {rs = left} is more) next =
+      does is (waits_more left (acts.done p s.received) q more next)
 
   done_here : (programs : List P) (c : ℕ) (received : Option ℕ) (q : P) → slice_get programs c ≡ Some q →
       slice_get (done_in acts programs c received) c ≡ Some (acts.done q received)
@@ -41,7 +49,7 @@ module _ {P : Type 0} (acts : Acts P) where
   -- a program is where it was told of these records, and gives next what is open
   abbrev pub Gone : P → List Record → Option Op → Option P → Type 0
   Gone p rs open_op now =
-      (q : P) × (now ≡ Some q) × Performs acts p rs q × IfSome open_op (λ op. acts.next q ≡ Some op)
+      (q : P) × (now ≡ Some q) × Performs acts rs p q × IfSome open_op (λ op. acts.next q ≡ Some (step.Op op))
 
   module _ (start : Machine) (before : List P) where
     pub record Serving (m : Machine) (programs : List P) : Type 0 where
@@ -60,8 +68,8 @@ module _ {P : Type 0} (acts : Acts P) where
           gone = λ core none p at. (
             p,
             at,
-            refl,
-            subst (λ (o : Option Op). IfSome o (λ op. acts.next p ≡ Some op))
+            rests,
+            subst (λ (o : Option Op). IfSome o (λ op. acts.next p ≡ Some (step.Op op)))
                 (sym none) tt,
           );
         }
@@ -78,7 +86,7 @@ module _ {P : Type 0} (acts : Acts P) where
                 (sym (quiet.ops core)) (so_far.gone core none p at);
           }
 
-      pub served_issue : (c : ℕ) (op : Op) → next_in acts programs c ≡ Some op → Opens m c op after →
+      pub served_issue : (c : ℕ) (op : Op) → next_in acts programs c ≡ Some (step.Op op) → Opens m c op after →
           Serving after programs
       served_issue c op next opens =
           record {
@@ -93,12 +101,12 @@ module _ {P : Type 0} (acts : Acts P) where
               Gone p (of_core core so_far.added) (op_at after core) (slice_get programs core)
           by_core core p (inl here) gone =
               let open_now : op_at after core ≡ Some op = ap (op_at after) here ∙ opens.opened.here in
-              let gives : acts.next gone.0 ≡ Some op =
+              let gives : acts.next gone.0 ≡ Some (step.Op op) =
               sym (ap (next_of acts) gone.1) ∙ ap (next_in acts programs) here ∙ next in (
                 gone.0,
                 gone.1,
                 gone.2,
-                subst (λ (o : Option Op). IfSome o (λ x. acts.next gone.0 ≡ Some x))
+                subst (λ (o : Option Op). IfSome o (λ x. acts.next gone.0 ≡ Some (step.Op x)))
                     (sym open_now) gives,
               )
           by_core core p (inr other) gone =
@@ -123,8 +131,8 @@ module _ {P : Type 0} (acts : Acts P) where
               (slice_get (done_in acts programs c done.received) core)
           by_core core p (inl here) gone =
               let was : op_at m core ≡ Some done.op = ap (op_at m) here ∙ is.op in
-              let gives : acts.next gone.0 ≡ Some done.op =
-              subst (λ (o : Option Op). IfSome o (λ x. acts.next gone.0 ≡ Some x)) was gone.3 in
+              let gives : acts.next gone.0 ≡ Some (step.Op done.op) =
+              subst (λ (o : Option Op). IfSome o (λ x. acts.next gone.0 ≡ Some (step.Op x))) was gone.3 in
               let closed : op_at after core ≡ None = ap (op_at after) here ∙ is.closed.here in
               let program : slice_get programs c ≡ Some gone.0 = ap (slice_get programs) (sym here) ∙ gone.1 in
               let now : slice_get (done_in acts programs c done.received) core ≡ Some
@@ -133,10 +141,10 @@ module _ {P : Type 0} (acts : Acts P) where
               gone.0 program in (
                 acts.done gone.0 done.received,
                 now,
-                subst (λ (rs : List Record). Performs acts p rs (acts.done gone.0 done.received))
+                subst (λ (rs : List Record). Performs acts rs p (acts.done gone.0 done.received))
                     (sym (of_core-own core so_far.added done (is.core ∙ sym here)))
                     (performs_more (of_core core so_far.added) p gone.0 done gone.2 gives),
-                subst (λ (o : Option Op). IfSome o (λ x. acts.next (acts.done gone.0 done.received) ≡ Some x))
+                subst (λ (o : Option Op). IfSome o (λ x. acts.next (acts.done gone.0 done.received) ≡ Some (step.Op x)))
                     (sym closed) tt,
               )
           by_core core p (inr other) gone =
@@ -147,3 +155,34 @@ module _ {P : Type 0} (acts : Acts P) where
               (slice_get (done_in acts programs c done.received) core)) (sym (is.closed.there core other))
               (subst (λ (o : Option P). Gone p (of_core core so_far.added) (op_at m core) o)
               (sym (done_there programs c done.received core other)) gone))
+
+      -- a core without an open operation advances, and its program is told
+      pub served_wait : (c : ℕ) → op_at m c ≡ None → next_in acts programs c ≡ Some step.Advance →
+          IsQuiet m after → Serving after (done_in acts programs c None)
+      served_wait c free next quiet =
+          record {
+            added = so_far.added;
+            records = quiet.records ∙ so_far.records;
+            there = so_far.there;
+            gone = λ core none p at. by_core core p (cases_eq core c) (so_far.gone core none p at);
+          }
+        where
+          by_core : (core : ℕ) (p : P) → (core ≡ c) ⊎ (core ≡ c → ⊥) → Gone p (of_core core so_far.added)
+              (op_at m core) (slice_get programs core) →
+              Gone p (of_core core so_far.added) (op_at after core) (slice_get (done_in acts programs c None) core)
+          by_core core p (inl here) gone =
+              let still : op_at after core ≡ None = quiet.ops core ∙ ap (op_at m) here ∙ free in
+              let gives : acts.next gone.0 ≡ Some step.Advance =
+              sym (ap (next_of acts) gone.1) ∙ ap (next_in acts programs) here ∙ next in
+              let program : slice_get programs c ≡ Some gone.0 = ap (slice_get programs) (sym here) ∙ gone.1 in (
+                acts.done gone.0 None,
+                ap (slice_get (done_in acts programs c None)) here ∙ done_here programs c None gone.0 program,
+                waits_more (of_core core so_far.added) p gone.0 gone.2 gives,
+                subst (λ (o : Option Op). IfSome o (λ x. acts.next (acts.done gone.0 None) ≡ Some (step.Op x)))
+                    (sym still) tt,
+              )
+          by_core core p (inr other) gone =
+              subst (λ (o : Option Op). Gone p (of_core core so_far.added) o
+              (slice_get (done_in acts programs c None) core)) (sym (quiet.ops core))
+              (subst (λ (o : Option P). Gone p (of_core core so_far.added) (op_at m core) o)
+              (sym (done_there programs c None core other)) gone)

@@ -1,7 +1,8 @@
 -- What each event that a run makes does to the open operations and the records.
 use Rattle.std.proofs.Common.{◌≡◌, ◌≢◌, ◌⊎◌, ℕ, ◌+◌, ◌-◌, ◌^◌, nat_lt, Bool, true, false, cond, List, [], ◌∷◌, ◌++◌}
 use Rattle.std.proofs.Common.{length, set, Option, Some, None, Result, Ok, Err, inl, inr, refl, sym, ap, ◌∙◌, subst}
-use Rattle.std.proofs.Common.{⊎_elim}
+use Rattle.std.proofs.Common.{⊎_elim, arith}
+use Rattle.std.proofs.lemmas.List.{length-append}
 use Rattle.std.specs.Prelude.{slice_get}
 use Rattle.std.specs.Ordering.{nat_cmp}
 use Rattle.std.specs.FinMap.{FinMap}
@@ -14,6 +15,7 @@ use Rattle.network.specs.declared.message.Message.{Message}
 use Rattle.network.specs.declared.part.Reaction.{Reaction}
 use Rattle.network.specs.declared.part.Reaction.TheVariants.{Done, Dropped, Held, HeldAfter}
 use Rattle.network.specs.NumberedMessages.{at_number}
+use Rattle.timestamp_manager.specs.Lease.{fits}
 use Rattle.line_sets.specs.SetTable.{Sets}
 use Rattle.private_cache.specs.declared.line_copy.LineCopy.{LineCopy}
 use Rattle.private_cache.specs.declared.cache.CacheError.{CacheError}
@@ -38,7 +40,7 @@ use Rattle.llc_bank.specs.BankTable.{BankState}
 use Rattle.dram_mts.specs.Table.{dram_table, dram_has_case}
 use Rattle.machine_table.specs.declared.event.Event.{Event}
 use Rattle.machine_table.specs.declared.event.Event.TheVariants.{Issue, Attempt as AttemptOf, Deliver, EvictCache}
-use Rattle.machine_table.specs.declared.event.Event.TheVariants.{EvictBank}
+use Rattle.machine_table.specs.declared.event.Event.TheVariants.{EvictBank, Advance}
 use Rattle.machine_table.specs.declared.event.Answer.{Answer}
 use Rattle.machine_table.specs.declared.event.Answer.TheVariants as answer
 use Rattle.machine_table.specs.declared.event.Refusal.TheVariants as refusal
@@ -46,10 +48,12 @@ use Rattle.network.specs.declared.message.Body.{Body}
 use Rattle.network.specs.Mail.{has_capacity, has_number, sent}
 use Rattle.machine_table.specs.Machine.{Machine, with_core, with_bank, with_dram}
 use Rattle.machine_table.specs.Change.{Change, Keeps, Makes, record_of, attempt_open, attempted_op, requests, reacted}
-use Rattle.machine_table.specs.Change.{copy_evicted, entry_evicted}
-use Rattle.machine_table.specs.Transition.{changed, refused, issued, issue_at, attempt_at, deliver_core, deliver_bank}
+use Rattle.machine_table.specs.Change.{advanced, copy_evicted, entry_evicted}
+use Rattle.machine_table.specs.Transition.{advance_at, changed, refused, issued, issue_at, attempt_at, deliver_core, deliver_bank}
 use Rattle.machine_table.specs.Transition.{deliver_dram, deliver_to, deliver_message, evict_copy, evict_entry}
 use Rattle.machine_table.specs.Transition.{on_event, transition}
+use Rattle.machine_table.specs.Answered.{Answered}
+use Rattle.machine_table.proofs.Lemmas.{every_answer}
 use Rattle.machine_theorem.proofs.Lemmas.{get-set_same, get-set_other}
 use Rattle.interleaving_core.proofs.Lemmas.{Closes, attempt_closes}
 
@@ -86,6 +90,30 @@ pub record IsDone (m : Machine) (c : ℕ) (done : Record) (after : Machine) : Ty
 abbrev pub is_completion : Answer → Bool
 is_completion (answer.Completed done) = true
 is_completion _ = false
+
+-- an event that adds no record isn't answered as a completion
+pub not_completed : (m : Machine) (event : Event) → (transition m event).1.records ≡ m.records →
+    is_completion (transition m event).0 ≡ false
+not_completed m event same = by_answer (transition m event).0 (transition m event).1 (every_answer m event) same
+  where
+    by_answer : (a : Answer) (after : Machine) → Answered m a after → after.records ≡ m.records →
+        is_completion a ≡ false
+    by_answer (answer.Completed done) after completes same =
+        let more : length m.records ≡ length m.records + 1 =
+        ap length (sym same ∙ completes.records) ∙ length-append m.records (done ∷ []) in
+        absurd (omega (arith, more))
+    by_answer answer.Issued after says same = refl
+    by_answer answer.Requested after says same = refl
+    by_answer answer.Waiting after says same = refl
+    by_answer answer.Idle after says same = refl
+    by_answer answer.Delivered after says same = refl
+    by_answer answer.Dropped after says same = refl
+    by_answer answer.Held after says same = refl
+    by_answer answer.Started after says same = refl
+    by_answer answer.Evicted after says same = refl
+    by_answer answer.Recalled after says same = refl
+    by_answer answer.Advanced after says same = refl
+    by_answer (answer.Refused why) after says same = refl
 
 -- what an issue and an attempt may come to
 abbrev pub Issues : Machine → ℕ → Op → Answer × Machine → Type 0
@@ -328,6 +356,17 @@ module _ (m : Machine) where
   quiet_unless : (event : Event) → Stays (on_event m event) → Stays (transition m event)
   quiet_unless event stays =
       cond_both m.is_stopped (refused m refusal.Stopped) (on_event m event) Stays (λ t. same) (λ t. stays)
+
+  advanced_stays : (c : ℕ) (o : Option CoreState) → slice_get m.cores c ≡ o → Stays (advance_at m c o)
+  advanced_stays c None at = same
+  advanced_stays c (Some core) at = cond_both (fits (core.pts + 1))
+      (Some tt, record core { pts = core.pts + 1 }) (None, core)
+      (λ r. Stays (changed m (with_core m c) (advanced m.mail r)))
+      (λ t. let quiet = kept c core at (record core { pts = core.pts + 1 }) refl in
+      record { ops = quiet.ops; records = refl }) (λ t. record { ops = λ k. refl; records = refl })
+
+  pub advance_stays : (c : ℕ) → Stays (transition m (Advance c))
+  advance_stays c = quiet_unless (Advance c) (advanced_stays c (slice_get m.cores c) refl)
 
   pub delivery_stays : (n : ℕ) → Stays (transition m (Deliver n))
   delivery_stays n = quiet_unless (Deliver n) (delivered_stays n (at_number n m.mail.messages))

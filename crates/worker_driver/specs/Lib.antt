@@ -1,5 +1,9 @@
 pub mod Acts
-pub mod Schedule
+pub mod Schedules
+pub mod Runs
+pub mod RoundSchedule
+pub mod RoundViews
 pub mod RunEvents
 pub mod Notes
+pub mod Turns
 pub mod Service

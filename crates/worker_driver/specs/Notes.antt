@@ -8,12 +8,12 @@ use Rattle.machine_table.specs.Machine.{Machine}
 use Rattle.machine_table.specs.Transition.{transition}
 use Rattle.run_ends.specs.declared.ends.End.{End}
 use Rattle.run_ends.specs.declared.ends.End.TheVariants.{AllDone, Stalled, TurnsUsed, Exhausted, NoMemory}
-use Rattle.worker_driver.specs.declared.plan.Plan.{Plan}
 use Rattle.worker_driver.specs.Acts.{Acts}
-use Rattle.worker_driver.specs.Schedule.{Stage, Position, is_progress, is_exhausted}
+use Rattle.worker_driver.specs.Schedules.{Schedule}
+use Rattle.worker_driver.specs.Runs.{Stage, Position, plan_of, is_progress, is_exhausted}
 use Rattle.worker_driver.specs.RunEvents.{Follows, Ended}
 
--- the events so far, whether an answer of this round was progress, and how many more can be noted before memory is
+-- the events so far, whether an answer of this turn was progress, and how many more can be noted before memory is
 -- asked for
 pub record Log : Type 0 where
   pub events : List Event
@@ -46,35 +46,44 @@ Noted m log event (Err AllDone) after after_log = ⊥
 Noted m log event (Err Stalled) after after_log = ⊥
 Noted m log event (Err TurnsUsed) after after_log = ⊥
 
--- where a run stands in a round, with what it has noted
-pub record Point (P : Type 0) : Type 0 where
+-- where a run stands, with what it has noted
+pub record Point (P S : Type 0) : Type 0 where
   pub machine : Machine
   pub programs : List P
   pub log : Log
+  pub own : S
   pub stage : Stage
 
-abbrev pub at : {P : Type 0} → Machine → List P → Log → Stage → Point P
-at m programs log stage = record { machine = m; programs = programs; log = log; stage = stage }
+abbrev pub at : {P S : Type 0} → Machine → List P → Log → S → Stage → Point P S
+at m programs log own stage =
+    record { machine = m; programs = programs; log = log; own = own; stage = stage }
 
--- its position, after so many rounds
-abbrev pub position : {P : Type 0} → Point P → ℕ → Position P
-position p rounds =
+-- its position, after so many turns
+abbrev pub position : {P S : Type 0} → Point P S → ℕ → Position P S
+position p turns =
     record {
       machine = p.machine;
       programs = p.programs;
+      own = p.own;
       stage = p.stage;
-      has_progressed =
-          p.log.has_progressed;
-      rounds = rounds;
+      has_progressed = p.log.has_progressed;
+      turns = turns;
     }
 
--- a run that follows the schedule to the one point follows it to the other
-abbrev pub Leads : {P : Type 0} → Acts P → Plan → Point P → Point P → Type 0
-Leads {P} acts plan p q = (start : Position P) (rounds : ℕ) →
-    Follows acts plan start p.log.events (position p rounds) → Follows acts plan start q.log.events
-    (position q rounds)
+-- a run that follows its plan to the one point follows it to the other, whatever the most turns are
+abbrev pub Leads : {P S : Type 0} → Acts P → Schedule P S → Point P S → Point P S → Type 0
+Leads {P} {S} acts schedule p q = (limit : ℕ) (start : Position P S) (turns : ℕ) →
+    Follows (plan_of acts schedule limit) start p.log.events (position p turns) →
+    Follows (plan_of acts schedule limit) start q.log.events (position q turns)
 
--- a run that follows the schedule to the point ends with this machine, these programs and this log
-abbrev pub Stops : {P : Type 0} → Acts P → Plan → Point P → Machine → List P → Log → End → Type 0
-Stops {P} acts plan p m programs log end = (start : Position P) (rounds : ℕ) →
-    Follows acts plan start p.log.events (position p rounds) → Ended acts plan start log.events m programs end
+-- a run that follows its plan to the point ends with this machine, these programs and this log
+abbrev pub Stops : {P S : Type 0} → Acts P → Schedule P S → Point P S → Machine → List P → Log → End → Type 0
+Stops {P} {S} acts schedule p m programs log end = (limit : ℕ) (start : Position P S) (turns : ℕ) →
+    Follows (plan_of acts schedule limit) start p.log.events (position p turns) →
+    Ended (plan_of acts schedule limit) start log.events m programs end
+
+-- a part of a run leads from the one point to the other, or ends the run
+abbrev pub Led : {X : Type 0} {P S : Type 0} → Acts P → Schedule P S → Point P S → Result X End →
+    Point P S → Type 0
+Led acts schedule p (Ok x) q = Leads acts schedule p q
+Led acts schedule p (Err end) q = Stops acts schedule p q.machine q.programs q.log end

@@ -3,7 +3,7 @@ ghost use Rattle.std.specs.Prelude.{◌≡◌, false, true};
 ghost use Rattle.physiological_order.specs.declared.operation.Record.{Record};
 ghost use Rattle.machine_table.specs.declared.event.Answer.TheVariants as answer;
 ghost use Rattle.machine_table.specs.declared.event.Refusal.{Refusal};
-ghost use Rattle.worker_driver.specs.Schedule.{is_progress};
+ghost use Rattle.worker_driver.specs.Runs.{is_progress};
 
 /// A round goes on if one of its answers is none of Waiting, Held and the refusals.
 pub fn progress_is_all_but_waiting()

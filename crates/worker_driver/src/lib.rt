@@ -1,17 +1,20 @@
-//! Drives a machine by a schedule: programs give its cores their operations, and each event that the machine is given
-//! is the one that the schedule has next. docs/SCHEDULES.md has the schedule.
+//! Drives a machine by a schedule: programs give its cores their steps, and each event that the machine is given is the
+//! one that the schedule has next. docs/SCHEDULES.md has the schedules.
 #![tactic(auto)]
 
 pub mod laws;
+mod lists;
 mod log;
 mod look_ups;
-mod op_program;
-mod plan;
 pub mod program;
 mod round;
 pub mod rounds;
+mod run;
+mod schedule;
+mod turn;
 
-pub use op_program::OpProgram;
+pub use lists::{OpProgram, StepProgram};
 pub use program::Program;
 pub use rounds::{Driven, drive_round};
 pub use run_ends::{End, RunEnd};
+pub use trace_lines::Step;

@@ -1,7 +1,7 @@
 //! The events that a run made, each noted as it is answered.
 ghost use Rattle.std.specs.Prelude.{◌≡◌, ◌<◌, ◌++◌, ◌∷◌, [], false, ◌||◌, OnErr, OnOk};
 ghost use Rattle.worker_driver.specs.Notes.{Noted, is_no_memory};
-ghost use Rattle.worker_driver.specs.Schedule.{is_exhausted, is_held, is_progress, is_no_room};
+ghost use Rattle.worker_driver.specs.Runs.{is_advanced, is_exhausted, is_held, is_progress, is_no_room};
 
 use interleaving_core::{Answer, Event, Refusal, System};
 use machine_table::laws::every_answer_keeps_its_word;
@@ -10,7 +10,7 @@ use run_ends::End;
 use std::alloc::{AllocError, Global};
 use std::marker::Model;
 
-// The events of a run so far, and whether one of them was progress in this round.
+// The events of a run so far, and whether one of them was progress in this turn.
 #[derive(Drop)]
 pub(crate) struct Log {
     events: Vec<Event>,
@@ -45,6 +45,12 @@ pub(crate) fn is_no_room(answer: &Answer) -> bool
     matches!(*answer, Answer::Refused(Refusal::NoRoom))
 }
 
+pub(crate) fn is_advanced(answer: &Answer) -> bool
+    ensures { result ≡ is_advanced answer.now }
+{
+    matches!(*answer, Answer::Advanced)
+}
+
 fn is_no_memory(answer: &Answer) -> bool
     ensures { result ≡ is_no_memory answer.now }
 {
@@ -69,14 +75,14 @@ impl Log {
         }
     }
 
-    // A round begins.
-    pub(crate) fn begin_round(&mut self)
+    // A turn begins.
+    pub(crate) fn begin_turn(&mut self)
         ensures { self.new ≡ record self.old { has_progressed = false } }
     {
         self.has_progressed = false;
     }
 
-    // Whether an answer of this round was progress.
+    // Whether an answer of this turn was progress.
     pub(crate) fn has_progressed(&self) -> bool
         ensures { result ≡ self.now.has_progressed }
     {

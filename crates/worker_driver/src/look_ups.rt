@@ -1,26 +1,25 @@
-//! What a round looks up in the machine and the programs.
-ghost use Rattle.std.specs.Prelude.{◌≡◌, ◌/◌, ◌<◌};
+//! What a run looks up in the machine and the programs, and what it tells these.
+ghost use Rattle.std.specs.Prelude.{◌≡◌};
 ghost use Rattle.interleaving_core.specs.LookUps.{open_op};
 ghost use Rattle.worker_driver.specs.Acts.{next_in, done_in};
-ghost use Rattle.worker_driver.specs.Schedule.{are_over, is_over, told, victim_for};
+ghost use Rattle.worker_driver.specs.Runs.{are_over, is_over, told, told_advance, victim_for};
 
-use crate::plan::Plan;
+use crate::log::is_advanced;
 use crate::program::Program;
 use interleaving_core::{Answer, System};
 use network::LineNo;
-use physiological_order::Op;
+use trace_lines::Step;
 
 // The copy to evict for the line of a core's open operation.
-pub(crate) fn victim_for(plan: Plan, system: &System, core: u32) -> Option<LineNo>
-    requires { 0 < plan.line_words }
-    ensures { result ≡ victim_for plan system.now core (open_op system.now core) }
+pub(crate) fn victim_for(system: &System, core: u32) -> Option<LineNo>
+    ensures { result ≡ victim_for system.now core (open_op system.now core) }
 {
     let (op, _) = system.open_op(core)?;
-    system.victim(core, LineNo(op.word() / u64::from(plan.line_words)))
+    system.victim(core, LineNo(op.word() / u64::from(system.line_words())))
 }
 
-// The next operation of a core's program.
-pub(crate) fn next_in<P: Program>(programs: &mut [P], core: u32) -> Option<Op>
+// The next step of a core's program.
+pub(crate) fn next_in<P: Program>(programs: &mut [P], core: u32) -> Option<Step>
     ensures next { result ≡ next_in P.acts programs.old core }
     ensures same { programs.new ≡ programs.old }
 {
@@ -31,7 +30,7 @@ pub(crate) fn next_in<P: Program>(programs: &mut [P], core: u32) -> Option<Op>
     programs[at].next()
 }
 
-// Tells a core's program what its operation received.
+// Tells a core's program what its next step received.
 fn tell_done<P: Program>(programs: &mut [P], core: u32, received: Option<u64>)
     ensures { programs.new ≡ done_in P.acts programs.old core received }
 {
@@ -42,15 +41,24 @@ fn tell_done<P: Program>(programs: &mut [P], core: u32, received: Option<u64>)
 }
 
 // Tells a core's program of a completion.
-pub(crate) fn tell<P: Program>(programs: &mut [P], core: u32, answer: &Answer)
-    ensures { programs.new ≡ told P.acts programs.old core answer.now }
+pub(crate) fn tell<P: Program>(programs: &mut [P], answer: &Answer)
+    ensures { programs.new ≡ told P.acts programs.old answer.now }
 {
     if let Answer::Completed(record) = *answer {
-        tell_done(programs, core, record.received);
+        tell_done(programs, record.core, record.received);
     }
 }
 
-// Whether a core has no open operation and its program no next one.
+// Tells a core's program that it has advanced.
+pub(crate) fn tell_advance<P: Program>(programs: &mut [P], core: u32, answer: &Answer)
+    ensures { programs.new ≡ told_advance P.acts programs.old core answer.now }
+{
+    if is_advanced(answer) {
+        tell_done(programs, core, None);
+    }
+}
+
+// Whether a core has no open operation and its program no next step.
 fn is_over<P: Program>(system: &System, programs: &mut [P], core: u32) -> bool
     ensures over { result ≡ is_over P.acts system.now programs.old core }
     ensures same { programs.new ≡ programs.old }

@@ -1,34 +1,38 @@
-//! Programs: what gives a core its operations.
+//! Programs: what gives a core its steps.
 ghost use Rattle.std.specs.Prelude.{◌≡◌};
 
 use litmus_reader::ThreadState;
-use physiological_order::Op;
+use trace_lines::Step;
 
-/// A program gives a core one operation after the other, and is told what each received.
+/// A program gives a core one step after the other, and is told what each operation received.
 pub trait Program {
     ghost use Rattle.worker_driver.specs.Acts.{Acts};
 
     /// What the program does.
     ghost acts: { Acts Self };
 
-    /// The next operation, the same until `done`; `None` where the program has ended.
-    fn next(&mut self) -> Option<Op>
+    /// The next step, the same until `done`; `None` where the program has ended.
+    fn next(&mut self) -> Option<Step>
         ensures next { result ≡ acts.next self.old }
         ensures same { self.new ≡ self.old };
 
-    /// Takes the next operation as done, with the value that it received: `None` for a store alone.
+    /// Takes the next step as done, with the value that it received: `None` for a store and for an advance.
     fn done(&mut self, received: Option<u64>)
         ensures { self.new ≡ acts.done self.old received };
 }
 
-/// The threads of a litmus test are programs.
+/// The threads of a litmus test are programs of operations.
 impl<'a> Program for ThreadState<'a> {
     ghost use Rattle.litmus_reader.specs.ThreadSteps.{next_of, done_with};
+    ghost use Rattle.worker_driver.specs.Acts.{as_step};
 
-    ghost acts = { record { next = next_of; done = done_with } };
+    ghost acts = { record { next = λ thread. as_step (next_of thread); done = done_with } };
 
-    fn next(&mut self) -> Option<Op> {
-        ThreadState::next(self)
+    fn next(&mut self) -> Option<Step> {
+        match ThreadState::next(self) {
+            Some(op) => Some(Step::Op(op)),
+            None => None,
+        }
     }
 
     fn done(&mut self, received: Option<u64>) {

@@ -1,196 +1,153 @@
-//! One round: the turns of the cores, and the delivery of what is in flight. Each function takes a run from one place
-//! of the schedule to the next.
-ghost use Rattle.std.specs.Prelude.{◌≡◌, ◌+◌, ◌<◌, ◌∷◌, [], IfErr, List, OnOk, ℕ};
-ghost use Rattle.worker_driver.specs.Schedule.{Issuing, Attempting, Evicting, AttemptingAgain, Delivering};
-ghost use Rattle.worker_driver.specs.Schedule.{MakingRoom};
-ghost use Rattle.worker_driver.specs.Notes.{Leads, Stops, at};
+//! Rounds as a schedule: each core has its turn, in rising order, and then each message that is in flight is delivered.
+ghost use Rattle.std.specs.Prelude.{◌≡◌, ◌<◌, IfOk};
+ghost use Rattle.interleaving_core.specs.LookUps.{open_op};
+ghost use Rattle.worker_driver.specs.Acts.{next_in};
+ghost use Rattle.worker_driver.specs.RoundSchedule.{no_round, attempt_of, step_of, round_pass, Stepping, Attempting};
+ghost use Rattle.worker_driver.specs.RoundViews.{steps_left, IsUnderWay};
+ghost use Rattle.worker_driver.specs.Turns.{IsChoice, Fewer};
 
-use crate::log::{Log, is_held, is_no_room, step};
-use crate::look_ups::{next_in, tell, victim_for};
-use crate::plan::Plan;
+use crate::look_ups::next_in;
 use crate::program::Program;
+use crate::schedule::{Choice, Schedule};
 use interleaving_core::{Event, System};
 use network::MsgNo;
-use run_ends::End;
+use physiological_order::Op;
+use std::alloc::{AllocError, Global};
+use std::marker::Model;
+use trace_lines::Step;
 
-// A core is issued its program's next operation, where none is open.
-fn issue<P: Program>(
-    plan: Plan,
-    system: &mut System,
-    programs: &mut [P],
-    log: &mut Log,
-    core: u32,
-) -> Result<(), End>
-    requires { core < plan.cores }
-    ensures goes_on { OnOk result (Leads P.acts plan (at system.old programs.old log.old (Issuing
-        core))
-        (at system.new programs.new log.new (Attempting core))) }
-    ensures stops { IfErr result (Stops P.acts plan (at system.old programs.old log.old (Issuing
-        core))
-        system.new programs.new log.new) }
-{
-    if system.open_op(core).is_some() {
-        return Ok(());
+// The stages of a round.
+#[derive(Clone, Copy, Debug)]
+pub(crate) enum RoundStage {
+    // A core's turn begins: it may do its program's next step.
+    Stepping(u32),
+    // Its open operation is tried.
+    Attempting(u32),
+    // A copy was to go: it is tried once more.
+    AttemptingAgain(u32),
+    // The messages are delivered.
+    Delivering,
+}
+
+// Where a round stands: how many cores have turns, the stage, and the messages to deliver, of which so many were.
+#[derive(Drop)]
+pub(crate) struct Rounds {
+    cores: u32,
+    stage: RoundStage,
+    numbers: Vec<MsgNo>,
+    delivered: usize,
+}
+
+impl Model for Rounds {
+    ghost use Rattle.worker_driver.specs.RoundSchedule.{Round};
+    ghost use Rattle.worker_driver.specs.RoundViews.{stage_of, IsStage};
+
+    ghost Value = { Round };
+
+    ghost view = { λ a. record { cores = a.cores; stage = stage_of a.stage a.delivered a.numbers.items } };
+
+    ghost invariant = { λ a. IsStage a.cores a.stage };
+}
+
+impl Rounds {
+    // Before the first round.
+    pub(crate) fn new(alloc: Global, cores: u32) -> Rounds
+        ensures { result ≡ no_round cores }
+    {
+        Rounds {
+            cores,
+            stage: RoundStage::Delivering,
+            numbers: Vec::new(alloc),
+            delivered: 0,
+        }
     }
-    let Some(op) = next_in(programs, core) else {
-        return Ok(());
-    };
-    step(log, system, &Event::Issue(core, op))?;
-    Ok(())
-}
 
-// A core's open operation, if there is one, is tried; without room for its line it is tried again behind an eviction.
-fn attempt<P: Program>(
-    plan: Plan,
-    system: &mut System,
-    programs: &mut [P],
-    log: &mut Log,
-    core: u32,
-) -> Result<(), End>
-    requires { 0 < plan.line_words }
-    ensures goes_on { OnOk result (Leads P.acts plan (at system.old programs.old log.old (Attempting
-        core))
-        (at system.new programs.new log.new (Issuing (core + 1)))) }
-    ensures stops { IfErr result (Stops P.acts plan (at system.old programs.old log.old (Attempting
-        core))
-        system.new programs.new log.new) }
-{
-    if system.open_op(core).is_none() {
-        return Ok(());
+    // A core without an open operation does its program's next step.
+    fn begin_core<P: Program>(&mut self, core: u32, system: &System, programs: &mut [P]) -> Choice
+        requires stage { self.old.stage ≡ Stepping core }
+        requires there { core < self.old.cores }
+        ensures same { programs.new ≡ programs.old }
+        ensures chosen { IsChoice (step_of self.old core (open_op system.now core)
+            (next_in P.acts programs.old core)) self.old result self.new }
+        ensures fewer { Fewer steps_left IsUnderWay round_pass self.old result self.new }
+    {
+        if system.open_op(core).is_some() {
+            self.stage = RoundStage::Attempting(core);
+            return Choice::Goes;
+        }
+        match next_in(programs, core) {
+            Some(Step::Op(op)) => Choice::Does(Event::Issue(core, op)),
+            Some(Step::Advance) => Choice::Waits(core),
+            None => {
+                self.stage = RoundStage::Attempting(core);
+                Choice::Goes
+            }
+        }
     }
-    let answer = step(log, system, &Event::Attempt(core))?;
-    tell(programs, core, &answer);
-    if is_no_room(&answer) {
-        return evict(plan, system, programs, log, core);
+
+    // An open operation is tried; without one the next core has its turn.
+    fn try_core(&mut self, core: u32, system: &System) -> Choice
+        requires stage { self.old.stage ≡ Attempting core }
+        requires there { core < self.old.cores }
+        requires small { core < 4294967295 }
+        ensures chosen { IsChoice (attempt_of self.old core (open_op system.now core)) self.old
+            result self.new }
+        ensures fewer { Fewer steps_left IsUnderWay round_pass self.old result self.new }
+    {
+        if system.open_op(core).is_some() {
+            return Choice::Tries(core);
+        }
+        self.stage = RoundStage::Stepping(core + 1);
+        Choice::Goes
     }
-    Ok(())
 }
 
-// A copy goes so that there is a way for the line of a core's open operation, which is then tried again.
-fn evict<P: Program>(
-    plan: Plan,
-    system: &mut System,
-    programs: &mut [P],
-    log: &mut Log,
-    core: u32,
-) -> Result<(), End>
-    requires { 0 < plan.line_words }
-    ensures goes_on { OnOk result (Leads P.acts plan (at system.old programs.old log.old (Evicting
-        core))
-        (at system.new programs.new log.new (Issuing (core + 1)))) }
-    ensures stops { IfErr result (Stops P.acts plan (at system.old programs.old log.old (Evicting
-        core))
-        system.new programs.new log.new) }
-{
-    let Some(line) = victim_for(plan, system, core) else {
-        return attempt_again(plan, system, programs, log, core);
-    };
-    step(log, system, &Event::EvictCache(core, line))?;
-    attempt_again(plan, system, programs, log, core)
-}
+impl<P: Program> Schedule<P> for Rounds {
+    ghost use Rattle.worker_driver.specs.RoundSchedule.{rounds};
 
-// A core's open operation is tried a second time, and not again.
-fn attempt_again<P: Program>(
-    plan: Plan,
-    system: &mut System,
-    programs: &mut [P],
-    log: &mut Log,
-    core: u32,
-) -> Result<(), End>
-    ensures goes_on { OnOk result
-        (Leads P.acts plan (at system.old programs.old log.old (AttemptingAgain core))
-        (at system.new programs.new log.new (Issuing (core + 1)))) }
-    ensures stops { IfErr result
-        (Stops P.acts plan (at system.old programs.old log.old (AttemptingAgain core)) system.new
-        programs.new log.new) }
-{
-    let second = step(log, system, &Event::Attempt(core))?;
-    tell(programs, core, &second);
-    Ok(())
-}
+    ghost rule = { rounds P.acts };
 
-// A message is delivered; where it is held, a line leaves its bank if that makes room.
-fn deliver<P: Program>(
-    plan: Plan,
-    system: &mut System,
-    log: &mut Log,
-    number: MsgNo,
-) -> Result<(), End>
-    ensures goes_on { (programs : List P) (left : List ℕ) →
-        OnOk result (Leads P.acts plan
-        (at system.old programs log.old (Delivering (number ∷ left)))
-        (at system.new programs log.new (Delivering left))) }
-    ensures stops { (programs : List P) (left : List ℕ) →
-        IfErr result
-        (Stops P.acts plan (at system.old programs log.old (Delivering (number ∷ left)))
-        system.new programs log.new) }
-{
-    let answer = step(log, system, &Event::Deliver(number))?;
-    if !is_held(&answer) {
-        return Ok(());
+    ghost left = { steps_left };
+
+    ghost ready = { IsUnderWay };
+
+    fn begin(&mut self) {
+        self.stage = RoundStage::Stepping(0);
     }
-    let Some(victim) = system.make_room(number) else {
-        return Ok(());
-    };
-    step(log, system, &Event::EvictBank(victim.0, victim.1))?;
-    Ok(())
-}
 
-// Each core has its turn, in rising order.
-fn turns<P: Program>(
-    plan: Plan,
-    system: &mut System,
-    programs: &mut [P],
-    log: &mut Log,
-) -> Result<(), End>
-    requires { 0 < plan.line_words }
-    ensures goes_on { OnOk result (Leads P.acts plan (at system.old programs.old log.old (Issuing
-        0))
-        (at system.new programs.new log.new (Issuing plan.cores))) }
-    ensures stops { IfErr result (Stops P.acts plan (at system.old programs.old log.old (Issuing 0))
-        system.new programs.new log.new) }
-{
-    for core in 0..plan.cores {
-        issue(plan, system, programs, log, core)?;
-        attempt(plan, system, programs, log, core)?;
+    fn choose(&mut self, system: &System, programs: &mut [P]) -> Result<Choice, AllocError> {
+        match self.stage {
+            RoundStage::Stepping(core) => {
+                if core < self.cores {
+                    Ok(self.begin_core(core, system, programs))
+                } else {
+                    self.numbers = system.in_flight()?;
+                    self.delivered = 0;
+                    self.stage = RoundStage::Delivering;
+                    Ok(Choice::Goes)
+                }
+            }
+            RoundStage::Attempting(core) => Ok(self.try_core(core, system)),
+            RoundStage::AttemptingAgain(core) => Ok(Choice::Does(Event::Attempt(core))),
+            RoundStage::Delivering => match self.numbers.get(self.delivered) {
+                Some(number) => Ok(Choice::Delivers(*number)),
+                None => Ok(Choice::Over),
+            },
+        }
     }
-    Ok(())
-}
 
-// Each message that is in flight behind the last turn is delivered, once, in rising order.
-fn deliveries<P: Program>(plan: Plan, system: &mut System, log: &mut Log) -> Result<(), End>
-    ensures goes_on { (programs : List P) →
-        OnOk result (Leads P.acts plan (at system.old programs log.old (Issuing plan.cores))
-        (at system.new programs log.new (Delivering []))) }
-    ensures stops { (programs : List P) →
-        IfErr result (Stops P.acts plan (at system.old programs log.old (Issuing plan.cores))
-        system.new programs log.new) }
-{
-    let Ok(numbers) = system.in_flight() else {
-        return Err(End::NoMemory);
-    };
-    let mut left = numbers.as_slice();
-    while let Some((number, rest)) = left.split_first() {
-        deliver::<P>(plan, system, log, *number)?;
-        left = rest;
+    fn pass(&mut self, full: bool) {
+        match self.stage {
+            RoundStage::Stepping(core) => self.stage = RoundStage::Attempting(core),
+            RoundStage::Attempting(core) if full => self.stage = RoundStage::AttemptingAgain(core),
+            RoundStage::Attempting(core) | RoundStage::AttemptingAgain(core) => {
+                self.stage = RoundStage::Stepping(core + 1)
+            }
+            RoundStage::Delivering => self.delivered += 1,
+        }
     }
-    Ok(())
-}
 
-// A round.
-pub(crate) fn round<P: Program>(
-    plan: Plan,
-    system: &mut System,
-    programs: &mut [P],
-    log: &mut Log,
-) -> Result<(), End>
-    requires { 0 < plan.line_words }
-    ensures goes_on { OnOk result (Leads P.acts plan (at system.old programs.old log.old (Issuing
-        0))
-        (at system.new programs.new log.new (Delivering []))) }
-    ensures stops { IfErr result (Stops P.acts plan (at system.old programs.old log.old (Issuing 0))
-        system.new programs.new log.new) }
-{
-    turns(plan, system, programs, log)?;
-    deliveries::<P>(plan, system, log)
+    fn stalls(&self) -> bool {
+        true
+    }
 }

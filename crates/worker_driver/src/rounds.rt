@@ -1,16 +1,17 @@
 //! Rounds, until a run ends.
-ghost use Rattle.std.specs.Prelude.{◌≡◌, ◌<◌, [], None, false, length, ℕ};
+ghost use Rattle.std.specs.Prelude.{◌≡◌, ◌<◌, None, length, ℕ};
 ghost use Rattle.machine_table.specs.Runs.{after_all};
 ghost use Rattle.interleaving_core.specs.LookUps.{open_op};
 ghost use Rattle.worker_driver.specs.Acts.{next_in};
-ghost use Rattle.worker_driver.specs.RunEvents.{Ended, initial, plan_of};
+ghost use Rattle.worker_driver.specs.RoundSchedule.{no_round, rounds};
+ghost use Rattle.worker_driver.specs.RunEvents.{Ended, initial};
+ghost use Rattle.worker_driver.specs.Runs.{plan_of};
 ghost use Rattle.worker_driver.specs.Service.{AreServed};
 
 use crate::log::Log;
-use crate::look_ups::are_over;
-use crate::plan::Plan;
 use crate::program::Program;
-use crate::round::round;
+use crate::round::Rounds;
+use crate::run::run;
 use interleaving_core::{Event, System};
 use run_ends::End;
 use std::alloc::Global;
@@ -22,11 +23,11 @@ pub struct Driven {
     pub events: Vec<Event>,
 }
 
-/// Drives the machine by the schedule of rounds, one program a core, until every program is done, a round went by
-/// without progress, `limit` rounds were made, times are exhausted or allocation failed. The events are those that the
-/// schedule has, each by the machine and the programs as they then are, and so is the end, unless it is NoMemory. What
-/// was given to the machine is in the list, and nothing else. Whatever the end, each core was issued what its program
-/// gave, in order, and the program was told what each completed operation received, in order.
+/// Drives the machine by the schedule of rounds (docs/SCHEDULES.md), one program a core, until every program is done,
+/// a round went by without progress, `limit` rounds were made, times are exhausted or allocation failed. The events
+/// are those that the schedule has, each by the machine and the programs as they then are, and so is the end, unless it
+/// is NoMemory. What was given to the machine is in the list, and nothing else. Whatever the end, each core was issued
+/// what its program gave, in order, and the program was told what each completed operation received, in order.
 pub fn drive_round<P: Program>(
     alloc: Global,
     system: &mut System,
@@ -34,51 +35,21 @@ pub fn drive_round<P: Program>(
     limit: u32,
 ) -> Driven
     requires one_each { length programs.old ≡ system.old.config.cores }
-    ensures schedule { Ended P.acts (plan_of system.old.config limit)
-        (initial system.old programs.old) result.events.items system.new programs.new result.end }
+    ensures schedule { Ended (plan_of P.acts (rounds P.acts) limit)
+        (initial system.old programs.old (no_round system.old.config.cores))
+        result.events.items system.new programs.new result.end }
     ensures machine { system.new ≡ after_all system.old result.events.items }
     ensures all_done { result.end ≡ End.AllDone → (core : ℕ) → core < system.old.config.cores →
         (open_op system.new core ≡ None) × (next_in P.acts programs.new core ≡ None) }
     ensures served { AreServed P.acts system.old system.new programs.old programs.new }
 {
-    let plan = Plan {
-        cores: system.cores(),
-        line_words: system.line_words(),
-        limit,
-    };
+    let mut schedule = Rounds::new(alloc, system.cores());
     let mut log = Log::new(alloc);
     let _before = system.records();
-    let end = rounds(plan, system, programs, &mut log);
+    let end = run(&mut schedule, system, programs, &mut log, limit);
     let _after = system.records();
     Driven {
         end,
         events: log.into_events(),
-    }
-}
-
-// Rounds until the end.
-fn rounds<P: Program>(plan: Plan, system: &mut System, programs: &mut [P], log: &mut Log) -> End
-    requires words { 0 < plan.line_words }
-    requires nothing_yet { log.old.events ≡ [] }
-    requires no_progress_yet { log.old.has_progressed ≡ false }
-    ensures { Ended P.acts plan (initial system.old programs.old) log.new.events system.new
-        programs.new result }
-{
-    for _made in 0..plan.limit {
-        if are_over(system, programs, plan.cores) {
-            return End::AllDone;
-        }
-        log.begin_round();
-        if let Err(end) = round(plan, system, programs, log) {
-            return end;
-        }
-        if !log.has_progressed() {
-            return End::Stalled;
-        }
-    }
-    if are_over(system, programs, plan.cores) {
-        End::AllDone
-    } else {
-        End::TurnsUsed
     }
 }

@@ -12,7 +12,9 @@ use Rattle.machine_table.specs.Opening.{at_start}
 use Rattle.machine_table.specs.Runs.{after_all}
 use Rattle.machine_theorem.specs.Coherence.{coherent}
 use Rattle.sequential_machine.specs.SequentialMachine.{IsOutcome, memory_opened}
-use Rattle.worker_driver.specs.RunEvents.{Ended, initial, plan_of}
+use Rattle.worker_driver.specs.RoundSchedule.{no_round, rounds}
+use Rattle.worker_driver.specs.Runs.{plan_of}
+use Rattle.worker_driver.specs.RunEvents.{Ended, initial}
 use Rattle.worker_driver.specs.Service.{AreServed}
 use Rattle.report.specs.Runs.{thread_acts}
 use Rattle.report.proofs.Rows.{threads_count}
@@ -34,13 +36,15 @@ returns-clause-run c =
       events = c.drive_round-driven.result.events.items;
       machine = m;
       threads = c.drive_round-driven.new.programs;
-      ended = subst (λ (ts : List Thread). Ended thread_acts (plan_of c.args.config c.args.limit)
-          (initial (at_start c.args.config (words_opened (test_of c.args.test.now).items empty)) ts)
+      ended = subst (λ (ts : List Thread). Ended
+          (plan_of thread_acts (rounds thread_acts) c.args.limit)
+          (initial (at_start c.args.config (words_opened (test_of c.args.test.now).items empty)) ts
+          (no_round c.args.config.cores))
           c.drive_round-driven.result.events.items m c.drive_round-driven.new.programs
           c.drive_round-driven.result.end)
           (c.as_mut_slice-threads.ensures.value ∙ c.in_ok-started.ensures)
-          (subst (λ (k : Machine). Ended thread_acts (plan_of k.config c.args.limit)
-          (initial k c.as_mut_slice-threads.result.now) c.drive_round-driven.result.events.items m
+          (subst (λ (k : Machine). Ended (plan_of thread_acts (rounds thread_acts) c.args.limit)
+          (initial k c.as_mut_slice-threads.result.now (no_round k.config.cores)) c.drive_round-driven.result.events.items m
           c.drive_round-driven.new.programs c.drive_round-driven.result.end)
           first c.drive_round-driven.ensures.schedule);
       state = c.in_ok-state.ensures;

@@ -1,5 +1,5 @@
 use Rattle.std.proofs.Common.{◌≡◌, true}
-use Rattle.worker_driver.specs.Schedule.{are_over}
+use Rattle.worker_driver.specs.Runs.{are_over}
 use Rattle.worker_driver.proofs.look_ups.are_over.Given as goal
 
 abbrev pub invariant-loop-core : goal.invariant-loop-core

@@ -1,0 +1,61 @@
+-- How turns begin and end.
+use Rattle.std.proofs.Common.{◌≡◌, ℕ, ◌+◌, ◌<◌, ◌==◌, Bool, ◌&&◌, not, true, false, List, inl, refl, ap, ◌∙◌, arith}
+use Rattle.std.proofs.lemmas.Bool.{eq-eqb, ne_eqb}
+use Rattle.machine_table.specs.Machine.{Machine}
+use Rattle.run_ends.specs.declared.ends.End.TheVariants as end
+use Rattle.worker_driver.specs.Schedules.{Over}
+use Rattle.worker_driver.specs.Runs.{Plan, Before, Within, Position, begin, chosen, are_over}
+use Rattle.worker_driver.specs.RunEvents.{Follows, moves, Ended}
+use Rattle.worker_driver.specs.Notes.{Log, at, position}
+
+module _ {P S : Type 0} (plan : Plan P S) (start : Position P S) (m : Machine) (programs : List P)
+    (log : Log) (own : S) (made : ℕ) where
+  abbrev AtStart : Type 0
+  AtStart = Follows plan start log.events (position (at m programs log own Before) made)
+
+  pub all_done : AtStart → are_over plan.acts m programs m.config.cores ≡ true →
+      Ended plan start log.events m programs end.AllDone
+  all_done before over = record {
+    last = position (at m programs log own Before) made;
+    follows = before;
+    machine_is = refl;
+    programs_are = refl;
+    ends = inl (ap (begin plan (position (at m programs log own Before) made)) over);
+  }
+
+  pub turns_used : AtStart → are_over plan.acts m programs m.config.cores ≡ false → made ≡ plan.limit →
+      Ended plan start log.events m programs end.TurnsUsed
+  turns_used before over used = record {
+    last = position (at m programs log own Before) made;
+    follows = before;
+    machine_is = refl;
+    programs_are = refl;
+    ends = inl (ap (begin plan (position (at m programs log own Before) made)) over
+        ∙ rw (eq-eqb made plan.limit used) refl);
+  }
+
+  pub begun : AtStart → are_over plan.acts m programs m.config.cores ≡ false → made < plan.limit →
+      Follows plan start log.events
+      (position (at m programs (record log { has_progressed = false }) (plan.schedule.first own) Within) made)
+  begun before over below =
+      let more : (made == plan.limit) ≡ false = ne_eqb made plan.limit (λ same. omega (arith, below, same)) in
+      moves before (ap (begin plan (position (at m programs log own Before) made)) over ∙ rw more refl)
+
+  abbrev AtEnd : Type 0
+  AtEnd = Follows plan start log.events (position (at m programs log own Within) made)
+
+  pub stalled : AtEnd → plan.schedule.next m programs own ≡ Over →
+      (plan.schedule.stalls && not log.has_progressed) ≡ true → Ended plan start log.events m programs end.Stalled
+  stalled before over still = record {
+    last = position (at m programs log own Within) made;
+    follows = before;
+    machine_is = refl;
+    programs_are = refl;
+    ends = inl (ap (chosen plan (position (at m programs log own Within) made)) over ∙ rw still refl);
+  }
+
+  pub turn_over : AtEnd → plan.schedule.next m programs own ≡ Over →
+      (plan.schedule.stalls && not log.has_progressed) ≡ false →
+      Follows plan start log.events (position (at m programs log own Before) (made + 1))
+  turn_over before over more =
+      moves before (ap (chosen plan (position (at m programs log own Within) made)) over ∙ rw more refl)

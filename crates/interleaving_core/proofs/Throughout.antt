@@ -5,7 +5,7 @@ use Rattle.machine_table.specs.declared.event.Answer.{Answer}
 use Rattle.machine_table.specs.Machine.{Machine}
 use Rattle.machine_table.specs.SetUp.{SetUpAs}
 use Rattle.machine_theorem.specs.Kept.{Invariant}
-use Rattle.machine_theorem.proofs.Lemmas.{legal_now, one_owner, value_left, set_up_same}
+use Rattle.machine_theorem.proofs.Lemmas.{consistent, set_up_same}
 use Rattle.interleaving_core.specs.StepAnswers.{Ran}
 use Rattle.interleaving_core.specs.Midway.{IsMidway}
 use Rattle.interleaving_core.proofs.Running.{set_up_on}
@@ -48,9 +48,7 @@ throughout m after events answers invariant ran k =
       before = r.before;
       behind = r.behind;
       set_up = r.set_up;
-      legal = legal_now r.mid r.invariant;
-      one_owner = one_owner r.mid r.invariant;
-      coherent = value_left r.mid r.invariant;
+      consistent = consistent r.mid r.invariant;
       issued = run_issues (take k events) (take k answers) m r.mid invariant r.before;
       counted = (run_sends (take k events) (take k answers) m r.mid r.before).counts;
     }

@@ -1,29 +1,24 @@
 -- What holds in the middle of a run.
-use Rattle.std.specs.Prelude.{◌≡◌, ℕ, ◌≤◌, List, [], ◌++◌, take, drop, map, slice_index_or}
-use Rattle.physiological_order.specs.declared.operation.Record.{Record}
-use Rattle.physiological_order.specs.Order.{flat, Legal, Arrangement, replay_end}
+use Rattle.std.specs.Prelude.{◌≡◌, ℕ, List, [], ◌++◌, take, drop, slice_index_or}
 use Rattle.machine_table.specs.declared.event.Event.{Event}
 use Rattle.machine_table.specs.declared.event.Answer.{Answer}
 use Rattle.machine_table.specs.Machine.{Machine}
-use Rattle.machine_theorem.specs.Coherence.{owners, coherent}
+use Rattle.machine_theorem.specs.Consistency.{IsConsistent}
 use Rattle.machine_table.specs.SetUp.{SetUpAs}
 use Rattle.interleaving_core.specs.IssuedOps.{issued_in}
 use Rattle.interleaving_core.specs.SentMessages.{AreCounted, all_sent}
 use Rattle.interleaving_core.specs.StepAnswers.{Ran}
 
--- the machine after the first k events of a run, from which the others lead to its end: it is set up as at first, its
--- records are legal, no line has more than one owner, and each word has the coherent value that the records leave; its
--- cores were issued what these events were answered to issue, and its counts rose by the messages that they sent
+-- the machine after the first k events of a run, from which the others lead to its end: it is set up as at first
+-- and consistent (its records are legal, no line has more than one owner, and each word has the coherent value that
+-- the records leave); its cores were issued what these events were answered to issue, and its counts rose by the messages that they sent
 pub record IsMidway (m : Machine) (events : List Event) (answers : List Answer) (after : Machine)
     (k : ℕ) : Type 0 where
   pub mid : Machine
   pub before : Ran m (take k events) (take k answers) mid
   pub behind : Ran mid (drop k events) (drop k answers) after
   pub set_up : SetUpAs m mid
-  pub legal : Legal (flat mid.opening) (λ core. slice_index_or mid.issued core []) mid.records
-  pub one_owner : (line : ℕ) → owners mid line ≤ 1
-  pub coherent : (arranged : List Record) → Arrangement mid.records arranged → (word : ℕ) →
-      coherent mid word ≡ replay_end (flat mid.opening) (map (λ r. r.op) arranged) word
+  pub consistent : IsConsistent mid
   pub issued : (core : ℕ) → slice_index_or mid.issued core [] ≡
       slice_index_or m.issued core [] ++ issued_in core (take k events) (take k answers)
   pub counted : AreCounted m.mail.counts (all_sent m (take k events) (take k answers) mid before) mid.mail.counts

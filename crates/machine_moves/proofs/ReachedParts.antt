@@ -64,7 +64,7 @@ module _ (laws : Laws) (config : Config) (opening : FinMap nat_cmp ℕ) (good : 
       subst (λ (ops : List Op). IsIssued ops (of_core c a.records) (a.cores c).open_op) (sym (k.same.issued c))
       (subst (λ (o : Option CoreState). IsIssued (get_or m.issued c []) (of_core c a.records) (operation_of o))
       (core_at c lt)
-      (laws.issued m s c))
+      ((laws.consistent m s).issued c))
 
   pub issued_count : (c : ℕ) → c < config.cores →
       (a.cores c).issued ≡ length (of_core c a.records) + length (listed (a.cores c).open_op)

@@ -92,19 +92,19 @@ module _ (laws : Laws) (config : Config) (opening : FinMap nat_cmp ℕ) (good : 
     pub find_parts : Each (FindsPart config a) xs
     unfolding reordered with_mail
     find_parts = each_finds 0 xs
-        (laws.cases reordered.machine reordered.invariant) reordered.invariant.whole.each_message
+        (laws.consistent reordered.machine reordered.invariant).cases reordered.invariant.whole.each_message
 
   pub consistent : Consistent config opening a
   unfolding w reordered with_mail
   consistent =
       record {
         legal = subst (λ (issued : ℕ → List Op). Legal (flat opening) issued a.records)
-            (fun_ext (λ c. sym (w.shows.same.issued c))) (laws.legal m w.invariant);
+            (fun_ext (λ c. sym (w.shows.same.issued c))) (laws.consistent m w.invariant).legal;
         owners = λ line. subst (λ (n : ℕ). n ≤ 1) (owners_numbered config opening a line)
-            (laws.owners m w.invariant line);
-        coherent = λ arranged is word. laws.coherent m w.invariant arranged is word;
+            ((laws.consistent m w.invariant).one_owner line);
+        coherent = λ arranged is word. (laws.consistent m w.invariant).coherent arranged is word;
         cases = λ message rest bag.
-            (laws.cases (reordered (message ∷ rest) bag).machine (reordered (message ∷ rest) bag).invariant).0;
+            (laws.consistent (reordered (message ∷ rest) bag).machine (reordered (message ∷ rest) bag).invariant).cases.0;
       }
 
 -- the coherent values are those of the records, and so of every state that is the same

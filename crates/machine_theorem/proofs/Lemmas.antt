@@ -10,8 +10,8 @@ pub use Rattle.machine_theorem.proofs.Events.{any_transition}
 pub use Rattle.machine_theorem.proofs.FoundCases.{messages_find_cases}
 -- A message in flight is always found by its part.
 pub use Rattle.machine_theorem.proofs.Found.{delivery_found}
--- What holds after any list of events.
-pub use Rattle.machine_theorem.proofs.History.{issued_now, legal_now, one_owner, value_left}
+-- A machine with the invariant is consistent.
+pub use Rattle.machine_theorem.proofs.Consistency.{consistent}
 -- What is found in lists, tables and bags of messages after each change.
 pub use Rattle.machine_theorem.proofs.Lookups.{each_at_number, get-set_other, get-set_same}
 -- The invariant holds of a machine as it opens.

@@ -16,6 +16,7 @@ mod History
 mod Routes
 mod Rooms
 mod FoundCases
+mod Consistency
 mod Found
 mod StaleRun
 mod PrivateRun

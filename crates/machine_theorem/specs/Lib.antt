@@ -4,5 +4,6 @@ pub mod PrivateWrites
 pub mod Shape
 pub mod StaleHit
 pub mod Coherence
+pub mod Consistency
 pub mod Kept
 pub mod View

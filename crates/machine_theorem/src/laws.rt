@@ -1,10 +1,8 @@
 //! What every event and every list of events keeps.
-ghost use Rattle.std.specs.Prelude.{◌≡◌, ◌≢◌, ◌≤◌, ℕ, Bool, true, List, [], Some, map, slice_get, slice_index_or};
-ghost use Rattle.std.specs.List.{AllByRecursion};
+ghost use Rattle.std.specs.Prelude.{◌≡◌, ◌≢◌, ℕ, Bool, true, List, Some};
 ghost use Rattle.std.specs.Ordering.{nat_cmp};
 ghost use Rattle.std.specs.FinMap.{FinMap};
-ghost use Rattle.physiological_order.specs.declared.operation.Record.{Record};
-ghost use Rattle.physiological_order.specs.Order.{flat, Legal, Arrangement, replay_end, of_core};
+ghost use Rattle.physiological_order.specs.Order.{flat};
 ghost use Rattle.network.specs.Mail.{Mail};
 ghost use Rattle.machine_table.specs.declared.config.Config.{Config};
 ghost use Rattle.machine_table.specs.SetUp.{SetUpAs, is_good};
@@ -15,15 +13,13 @@ ghost use Rattle.network.specs.NumberedMessages.{at_number};
 ghost use Rattle.machine_table.specs.declared.event.Event.TheVariants.{Deliver};
 ghost use Rattle.machine_table.specs.declared.event.Answer.TheVariants.{Refused};
 ghost use Rattle.machine_table.specs.declared.event.Refusal.TheVariants.{NoSuch};
-ghost use Rattle.protocol.specs.Issued.{IsIssued};
-ghost use Rattle.machine_table.specs.Machine.{Machine, operation_of};
+ghost use Rattle.machine_table.specs.Machine.{Machine};
 ghost use Rattle.machine_table.specs.Transition.{transition};
 ghost use Rattle.machine_table.specs.Runs.{after_all};
 ghost use Rattle.machine_theorem.specs.Bags.{SameBag, bag_of};
-ghost use Rattle.machine_theorem.specs.Cases.{has_case};
 ghost use Rattle.machine_theorem.specs.PrivateWrites.{private_cores, private_writes, private_records};
 ghost use Rattle.machine_theorem.specs.StaleHit.{two_cores, stale_hit, stale_records};
-ghost use Rattle.machine_theorem.specs.Coherence.{owners, coherent};
+ghost use Rattle.machine_theorem.specs.Consistency.{IsConsistent};
 ghost use Rattle.machine_theorem.specs.Kept.{Invariant};
 
 /// A machine has the invariant if its parts have their shape and it is, seen line by line, one that the protocol
@@ -52,22 +48,10 @@ pub fn renumberings_keep_the_invariant()
         }) }
 {}
 
-/// Of every machine with the invariant: its records are a legal history of its opening memory and of what its cores
-/// were issued; each core was issued what it completed, in this order, and then its open operation; a line has at
-/// most one owner; a word's coherent value is the one that the records leave; and each message in flight has its
-/// case.
+/// Every machine with the invariant is consistent: its records are legal, a line has at most one owner, and a word's
+/// coherent value is the one that the records leave.
 pub fn machines_with_the_invariant_are_consistent()
-    ensures legal { (m : Machine) → Invariant m → Legal (flat m.opening)
-        (λ core. slice_index_or m.issued core []) m.records }
-    ensures issued { (m : Machine) → Invariant m → (core : ℕ) →
-        IsIssued (slice_index_or m.issued core []) (of_core core m.records) (operation_of (slice_get
-        m.cores core)) }
-    ensures owners { (m : Machine) → Invariant m → (line : ℕ) → owners m line ≤ 1 }
-    ensures coherent { (m : Machine) → Invariant m → (arranged : List Record) → Arrangement
-        m.records arranged → (word : ℕ) →
-        coherent m word ≡ replay_end (flat m.opening) (map (λ r. r.op) arranged) word }
-    ensures cases { (m : Machine) → Invariant m →
-        AllByRecursion (λ message. has_case m message.1 ≡ true) m.mail.messages }
+    ensures { (m : Machine) → Invariant m → IsConsistent m }
 {}
 
 /// After any list of events, refused ones included, of a machine that was well set up: the records are a legal history
@@ -76,22 +60,10 @@ pub fn machines_with_the_invariant_are_consistent()
 /// their times, on the opening memory. And the part that a message in flight goes to has a case for it, with
 /// a place for the line that it brings: a delivery of it is never answered that there is no such thing.
 pub fn every_history_is_legal()
-    ensures legal { (config : Config) (opening : FinMap nat_cmp ℕ) (events : List Event) → is_good
-        config ≡ true →
-        let m = after_all (at_start config opening) events in
-        Legal (flat opening) (λ core. slice_index_or m.issued core []) m.records }
-    ensures owners { (config : Config) (opening : FinMap nat_cmp ℕ) (events : List Event) → is_good
-        config ≡ true →
-        (line : ℕ) → owners (after_all (at_start config opening) events) line ≤ 1 }
-    ensures coherent { (config : Config) (opening : FinMap nat_cmp ℕ) (events : List Event) →
-        is_good config ≡ true →
-        let m = after_all (at_start config opening) events in
-        (arranged : List Record) → Arrangement m.records arranged → (word : ℕ) →
-        coherent m word ≡ replay_end (flat opening) (map (λ r. r.op) arranged) word }
-    ensures cases { (config : Config) (opening : FinMap nat_cmp ℕ) (events : List Event) → is_good
-        config ≡ true →
-        let m = after_all (at_start config opening) events in
-        AllByRecursion (λ message. has_case m message.1 ≡ true) m.mail.messages }
+    ensures consistent { (config : Config) (opening : FinMap nat_cmp ℕ) (events : List Event) →
+        is_good config ≡ true → IsConsistent (after_all (at_start config opening) events) }
+    ensures opening { (config : Config) (opening : FinMap nat_cmp ℕ) (events : List Event) →
+        (after_all (at_start config opening) events).opening ≡ opening }
     ensures found { (config : Config) (opening : FinMap nat_cmp ℕ) (events : List Event) → is_good
         config ≡ true →
         let m = after_all (at_start config opening) events in

@@ -7,9 +7,5 @@ returns c =
       keeps = c.events_keep_the_invariant.ensures.invariant;
       set_up = c.events_keep_the_invariant.ensures.set_up;
       renumbers = c.renumberings_keep_the_invariant.ensures;
-      legal = c.machines_with_the_invariant_are_consistent.ensures.legal;
-      owners = c.machines_with_the_invariant_are_consistent.ensures.owners;
-      coherent = c.machines_with_the_invariant_are_consistent.ensures.coherent;
-      cases = c.machines_with_the_invariant_are_consistent.ensures.cases;
-      issued = c.machines_with_the_invariant_are_consistent.ensures.issued;
+      consistent = c.machines_with_the_invariant_are_consistent.ensures;
     }

@@ -1,24 +1,18 @@
-use Rattle.machine_theorem.proofs.laws.every_history_is_legal.Goals as goal
 use Rattle.machine_table.specs.Opening.{at_start}
 use Rattle.machine_table.specs.Runs.{after_all}
-use Rattle.machine_theorem.proofs.History.{one_owner, invariant, legal, each_coherent}
-use Rattle.machine_theorem.proofs.FoundCases.{messages_find_cases}
+use Rattle.machine_theorem.proofs.Consistency.{consistent}
 use Rattle.machine_theorem.proofs.Found.{delivery_found}
+use Rattle.machine_theorem.proofs.FoundCases.{messages_find_cases}
+use Rattle.machine_theorem.proofs.History.{invariant}
+use Rattle.machine_theorem.proofs.SetUps.{after_all_same}
+use Rattle.machine_theorem.proofs.laws.every_history_is_legal.Goals as goal
 
-pub returns-clause-legal : goal.returns-clause-legal
-returns-clause-legal c = λ config opening events good. legal config opening events good
+pub returns-clause-consistent : goal.returns-clause-consistent
+returns-clause-consistent c = λ config opening events good. consistent (after_all (at_start config opening) events)
+    (invariant config opening events good)
 
-pub returns-clause-owners : goal.returns-clause-owners
-returns-clause-owners c = λ config opening events good line. one_owner (after_all (at_start config opening) events)
-    (invariant config opening events good) line
-
-pub returns-clause-coherent : goal.returns-clause-coherent
-returns-clause-coherent c = λ config opening events good arranged is word. each_coherent config opening events
-    good arranged is word
-
-pub returns-clause-cases : goal.returns-clause-cases
-returns-clause-cases c = λ config opening events good. messages_find_cases (after_all (at_start config opening)
-    events) (invariant config opening events good)
+pub returns-clause-opening : goal.returns-clause-opening
+returns-clause-opening c = λ config opening events. (after_all_same (at_start config opening) events).opening
 
 pub returns-clause-found : goal.returns-clause-found
 returns-clause-found c = λ config opening events good number message found.

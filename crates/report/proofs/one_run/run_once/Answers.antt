@@ -2,16 +2,17 @@ use Rattle.std.proofs.Common.{◌≡◌, ◌<◌, ℕ, List, [], IfSome, map, ap
 use Rattle.std.specs.Prelude.{slice_index_or}
 use Rattle.std.specs.FinMap.{empty}
 use Rattle.physiological_order.specs.declared.operation.Record.{Record}
-use Rattle.physiological_order.specs.Order.{Arrangement, Legal, replay_end}
+use Rattle.physiological_order.specs.Order.{flat, Arrangement, Legal, replay_end}
 use Rattle.physiological_order.specs.StaleHits.{stale_count}
-use Rattle.litmus_reader.specs.OpeningMemory.{words_opened}
+use Rattle.litmus_reader.specs.OpeningMemory.{words_opened, Words}
 use Rattle.litmus_reader.specs.TestViews.{test_of}
 use Rattle.litmus_reader.specs.ThreadSteps.{Thread}
 use Rattle.machine_table.specs.Machine.{Machine}
 use Rattle.machine_table.specs.Opening.{at_start}
 use Rattle.machine_table.specs.Runs.{after_all}
 use Rattle.machine_theorem.specs.Coherence.{coherent}
-use Rattle.sequential_machine.specs.SequentialMachine.{IsOutcome, memory_opened}
+use Rattle.machine_theorem.specs.Consistency.{IsConsistent}
+use Rattle.sequential_machine.specs.SequentialMachine.{IsOutcome}
 use Rattle.worker_driver.specs.RoundSchedule.{no_round, rounds}
 use Rattle.worker_driver.specs.Runs.{plan_of}
 use Rattle.worker_driver.specs.RunEvents.{Ended, initial}
@@ -68,11 +69,13 @@ returns-clause-outcome c = λ text is.
     (c.as_mut_slice-threads.ensures.value ∙ c.in_ok-started.ensures)
     (subst (λ (k : Machine). AreServed thread_acts k m c.as_mut_slice-threads.result.now threads) first
     c.drive_round-driven.ensures.served) in
-    let legal = subst (λ (k : Machine). Legal (memory_opened test) (λ core. slice_index_or k.issued core [])
-    k.records) (sym after) (c.every_history_is_legal.ensures.legal config words events c.requires.good) in
-    let left_in = subst (λ (k : Machine). (arranged : List Record) → Arrangement k.records arranged → (word : ℕ) →
-    coherent k word ≡ replay_end (memory_opened test) (map (λ r. r.op) arranged) word) (sym after)
-    (c.every_history_is_legal.ensures.coherent config words events c.requires.good) in
+    let consistent = subst IsConsistent (sym after)
+    (c.every_history_is_legal.ensures.consistent config words events c.requires.good) in
+    let opened = ap (λ (k : Machine). k.opening) after ∙ c.every_history_is_legal.ensures.opening config words events in
+    let legal = subst (λ (ws : Words). Legal (flat ws) (λ core. slice_index_or m.issued core []) m.records) opened
+    consistent.legal in
+    let left_in = subst (λ (ws : Words). (arranged : List Record) → Arrangement m.records arranged → (word : ℕ) →
+    coherent m word ≡ replay_end (flat ws) (map (λ r. r.op) arranged) word) opened consistent.coherent in
     subst (λ s. IfSome s (IsOutcome test)) (sym c.in_ok-state.ensures)
     (state_of test c.drive_round-driven.result.end threads m (IsOutcome test) (λ all.
     c.performed_histories_are_sequential.ensures text test _ m.records legal.arranged threads _ is

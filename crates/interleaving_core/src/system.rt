@@ -258,7 +258,7 @@ impl System {
 fn add(answers: &mut Vec<Answer>, answer: Answer)
     requires { length answers.old.items < vec_capacity answers.old }
     ensures items { answers.new.items ≡ answers.old.items ++ answer ∷ [] }
-    ensures room { vec_capacity answers.new ≡ vec_capacity answers.old }
+    ensures capacity { vec_capacity answers.new ≡ vec_capacity answers.old }
 {
     // The types inside an answer are named here for the borrow checker.
     let _inside: (Option<Op>, Option<Record>) = (None, None);

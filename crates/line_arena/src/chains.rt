@@ -154,7 +154,7 @@ impl<T> Chains<T> {
         requires tied { IsTied (emptied cell self.old) }
         requires list { list < length self.old.heads.items }
         requires cell { (cell < self.old.capacity) × IsFilled self.old.block cell }
-        requires room { total self.old.heads.items < 2 ^ 24 }
+        requires more { total self.old.heads.items < 2 ^ 24 }
         ensures tied { IsTied self.new }
         ensures rings { rings_of self.new
             ≡ append_to list (cell, (at self.old.block cell).item) (rings_of (emptied cell

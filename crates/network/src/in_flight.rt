@@ -69,7 +69,8 @@ impl Model for InFlight {
 }
 
 impl InFlight {
-    /// No message in flight, of a machine with 1 to 64 cores and 1 to 8 banks, with room for 1 to 65,536 messages.
+    /// No message in flight, for a machine with 1 to 64 cores and 1 to 8 banks. At most `capacity`, 1 to 65,536, may be
+    /// in flight at once.
     pub fn new(alloc: Global, cores: u32, banks: u32, capacity: u32) -> InFlight
         requires { IsInRange cores banks capacity }
         ensures { result ≡ record {
@@ -117,7 +118,7 @@ impl InFlight {
         message_of(&self.slots, number.0)
     }
 
-    /// Makes room for one more message, so that the next `send` is not refused for memory.
+    /// Reserves memory for one more message, so that the next `send` is not refused for memory.
     pub fn reserve(&mut self) -> Result<(), AllocError>
         ensures after { self.new ≡ record self.old { reserved = self.new.reserved } }
         ensures ok { OnOk result (0 < self.new.reserved) }

@@ -124,7 +124,7 @@ pub(crate) fn drop_empty(slots: &mut Vec<Slot>, count: usize)
     ensures same { still_there slots.new.items ≡ still_there slots.old.items }
     ensures rising { (high : ℕ) → IsRising 0 slots.old.items high →
         IsRising 0 slots.new.items high }
-    ensures room { vec_capacity slots.old - vec_len slots.old ≤ vec_capacity
+    ensures reserved { vec_capacity slots.old - vec_len slots.old ≤ vec_capacity
         slots.new - vec_len slots.new }
 {
     if slots.len() / 2 > count {
@@ -148,11 +148,11 @@ pub(crate) fn take_message(slots: &mut Vec<Slot>, number: u64) -> Option<Message
     empty_slot(slots, at, number)
 }
 
-/// Makes room for one more slot.
+/// Reserves memory for one more slot.
 pub(crate) fn reserve_slot(slots: &mut Vec<Slot>) -> Result<(), AllocError>
     ensures items { slots.new.items ≡ slots.old.items }
     ensures ok { OnOk result (vec_len slots.new < vec_capacity slots.new) }
-    ensures room { vec_capacity slots.old - vec_len slots.old ≤ vec_capacity
+    ensures reserved { vec_capacity slots.old - vec_len slots.old ≤ vec_capacity
         slots.new - vec_len slots.new }
     ensures same { OnErr result (vec_capacity slots.new - vec_len slots.new ≡ vec_capacity
         slots.old - vec_len slots.old) }

@@ -41,6 +41,14 @@ module _ {P S : Type 0} (plan : Plan P S) (start : Position P S) (m : Machine) (
       let more : (made == plan.limit) ≡ false = ne_eqb made plan.limit (λ same. omega (arith, below, same)) in
       moves before (ap (begin plan (position (at m programs log own Before) made)) over ∙ rw more refl)
 
+  -- the same, of what the code's turn begins with
+  pub turn_begun : (programs_now : List P) (log_now : Log) (own_now : S) → AtStart → programs_now ≡ programs →
+      log_now ≡ record log { has_progressed = false } → own_now ≡ plan.schedule.first own →
+      are_over plan.acts m programs m.config.cores ≡ false → made < plan.limit →
+      Follows plan start log_now.events (position (at m programs_now log_now own_now Within) made)
+  turn_begun programs_now log_now own_now before same noted first over below =
+      rw (same, noted, first) (begun before over below)
+
   abbrev AtEnd : Type 0
   AtEnd = Follows plan start log.events (position (at m programs log own Within) made)
 

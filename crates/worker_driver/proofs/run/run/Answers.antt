@@ -1,8 +1,7 @@
 use Rattle.std.proofs.Common.{arith, sym}
-use Rattle.worker_driver.specs.Runs.{Plan, Position, Within, plan_of}
-use Rattle.worker_driver.specs.RunEvents.{Follows, stays, initial}
-use Rattle.worker_driver.specs.Notes.{at, position}
-use Rattle.worker_driver.proofs.TurnEnds.{all_done, turns_used, begun, stalled, turn_over}
+use Rattle.worker_driver.specs.Runs.{plan_of}
+use Rattle.worker_driver.specs.RunEvents.{stays, initial}
+use Rattle.worker_driver.proofs.TurnEnds.{all_done, turns_used, turn_begun, stalled, turn_over}
 use Rattle.worker_driver.proofs.run.run.Goals as goal
 
 pub loop-made-init : goal.loop-made-init
@@ -22,11 +21,9 @@ returns-in-Err g c =
     let l = c.loop-made in
     let plan = plan_of g.P.Program.acts g.S.Schedule.rule a.limit in
     let start = initial a.system.now a.programs.now a.schedule.now in
-    let began : Follows plan start c.begin_turn.new.self.events
-    (position (at l.system c.are_over.new.programs c.begin_turn.new.self c.begin.new.self Within) l._made) =
-    rw (c.begin_turn.ensures, c.begin.ensures, c.are_over.ensures.same) (begun plan start l.system l.programs l.log
-    l.schedule l._made l.invariant (rw c.cores.ensures.cores at (sym c.if-are_over.ensures.over))
-    c.loop-made-test.true) in
+    let began = turn_begun plan start l.system l.programs l.log l.schedule l._made c.are_over.new.programs
+    c.begin_turn.new.self c.begin.new.self l.invariant c.are_over.ensures.same c.begin_turn.ensures c.begin.ensures
+    (rw c.cores.ensures.cores at (sym c.if-are_over.ensures.over)) c.loop-made-test.true in
     c.in-Err.ensures.led a.limit start l._made began
 
 pub returns-then-is_last : goal.returns-then-is_last
@@ -35,11 +32,9 @@ returns-then-is_last g c =
     let l = c.loop-made in
     let plan = plan_of g.P.Program.acts g.S.Schedule.rule a.limit in
     let start = initial a.system.now a.programs.now a.schedule.now in
-    let began : Follows plan start c.begin_turn.new.self.events
-    (position (at l.system c.are_over.new.programs c.begin_turn.new.self c.begin.new.self Within) l._made) =
-    rw (c.begin_turn.ensures, c.begin.ensures, c.are_over.ensures.same) (begun plan start l.system l.programs l.log
-    l.schedule l._made l.invariant (rw c.cores.ensures.cores at (sym c.if-are_over.ensures.over))
-    c.loop-made-test.true) in
+    let began = turn_begun plan start l.system l.programs l.log l.schedule l._made c.are_over.new.programs
+    c.begin_turn.new.self c.begin.new.self l.invariant c.are_over.ensures.same c.begin_turn.ensures c.begin.ensures
+    (rw c.cores.ensures.cores at (sym c.if-are_over.ensures.over)) c.loop-made-test.true in
     let n = c.turn.new in
     stalled plan start n.system n.programs n.log n.schedule l._made
     (c.in_default.ensures.led a.limit start l._made began) c.in_default.ensures.over (sym c.if-is_last.ensures)
@@ -50,11 +45,9 @@ loop-made-preserved g c =
     let l = c.loop-made in
     let plan = plan_of g.P.Program.acts g.S.Schedule.rule a.limit in
     let start = initial a.system.now a.programs.now a.schedule.now in
-    let began : Follows plan start c.begin_turn.new.self.events
-    (position (at l.system c.are_over.new.programs c.begin_turn.new.self c.begin.new.self Within) l._made) =
-    rw (c.begin_turn.ensures, c.begin.ensures, c.are_over.ensures.same) (begun plan start l.system l.programs l.log
-    l.schedule l._made l.invariant (rw c.cores.ensures.cores at (sym c.if-are_over.ensures.over))
-    c.loop-made-test.true) in
+    let began = turn_begun plan start l.system l.programs l.log l.schedule l._made c.are_over.new.programs
+    c.begin_turn.new.self c.begin.new.self l.invariant c.are_over.ensures.same c.begin_turn.ensures c.begin.ensures
+    (rw c.cores.ensures.cores at (sym c.if-are_over.ensures.over)) c.loop-made-test.true in
     let n = c.turn.new in
     turn_over plan start n.system n.programs n.log n.schedule l._made
     (c.in_default.ensures.led a.limit start l._made began) c.in_default.ensures.over (sym c.if-is_last.ensures)

@@ -2,7 +2,7 @@
 use Rattle.std.proofs.Common.{◌≡◌, ◌≢◌, ℕ, suc, ◌+◌, ◌<◌, ◌≤◌, Bool, true, false, cond, eqb, List, [], ◌∷◌, ◌++◌, length}
 use Rattle.std.proofs.Common.{Some, None, refl, sym, ap, ◌∙◌, arith, ⊎_elim}
 use Rattle.std.specs.Option.{is_some}
-use Rattle.std.proofs.lemmas.Bool.{cases_Bool, cases_eq, cond-true, cond-false, eq-eqb, ne_eqb, eqb-true}
+use Rattle.std.proofs.lemmas.Bool.{cases_Bool, cases_eq, cond-true, cond-false, eq-eqb, ne_eqb}
 use Rattle.line_sets.specs.Order.{find, is_there, put_in_place, put_last, without, IsDistinct}
 
 -- a line taken out
@@ -163,13 +163,6 @@ length-push : {X : Type 0} (ps : List (ℕ × X)) (p : ℕ × X) → length (ps 
 length-push [] p = omega arith
 length-push (q ∷ ps) p = omega (arith, length-push ps p)
 
-pub length-put_last_there :
-    {X : Type 0} (ps : List (ℕ × X)) (l : ℕ) (x : X) → is_there ps l ≡ true → length (put_last ps l x) ≤ length ps
-length-put_last_there ps l x h = omega (arith, length-push (without ps l) (l, x), length-without_there ps l h)
-
-pub length-put_last_le : {X : Type 0} (ps : List (ℕ × X)) (l : ℕ) (x : X) → length (put_last ps l x) ≤ length ps + 1
-length-put_last_le ps l x = omega (arith, length-push (without ps l) (l, x), length-without_le ps l)
-
 -- no line comes twice
 there_without : {X : Type 0} (ps : List (ℕ × X)) (l j : ℕ) → is_there ps j ≡ false → is_there (without ps l) j ≡ false
 there_without ps l j h =
@@ -208,31 +201,3 @@ pub IsDistinct-put_last :
     {X : Type 0} (ps : List (ℕ × X)) (l : ℕ) (x : X) → IsDistinct ps → IsDistinct (put_last ps l x)
 IsDistinct-put_last ps l x h =
     IsDistinct-push (without ps l) l x (IsDistinct-without ps l h) (ap is_some (find-without_same ps l))
-
-there_put_in_place :
-    {X : Type 0} (ps : List (ℕ × X)) (l j : ℕ) (x : X) → is_there ps j ≡ false →
-    is_there (put_in_place ps l x) j ≡ false
-there_put_in_place [] l j x h = refl
-there_put_in_place (p ∷ ps) l j x h = go (eqb p.0 l) refl (eqb p.0 j) refl h (there_put_in_place ps l j x)
-  where
-    go :
-        (b : Bool) → eqb p.0 l ≡ b → (c : Bool) → eqb p.0 j ≡ c → is_some (cond c (Some p.1) (find ps j)) ≡ false →
-        (is_there ps j ≡ false → is_there (put_in_place ps l x) j ≡ false) →
-        is_there (cond b ((l, x) ∷ ps) (p ∷ put_in_place ps l x)) j ≡ false
-    go b e true f i rest = cc
-    go true e false f i rest =
-        let same : p.0 ≡ l = eqb-true p.0 l e in
-        ap is_some (cond-false (eqb l j) (Some x) (find ps j) (rw (← same) f)) ∙ i
-    go false e false f i rest =
-        ap is_some (cond-false (eqb p.0 j) (Some p.1) (find (put_in_place ps l x) j) f) ∙ rest i
-
-pub IsDistinct-put_in_place :
-    {X : Type 0} (ps : List (ℕ × X)) (l : ℕ) (x : X) → IsDistinct ps → IsDistinct (put_in_place ps l x)
-IsDistinct-put_in_place [] l x h = tt
-IsDistinct-put_in_place (p ∷ ps) l x h = go (eqb p.0 l) refl (IsDistinct-put_in_place ps l x h.1)
-  where
-    go :
-        (b : Bool) → eqb p.0 l ≡ b → IsDistinct (put_in_place ps l x) →
-        IsDistinct (cond b ((l, x) ∷ ps) (p ∷ put_in_place ps l x))
-    go true e rest = let same : p.0 ≡ l = eqb-true p.0 l e in (rw (← same) h.0, h.1)
-    go false e rest = (there_put_in_place ps l p.0 x h.0, rest)

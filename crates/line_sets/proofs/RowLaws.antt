@@ -1,6 +1,6 @@
 -- What a table of rows keeps when one of them is written, or a set gets its row.
 use Rattle.std.proofs.Common.{◌≡◌, ◌≢◌, ℕ, zero, suc, ◌+◌, ◌<◌, ◌≤◌, List, [], ◌∷◌, ◌++◌, length, get_or, set, map}
-use Rattle.std.proofs.Common.{Option, Some, None, refl, sym, ap, ◌∙◌, arith, ⊎_elim, inl, inr, length-set}
+use Rattle.std.proofs.Common.{Option, Some, None, refl, sym, ap, ◌∙◌, arith, ⊎_elim, length-set}
 use Rattle.std.proofs.Common.{get_or-set_same, get_or-set_other, replicate}
 use Rattle.std.proofs.lemmas.List.{get_or-map, length-map, map-set, ext_get_or, length_push, get_or_push, map_push}
 use Rattle.std.proofs.lemmas.List.{get_or_append_left, get_or_read, length-replicate}
@@ -66,19 +66,6 @@ rows-written places rows capacity i k w spread h at =
     ∙ sym (get_or-map f places j None [] jl)
     ∙ sym (get_or-set_other (map f places) i j w.items [] ne))
     (cases_eq j i))
-
-pub spread-written :
-    (places : List (Option ℕ)) (rows : List (ArrayVec (ℕ × ℕ))) (capacity k : ℕ) (w : ArrayVec (ℕ × ℕ)) →
-    IsSpread places rows capacity → IsSpread places (set rows k w) capacity
-spread-written places rows capacity k w spread =
-    let same : length (set rows k w) ≡ length rows = length-set rows k w in
-    record {
-      below = λ i m e. (let b = spread.below i m e in omega (arith, same));
-      own = spread.own;
-      counted = (let c = spread.counted in omega (arith, same));
-      room = spread.room;
-      small = spread.small;
-    }
 
 -- a set gets a row of its own
 seen-new :

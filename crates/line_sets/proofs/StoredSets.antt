@@ -1,18 +1,18 @@
 -- What a table keeps when one cell is put, written, moved or taken off, and what its sets are then.
-use Rattle.std.proofs.Common.{◌≡◌, ◌≢◌, ℕ, zero, suc, ◌+◌, ◌*◌, ◌-◌, ◌<◌, ◌≤◌, ◌⊎◌, inl, inr, true, false, ltb, List, [], ◌∷◌}
+use Rattle.std.proofs.Common.{◌≡◌, ◌≢◌, ℕ, zero, suc, ◌*◌, ◌<◌, ◌≤◌, inl, inr, true, false, ltb, List, [], ◌∷◌}
 use Rattle.std.proofs.Common.{◌++◌, map, length, get_or, set, replicate, Option, Some, None, refl, sym, ap, ◌∙◌, arith}
 use Rattle.std.proofs.Common.{⊎_elim, length-set, get_or-set_same, get_or-set_other, sum_by, if◌then◌else◌}
 use Rattle.std.specs.Prelude.{Result, Ok, Err, IsOk, IsErr, IfOk, IfSome}
 use Rattle.std.specs.Option.{is_some}
 use Rattle.std.proofs.lemmas.Bool.{cases_eq, ltb-true, or_cases, eq-eqb, ne_eqb}
-use Rattle.std.proofs.lemmas.List.{get_or-map, length-map, map-set, ext_get_or, set-set, set-get_or, length-replicate}
+use Rattle.std.proofs.lemmas.List.{get_or-map, length-map, map-set, ext_get_or, set-set, set-get_or}
 use Rattle.std.proofs.lemmas.List.Sums.{sum_by-cons}
 use Rattle.line_arena.specs.CellLists.{find_cell, look_up, append_to, rewritten}
 use Rattle.line_arena.specs.CellLists as cell
 use Rattle.line_arena.specs.Arenas.{Lists, lists_of, pushed, unlinked, free_cells, cell_in, IsOnce}
 use Rattle.line_arena.specs.ListLaws.{LookUpLaws, WithoutLaws}
-use Rattle.line_sets.specs.Order.{find, is_there, put_last, put_in_place, without, IsDistinct}
-use Rattle.line_sets.specs.SetTable.{Sets, set_at, look, has_place, has_room, put, put_within, drop_line, empty_sets}
+use Rattle.line_sets.specs.Order.{find, is_there, put_last, put_in_place, without}
+use Rattle.line_sets.specs.SetTable.{Sets, set_at, look, has_place, put, put_within, drop_line}
 use Rattle.line_sets.specs.Stored.{entries_of, tags_of, sets_of, Fits, IsStored}
 use Rattle.line_sets.proofs.Indices.{missing-find, missing-without}
 use Rattle.line_sets.proofs.OrderLaws.{without-put_in_place}
@@ -120,7 +120,7 @@ module _ {X : Type 0} where
             ]) ∙ sym (get_or-set_other ls i j new [] ne)
       ]))
 
-  cut-lists : (ls : List (List (ℕ × (ℕ × X)))) (i c : ℕ) → IsOnce ls → WithoutLaws (ℕ × X) →
+  pub cut-lists : (ls : List (List (ℕ × (ℕ × X)))) (i c : ℕ) → IsOnce ls → WithoutLaws (ℕ × X) →
       is_some (find_cell c (get_or ls i [])) ≡ true → map (cell.without c) ls ≡ set ls i
       (cell.without c (get_or ls i []))
   cut-lists ls i c once laws there =
@@ -298,7 +298,7 @@ module _ {X : Type 0} where
   cell-in-written (a ∷ xs) c zero w = refl
   cell-in-written (a ∷ xs) c (suc i) w = cell-in-written xs c i w
 
-  once-written : (ls : List (List (ℕ × (ℕ × X)))) (c : ℕ) (w : ℕ × X) → IsOnce ls → IsOnce (map (rewritten c w) ls)
+  pub once-written : (ls : List (List (ℕ × (ℕ × X)))) (c : ℕ) (w : ℕ × X) → IsOnce ls → IsOnce (map (rewritten c w) ls)
   once-written ls c w once =
       let at : (l i : ℕ) → cell_in (get_or (map (rewritten c w) ls) l []) i ≡ cell_in (get_or ls l []) i =
       λ l i. ap (λ us. cell_in us i) (map-at (rewritten c w) refl ls l) ∙ cell-in-written (get_or ls l []) c i w in
@@ -317,7 +317,7 @@ module _ {X : Type 0} where
   abbrev pub written-in : ℕ → ℕ × X → Lists (ℕ × X) → Lists (ℕ × X)
   written-in c w a = lists_of (map (rewritten c w) a.lists) a.cells
 
-  written-here : (ways : ℕ) (a : Lists (ℕ × X)) (rows : List (List (ℕ × ℕ))) (i line c : ℕ) (w : X) →
+  pub written-here : (ways : ℕ) (a : Lists (ℕ × X)) (rows : List (List (ℕ × ℕ))) (i line c : ℕ) (w : X) →
       IsStored ways a rows → IsOnce a.lists → LookUpLaws (ℕ × X) → i < length a.lists →
       find (set_at rows i) line ≡ Some c → find_cell c (get_or (map (rewritten c (line, w)) a.lists) i []) ≡ Some
       (line, w)

@@ -1,7 +1,7 @@
 -- One set's cells: what is known of a line by its cell, and what each change of a cell makes of the lines.
-use Rattle.std.proofs.Common.{◌≡◌, ◌≢◌, ℕ, zero, suc, ◌+◌, ◌<◌, ◌≤◌, ◌⊎◌, inl, inr, Bool, true, false, cond, eqb}
-use Rattle.std.proofs.Common.{true≢false, List, [], ◌∷◌, ◌++◌, map, length, nat_eq, if◌then◌else◌, Option, Some, None}
-use Rattle.std.proofs.Common.{refl, sym, ap, ◌∙◌, arith, ⊎_elim}
+use Rattle.std.proofs.Common.{◌≡◌, ◌≢◌, ℕ, suc, ◌+◌, ◌<◌, ◌⊎◌, inl, inr, Bool, true, false, cond, eqb}
+use Rattle.std.proofs.Common.{true≢false, List, [], ◌∷◌, ◌++◌, map, length, if◌then◌else◌, Option, Some, None}
+use Rattle.std.proofs.Common.{refl, sym, ap, ◌∙◌, arith}
 use Rattle.std.specs.Option.{is_some}
 use Rattle.std.proofs.lemmas.Bool.{cases_eq, cond-true, cond-false, eq-eqb, ne_eqb}
 use Rattle.std.proofs.lemmas.List.{length-map, length_push, map_push}
@@ -10,9 +10,9 @@ use Rattle.line_arena.specs.CellLists as cell
 use Rattle.line_arena.specs.Arenas.{cell_in}
 use Rattle.line_sets.specs.Order.{find, is_there, put_last, put_in_place, without, IsDistinct}
 use Rattle.line_sets.specs.Stored.{entries_of, tags_of, Fits}
-use Rattle.line_sets.proofs.Indices.{missing-find, missing-without}
+use Rattle.line_sets.proofs.Indices.{missing-without}
 use Rattle.line_sets.proofs.OrderLaws.{find-put_last_same, find-put_last_other, find-without_same, find-without_other}
-use Rattle.line_sets.proofs.OrderLaws.{length-without_there, length-put_last_le, IsDistinct-put_last}
+use Rattle.line_sets.proofs.OrderLaws.{length-without_there, IsDistinct-put_last}
 use Rattle.line_sets.proofs.OrderLaws.{IsDistinct-without, length-without_exact}
 
 module _ {X : Type 0} where
@@ -24,7 +24,7 @@ module _ {X : Type 0} where
   here : (x : ℕ) (a : ℕ × X) (xs : List (ℕ × X)) → a.0 ≡ x → find_cell x (a ∷ xs) ≡ Some a.1
   here x a xs e = ap (λ b. if b then Some a.1 else find_cell x xs) (eq-eqb a.0 x e)
 
-  past : (x : ℕ) (a : ℕ × X) (xs : List (ℕ × X)) → a.0 ≢ x → find_cell x (a ∷ xs) ≡ find_cell x xs
+  pub past : (x : ℕ) (a : ℕ × X) (xs : List (ℕ × X)) → a.0 ≢ x → find_cell x (a ∷ xs) ≡ find_cell x xs
   past x a xs ne = ap (λ b. if b then Some a.1 else find_cell x xs) (ne_eqb a.0 x ne)
 
   place_of : (x : ℕ) (xs : List (ℕ × X)) → is_some (find_cell x xs) ≡ true → (i : ℕ) × (cell_in xs i ≡ Some x)
@@ -129,15 +129,15 @@ module _ {X : Type 0} where
   on-line [] line c once h = cc
   on-line (a ∷ xs) line c once h = elim (cases_eq a.1.0 line) [
     | inl e ↦ record {
-        value = a.1.1;
-        cell = here c a xs (first-cell a xs line c h e) ∙ ap (λ l. Some (l, a.1.1)) e;
-        entry = cond-true (eqb a.1.0 line) (Some a.1.1) (find (entries_of xs) line) (eq-eqb a.1.0 line e);
-      }
+      value = a.1.1;
+      cell = here c a xs (first-cell a xs line c h e) ∙ ap (λ l. Some (l, a.1.1)) e;
+      entry = cond-true (eqb a.1.0 line) (Some a.1.1) (find (entries_of xs) line) (eq-eqb a.1.0 line e);
+    }
     | inr ne ↦ (let r = on-line xs line c once.1 (later-tag a xs line c h ne) in record {
-        value = r.value;
-        cell = past c a xs (other a xs line c r once.0) ∙ r.cell;
-        entry = cond-false (eqb a.1.0 line) (Some a.1.1) (find (entries_of xs) line) (ne_eqb a.1.0 line ne) ∙ r.entry;
-      })
+      value = r.value;
+      cell = past c a xs (other a xs line c r once.0) ∙ r.cell;
+      entry = cond-false (eqb a.1.0 line) (Some a.1.1) (find (entries_of xs) line) (ne_eqb a.1.0 line ne) ∙ r.entry;
+    })
   ]
 
   -- a line is there by its cell as by its value

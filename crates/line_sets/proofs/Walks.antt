@@ -1,28 +1,31 @@
 -- One set's list, cell by cell.
-use Rattle.std.proofs.Common.{◌≡◌, ◌≢◌, ℕ, zero, suc, ◌+◌, ◌<◌, ◌≤◌, Bool, true, false, cond, List, [], ◌∷◌, ◌++◌, map}
-use Rattle.std.proofs.Common.{length, get_or, drop, nat_eq, if◌then◌else◌, Option, Some, None, refl, sym, ap, ◌∙◌, arith}
-use Rattle.std.proofs.Common.{inl, inr, IsSome}
+use Rattle.std.proofs.Common.{◌≡◌, ◌≢◌, ℕ, zero, suc, ◌+◌, Bool, true, false, cond, List, [], ◌∷◌, ◌++◌, map}
+use Rattle.std.proofs.Common.{get_or, drop, if◌then◌else◌, Option, Some, None, refl, sym, ap, ◌∙◌, arith}
+use Rattle.std.proofs.Common.{inl, inr, ◌<◌, set, length, get_or-set_same}
 use Rattle.std.specs.Option.{is_some, option_map}
 use Rattle.std.specs.List as list
 use Rattle.std.proofs.lemmas.Bool.{cases_eq, eq-eqb, ne_eqb}
-use Rattle.std.proofs.lemmas.List.{drop-drop, drop_all, append-nil, append_assoc}
-use Rattle.line_arena.specs.CellLists.{find_cell, look_up, first_cell, next_in, next_cell, or_else, first_some}
-use Rattle.line_arena.specs.Arenas.{IsOnce}
-use Rattle.line_arena.specs.ListLaws.{LookUpLaws}
-use Rattle.line_sets.specs.Order.{first_where, listed, oldest}
-use Rattle.line_sets.specs.SetTable.{set_at}
-use Rattle.line_sets.specs.Stored.{entries_of, sets_of}
-use Rattle.line_sets.proofs.StoredSets.{apart, entries-at}
-use Rattle.line_sets.proofs.TaggedCells.{CellsOnce, none_or_some}
+use Rattle.std.proofs.lemmas.List.{drop-drop, append_assoc, length-map, set-set, set-get_or}
+use Rattle.line_arena.specs.CellLists.{find_cell, look_up, first_cell, next_in, next_cell, or_else}
+use Rattle.line_arena.specs.CellLists.{append_to, rewritten}
+use Rattle.line_arena.specs.CellLists as cell
+use Rattle.line_arena.specs.Arenas.{Lists, lists_of, IsOnce}
+use Rattle.line_arena.specs.ListLaws.{LookUpLaws, WithoutLaws}
+use Rattle.line_sets.specs.Order.{find, first_where, listed, oldest}
+use Rattle.line_sets.specs.SetTable.{set_at, put}
+use Rattle.line_sets.specs.Stored.{entries_of, sets_of, IsStored}
+use Rattle.line_sets.proofs.StoredSets.{apart, Becomes, cut-lists, once-written, used, written-here, written-in}
+use Rattle.line_sets.proofs.TaggedCells.{CellsOnce, none_or_some, past}
 
 or-none : (o : Option ℕ) → or_else o None ≡ o
 or-none None = refl
 or-none (Some x) = refl
 
-module _ {X : Type 0} where
-  past : (x : ℕ) (a : ℕ × X) (xs : List (ℕ × X)) → a.0 ≢ x → find_cell x (a ∷ xs) ≡ find_cell x xs
-  past x a xs ne = ap (λ b. if b then Some a.1 else find_cell x xs) (ne_eqb a.0 x ne)
+pub is-none : {Y : Type 0} (o : Option Y) → is_some o ≡ false → o ≡ None
+is-none None e = refl
+is-none (Some y) e = cc
 
+module _ {X : Type 0} where
   -- a cell that isn't on a list has none after it there
   next-none : (x : ℕ) (xs : List (ℕ × X)) → find_cell x xs ≡ None → next_in x xs ≡ None
   next-none x [] h = refl
@@ -80,7 +83,7 @@ module _ {X : Type 0} where
   at-place (b ∷ xs) (suc k) c v zs once e =
       let r = at-place xs k c v zs once.1 e in
       let ne : b.0 ≢ c = λ same. (let two : Some v ≡ None =
-          sym r.found ∙ ap (λ x. find_cell x xs) (sym same) ∙ once.0 in cc) in
+      sym r.found ∙ ap (λ x. find_cell x xs) (sym same) ∙ once.0 in cc) in
       record {
         found = past c b xs ne ∙ r.found;
         next = ap (λ t. if t then first_cell xs else next_in c xs) (ne_eqb b.0 c ne) ∙ r.next;
@@ -112,11 +115,6 @@ module _ {X : Type 0} where
           | inr some ↦ absurd (ne (laws.one ls m i c once some here))
         ]) ∙ place.next ∙ ap first_cell (sym left);
       }
-
-  -- a walk that is over
-  pub over : (ys : List (ℕ × (ℕ × X))) → first_cell ys ≡ None → ys ≡ []
-  over [] e = refl
-  over (a ∷ ys) e = cc
 
   -- the line that a cell has
   pub line-of : (ys : List (ℕ × (ℕ × X))) (c : ℕ) (p q : ℕ × X) (zs : List (ℕ × (ℕ × X))) → ys ≡ (c, q) ∷ zs →
@@ -169,3 +167,54 @@ module _ {X : Type 0} where
       lines ++ listed passes rest ≡ all
   not-added passes lines all es rest line x e h g =
       ap (λ us. lines ++ us) (sym (listed-fails passes es rest line x e h)) ∙ g
+
+  -- a walk that is over
+  over : (ys : List (ℕ × (ℕ × X))) → first_cell ys ≡ None → ys ≡ []
+  over [] e = refl
+  over (a ∷ ys) e = cc
+
+  -- a cell with none after it is the last of its list
+  last-is : (xs : List (ℕ × (ℕ × X))) (c : ℕ) (v : ℕ × X) → find_cell c xs ≡ Some v → next_in c xs ≡ None →
+      CellsOnce xs → cell.without c xs ++ (c, v) ∷ [] ≡ xs
+  last-is [] c v h n once = cc
+  last-is (a ∷ xs) c v h n once = elim (cases_eq a.0 c) [
+    | inl e ↦
+        let value : Some a.1 ≡ Some v =
+        sym (ap (λ b. if b then Some a.1 else find_cell c xs) (eq-eqb a.0 c e)) ∙ h in
+        let none : first_cell xs ≡ None =
+        sym (ap (λ b. if b then first_cell xs else next_in c xs) (eq-eqb a.0 c e)) ∙ n in
+        let empty : xs ≡ [] = over xs none in
+        let same : a.1 ≡ v = cc in
+        ap (λ b. (if b then cell.without c xs else a ∷ cell.without c xs) ++ (c, v) ∷ []) (eq-eqb a.0 c e)
+        ∙ ap (λ us. cell.without c us ++ (c, v) ∷ []) empty
+        ∙ ap (λ i. (i, v) ∷ []) (sym e) ∙ ap (λ w. (a.0, w) ∷ []) (sym same) ∙ ap (λ us. a ∷ us) (sym empty)
+    | inr ne ↦
+        ap (λ b. (if b then cell.without c xs else a ∷ cell.without c xs) ++ (c, v) ∷ []) (ne_eqb a.0 c ne)
+        ∙ ap (λ us. a ∷ us) (last-is xs c v (sym (past c a xs ne) ∙ h)
+        (sym (ap (λ b. if b then first_cell xs else next_in c xs) (ne_eqb a.0 c ne)) ∙ n) once.1)
+  ]
+
+  -- a line that is there and the most recently used one stays where it is
+  pub used-last : (ways : ℕ) (a : Lists (ℕ × X)) (rows : List (List (ℕ × ℕ))) (i line c : ℕ) (w : X) →
+      IsStored ways a rows → IsOnce a.lists → LookUpLaws (ℕ × X) → WithoutLaws (ℕ × X) → i < length a.lists →
+      find (set_at rows i) line ≡ Some c → next_cell c (written-in c (line, w) a).lists ≡ None →
+      Becomes ways (written-in c (line, w) a) rows (put (sets_of a.lists) i line w)
+  used-last ways a rows i line c w stored once finds laws h e last =
+      let ls : List (List (ℕ × (ℕ × X))) = map (rewritten c (line, w)) a.lists in
+      let xs : List (ℕ × (ℕ × X)) = get_or ls i [] in
+      let here : find_cell c xs ≡ Some (line, w) = written-here ways a rows i line c w stored once finds h e in
+      let again : IsOnce ls = once-written a.lists c (line, w) once in
+      let there : is_some (find_cell c xs) ≡ true = ap is_some here in
+      let long : length ls ≡ length a.lists = length-map a.lists (rewritten c (line, w)) in
+      let none : next_in c xs ≡ None = sym (next-on c ls i (λ m ne. elim (none_or_some c (get_or ls m [])) [
+        | inl no_cell ↦ no_cell
+        | inr some ↦ absurd (ne (finds.one ls m i c again some there))
+      ])) ∙ last in
+      let cut : List (ℕ × (ℕ × X)) = cell.without c xs in
+      let whole : cut ++ (c, (line, w)) ∷ [] ≡ xs = last-is xs c (line, w) here none (apart ls i again) in
+      let same : append_to i (c, (line, w)) (map (cell.without c) ls) ≡ ls =
+      ap (append_to i (c, (line, w))) (cut-lists ls i c again laws there)
+      ∙ ap (λ us. set (set ls i cut) i (us ++ (c, (line, w)) ∷ [])) (get_or-set_same ls i cut [] (omega (arith, long)))
+      ∙ set-set ls i cut (cut ++ (c, (line, w)) ∷ []) ∙ ap (λ us. set ls i us) whole ∙ set-get_or ls i [] in
+      used ways a (written-in c (line, w) a) rows i line c w stored once finds laws h e
+      (ap (λ us. lists_of us a.cells) (sym same))

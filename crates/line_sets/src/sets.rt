@@ -143,6 +143,9 @@ impl<V: Copy> LineSets<V> {
             return;
         };
         *self.arena.get_mut(Cell(cell)) = (line, value);
+        if self.arena.next(Cell(cell)).is_none() {
+            return;
+        }
         self.arena.move_to_back(set as u32, Cell(cell));
     }
 

@@ -1,6 +1,6 @@
-use Rattle.std.proofs.Common.{◌≡◌, ◌<◌, length, get_or, Some, None, sym, ap, ◌∙◌, arith}
+use Rattle.std.proofs.Common.{◌<◌, length, sym, ap, ◌∙◌, arith}
 use Rattle.line_sets.specs.Order.{find}
-use Rattle.line_sets.proofs.RowLaws.{below-of, place-read, row-none, row-some}
+use Rattle.line_sets.proofs.RowLaws.{below-of, place-read, row-some}
 use Rattle.line_sets.proofs.rows.Rows.find.Goals as goal
 
 pub index-requires-in-Some : goal.index-requires-in-Some

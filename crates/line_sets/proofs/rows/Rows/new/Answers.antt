@@ -1,5 +1,4 @@
-use Rattle.std.proofs.Common.{◌≡◌, ap, ◌∙◌, arith, None, replicate, ℕ, [], List}
-use Rattle.line_sets.specs.RowPlaces.{rows_of, row_at, items_of}
+use Rattle.std.proofs.Common.{◌≡◌, ap, ◌∙◌, arith, None, replicate}
 use Rattle.line_sets.proofs.RowLaws.{spread-empty, rows-empty}
 use Rattle.line_sets.proofs.rows.Rows.new.Goals as goal
 

@@ -1,4 +1,4 @@
-use Rattle.std.proofs.Common.{◌≡◌, ◌≤◌, Option, None, replicate, vec_capacity, ℕ}
+use Rattle.std.proofs.Common.{◌≡◌, ◌≤◌, None, replicate, vec_capacity}
 use Rattle.line_sets.proofs.rows.Rows.new.Given as goal
 
 abbrev pub invariant-loop : goal.invariant-loop

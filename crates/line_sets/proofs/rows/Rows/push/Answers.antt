@@ -1,8 +1,8 @@
-use Rattle.std.proofs.Common.{◌≡◌, ◌<◌, ◌+◌, ◌∷◌, ◌++◌, [], get_or, length, Some, None, sym, ap, ◌∙◌, arith, set}
+use Rattle.std.proofs.Common.{◌≡◌, ◌<◌, ◌∷◌, ◌++◌, [], length, sym, ap, ◌∙◌, arith, set}
 use Rattle.line_sets.specs.SetTable.{set_at}
 use Rattle.line_sets.specs.RowPlaces.{rows_of}
 use Rattle.line_sets.proofs.RowLaws.{below-of, place-read, no-place, room-for, spread-more, rows-more, row-none}
-use Rattle.line_sets.proofs.RowLaws.{row-some, rows-written, spread-written}
+use Rattle.line_sets.proofs.RowLaws.{row-some, rows-written}
 use Rattle.line_sets.proofs.rows.Rows.push.Goals as goal
 
 pub push_reserved-requires : goal.push_reserved-requires

@@ -1,5 +1,5 @@
-use Rattle.std.proofs.Common.{◌≡◌, ◌<◌, length, get_or, Some, None, sym, ap, ◌∙◌, arith, set}
-use Rattle.line_sets.specs.Order.{find, without, IsDistinct}
+use Rattle.std.proofs.Common.{◌<◌, length, sym, ap, ◌∙◌, arith, set}
+use Rattle.line_sets.specs.Order.{find, without}
 use Rattle.line_sets.specs.RowPlaces.{rows_of}
 use Rattle.line_sets.proofs.RowLaws.{below-of, place-read, row-some, rows-written}
 use Rattle.line_sets.proofs.rows.Rows.take.Goals as goal

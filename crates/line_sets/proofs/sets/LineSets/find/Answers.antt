@@ -1,4 +1,4 @@
-use Rattle.std.proofs.Common.{◌≡◌, ◌<◌, length, Some, None, refl, sym, ap, ◌∙◌}
+use Rattle.std.proofs.Common.{sym, ap, ◌∙◌}
 use Rattle.std.specs.Option.{is_some}
 use Rattle.line_sets.proofs.StoredSets.{below, is-found, is-missing, second-of}
 use Rattle.line_sets.proofs.sets.LineSets.find.Goals as goal

@@ -1,4 +1,4 @@
-use Rattle.std.proofs.Common.{◌≡◌, drop, get_or, [], sym, ap, ◌∙◌, ◌+◌}
+use Rattle.std.proofs.Common.{drop, get_or, [], sym, ap, ◌∙◌, ◌+◌}
 use Rattle.std.specs.Option.{is_some}
 use Rattle.line_sets.specs.Order.{first_where}
 use Rattle.line_sets.proofs.StoredSets.{below, entries-at}
@@ -33,6 +33,8 @@ loop-preserved g c =
     (sym c.loop.invariant.0 ∙ c.in-Some.is) in
     let e = line-of (drop c.loop.counter xs) c.in-Some.cell c.get-entry.result.now met.value
     (drop (c.loop.counter + 1) xs) met.is (sym c.get-entry.ensures ∙ met.cell) in
-    let passes = g.T.LineTest.passes c.args.test.now in
-    (c.next-next.ensures ∙ met.next, c.loop.invariant.1
-    ∙ first-fails passes _ _ _ _ e (sym c.passes.ensures ∙ c.if-passes.false))
+    let passes = g.T.LineTest.passes c.args.test.now in (
+      c.next-next.ensures ∙ met.next,
+      c.loop.invariant.1
+          ∙ first-fails passes _ _ _ _ e (sym c.passes.ensures ∙ c.if-passes.false),
+    )

@@ -1,4 +1,4 @@
-use Rattle.std.proofs.Common.{◌≡◌, ◌≤◌, [], drop, length, get_or}
+use Rattle.std.proofs.Common.{◌≡◌, [], drop, get_or}
 use Rattle.line_arena.specs.CellLists.{first_cell}
 use Rattle.line_sets.specs.Order.{first_where}
 use Rattle.line_sets.specs.Stored.{entries_of}

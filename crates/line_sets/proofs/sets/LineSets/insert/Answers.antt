@@ -1,10 +1,8 @@
-use Rattle.std.proofs.Common.{◌≡◌, ◌<◌, ◌++◌, ◌∷◌, [], length, get_or, set, Some, None, refl, sym, ap, ◌∙◌}
+use Rattle.std.proofs.Common.{sym, ap, ◌∙◌, not}
 use Rattle.std.specs.Option.{is_some}
-use Rattle.line_sets.specs.SetTable.{set_at, put}
-use Rattle.line_sets.specs.Stored.{sets_of}
-use Rattle.line_arena.specs.Arenas.{pushed, unlinked}
 use Rattle.line_sets.proofs.StoredSets.{table_of, below, has-room, is-free, is-found, is-ok, if-ok, if-some, put-new}
-use Rattle.line_sets.proofs.StoredSets.{row-room, used, written-there, written-in, Becomes}
+use Rattle.line_sets.proofs.StoredSets.{row-room, used, written-there}
+use Rattle.line_sets.proofs.Walks.{is-none, used-last}
 use Rattle.line_sets.proofs.sets.LineSets.insert.Goals as goal
 
 pub unwrap-cell-requires : goal.unwrap-cell-requires
@@ -84,3 +82,27 @@ returns g c =
     let after = if-some _ _ (c.args.line, c.args.value) c.move_to_back.ensures there in
     rw (← c.self.view_is) (ap (table_of w) (used w a c.move_to_back.new.self rs c.args.set c.args.line c.in-Some.cell
     c.args.value c.self.invariant c.lists-lists.ensures.once c.looked_up.ensures c.taken_off.ensures h here after).are)
+
+pub next-requires : goal.next-requires
+next-requires g c =
+    let a = c.self.inside.arena in let rs = c.self.inside.rows in let w = c.self.inside.ways in
+    let h = below a.lists c.args.set (rw (← c.self.view_is) at c.requires.in_table) in
+    ap is_some (written-there w a rs c.args.set c.args.line c.in-Some.cell c.args.value c.self.invariant
+    c.lists-lists.ensures.once c.looked_up.ensures h (sym c.find.ensures ∙ c.in-Some.is))
+
+pub invariant_of-self-then-is_none : goal.invariant_of-self-then-is_none
+invariant_of-self-then-is_none g c =
+    let a = c.self.inside.arena in let rs = c.self.inside.rows in let w = c.self.inside.ways in
+    let h = below a.lists c.args.set (rw (← c.self.view_is) at c.requires.in_table) in
+    let last = sym c.next.ensures ∙ is-none c.next.result (c.is_none.ensures ∙ ap not c.if-is_none.true) in
+    (used-last w a rs c.args.set c.args.line c.in-Some.cell c.args.value c.self.invariant c.lists-lists.ensures.once
+    c.looked_up.ensures c.taken_off.ensures h (sym c.find.ensures ∙ c.in-Some.is) last).stored
+
+pub returns-then-is_none : goal.returns-then-is_none
+returns-then-is_none g c =
+    let a = c.self.inside.arena in let rs = c.self.inside.rows in let w = c.self.inside.ways in
+    let h = below a.lists c.args.set (rw (← c.self.view_is) at c.requires.in_table) in
+    let last = sym c.next.ensures ∙ is-none c.next.result (c.is_none.ensures ∙ ap not c.if-is_none.true) in
+    rw (← c.self.view_is) (ap (table_of w) (used-last w a rs c.args.set c.args.line c.in-Some.cell c.args.value
+    c.self.invariant c.lists-lists.ensures.once c.looked_up.ensures c.taken_off.ensures h
+    (sym c.find.ensures ∙ c.in-Some.is) last).are)

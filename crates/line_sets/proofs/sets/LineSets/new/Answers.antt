@@ -1,4 +1,4 @@
-use Rattle.std.proofs.Common.{◌≡◌, ap, ◌∙◌}
+use Rattle.std.proofs.Common.{ap, ◌∙◌}
 use Rattle.line_sets.specs.Stored.{sets_of}
 use Rattle.line_sets.proofs.StoredSets.{table_of, sets-empty}
 use Rattle.line_sets.proofs.sets.LineSets.new.Goals as goal

@@ -1,4 +1,4 @@
-use Rattle.std.proofs.Common.{◌≡◌, drop, get_or, [], sym, ap, ◌∙◌}
+use Rattle.std.proofs.Common.{drop, get_or, [], sym, ap, ◌∙◌}
 use Rattle.line_sets.specs.Order.{oldest}
 use Rattle.line_sets.proofs.StoredSets.{below, entries-at}
 use Rattle.line_sets.proofs.Walks.{is-met, line-of, first-line}

@@ -1,8 +1,5 @@
-use Rattle.std.proofs.Common.{◌≡◌, ◌∷◌, ◌++◌, [], drop, get_or, sym, ap, ◌∙◌, ◌+◌}
+use Rattle.std.proofs.Common.{[], drop, get_or, sym, ap, ◌∙◌, ◌+◌}
 use Rattle.std.specs.Option.{is_some}
-use Rattle.std.proofs.lemmas.List.{append_assoc}
-use Rattle.line_sets.specs.Order.{listed}
-use Rattle.line_sets.specs.Stored.{entries_of}
 use Rattle.line_sets.proofs.Walks.{is-met, line-of, added, not-added}
 use Rattle.line_sets.proofs.sets.LineSets.push_listed.Goals.{then-is_listed+in_ok-push, else-is_listed}
 use Rattle.line_sets.proofs.sets.LineSets.push_listed.Goals as goal
@@ -21,12 +18,14 @@ loop-preserved g c =
     let met = is-met ls c.args.set c.loop.counter c.in-Some.cell c.lists-lists.ensures.once c.looked_up.ensures
     (sym c.loop.invariant.0 ∙ c.in-Some.is) in
     let e = line-of (drop c.loop.counter xs) c.in-Some.cell c.get-entry.result.now met.value
-    (drop (c.loop.counter + 1) xs) met.is (sym c.get-entry.ensures ∙ met.cell) in
-    (c.next-next.ensures ∙ met.next, elim c.if-is_listed.branch [
-      | then-is_listed+in_ok-push w ↦ rw (ap (λ v. v.items) w.lines-is ∙ w.in_ok-push.ensures.items)
-          (added g.V.Listed.is_listed c.loop.lines.items _ _ _ _ _ e (sym c.is_listed.ensures ∙ w.if-is_listed.true)
-          c.loop.invariant.1)
-      | else-is_listed w ↦ rw (ap (λ v. v.items) w.lines-is)
-          (not-added g.V.Listed.is_listed c.loop.lines.items _ _ _ _ _ e
-          (sym c.is_listed.ensures ∙ w.if-is_listed.false) c.loop.invariant.1)
-    ])
+    (drop (c.loop.counter + 1) xs) met.is (sym c.get-entry.ensures ∙ met.cell) in (
+      c.next-next.ensures ∙ met.next,
+      elim c.if-is_listed.branch [
+        | then-is_listed+in_ok-push w ↦ rw (ap (λ v. v.items) w.lines-is ∙ w.in_ok-push.ensures.items)
+            (added g.V.Listed.is_listed c.loop.lines.items _ _ _ _ _ e (sym c.is_listed.ensures ∙ w.if-is_listed.true)
+            c.loop.invariant.1)
+        | else-is_listed w ↦ rw (ap (λ v. v.items) w.lines-is)
+            (not-added g.V.Listed.is_listed c.loop.lines.items _ _ _ _ _ e
+            (sym c.is_listed.ensures ∙ w.if-is_listed.false) c.loop.invariant.1)
+      ],
+    )

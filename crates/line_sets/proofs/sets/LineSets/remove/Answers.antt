@@ -1,4 +1,4 @@
-use Rattle.std.proofs.Common.{◌≡◌, ◌<◌, length, get_or, set, Some, None, refl, sym, ap, ◌∙◌}
+use Rattle.std.proofs.Common.{sym, ap, ◌∙◌}
 use Rattle.std.specs.Option.{is_some}
 use Rattle.line_sets.proofs.StoredSets.{table_of, below, is-found, is-missing, nothing-cut, cut-off, second-of}
 use Rattle.line_sets.proofs.sets.LineSets.remove.Goals as goal

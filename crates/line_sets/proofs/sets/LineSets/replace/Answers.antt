@@ -1,4 +1,4 @@
-use Rattle.std.proofs.Common.{◌≡◌, ◌<◌, length, get_or, set, Some, None, refl, sym, ap, ◌∙◌, true≢false}
+use Rattle.std.proofs.Common.{refl, sym, ap, ◌∙◌, true≢false}
 use Rattle.std.specs.Option.{is_some}
 use Rattle.line_sets.proofs.StoredSets.{table_of, below, is-found, is-missing, written, written-in}
 use Rattle.line_sets.proofs.sets.LineSets.replace.Goals as goal

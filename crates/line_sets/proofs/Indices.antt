@@ -1,11 +1,11 @@
 -- What the index of a line in its set says of the definitions by recursion.
-use Rattle.std.proofs.Common.{◌≡◌, ℕ, zero, suc, ◌+◌, ◌<◌, Bool, true, false, cond, eqb, List, [], ◌∷◌, ◌++◌, length}
-use Rattle.std.proofs.Common.{get_or, set, Option, Some, None, refl, sym, ap, ◌∙◌, arith, position}
+use Rattle.std.proofs.Common.{◌≡◌, ℕ, zero, suc, ◌+◌, Bool, true, false, cond, eqb, List, [], ◌∷◌}
+use Rattle.std.proofs.Common.{get_or, Option, Some, None, refl, sym, ap, ◌∙◌, arith, position}
 use Rattle.std.specs.Option.{is_some}
 use Rattle.std.specs.List.{position_from, remove}
 use Rattle.std.proofs.lemmas.Bool.{cond-true, cond-false, eqb-true}
 use Rattle.std.proofs.lemmas.Iterator.Adapters.{position_from-zero}
-use Rattle.line_sets.specs.Order.{find, is_there, put_in_place, put_last, without, IsDistinct}
+use Rattle.line_sets.specs.Order.{find, is_there, without, IsDistinct}
 
 -- a line is at this index, and not before it
 abbrev pub IsFirstAt : {X : Type 0} → List (ℕ × X) → ℕ → ℕ → Type 0
@@ -71,11 +71,6 @@ missing-without (p ∷ ps) line h = go (eqb p.0 line) (missing-without ps line) 
     go false rest i = ap (λ qs. p ∷ qs) (rest i)
 
 -- a line that is at an index
-pub first-length : {X : Type 0} (ps : List (ℕ × X)) (line at : ℕ) → IsFirstAt ps line at → at < length ps
-first-length [] line at h = absurd h
-first-length (p ∷ ps) line zero h = omega arith
-first-length (p ∷ ps) line (suc at) h = omega (arith, first-length ps line at h.1)
-
 pub first-find :
     {X : Type 0} (ps : List (ℕ × X)) (line at : ℕ) (d : ℕ × X) → IsFirstAt ps line at →
     find ps line ≡ Some (get_or ps at d).1
@@ -83,15 +78,6 @@ first-find [] line at d h = absurd h
 first-find (p ∷ ps) line zero d h = cond-true (eqb p.0 line) (Some p.1) (find ps line) h
 first-find (p ∷ ps) line (suc at) d h =
     cond-false (eqb p.0 line) (Some p.1) (find ps line) h.0 ∙ first-find ps line at d h.1
-
-pub first-put_in_place :
-    {X : Type 0} (ps : List (ℕ × X)) (line at : ℕ) (x : X) → IsFirstAt ps line at →
-    put_in_place ps line x ≡ set ps at (line, x)
-first-put_in_place [] line at x h = absurd h
-first-put_in_place (p ∷ ps) line zero x h = cond-true (eqb p.0 line) ((line, x) ∷ ps) (p ∷ put_in_place ps line x) h
-first-put_in_place (p ∷ ps) line (suc at) x h =
-    cond-false (eqb p.0 line) ((line, x) ∷ ps) (p ∷ put_in_place ps line x) h.0
-    ∙ ap (λ qs. p ∷ qs) (first-put_in_place ps line at x h.1)
 
 pub first-without :
     {X : Type 0} (ps : List (ℕ × X)) (line at : ℕ) → IsDistinct ps → IsFirstAt ps line at →
@@ -105,37 +91,12 @@ first-without (p ∷ ps) line (suc at) once h =
     cond-false (eqb p.0 line) (without ps line) (p ∷ without ps line) h.0
     ∙ ap (λ qs. p ∷ qs) (first-without ps line at once.1 h.1)
 
--- a line that is the most recently used one already
-pub first-put_last :
-    {X : Type 0} (ps : List (ℕ × X)) (line at : ℕ) (x : X) → IsDistinct ps → IsFirstAt ps line at →
-    at + 1 ≡ length ps → put_last ps line x ≡ set ps at (line, x)
-first-put_last [] line at x once h e = absurd h
-first-put_last (p ∷ []) line zero x once h e =
-    ap (λ qs. qs ++ (line, x) ∷ []) (first-without (p ∷ []) line zero once h)
-first-put_last (p ∷ q ∷ ps) line zero x once h e = absurd (omega arith)
-first-put_last (p ∷ ps) line (suc at) x once h e =
-    ap (λ qs. qs ++ (line, x) ∷ []) (cond-false (eqb p.0 line) (without ps line) (p ∷ without ps line) h.0)
-    ∙ ap (λ qs. p ∷ qs) (first-put_last ps line at x once.1 h.1 (omega arith))
-
 -- the index in a list that is seen under another name
 pub index-seen :
     {X : Type 0} (ps qs : List (ℕ × X)) (line : ℕ) (r : Option ℕ) → qs ≡ ps →
     r ≡ position (λ (p : ℕ × X). eqb p.0 line) qs → IsIndexOf ps line r
 index-seen {X} ps qs line r same e =
     index-of ps line r (e ∙ ap (λ (us : List (ℕ × X)). position (λ (p : ℕ × X). eqb p.0 line) us) same)
-
--- what a push makes of a list without the line
-pub pushed-missing :
-    {X : Type 0} (ps qs : List (ℕ × X)) (line : ℕ) (x : X) → is_there ps line ≡ false → qs ≡ ps ++ (line, x) ∷ [] →
-    qs ≡ put_last ps line x
-pushed-missing ps qs line x gone e = e ∙ ap (λ us. us ++ (line, x) ∷ []) (sym (missing-without ps line gone))
-
--- what a push makes of a list that the line was taken out of
-pub pushed-removed :
-    {X : Type 0} (ps rs qs : List (ℕ × X)) (line at : ℕ) (x : X) → IsDistinct ps → IsFirstAt ps line at →
-    rs ≡ remove ps at → qs ≡ rs ++ (line, x) ∷ [] → qs ≡ put_last ps line x
-pushed-removed ps rs qs line at x once h taken e =
-    e ∙ ap (λ us. us ++ (line, x) ∷ []) (taken ∙ sym (first-without ps line at once h))
 
 -- what is known of a removed pair
 pub found-removed :

@@ -1,6 +1,9 @@
 mod LineNumbers
 mod Indices
 mod OrderLaws
-mod ReadySets
+mod RowLaws
+mod StoredSets
 mod TableLaws
+mod TaggedCells
+mod Walks
 pub mod Lemmas

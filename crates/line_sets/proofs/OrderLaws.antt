@@ -1,8 +1,8 @@
 -- Laws of one set: look-ups after each change, lengths, and that no line comes twice.
-use Rattle.std.proofs.Common.{◌≡◌, ◌≢◌, ℕ, ◌+◌, ◌<◌, ◌≤◌, Bool, true, false, cond, eqb, List, [], ◌∷◌, ◌++◌, length}
+use Rattle.std.proofs.Common.{◌≡◌, ◌≢◌, ℕ, suc, ◌+◌, ◌<◌, ◌≤◌, Bool, true, false, cond, eqb, List, [], ◌∷◌, ◌++◌, length}
 use Rattle.std.proofs.Common.{Some, None, refl, sym, ap, ◌∙◌, arith, ⊎_elim}
 use Rattle.std.specs.Option.{is_some}
-use Rattle.std.proofs.lemmas.Bool.{cases_Bool, cases_eq, cond-true, cond-false, eq-eqb, ne_eqb, eqb-true}
+use Rattle.std.proofs.lemmas.Bool.{cases_Bool, cases_eq, cond-true, cond-false, eq-eqb, ne_eqb}
 use Rattle.line_sets.specs.Order.{find, is_there, put_in_place, put_last, without, IsDistinct}
 
 -- a line taken out
@@ -80,6 +80,21 @@ find-put_in_place_other (p ∷ ps) l j x ne =
     ∙ ap (λ o. cond (eqb p.0 j) (Some p.1) o) (find-put_in_place_other ps l j x ne))
     (cases_eq p.0 l)
 
+-- a line put in place and taken out
+pub without-put_in_place :
+    {X : Type 0} (ps : List (ℕ × X)) (l : ℕ) (x : X) → without (put_in_place ps l x) l ≡ without ps l
+without-put_in_place [] l x = refl
+without-put_in_place (p ∷ ps) l x =
+    ⊎_elim
+    (λ (e : p.0 ≡ l).
+    ap (λ b. without (cond b ((l, x) ∷ ps) (p ∷ put_in_place ps l x)) l) (eq-eqb p.0 l e)
+    ∙ cond-true (eqb l l) (without ps l) ((l, x) ∷ without ps l) (eq-eqb l l refl)
+    ∙ sym (cond-true (eqb p.0 l) (without ps l) (p ∷ without ps l) (eq-eqb p.0 l e)))
+    (λ (d : p.0 ≡ l → ⊥).
+    ap (λ b. without (cond b ((l, x) ∷ ps) (p ∷ put_in_place ps l x)) l) (ne_eqb p.0 l d)
+    ∙ ap (λ us. cond (eqb p.0 l) us (p ∷ us)) (without-put_in_place ps l x))
+    (cases_eq p.0 l)
+
 -- lengths
 pub length-without_le : {X : Type 0} (ps : List (ℕ × X)) (l : ℕ) → length (without ps l) ≤ length ps
 length-without_le [] l = omega arith
@@ -90,6 +105,18 @@ length-without_le (p ∷ ps) l = go (eqb p.0 l) (length-without_le ps l)
         length (cond b (without ps l) (p ∷ without ps l)) ≤ length (p ∷ ps)
     go true h = omega arith
     go false h = omega arith
+
+missing-length :
+    {X : Type 0} (ps : List (ℕ × X)) (l : ℕ) → is_there ps l ≡ false → length (without ps l) ≡ length ps
+missing-length [] l h = refl
+missing-length (p ∷ ps) l h = go (eqb p.0 l) (missing-length ps l) h
+  where
+    go :
+        (b : Bool) → (is_there ps l ≡ false → length (without ps l) ≡ length ps) →
+        is_some (cond b (Some p.1) (find ps l)) ≡ false →
+        length (cond b (without ps l) (p ∷ without ps l)) ≡ length (p ∷ ps)
+    go true rest i = cc
+    go false rest i = let e = rest i in omega (arith, e)
 
 pub length-without_there :
     {X : Type 0} (ps : List (ℕ × X)) (l : ℕ) → is_there ps l ≡ true → length (without ps l) < length ps
@@ -102,6 +129,25 @@ length-without_there (p ∷ ps) l h = go (eqb p.0 l) (length-without_le ps l) (l
         length (cond b (without ps l) (p ∷ without ps l)) < length (p ∷ ps)
     go true le rest i = omega arith
     go false le rest i = let lt = rest i in omega arith
+
+pub length-without_exact :
+    {X : Type 0} (ps : List (ℕ × X)) (l : ℕ) → IsDistinct ps → is_there ps l ≡ true →
+    length (without ps l) + 1 ≡ length ps
+length-without_exact [] l once h = cc
+length-without_exact (p ∷ ps) l once h =
+    ⊎_elim
+    (λ (e : p.0 ≡ l).
+    let gone : is_there ps l ≡ false = ap (λ j. is_there ps j) (sym e) ∙ once.0 in
+    let cut : length (without (p ∷ ps) l) ≡ length (without ps l) =
+    ap (λ b. length (cond b (without ps l) (p ∷ without ps l))) (eq-eqb p.0 l e) in
+    omega (arith, cut, missing-length ps l gone))
+    (λ (ne : p.0 ≡ l → ⊥).
+    let cut : length (without (p ∷ ps) l) ≡ suc (length (without ps l)) =
+    ap (λ b. length (cond b (without ps l) (p ∷ without ps l))) (ne_eqb p.0 l ne) in
+    let there : is_there ps l ≡ true =
+    sym (ap is_some (cond-false (eqb p.0 l) (Some p.1) (find ps l) (ne_eqb p.0 l ne))) ∙ h in
+    omega (arith, cut, length-without_exact ps l once.1 there))
+    (cases_eq p.0 l)
 
 pub length-put_in_place : {X : Type 0} (ps : List (ℕ × X)) (l : ℕ) (x : X) → length (put_in_place ps l x) ≡ length ps
 length-put_in_place [] l x = refl
@@ -116,13 +162,6 @@ length-put_in_place (p ∷ ps) l x = go (eqb p.0 l) (length-put_in_place ps l x)
 length-push : {X : Type 0} (ps : List (ℕ × X)) (p : ℕ × X) → length (ps ++ p ∷ []) ≡ length ps + 1
 length-push [] p = omega arith
 length-push (q ∷ ps) p = omega (arith, length-push ps p)
-
-pub length-put_last_there :
-    {X : Type 0} (ps : List (ℕ × X)) (l : ℕ) (x : X) → is_there ps l ≡ true → length (put_last ps l x) ≤ length ps
-length-put_last_there ps l x h = omega (arith, length-push (without ps l) (l, x), length-without_there ps l h)
-
-pub length-put_last_le : {X : Type 0} (ps : List (ℕ × X)) (l : ℕ) (x : X) → length (put_last ps l x) ≤ length ps + 1
-length-put_last_le ps l x = omega (arith, length-push (without ps l) (l, x), length-without_le ps l)
 
 -- no line comes twice
 there_without : {X : Type 0} (ps : List (ℕ × X)) (l j : ℕ) → is_there ps j ≡ false → is_there (without ps l) j ≡ false
@@ -162,31 +201,3 @@ pub IsDistinct-put_last :
     {X : Type 0} (ps : List (ℕ × X)) (l : ℕ) (x : X) → IsDistinct ps → IsDistinct (put_last ps l x)
 IsDistinct-put_last ps l x h =
     IsDistinct-push (without ps l) l x (IsDistinct-without ps l h) (ap is_some (find-without_same ps l))
-
-there_put_in_place :
-    {X : Type 0} (ps : List (ℕ × X)) (l j : ℕ) (x : X) → is_there ps j ≡ false →
-    is_there (put_in_place ps l x) j ≡ false
-there_put_in_place [] l j x h = refl
-there_put_in_place (p ∷ ps) l j x h = go (eqb p.0 l) refl (eqb p.0 j) refl h (there_put_in_place ps l j x)
-  where
-    go :
-        (b : Bool) → eqb p.0 l ≡ b → (c : Bool) → eqb p.0 j ≡ c → is_some (cond c (Some p.1) (find ps j)) ≡ false →
-        (is_there ps j ≡ false → is_there (put_in_place ps l x) j ≡ false) →
-        is_there (cond b ((l, x) ∷ ps) (p ∷ put_in_place ps l x)) j ≡ false
-    go b e true f i rest = cc
-    go true e false f i rest =
-        let same : p.0 ≡ l = eqb-true p.0 l e in
-        ap is_some (cond-false (eqb l j) (Some x) (find ps j) (rw (← same) f)) ∙ i
-    go false e false f i rest =
-        ap is_some (cond-false (eqb p.0 j) (Some p.1) (find (put_in_place ps l x) j) f) ∙ rest i
-
-pub IsDistinct-put_in_place :
-    {X : Type 0} (ps : List (ℕ × X)) (l : ℕ) (x : X) → IsDistinct ps → IsDistinct (put_in_place ps l x)
-IsDistinct-put_in_place [] l x h = tt
-IsDistinct-put_in_place (p ∷ ps) l x h = go (eqb p.0 l) refl (IsDistinct-put_in_place ps l x h.1)
-  where
-    go :
-        (b : Bool) → eqb p.0 l ≡ b → IsDistinct (put_in_place ps l x) →
-        IsDistinct (cond b ((l, x) ∷ ps) (p ∷ put_in_place ps l x))
-    go true e rest = let same : p.0 ≡ l = eqb-true p.0 l e in (rw (← same) h.0, h.1)
-    go false e rest = (there_put_in_place ps l p.0 x h.0, rest)

@@ -1,7 +1,8 @@
 -- One set: what is kept of each of its lines, in order of use, from the least recently used line to the most recently
 -- used one.
 use Rattle.std.specs.Prelude.{◌≡◌, ℕ, ◌==◌, Bool, false, List, [], ◌∷◌, ◌++◌, map, filter, is_some, Option, Some}
-use Rattle.std.specs.Prelude.{None, if◌then◌else◌}
+use Rattle.std.specs.Prelude.{None, if◌then◌else◌, option_map}
+use Rattle.std.specs.List as list
 
 -- what is kept of a line
 abbrev pub find : {X : Type 0} → List (ℕ × X) → ℕ → Option X
@@ -34,3 +35,12 @@ IsDistinct (p ∷ ps) = (is_there ps p.0 ≡ false) × IsDistinct ps
 -- the lines, in order of use, of values that a test passes
 abbrev pub listed : {X : Type 0} → (X → Bool) → List (ℕ × X) → List ℕ
 listed passes ps = map (λ p. p.0) (filter (λ p. passes p.1) ps)
+
+-- the least recently used line
+abbrev pub oldest : {X : Type 0} → List (ℕ × X) → Option ℕ
+oldest [] = None
+oldest (p ∷ ps) = Some p.0
+
+-- the least recently used line of a value that passes a test
+abbrev pub first_where : {X : Type 0} → (X → Bool) → List (ℕ × X) → Option ℕ
+first_where passes ps = option_map (λ p. p.0) (list.find (λ p. passes p.1) ps)

@@ -1,18 +1,35 @@
--- How a table is stored: a vector of entries for each set, with capacity for all its ways from the start.
-use Rattle.std.specs.Prelude.{ℕ, ◌≤◌, List, length, map, vec_capacity}
-use Rattle.std.specs.Global.{Vec}
-use Rattle.std.specs.List.{AllByRecursion}
-use Rattle.line_sets.specs.Order.{IsDistinct}
+-- How a table is stored: lists of lines and values in the cells of an arena, in order of use, and beside them a row of
+-- lines and cells for each set.
+use Rattle.std.specs.Prelude.{◌≡◌, ℕ, ◌*◌, ◌<◌, ◌≤◌, List, [], length, map, get_or}
+use Rattle.line_arena.specs.Arenas.{Lists}
+use Rattle.line_sets.specs.Order.{find, IsDistinct}
+use Rattle.line_sets.specs.SetTable.{set_at}
 
--- a set that never needs more memory, with no line twice
-pub record IsReady {X : Type 0} (ways : ℕ) (entries : Vec (ℕ × X)) : Type 0 where
-  pub within : length entries.items ≤ ways
-  pub room : ways ≤ vec_capacity entries
-  pub distinct : IsDistinct entries.items
+module _ {X : Type 0} where
+  -- the lines and values of a list of cells
+  abbrev pub entries_of : List (ℕ × (ℕ × X)) → List (ℕ × X)
+  entries_of cells = map (λ a. (a.1.0, a.1.1)) cells
 
-abbrev pub AllReady : {X : Type 0} → ℕ → List (Vec (ℕ × X)) → Type 0
-AllReady ways sets = AllByRecursion (IsReady ways) sets
+  -- the lines and their cells
+  abbrev pub tags_of : List (ℕ × (ℕ × X)) → List (ℕ × ℕ)
+  tags_of cells = map (λ a. (a.1.0, a.0)) cells
 
--- the lines and values of each set
-abbrev pub entries_of : {X : Type 0} → List (Vec (ℕ × X)) → List (List (ℕ × X))
-entries_of sets = map (λ entries. entries.items) sets
+  -- the lines and values of each set
+  abbrev pub sets_of : List (List (ℕ × (ℕ × X))) → List (List (ℕ × X))
+  sets_of lists = map entries_of lists
+
+  -- a row has the lines of the list, each with its cell
+  pub record Fits (ways : ℕ) (row : List (ℕ × ℕ)) (cells : List (ℕ × (ℕ × X))) : Type 0 where
+    pub within : length cells ≤ ways
+    pub short : length row ≤ length cells
+    pub found : (line : ℕ) → find row line ≡ find (tags_of cells) line
+    pub distinct : IsDistinct row
+    pub lines : IsDistinct (tags_of cells)
+
+  -- each set has a list with ways for all its lines, and a row that fits
+  pub record IsStored (ways : ℕ) (arena : Lists (ℕ × X)) (rows : List (List (ℕ × ℕ))) : Type 0 where
+    pub cells : arena.cells ≡ length arena.lists * ways
+    pub narrow : ways ≤ 16
+    pub small : length arena.lists ≤ 1024
+    pub many : length rows ≡ length arena.lists
+    pub fits : (set : ℕ) → set < length arena.lists → Fits ways (set_at rows set) (get_or arena.lists set [])

@@ -3,7 +3,8 @@
 
 mod entries;
 pub mod listed;
+mod rows;
 pub mod sets;
 
-pub use listed::Listed;
+pub use listed::{LineTest, Listed};
 pub use sets::LineSets;

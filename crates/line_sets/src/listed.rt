@@ -1,6 +1,5 @@
-//! Which lines of a table are listed.
-ghost use Rattle.std.specs.Prelude.{◌≡◌, ◌++◌, Bool, IfOk, OnOk};
-ghost use Rattle.line_sets.specs.Order.{listed};
+//! Which lines of a table are listed, and which are looked for.
+ghost use Rattle.std.specs.Prelude.{◌≡◌, Bool, IfOk};
 
 use network::LineNo;
 use std::alloc::AllocError;
@@ -14,16 +13,13 @@ pub trait Listed {
         ensures { result ≡ is_listed self.now };
 }
 
-// Adds the listed lines of a set, in their order.
-pub fn push_listed<V: Listed>(lines: &mut Vec<u64>, entries: &[(u64, V)]) -> Result<(), AllocError>
-    ensures { OnOk result (lines.new.items ≡ lines.old.items ++ listed V.is_listed entries.now) }
-{
-    for entry in entries {
-        if entry.1.is_listed() {
-            lines.push(entry.0)?;
-        }
-    }
-    Ok(())
+/// A test of what is kept of a line.
+pub trait LineTest<V> {
+    ghost passes: { Self → V → Bool };
+
+    /// Whether the value passes.
+    fn passes(&self, value: &V) -> bool
+        ensures { result ≡ passes self.now value.now };
 }
 
 // Numbers as those of lines.

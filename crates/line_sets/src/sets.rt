@@ -1,13 +1,16 @@
 //! A table of sets of lines in order of use, whose memory is all taken when it is made.
-ghost use Rattle.std.specs.Prelude.{◌≡◌, ◌<◌, ◌≤◌, IfOk, IsPermutation, IsSorted, IsTrue, length};
+ghost use Rattle.std.specs.Prelude.{◌≡◌, ◌<◌, ◌≤◌, IfOk, IsPermutation, IsSorted, IsTrue, length, OnOk, ◌++◌};
 ghost use Rattle.std.specs.Option.{option_copied};
-ghost use Rattle.line_sets.specs.Order.{is_there, IsDistinct};
+ghost use Rattle.line_sets.specs.Order.{first_where, is_there, listed, oldest};
 ghost use Rattle.std.specs.Ordering.{nat_cmp};
+ghost use Rattle.line_sets.specs.Geometry.{IsGeometry};
 ghost use Rattle.line_sets.specs.SetTable.{all_listed, drop_line, empty_sets, has_place, has_room, look, put};
 ghost use Rattle.line_sets.specs.SetTable.{put_within, set_at};
 
-use crate::entries::{find_entry, put_entry_last, remove_entry, replace_entry};
-use crate::listed::{Listed, line_numbers, push_listed};
+use crate::listed::{LineTest, Listed, line_numbers};
+use crate::rows::Rows;
+use line_arena::laws::{looked_up, taken_off};
+use line_arena::{Arena, ArenaError, Cell};
 use network::LineNo;
 use std::alloc::{AllocError, Global};
 use std::marker::Model;
@@ -18,41 +21,46 @@ use std::marker::Model;
 #[derive(Drop)]
 pub struct LineSets<V> {
     ways: usize,
-    sets: Vec<Vec<(u64, V)>>,
+    // Each set's lines and values, in order of use.
+    arena: Arena<(u64, V)>,
+    // Each set's lines and their cells of the arena.
+    rows: Rows,
 }
 
 impl<V> Model for LineSets<V> {
     ghost use Rattle.line_sets.specs.SetTable.{Sets};
-    ghost use Rattle.line_sets.specs.Stored.{entries_of, AllReady};
+    ghost use Rattle.line_sets.specs.Stored.{sets_of, IsStored};
 
     ghost Value = { Sets V };
 
-    ghost view = { λ table. record { ways = table.ways; sets = entries_of table.sets.items } };
+    ghost view = { λ table. record { ways = table.ways; sets = sets_of table.arena.lists } };
 
-    ghost invariant = { λ table. AllReady table.ways table.sets.items };
+    ghost invariant = { λ table. IsStored table.ways table.arena table.rows };
 }
 
 impl<V: Copy> LineSets<V> {
     /// As many sets without lines, each with room for as many lines as there are ways. All memory is taken here.
     pub fn new(alloc: Global, sets: u32, ways: u32) -> Result<LineSets<V>, AllocError>
+        requires { IsGeometry sets ways }
         ensures { IfOk result (λ table. table ≡ empty_sets sets ways) }
     {
-        let capacity = ways as usize;
-        let mut made = Vec::new(alloc);
-        for _ in 0..sets {
-            made.push(Vec::with_capacity(alloc, capacity)?)?;
+        let rows = Rows::new(alloc, sets)?;
+        match Arena::new(alloc, sets * ways, sets) {
+            Ok(arena) => Ok(LineSets {
+                ways: ways as usize,
+                arena,
+                rows,
+            }),
+            Err(ArenaError::NoMemory) => Err(AllocError),
+            Err(ArenaError::TooLarge) => unreachable!(),
         }
-        Ok(LineSets {
-            ways: capacity,
-            sets: made,
-        })
     }
 
     /// The number of sets.
     pub fn sets(&self) -> usize
         ensures { result ≡ length self.now.sets }
     {
-        self.sets.len()
+        self.arena.lists() as usize
     }
 
     /// The most lines that a set has.
@@ -62,22 +70,17 @@ impl<V: Copy> LineSets<V> {
         self.ways
     }
 
-    /// The lines of a set with their values, the least recently used one first.
-    pub fn contents(&self, set: usize) -> &[(u64, V)]
-        requires { set < length self.now.sets }
-        ensures lines { result.now ≡ set_at self.now.sets set }
-        ensures within { length result.now ≤ self.now.ways }
-        ensures distinct { IsDistinct result.now }
-    {
-        &self.sets[set]
-    }
-
     /// What is kept of a line in a set.
     pub fn find(&self, set: usize, line: u64) -> Option<&V>
         requires { set < length self.now.sets }
         ensures { option_copied result ≡ look self.now.sets set line }
     {
-        find_entry(self.contents(set), line)
+        looked_up::<(u64, V)>();
+        let _lists = self.arena.lists();
+        let Some(cell) = self.rows.find(set, line) else {
+            return None;
+        };
+        Some(&self.arena.get(Cell(cell)).1)
     }
 
     /// Whether a set has fewer lines than ways.
@@ -85,7 +88,43 @@ impl<V: Copy> LineSets<V> {
         requires { set < length self.now.sets }
         ensures { result ≡ has_room self.now set }
     {
-        self.contents(set).len() < self.ways
+        (self.arena.len(set as u32) as usize) < self.ways
+    }
+
+    /// The least recently used line of a set, if the set has a line. It never has more than ways.
+    pub fn oldest(&self, set: usize) -> Option<u64>
+        requires { set < length self.now.sets }
+        ensures line { result ≡ oldest (set_at self.now.sets set) }
+        ensures within { length (set_at self.now.sets set) ≤ self.now.ways }
+    {
+        looked_up::<(u64, V)>();
+        let _lists = self.arena.lists();
+        let Some(cell) = self.arena.front(set as u32) else {
+            return None;
+        };
+        Some(self.arena.get(cell).0)
+    }
+
+    /// The least recently used line of a set whose value passes a test, if one does.
+    pub fn first_where<T: LineTest<V>>(&self, set: usize, test: &T) -> Option<u64>
+        requires { set < length self.now.sets }
+        ensures { result ≡ first_where (T.passes test.now) (set_at self.now.sets set) }
+    {
+        looked_up::<(u64, V)>();
+        let _lists = self.arena.lists();
+        let count = self.arena.len(set as u32);
+        let mut next = self.arena.front(set as u32);
+        for _ in 0..count {
+            let Some(cell) = next else {
+                return None;
+            };
+            let entry = self.arena.get(cell);
+            if test.passes(&entry.1) {
+                return Some(entry.0);
+            }
+            next = self.arena.next(cell);
+        }
+        None
     }
 
     /// Puts a line that is in the set, or has room there, with this value, and makes it the most recently used one.
@@ -94,7 +133,20 @@ impl<V: Copy> LineSets<V> {
         requires way { IsTrue (has_place self.old set line) }
         ensures { self.new ≡ record self.old { sets = put self.old.sets set line value } }
     {
-        put_entry_last(&mut self.sets[set], line, value);
+        looked_up::<(u64, V)>();
+        taken_off::<(u64, V)>();
+        let _lists = self.arena.lists();
+        let Some(cell) = self.rows.find(set, line) else {
+            let pushed = self.arena.push_back(set as u32, (line, value));
+            let cell = pushed.unwrap();
+            self.rows.push(set, line, cell.0);
+            return;
+        };
+        *self.arena.get_mut(Cell(cell)) = (line, value);
+        if self.arena.next(Cell(cell)).is_none() {
+            return;
+        }
+        self.arena.move_to_back(set as u32, Cell(cell));
     }
 
     /// Changes what is kept of a line that is in the set, and keeps the order of use.
@@ -103,7 +155,11 @@ impl<V: Copy> LineSets<V> {
         requires there { IsTrue (is_there (set_at self.old.sets set) line) }
         ensures { self.new ≡ record self.old { sets = put_within self.old.sets set line value } }
     {
-        replace_entry(&mut self.sets[set], line, value);
+        looked_up::<(u64, V)>();
+        let _lists = self.arena.lists();
+        if let Some(cell) = self.rows.find(set, line) {
+            *self.arena.get_mut(Cell(cell)) = (line, value);
+        }
     }
 
     /// Takes a line out of its set and gives what was kept of it, or nothing if it isn't there.
@@ -112,7 +168,14 @@ impl<V: Copy> LineSets<V> {
         ensures value { result ≡ look self.old.sets set line }
         ensures after { self.new ≡ record self.old { sets = drop_line self.old.sets set line } }
     {
-        remove_entry(&mut self.sets[set], line)
+        looked_up::<(u64, V)>();
+        taken_off::<(u64, V)>();
+        let _lists = self.arena.lists();
+        let Some(cell) = self.rows.take(set, line) else {
+            return None;
+        };
+        let (_line, value) = self.arena.unlink(Cell(cell));
+        Some(value)
     }
 }
 
@@ -133,11 +196,34 @@ impl<V: Copy + Listed> LineSets<V> {
             lines.items) }
         ensures rising { IfOk result (λ lines. IsSorted nat_cmp lines.items) }
     {
-        let mut lines = Vec::new(*self.sets.allocator());
-        for entries in &self.sets {
-            push_listed(&mut lines, entries)?;
+        let mut lines = Vec::new(self.rows.allocator());
+        for set in 0..self.sets() {
+            self.push_listed(&mut lines, set)?;
         }
         lines.sort_unstable();
         Ok(lines)
+    }
+
+    // Adds the listed lines of a set, in their order.
+    fn push_listed(&self, lines: &mut Vec<u64>, set: usize) -> Result<(), AllocError>
+        requires { set < length self.now.sets }
+        ensures { OnOk result (lines.new.items ≡ lines.old.items ++ listed V.is_listed (set_at
+            self.now.sets set)) }
+    {
+        looked_up::<(u64, V)>();
+        let _lists = self.arena.lists();
+        let count = self.arena.len(set as u32);
+        let mut next = self.arena.front(set as u32);
+        for _ in 0..count {
+            let Some(cell) = next else {
+                return Ok(());
+            };
+            let entry = self.arena.get(cell);
+            if entry.1.is_listed() {
+                lines.push(entry.0)?;
+            }
+            next = self.arena.next(cell);
+        }
+        Ok(())
     }
 }

@@ -1,4 +1,5 @@
 mod LawProofs
 mod SentMessages
+mod Tests
 mod RoomMade
 mod Sound

@@ -1,5 +1,7 @@
 -- Entries that nothing is under way for.
-use Rattle.std.specs.Prelude.{Bool, true, false}
+use Rattle.std.specs.Prelude.{Bool, true, false, not}
+use Rattle.llc_bank.specs.declared.choice.EntryTest.{EntryTest}
+use Rattle.llc_bank.specs.declared.choice.EntryTest.TheVariants as test
 use Rattle.llc_bank.specs.declared.entry.Entry.{Entry}
 use Rattle.llc_bank.specs.declared.entry.Entry.TheVariants.{Shared, Exclusive}
 
@@ -13,3 +15,9 @@ is_settled _ = false
 abbrev pub is_shared : Entry → Bool
 is_shared (Shared dirty line) = true
 is_shared _ = false
+
+-- what is asked of an entry
+abbrev pub passes : EntryTest → Entry → Bool
+passes test.UnderWay entry = not (is_settled entry)
+passes test.Settled entry = is_settled entry
+passes test.Shared entry = is_shared entry

@@ -222,11 +222,10 @@ impl Bank {
         if self.entry(line).is_some() || self.table.has_room(set) {
             return None;
         }
-        let entries = self.table.contents(set);
-        if !all_settled(entries) {
+        if !all_settled(&self.table, set) {
             return None;
         }
-        choose(entries)
+        choose(&self.table, set)
     }
 
     /// The lines that are Shared or Exclusive, rising.

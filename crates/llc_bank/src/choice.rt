@@ -1,41 +1,53 @@
 //! Which line of a full set makes room.
-ghost use Rattle.std.specs.Prelude.{◌≡◌};
-ghost use Rattle.llc_bank.specs.Settled.{is_settled, is_shared};
-ghost use Rattle.llc_bank.specs.BankTable.{all_settled, chosen, first_of};
+ghost use Rattle.std.specs.Prelude.{◌≡◌, ◌<◌, length};
+ghost use Rattle.line_sets.specs.SetTable.{set_at};
+ghost use Rattle.llc_bank.specs.BankTable.{all_settled, chosen};
+ghost use Rattle.llc_bank.specs.Settled.{passes};
 
 use crate::entry::Entry;
+use line_sets::{LineSets, LineTest};
 use network::LineNo;
 
-// Whether nothing is under way for any line of a set.
-pub(crate) fn all_settled(entries: &[(u64, Entry)]) -> bool
-    ensures { result ≡ all_settled entries.now }
-{
-    entries.iter().all(|entry| entry.1.is_settled())
+/// What is asked of the entry of a line.
+pub enum EntryTest {
+    /// Something is under way for the line.
+    UnderWay,
+    /// Nothing is under way for it.
+    Settled,
+    /// No core owns it.
+    Shared,
 }
 
-// The least recently used line that no core owns.
-fn first_shared(entries: &[(u64, Entry)]) -> Option<u64>
-    ensures { result ≡ first_of is_shared entries.now }
-{
-    let (line, _) = entries.iter().find(|entry| entry.1.is_shared())?;
-    Some(*line)
+impl LineTest<Entry> for EntryTest {
+    ghost use Rattle.llc_bank.specs.Settled.{passes};
+
+    ghost passes = { passes };
+
+    fn passes(&self, entry: &Entry) -> bool {
+        match self {
+            EntryTest::UnderWay => !entry.is_settled(),
+            EntryTest::Settled => entry.is_settled(),
+            EntryTest::Shared => entry.is_shared(),
+        }
+    }
 }
 
-// The least recently used line that nothing is under way for.
-fn first_settled(entries: &[(u64, Entry)]) -> Option<u64>
-    ensures { result ≡ first_of is_settled entries.now }
+/// Whether nothing is under way for any line of a set.
+pub(crate) fn all_settled(table: &LineSets<Entry>, set: usize) -> bool
+    requires { set < length table.now.sets }
+    ensures { result ≡ all_settled (set_at table.now.sets set) }
 {
-    let (line, _) = entries.iter().find(|entry| entry.1.is_settled())?;
-    Some(*line)
+    table.first_where(set, &EntryTest::UnderWay).is_none()
 }
 
-// The line of a set to evict to make room.
-pub(crate) fn choose(entries: &[(u64, Entry)]) -> Option<LineNo>
-    ensures { result ≡ chosen entries.now }
+/// The line of a set to evict to make room.
+pub(crate) fn choose(table: &LineSets<Entry>, set: usize) -> Option<LineNo>
+    requires { set < length table.now.sets }
+    ensures { result ≡ chosen (set_at table.now.sets set) }
 {
-    if let Some(line) = first_shared(entries) {
+    if let Some(line) = table.first_where(set, &EntryTest::Shared) {
         return Some(LineNo(line));
     }
-    let line = first_settled(entries)?;
+    let line = table.first_where(set, &EntryTest::Settled)?;
     Some(LineNo(line))
 }

@@ -4,8 +4,7 @@ use Rattle.std.proofs.Common.{replicate, Some, None, refl, sym, ap, ◌∙◌, a
 use Rattle.std.specs.Option.{is_some}
 use Rattle.std.proofs.lemmas.List.{length-replicate}
 use Rattle.std.proofs.lemmas.Bool.{cases_eq, cond-true, eq-eqb, lt-ltb, or_right}
-use Rattle.std.specs.List.{slice_get}
-use Rattle.line_sets.specs.Order.{is_there, find, without}
+use Rattle.line_sets.specs.Order.{is_there, find, oldest, without}
 use Rattle.line_sets.specs.SetTable.{Sets, set_at, look, put, put_within, drop_line, empty_sets}
 use Rattle.line_sets.proofs.Lemmas.{length-without_there, set_at-set_same, look-put_other, look-put_other_set}
 use Rattle.line_sets.proofs.Lemmas.{look-put_within_other, look-put_within_other_set, look-drop_line_other}
@@ -140,29 +139,27 @@ victim-place cache line victim sound fits e =
     (line % length (drop_line cache.sets (set_of cache victim) victim)))) cache.ways)
     (rw (len, at) (lt-ltb (length (without (set_at cache.sets (set_of cache line)) victim)) cache.ways less))
 
--- the first entry of a set
-pub first-line :
-    (ps xs : List (ℕ × LineCopy)) (p : ℕ × LineCopy) → xs ≡ ps → Some p ≡ slice_get xs 0 → first_line ps ≡ Some p.0
-first-line [] xs p e h = let z : Some p ≡ None = h ∙ ap (λ (qs : List (ℕ × LineCopy)). slice_get qs 0) e in cc
-first-line (q ∷ ps) xs p e h = let z : Some p ≡ Some q = h ∙ ap (λ (qs : List (ℕ × LineCopy)). slice_get qs 0) e in cc
+-- the first line of a set
+first-oldest : (ps : List (ℕ × LineCopy)) (line : ℕ) → Some line ≡ oldest ps → first_line ps ≡ Some line
+first-oldest [] line e = cc
+first-oldest (p ∷ ps) line e = sym e
 
--- the first entry of a full set, as the code reads it
+-- the first line of a full set, as the code reads it
 pub record IsVictim (cache : Sets LineCopy) (line victim : ℕ) : Type 0 where
   pub there : is_some (copy_of cache victim) ≡ true
   pub makes_place : IsTrue (place_for (without_copy cache victim) line)
 
 pub victim-first :
-    (table cache : Sets LineCopy) (line set : ℕ) (xs : List (ℕ × LineCopy)) (p : ℕ × LineCopy) → table ≡ cache →
-    IsSound table → set ≡ set_of cache line → xs ≡ set_at table.sets set → length xs ≤ table.ways →
-    Some p ≡ slice_get xs 0 → IsVictim cache line p.0
-victim-first table cache line set xs p view sound number lines within read =
+    (table cache : Sets LineCopy) (line set victim : ℕ) → table ≡ cache → IsSound table → set ≡ set_of cache line →
+    length (set_at table.sets set) ≤ table.ways → Some victim ≡ oldest (set_at table.sets set) →
+    IsVictim cache line victim
+victim-first table cache line set victim view sound number within read =
     let sound_cache : IsSound cache = rw (← view) sound in
-    let same : xs ≡ set_at cache.sets (set_of cache line) = rw (← number, ← view) lines in
-    let fits : length (set_at cache.sets (set_of cache line)) ≤ cache.ways = rw (← same, ← view) within in
-    let first : first_line (set_at cache.sets (set_of cache line)) ≡ Some p.0 =
-    first-line (set_at cache.sets (set_of cache line)) xs p same read in
+    let fits : length (set_at cache.sets (set_of cache line)) ≤ cache.ways = rw (← number, ← view) within in
+    let first : first_line (set_at cache.sets (set_of cache line)) ≡ Some victim =
+    first-oldest (set_at cache.sets (set_of cache line)) victim (rw (← number, ← view) read) in
     record {
-      there = (victim-copy cache line p.0 sound_cache first).1;
+      there = (victim-copy cache line victim sound_cache first).1;
       makes_place =
-          victim-place cache line p.0 sound_cache fits first;
+          victim-place cache line victim sound_cache fits first;
     }

@@ -216,8 +216,8 @@ impl Cache {
         if self.place(line) {
             return None;
         }
-        let (first, _) = self.table.contents(self.set_of(line)).first()?;
-        Some(LineNo(*first))
+        let oldest = self.table.oldest(self.set_of(line))?;
+        Some(LineNo(oldest))
     }
 
     /// The lines of all copies, rising.

@@ -1,5 +1,5 @@
 //! Sets of lines in order of use.
-use line_sets::{LineSets, Listed};
+use line_sets::{LineSets, LineTest, Listed};
 use network::LineNo;
 
 // A value; odd ones are listed.
@@ -16,6 +16,19 @@ impl Listed for Mark {
     }
 }
 
+// The values above a number.
+struct Above(u64);
+
+impl LineTest<Mark> for Above {
+    ghost use Rattle.std.specs.Prelude.{nat_lt};
+
+    ghost passes = { λ above mark. nat_lt above.0 mark.0 };
+
+    fn passes(&self, mark: &Mark) -> bool {
+        self.0 < mark.0
+    }
+}
+
 #[test]
 fn keeps_the_order_of_use(rt: HostRuntime) -> Result<(), std::test::Fail> {
     let mut table: LineSets<Mark> = LineSets::new(rt.alloc(), 2, 2)?;
@@ -27,11 +40,16 @@ fn keeps_the_order_of_use(rt: HostRuntime) -> Result<(), std::test::Fail> {
     table.insert(1, 5, Mark(3));
     assert!(rt; !table.has_room(1));
     table.insert(0, 6, Mark(4));
-    assert_eq!(rt; table.contents(1), [(9, Mark(1)), (5, Mark(3))].as_slice());
+    assert_eq!(rt; table.oldest(1), Some(9));
+    assert_eq!(rt; table.first_where(1, &Above(0)), Some(9));
+    assert_eq!(rt; table.first_where(1, &Above(1)), Some(5));
+    assert_eq!(rt; table.first_where(1, &Above(3)), None);
     table.insert(1, 9, Mark(7));
-    assert_eq!(rt; table.contents(1), [(5, Mark(3)), (9, Mark(7))].as_slice());
+    assert_eq!(rt; table.oldest(1), Some(5));
+    assert_eq!(rt; table.first_where(1, &Above(3)), Some(9));
     table.replace(1, 5, Mark(11));
-    assert_eq!(rt; table.contents(1), [(5, Mark(11)), (9, Mark(7))].as_slice());
+    assert_eq!(rt; table.oldest(1), Some(5));
+    assert_eq!(rt; table.first_where(1, &Above(7)), Some(5));
     assert_eq!(rt; table.find(1, 9), Some(&Mark(7)));
     assert_eq!(rt; table.find(0, 9), None);
     assert_eq!(rt;
@@ -40,6 +58,9 @@ fn keeps_the_order_of_use(rt: HostRuntime) -> Result<(), std::test::Fail> {
     );
     assert_eq!(rt; table.remove(1, 5), Some(Mark(11)));
     assert_eq!(rt; table.remove(1, 5), None);
-    assert_eq!(rt; table.contents(1), [(9, Mark(7))].as_slice());
+    assert_eq!(rt; table.oldest(1), Some(9));
+    assert_eq!(rt; table.remove(1, 9), Some(Mark(7)));
+    assert_eq!(rt; table.oldest(1), None);
+    assert_eq!(rt; table.oldest(0), Some(6));
     Ok(())
 }

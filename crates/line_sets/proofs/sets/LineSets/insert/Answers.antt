@@ -1,17 +1,108 @@
-use Rattle.line_sets.specs.Order.{put_last}
-use Rattle.line_sets.proofs.ReadySets.{changed, ready-put}
+use Rattle.std.proofs.Common.{sym, ap, ◌∙◌, not}
+use Rattle.std.specs.Option.{is_some}
+use Rattle.line_sets.proofs.StoredSets.{table_of, below, has-room, is-free, is-found, is-ok, if-ok, if-some, put-new}
+use Rattle.line_sets.proofs.StoredSets.{row-room, used, written-there}
+use Rattle.line_sets.proofs.Walks.{is-none, used-last}
 use Rattle.line_sets.proofs.sets.LineSets.insert.Goals as goal
+
+pub unwrap-cell-requires : goal.unwrap-cell-requires
+unwrap-cell-requires g c =
+    let a = c.self.inside.arena in let rs = c.self.inside.rows in let w = c.self.inside.ways in
+    let h = below a.lists c.args.set (rw (← c.self.view_is) at c.requires.in_table) in
+    let room = has-room w a rs c.args.set c.args.line c.self.invariant h (sym c.find.ensures ∙ c.in_default.is)
+    (rw (← c.self.view_is) at c.requires.way) in
+    is-ok c.push_back-pushed.result
+    (λ err. is-free w a rs c.args.set c.self.invariant h room (c.push_back-pushed.ensures.full.0 err))
+
+pub push-requires-clause-room : goal.push-requires-clause-room
+push-requires-clause-room g c =
+    let a = c.self.inside.arena in let rs = c.self.inside.rows in let w = c.self.inside.ways in
+    let h = below a.lists c.args.set (rw (← c.self.view_is) at c.requires.in_table) in
+    let room = has-room w a rs c.args.set c.args.line c.self.invariant h (sym c.find.ensures ∙ c.in_default.is)
+    (rw (← c.self.view_is) at c.requires.way) in
+    row-room w a rs c.args.set c.self.invariant h room
 
 pub invariant_of-self : goal.invariant_of-self
 invariant_of-self g c =
-    let below = rw (← c.self.view_is) at c.requires.in_table in
-    ready-put c.self.inside.ways c.self.inside.sets.items c.args.set c.index_mut.result.now
-    c.put_entry_last.new.entries c.args.line c.args.value c.self.invariant below c.index_mut.ensures.value
-    (rw (← c.self.view_is) at c.requires.way) c.put_entry_last.ensures.items c.put_entry_last.ensures.capacity
+    let a = c.self.inside.arena in let rs = c.self.inside.rows in let w = c.self.inside.ways in
+    let h = below a.lists c.args.set (rw (← c.self.view_is) at c.requires.in_table) in
+    let none = sym c.find.ensures ∙ c.in_default.is in
+    let room = has-room w a rs c.args.set c.args.line c.self.invariant h none
+    (rw (← c.self.view_is) at c.requires.way) in
+    let after = if-ok _ c.push_back-pushed.result c.unwrap-cell.result c.push_back-pushed.ensures.after
+    c.unwrap-cell.ensures in
+    rw c.push.ensures (put-new w a c.push_back-pushed.new.self rs c.args.set c.args.line c.cell.inside.0 c.args.value
+    c.self.invariant h none room (rw (← c.cell.view_is) at after)).stored
+
+pub returns-in_default : goal.returns-in_default
+returns-in_default g c =
+    let a = c.self.inside.arena in let rs = c.self.inside.rows in let w = c.self.inside.ways in
+    let h = below a.lists c.args.set (rw (← c.self.view_is) at c.requires.in_table) in
+    let none = sym c.find.ensures ∙ c.in_default.is in
+    let room = has-room w a rs c.args.set c.args.line c.self.invariant h none
+    (rw (← c.self.view_is) at c.requires.way) in
+    let after = if-ok _ c.push_back-pushed.result c.unwrap-cell.result c.push_back-pushed.ensures.after
+    c.unwrap-cell.ensures in
+    rw (← c.self.view_is) (ap (table_of w) (put-new w a c.push_back-pushed.new.self rs c.args.set c.args.line
+    c.cell.inside.0 c.args.value c.self.invariant h none room (rw (← c.cell.view_is) at after)).are)
+
+pub get_mut-requires : goal.get_mut-requires
+get_mut-requires g c =
+    let a = c.self.inside.arena in let rs = c.self.inside.rows in let w = c.self.inside.ways in
+    let h = below a.lists c.args.set (rw (← c.self.view_is) at c.requires.in_table) in
+    let found = is-found w a rs c.args.set c.args.line c.in-Some.cell c.self.invariant c.lists-lists.ensures.once
+    c.looked_up.ensures h (sym c.find.ensures ∙ c.in-Some.is) in
+    ap is_some found.cell
+
+pub move_to_back-requires-clause-cell : goal.move_to_back-requires-clause-cell
+move_to_back-requires-clause-cell g c =
+    let a = c.self.inside.arena in let rs = c.self.inside.rows in let w = c.self.inside.ways in
+    let h = below a.lists c.args.set (rw (← c.self.view_is) at c.requires.in_table) in
+    ap is_some (written-there w a rs c.args.set c.args.line c.in-Some.cell c.args.value c.self.invariant
+    c.lists-lists.ensures.once c.looked_up.ensures h (sym c.find.ensures ∙ c.in-Some.is))
+
+pub invariant_of-self-2 : goal.invariant_of-self-2
+invariant_of-self-2 g c =
+    let a = c.self.inside.arena in let rs = c.self.inside.rows in let w = c.self.inside.ways in
+    let h = below a.lists c.args.set (rw (← c.self.view_is) at c.requires.in_table) in
+    let here = sym c.find.ensures ∙ c.in-Some.is in
+    let there = written-there w a rs c.args.set c.args.line c.in-Some.cell c.args.value c.self.invariant
+    c.lists-lists.ensures.once c.looked_up.ensures h here in
+    let after = if-some _ _ (c.args.line, c.args.value) c.move_to_back.ensures there in
+    (used w a c.move_to_back.new.self rs c.args.set c.args.line c.in-Some.cell c.args.value c.self.invariant
+    c.lists-lists.ensures.once c.looked_up.ensures c.taken_off.ensures h here after).stored
 
 pub returns : goal.returns
 returns g c =
-    let below = rw (← c.self.view_is) at c.requires.in_table in
-    rw (← c.self.view_is) (changed c.self.inside.ways c.self.inside.sets.items c.args.set c.index_mut.result.now
-    c.put_entry_last.new.entries (λ ps. put_last ps c.args.line c.args.value) below c.index_mut.ensures.value
-    c.put_entry_last.ensures.items)
+    let a = c.self.inside.arena in let rs = c.self.inside.rows in let w = c.self.inside.ways in
+    let h = below a.lists c.args.set (rw (← c.self.view_is) at c.requires.in_table) in
+    let here = sym c.find.ensures ∙ c.in-Some.is in
+    let there = written-there w a rs c.args.set c.args.line c.in-Some.cell c.args.value c.self.invariant
+    c.lists-lists.ensures.once c.looked_up.ensures h here in
+    let after = if-some _ _ (c.args.line, c.args.value) c.move_to_back.ensures there in
+    rw (← c.self.view_is) (ap (table_of w) (used w a c.move_to_back.new.self rs c.args.set c.args.line c.in-Some.cell
+    c.args.value c.self.invariant c.lists-lists.ensures.once c.looked_up.ensures c.taken_off.ensures h here after).are)
+
+pub next-requires : goal.next-requires
+next-requires g c =
+    let a = c.self.inside.arena in let rs = c.self.inside.rows in let w = c.self.inside.ways in
+    let h = below a.lists c.args.set (rw (← c.self.view_is) at c.requires.in_table) in
+    ap is_some (written-there w a rs c.args.set c.args.line c.in-Some.cell c.args.value c.self.invariant
+    c.lists-lists.ensures.once c.looked_up.ensures h (sym c.find.ensures ∙ c.in-Some.is))
+
+pub invariant_of-self-then-is_none : goal.invariant_of-self-then-is_none
+invariant_of-self-then-is_none g c =
+    let a = c.self.inside.arena in let rs = c.self.inside.rows in let w = c.self.inside.ways in
+    let h = below a.lists c.args.set (rw (← c.self.view_is) at c.requires.in_table) in
+    let last = sym c.next.ensures ∙ is-none c.next.result (c.is_none.ensures ∙ ap not c.if-is_none.true) in
+    (used-last w a rs c.args.set c.args.line c.in-Some.cell c.args.value c.self.invariant c.lists-lists.ensures.once
+    c.looked_up.ensures c.taken_off.ensures h (sym c.find.ensures ∙ c.in-Some.is) last).stored
+
+pub returns-then-is_none : goal.returns-then-is_none
+returns-then-is_none g c =
+    let a = c.self.inside.arena in let rs = c.self.inside.rows in let w = c.self.inside.ways in
+    let h = below a.lists c.args.set (rw (← c.self.view_is) at c.requires.in_table) in
+    let last = sym c.next.ensures ∙ is-none c.next.result (c.is_none.ensures ∙ ap not c.if-is_none.true) in
+    rw (← c.self.view_is) (ap (table_of w) (used-last w a rs c.args.set c.args.line c.in-Some.cell c.args.value
+    c.self.invariant c.lists-lists.ensures.once c.looked_up.ensures c.taken_off.ensures h
+    (sym c.find.ensures ∙ c.in-Some.is) last).are)

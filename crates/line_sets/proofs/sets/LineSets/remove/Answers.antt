@@ -1,17 +1,58 @@
-use Rattle.line_sets.specs.Order.{without}
-use Rattle.line_sets.proofs.ReadySets.{changed, ready-drop_line}
+use Rattle.std.proofs.Common.{sym, ap, ◌∙◌}
+use Rattle.std.specs.Option.{is_some}
+use Rattle.line_sets.proofs.StoredSets.{table_of, below, is-found, is-missing, nothing-cut, cut-off, second-of}
 use Rattle.line_sets.proofs.sets.LineSets.remove.Goals as goal
 
 pub invariant_of-self : goal.invariant_of-self
 invariant_of-self g c =
-    let below = rw (← c.self.view_is) at c.requires in
-    ready-drop_line c.self.inside.ways c.self.inside.sets.items c.args.set c.index_mut.result.now
-    c.remove_entry.new.entries c.args.line c.self.invariant below c.index_mut.ensures.value
-    c.remove_entry.ensures.items c.remove_entry.ensures.capacity
+    let a = c.self.inside.arena in let rs = c.self.inside.rows in let w = c.self.inside.ways in
+    let h = below a.lists c.args.set (rw (← c.self.view_is) at c.requires) in
+    (nothing-cut w a rs c.take.new.self c.args.set c.args.line c.self.invariant h
+    (sym c.take.ensures.value ∙ c.in_default.is) c.take.ensures.after).stored
+
+pub returns-in_default-clause-value : goal.returns-in_default-clause-value
+returns-in_default-clause-value g c =
+    let a = c.self.inside.arena in let rs = c.self.inside.rows in let w = c.self.inside.ways in
+    let h = below a.lists c.args.set (rw (← c.self.view_is) at c.requires) in
+    rw (← c.self.view_is) (sym (is-missing w a rs c.args.set c.args.line c.self.invariant h
+    (sym c.take.ensures.value ∙ c.in_default.is)))
+
+pub returns-in_default-clause-after : goal.returns-in_default-clause-after
+returns-in_default-clause-after g c =
+    let a = c.self.inside.arena in let rs = c.self.inside.rows in let w = c.self.inside.ways in
+    let h = below a.lists c.args.set (rw (← c.self.view_is) at c.requires) in
+    rw (← c.self.view_is) (ap (table_of w) (nothing-cut w a rs c.take.new.self c.args.set c.args.line c.self.invariant
+    h (sym c.take.ensures.value ∙ c.in_default.is) c.take.ensures.after).are)
+
+pub unlink-line-requires : goal.unlink-line-requires
+unlink-line-requires g c =
+    let a = c.self.inside.arena in let rs = c.self.inside.rows in let w = c.self.inside.ways in
+    let h = below a.lists c.args.set (rw (← c.self.view_is) at c.requires) in
+    let found = is-found w a rs c.args.set c.args.line c.in-Some.cell c.self.invariant c.lists-lists.ensures.once
+    c.looked_up.ensures h (sym c.take.ensures.value ∙ c.in-Some.is) in
+    ap is_some found.cell
+
+pub invariant_of-self-2 : goal.invariant_of-self-2
+invariant_of-self-2 g c =
+    let a = c.self.inside.arena in let rs = c.self.inside.rows in let w = c.self.inside.ways in
+    let h = below a.lists c.args.set (rw (← c.self.view_is) at c.requires) in
+    rw c.take.ensures.after (cut-off w a c.unlink-line.new.self rs c.args.set c.args.line c.in-Some.cell
+    c.self.invariant c.lists-lists.ensures.once c.looked_up.ensures c.taken_off.ensures h
+    (sym c.take.ensures.value ∙ c.in-Some.is) c.unlink-line.ensures.after).stored
+
+pub returns-clause-value : goal.returns-clause-value
+returns-clause-value g c =
+    let a = c.self.inside.arena in let rs = c.self.inside.rows in let w = c.self.inside.ways in
+    let h = below a.lists c.args.set (rw (← c.self.view_is) at c.requires) in
+    let found = is-found w a rs c.args.set c.args.line c.in-Some.cell c.self.invariant c.lists-lists.ensures.once
+    c.looked_up.ensures h (sym c.take.ensures.value ∙ c.in-Some.is) in
+    rw (← c.self.view_is) (second-of c.unlink-line.result c.args.line found.value
+    (sym c.unlink-line.ensures.value ∙ found.cell) ∙ sym found.entry)
 
 pub returns-clause-after : goal.returns-clause-after
 returns-clause-after g c =
-    let below = rw (← c.self.view_is) at c.requires in
-    rw (← c.self.view_is) (changed c.self.inside.ways c.self.inside.sets.items c.args.set c.index_mut.result.now
-    c.remove_entry.new.entries (λ ps. without ps c.args.line) below c.index_mut.ensures.value
-    c.remove_entry.ensures.items)
+    let a = c.self.inside.arena in let rs = c.self.inside.rows in let w = c.self.inside.ways in
+    let h = below a.lists c.args.set (rw (← c.self.view_is) at c.requires) in
+    rw (← c.self.view_is) (ap (table_of w) (cut-off w a c.unlink-line.new.self rs c.args.set c.args.line c.in-Some.cell
+    c.self.invariant c.lists-lists.ensures.once c.looked_up.ensures c.taken_off.ensures h
+    (sym c.take.ensures.value ∙ c.in-Some.is) c.unlink-line.ensures.after).are)

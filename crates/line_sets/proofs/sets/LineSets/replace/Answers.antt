@@ -1,17 +1,37 @@
-use Rattle.line_sets.specs.Order.{put_in_place}
-use Rattle.line_sets.proofs.ReadySets.{changed, ready-put_within}
+use Rattle.std.proofs.Common.{refl, sym, ap, ◌∙◌, true≢false}
+use Rattle.std.specs.Option.{is_some}
+use Rattle.line_sets.proofs.StoredSets.{table_of, below, is-found, is-missing, written, written-in}
 use Rattle.line_sets.proofs.sets.LineSets.replace.Goals as goal
+
+pub get_mut-requires : goal.get_mut-requires
+get_mut-requires g c =
+    let a = c.self.inside.arena in let rs = c.self.inside.rows in let w = c.self.inside.ways in
+    let h = below a.lists c.args.set (rw (← c.self.view_is) at c.requires.in_table) in
+    let found = is-found w a rs c.args.set c.args.line c.in-Some.cell c.self.invariant c.lists-lists.ensures.once
+    c.looked_up.ensures h (sym c.find.ensures ∙ c.in-Some.is) in
+    ap is_some found.cell
 
 pub invariant_of-self : goal.invariant_of-self
 invariant_of-self g c =
-    let below = rw (← c.self.view_is) at c.requires.in_table in
-    ready-put_within c.self.inside.ways c.self.inside.sets.items c.args.set c.index_mut.result.now
-    c.replace_entry.new.entries c.args.line c.args.value c.self.invariant below c.index_mut.ensures.value
-    c.replace_entry.ensures.items c.replace_entry.ensures.capacity
+    let a = c.self.inside.arena in let rs = c.self.inside.rows in let w = c.self.inside.ways in
+    let h = below a.lists c.args.set (rw (← c.self.view_is) at c.requires.in_table) in
+    (written w a (written-in c.in-Some.cell (c.args.line, c.args.value) a) rs c.args.set c.args.line c.in-Some.cell
+    c.args.value c.self.invariant c.lists-lists.ensures.once c.looked_up.ensures h
+    (sym c.find.ensures ∙ c.in-Some.is) refl).stored
 
-pub returns : goal.returns
-returns g c =
-    let below = rw (← c.self.view_is) at c.requires.in_table in
-    rw (← c.self.view_is) (changed c.self.inside.ways c.self.inside.sets.items c.args.set c.index_mut.result.now
-    c.replace_entry.new.entries (λ ps. put_in_place ps c.args.line c.args.value) below c.index_mut.ensures.value
-    c.replace_entry.ensures.items)
+pub returns-in-Some : goal.returns-in-Some
+returns-in-Some g c =
+    let a = c.self.inside.arena in let rs = c.self.inside.rows in let w = c.self.inside.ways in
+    let h = below a.lists c.args.set (rw (← c.self.view_is) at c.requires.in_table) in
+    rw (← c.self.view_is) (ap (table_of w) (written w a (written-in c.in-Some.cell (c.args.line, c.args.value) a) rs
+    c.args.set c.args.line c.in-Some.cell c.args.value c.self.invariant c.lists-lists.ensures.once
+    c.looked_up.ensures h (sym c.find.ensures ∙ c.in-Some.is) refl).are)
+
+pub returns-in_default : goal.returns-in_default
+returns-in_default g c =
+    let a = c.self.inside.arena in let rs = c.self.inside.rows in let w = c.self.inside.ways in
+    let h = below a.lists c.args.set (rw (← c.self.view_is) at c.requires.in_table) in
+    let there = rw (← c.self.view_is) at c.requires.there in
+    let none = ap is_some (is-missing w a rs c.args.set c.args.line c.self.invariant h
+    (sym c.find.ensures ∙ c.in_default.is)) in
+    absurd (true≢false (sym there ∙ none))

@@ -1,0 +1,71 @@
+use Rattle.std.proofs.Common.{◌≡◌, ◌<◌, ◌∷◌, ◌++◌, [], length, sym, ap, ◌∙◌, arith, set}
+use Rattle.line_sets.specs.SetTable.{set_at}
+use Rattle.line_sets.specs.RowPlaces.{rows_of}
+use Rattle.line_sets.proofs.RowLaws.{below-of, place-read, no-place, room-for, spread-more, rows-more, row-none}
+use Rattle.line_sets.proofs.RowLaws.{row-some, rows-written}
+use Rattle.line_sets.proofs.rows.Rows.push.Goals as goal
+
+pub push_reserved-requires : goal.push_reserved-requires
+push_reserved-requires c =
+    let ps = c.self.inside.places.items in let rs = c.self.inside.rows.items in
+    let low : c.args.set < length ps = below-of ps rs c.args.set (rw (← c.self.view_is) at c.requires.in_table) in
+    let none = place-read ps c.args.set c.index.result.now low c.index.ensures
+    ∙ no-place c.index.result.now c.in_default.not-Some in
+    omega (arith, room-for ps rs _ c.args.set c.self.invariant low none)
+
+pub invariant_of-self : goal.invariant_of-self
+invariant_of-self c =
+    let ps = c.self.inside.places.items in let rs = c.self.inside.rows.items in
+    let low : c.args.set < length ps = below-of ps rs c.args.set (rw (← c.self.view_is) at c.requires.in_table) in
+    let none = place-read ps c.args.set c.index.result.now low c.index.ensures
+    ∙ no-place c.index.result.now c.in_default.not-Some in
+    let last : c.len-place.result ≡ length rs = omega (arith, c.len-place.ensures) in
+    rw (c.push_reserved.ensures.items, c.push_reserved.ensures.capacity)
+    (spread-more ps rs _ c.args.set c.len-place.result c.push.new.self c.self.invariant low none last)
+
+pub returns-in_default : goal.returns-in_default
+returns-in_default c =
+    let ps = c.self.inside.places.items in let rs = c.self.inside.rows.items in
+    let below = rw (← c.self.view_is) at c.requires.in_table in
+    let low : c.args.set < length ps = below-of ps rs c.args.set below in
+    let none = place-read ps c.args.set c.index.result.now low c.index.ensures
+    ∙ no-place c.index.result.now c.in_default.not-Some in
+    let empty : set_at (rows_of ps rs) c.args.set ≡ [] = row-none ps rs c.args.set below none in
+    let one : c.push.new.self.items ≡ set_at (rows_of ps rs) c.args.set ++ (c.args.line, c.args.cell) ∷ [] =
+    c.push.ensures.items ∙ ap (λ us. us ++ (c.args.line, c.args.cell) ∷ []) (c.new-row.ensures ∙ sym empty) in
+    let last : c.len-place.result ≡ length rs = omega (arith, c.len-place.ensures) in
+    rw (← c.self.view_is, c.push_reserved.ensures.items)
+    (rows-more ps rs _ c.args.set c.len-place.result c.push.new.self c.self.invariant low last
+    ∙ ap (λ us. set (rows_of ps rs) c.args.set us) one)
+
+pub index_mut-requires-2 : goal.index_mut-requires-2
+index_mut-requires-2 c =
+    let ps = c.self.inside.places.items in let rs = c.self.inside.rows.items in
+    let low : c.args.set < length ps = below-of ps rs c.args.set (rw (← c.self.view_is) at c.requires.in_table) in
+    let at = place-read ps c.args.set c.index.result.now low c.index.ensures ∙ c.in-Some.is in
+    omega (arith, c.self.invariant.below c.args.set c.in-Some.place at)
+
+pub push-requires-2 : goal.push-requires-2
+push-requires-2 c =
+    let ps = c.self.inside.places.items in let rs = c.self.inside.rows.items in
+    let below = rw (← c.self.view_is) at c.requires.in_table in
+    let low : c.args.set < length ps = below-of ps rs c.args.set below in
+    let at = place-read ps c.args.set c.index.result.now low c.index.ensures ∙ c.in-Some.is in
+    let in_rows : c.in-Some.place < length rs = c.self.invariant.below c.args.set c.in-Some.place at in
+    let same = row-some ps rs c.args.set c.in-Some.place c.index_mut-2.result.now below at in_rows
+    c.index_mut-2.ensures.value in
+    let room = rw (← c.self.view_is) at c.requires.room in (omega arith, rw same at room)
+
+pub returns : goal.returns
+returns c =
+    let ps = c.self.inside.places.items in let rs = c.self.inside.rows.items in
+    let below = rw (← c.self.view_is) at c.requires.in_table in
+    let low : c.args.set < length ps = below-of ps rs c.args.set below in
+    let at = place-read ps c.args.set c.index.result.now low c.index.ensures ∙ c.in-Some.is in
+    let in_rows : c.in-Some.place < length rs = c.self.invariant.below c.args.set c.in-Some.place at in
+    let same = row-some ps rs c.args.set c.in-Some.place c.index_mut-2.result.now below at in_rows
+    c.index_mut-2.ensures.value in
+    rw (← c.self.view_is)
+    (rows-written ps rs _ c.args.set c.in-Some.place c.push-2.new.self c.self.invariant low at
+    ∙ ap (λ us. set (rows_of ps rs) c.args.set us) (c.push-2.ensures.items
+    ∙ ap (λ us. us ++ (c.args.line, c.args.cell) ∷ []) (sym same)))

@@ -1,0 +1,89 @@
+//! Where the lines of each set are kept: a row of lines with their cells for each set that had a line.
+ghost use Rattle.std.specs.Prelude.{◌≡◌, ◌<◌, ◌≤◌, [], ◌∷◌, ◌++◌, length, replicate, slice_set, IfOk};
+ghost use Rattle.line_sets.specs.Order.{find, without, IsDistinct};
+ghost use Rattle.line_sets.specs.SetTable.{set_at};
+
+use crate::entries::{Row, find_cell, take_line};
+use std::alloc::{AllocError, Global};
+use std::marker::Model;
+
+/// A row of lines with their cells for each set, at most 16 each. A set has its row from its first line on, so no row is
+/// written before. Contracts see the list of rows, by set.
+#[derive(Drop)]
+pub struct Rows {
+    // The number of the row of each set that had a line.
+    places: Vec<Option<u32>>,
+    rows: Vec<Row>,
+}
+
+impl Model for Rows {
+    ghost use Rattle.std.specs.Prelude.{List, ℕ, vec_capacity};
+    ghost use Rattle.line_sets.specs.RowPlaces.{rows_of, IsSpread};
+
+    ghost Value = { List (List (ℕ × ℕ)) };
+
+    ghost view = { λ r. rows_of r.places.items r.rows.items };
+
+    ghost invariant = { λ r. IsSpread r.places.items r.rows.items (vec_capacity r.rows) };
+}
+
+impl Rows {
+    /// Empty rows of 1,048,576 sets at most. All memory is taken here.
+    pub(crate) fn new(alloc: Global, sets: u32) -> Result<Rows, AllocError>
+        requires { sets ≤ 1048576 }
+        ensures { IfOk result (λ rows. rows ≡ replicate sets []) }
+    {
+        let rows = Vec::with_capacity(alloc, sets as usize)?;
+        let mut places = Vec::with_capacity(alloc, sets as usize)?;
+        for _ in 0..sets {
+            places.push_reserved(None);
+        }
+        Ok(Rows { places, rows })
+    }
+
+    /// The allocator.
+    pub(crate) fn allocator(&self) -> Global {
+        *self.rows.allocator()
+    }
+
+    /// The cell of a line in a set.
+    pub(crate) fn find(&self, set: usize, line: u64) -> Option<u32>
+        requires { set < length self.now }
+        ensures { result ≡ find (set_at self.now set) line }
+    {
+        match self.places[set] {
+            None => None,
+            Some(place) => find_cell(&self.rows[place as usize], line),
+        }
+    }
+
+    /// Puts a line with its cell at the end of the row of its set.
+    pub(crate) fn push(&mut self, set: usize, line: u64, cell: u32)
+        requires in_table { set < length self.old }
+        requires room { length (set_at self.old set) < 16 }
+        ensures { self.new ≡ slice_set self.old set (set_at self.old set ++ (line, cell) ∷ []) }
+    {
+        let Some(place) = self.places[set] else {
+            let place = self.rows.len() as u32;
+            let mut row = Row::new();
+            row.push((line, cell));
+            self.rows.push_reserved(row);
+            self.places[set] = Some(place);
+            return;
+        };
+        self.rows[place as usize].push((line, cell));
+    }
+
+    /// Takes a line out of the row of its set, if it is there, and gives its cell.
+    pub(crate) fn take(&mut self, set: usize, line: u64) -> Option<u32>
+        requires in_table { set < length self.old }
+        requires distinct { IsDistinct (set_at self.old set) }
+        ensures value { result ≡ find (set_at self.old set) line }
+        ensures after { self.new ≡ slice_set self.old set (without (set_at self.old set) line) }
+    {
+        let Some(place) = self.places[set] else {
+            return None;
+        };
+        take_line(&mut self.rows[place as usize], line)
+    }
+}

@@ -11,64 +11,83 @@ use report::RunError;
 use std::alloc::{AllocError, Global};
 use std::test::Fail;
 
-// Texts at their limits.
-fn at_limits(alloc: Global) -> Result<[String; 10], Fail> {
-    Ok([
-        with_bytes(alloc, BYTES)?,
-        with_lines(alloc, BYTES - 28, "exists x=0")?,
-        with_name(alloc, 128)?,
-        with_threads(alloc, 16)?,
-        with_rows(alloc, 1024)?,
-        with_locations(alloc, 64, 30)?,
-        with_locations_seen(alloc, 64)?,
-        with_atoms(alloc, 256, "0")?,
-        with_parentheses(alloc, 64)?,
-        with_lines(alloc, 0, "exists x=0")?,
-    ])
+// A text with one part that grows.
+#[derive(Clone, Copy)]
+enum Grown {
+    Bytes(usize),
+    Lines(usize, &'static str),
+    Rest(usize, &'static str),
+    Name(usize),
+    Threads(usize),
+    Rows(usize),
+    Locations(usize, usize),
+    LocationsSeen(usize),
+    Atoms(usize, &'static str),
+    Parentheses(usize),
 }
 
-// Texts past their limits, each with the line and the kind of its fault.
-fn past_limits(alloc: Global) -> Result<[(String, usize, Kind); 14], Fail> {
-    Ok([
-        (with_bytes(alloc, BYTES + 1)?, 1, Kind::TooLarge),
-        (
-            with_lines(alloc, BYTES - 27, "exists x=0")?,
-            1,
-            Kind::TooLarge,
-        ),
-        (
-            with_lines(alloc, BYTES - 28, "exists x=a")?,
-            65_512,
-            Kind::BadCondition,
-        ),
-        (with_name(alloc, 129)?, 1, Kind::BadHeader),
-        (with_name(alloc, 0)?, 1, Kind::BadHeader),
-        (with_rows(alloc, 1025)?, 1028, Kind::TooLarge),
-        (with_locations(alloc, 65, 30)?, 67, Kind::TooLarge),
-        (with_locations(alloc, 1, 31)?, 3, Kind::BadInitial),
-        (with_locations_seen(alloc, 65)?, 69, Kind::TooLarge),
-        (with_atoms(alloc, 257, "0")?, 261, Kind::TooLarge),
-        (with_parentheses(alloc, 65)?, 69, Kind::TooLarge),
-        (with_threads(alloc, 0)?, 3, Kind::BadTable),
-        (
-            with_rest(alloc, 65_000, "{ ; }\n")?,
-            65_002,
-            Kind::BadInitial,
-        ),
-        (
-            with_rest(alloc, 65_000, "{ }\nP1 ;\n")?,
-            65_003,
-            Kind::BadTable,
-        ),
-    ])
+const AT_LIMITS: [Grown; 10] = [
+    Grown::Bytes(BYTES),
+    Grown::Lines(BYTES - 28, "exists x=0"),
+    Grown::Name(128),
+    Grown::Threads(16),
+    Grown::Rows(1024),
+    Grown::Locations(64, 30),
+    Grown::LocationsSeen(64),
+    Grown::Atoms(256, "0"),
+    Grown::Parentheses(64),
+    Grown::Lines(0, "exists x=0"),
+];
+
+// Each with the line and the kind of its fault.
+const PAST_LIMITS: [(Grown, usize, Kind); 14] = [
+    (Grown::Bytes(BYTES + 1), 1, Kind::TooLarge),
+    (Grown::Lines(BYTES - 27, "exists x=0"), 1, Kind::TooLarge),
+    (
+        Grown::Lines(BYTES - 28, "exists x=a"),
+        65_512,
+        Kind::BadCondition,
+    ),
+    (Grown::Name(129), 1, Kind::BadHeader),
+    (Grown::Name(0), 1, Kind::BadHeader),
+    (Grown::Rows(1025), 1028, Kind::TooLarge),
+    (Grown::Locations(65, 30), 67, Kind::TooLarge),
+    (Grown::Locations(1, 31), 3, Kind::BadInitial),
+    (Grown::LocationsSeen(65), 69, Kind::TooLarge),
+    (Grown::Atoms(257, "0"), 261, Kind::TooLarge),
+    (Grown::Parentheses(65), 69, Kind::TooLarge),
+    (Grown::Threads(0), 3, Kind::BadTable),
+    (Grown::Rest(65_000, "{ ; }\n"), 65_002, Kind::BadInitial),
+    (Grown::Rest(65_000, "{ }\nP1 ;\n"), 65_003, Kind::BadTable),
+];
+
+// The text itself.
+fn text_of(alloc: Global, text: &Grown) -> Result<String, AllocError> {
+    match text {
+        Grown::Bytes(bytes) => with_bytes(alloc, *bytes),
+        Grown::Lines(lines, condition) => with_lines(alloc, *lines, condition),
+        Grown::Rest(lines, rest) => with_rest(alloc, *lines, rest),
+        Grown::Name(characters) => with_name(alloc, *characters),
+        Grown::Threads(threads) => with_threads(alloc, *threads),
+        Grown::Rows(rows) => with_rows(alloc, *rows),
+        Grown::Locations(locations, letters) => with_locations(alloc, *locations, *letters),
+        Grown::LocationsSeen(locations) => with_locations_seen(alloc, *locations),
+        Grown::Atoms(atoms, last) => with_atoms(alloc, *atoms, last),
+        Grown::Parentheses(pairs) => with_parentheses(alloc, *pairs),
+    }
+}
+
+#[test]
+fn the_longest_texts(rt: HostRuntime) -> Result<(), Fail> {
+    assert_eq!(rt; text_of(rt.alloc(), &AT_LIMITS[0])?.len(), BYTES);
+    assert_eq!(rt; text_of(rt.alloc(), &AT_LIMITS[1])?.len(), BYTES);
+    Ok(())
 }
 
 #[test]
 fn texts_at_their_limits_are_read(rt: HostRuntime) -> Result<(), Fail> {
-    let texts = at_limits(rt.alloc())?;
-    assert_eq!(rt; texts[0].len(), BYTES);
-    assert_eq!(rt; texts[1].len(), BYTES);
-    for (index, text) in texts.iter().enumerate() {
+    for (index, shape) in AT_LIMITS.iter().enumerate() {
+        let text = text_of(rt.alloc(), shape)?;
         assert_eq!(rt; fault(rt.alloc(), text.as_bytes()), None, "text {index}");
     }
     Ok(())
@@ -76,8 +95,8 @@ fn texts_at_their_limits_are_read(rt: HostRuntime) -> Result<(), Fail> {
 
 #[test]
 fn texts_past_their_limits_are_refused(rt: HostRuntime) -> Result<(), Fail> {
-    let texts = past_limits(rt.alloc())?;
-    for (index, (text, line, kind)) in texts.iter().enumerate() {
+    for (index, (shape, line, kind)) in PAST_LIMITS.iter().enumerate() {
+        let text = text_of(rt.alloc(), shape)?;
         assert_eq!(rt;
             fault(rt.alloc(), text.as_bytes()),
             Some((*line, *kind)),
@@ -252,17 +271,19 @@ write-backs 0
 stale-hits 0
 ";
 
+const RUN: [(Grown, &[u8]); 6] = [
+    (Grown::Threads(16), THREADS),
+    (Grown::Rows(1024), ROWS),
+    (Grown::Atoms(256, "0"), ATOMS),
+    (Grown::Atoms(256, "1"), LAST_ATOM),
+    (Grown::Bytes(BYTES), LONGEST),
+    (Grown::Parentheses(64), LONGEST),
+];
+
 #[test]
 fn texts_at_their_limits_are_run(rt: HostRuntime) -> Result<(), Fail> {
-    let cases = [
-        (with_threads(rt.alloc(), 16)?, THREADS),
-        (with_rows(rt.alloc(), 1024)?, ROWS),
-        (with_atoms(rt.alloc(), 256, "0")?, ATOMS),
-        (with_atoms(rt.alloc(), 256, "1")?, LAST_ATOM),
-        (with_bytes(rt.alloc(), BYTES)?, LONGEST),
-        (with_parentheses(rt.alloc(), 64)?, LONGEST),
-    ];
-    for (index, (text, report)) in cases.iter().enumerate() {
+    for (index, (shape, report)) in RUN.iter().enumerate() {
+        let text = text_of(rt.alloc(), shape)?;
         assert!(rt;
             gives(rt.alloc(), text.as_bytes(), 1, report),
             "text {index}"

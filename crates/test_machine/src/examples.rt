@@ -13,7 +13,7 @@ pub(crate) struct Example {
 }
 
 /// An operation on the word of a number.
-#[derive(Clone, Copy, Debug)]
+#[derive(Clone, Copy)]
 pub(crate) enum On {
     Load(u64),
     Store(u64, u64),
@@ -21,7 +21,7 @@ pub(crate) enum On {
 }
 
 /// What an event is answered, but for a completion.
-#[derive(Clone, Copy, Debug)]
+#[derive(Clone, Copy)]
 pub(crate) enum Says {
     Issued,
     Requested,
@@ -38,7 +38,7 @@ pub(crate) enum Says {
 }
 
 /// One line of an example: an event with its answer, some events that often come together, or a fact.
-#[derive(Clone, Copy, Debug)]
+#[derive(Clone, Copy)]
 pub(crate) enum Step {
     Issue(u32, On, Says),
     Attempt(u32, Says),

@@ -87,8 +87,8 @@ pub(crate) fn play<R: Abort>(rt: &R, alloc: Global, examples: &[Example]) -> Res
     for example in examples {
         let shows = example.shows;
         let mut system = opened(alloc, example.config, example.words)?;
-        for step in example.steps {
-            assert!(rt; goes(alloc, &mut system, step)?, "{shows}: {step:?}");
+        for (number, step) in example.steps.iter().enumerate() {
+            assert!(rt; goes(alloc, &mut system, step)?, "{shows}: step {number}");
         }
         assert!(rt; runs(alloc, example)?, "{shows}, as one list");
     }

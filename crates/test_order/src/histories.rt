@@ -61,22 +61,36 @@ fn word_addresses(rt: HostRuntime) -> Result<(), Fail> {
     Ok(())
 }
 
-#[test]
-fn a_memory_keeps_what_is_set(rt: HostRuntime) -> Result<(), Fail> {
-    let mut memory = Memory::new(rt.alloc());
-    assert_eq!(rt; memory.get(word(5)), 0);
+/// A memory whose word 9 was set twice, and word 5 once.
+fn set_thrice(alloc: Global) -> Result<Memory, AllocError> {
+    let mut memory = Memory::new(alloc);
     memory.set(word(9), 90)?;
     memory.set(word(5), 50)?;
     memory.set(word(9), 91)?;
-    assert_eq!(rt; memory.perform(load(9))?, Some(91));
-    assert_eq!(rt; memory.perform(store(2, 20))?, None);
-    assert_eq!(rt; memory.perform(Op::Swap(word(5), 51))?, Some(50));
+    Ok(memory)
+}
+
+/// What a load of word 9, a store to word 2 and a swap of word 5 receive.
+fn received(memory: &mut Memory) -> Result<[Option<u64>; 3], AllocError> {
+    Ok([
+        memory.perform(load(9))?,
+        memory.perform(store(2, 20))?,
+        memory.perform(Op::Swap(word(5), 51))?,
+    ])
+}
+
+/// Whether the words that a memory keeps are these.
+fn has_words(memory: &Memory, words: &[(WordAddr, u64)]) -> Result<bool, AllocError> {
+    Ok(memory.words()?.as_slice() == words)
+}
+
+#[test]
+fn a_memory_keeps_what_is_set(rt: HostRuntime) -> Result<(), Fail> {
+    assert_eq!(rt; Memory::new(rt.alloc()).get(word(5)), 0);
+    let mut memory = set_thrice(rt.alloc())?;
+    assert!(rt; received(&mut memory)? == [Some(91), None, Some(50)]);
     let copy = memory.try_clone()?;
-    let words = copy.words()?;
-    assert_eq!(rt;
-        words.as_slice(),
-        [(word(2), 20), (word(5), 51), (word(9), 91)].as_slice()
-    );
+    assert!(rt; has_words(&copy, &[(word(2), 20), (word(5), 51), (word(9), 91)])?);
     Ok(())
 }
 
@@ -216,23 +230,40 @@ fn three_cores() -> [Record; 5] {
     ]
 }
 
+/// What the three cores are issued.
+fn issued_to_three(alloc: Global) -> Result<Vec<Vec<Op>>, AllocError> {
+    let mut issued = Vec::new(alloc);
+    issued.push(vec![in alloc; store(0, 1)]?)?;
+    issued.push(vec![in alloc; load(0), load(0)]?)?;
+    issued.push(vec![in alloc; Op::Swap(word(0), 5), load(0)]?)?;
+    Ok(issued)
+}
+
 #[test]
 fn a_stale_hit_is_legal_and_counted(rt: HostRuntime) -> Result<(), Fail> {
-    let mut issued = Vec::new(rt.alloc());
-    issued.push(vec![in rt.alloc(); store(0, 1)]?)?;
-    issued.push(vec![in rt.alloc(); load(0), load(0)]?)?;
-    issued.push(vec![in rt.alloc(); Op::Swap(word(0), 5), load(0)]?)?;
+    let issued = issued_to_three(rt.alloc())?;
     let records = three_cores();
     same(&rt, verdict(rt.alloc(), &issued, &records)?, Verdict::Legal);
     assert!(rt; rises_by_number(&records));
     assert_eq!(rt; stale_hits(rt.alloc(), &records)?, 1);
-    // Two are compared with the one before on their core; the lanes of cores 1 and 0 are merged by two comparisons, and
-    // that of core 2 with them by three. Three loads look once each, a store and a swap look and write.
+    Ok(())
+}
+
+/// A check of the three cores' records.
+fn three_checked(alloc: Global, steps: &mut Steps) -> Result<Verdict, AllocError> {
+    let issued = issued_to_three(alloc)?;
+    check_counted(alloc, steps, &Memory::new(alloc), &issued, &three_cores())
+}
+
+// Two are compared with the one before on their core; the lanes of cores 1 and 0 are merged by two comparisons, and
+// that of core 2 with them by three. Three loads look once each, a store and a swap look and write.
+#[test]
+fn the_steps_of_three_cores_are_counted(rt: HostRuntime) -> Result<(), Fail> {
     let mut steps = Steps::new();
-    let opening = Memory::new(rt.alloc());
-    let counted = check_counted(rt.alloc(), &mut steps, &opening, &issued, &records)?;
-    same(&rt, counted, Verdict::Legal);
+    same(&rt, three_checked(rt.alloc(), &mut steps)?, Verdict::Legal);
     assert_eq!(rt; steps.made(), 7);
+    let records = three_cores();
+    assert!(rt; rises_by_number(&records));
     assert_eq!(rt; stale_hits_counted(rt.alloc(), &mut steps, &records)?, 1);
     assert_eq!(rt; steps.made(), 14);
     Ok(())

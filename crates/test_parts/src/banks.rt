@@ -10,6 +10,223 @@ use network::{Body, LineNo, Message, Node, Part, PartError, Reaction, TimedLine,
 use std::alloc::{AllocError, Global};
 use std::test::Fail;
 
+// A line's two times and its first word.
+#[derive(Clone, Copy)]
+struct At(u64, u64, u64);
+
+// A message to the bank about a line.
+#[derive(Clone, Copy)]
+enum Ask {
+    // A core asks to read at its time, with the version that it has.
+    Read(u32, u64, u64, Option<u64>),
+    // A core asks to own.
+    Own(u32, u64, Option<u64>),
+    // A core gives the line back and keeps no copy.
+    Flushed(u32, u64, At),
+    // A core gives the line back and keeps a copy.
+    Written(u32, u64, At),
+    // DRAM has loaded the line, with this first word.
+    Loaded(u64, u64),
+    // DRAM has stored the line.
+    Stored(u64),
+}
+
+// What the bank sends to a core about the same line.
+#[derive(Clone, Copy)]
+enum Reply {
+    Shared(At),
+    Renewed(u64),
+    Upgraded(u64),
+    Owned(At),
+    Flush,
+    WriteBack(u64),
+}
+
+// What the bank does with a message.
+#[derive(Clone, Copy)]
+enum Says {
+    NoCase,
+    Held,
+    Consumed,
+    TooLate,
+    // It is consumed, and answered to this core.
+    Answers(u32, Reply),
+    // It waits, and this is sent to a core.
+    Asks(u32, Reply),
+    // It waits for a load.
+    Loads,
+}
+
+// What a bank keeps of a line.
+#[derive(Clone, Copy)]
+enum Kept {
+    Nothing,
+    // As it came from DRAM.
+    Clean(At),
+    // As a core gave it back.
+    Dirty(At),
+    Recalling(u32),
+    Storing,
+}
+
+// What an eviction of a line does.
+#[derive(Clone, Copy)]
+enum Evicted {
+    // The line is stored, with this first word.
+    Stored(u64),
+    // This core is asked for the line.
+    Recalled(u32),
+    Refused(EvictError),
+}
+
+// What is done with a bank, or what it says.
+#[derive(Clone, Copy)]
+enum Step {
+    Deliver(Ask, Says),
+    // A message whose answer another step has.
+    Given(Ask),
+    Keeps(u64, Kept),
+    WouldEvict(u64, Result<Option<Node>, EvictError>),
+    Evict(u64, Evicted),
+    Number(u32),
+    MemoryTime(u64),
+    // The line to evict for a line that waits for room.
+    Victim(u64, Option<u64>),
+    Lines(&'static [u64]),
+}
+
+const READ_0: Ask = Ask::Read(0, 0, 0, None);
+
+const OWN_0: Ask = Ask::Own(0, 0, None);
+
+const LOADED_0: Ask = Ask::Loaded(0, 7);
+
+// Four sets of two ways.
+const FOUR_SETS: [(&str, &[Step]); 4] = [
+    (
+        "a first read",
+        &[
+            Step::Number(0),
+            Step::Keeps(0, Kept::Nothing),
+            Step::Deliver(READ_0, Says::Loads),
+            Step::Deliver(READ_0, Says::Held),
+            Step::Deliver(LOADED_0, Says::Consumed),
+            Step::Keeps(0, Kept::Clean(At(0, 0, 7))),
+            Step::Deliver(READ_0, Says::Answers(0, Reply::Shared(At(0, 10, 7)))),
+            Step::Deliver(
+                Ask::Read(0, 0, 11, Some(0)),
+                Says::Answers(0, Reply::Renewed(21)),
+            ),
+            Step::Deliver(
+                Ask::Read(1, 0, 0, None),
+                Says::Answers(1, Reply::Shared(At(0, 21, 7))),
+            ),
+            Step::Keeps(0, Kept::Clean(At(0, 21, 7))),
+        ],
+    ),
+    (
+        "an owner gives its line back",
+        &[
+            Step::Given(READ_0),
+            Step::Given(LOADED_0),
+            Step::Deliver(READ_0, Says::Answers(0, Reply::Shared(At(0, 10, 7)))),
+            Step::Deliver(
+                Ask::Own(0, 0, Some(0)),
+                Says::Answers(0, Reply::Upgraded(10)),
+            ),
+            Step::Deliver(Ask::Own(1, 0, None), Says::Asks(0, Reply::Flush)),
+            Step::Deliver(Ask::Own(1, 0, None), Says::Held),
+            Step::Deliver(Ask::Flushed(0, 0, At(2, 2, 9)), Says::Consumed),
+            Step::Deliver(Ask::Flushed(0, 0, At(2, 2, 9)), Says::NoCase),
+            Step::Keeps(0, Kept::Dirty(At(2, 2, 9))),
+            Step::Deliver(
+                Ask::Own(1, 0, Some(0)),
+                Says::Answers(1, Reply::Owned(At(2, 2, 9))),
+            ),
+            Step::Deliver(
+                Ask::Read(0, 0, 3, None),
+                Says::Asks(1, Reply::WriteBack(13)),
+            ),
+            Step::Keeps(0, Kept::Recalling(1)),
+        ],
+    ),
+    (
+        "a dirty line is stored",
+        &[
+            Step::Given(READ_0),
+            Step::Given(LOADED_0),
+            Step::Given(OWN_0),
+            Step::Deliver(Ask::Written(0, 0, At(2, 2, 9)), Says::Consumed),
+            Step::WouldEvict(0, Ok(Some(Node::Dram(0)))),
+            Step::Evict(0, Evicted::Stored(9)),
+            Step::MemoryTime(2),
+            Step::Keeps(0, Kept::Storing),
+            Step::WouldEvict(0, Err(EvictError::Busy)),
+            Step::Deliver(Ask::Read(1, 0, 0, None), Says::Held),
+            Step::Deliver(Ask::Stored(0), Says::Consumed),
+            Step::Deliver(Ask::Read(1, 0, 0, None), Says::Loads),
+            Step::Evict(0, Evicted::Refused(EvictError::Busy)),
+        ],
+    ),
+    (
+        "sums at the last time",
+        &[
+            Step::Given(READ_0),
+            Step::Given(LOADED_0),
+            Step::Deliver(
+                Ask::Read(0, 0, u64::MAX - 10, None),
+                Says::Answers(0, Reply::Shared(At(0, u64::MAX, 7))),
+            ),
+            Step::Deliver(Ask::Read(0, 0, u64::MAX - 9, None), Says::TooLate),
+            Step::Deliver(OWN_0, Says::Answers(0, Reply::Owned(At(0, u64::MAX, 7)))),
+            Step::Deliver(Ask::Read(1, 0, u64::MAX - 9, None), Says::TooLate),
+            Step::Deliver(
+                Ask::Read(1, 0, u64::MAX - 10, None),
+                Says::Asks(0, Reply::WriteBack(u64::MAX)),
+            ),
+        ],
+    ),
+];
+
+// One set of two ways.
+const ONE_SET: [(&str, &[Step]); 2] = [
+    (
+        "room is made in the order of use",
+        &[
+            Step::Given(READ_0),
+            Step::Given(LOADED_0),
+            Step::Victim(2, None),
+            Step::Deliver(Ask::Read(0, 1, 0, None), Says::Loads),
+            Step::Deliver(Ask::Read(0, 2, 0, None), Says::Held),
+            Step::Victim(2, None),
+            Step::Deliver(Ask::Loaded(1, 8), Says::Consumed),
+            Step::Victim(2, Some(0)),
+            Step::Victim(1, None),
+            Step::Given(READ_0),
+            Step::Victim(2, Some(1)),
+        ],
+    ),
+    (
+        "owned lines make room last: line 0 is owned, line 1 isn't, then both are",
+        &[
+            Step::Given(READ_0),
+            Step::Given(LOADED_0),
+            Step::Given(Ask::Read(0, 1, 0, None)),
+            Step::Given(Ask::Loaded(1, 8)),
+            Step::Given(OWN_0),
+            Step::Given(Ask::Read(0, 1, 0, None)),
+            Step::Victim(2, Some(1)),
+            Step::Given(Ask::Own(0, 1, None)),
+            Step::Victim(2, Some(0)),
+            Step::Lines(&[0, 1]),
+            Step::WouldEvict(1, Ok(Some(Node::Core(0)))),
+            Step::Evict(1, Evicted::Recalled(0)),
+            Step::Lines(&[0]),
+            Step::Victim(2, None),
+        ],
+    ),
+];
+
 // The bank 0 of one, with a lease of 10.
 fn bank(alloc: Global, sets: u32, ways: u32, opening_time: u64) -> Result<Bank, AllocError>
     requires some_sets { 1 ≤ sets }
@@ -74,16 +291,9 @@ fn delivered(bank: &mut Bank, message: &Message) -> Option<Result<Reaction, Part
     Some(by_table(bank, message))
 }
 
-// To what node a bank would send a message, and whether the delivered one would stay.
-fn would_send(bank: &Bank, message: &Message) -> Option<(Node, bool)> {
-    if !has_case(bank, message) {
-        return None;
-    }
-    bank.sends(message)
-}
-
 // A line whose first word is this.
-fn timed(wts: u64, rts: u64, word: u64) -> TimedLine {
+fn timed(at: At) -> TimedLine {
+    let At(wts, rts, word) = at;
     let mut words = Words::zeros();
     words.set(0, word);
     TimedLine { wts, rts, words }
@@ -99,231 +309,171 @@ fn to_bank(from: Node, line: u64, body: Body) -> Message {
     }
 }
 
-// A request of a core to read.
-fn read(core: u32, line: u64, pts: u64, version: Option<u64>) -> Message {
-    to_bank(Node::Core(core), line, Body::ShReq { pts, version })
-}
-
-// A request of a core to own.
-fn own(core: u32, line: u64, version: Option<u64>) -> Message {
-    to_bank(Node::Core(core), line, Body::ExReq { version })
-}
-
-// A core gives a line back and keeps no copy.
-fn flushed(core: u32, line: u64, timed: TimedLine) -> Message {
-    to_bank(Node::Core(core), line, Body::FlushRep(timed))
-}
-
-// DRAM's answer to a load, with this first word.
-fn loaded(line: u64, word: u64) -> Message {
-    to_bank(
-        Node::Dram(0),
-        line,
-        Body::DramLdRep(timed(0, 0, word).words),
-    )
-}
-
 // What bank 0 sends.
-fn from_bank(to: Node, line: u64, body: Body) -> Message {
+fn from_bank(to: Node, line: LineNo, body: Body) -> Message {
     Message {
         from: Node::Bank(0),
         to,
-        line: LineNo(line),
+        line,
         body,
     }
 }
 
-type Delivered = Option<Result<Reaction, PartError>>;
-
-// The request is consumed, and answered to the core.
-fn answers(core: u32, line: u64, body: Body) -> Delivered {
-    Some(Ok(Reaction::Done(Some(from_bank(Node::Core(core), line, body)))))
-}
-
-// The request waits, and this is sent to a core.
-fn asks(core: u32, line: u64, body: Body) -> Delivered {
-    Some(Ok(Reaction::HeldAfter(from_bank(Node::Core(core), line, body))))
-}
-
-// The request waits for a load.
-fn loads(line: u64) -> Delivered {
-    Some(Ok(Reaction::HeldAfter(from_bank(Node::Dram(0), line, Body::DramLd))))
-}
-
-const HELD: Delivered = Some(Ok(Reaction::Held));
-
-const CONSUMED: Delivered = Some(Ok(Reaction::Done(None)));
-
-const TOO_LATE: Delivered = Some(Err(PartError::Exhausted));
-
-// Delivers the messages one after another: the first one that is not answered as expected.
-fn first_wrong(bank: &mut Bank, steps: &[(Message, Delivered)]) -> Option<Message> {
-    for step in steps {
-        if delivered(bank, &step.0) != step.1 {
-            return Some(step.0);
+fn asked(ask: Ask) -> Message {
+    match ask {
+        Ask::Read(core, line, pts, version) => {
+            to_bank(Node::Core(core), line, Body::ShReq { pts, version })
         }
+        Ask::Own(core, line, version) => to_bank(Node::Core(core), line, Body::ExReq { version }),
+        Ask::Flushed(core, line, at) => to_bank(Node::Core(core), line, Body::FlushRep(timed(at))),
+        Ask::Written(core, line, at) => to_bank(Node::Core(core), line, Body::WbRep(timed(at))),
+        Ask::Loaded(line, word) => {
+            let words = timed(At(0, 0, word)).words;
+            to_bank(Node::Dram(0), line, Body::DramLdRep(words))
+        }
+        Ask::Stored(line) => to_bank(Node::Dram(0), line, Body::DramStRep),
     }
-    None
 }
 
-// Takes a line in from DRAM, with this first word, for a request of core 0.
-fn fill(bank: &mut Bank, line: u64, word: u64) {
-    let _loads = delivered(bank, &read(0, line, 0, None));
-    let _filled = delivered(bank, &loaded(line, word));
+fn replied(core: u32, line: LineNo, reply: Reply) -> Message {
+    let body = match reply {
+        Reply::Shared(at) => Body::ShRep(timed(at)),
+        Reply::Renewed(rts) => Body::RenewRep { rts },
+        Reply::Upgraded(rts) => Body::UpgradeRep { rts },
+        Reply::Owned(at) => Body::ExRep(timed(at)),
+        Reply::Flush => Body::FlushReq,
+        Reply::WriteBack(rts) => Body::WbReq { rts },
+    };
+    from_bank(Node::Core(core), line, body)
 }
 
-// What a bank keeps of a line.
-fn kept(bank: &Bank, line: u64) -> Option<Entry> {
-    bank.entry(LineNo(line)).copied()
+fn said(line: LineNo, says: Says) -> Option<Result<Reaction, PartError>> {
+    match says {
+        Says::NoCase => None,
+        Says::Held => Some(Ok(Reaction::Held)),
+        Says::Consumed => Some(Ok(Reaction::Done(None))),
+        Says::TooLate => Some(Err(PartError::Exhausted)),
+        Says::Answers(core, reply) => Some(Ok(Reaction::Done(Some(replied(core, line, reply))))),
+        Says::Asks(core, reply) => Some(Ok(Reaction::HeldAfter(replied(core, line, reply)))),
+        Says::Loads => Some(Ok(Reaction::HeldAfter(from_bank(Node::Dram(0), line, Body::DramLd)))),
+    }
 }
 
-// An eviction of a line.
-fn evicted(bank: &mut Bank, line: u64) -> Result<Evict, EvictError> {
-    bank.evict(LineNo(line))
+fn entry_of(kept: Kept) -> Option<Entry> {
+    match kept {
+        Kept::Nothing => None,
+        Kept::Clean(at) => Some(Entry::Shared {
+            dirty: false,
+            line: timed(at),
+        }),
+        Kept::Dirty(at) => Some(Entry::Shared {
+            dirty: true,
+            line: timed(at),
+        }),
+        Kept::Recalling(owner) => Some(Entry::Recalling { owner }),
+        Kept::Storing => Some(Entry::Storing),
+    }
 }
 
-// Where an eviction of a line would send a message.
-fn would_evict(bank: &Bank, line: u64) -> Result<Option<Node>, EvictError> {
-    bank.evicts(LineNo(line))
+fn eviction(line: LineNo, evicted: Evicted) -> Result<Evict, EvictError> {
+    match evicted {
+        Evicted::Stored(word) => {
+            let words = timed(At(0, 0, word)).words;
+            Ok(Evict::Stored(from_bank(Node::Dram(0), line, Body::DramSt(words))))
+        }
+        Evicted::Recalled(core) => Ok(Evict::Recalled(replied(core, line, Reply::Flush))),
+        Evicted::Refused(e) => Err(e),
+    }
 }
 
-// The line to evict for a line that waits for room.
+// Whether a message is answered as wanted.
+fn answers(bank: &mut Bank, ask: Ask, says: Says) -> bool {
+    let message = asked(ask);
+    let wanted = said(message.line, says);
+    delivered(bank, &message) == wanted
+}
+
 fn victim(bank: &Bank, line: u64) -> Option<u64> {
     let LineNo(victim) = bank.make_room(LineNo(line))?;
     Some(victim)
 }
 
-// A line that a core gave back.
-fn dirty(line: TimedLine) -> Option<Entry> {
-    Some(Entry::Shared { dirty: true, line })
+// Whether the lines of a bank are these.
+fn has_lines(bank: &Bank, wanted: &[u64]) -> Result<bool, AllocError> {
+    let mut left = wanted;
+    for line in bank.lines()?.as_slice() {
+        let Some((number, rest)) = left.split_first() else {
+            return Ok(false);
+        };
+        if line.0 != *number {
+            return Ok(false);
+        }
+        left = rest;
+    }
+    Ok(left.is_empty())
 }
 
-// A line as it came from DRAM.
-fn clean(line: TimedLine) -> Option<Entry> {
-    Some(Entry::Shared { dirty: false, line })
+// Whether a step goes as it says.
+fn goes(bank: &mut Bank, step: &Step) -> Result<bool, AllocError> {
+    match step {
+        Step::Deliver(ask, says) => Ok(answers(bank, *ask, *says)),
+        Step::Given(ask) => Ok(delivered(bank, &asked(*ask)).is_some()),
+        Step::Keeps(line, kept) => Ok(bank.entry(LineNo(*line)).copied() == entry_of(*kept)),
+        Step::WouldEvict(line, wanted) => Ok(bank.evicts(LineNo(*line)) == *wanted),
+        Step::Evict(line, wanted) => {
+            let line = LineNo(*line);
+            Ok(bank.evict(line) == eviction(line, *wanted))
+        }
+        Step::Number(number) => Ok(bank.number() == *number),
+        Step::MemoryTime(time) => Ok(bank.memory_time() == *time),
+        Step::Victim(line, wanted) => Ok(victim(bank, *line) == *wanted),
+        Step::Lines(lines) => has_lines(bank, lines),
+    }
+}
+
+// The number of the first step that doesn't go as it says.
+fn first_wrong(bank: &mut Bank, steps: &[Step]) -> Result<Option<usize>, AllocError> {
+    for number in 0..steps.len() {
+        if !goes(bank, &steps[number])? {
+            return Ok(Some(number));
+        }
+    }
+    Ok(None)
 }
 
 #[test]
-fn a_first_read(rt: HostRuntime) -> Result<(), Fail> {
-    let mut bank = bank(rt.alloc(), 4, 2, 0)?;
-    assert_eq!(rt; bank.number(), 0);
-    assert_eq!(rt; kept(&bank, 0), None);
-    let steps = [
-        (read(0, 0, 0, None), loads(0)),
-        (read(0, 0, 0, None), HELD),
-        (loaded(0, 7), CONSUMED),
-    ];
-    assert_eq!(rt; first_wrong(&mut bank, &steps), None);
-    assert_eq!(rt; kept(&bank, 0), clean(timed(0, 0, 7)));
-    let steps = [
-        (
-            read(0, 0, 0, None),
-            answers(0, 0, Body::ShRep(timed(0, 10, 7))),
-        ),
-        (
-            read(0, 0, 11, Some(0)),
-            answers(0, 0, Body::RenewRep { rts: 21 }),
-        ),
-        (
-            read(1, 0, 0, None),
-            answers(1, 0, Body::ShRep(timed(0, 21, 7))),
-        ),
-    ];
-    assert_eq!(rt; first_wrong(&mut bank, &steps), None);
-    assert_eq!(rt; kept(&bank, 0), clean(timed(0, 21, 7)));
+fn four_sets(rt: HostRuntime) -> Result<(), Fail> {
+    for (shows, steps) in &FOUR_SETS {
+        let mut bank = bank(rt.alloc(), 4, 2, 0)?;
+        assert_eq!(rt; first_wrong(&mut bank, steps)?, None, "{shows}");
+    }
     Ok(())
 }
 
 #[test]
-fn an_owner_gives_its_line_back(rt: HostRuntime) -> Result<(), Fail> {
-    let mut bank = bank(rt.alloc(), 4, 2, 0)?;
-    fill(&mut bank, 0, 7);
-    let steps = [
-        (
-            read(0, 0, 0, None),
-            answers(0, 0, Body::ShRep(timed(0, 10, 7))),
-        ),
-        (
-            own(0, 0, Some(0)),
-            answers(0, 0, Body::UpgradeRep { rts: 10 }),
-        ),
-        (own(1, 0, None), asks(0, 0, Body::FlushReq)),
-        (own(1, 0, None), HELD),
-        (flushed(0, 0, timed(2, 2, 9)), CONSUMED),
-        (flushed(0, 0, timed(2, 2, 9)), None),
-    ];
-    assert_eq!(rt; first_wrong(&mut bank, &steps), None);
-    assert_eq!(rt; kept(&bank, 0), dirty(timed(2, 2, 9)));
-    let steps = [
-        (
-            own(1, 0, Some(0)),
-            answers(1, 0, Body::ExRep(timed(2, 2, 9))),
-        ),
-        (read(0, 0, 3, None), asks(1, 0, Body::WbReq { rts: 13 })),
-    ];
-    assert_eq!(rt; first_wrong(&mut bank, &steps), None);
-    assert_eq!(rt; kept(&bank, 0), Some(Entry::Recalling { owner: 1 }));
+fn one_set(rt: HostRuntime) -> Result<(), Fail> {
+    for (shows, steps) in &ONE_SET {
+        let mut bank = bank(rt.alloc(), 1, 2, 0)?;
+        assert_eq!(rt; first_wrong(&mut bank, steps)?, None, "{shows}");
+    }
     Ok(())
 }
 
-#[test]
-fn a_dirty_line_is_stored(rt: HostRuntime) -> Result<(), Fail> {
-    let mut bank = bank(rt.alloc(), 4, 2, 0)?;
-    fill(&mut bank, 0, 7);
-    let _owned = delivered(&mut bank, &own(0, 0, None));
-    let back = to_bank(Node::Core(0), 0, Body::WbRep(timed(2, 2, 9)));
-    assert_eq!(rt; delivered(&mut bank, &back), CONSUMED);
-    assert_eq!(rt; would_evict(&bank, 0), Ok(Some(Node::Dram(0))));
-    let store = from_bank(Node::Dram(0), 0, Body::DramSt(timed(0, 0, 9).words));
-    assert_eq!(rt; evicted(&mut bank, 0), Ok(Evict::Stored(store)));
-    assert_eq!(rt; bank.memory_time(), 2);
-    assert_eq!(rt; kept(&bank, 0), Some(Entry::Storing));
-    assert_eq!(rt; would_evict(&bank, 0), Err(EvictError::Busy));
-    let steps = [
-        (read(1, 0, 0, None), HELD),
-        (to_bank(Node::Dram(0), 0, Body::DramStRep), CONSUMED),
-        (read(1, 0, 0, None), loads(0)),
-    ];
-    assert_eq!(rt; first_wrong(&mut bank, &steps), None);
-    assert_eq!(rt; evicted(&mut bank, 0), Err(EvictError::Busy));
-    Ok(())
+// To what node bank 1 would send at a request to read a line, and whether the request would stay.
+fn would_send(bank: &Bank, line: u64) -> Option<(Node, bool)> {
+    let message = read_at_1(line);
+    if !has_case(bank, &message) {
+        return None;
+    }
+    bank.sends(&message)
 }
 
-// One set of two ways.
-#[test]
-fn room_is_made_in_the_order_of_use(rt: HostRuntime) -> Result<(), Fail> {
-    let mut bank = bank(rt.alloc(), 1, 2, 0)?;
-    fill(&mut bank, 0, 7);
-    assert_eq!(rt; victim(&bank, 2), None);
-    let steps = [(read(0, 1, 0, None), loads(1)), (read(0, 2, 0, None), HELD)];
-    assert_eq!(rt; first_wrong(&mut bank, &steps), None);
-    assert_eq!(rt; victim(&bank, 2), None);
-    assert_eq!(rt; delivered(&mut bank, &loaded(1, 8)), CONSUMED);
-    assert_eq!(rt; victim(&bank, 2), Some(0));
-    assert_eq!(rt; victim(&bank, 1), None);
-    let _read = delivered(&mut bank, &read(0, 0, 0, None));
-    assert_eq!(rt; victim(&bank, 2), Some(1));
-    Ok(())
-}
-
-// One set of two ways: line 0 is owned, line 1 isn't, then both are.
-#[test]
-fn owned_lines_make_room_last(rt: HostRuntime) -> Result<(), Fail> {
-    let mut bank = bank(rt.alloc(), 1, 2, 0)?;
-    fill(&mut bank, 0, 7);
-    fill(&mut bank, 1, 8);
-    let _owned = delivered(&mut bank, &own(0, 0, None));
-    let _read = delivered(&mut bank, &read(0, 1, 0, None));
-    assert_eq!(rt; victim(&bank, 2), Some(1));
-    let _owned = delivered(&mut bank, &own(0, 1, None));
-    assert_eq!(rt; victim(&bank, 2), Some(0));
-    assert_eq!(rt; bank.lines()?.as_slice(), [LineNo(0), LineNo(1)].as_slice());
-    let recall = from_bank(Node::Core(0), 1, Body::FlushReq);
-    assert_eq!(rt; would_evict(&bank, 1), Ok(Some(Node::Core(0))));
-    assert_eq!(rt; evicted(&mut bank, 1), Ok(Evict::Recalled(recall)));
-    assert_eq!(rt; bank.lines()?.as_slice(), [LineNo(0)].as_slice());
-    assert_eq!(rt; victim(&bank, 2), None);
-    Ok(())
+// A request to read, at bank 1.
+fn read_at_1(line: u64) -> Message {
+    Message {
+        to: Node::Bank(1),
+        ..asked(Ask::Read(0, line, 0, None))
+    }
 }
 
 // Bank 1 of two, with two sets of one way: it has the odd lines, and lines 1 and 5 share a set.
@@ -339,44 +489,14 @@ fn lines_go_round_the_banks(rt: HostRuntime) -> Result<(), Fail> {
     };
     let mut bank = Bank::new(rt.alloc(), config)?;
     let stays = Some((Node::Dram(1), true));
-    assert_eq!(rt; would_send(&bank, &read_at_1(1)), stays);
+    assert_eq!(rt; would_send(&bank, 1), stays);
     let _loads = delivered(&mut bank, &read_at_1(1));
-    assert_eq!(rt; would_send(&bank, &read_at_1(3)), stays);
-    assert_eq!(rt; would_send(&bank, &read_at_1(5)), None);
-    assert_eq!(rt; delivered(&mut bank, &read_at_1(5)), HELD);
-    Ok(())
-}
-
-// A request to read, at bank 1.
-fn read_at_1(line: u64) -> Message {
-    Message {
-        to: Node::Bank(1),
-        ..read(0, line, 0, None)
-    }
-}
-
-#[test]
-fn sums_at_the_last_time(rt: HostRuntime) -> Result<(), Fail> {
-    let mut bank = bank(rt.alloc(), 4, 2, 0)?;
-    fill(&mut bank, 0, 7);
-    let last = u64::MAX - 10;
-    let steps = [
-        (
-            read(0, 0, last, None),
-            answers(0, 0, Body::ShRep(timed(0, u64::MAX, 7))),
-        ),
-        (read(0, 0, last + 1, None), TOO_LATE),
-        (
-            own(0, 0, None),
-            answers(0, 0, Body::ExRep(timed(0, u64::MAX, 7))),
-        ),
-        (read(1, 0, last + 1, None), TOO_LATE),
-        (
-            read(1, 0, last, None),
-            asks(0, 0, Body::WbReq { rts: u64::MAX }),
-        ),
-    ];
-    assert_eq!(rt; first_wrong(&mut bank, &steps), None);
+    assert_eq!(rt; would_send(&bank, 3), stays);
+    assert_eq!(rt; would_send(&bank, 5), None);
+    assert_eq!(rt;
+        delivered(&mut bank, &read_at_1(5)),
+        Some(Ok(Reaction::Held))
+    );
     Ok(())
 }
 

@@ -1,7 +1,103 @@
 //! Private caches.
 use network::{LineNo, TimedLine, Words};
 use private_cache::{Cache, CacheError, CopyState, Geometry, LineCopy};
-use std::alloc::Global;
+use std::alloc::AllocError;
+use std::test::Fail;
+
+// A copy of a line of zeros: its state, its two times, and whether it was written.
+#[derive(Clone, Copy)]
+struct Kept(CopyState, u64, u64, bool);
+
+// What is done with a cache, or what it says.
+#[derive(Clone, Copy)]
+enum Step {
+    // A line of zeros arrives, with these two times.
+    Fill(u64, CopyState, u64, u64, Result<(), CacheError>),
+    Renew(u64, u64),
+    Upgrade(u64, u64),
+    Downgrade(u64, u64),
+    Complete(u64, Kept),
+    // A line is evicted while another one is pinned.
+    Evict(u64, u64, Result<Kept, CacheError>),
+    Find(u64, Option<Kept>),
+    HasPlace(u64),
+    Victim(u64, Option<u64>),
+    // The two lines of the cache.
+    Lines(u64, u64),
+}
+
+const X: u64 = 3;
+
+const Y: u64 = 8;
+
+const Z: u64 = 5;
+
+const FILL_X: Step = Step::Fill(X, CopyState::Shared, 1, 11, Ok(()));
+
+const FILL_Y: Step = Step::Fill(Y, CopyState::Shared, 2, 12, Ok(()));
+
+// One set of two ways.
+const ONE_SET: [(&str, &[Step]); 4] = [
+    (
+        "a full set",
+        &[
+            FILL_X,
+            FILL_Y,
+            Step::Fill(Z, CopyState::Shared, 4, 4, Err(CacheError::NoRoom)),
+            Step::Victim(Z, Some(X)),
+            Step::Victim(Y, None),
+            Step::HasPlace(Y),
+            Step::Lines(X, Y),
+            Step::Complete(X, Kept(CopyState::Exclusive, 21, 21, true)),
+            Step::Victim(Z, Some(Y)),
+        ],
+    ),
+    (
+        "a line that is there arrives again, which is a use",
+        &[
+            FILL_X,
+            FILL_Y,
+            Step::Fill(X, CopyState::Exclusive, 5, 6, Ok(())),
+            Step::Find(X, Some(Kept(CopyState::Exclusive, 5, 6, false))),
+            Step::Victim(Z, Some(Y)),
+        ],
+    ),
+    (
+        "grants",
+        &[
+            FILL_X,
+            FILL_Y,
+            Step::Renew(X, 30),
+            Step::Find(X, Some(Kept(CopyState::Shared, 1, 30, false))),
+            Step::Upgrade(X, 41),
+            Step::Find(X, Some(Kept(CopyState::Exclusive, 1, 41, false))),
+            Step::Downgrade(X, 50),
+            Step::Find(X, Some(Kept(CopyState::Shared, 1, 50, false))),
+            Step::Victim(Z, Some(X)),
+        ],
+    ),
+    (
+        "evictions",
+        &[
+            FILL_X,
+            FILL_Y,
+            Step::Evict(Z, Z, Err(CacheError::NotHere)),
+            Step::Evict(X, X, Err(CacheError::Pinned)),
+            Step::Evict(Y, X, Ok(Kept(CopyState::Shared, 2, 12, false))),
+            Step::Find(Y, None),
+            Step::HasPlace(Z),
+        ],
+    ),
+];
+
+// Two sets of one way: lines 3 and 5 share a set, and line 8 is in the other one.
+const TWO_SETS: [Step; 5] = [
+    FILL_X,
+    Step::HasPlace(Y),
+    FILL_Y,
+    Step::Victim(Z, Some(X)),
+    Step::Victim(0, Some(Y)),
+];
 
 fn timed(wts: u64, rts: u64) -> TimedLine {
     TimedLine {
@@ -11,7 +107,8 @@ fn timed(wts: u64, rts: u64) -> TimedLine {
     }
 }
 
-fn copy(state: CopyState, wts: u64, rts: u64, written: bool) -> LineCopy {
+fn copy(kept: Kept) -> LineCopy {
+    let Kept(state, wts, rts, written) = kept;
     LineCopy {
         state,
         wts,
@@ -21,59 +118,69 @@ fn copy(state: CopyState, wts: u64, rts: u64, written: bool) -> LineCopy {
     }
 }
 
-const X: LineNo = LineNo(3);
+// Whether an eviction of a line, while another one is pinned, is answered as wanted.
+fn evicts(cache: &mut Cache, line: u64, pinned: u64, wanted: Result<Kept, CacheError>) -> bool {
+    let answer = cache.evict(LineNo(line), Some(LineNo(pinned)));
+    match wanted {
+        Ok(kept) => answer == Ok(copy(kept)),
+        Err(e) => answer == Err(e),
+    }
+}
 
-const Y: LineNo = LineNo(8);
+// Whether a cache has this copy of a line.
+fn has(cache: &Cache, line: u64, wanted: Option<Kept>) -> bool {
+    let found = cache.find(LineNo(line)).copied();
+    match wanted {
+        Some(kept) => found == Some(copy(kept)),
+        None => found == None,
+    }
+}
 
-const Z: LineNo = LineNo(5);
+// Whether a step goes as it says.
+fn goes(cache: &mut Cache, step: Step) -> Result<bool, AllocError> {
+    match step {
+        Step::Fill(line, state, wts, rts, wanted) => {
+            Ok(cache.fill(LineNo(line), state, timed(wts, rts)) == wanted)
+        }
+        Step::Renew(line, rts) => Ok(cache.renew(LineNo(line), rts).is_ok()),
+        Step::Upgrade(line, rts) => Ok(cache.upgrade(LineNo(line), rts).is_ok()),
+        Step::Downgrade(line, rts) => Ok(cache.downgrade(LineNo(line), rts).is_ok()),
+        Step::Complete(line, kept) => Ok(cache.complete(LineNo(line), copy(kept)).is_ok()),
+        Step::Evict(line, pinned, wanted) => Ok(evicts(cache, line, pinned, wanted)),
+        Step::Find(line, wanted) => Ok(has(cache, line, wanted)),
+        Step::HasPlace(line) => Ok(cache.place(LineNo(line))),
+        Step::Victim(line, wanted) => Ok(
+            cache.victim(LineNo(line)).map(|victim| victim.0) == wanted,
+        ),
+        Step::Lines(first, second) => {
+            Ok(cache.lines()?.as_slice() == [LineNo(first), LineNo(second)].as_slice())
+        }
+    }
+}
 
-// One set of two ways, with X and then Y.
-fn full(alloc: Global) -> Result<Cache, std::test::Fail> {
-    let mut cache = Cache::new(alloc, Geometry { sets: 1, ways: 2 })?;
-    let _x = cache.fill(X, CopyState::Shared, timed(1, 11));
-    let _y = cache.fill(Y, CopyState::Shared, timed(2, 12));
-    Ok(cache)
+// The number of the first step that doesn't go as it says.
+fn first_wrong(cache: &mut Cache, steps: &[Step]) -> Result<Option<usize>, AllocError> {
+    for number in 0..steps.len() {
+        if !goes(cache, steps[number])? {
+            return Ok(Some(number));
+        }
+    }
+    Ok(None)
 }
 
 #[test]
-fn a_full_set(rt: HostRuntime) -> Result<(), std::test::Fail> {
-    let mut cache = full(rt.alloc())?;
-    assert_eq!(rt;
-        cache.fill(Z, CopyState::Shared, timed(4, 4)),
-        Err(CacheError::NoRoom)
-    );
-    assert_eq!(rt; cache.victim(Z), Some(X));
-    assert_eq!(rt; cache.victim(Y), None);
-    assert!(rt; cache.place(Y));
-    assert_eq!(rt; cache.lines()?.as_slice(), [X, Y].as_slice());
-    let owned = copy(CopyState::Exclusive, 21, 21, true);
-    assert_eq!(rt; cache.complete(X, owned), Ok(()));
-    assert_eq!(rt; cache.victim(Z), Some(Y));
+fn one_set(rt: HostRuntime) -> Result<(), Fail> {
+    for (shows, steps) in &ONE_SET {
+        let mut cache = Cache::new(rt.alloc(), Geometry { sets: 1, ways: 2 })?;
+        assert_eq!(rt; first_wrong(&mut cache, steps)?, None, "{shows}");
+    }
     Ok(())
 }
 
-// Line X is there already and arrives again.
 #[test]
-fn an_arrival_is_a_use(rt: HostRuntime) -> Result<(), std::test::Fail> {
-    let mut cache = full(rt.alloc())?;
-    assert_eq!(rt; cache.fill(X, CopyState::Exclusive, timed(5, 6)), Ok(()));
-    assert_eq!(rt;
-        cache.find(X),
-        Some(&copy(CopyState::Exclusive, 5, 6, false))
-    );
-    assert_eq!(rt; cache.victim(Z), Some(Y));
-    Ok(())
-}
-
-// Two sets of one way: lines 3 and 5 share a set, and line 8 is in the other one.
-#[test]
-fn lines_go_round_the_sets(rt: HostRuntime) -> Result<(), std::test::Fail> {
+fn two_sets(rt: HostRuntime) -> Result<(), Fail> {
     let mut cache = Cache::new(rt.alloc(), Geometry { sets: 2, ways: 1 })?;
-    assert_eq!(rt; cache.fill(X, CopyState::Shared, timed(1, 11)), Ok(()));
-    assert!(rt; cache.place(Y));
-    assert_eq!(rt; cache.fill(Y, CopyState::Shared, timed(2, 12)), Ok(()));
-    assert_eq!(rt; cache.victim(Z), Some(X));
-    assert_eq!(rt; cache.victim(LineNo(0)), Some(Y));
+    assert_eq!(rt; first_wrong(&mut cache, &TWO_SETS)?, None);
     Ok(())
 }
 
@@ -82,34 +189,4 @@ fn numbers_of_errors(rt: HostRuntime) {
     assert_eq!(rt; CacheError::NoRoom.number(), 1);
     assert_eq!(rt; CacheError::NotHere.number(), 2);
     assert_eq!(rt; CacheError::Pinned.number(), 3);
-}
-
-#[test]
-fn grants(rt: HostRuntime) -> Result<(), std::test::Fail> {
-    let mut cache = full(rt.alloc())?;
-    assert_eq!(rt; cache.renew(X, 30), Ok(()));
-    assert_eq!(rt; cache.find(X), Some(&copy(CopyState::Shared, 1, 30, false)));
-    assert_eq!(rt; cache.upgrade(X, 41), Ok(()));
-    assert_eq!(rt;
-        cache.find(X),
-        Some(&copy(CopyState::Exclusive, 1, 41, false))
-    );
-    assert_eq!(rt; cache.downgrade(X, 50), Ok(()));
-    assert_eq!(rt; cache.find(X), Some(&copy(CopyState::Shared, 1, 50, false)));
-    assert_eq!(rt; cache.victim(Z), Some(X));
-    Ok(())
-}
-
-#[test]
-fn evictions(rt: HostRuntime) -> Result<(), std::test::Fail> {
-    let mut cache = full(rt.alloc())?;
-    assert_eq!(rt; cache.evict(Z, Some(Z)), Err(CacheError::NotHere));
-    assert_eq!(rt; cache.evict(X, Some(X)), Err(CacheError::Pinned));
-    assert_eq!(rt;
-        cache.evict(Y, Some(X)),
-        Ok(copy(CopyState::Shared, 2, 12, false))
-    );
-    assert_eq!(rt; cache.find(Y), None);
-    assert!(rt; cache.place(Z));
-    Ok(())
 }

@@ -366,8 +366,8 @@ fn the_last_times(rt: HostRuntime) -> Result<(), Fail> {
     Ok(())
 }
 
-#[test]
-fn long_lines(rt: HostRuntime) -> Result<(), Fail> {
+// Core 5 of a machine with two banks and lines of eight words.
+fn fifth(alloc: Global) -> Result<Core, AllocError> {
     let config = CoreConfig {
         number: 5,
         banks: 2,
@@ -376,20 +376,41 @@ fn long_lines(rt: HostRuntime) -> Result<(), Fail> {
         private_write: false,
         opening_time: 3,
     };
-    let core = Core::new(rt.alloc(), config, Geometry { sets: 64, ways: 4 })?;
+    Core::new(alloc, config, Geometry { sets: 64, ways: 4 })
+}
+
+// Core 5 asks to own line 3.
+fn owning_line_3() -> Message {
+    Message {
+        from: Node::Core(5),
+        to: Node::Bank(1),
+        line: LineNo(3),
+        body: Body::ExReq { version: None },
+    }
+}
+
+#[test]
+fn long_lines(rt: HostRuntime) -> Result<(), Fail> {
+    let core = fifth(rt.alloc())?;
     assert_eq!(rt; core.line_of(Op::Load(word(31))), LineNo(3));
     assert_eq!(rt; core.to_bank(LineNo(6), Body::FlushReq).to, Node::Bank(0));
-    let message = core.to_bank(LineNo(3), Body::ExReq { version: None });
-    assert_eq!(rt; message.from, Node::Core(5));
-    assert_eq!(rt; message.to, Node::Bank(1));
-    assert_eq!(rt; message.line, LineNo(3));
+    let body = Body::ExReq { version: None };
+    assert_eq!(rt; core.to_bank(LineNo(3), body), owning_line_3());
+    Ok(())
+}
+
+#[test]
+fn numbers_of_errors(rt: HostRuntime) {
     assert_eq!(rt; IssueError::Busy.number(), 1);
     assert_eq!(rt; IssueError::TooMany.number(), 2);
+}
+
+#[test]
+fn laws(rt: HostRuntime) {
     completed_on_a_copy();
     idle_core_issues();
     writes_come_after_reads();
     time_never_falls();
     open_line_stays();
     nothing_completed_keeps();
-    Ok(())
 }

@@ -1,5 +1,5 @@
 //! DRAM, and the memory time of its bank.
-ghost use Rattle.std.specs.Prelude.{IsTrue};
+ghost use Rattle.std.specs.Prelude.{◌≡◌, IsTrue};
 
 use dram_mts::{Dram, MemoryTime};
 use network::{Body, LineNo, Message, Node, Part, PartError, Reaction, Words};
@@ -13,49 +13,68 @@ fn delivered<P: Part>(part: &mut P, message: &Message) -> Result<Reaction, PartE
     part.deliver(message)
 }
 
-// Sets a word, stores the line by a message, and loads it by another.
+// Words of which one isn't zero.
+fn words_with_a_five() -> Words {
+    let mut words = Words::zeros();
+    words.set(7, 5);
+    words
+}
+
+// A message about line 3.
+fn message(from: Node, to: Node, body: Body) -> Message
+    ensures { result ≡ record { from = from; to = to; line = 3; body = body } }
+{
+    Message {
+        from,
+        to,
+        line: LineNo(3),
+        body,
+    }
+}
+
+// Whether DRAM would send this answer, and sends it.
+fn answers(
+    sends: Option<(Node, bool)>,
+    answer: Result<Reaction, PartError>,
+    wanted: Message,
+) -> bool {
+    sends == Some((Node::Bank(1), false)) && answer == Ok(Reaction::Done(Some(wanted)))
+}
+
+// Whether DRAM answers that it stores these words.
+fn stores(dram: &mut Dram, words: Words) -> bool {
+    let asked = message(Node::Bank(1), Node::Dram(1), Body::DramSt(words));
+    let stored = message(Node::Dram(1), Node::Bank(1), Body::DramStRep);
+    answers(dram.sends(&asked), delivered(dram, &asked), stored)
+}
+
+// Whether DRAM answers with these words.
+fn loads(dram: &mut Dram, words: Words) -> bool {
+    let asked = message(Node::Bank(1), Node::Dram(1), Body::DramLd);
+    let loaded = message(Node::Dram(1), Node::Bank(1), Body::DramLdRep(words));
+    answers(dram.sends(&asked), delivered(dram, &asked), loaded)
+}
+
 #[test]
-fn answers_with_the_words_stored(rt: HostRuntime) -> Result<(), Fail> {
+fn keeps_the_words_stored(rt: HostRuntime) -> Result<(), Fail> {
     let mut dram = Dram::new(rt.alloc());
     assert_eq!(rt; dram.load(LineNo(3)), Words::zeros());
     assert!(rt; dram.set_word(LineNo(3), 2, 9).is_ok());
     assert_eq!(rt; dram.load(LineNo(3)).get(2), 9);
-    let mut words = Words::zeros();
-    words.set(7, 5);
-    let store = Message {
-        from: Node::Bank(1),
-        to: Node::Dram(1),
-        line: LineNo(3),
-        body: Body::DramSt(words),
-    };
-    let answer = Message {
-        from: Node::Dram(1),
-        to: Node::Bank(1),
-        line: LineNo(3),
-        body: Body::DramStRep,
-    };
-    assert_eq!(rt; dram.sends(&store), Some((Node::Bank(1), false)));
-    assert_eq!(rt;
-        delivered(&mut dram, &store),
-        Ok(Reaction::Done(Some(answer)))
-    );
-    let load = Message {
-        from: Node::Bank(1),
-        to: Node::Dram(1),
-        line: LineNo(3),
-        body: Body::DramLd,
-    };
-    let loaded = Message {
-        from: Node::Dram(1),
-        to: Node::Bank(1),
-        line: LineNo(3),
-        body: Body::DramLdRep(words),
-    };
-    assert_eq!(rt; dram.deliver(&load), Ok(Reaction::Done(Some(loaded))));
-    assert!(rt; dram.store(LineNo(4), words).is_ok());
-    assert_eq!(rt; dram.load(LineNo(4)).get(7), 5);
-    assert_eq!(rt; dram.load(LineNo(4)).get(2), 0);
+    assert!(rt; dram.store(LineNo(4), words_with_a_five()).is_ok());
+    assert_eq!(rt; dram.load(LineNo(4)), words_with_a_five());
     assert_eq!(rt; dram.load(LineNo(5)), Words::zeros());
+    Ok(())
+}
+
+// Stores a line over a word by a message, and loads it by another.
+#[test]
+fn answers_with_the_words_stored(rt: HostRuntime) -> Result<(), Fail> {
+    let mut dram = Dram::new(rt.alloc());
+    assert!(rt; dram.set_word(LineNo(3), 2, 9).is_ok());
+    let words = words_with_a_five();
+    assert!(rt; stores(&mut dram, words));
+    assert!(rt; loads(&mut dram, words));
     Ok(())
 }
 

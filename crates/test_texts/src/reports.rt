@@ -81,60 +81,105 @@ fn store_buffering(rt: HostRuntime) -> Result<(), Fail> {
     Ok(())
 }
 
-#[test]
-fn two_states_in_first_seen_order(rt: HostRuntime) -> Result<(), Fail> {
-    let test = read(rt.alloc(), NEVER_BOTH).ok().ok_or("it is read")?;
-    let mut runs = Vec::new(rt.alloc());
-    runs.push(all_done(received(rt.alloc(), &test, 1, 0)?))?;
-    runs.push(ended(End::Stalled, 3))?;
-    runs.push(all_done(received(rt.alloc(), &test, 0, 1)?))?;
-    runs.push(ended(End::NoMemory, 0))?;
-    runs.push(all_done(received(rt.alloc(), &test, 0, 1)?))?;
-    runs.push(ended(End::TurnsUsed, 2))?;
-    runs.push(ended(End::Exhausted, 1))?;
-    runs.push(ended(End::Exhausted, 1))?;
-    let text = litmus_text(rt.alloc(), &test, &runs)?;
-    assert!(rt;
-        text.as_slice()
-            == b"test SB+never\nthreads 2\nruns 8\nall-done 3\nstalled 1\nlimit 1\nexhausted 2\nmemory 1\nstates 2\n1 0:x7=1 1:x7=0\n2 0:x7=0 1:x7=1\ncondition ~exists\nheld 0\nverdict yes\ncompleted 19\nrenewals 0\nupgrades 0\nflushes 0\nwrite-backs 0\nstale-hits 3\n".as_slice()
-    );
-    Ok(())
+// How a run ended.
+#[derive(Clone, Copy)]
+enum Outcome {
+    // All done, with what the two loads received.
+    Received(u64, u64),
+    // Otherwise, after so many operations.
+    Other(End, u64),
+}
+
+// Tests with the ends of their runs and the report on them.
+const REPORTS: [(&[u8], &[Outcome], &[u8]); 2] = [
+    // Two states, in the order in which they were seen first.
+    (
+        NEVER_BOTH,
+        &[
+            Outcome::Received(1, 0),
+            Outcome::Other(End::Stalled, 3),
+            Outcome::Received(0, 1),
+            Outcome::Other(End::NoMemory, 0),
+            Outcome::Received(0, 1),
+            Outcome::Other(End::TurnsUsed, 2),
+            Outcome::Other(End::Exhausted, 1),
+            Outcome::Other(End::Exhausted, 1),
+        ],
+        b"test SB+never\nthreads 2\nruns 8\nall-done 3\nstalled 1\nlimit 1\nexhausted 2\nmemory 1\nstates 2\n1 0:x7=1 1:x7=0\n2 0:x7=0 1:x7=1\ncondition ~exists\nheld 0\nverdict yes\ncompleted 19\nrenewals 0\nupgrades 0\nflushes 0\nwrite-backs 0\nstale-hits 3\n",
+    ),
+    // No run is all done.
+    (
+        LOCATIONS,
+        &[Outcome::Other(End::Stalled, 1)],
+        b"test L\nthreads 2\nruns 1\nall-done 0\nstalled 1\nlimit 0\nexhausted 0\nmemory 0\nstates 0\ncondition forall\nheld 0\nverdict yes\ncompleted 1\nrenewals 0\nupgrades 0\nflushes 0\nwrite-backs 0\nstale-hits 0\n",
+    ),
+];
+
+fn run_of(alloc: Global, test: &Test, run: Outcome) -> Result<RunEnd, Fail> {
+    match run {
+        Outcome::Received(first, second) => Ok(all_done(received(alloc, test, first, second)?)),
+        Outcome::Other(end, completed) => Ok(ended(end, completed)),
+    }
+}
+
+fn runs_of(alloc: Global, test: &Test, runs: &[Outcome]) -> Result<Vec<RunEnd>, Fail> {
+    let mut made = Vec::new(alloc);
+    for run in runs {
+        made.push(run_of(alloc, test, *run)?)?;
+    }
+    Ok(made)
 }
 
 #[test]
-fn forall_over_no_run_that_is_all_done(rt: HostRuntime) -> Result<(), Fail> {
-    let test = read(rt.alloc(), LOCATIONS).ok().ok_or("it is read")?;
-    let text = litmus_text(rt.alloc(), &test, &[ended(End::Stalled, 1)])?;
-    assert!(rt;
-        text.as_slice()
-            == b"test L\nthreads 2\nruns 1\nall-done 0\nstalled 1\nlimit 0\nexhausted 0\nmemory 0\nstates 0\ncondition forall\nheld 0\nverdict yes\ncompleted 1\nrenewals 0\nupgrades 0\nflushes 0\nwrite-backs 0\nstale-hits 0\n".as_slice()
-    );
+fn reports_of_runs(rt: HostRuntime) -> Result<(), Fail> {
+    for (litmus, runs, report) in &REPORTS {
+        let test = read(rt.alloc(), litmus).ok().ok_or("it is read")?;
+        let runs = runs_of(rt.alloc(), &test, runs)?;
+        let text = litmus_text(rt.alloc(), &test, &runs)?;
+        assert!(rt; text.as_slice() == *report);
+    }
     Ok(())
+}
+
+const GREAT_SUMS: &[u8] =
+    b"test L\nthreads 2\nruns 3\nall-done 2\nstalled 0\nlimit 1\nexhausted 0\nmemory 0\nstates 2\n1 flag_1=0 data=1 1:x7=0\n1 flag_1=18446744073709551615 data=1 1:x7=0\ncondition forall\nheld 1\nverdict no\ncompleted 36893488147419103234\nrenewals 340282366920938463463374607431768211455\nupgrades 8\nflushes 0\nwrite-backs 0\nstale-hits 18446744073709551617\n";
+
+// A run of the test with names of locations that ended with these values of them.
+fn at_locations(alloc: Global, test: &Test, memory: &[u64]) -> Result<RunEnd, Fail> {
+    let mut threads = Vec::new(alloc);
+    for (thread, value) in [(0, None), (1, Some(0))] {
+        let mut state = test.start(thread);
+        state.done(value);
+        threads.push(state)?;
+    }
+    Ok(all_done(test.end(&threads, memory)?))
+}
+
+// The condition doesn't hold, and there were very many renewals and operations.
+fn with_many_operations(alloc: Global, test: &Test) -> Result<RunEnd, Fail> {
+    let mut run = at_locations(alloc, test, &[1, 18446744073709551615])?;
+    run.counts.renewals = 340282366920938463463374607431768211455;
+    run.completed = 18446744073709551615;
+    Ok(run)
+}
+
+// A run that isn't all done, with very many operations and stale hits.
+fn with_many_stale_hits() -> RunEnd {
+    let mut run = ended(End::TurnsUsed, 18446744073709551615);
+    run.stale = 18446744073709551615;
+    run.counts.renewals = 7;
+    run.counts.upgrades = 8;
+    run
 }
 
 #[test]
 fn names_of_locations_and_great_sums(rt: HostRuntime) -> Result<(), Fail> {
     let test = read(rt.alloc(), LOCATIONS).ok().ok_or("it is read")?;
-    let mut first = test.start(0);
-    first.done(None);
-    let mut second = test.start(1);
-    second.done(Some(0));
-    let mut threads = Vec::new(rt.alloc());
-    threads.push(first)?;
-    threads.push(second)?;
-    let held = all_done(test.end(&threads, &[1, 0])?);
-    let mut not_held = all_done(test.end(&threads, &[1, 18446744073709551615])?);
-    not_held.counts.renewals = 340282366920938463463374607431768211455;
-    not_held.completed = 18446744073709551615;
-    let mut third = ended(End::TurnsUsed, 18446744073709551615);
-    third.stale = 18446744073709551615;
-    third.counts.renewals = 7;
-    third.counts.upgrades = 8;
-    let text = litmus_text(rt.alloc(), &test, &[held, not_held, third])?;
-    assert!(rt;
-        text.as_slice()
-            == b"test L\nthreads 2\nruns 3\nall-done 2\nstalled 0\nlimit 1\nexhausted 0\nmemory 0\nstates 2\n1 flag_1=0 data=1 1:x7=0\n1 flag_1=18446744073709551615 data=1 1:x7=0\ncondition forall\nheld 1\nverdict no\ncompleted 36893488147419103234\nrenewals 340282366920938463463374607431768211455\nupgrades 8\nflushes 0\nwrite-backs 0\nstale-hits 18446744073709551617\n".as_slice()
-    );
+    let held = at_locations(rt.alloc(), &test, &[1, 0])?;
+    let not_held = with_many_operations(rt.alloc(), &test)?;
+    let runs = [held, not_held, with_many_stale_hits()];
+    let text = litmus_text(rt.alloc(), &test, &runs)?;
+    assert!(rt; text.as_slice() == GREAT_SUMS);
     Ok(())
 }
 

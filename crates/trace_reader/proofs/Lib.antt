@@ -1,1 +1,2 @@
 mod NextLine
+mod ByCore

@@ -4,3 +4,4 @@ pub mod Grammar
 pub mod Causes
 pub mod Reading
 pub mod Ahead
+pub mod Outcomes

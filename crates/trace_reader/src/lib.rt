@@ -3,6 +3,8 @@
 
 mod blocks;
 mod limits;
+mod next_lines;
+mod trace_texts;
 mod traces;
 
 pub use limits::{MOST_BYTES, MOST_LINES};

@@ -51,13 +51,13 @@ impl Lane {
         &self.ops
     }
 
-    fn push_op(&mut self, op: Op) -> Result<(), AllocError>
-        ensures { OnOk result (self.new ≡ self.old ++ Step.Op op ∷ []) }
+    fn push_op(&mut self, op: &Op) -> Result<(), AllocError>
+        ensures { OnOk result (self.new ≡ self.old ++ Step.Op op.now ∷ []) }
     {
         self.steps.reserve(1)?;
         self.ops.reserve(1)?;
-        self.steps.push_reserved(Step::Op(op));
-        self.ops.push_reserved(op);
+        self.steps.push_reserved(Step::Op(*op));
+        self.ops.push_reserved(*op);
         Ok(())
     }
 
@@ -72,7 +72,7 @@ impl Lane {
         ensures { OnOk result (self.new ≡ self.old ++ step ∷ []) }
     {
         match step {
-            Step::Op(op) => self.push_op(op),
+            Step::Op(op) => self.push_op(&op),
             Step::Advance => self.push_advance(),
         }
     }

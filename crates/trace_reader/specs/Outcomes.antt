@@ -1,0 +1,24 @@
+-- What a reader answers of the bytes that its source had.
+use Rattle.std.specs.Prelude.{◌≡◌, ◌≢◌, ℕ, suc, ◌+◌, ◌≤◌, ◌<◌, ◌||◌, nat_lt, true, List, [], ◌∷◌, ◌++◌, length, take, drop}
+use Rattle.std.specs.Prelude.{Option, Some, None, Result, Ok, Err, ◌⊎◌, IfSome}
+use Rattle.trace_lines.specs.declared.errors.Kind.{Kind}
+use Rattle.trace_lines.specs.declared.errors.Kind.TheVariants.{Read, NoMemory, TooLong}
+use Rattle.trace_lines.specs.declared.errors.TraceError.{TraceError}
+use Rattle.trace_reader.specs.declared.blocks.Block.{Block}
+use Rattle.trace_reader.specs.declared.limits.TheConstants.{MOST_BYTES, MOST_LINES}
+use Rattle.trace_reader.specs.Ahead.{ahead, Both}
+use Rattle.trace_reader.specs.Lines.{lines_of}
+
+-- a fault of no line
+abbrev pub whole : Kind → TraceError
+whole kind = record { line = 0; kind = kind }
+
+-- the lines begin with one that is too long, or that comes too late
+abbrev pub BeginTooLong : ℕ → List (List ℕ) → Type 0
+BeginTooLong number lines = (line : List ℕ) × (later : List (List ℕ)) × (lines ≡ line ∷ later)
+    × ((nat_lt MOST_BYTES (length line) || nat_lt MOST_LINES number) ≡ true)
+
+-- the next line stands in front of the block, or else there is none
+abbrev pub IsFound : Option ℕ → List ℕ → List ℕ → List ℕ → Type 0
+IsFound None old new coming = (old ≡ []) × (coming ≡ [])
+IsFound (Some n) old new coming = lines_of old ≡ take n new ∷ lines_of (drop (n + 1) new ++ coming)

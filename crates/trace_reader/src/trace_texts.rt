@@ -1,0 +1,96 @@
+//! Reading the text of a trace.
+
+ghost use Rattle.std.specs.Prelude.{◌≡◌, ◌≤◌, ◌<◌, ◌⊎◌, ◌++◌, ℕ, suc, List, Option, Ok, Err, IfOk, IfErr, IfSome, OnOk};
+ghost use Rattle.byte_streams.specs.Device.{AtEnd};
+ghost use Rattle.trace_lines.specs.declared.errors.Kind.TheVariants.{Read, NoMemory};
+ghost use Rattle.trace_lines.specs.declared.steps.Step.{Step};
+ghost use Rattle.trace_lines.specs.Fields.{fields_of};
+ghost use Rattle.trace_lines.specs.Reading.{form_line_at, trace_line_at};
+ghost use Rattle.trace_reader.specs.Outcomes.{whole};
+ghost use Rattle.trace_reader.specs.Reading.{listed, step_said, form_said, said_at, read_at};
+ghost use Rattle.trace_reader.specs.Steps.{IsByCore};
+
+use crate::blocks::Block;
+use crate::next_lines::next_line;
+use crate::traces::Trace;
+use byte_streams::Source;
+use std::alloc::Global;
+use trace_lines::{Form, Kind, Step, TraceError, form_line, trace_line};
+
+type Said = (Option<Form>, Option<(u32, Step)>);
+
+/// What a line says in a form that is known.
+fn step_said(form: Form, line: &[u8]) -> Result<Said, Kind>
+    ensures told { result ≡ step_said form (fields_of line.now) }
+    ensures few { IfOk result (λ said. IfSome said.1 (λ told. told.0 < 64)) }
+{
+    let told = trace_line(form, line)?;
+    Ok((Some(form), told))
+}
+
+/// What a line says behind lines that told this form or none: the form from there on, and a step of a core.
+#[tactic(auto, unfolding(crate::specs::Reading::said_at))]
+fn said(form: Option<Form>, line: &[u8]) -> Result<Said, Kind>
+    ensures told { result ≡ said_at form (fields_of line.now) }
+    ensures few { IfOk result (λ said. IfSome said.1 (λ told. told.0 < 64)) }
+{
+    match form {
+        Some(form) => step_said(form, line),
+        None => match form_line(line)? {
+            None => Ok((None, None)),
+            Some(Form::One) => step_said(Form::One, line),
+            Some(Form::Two) => Ok((Some(Form::Two), None)),
+        },
+    }
+}
+
+/// Adds the step of the line with this number, if it tells one: the form from there on.
+fn add_line(
+    trace: &mut Trace,
+    form: Option<Form>,
+    number: usize,
+    line: &[u8],
+) -> Result<Option<Form>, TraceError>
+    ensures added { IfOk result (λ next. (told : Option (ℕ × Step))
+        × (said_at form (fields_of line.now) ≡ Ok (next, told))
+        × ((before : List (ℕ × Step)) → IsByCore before trace.old →
+            IsByCore (before ++ listed told) trace.new)) }
+    ensures fault { IfErr result (λ e. (e ≡ whole NoMemory)
+        ⊎ ((e.line ≡ number) × (said_at form (fields_of line.now) ≡ Err e.kind))) }
+{
+    match said(form, line) {
+        Err(kind) => Err(TraceError { line: number, kind }),
+        Ok((form, None)) => Ok(form),
+        Ok((form, Some((core, step)))) => match trace.push(core, step) {
+            Ok(()) => Ok(form),
+            Err(_) => Err(TraceError {
+                line: 0,
+                kind: Kind::NoMemory,
+            }),
+        },
+    }
+}
+
+fn read_whole<S: Source>(alloc: Global, source: &mut S) -> Result<Trace, TraceError>
+    ensures told { IfOk result (λ trace. IfSome (S.remaining source.old)
+        (λ bytes. (told : List (ℕ × Step)) × (read_at bytes ≡ Ok told) × IsByCore told trace)) }
+    ensures end { OnOk result (IfSome (S.remaining source.old)
+        (λ known. AtEnd (S.remaining source.new))) }
+    ensures none_failed { OnOk result (S.failures source.new ≡ S.failures source.old) }
+    ensures fault { IfErr result (λ e.
+        ((e ≡ whole Read) × (S.failures source.new ≡ suc (S.failures source.old)))
+        ⊎ ((S.failures source.new ≡ S.failures source.old)
+            × ((e ≡ whole NoMemory)
+                ⊎ IfSome (S.remaining source.old) (λ bytes. read_at bytes ≡ Err e)))) }
+{
+    let mut trace = Trace::new(alloc);
+    let mut block = Block::new();
+    let mut form = None;
+    let mut number = 0;
+    'lines: while let Some(length) = next_line(&mut block, source, number)? {
+        number += 1;
+        form = add_line(&mut trace, form, number, block.front(length))?;
+        block.pass(length);
+    }
+    Ok(trace)
+}

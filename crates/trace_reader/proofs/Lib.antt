@@ -1,2 +1,4 @@
 mod NextLine
 mod ByCore
+mod OnLines
+mod StepsRead

@@ -22,3 +22,8 @@ BeginTooLong number lines = (line : List ℕ) × (later : List (List ℕ)) × (l
 abbrev pub IsFound : Option ℕ → List ℕ → List ℕ → List ℕ → Type 0
 IsFound None old new coming = (old ≡ []) × (coming ≡ [])
 IsFound (Some n) old new coming = lines_of old ≡ take n new ∷ lines_of (drop (n + 1) new ++ coming)
+
+-- Why a text was not read: a call of the device failed; or none did, and memory was refused or reading gives this fault.
+abbrev pub Refused : {A : Type 0} → (List ℕ → Result A TraceError) → ℕ → ℕ → Option (List ℕ) → TraceError → Type 0
+Refused read old new bytes e = ((e ≡ whole Read) × (new ≡ suc old))
+    ⊎ ((new ≡ old) × ((e ≡ whole NoMemory) ⊎ IfSome bytes (λ known. read known ≡ Err e)))

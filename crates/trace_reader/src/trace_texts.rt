@@ -6,7 +6,7 @@ ghost use Rattle.trace_lines.specs.declared.errors.Kind.TheVariants.{Read, NoMem
 ghost use Rattle.trace_lines.specs.declared.steps.Step.{Step};
 ghost use Rattle.trace_lines.specs.Fields.{fields_of};
 ghost use Rattle.trace_lines.specs.Reading.{form_line_at, trace_line_at};
-ghost use Rattle.trace_reader.specs.Outcomes.{whole};
+ghost use Rattle.trace_reader.specs.Outcomes.{whole, Refused};
 ghost use Rattle.trace_reader.specs.Reading.{listed, step_said, form_said, said_at, read_at};
 ghost use Rattle.trace_reader.specs.Steps.{IsByCore};
 
@@ -77,11 +77,8 @@ fn read_whole<S: Source>(alloc: Global, source: &mut S) -> Result<Trace, TraceEr
     ensures end { OnOk result (IfSome (S.remaining source.old)
         (λ known. AtEnd (S.remaining source.new))) }
     ensures none_failed { OnOk result (S.failures source.new ≡ S.failures source.old) }
-    ensures fault { IfErr result (λ e.
-        ((e ≡ whole Read) × (S.failures source.new ≡ suc (S.failures source.old)))
-        ⊎ ((S.failures source.new ≡ S.failures source.old)
-            × ((e ≡ whole NoMemory)
-                ⊎ IfSome (S.remaining source.old) (λ bytes. read_at bytes ≡ Err e)))) }
+    ensures fault { IfErr result (Refused read_at (S.failures source.old)
+        (S.failures source.new) (S.remaining source.old)) }
 {
     let mut trace = Trace::new(alloc);
     let mut block = Block::new();

@@ -1,4 +1,6 @@
 mod NextLine
 mod ByCore
 mod OnLines
+mod Inverses
 mod StepsRead
+mod StepsMeant

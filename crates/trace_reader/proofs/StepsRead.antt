@@ -47,7 +47,7 @@ line-long number form line later e =
         (λ said. behind (listed said.1) (steps_from (suc number) said.0 later)))
     (fitted-long number line (said_at form (fields_of line)) e)
 
-lines-end : (number : ℕ) (form : Option Form) → steps_from number form [] ≡ Ok []
+pub lines-end : (number : ℕ) (form : Option Form) → steps_from number form [] ≡ Ok []
 unfolding steps_from
 lines-end number form = refl
 

@@ -23,14 +23,13 @@ FieldsCause None (first ∷ lines) kind fields = (form : Form) × IsFormLine fir
 
 -- what is wrong with a line of a trace that has this number and stands behind these
 abbrev pub StepLineCause : Option Form → List (List ℕ) → Kind → ℕ → List ℕ → Type 0
-StepLineCause form before TooLong number line = IsTooLong number line
-StepLineCause form before kind number line =
-    (fields_of line ≢ []) × FieldsCause form (worded before) kind (fields_of line)
+StepLineCause form before kind number line = ((kind ≡ TooLong) × IsTooLong number line)
+    ⊎ ((fields_of line ≢ []) × FieldsCause form (worded before) kind (fields_of line))
 
 -- what is wrong with a line of records
 abbrev pub RecordLineCause : Kind → ℕ → List ℕ → Type 0
-RecordLineCause TooLong number line = IsTooLong number line
-RecordLineCause kind number line = (fields_of line ≢ []) × RecordCause kind (fields_of line)
+RecordLineCause kind number line = ((kind ≡ TooLong) × IsTooLong number line)
+    ⊎ ((fields_of line ≢ []) × RecordCause kind (fields_of line))
 
 -- a line of these has this number, where the first of them has that one; and this holds of it and the lines before it
 abbrev pub Stands : ℕ → List (List ℕ) → ℕ → (List (List ℕ) → List ℕ → Type 0) → Type 0

@@ -23,7 +23,13 @@ abbrev pub IsFound : Option ℕ → List ℕ → List ℕ → List ℕ → Type 
 IsFound None old new coming = (old ≡ []) × (coming ≡ [])
 IsFound (Some n) old new coming = lines_of old ≡ take n new ∷ lines_of (drop (n + 1) new ++ coming)
 
--- Why a text was not read: a call of the device failed; or none did, and memory was refused or reading gives this fault.
-abbrev pub Refused : {A : Type 0} → (List ℕ → Result A TraceError) → ℕ → ℕ → Option (List ℕ) → TraceError → Type 0
+-- a fault of a line
+abbrev pub IsOfLine : TraceError → Type 0
+IsOfLine e = (0 < e.line) × (e.kind ≢ Read) × (e.kind ≢ NoMemory)
+
+-- Why a text was not read. A call of the device failed. Or none did: memory was refused, where there is something to
+-- keep, or reading gives this fault.
+abbrev pub Refused : {X : Type 0} → (List ℕ → Result (List X) TraceError) → ℕ → ℕ → Option (List ℕ) → TraceError → Type 0
 Refused read old new bytes e = ((e ≡ whole Read) × (new ≡ suc old))
-    ⊎ ((new ≡ old) × ((e ≡ whole NoMemory) ⊎ IfSome bytes (λ known. read known ≡ Err e)))
+    ⊎ ((new ≡ old) × (((e ≡ whole NoMemory) × IfSome bytes (λ known. read known ≢ Ok []))
+        ⊎ (IsOfLine e × IfSome bytes (λ known. read known ≡ Err e))))

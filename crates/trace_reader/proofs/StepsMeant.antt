@@ -3,6 +3,7 @@ use Rattle.std.proofs.Common.{◌≡◌, ◌≢◌, ℕ, suc, ◌+◌, ◌≤◌
 use Rattle.std.proofs.Common.{Option, Some, None, refl, sym, ap, subst, ◌∙◌, arith, inl, inr, ◌⊎◌}
 use Rattle.std.specs.Prelude.{Result, Ok, Err, MatchOption}
 use Rattle.trace_lines.specs.declared.errors.Kind.{Kind}
+use Rattle.trace_lines.specs.declared.errors.Kind.TheVariants.{Read, NoMemory}
 use Rattle.trace_lines.specs.declared.errors.TraceError.{TraceError}
 use Rattle.trace_lines.specs.declared.steps.Form.{Form}
 use Rattle.trace_lines.specs.declared.steps.Form.TheVariants.{One, Two}
@@ -16,6 +17,7 @@ use Rattle.trace_reader.specs.declared.limits.TheConstants.{MOST_BYTES, MOST_LIN
 use Rattle.trace_reader.specs.Lines.{lines_of, with_fields, worded}
 use Rattle.trace_reader.specs.Grammar.{AreShort, TellSteps, TellTrace}
 use Rattle.trace_reader.specs.Causes.{FieldsCause, StepLineCause, Stands, IsTooLong}
+use Rattle.trace_reader.specs.Outcomes.{IsOfLine}
 use Rattle.trace_reader.specs.Reading.{fitted, at_line, behind, listed, step_said, form_said, said_at, steps_from}
 use Rattle.trace_reader.proofs.Inverses.{ok-pair, bind-ok, bind-err, behind-ok, behind-err, fitted-ok, fitted-err}
 use Rattle.trace_reader.proofs.StepsRead.{line-said, lines-end}
@@ -263,3 +265,30 @@ fault-from (line ∷ lines) number form fault few e =
 pub steps-fault : (lines : List (List ℕ)) (fault : TraceError) → steps_from 1 None lines ≡ Err fault →
     Stands 1 lines fault.line (λ before line. StepLineCause None before fault.kind fault.line line)
 steps-fault lines fault e = fault-from lines 1 None fault (omega arith) e
+
+-- ---- no line is refused for what befalls the whole text
+
+trace-no-read : (form : Form) (fields : List (List ℕ)) → TraceCause form Read fields → ⊥
+trace-no-read form [] h = h
+trace-no-read form (field ∷ fields) h = h.1
+
+trace-no-memory : (form : Form) (fields : List (List ℕ)) → TraceCause form NoMemory fields → ⊥
+trace-no-memory form [] h = h
+trace-no-memory form (field ∷ fields) h = h.1
+
+cause-no-read : (form : Option Form) (fields : List (List ℕ)) → FieldsCause form [] Read fields → ⊥
+cause-no-read (Some form) fields h = trace-no-read form fields h
+cause-no-read None fields (inl h) = h
+cause-no-read None fields (inr h) = trace-no-read One fields h.1
+
+cause-no-memory : (form : Option Form) (fields : List (List ℕ)) → FieldsCause form [] NoMemory fields → ⊥
+cause-no-memory (Some form) fields h = trace-no-memory form fields h
+cause-no-memory None fields (inl h) = h
+cause-no-memory None fields (inr h) = trace-no-memory One fields h.1
+
+pub refused-of-line : (form : Option Form) (fields : List (List ℕ)) (fault : TraceError) → 0 < fault.line →
+    said_at form fields ≡ Err fault.kind → IsOfLine fault
+refused-of-line form fields fault some e =
+    let h = (said-refused form fields fault.kind e).1 in
+    (some, λ k. cause-no-read form fields (subst (λ (w : Kind). FieldsCause form [] w fields) k h),
+      λ k. cause-no-memory form fields (subst (λ (w : Kind). FieldsCause form [] w fields) k h))

@@ -1,5 +1,5 @@
 -- The steps that were read so far, and what the rest of the lines gives.
-use Rattle.std.proofs.Common.{◌≡◌, ℕ, suc, ◌+◌, ◌≤◌, ◌<◌, true, List, [], ◌∷◌, ◌++◌, take, drop, length}
+use Rattle.std.proofs.Common.{◌≡◌, ◌≢◌, ℕ, suc, ◌+◌, ◌≤◌, ◌<◌, true, List, [], ◌∷◌, ◌++◌, take, drop, length}
 use Rattle.std.proofs.Common.{Option, Some, None, IfSome, refl, sym, ap, subst, ◌∙◌, arith}
 use Rattle.std.specs.Prelude.{Result, Ok, Err, ◌||◌, nat_lt}
 use Rattle.std.proofs.lemmas.List.{append-nil, length-take-le}
@@ -12,11 +12,12 @@ use Rattle.trace_lines.specs.Fields.{fields_of}
 use Rattle.trace_reader.specs.declared.limits.TheConstants.{MOST_BYTES, MOST_LINES}
 use Rattle.trace_reader.specs.Ahead.{Both}
 use Rattle.trace_reader.specs.Lines.{lines_of}
-use Rattle.trace_reader.specs.Outcomes.{IsFound, BeginTooLong}
+use Rattle.trace_reader.specs.Outcomes.{IsFound, BeginTooLong, IsOfLine}
 use Rattle.trace_reader.specs.Reading.{fitted, at_line, behind, listed, said_at, steps_from, read_at}
 use Rattle.trace_reader.specs.Steps.{IsByCore}
 use Rattle.trace_reader.proofs.OnLines.{both-next, both-fault, both-long, both-end}
 use Rattle.trace_reader.proofs.OnLines.{fitted-short, fitted-long, behind-behind}
+use Rattle.trace_reader.proofs.Inverses.{behind-some}
 
 -- ---- the next line
 
@@ -118,3 +119,25 @@ steps-end a b c old new found number form x p q e =
     both-end (SoFar x (suc number) form)
     (λ bytes. (told : List (ℕ × Step)) × (read_at bytes ≡ Ok told) × IsByCore told x) a b c old new found p q e
     (λ before s. (s.0, s.2 ∙ ap (behind s.0) (lines-end (suc number) form) ∙ ap Ok (append-nil s.0), s.1))
+
+pub long-of-line : (number : ℕ) (fault : TraceError) → fault ≡ record { line = suc number; kind = TooLong } → IsOfLine fault
+long-of-line number fault e = rw e (omega arith, λ k. cc, λ k. cc)
+
+-- a step that memory was refused for was there
+pub steps-kept : (a b c : Option (List ℕ)) (old new line : List ℕ) (found : Option ℕ) (n number : ℕ)
+    (form next : Option Form) (x : List (List Step)) (said : ℕ × Step) →
+    Both a b (λ before after. SoFar x (suc number) form before (lines_of (old ++ after))) →
+    Both b c (λ before after. IsFound found (old ++ before) new after) → found ≡ Some n →
+    (n ≤ MOST_BYTES) × (n ≤ length new) × (number < MOST_LINES) → line ≡ take n new →
+    said_at form (fields_of line) ≡ Ok (next, Some said) → IfSome a (λ bytes. read_at bytes ≢ Ok [])
+steps-kept a b c old new line found n number form next x said p q e h f r =
+    let len : length (take n new) ≤ MOST_BYTES = omega (arith, length-take-le n new h.1, h.0) in
+    let told : said_at form (fields_of (take n new)) ≡ Ok (next, Some said) =
+        ap (λ (w : List ℕ). said_at form (fields_of w)) (sym f) ∙ r in
+    let early : suc number ≤ MOST_LINES = h.2 in
+    both-fault (SoFar x (suc number) form) (λ bytes. read_at bytes ≢ Ok []) a b c old new found n p q e
+    (λ before later s none.
+      let on : read_at before ≡ behind (s.0 ++ said ∷ []) (steps_from (suc (suc number)) next later) =
+          s.2 ∙ ap (behind s.0) (line-said (suc number) form next (take n new) later (Some said) len early told)
+          ∙ behind-behind s.0 (said ∷ []) (steps_from (suc (suc number)) next later) in
+      behind-some s.0 said (steps_from (suc (suc number)) next later) (sym on ∙ none))

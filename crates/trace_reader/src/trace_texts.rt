@@ -3,6 +3,7 @@
 ghost use Rattle.std.specs.Prelude.{◌≡◌, ◌≤◌, ◌<◌, ◌⊎◌, ◌++◌, ℕ, suc, List, Option, Ok, Err, IfOk, IfErr, IfSome, OnOk};
 ghost use Rattle.byte_streams.specs.Device.{AtEnd};
 ghost use Rattle.trace_lines.specs.declared.errors.Kind.TheVariants.{Read, NoMemory};
+ghost use Rattle.trace_lines.specs.declared.steps.Form.{Form};
 ghost use Rattle.trace_lines.specs.declared.steps.Step.{Step};
 ghost use Rattle.trace_lines.specs.Fields.{fields_of};
 ghost use Rattle.trace_lines.specs.Reading.{form_line_at, trace_line_at};
@@ -55,7 +56,9 @@ fn add_line(
         × (said_at form (fields_of line.now) ≡ Ok (next, told))
         × ((before : List (ℕ × Step)) → IsByCore before trace.old →
             IsByCore (before ++ listed told) trace.new)) }
-    ensures fault { IfErr result (λ e. (e ≡ whole NoMemory)
+    ensures fault { IfErr result (λ e. ((e ≡ whole NoMemory)
+            × ((next : Option Form) × (told : ℕ × Step)
+                × (said_at form (fields_of line.now) ≡ Ok (next, Some told))))
         ⊎ ((e.line ≡ number) × (said_at form (fields_of line.now) ≡ Err e.kind))) }
 {
     match said(form, line) {

@@ -4,3 +4,4 @@ mod OnLines
 mod Inverses
 mod StepsRead
 mod StepsMeant
+mod TraceAnswers

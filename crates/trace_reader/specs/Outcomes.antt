@@ -33,3 +33,13 @@ abbrev pub Refused : {X : Type 0} → (List ℕ → Result (List X) TraceError) 
 Refused read old new bytes e = ((e ≡ whole Read) × (new ≡ suc old))
     ⊎ ((new ≡ old) × (((e ≡ whole NoMemory) × IfSome bytes (λ known. read known ≢ Ok []))
         ⊎ (IsOfLine e × IfSome bytes (λ known. read known ≡ Err e))))
+
+-- this is answered, unless a call of the device failed or memory was refused
+abbrev pub Gives : {X : Type 0} → X → Result X TraceError → Type 0
+Gives x (Ok y) = y ≡ x
+Gives x (Err e) = (e ≡ whole Read) ⊎ (e ≡ whole NoMemory)
+
+-- the fault is the device's, or memory's, or it is of a line, in which it has its cause
+abbrev pub IsCaused : (List ℕ → Kind → ℕ → Type 0) → Option (List ℕ) → TraceError → Type 0
+IsCaused Fault bytes e = (e ≡ whole Read) ⊎ (e ≡ whole NoMemory)
+    ⊎ (IsOfLine e × IfSome bytes (λ known. Fault known e.kind e.line))

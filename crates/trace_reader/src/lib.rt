@@ -8,5 +8,6 @@ mod trace_texts;
 mod traces;
 
 pub use limits::{MOST_BYTES, MOST_LINES};
+pub use trace_texts::read;
 pub use traces::Trace;
 pub use trace_lines::{Form, Kind, Step, TraceError};

@@ -7,7 +7,9 @@ ghost use Rattle.trace_lines.specs.declared.steps.Form.{Form};
 ghost use Rattle.trace_lines.specs.declared.steps.Step.{Step};
 ghost use Rattle.trace_lines.specs.Fields.{fields_of};
 ghost use Rattle.trace_lines.specs.Reading.{form_line_at, trace_line_at};
-ghost use Rattle.trace_reader.specs.Outcomes.{whole, Refused};
+ghost use Rattle.trace_reader.specs.Causes.{Fault};
+ghost use Rattle.trace_reader.specs.Grammar.{IsTrace};
+ghost use Rattle.trace_reader.specs.Outcomes.{whole, Refused, Gives, IsCaused};
 ghost use Rattle.trace_reader.specs.Reading.{listed, step_said, form_said, said_at, read_at};
 ghost use Rattle.trace_reader.specs.Steps.{IsByCore};
 
@@ -93,4 +95,32 @@ fn read_whole<S: Source>(alloc: Global, source: &mut S) -> Result<Trace, TraceEr
         block.pass(length);
     }
     Ok(trace)
+}
+
+/// Reads all that a source has as the text of a trace of at most 16,777,216 lines of at most 256 bytes; its first line
+/// that has fields tells its form (docs/TEXTS.md).
+///
+/// A text that is refused is answered by its first fault: the number of the line, counted from 1, and the kind. `TooLong`
+/// if a line has more bytes or there are more lines; the other kinds as `trace_line` and `form_line` tell them. If a call
+/// of the source failed the answer is `Read`, and if memory was refused `NoMemory`, both with line 0.
+pub fn read<S: Source>(alloc: Global, source: &mut S) -> Result<Trace, TraceError>
+    // What is read is what the text says.
+    ensures found { IfOk result (λ trace. IfSome (S.remaining source.old)
+        (λ bytes. IsTrace bytes trace)) }
+    // Every text of the grammar is read, as the trace that it stands for.
+    ensures only { IfSome (S.remaining source.old) (λ bytes.
+        (lanes : List (List Step)) → IsTrace bytes lanes → Gives lanes result) }
+    // The fault of a line has its cause there.
+    ensures fault { IfErr result (IsCaused Fault (S.remaining source.old)) }
+    // The steps as they are read from the front, each at its core.
+    ensures told { IfOk result (λ trace. IfSome (S.remaining source.old)
+        (λ bytes. (told : List (ℕ × Step)) × (read_at bytes ≡ Ok told) × IsByCore told trace)) }
+    // The first fault; memory is refused only where there is a step.
+    ensures refused { IfErr result (Refused read_at (S.failures source.old)
+        (S.failures source.new) (S.remaining source.old)) }
+    ensures none_failed { OnOk result (S.failures source.new ≡ S.failures source.old) }
+    ensures end { OnOk result (IfSome (S.remaining source.old)
+        (λ known. AtEnd (S.remaining source.new))) }
+{
+    read_whole(alloc, source)
 }

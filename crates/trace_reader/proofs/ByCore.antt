@@ -47,9 +47,9 @@ steps-push k [] core s = refl
 steps-push k (t ∷ told) core s =
     elim (cases_Bool (t.0 == k)) [
       | inl e ↦ elim (cases_Bool (core == k)) [
-          | inl f ↦ rw (e, f) (ap (λ (w : List Step). t.1 ∷ w) (steps-push k told core s ∙ rw f refl))
-          | inr f ↦ rw (e, f) (ap (λ (w : List Step). t.1 ∷ w) (steps-push k told core s ∙ rw f refl))
-        ]
+        | inl f ↦ rw (e, f) (ap (λ (w : List Step). t.1 ∷ w) (steps-push k told core s ∙ rw f refl))
+        | inr f ↦ rw (e, f) (ap (λ (w : List Step). t.1 ∷ w) (steps-push k told core s ∙ rw f refl))
+      ]
       | inr e ↦ rw e (steps-push k told core s)
     ]
 

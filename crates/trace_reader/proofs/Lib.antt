@@ -5,3 +5,6 @@ mod Inverses
 mod StepsRead
 mod StepsMeant
 mod TraceAnswers
+mod RecordsRead
+mod RecordsMeant
+mod RecordAnswers

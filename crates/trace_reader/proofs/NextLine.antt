@@ -23,7 +23,7 @@ grown xs ys start end k n ordered within fits =
     let sum : end + n - start ≡ (end - start) + n = omega arith in
     let parts : end ≡ start + (end - start) = omega arith in
     let same : held ≡ take (end - start) (drop start xs) =
-        ap (λ j. drop start (take j xs)) parts ∙ drop-take start (end - start) xs in
+    ap (λ j. drop start (take j xs)) parts ∙ drop-take start (end - start) xs in
     let after = ys ++ post_of end k xs in
     ap (take (end + n - start)) (drop-append-le start (take end xs) after (omega arith))
     ∙ ap (λ j. take j (held ++ after)) sum ∙ take-add (end - start) n (held ++ after)
@@ -105,18 +105,23 @@ lines-none = refl
 pub next-ended : (n : ℕ) (bytes coming : List ℕ) → n ≡ prefix_len is_within_line bytes → n < length bytes →
     IsNextLine n bytes coming
 next-ended n bytes coming e lt =
-    let lt' : prefix_len is_within_line bytes < length bytes = omega (arith, e) in
-    ([], lines_of (drop (n + 1) bytes ++ coming),
+    let lt' : prefix_len is_within_line bytes < length bytes = omega (arith, e) in (
+      [],
+      lines_of (drop (n + 1) bytes ++ coming),
       rw (e, append-nil (take (prefix_len is_within_line bytes) bytes)) (first-ended bytes coming lt'),
-      λ short. (refl, refl))
+      λ short. (refl, refl),
+    )
 
 next-long : (n : ℕ) (bytes coming : List ℕ) → n ≡ prefix_len is_within_line bytes → n ≡ length bytes →
     MOST_BYTES < n → IsNextLine n bytes coming
 next-long n [] coming e f lt = absurd (omega (arith, f))
 next-long n (b ∷ bytes) coming e f lt =
-    let r = first-open b bytes coming (sym e ∙ f) in
-    (r.0, r.1, r.2 ∙ ap (λ (w : List ℕ). (w ++ r.0) ∷ r.1) (sym (take_all n (b ∷ bytes) (omega (arith, f)))),
-      λ short. absurd (omega arith))
+    let r = first-open b bytes coming (sym e ∙ f) in (
+      r.0,
+      r.1,
+      r.2 ∙ ap (λ (w : List ℕ). (w ++ r.0) ∷ r.1) (sym (take_all n (b ∷ bytes) (omega (arith, f)))),
+      λ short. absurd (omega arith),
+    )
 
 -- a line feed stands there, or more bytes than a line has
 pub next-found : (n : ℕ) (bytes coming : List ℕ) → n ≡ prefix_len is_within_line bytes → n ≤ length bytes →
@@ -137,10 +142,12 @@ pub next-last : (n : ℕ) (bytes coming : List ℕ) → n ≡ prefix_len is_with
 next-last n [] coming e f some none = absurd (some f)
 next-last n (b ∷ bytes) coming e f some none =
     let all : take n (b ∷ bytes) ≡ b ∷ bytes = take_all n (b ∷ bytes) (omega (arith, f)) in
-    let rest : drop (n + 1) (b ∷ bytes) ≡ [] = drop_all (n + 1) (b ∷ bytes) (omega (arith, f)) in
-    ([], [],
+    let rest : drop (n + 1) (b ∷ bytes) ≡ [] = drop_all (n + 1) (b ∷ bytes) (omega (arith, f)) in (
+      [],
+      [],
       rw (none, all, append-nil (b ∷ bytes)) (first-last b bytes (sym e ∙ f)),
-      λ short. (refl, rw (none, rest) (sym lines-none)))
+      λ short. (refl, rw (none, rest) (sym lines-none)),
+    )
 
 -- ---- bytes that are known
 

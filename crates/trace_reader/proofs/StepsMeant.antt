@@ -30,16 +30,18 @@ Meant (Some form) fields next said =
     (next ≡ Some form) × MatchOption said (fields ≡ []) (λ told. IsTraceLine form fields told.0 told.1)
 Meant None fields next said = ((fields ≡ []) × (next ≡ None) × (said ≡ None))
     ⊎ ((IsFormLine fields One × (next ≡ Some One)) × ((told : ℕ × Step) × (said ≡ Some told)
-        × IsTraceLine One fields told.0 told.1))
+    × IsTraceLine One fields told.0 told.1))
     ⊎ (IsFormLine fields Two × (next ≡ Some Two) × (said ≡ None))
 
 step-meant : (form : Form) (fields : List (List ℕ)) (next : Option Form) (said : Option (ℕ × Step)) →
     step_said form fields ≡ Ok (next, said) → Meant (Some form) fields next said
 step-meant form fields next said e =
     let b = bind-ok (trace_line_at form fields) (λ told. Ok (Some form, told)) (next, said) e in
-    let same = ok-pair (Some form, b.0) (next, said) b.2 in
-    (sym same.0, subst (λ (o : Option (ℕ × Step)). MatchOption o (fields ≡ [])
-        (λ told. IsTraceLine form fields told.0 told.1)) same.1 (trace-told form fields (Ok b.0) (sym b.1)).0)
+    let same = ok-pair (Some form, b.0) (next, said) b.2 in (
+      sym same.0,
+      subst (λ (o : Option (ℕ × Step)). MatchOption o (fields ≡ [])
+          (λ told. IsTraceLine form fields told.0 told.1)) same.1 (trace-told form fields (Ok b.0) (sym b.1)).0,
+    )
 
 -- a line that tells form 1 tells a step
 one-meant : (fields : List (List ℕ)) (next : Option Form) (said : Option (ℕ × Step)) → IsFormLine fields One →
@@ -70,8 +72,10 @@ step-refused : (form : Form) (fields : List (List ℕ)) (kind : Kind) → step_s
     (fields ≢ []) × TraceCause form kind fields
 step-refused form fields kind e =
     elim (bind-err (trace_line_at form fields) (λ told. Ok (Some form, told)) kind e) [
-      | inl r ↦ (λ none. let told = trace-nothing form fields none in absurd (cc (r, told)),
-          (trace-told form fields (Err kind) (sym r)).1)
+      | inl r ↦ (
+        λ none. let told = trace-nothing form fields none in absurd (cc (r, told)),
+        (trace-told form fields (Err kind) (sym r)).1,
+      )
       | inr r ↦ absurd (cc r.2)
     ]
 
@@ -88,8 +92,10 @@ unfolding said_at
 said-refused (Some form) fields kind e = step-refused form fields kind e
 said-refused None fields kind e =
     elim (bind-err (form_line_at fields) (form_said fields) kind e) [
-      | inl r ↦ (λ none. let told = form-nothing fields none in absurd (cc (r, told)),
-          inl (form-told fields (Err kind) (sym r)).1)
+      | inl r ↦ (
+        λ none. let told = form-nothing fields none in absurd (cc (r, told)),
+        inl (form-told fields (Err kind) (sym r)).1,
+      )
       | inr r ↦ form-refused fields r.0 kind (form-told fields (Ok r.0) (sym r.1)).0 r.2
     ]
 
@@ -139,15 +145,16 @@ found-from [] number form told few e =
     ((omega arith, tt), subst (λ (w : List (ℕ × Step)). SaysFrom form (worded []) w) same (says-none form))
 found-from (line ∷ lines) number form told few e =
     let o = fitted-ok number line (said_at form (fields_of line))
-        (λ said. behind (listed said.1) (steps_from (suc number) said.0 lines)) told e in
+    (λ said. behind (listed said.1) (steps_from (suc number) said.0 lines)) told e in
     let next = o.1.0.0 in
     let said = o.1.0.1 in
     let b = behind-ok (listed said) (steps_from (suc number) next lines) told o.1.2 in
-    let r = found-from lines (suc number) next b.0 (omega (arith, o.0.1)) b.1 in
-    ((omega (arith, r.0.0), (o.0.0, r.0.1)),
+    let r = found-from lines (suc number) next b.0 (omega (arith, o.0.1)) b.1 in (
+      (omega (arith, r.0.0), (o.0.0, r.0.1)),
       subst (λ (w : List (ℕ × Step)). SaysFrom form (with_fields (fields_of line) (worded lines)) w) b.2
-      (says-more form next said (fields_of line) (worded lines) b.0
-      (said-meant form (fields_of line) next said o.1.1) r.1))
+          (says-more form next said (fields_of line) (worded lines) b.0
+          (said-meant form (fields_of line) next said o.1.1) r.1),
+    )
 
 pub steps-found : (lines : List (List ℕ)) (told : List (ℕ × Step)) → steps_from 1 None lines ≡ Ok told →
     ((length lines ≤ MOST_LINES) × AreShort lines) × TellTrace (worded lines) told
@@ -171,9 +178,14 @@ unfolding TellSteps said_at
 parts-form form [] lines told s =
     (Some form, None, told, refl, step-again form [] None (trace-nothing form [] refl), s)
 parts-form form (field ∷ fields) lines [] s = absurd s
-parts-form form (field ∷ fields) lines (first ∷ later) s =
-    (Some form, Some first, later, refl,
-      step-again form (field ∷ fields) (Some first) (trace-only form (field ∷ fields) first.0 first.1 s.0), s.1)
+parts-form form (field ∷ fields) lines (first ∷ later) s = (
+  Some form,
+  Some first,
+  later,
+  refl,
+  step-again form (field ∷ fields) (Some first) (trace-only form (field ∷ fields) first.0 first.1 s.0),
+  s.1,
+)
 
 parts-none : (fields : List (List ℕ)) (lines : List (List (List ℕ))) (told : List (ℕ × Step)) →
     TellTrace (with_fields fields lines) told → Parts None fields lines told
@@ -181,9 +193,14 @@ unfolding TellSteps said_at
 parts-none [] lines told s =
     (None, None, told, refl, rw (form-nothing [] refl) refl, s)
 parts-none (field ∷ fields) lines [] (inl s) = absurd s.1
-parts-none (field ∷ fields) lines (first ∷ later) (inl s) =
-    (Some One, Some first, later, refl,
-      rw (form-only (field ∷ fields) One s.0, trace-only One (field ∷ fields) first.0 first.1 s.1.0) refl, s.1.1)
+parts-none (field ∷ fields) lines (first ∷ later) (inl s) = (
+  Some One,
+  Some first,
+  later,
+  refl,
+  rw (form-only (field ∷ fields) One s.0, trace-only One (field ∷ fields) first.0 first.1 s.1.0) refl,
+  s.1.1,
+)
 parts-none (field ∷ fields) lines told (inr s) =
     (Some Two, None, told, refl, rw (form-only (field ∷ fields) Two s.0) refl, s.1)
 
@@ -224,11 +241,11 @@ cause-more None next said fields lines kind at (inl m) s =
 cause-more None next said [] lines kind at (inr (inl m)) s = absurd m.0.0
 cause-more None next said (field ∷ fields) lines kind at (inr (inl m)) s =
     let h : FieldsCause (Some One) lines kind at =
-        subst (λ (o : Option Form). FieldsCause o lines kind at) m.0.1 s in (One, m.0.0, h)
+    subst (λ (o : Option Form). FieldsCause o lines kind at) m.0.1 s in (One, m.0.0, h)
 cause-more None next said [] lines kind at (inr (inr m)) s = absurd m.0
 cause-more None next said (field ∷ fields) lines kind at (inr (inr m)) s =
     let h : FieldsCause (Some Two) lines kind at =
-        subst (λ (o : Option Form). FieldsCause o lines kind at) m.1 s in (Two, m.0, h)
+    subst (λ (o : Option Form). FieldsCause o lines kind at) m.1 s in (Two, m.0, h)
 
 line-cause-more : (form next : Option Form) (said : Option (ℕ × Step)) (line : List ℕ) (before : List (List ℕ))
     (kind : Kind) (number : ℕ) (at : List ℕ) → Meant form (fields_of line) next said →
@@ -250,16 +267,21 @@ unfolding steps_from
 fault-from [] number form fault few e = absurd cc
 fault-from (line ∷ lines) number form fault few e =
     elim (fitted-err number line (said_at form (fields_of line))
-        (λ said. behind (listed said.1) (steps_from (suc number) said.0 lines)) fault few e) [
+    (λ said. behind (listed said.1) (steps_from (suc number) said.0 lines)) fault few e) [
       | inl t ↦ ([], line, lines, refl, omega (arith, t.0), inl (t.1, subst (λ (k : ℕ). IsTooLong k line) (sym t.0) t.2))
       | inr (inl t) ↦ let r = said-refused form (fields_of line) fault.kind t.1 in
           ([], line, lines, refl, omega (arith, t.0), inr (r.0, none-before form fault.kind (fields_of line) r.1))
       | inr (inr t) ↦ let next = t.1.0.0 in let said = t.1.0.1 in
           let m = said-meant form (fields_of line) next said t.1.1 in
           let r = fault-from lines (suc number) next fault (omega (arith, t.0))
-              (behind-err (listed said) (steps_from (suc number) next lines) fault t.1.2) in
-          (line ∷ r.0, r.1, r.2, ap (λ (w : List (List ℕ)). line ∷ w) r.3, omega (arith, r.4),
-            line-cause-more form next said line r.0 fault.kind fault.line r.1 m r.5)
+          (behind-err (listed said) (steps_from (suc number) next lines) fault t.1.2) in (
+            line ∷ r.0,
+            r.1,
+            r.2,
+            ap (λ (w : List (List ℕ)). line ∷ w) r.3,
+            omega (arith, r.4),
+            line-cause-more form next said line r.0 fault.kind fault.line r.1 m r.5,
+          )
     ]
 
 pub steps-fault : (lines : List (List ℕ)) (fault : TraceError) → steps_from 1 None lines ≡ Err fault →
@@ -289,6 +311,8 @@ cause-no-memory None fields (inr h) = trace-no-memory One fields h.1
 pub refused-of-line : (form : Option Form) (fields : List (List ℕ)) (fault : TraceError) → 0 < fault.line →
     said_at form fields ≡ Err fault.kind → IsOfLine fault
 refused-of-line form fields fault some e =
-    let h = (said-refused form fields fault.kind e).1 in
-    (some, λ k. cause-no-read form fields (subst (λ (w : Kind). FieldsCause form [] w fields) k h),
-      λ k. cause-no-memory form fields (subst (λ (w : Kind). FieldsCause form [] w fields) k h))
+    let h = (said-refused form fields fault.kind e).1 in (
+      some,
+      λ k. cause-no-read form fields (subst (λ (w : Kind). FieldsCause form [] w fields) k h),
+      λ k. cause-no-memory form fields (subst (λ (w : Kind). FieldsCause form [] w fields) k h),
+    )

@@ -27,7 +27,7 @@ pub line-said : (number : ℕ) (form next : Option Form) (line : List ℕ) (late
 unfolding steps_from
 line-said number form next line later said h k e =
     ap (λ (r : Result (Option Form × Option (ℕ × Step)) Kind). at_line number r
-        (λ said. behind (listed said.1) (steps_from (suc number) said.0 later)))
+    (λ said. behind (listed said.1) (steps_from (suc number) said.0 later)))
     (fitted-short number line (said_at form (fields_of line)) h k ∙ e)
 
 pub line-refused : (number : ℕ) (form : Option Form) (line : List ℕ) (later : List (List ℕ)) (kind : Kind) →
@@ -36,7 +36,7 @@ pub line-refused : (number : ℕ) (form : Option Form) (line : List ℕ) (later 
 unfolding steps_from
 line-refused number form line later kind h k e =
     ap (λ (r : Result (Option Form × Option (ℕ × Step)) Kind). at_line number r
-        (λ said. behind (listed said.1) (steps_from (suc number) said.0 later)))
+    (λ said. behind (listed said.1) (steps_from (suc number) said.0 later)))
     (fitted-short number line (said_at form (fields_of line)) h k ∙ e)
 
 pub line-long : (number : ℕ) (form : Option Form) (line : List ℕ) (later : List (List ℕ)) →
@@ -45,7 +45,7 @@ pub line-long : (number : ℕ) (form : Option Form) (line : List ℕ) (later : L
 unfolding steps_from
 line-long number form line later e =
     ap (λ (r : Result (Option Form × Option (ℕ × Step)) Kind). at_line number r
-        (λ said. behind (listed said.1) (steps_from (suc number) said.0 later)))
+    (λ said. behind (listed said.1) (steps_from (suc number) said.0 later)))
     (fitted-long number line (said_at form (fields_of line)) e)
 
 pub lines-end : (number : ℕ) (form : Option Form) → steps_from number form [] ≡ Ok []
@@ -74,7 +74,7 @@ pub steps-on : (a b c : Option (List ℕ)) (old new line last : List ℕ) (found
 steps-on a b c old new line last found n number form next x y p q e h f g r =
     let len : length (take n new) ≤ MOST_BYTES = omega (arith, length-take-le n new h.1, h.0) in
     let said : said_at form (fields_of (take n new)) ≡ Ok (next, r.0) =
-        ap (λ (w : List ℕ). said_at form (fields_of w)) (sym f) ∙ r.1 in
+    ap (λ (w : List ℕ). said_at form (fields_of w)) (sym f) ∙ r.1 in
     let early : suc number ≤ MOST_LINES = h.2 in
     let again : suc (suc number) ≡ suc (number + 1) = omega arith in
     both-next (SoFar x (suc number) form) (SoFar y (suc (number + 1)) next) a b c old new found n p q e
@@ -96,12 +96,12 @@ pub steps-refused : (a b c : Option (List ℕ)) (old new line : List ℕ) (found
 steps-refused a b c old new line found n number form x fault p q e h f at r =
     let len : length (take n new) ≤ MOST_BYTES = omega (arith, length-take-le n new h.1, h.0) in
     let said : said_at form (fields_of (take n new)) ≡ Err fault.kind =
-        ap (λ (w : List ℕ). said_at form (fields_of w)) (sym f) ∙ r in
+    ap (λ (w : List ℕ). said_at form (fields_of w)) (sym f) ∙ r in
     let early : suc number ≤ MOST_LINES = h.2 in
     let again : suc number ≡ fault.line = omega arith in
     both-fault (SoFar x (suc number) form) (λ bytes. read_at bytes ≡ Err fault) a b c old new found n p q e
     (λ before later s. s.2 ∙ ap (behind s.0) (line-refused (suc number) form (take n new) later fault.kind len early said)
-      ∙ ap (λ k. Err (record { line = k; kind = fault.kind })) again)
+    ∙ ap (λ k. Err (record { line = k; kind = fault.kind })) again)
 
 pub steps-long : (a b c : Option (List ℕ)) (old : List ℕ) (number : ℕ) (form : Option Form) (x : List (List Step))
     (fault : TraceError) → Both a b (λ before after. SoFar x (suc number) form before (lines_of (old ++ after))) →
@@ -133,11 +133,11 @@ pub steps-kept : (a b c : Option (List ℕ)) (old new line : List ℕ) (found : 
 steps-kept a b c old new line found n number form next x said p q e h f r =
     let len : length (take n new) ≤ MOST_BYTES = omega (arith, length-take-le n new h.1, h.0) in
     let told : said_at form (fields_of (take n new)) ≡ Ok (next, Some said) =
-        ap (λ (w : List ℕ). said_at form (fields_of w)) (sym f) ∙ r in
+    ap (λ (w : List ℕ). said_at form (fields_of w)) (sym f) ∙ r in
     let early : suc number ≤ MOST_LINES = h.2 in
     both-fault (SoFar x (suc number) form) (λ bytes. read_at bytes ≢ Ok []) a b c old new found n p q e
     (λ before later s none.
-      let on : read_at before ≡ behind (s.0 ++ said ∷ []) (steps_from (suc (suc number)) next later) =
-          s.2 ∙ ap (behind s.0) (line-said (suc number) form next (take n new) later (Some said) len early told)
-          ∙ behind-behind s.0 (said ∷ []) (steps_from (suc (suc number)) next later) in
-      behind-some s.0 said (steps_from (suc (suc number)) next later) (sym on ∙ none))
+    let on : read_at before ≡ behind (s.0 ++ said ∷ []) (steps_from (suc (suc number)) next later) =
+    s.2 ∙ ap (behind s.0) (line-said (suc number) form next (take n new) later (Some said) len early told)
+    ∙ behind-behind s.0 (said ∷ []) (steps_from (suc (suc number)) next later) in
+    behind-some s.0 said (steps_from (suc (suc number)) next later) (sym on ∙ none))

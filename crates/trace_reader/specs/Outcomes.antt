@@ -1,6 +1,6 @@
 -- What a reader answers of the bytes that its source had.
 use Rattle.std.specs.Prelude.{◌≡◌, ◌≢◌, ℕ, suc, ◌+◌, ◌≤◌, ◌<◌, ◌||◌, nat_lt, true, List, [], ◌∷◌, ◌++◌, length, take, drop}
-use Rattle.std.specs.Prelude.{Option, Some, None, Result, Ok, Err, ◌⊎◌, IfSome}
+use Rattle.std.specs.Prelude.{Option, Some, None, Result, Ok, Err, ◌⊎◌, IfSome, Vec}
 use Rattle.trace_lines.specs.declared.errors.Kind.{Kind}
 use Rattle.trace_lines.specs.declared.errors.Kind.TheVariants.{Read, NoMemory, TooLong}
 use Rattle.trace_lines.specs.declared.errors.TraceError.{TraceError}
@@ -32,7 +32,7 @@ IsOfLine e = (0 < e.line) × (e.kind ≢ Read) × (e.kind ≢ NoMemory)
 abbrev pub Refused : {X : Type 0} → (List ℕ → Result (List X) TraceError) → ℕ → ℕ → Option (List ℕ) → TraceError → Type 0
 Refused read old new bytes e = ((e ≡ whole Read) × (new ≡ suc old))
     ⊎ ((new ≡ old) × (((e ≡ whole NoMemory) × IfSome bytes (λ known. read known ≢ Ok []))
-        ⊎ (IsOfLine e × IfSome bytes (λ known. read known ≡ Err e))))
+    ⊎ (IsOfLine e × IfSome bytes (λ known. read known ≡ Err e))))
 
 -- this is answered, unless a call of the device failed or memory was refused
 abbrev pub Gives : {X : Type 0} → X → Result X TraceError → Type 0
@@ -43,3 +43,8 @@ Gives x (Err e) = (e ≡ whole Read) ⊎ (e ≡ whole NoMemory)
 abbrev pub IsCaused : (List ℕ → Kind → ℕ → Type 0) → Option (List ℕ) → TraceError → Type 0
 IsCaused Fault bytes e = (e ≡ whole Read) ⊎ (e ≡ whole NoMemory)
     ⊎ (IsOfLine e × IfSome bytes (λ known. Fault known e.kind e.line))
+
+-- these are answered, unless a call of the device failed or memory was refused
+abbrev pub GivesList : {X Z : Type 0} → List X → Result (Vec X Z) TraceError → Type 0
+GivesList xs (Ok ys) = ys.items ≡ xs
+GivesList xs (Err e) = (e ≡ whole Read) ⊎ (e ≡ whole NoMemory)

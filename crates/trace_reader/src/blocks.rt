@@ -87,7 +87,7 @@ impl Block {
         ensures next { IfOk result (λ found. Both (S.remaining source.old) (S.remaining source.new)
             (λ before after. (ahead self.old ++ before ≡ ahead self.new ++ after)
             × MatchOption found ((ahead self.new ≡ []) × (after ≡ []))
-                (λ n. IsNextLine n (ahead self.new) after))) }
+            (λ n. IsNextLine n (ahead self.new) after))) }
         ensures within { IfOk result (λ found. MatchOption found (Unit {0})
             (λ n. n ≤ length (ahead self.new))) }
         ensures count { Counts (S.failures source.old) (S.failures source.new) result }

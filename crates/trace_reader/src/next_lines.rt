@@ -27,9 +27,9 @@ pub(crate) fn next_line<S: Source>(
     ensures fault { IfErr result (λ e.
         ((e ≡ whole Read) × (S.failures source.new ≡ suc (S.failures source.old)))
         ⊎ ((e ≡ record { line = suc number; kind = TooLong })
-            × (S.failures source.new ≡ S.failures source.old)
-            × Both (S.remaining source.old) (S.remaining source.new)
-                (λ before after. BeginTooLong (suc number) (lines_of (ahead block.old ++ before))))) }
+        × (S.failures source.new ≡ S.failures source.old)
+        × Both (S.remaining source.old) (S.remaining source.new)
+        (λ before after. BeginTooLong (suc number) (lines_of (ahead block.old ++ before))))) }
 {
     match block.find_line(source) {
         Err(_) => Err(TraceError {

@@ -57,10 +57,10 @@ fn add_line(
     ensures added { IfOk result (λ next. (told : Option (ℕ × Step))
         × (said_at form (fields_of line.now) ≡ Ok (next, told))
         × ((before : List (ℕ × Step)) → IsByCore before trace.old →
-            IsByCore (before ++ listed told) trace.new)) }
+        IsByCore (before ++ listed told) trace.new)) }
     ensures fault { IfErr result (λ e. ((e ≡ whole NoMemory)
-            × ((next : Option Form) × (told : ℕ × Step)
-                × (said_at form (fields_of line.now) ≡ Ok (next, Some told))))
+        × ((next : Option Form) × (told : ℕ × Step)
+        × (said_at form (fields_of line.now) ≡ Ok (next, Some told))))
         ⊎ ((e.line ≡ number) × (said_at form (fields_of line.now) ≡ Err e.kind))) }
 {
     match said(form, line) {

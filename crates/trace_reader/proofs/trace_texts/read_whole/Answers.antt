@@ -15,12 +15,17 @@ returns-in_err-length-clause-fault g c =
     let i = c.lines.invariant in
     let failures = g.S.Source.failures in
     let told : Refused read_at (failures c.args.source.now) (failures c.next_line.new.source)
-        (g.S.Source.remaining c.args.source.now) fault =
-        elim c.in_err-length.ensures.fault [
-          | inl f ↦ inl (f.0, f.1 ∙ ap suc i.counted)
-          | inr f ↦ inr (f.1 ∙ i.counted, inr (long-of-line c.lines.number fault f.0,
-              steps-long _ _ _ _ c.lines.number c.lines.form _ fault i.read f.2 f.0))
-        ]
+    (g.S.Source.remaining c.args.source.now) fault =
+    elim c.in_err-length.ensures.fault [
+      | inl f ↦ inl (f.0, f.1 ∙ ap suc i.counted)
+      | inr f ↦ inr (
+        f.1 ∙ i.counted,
+        inr (
+          long-of-line c.lines.number fault f.0,
+          steps-long _ _ _ _ c.lines.number c.lines.form _ fault i.read f.2 f.0,
+        ),
+      )
+    ]
     in rw (p.1, p.2) told
 
 pub returns-in_err-form-clause-fault : goal.returns-in_err-form-clause-fault
@@ -32,19 +37,25 @@ returns-in_err-form-clause-fault g c =
     let failures = g.S.Source.failures in
     let short = rw c.in-Some.is at l.ensures.short in
     let told : Refused read_at (failures c.args.source.now) (failures c.next_line.new.source)
-        (g.S.Source.remaining c.args.source.now) fault =
-        elim c.in_err-form.ensures.fault [
-          | inl f ↦ inr (
-              l.ensures.none_failed ∙ i.counted,
-              inl (f.0, steps-kept _ _ _ _ (ahead c.next_line.new.block) c.front.result.now l.field-0 c.in-Some.length
-                  c.lines.number c.lines.form f.1.0 _ f.1.1 i.read l.ensures.next c.in-Some.is short c.front.ensures f.1.2),
-            )
-          | inr f ↦ inr (
-              l.ensures.none_failed ∙ i.counted,
-              inr (refused-of-line c.lines.form (fields_of c.front.result.now) fault (omega (arith, f.0)) f.1, steps-refused _ _ _ _ (ahead c.next_line.new.block) c.front.result.now l.field-0 c.in-Some.length
-                  c.lines.number c.lines.form _ fault i.read l.ensures.next c.in-Some.is short c.front.ensures f.0 f.1),
-            )
-        ]
+    (g.S.Source.remaining c.args.source.now) fault =
+    elim c.in_err-form.ensures.fault [
+      | inl f ↦ inr (
+        l.ensures.none_failed ∙ i.counted,
+        inl (
+          f.0,
+          steps-kept _ _ _ _ (ahead c.next_line.new.block) c.front.result.now l.field-0 c.in-Some.length
+              c.lines.number c.lines.form f.1.0 _ f.1.1 i.read l.ensures.next c.in-Some.is short c.front.ensures f.1.2,
+        ),
+      )
+      | inr f ↦ inr (
+        l.ensures.none_failed ∙ i.counted,
+        inr (
+          refused-of-line c.lines.form (fields_of c.front.result.now) fault (omega (arith, f.0)) f.1,
+          steps-refused _ _ _ _ (ahead c.next_line.new.block) c.front.result.now l.field-0 c.in-Some.length
+              c.lines.number c.lines.form _ fault i.read l.ensures.next c.in-Some.is short c.front.ensures f.0 f.1,
+        ),
+      )
+    ]
     in rw (p.1, p.2) told
 
 pub lines-preserved : goal.lines-preserved

@@ -29,6 +29,6 @@ returns-clause-end g c =
     let none : nat_lt 0 n ≡ false = cc e in
     let zero : n ≡ 0 = grind (arith, nat_tests, none) in
     let same : length (ahead c.move_to_front.new.self) ≡ length (ahead c.args.self.now) =
-        ap (λ (w : List ℕ). length w) c.move_to_front.ensures.same in
+    ap (λ (w : List ℕ). length w) c.move_to_front.ensures.same in
     let room : 0 < length c.read.new.buffer = omega (arith, c.move_to_front.ensures.room, same) in
     none-left _ _ _ (nil_from_length _ (length-take-le n c.read.new.buffer came.0 ∙ zero)) came.1 (came.2 zero room)

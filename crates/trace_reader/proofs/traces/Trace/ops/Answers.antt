@@ -11,5 +11,5 @@ returns-in-None c =
     let same : length c.deref.result.now ≡ length lanes = ap (λ w. length w) c.deref.ensures.value in
     let past : length lanes ≤ c.args.core = grind (arith, nat_tests, c.in-None.ensures.lookup, same) in
     let none : lane c.args.self.now c.args.core ≡ [] =
-        ap (λ w. lane w c.args.core) (sym c.self.view_is) ∙ get_or_past lanes c.args.core [] past in
+    ap (λ w. lane w c.args.core) (sym c.self.view_is) ∙ get_or_past lanes c.args.core [] past in
     sym (ap ops_of none ∙ ops-none)

@@ -30,13 +30,7 @@ fn too_long(line: usize) -> Result<usize, TraceError> {
 }
 
 // A first line, a line of so many bytes that begins so and goes on with others, and a last line.
-fn text(
-    alloc: Global,
-    start: &str,
-    fill: u8,
-    bytes: usize,
-    last: &str,
-) -> Result<Vec<u8>, Fail> {
+fn text(alloc: Global, start: &str, fill: u8, bytes: usize, last: &str) -> Result<Vec<u8>, Fail> {
     let mut text = Vec::from_slice(alloc, b"#\n")?;
     text.extend_from_slice(start.as_bytes())?;
     for _ in 0..bytes {
@@ -90,7 +84,13 @@ fn texts_of_many_blocks(rt: HostRuntime) -> Result<(), Fail> {
     let records = lines(rt.alloc(), "0 0 R 0xabc0 1 2 3\n", 5_000, "")?;
     assert!(rt; record_count(rt.alloc(), &records) == Ok(5_000));
     let fault = lines(rt.alloc(), "0 R 0xabc0\n", 5_000, "0 W 0x8")?;
-    assert!(rt; count(rt.alloc(), &fault) == Err(TraceError { line: 5_001, kind: Kind::BadValue }));
+    assert!(rt;
+        count(rt.alloc(), &fault)
+            == Err(TraceError {
+                line: 5_001,
+                kind: Kind::BadValue
+            })
+    );
     Ok(())
 }
 

@@ -14,12 +14,19 @@ enum Meaning {
 }
 
 const EMPTY: &[u8] = b"";
+
 const BLANK: &[u8] = b"\n  \t\n# trace 2\n\n#";
+
 const FORM: &[u8] = b"trace 2";
+
 const ONE: &[u8] = b"3 R 0x8";
+
 const TWO: &[u8] = b"0 R 0x0\n0 W 0x8 7";
+
 const CORES: &[u8] = b"1 R 0x0\n0 W 0x0 1\n1 R 0x8\n 15 S 0x10 2 # last\n";
+
 const ADVANCES: &[u8] = b"# first\n\ntrace 2\n5 A\n2 R 0x0\n5 W 0x0 3\n5 A\n2 A\n";
+
 const LAST: &[u8] = b"trace 2 #\n63 A\n";
 
 // How many cores a trace has, and of one of them how many steps and operations.

@@ -1,8 +1,8 @@
 -- One more step: the operations of a core, and the steps of each core.
-use Rattle.std.proofs.Common.{◌≡◌, ℕ, zero, suc, ◌+◌, ◌<◌, ◌≤◌, ◌==◌, max, Bool, true, false, cond, List, [], ◌∷◌, ◌++◌, length}
-use Rattle.std.proofs.Common.{get_or, refl, sym, ap, ◌∙◌, arith, inl, inr, append_assoc}
-use Rattle.std.proofs.lemmas.Bool.{cases_Bool, cases_lt}
-use Rattle.std.proofs.lemmas.List.{ext_get_or, get_or_append_left, get_or-append_right, get_or_past}
+use Rattle.std.proofs.Common.{◌≡◌, ℕ, zero, suc, ◌==◌, max, cond, List, [], ◌∷◌, ◌++◌, length}
+use Rattle.std.proofs.Common.{refl, sym, ap, ◌∙◌, arith, inl, inr}
+use Rattle.std.proofs.lemmas.Bool.{cases_Bool}
+use Rattle.std.proofs.lemmas.List.{ext_get_or}
 use Rattle.physiological_order.specs.declared.operation.Op.{Op}
 use Rattle.trace_lines.specs.declared.steps.Step.{Step}
 use Rattle.trace_lines.specs.declared.steps.Step.TheVariants as step

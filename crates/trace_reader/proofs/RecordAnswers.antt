@@ -1,5 +1,5 @@
 -- What the answer about records says of their text.
-use Rattle.std.proofs.Common.{◌≡◌, ℕ, List, [], Option, Some, None, IfSome, sym, ap, subst, ◌∙◌, inl, inr}
+use Rattle.std.proofs.Common.{◌≡◌, ℕ, List, Option, Some, None, IfSome, inl, inr}
 use Rattle.std.specs.Prelude.{Result, Ok, Err, IfOk, IfErr, Vec}
 use Rattle.physiological_order.specs.declared.operation.Record.{Record}
 use Rattle.trace_lines.specs.declared.errors.TraceError.{TraceError}

@@ -1,7 +1,7 @@
 -- What is read of records is what their text says, both ways, and a fault has its cause.
 use Rattle.std.proofs.Common.{◌≡◌, ◌≢◌, ℕ, suc, ◌+◌, ◌≤◌, ◌<◌, List, [], ◌∷◌, ◌++◌, length}
-use Rattle.std.proofs.Common.{Option, Some, None, refl, sym, ap, subst, ◌∙◌, arith, inl, inr, ◌⊎◌}
-use Rattle.std.specs.Prelude.{Result, Ok, Err, MatchOption}
+use Rattle.std.proofs.Common.{Option, Some, None, refl, sym, ap, subst, ◌∙◌, arith, inl, inr}
+use Rattle.std.specs.Prelude.{Ok, Err, MatchOption}
 use Rattle.physiological_order.specs.declared.operation.Record.{Record}
 use Rattle.trace_lines.specs.declared.errors.Kind.{Kind}
 use Rattle.trace_lines.specs.declared.errors.Kind.TheVariants.{Read, NoMemory}
@@ -11,12 +11,12 @@ use Rattle.trace_lines.specs.Fields.{fields_of}
 use Rattle.trace_lines.specs.Grammar.{IsRecordLine}
 use Rattle.trace_lines.specs.Reading.{record_line_at}
 use Rattle.trace_lines.proofs.Lemmas.{record-told, record-only, record-nothing}
-use Rattle.trace_reader.specs.declared.limits.TheConstants.{MOST_BYTES, MOST_LINES}
-use Rattle.trace_reader.specs.Lines.{lines_of, with_fields, worded}
+use Rattle.trace_reader.specs.declared.limits.TheConstants.{MOST_LINES}
+use Rattle.trace_reader.specs.Lines.{with_fields, worded}
 use Rattle.trace_reader.specs.Grammar.{AreShort, TellRecords}
 use Rattle.trace_reader.specs.Causes.{RecordLineCause, Stands, IsTooLong}
 use Rattle.trace_reader.specs.Outcomes.{IsOfLine}
-use Rattle.trace_reader.specs.Reading.{fitted, at_line, behind, listed, records_from}
+use Rattle.trace_reader.specs.Reading.{behind, listed, records_from}
 use Rattle.trace_reader.proofs.Inverses.{behind-ok, behind-err, fitted-ok, fitted-err}
 use Rattle.trace_reader.proofs.RecordsRead.{record-said, records-end}
 

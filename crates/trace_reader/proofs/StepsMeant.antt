@@ -1,24 +1,24 @@
 -- What is read of a trace is what its text says, both ways, and a fault has its cause.
 use Rattle.std.proofs.Common.{◌≡◌, ◌≢◌, ℕ, suc, ◌+◌, ◌≤◌, ◌<◌, List, [], ◌∷◌, ◌++◌, length}
 use Rattle.std.proofs.Common.{Option, Some, None, refl, sym, ap, subst, ◌∙◌, arith, inl, inr, ◌⊎◌}
-use Rattle.std.specs.Prelude.{Result, Ok, Err, MatchOption}
+use Rattle.std.specs.Prelude.{Ok, Err, MatchOption}
 use Rattle.trace_lines.specs.declared.errors.Kind.{Kind}
 use Rattle.trace_lines.specs.declared.errors.Kind.TheVariants.{Read, NoMemory}
 use Rattle.trace_lines.specs.declared.errors.TraceError.{TraceError}
 use Rattle.trace_lines.specs.declared.steps.Form.{Form}
 use Rattle.trace_lines.specs.declared.steps.Form.TheVariants.{One, Two}
 use Rattle.trace_lines.specs.declared.steps.Step.{Step}
-use Rattle.trace_lines.specs.Causes.{TraceCause, FormCause}
+use Rattle.trace_lines.specs.Causes.{TraceCause}
 use Rattle.trace_lines.specs.Fields.{fields_of}
 use Rattle.trace_lines.specs.Grammar.{IsTraceLine, IsFormLine}
 use Rattle.trace_lines.specs.Reading.{trace_line_at, form_line_at}
 use Rattle.trace_lines.proofs.Lemmas.{trace-told, trace-only, trace-nothing, form-told, form-only, form-nothing}
-use Rattle.trace_reader.specs.declared.limits.TheConstants.{MOST_BYTES, MOST_LINES}
-use Rattle.trace_reader.specs.Lines.{lines_of, with_fields, worded}
+use Rattle.trace_reader.specs.declared.limits.TheConstants.{MOST_LINES}
+use Rattle.trace_reader.specs.Lines.{with_fields, worded}
 use Rattle.trace_reader.specs.Grammar.{AreShort, TellSteps, TellTrace}
 use Rattle.trace_reader.specs.Causes.{FieldsCause, StepLineCause, Stands, IsTooLong}
 use Rattle.trace_reader.specs.Outcomes.{IsOfLine}
-use Rattle.trace_reader.specs.Reading.{fitted, at_line, behind, listed, step_said, form_said, said_at, steps_from}
+use Rattle.trace_reader.specs.Reading.{behind, listed, step_said, form_said, said_at, steps_from}
 use Rattle.trace_reader.proofs.Inverses.{ok-pair, bind-ok, bind-err, behind-ok, behind-err, fitted-ok, fitted-err}
 use Rattle.trace_reader.proofs.StepsRead.{line-said, lines-end}
 

@@ -1,6 +1,6 @@
 -- The steps that were read so far, and what the rest of the lines gives.
 use Rattle.std.proofs.Common.{◌≡◌, ◌≢◌, ℕ, suc, ◌+◌, ◌≤◌, ◌<◌, true, List, [], ◌∷◌, ◌++◌, take, drop, length}
-use Rattle.std.proofs.Common.{Option, Some, None, IfSome, refl, sym, ap, subst, ◌∙◌, arith}
+use Rattle.std.proofs.Common.{Option, Some, None, IfSome, refl, sym, ap, ◌∙◌, arith}
 use Rattle.std.specs.Prelude.{Result, Ok, Err, ◌||◌, nat_lt}
 use Rattle.std.proofs.lemmas.List.{append-nil, length-take-le}
 use Rattle.trace_lines.specs.declared.errors.Kind.{Kind}
@@ -13,7 +13,7 @@ use Rattle.trace_reader.specs.declared.limits.TheConstants.{MOST_BYTES, MOST_LIN
 use Rattle.trace_reader.specs.Ahead.{Both}
 use Rattle.trace_reader.specs.Lines.{lines_of}
 use Rattle.trace_reader.specs.Outcomes.{IsFound, BeginTooLong, IsOfLine}
-use Rattle.trace_reader.specs.Reading.{fitted, at_line, behind, listed, said_at, steps_from, read_at}
+use Rattle.trace_reader.specs.Reading.{at_line, behind, listed, said_at, steps_from, read_at}
 use Rattle.trace_reader.specs.Steps.{IsByCore}
 use Rattle.trace_reader.proofs.OnLines.{both-next, both-fault, both-long, both-end}
 use Rattle.trace_reader.proofs.OnLines.{fitted-short, fitted-long, behind-behind}

@@ -1,12 +1,10 @@
 -- What a reader answers of the bytes that its source had.
-use Rattle.std.specs.Prelude.{◌≡◌, ◌≢◌, ℕ, suc, ◌+◌, ◌≤◌, ◌<◌, ◌||◌, nat_lt, true, List, [], ◌∷◌, ◌++◌, length, take, drop}
+use Rattle.std.specs.Prelude.{◌≡◌, ◌≢◌, ℕ, suc, ◌+◌, ◌<◌, ◌||◌, nat_lt, true, List, [], ◌∷◌, ◌++◌, length, take, drop}
 use Rattle.std.specs.Prelude.{Option, Some, None, Result, Ok, Err, ◌⊎◌, IfSome, Vec}
 use Rattle.trace_lines.specs.declared.errors.Kind.{Kind}
-use Rattle.trace_lines.specs.declared.errors.Kind.TheVariants.{Read, NoMemory, TooLong}
+use Rattle.trace_lines.specs.declared.errors.Kind.TheVariants.{Read, NoMemory}
 use Rattle.trace_lines.specs.declared.errors.TraceError.{TraceError}
-use Rattle.trace_reader.specs.declared.blocks.Block.{Block}
 use Rattle.trace_reader.specs.declared.limits.TheConstants.{MOST_BYTES, MOST_LINES}
-use Rattle.trace_reader.specs.Ahead.{ahead, Both}
 use Rattle.trace_reader.specs.Lines.{lines_of}
 
 -- a fault of no line

@@ -1,4 +1,4 @@
-use Rattle.std.proofs.Common.{◌≡◌, ◌≤◌, ◌<◌, suc, length, inl, inr, sym, ap, ◌∙◌, arith}
+use Rattle.std.proofs.Common.{suc, inl, inr, ap, ◌∙◌, arith}
 use Rattle.std.proofs.lemmas.Result.{err_from_is_err_and}
 use Rattle.trace_lines.specs.Fields.{fields_of}
 use Rattle.trace_reader.specs.Ahead.{ahead}

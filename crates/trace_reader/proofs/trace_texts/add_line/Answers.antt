@@ -1,4 +1,4 @@
-use Rattle.std.proofs.Common.{Some, ◌∙◌}
+use Rattle.std.proofs.Common.{Some}
 use Rattle.trace_reader.proofs.ByCore.{bycore-push}
 use Rattle.trace_reader.proofs.trace_texts.add_line.Goals as goal
 

@@ -1,5 +1,4 @@
-use Rattle.std.proofs.Common.{sym, ◌∙◌, ap}
-use Rattle.trace_reader.specs.Steps.{ops_of}
+use Rattle.std.proofs.Common.{sym, ◌∙◌}
 use Rattle.trace_reader.proofs.ByCore.{ops-advance}
 use Rattle.trace_reader.proofs.traces.Lane.push_advance.Goals as goal
 

@@ -35,10 +35,13 @@ op_text (Load word) = spaced (codes "R") ++ spaced (address_text word)
 op_text (Store word value) = spaced (codes "W") ++ spaced (address_text word) ++ spaced (decimal value)
 op_text (Swap word value) = spaced (codes "S") ++ spaced (address_text word) ++ spaced (decimal value)
 
--- CORE PLACE, the operation, RECEIVED if there is one, TIME, NUMBER, and a line feed
+-- RECEIVED if there is one, TIME, NUMBER, and a line feed
+abbrev pub end_text : Record → List ℕ
+end_text r = spaced_value r.received ++ spaced (decimal r.ts) ++ spaced (decimal r.number) ++ 10 ∷ []
+
+-- CORE, PLACE, the operation, and the rest
 abbrev pub record_text : Record → List ℕ
-record_text r = decimal r.core ++ spaced (decimal r.place) ++ op_text r.op ++ spaced_value r.received
-    ++ spaced (decimal r.ts) ++ spaced (decimal r.number) ++ 10 ∷ []
+record_text r = decimal r.core ++ spaced (decimal r.place) ++ op_text r.op ++ end_text r
 
 -- a line for each record, in order
 abbrev pub records_text : List Record → List ℕ

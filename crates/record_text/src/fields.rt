@@ -25,9 +25,11 @@ fn put_hex(out: &mut Vec<u8>, places: u32, number: u64) -> Result<(), AllocError
     if places == 0 {
         return Ok(());
     }
-    if number >= 16 {
-        put_hex(out, places - 1, number / 16)?;
+    if number < 16 {
+        out.push(hex_glyph(number as u8))?;
+        return Ok(());
     }
+    put_hex(out, places - 1, number / 16)?;
     out.push(hex_glyph((number % 16) as u8))?;
     Ok(())
 }

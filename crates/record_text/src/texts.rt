@@ -1,23 +1,30 @@
 //! The text of a list of records.
 
 ghost use Rattle.std.specs.Prelude.{◌≡◌, ◌++◌, IfOk, OnOk};
-ghost use Rattle.record_text.specs.Text.{record_text, records_text};
+ghost use Rattle.record_text.specs.Text.{end_text, record_text, records_text};
 
 use crate::fields::{put_next, put_number, put_op, put_value};
 use physiological_order::Record;
 use std::alloc::{AllocError, Global};
 
-fn put_record(out: &mut Vec<u8>, record: &Record) -> Result<(), AllocError>
-    ensures { OnOk result (out.new.items ≡ out.old.items ++ record_text record.now) }
+/// What follows the operation.
+fn put_end(out: &mut Vec<u8>, told: &Record) -> Result<(), AllocError>
+    ensures { OnOk result (out.new.items ≡ out.old.items ++ end_text told.now) }
 {
-    put_number(out, u64::from(record.core))?;
-    put_next(out, u64::from(record.place))?;
-    put_op(out, record.op)?;
-    put_value(out, record.received)?;
-    put_next(out, record.ts)?;
-    put_next(out, record.number)?;
+    put_value(out, told.received)?;
+    put_next(out, told.ts)?;
+    put_next(out, told.number)?;
     out.push(b'\n')?;
     Ok(())
+}
+
+fn put_record(out: &mut Vec<u8>, told: &Record) -> Result<(), AllocError>
+    ensures { OnOk result (out.new.items ≡ out.old.items ++ record_text told.now) }
+{
+    put_number(out, u64::from(told.core))?;
+    put_next(out, u64::from(told.place))?;
+    put_op(out, told.op)?;
+    put_end(out, told)
 }
 
 /// The text of records, a line each in the order in which they are given: numbers in decimal and addresses in hexadecimal
@@ -26,8 +33,8 @@ pub fn records_text(alloc: Global, records: &[Record]) -> Result<Vec<u8>, AllocE
     ensures { IfOk result (λ text. text.items ≡ records_text records.now) }
 {
     let mut text = Vec::new(alloc);
-    for record in records {
-        put_record(&mut text, record)?;
+    for told in records {
+        put_record(&mut text, told)?;
     }
     Ok(text)
 }

@@ -1,5 +1,5 @@
 -- The text of records.
-use Rattle.std.specs.Prelude.{ℕ, zero, suc, ◌+◌, ◌*◌, ◌/◌, ◌%◌, nat_lt, if◌then◌else◌, List, [], ◌∷◌, ◌++◌, codes, decimal}
+use Rattle.std.specs.Prelude.{ℕ, zero, suc, ◌+◌, ◌*◌, ◌/◌, ◌%◌, ◌^◌, ◌<◌, nat_lt, if◌then◌else◌, List, [], ◌∷◌, ◌++◌, codes, decimal}
 use Rattle.std.specs.Prelude.{Option, Some, None}
 use Rattle.std.specs.List.{flat_map}
 use Rattle.physiological_order.specs.declared.operation.Op.{Op}
@@ -46,3 +46,18 @@ record_text r = decimal r.core ++ spaced (decimal r.place) ++ op_text r.op ++ en
 -- a line for each record, in order
 abbrev pub records_text : List Record → List ℕ
 records_text records = flat_map record_text records
+
+-- a load and a swap received a value of 64 bits, a store none; and the values that are written have 64 bits
+abbrev pub IsAnswered : Op → Option ℕ → Type 0
+IsAnswered (Load word) (Some received) = (word < 2 ^ 61) × (received < 2 ^ 64)
+IsAnswered (Store word value) None = (word < 2 ^ 61) × (value < 2 ^ 64)
+IsAnswered (Swap word value) (Some received) = (word < 2 ^ 61) × (value < 2 ^ 64) × (received < 2 ^ 64)
+IsAnswered op received = ⊥
+
+-- a record that the grammar has: of a core below 64, its numbers in their ranges
+abbrev pub IsWritable : Record → Type 0
+IsWritable r = (r.core < 64) × (r.place < 2 ^ 32) × (r.ts < 2 ^ 64) × (r.number < 2 ^ 64) × IsAnswered r.op r.received
+
+unfoldable pub AreWritable : List Record → Type 0
+AreWritable [] = Unit {0}
+AreWritable (r ∷ records) = IsWritable r × AreWritable records

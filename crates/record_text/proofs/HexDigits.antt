@@ -11,7 +11,7 @@ hex-one (suc places) n some lt = let small : nat_lt n 16 ≡ true = grind (arith
 pub hex-more : (places n : ℕ) → (places ≡ 0 → ⊥) → 16 ≤ n →
     hex_digits places n ≡ hex_digits (places - 1) (n / 16) ++ hex_glyph (n % 16) ∷ []
 hex-more zero n some ge = absurd (some refl)
-hex-more (suc places) n some ge = 
+hex-more (suc places) n some ge =
     let large : nat_lt n 16 ≡ false = grind (arith, nat_tests) in
     let less : suc places - 1 ≡ places = omega arith in rw (large, less) refl
 

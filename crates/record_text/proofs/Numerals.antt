@@ -149,6 +149,9 @@ pub address-plain : (word : ℕ) → word < 2 ^ 61 →
 unfolding address_text
 address-plain word h =
     let k = hex-numeral 16 (8 * word) (λ e. cc) (omega arith) in
-    let short = k.short in
-    ((omega arith, (omega arith, k.plain)), omega arith, omega (arith, short),
-      (hex_digits 16 (8 * word), refl, few is_hex_digit 16 (hex_digits 16 (8 * word)) k.digit k.some k.short, k.value))
+    let short = k.short in (
+      (omega arith, (omega arith, k.plain)),
+      omega arith,
+      omega (arith, short),
+      (hex_digits 16 (8 * word), refl, few is_hex_digit 16 (hex_digits 16 (8 * word)) k.digit k.some k.short, k.value),
+    )

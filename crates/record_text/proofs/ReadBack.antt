@@ -72,25 +72,32 @@ completion-plain : (op : Op) (received : Option ℕ) (ts number : ℕ) → IsAns
 completion-plain (Load word) (Some received) ts number h t n =
     let a = address-plain word h.0 in let v = number-plain received h.1 in
     let x = number-plain ts t in let y = number-plain number n in
-    let read = λ (m : ℕ) (lt : m < 2 ^ 64). number-read 20 (2 ^ 64) m (omega arith) (omega arith) lt lt in
-    ((omega arith, (omega arith, tt), (a.1, a.0, (v.0, v.1, (x.0, x.1, (y.0, y.1, tt, y.2), x.2), v.2), a.2), omega arith),
+    let read = λ (m : ℕ) (lt : m < 2 ^ 64). number-read 20 (2 ^ 64) m (omega arith) (omega arith) lt lt in (
+      (omega arith, (omega arith, tt), (a.1, a.0, (v.0, v.1, (x.0, x.1, (y.0, y.1, tt, y.2), x.2), v.2), a.2), omega arith),
       omega arith,
-      (refl, a.3, read received h.1, read ts t, read number n))
+      (refl, a.3, read received h.1, read ts t, read number n),
+    )
 completion-plain (Store word value) None ts number h t n =
     let a = address-plain word h.0 in let v = number-plain value h.1 in
     let x = number-plain ts t in let y = number-plain number n in
-    let read = λ (m : ℕ) (lt : m < 2 ^ 64). number-read 20 (2 ^ 64) m (omega arith) (omega arith) lt lt in
-    ((omega arith, (omega arith, tt), (a.1, a.0, (v.0, v.1, (x.0, x.1, (y.0, y.1, tt, y.2), x.2), v.2), a.2), omega arith),
+    let read = λ (m : ℕ) (lt : m < 2 ^ 64). number-read 20 (2 ^ 64) m (omega arith) (omega arith) lt lt in (
+      (omega arith, (omega arith, tt), (a.1, a.0, (v.0, v.1, (x.0, x.1, (y.0, y.1, tt, y.2), x.2), v.2), a.2), omega arith),
       omega arith,
-      (refl, a.3, read value h.1, read ts t, read number n))
+      (refl, a.3, read value h.1, read ts t, read number n),
+    )
 completion-plain (Swap word value) (Some received) ts number h t n =
     let a = address-plain word h.0 in let v = number-plain value h.1 in let w = number-plain received h.2 in
     let x = number-plain ts t in let y = number-plain number n in
-    let read = λ (m : ℕ) (lt : m < 2 ^ 64). number-read 20 (2 ^ 64) m (omega arith) (omega arith) lt lt in
-    ((omega arith, (omega arith, tt), (a.1, a.0, (v.0, v.1, (w.0, w.1, (x.0, x.1, (y.0, y.1, tt, y.2), x.2), w.2), v.2), a.2),
-      omega arith),
+    let read = λ (m : ℕ) (lt : m < 2 ^ 64). number-read 20 (2 ^ 64) m (omega arith) (omega arith) lt lt in (
+      (
+        omega arith,
+        (omega arith, tt),
+        (a.1, a.0, (v.0, v.1, (w.0, w.1, (x.0, x.1, (y.0, y.1, tt, y.2), x.2), w.2), v.2), a.2),
+        omega arith,
+      ),
       omega arith,
-      (refl, a.3, read value h.1, read received h.2, read ts t, read number n))
+      (refl, a.3, read value h.1, read received h.2, read ts t, read number n),
+    )
 completion-plain (Load word) None ts number h t n = absurd h
 completion-plain (Store word value) (Some received) ts number h t n = absurd h
 completion-plain (Swap word value) None ts number h t n = absurd h
@@ -103,9 +110,11 @@ record-parts r h =
     let far : r.place < 2 ^ 64 = let k = h.1 in omega (arith, k) in
     let x = number-plain r.core wide in let y = number-plain r.place far in
     let small : r.core < 10 ^ 2 = let k = h.0 in omega (arith, k) in
-    let near : r.place < 10 ^ 20 = let k = h.1 in omega (arith, k) in
-    ((x.0, x.1, (y.0, y.1, c.0, y.2), x.2), let l = c.1 in omega (arith, l),
-      (number-read 2 64 r.core (omega arith) small wide h.0, number-read 20 (2 ^ 32) r.place (omega arith) near far h.1, c.2))
+    let near : r.place < 10 ^ 20 = let k = h.1 in omega (arith, k) in (
+      (x.0, x.1, (y.0, y.1, c.0, y.2), x.2),
+      let l = c.1 in omega (arith, l),
+      (number-read 2 64 r.core (omega arith) small wide h.0, number-read 20 (2 ^ 32) r.place (omega arith) near far h.1, c.2),
+    )
 
 -- ---- all records
 
@@ -118,14 +127,14 @@ stands (r ∷ records) h =
     let l = line-fields (decimal r.core) (behind r) p.0 in
     let later = stands records h.1 in
     let whole : lines_of (records_text (r ∷ records)) ≡ line r ∷ lines_of (records_text records) =
-        ap (λ (w : List ℕ). lines_of (w ++ records_text records))
-            (text-from r.core r.place r.op r.received r.ts r.number h.0.4)
-        ∙ ap lines_of (append_assoc (line r) (10 ∷ []) (records_text records))
-        ∙ line-parted (line r) (records_text records) l.0 in
+    ap (λ (w : List ℕ). lines_of (w ++ records_text records))
+    (text-from r.core r.place r.op r.received r.ts r.number h.0.4)
+    ∙ ap lines_of (append_assoc (line r) (10 ∷ []) (records_text records))
+    ∙ line-parted (line r) (records_text records) l.0 in
     let short : length (line r) ≤ MOST_BYTES = let a = l.2 in let b = p.1 in omega (arith, a, b) in
     let told : TellRecords (with_fields (fields_of (line r)) (worded (lines_of (records_text records)))) (r ∷ records) =
-        subst (λ (w : List (List ℕ)). TellRecords (with_fields w (worded (lines_of (records_text records)))) (r ∷ records))
-        (sym l.1) (p.2, later.2) in
+    subst (λ (w : List (List ℕ)). TellRecords (with_fields w (worded (lines_of (records_text records)))) (r ∷ records))
+    (sym l.1) (p.2, later.2) in
     subst (λ (w : List (List ℕ)). (length w ≡ length (r ∷ records)) × AreShort w × TellRecords (worded w) (r ∷ records))
     (sym whole) (ap suc later.0, (short, later.1), told)
 

@@ -37,7 +37,7 @@ field-parted : (b : ℕ) (field rest : List ℕ) → 35 < b → IsPlain field �
 field-parted b [] rest h k e = parted-alone b rest (not-blank b h) e
 field-parted b (c ∷ field) rest h k e =
     parted-joined b (c ∷ field ++ rest) (not-blank b h)
-        (joined-first c (field ++ rest) ∙ ap not (not-blank c k.0))
+    (joined-first c (field ++ rest) ∙ ap not (not-blank c k.0))
     ∙ ap (grown b) (field-parted c field rest k.0 k.1 e)
 
 -- fields, each behind a space

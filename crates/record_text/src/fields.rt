@@ -11,11 +11,7 @@ fn hex_glyph(digit: u8) -> u8
     requires { digit < 16 }
     ensures { result ≡ hex_glyph digit }
 {
-    if digit < 10 {
-        b'0' + digit
-    } else {
-        87 + digit
-    }
+    if digit < 10 { b'0' + digit } else { 87 + digit }
 }
 
 /// A number in at most so many hexadecimal digits.

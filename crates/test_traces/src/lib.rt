@@ -9,3 +9,5 @@ mod lengths;
 mod records;
 #[cfg(test)]
 mod steps;
+#[cfg(test)]
+mod written;

@@ -1,5 +1,5 @@
 -- The text of records stands in the grammar for them.
-use Rattle.std.proofs.Common.{◌≡◌, ℕ, suc, ◌+◌, ◌*◌, ◌^◌, ◌<◌, ◌≤◌, List, [], ◌∷◌, ◌++◌, length, codes, decimal}
+use Rattle.std.proofs.Common.{◌≡◌, ℕ, suc, ◌^◌, ◌<◌, ◌≤◌, List, [], ◌∷◌, ◌++◌, length, codes, decimal}
 use Rattle.std.proofs.Common.{Option, Some, None, refl, sym, ap, subst, ◌∙◌, arith, append_assoc}
 use Rattle.std.proofs.lemmas.List.{append-nil}
 use Rattle.std.proofs.lemmas.Fmt.{length-decimal-le}
@@ -13,7 +13,7 @@ use Rattle.trace_reader.specs.Grammar.{AreShort, TellRecords, AreRecords}
 use Rattle.trace_reader.specs.Lines.{lines_of, worded, with_fields}
 use Rattle.record_text.specs.Text.{address_text, spaced, record_text, records_text, IsAnswered, IsWritable, AreWritable}
 use Rattle.record_text.proofs.Numerals.{IsPlain, decimal-numeral, number-read, address-plain}
-use Rattle.record_text.proofs.Spaced.{tail, ArePlain, AreClear, line-parted, line-fields}
+use Rattle.record_text.proofs.Spaced.{tail, ArePlain, line-parted, line-fields}
 
 -- the fields behind the place
 abbrev completion : Op → Option ℕ → ℕ → ℕ → List (List ℕ)

@@ -6,3 +6,4 @@ mod Judged
 mod TraceLines
 mod RecordLines
 mod FormLines
+pub mod Lemmas

@@ -1,0 +1,4 @@
+mod HexDigits
+mod Numerals
+mod Spaced
+mod ReadBack

@@ -1,0 +1,7 @@
+//! The text of records, as the reader of records reads it back.
+#![tactic(auto)]
+
+mod fields;
+mod texts;
+
+pub use texts::records_text;

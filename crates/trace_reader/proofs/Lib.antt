@@ -1,0 +1,10 @@
+mod NextLine
+mod ByCore
+mod OnLines
+mod Inverses
+mod StepsRead
+mod StepsMeant
+mod TraceAnswers
+mod RecordsRead
+mod RecordsMeant
+mod RecordAnswers

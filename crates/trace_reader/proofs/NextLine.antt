@@ -1,0 +1,206 @@
+-- The next line of a text, from the bytes in front.
+use Rattle.std.proofs.Common.{◌≡◌, ℕ, suc, ◌+◌, ◌-◌, ◌<◌, ◌≤◌, ◌==◌, true, false, List, [], ◌∷◌, ◌++◌, length}
+use Rattle.std.proofs.Common.{take, drop, slice_range, Option, Some, None, IfSome, refl, sym, ap, ◌∙◌, append_assoc, arith, inl, inr}
+use Rattle.std.proofs.lemmas.Bool.{cases_Bool, cases_lt}
+use Rattle.std.proofs.lemmas.List.{append-nil, take_at, drop_at, take-append-le, drop-append-le, drop-take}
+use Rattle.std.proofs.lemmas.List.{length-take-le, length-drop, take_all, drop_all}
+use Rattle.std.specs.List.{prefix_len}
+use borrow.Rule.Slice.PartMut.{put_mid, post_of}
+use lib.Seq.{take-add}
+use Rattle.byte_streams.specs.Device.{Loses, AtEnd}
+use Rattle.trace_reader.specs.declared.limits.TheConstants.{MOST_BYTES}
+use Rattle.trace_reader.specs.Lines.{lines_of, begun}
+use Rattle.trace_reader.specs.Ahead.{is_within_line, Both, IsNextLine}
+
+-- ---- bytes that are put behind those that stand
+
+pub grown : (xs ys : List ℕ) (start end k n : ℕ) → start ≤ end → end ≤ length xs → n ≤ length ys
+    → slice_range (put_mid end k xs ys) start (end + n) ≡ slice_range xs start end ++ take n ys
+grown xs ys start end k n ordered within fits =
+    let front = length-take-le end xs within in
+    let held = drop start (take end xs) in
+    let len : length held ≡ end - start = omega (arith, length-drop start (take end xs)) in
+    let sum : end + n - start ≡ (end - start) + n = omega arith in
+    let parts : end ≡ start + (end - start) = omega arith in
+    let same : held ≡ take (end - start) (drop start xs) =
+    ap (λ j. drop start (take j xs)) parts ∙ drop-take start (end - start) xs in
+    let after = ys ++ post_of end k xs in
+    ap (take (end + n - start)) (drop-append-le start (take end xs) after (omega arith))
+    ∙ ap (λ j. take j (held ++ after)) sum ∙ take-add (end - start) n (held ++ after)
+    ∙ (rw (take_at held after _ len, drop_at held after _ len, take-append-le n ys (post_of end k xs) fits, same) refl)
+
+-- ---- the first line
+
+drop-one_more : (n b : ℕ) (bytes : List ℕ) → drop (1 + n + 1) (b ∷ bytes) ≡ drop (n + 1) bytes
+drop-one_more n b bytes = let e : 1 + n + 1 ≡ suc (n + 1) = omega arith in rw e refl
+
+take-one_more : (n b : ℕ) (bytes : List ℕ) → take (1 + n) (b ∷ bytes) ≡ b ∷ take n bytes
+take-one_more n b bytes = let e : 1 + n ≡ suc n = omega arith in rw e refl
+
+lines-cut : (b : ℕ) (bytes : List ℕ) → (b == 10) ≡ true → lines_of (b ∷ bytes) ≡ [] ∷ lines_of bytes
+unfolding lines_of
+lines-cut b bytes e = rw e refl
+
+lines-more : (b : ℕ) (bytes : List ℕ) → (b == 10) ≡ false → lines_of (b ∷ bytes) ≡ begun b (lines_of bytes)
+unfolding lines_of
+lines-more b bytes e = rw e refl
+
+-- a line feed ends it
+first-ended : (bytes coming : List ℕ) → prefix_len is_within_line bytes < length bytes →
+    lines_of (bytes ++ coming) ≡ take (prefix_len is_within_line bytes) bytes
+    ∷ lines_of (drop (prefix_len is_within_line bytes + 1) bytes ++ coming)
+first-ended [] coming lt = absurd (omega arith)
+first-ended (b ∷ bytes) coming lt =
+    elim (cases_Bool (b == 10)) [
+      | inl e ↦ rw e (lines-cut b (bytes ++ coming) e)
+      | inr e ↦ let lt' : 1 + prefix_len is_within_line bytes < length (b ∷ bytes) = rw e at lt in
+          let less : prefix_len is_within_line bytes < length bytes = omega (arith, lt') in
+          rw (
+            e,
+            take-one_more (prefix_len is_within_line bytes) b bytes,
+            drop-one_more (prefix_len is_within_line bytes) b bytes,
+          ) (lines-more b (bytes ++ coming) e ∙ ap (begun b) (first-ended bytes coming less))
+    ]
+
+begun-more : (b : ℕ) (lines : List (List ℕ)) →
+    (more : List ℕ) × (later : List (List ℕ)) × (begun b lines ≡ (b ∷ more) ∷ later)
+begun-more b [] = ([], [], refl)
+begun-more b (line ∷ lines) = (line, lines, refl)
+
+no-feed : (b : ℕ) (bytes : List ℕ) → prefix_len is_within_line (b ∷ bytes) ≡ length (b ∷ bytes) →
+    ((b == 10) ≡ false) × (prefix_len is_within_line bytes ≡ length bytes)
+no-feed b bytes h =
+    elim (cases_Bool (b == 10)) [
+      | inl e ↦ let h' : 0 ≡ length (b ∷ bytes) = rw e at h in absurd (omega (arith, h'))
+      | inr e ↦ let h' : 1 + prefix_len is_within_line bytes ≡ length (b ∷ bytes) = rw e at h in
+          (e, omega (arith, h'))
+    ]
+
+-- without a line feed it goes on
+first-open : (b : ℕ) (bytes coming : List ℕ) → prefix_len is_within_line (b ∷ bytes) ≡ length (b ∷ bytes) →
+    (more : List ℕ) × (later : List (List ℕ)) × (lines_of ((b ∷ bytes) ++ coming) ≡ ((b ∷ bytes) ++ more) ∷ later)
+first-open b [] coming h =
+    let m = begun-more b (lines_of coming) in
+    (m.0, m.1, lines-more b coming (no-feed b [] h).0 ∙ m.2)
+first-open b (c ∷ bytes) coming h =
+    let k = no-feed b (c ∷ bytes) h in
+    let r = first-open c bytes coming k.1 in
+    (r.0, r.1, lines-more b ((c ∷ bytes) ++ coming) k.0 ∙ ap (begun b) r.2)
+
+-- and ends with the text
+first-last : (b : ℕ) (bytes : List ℕ) → prefix_len is_within_line (b ∷ bytes) ≡ length (b ∷ bytes) →
+    lines_of (b ∷ bytes) ≡ (b ∷ bytes) ∷ []
+unfolding lines_of
+first-last b [] h = lines-more b [] (no-feed b [] h).0
+first-last b (c ∷ bytes) h =
+    let k = no-feed b (c ∷ bytes) h in
+    lines-more b (c ∷ bytes) k.0 ∙ ap (begun b) (first-last c bytes k.1)
+
+lines-none : lines_of [] ≡ []
+unfolding lines_of
+lines-none = refl
+
+-- ---- what is found of the next line
+
+pub next-ended : (n : ℕ) (bytes coming : List ℕ) → n ≡ prefix_len is_within_line bytes → n < length bytes →
+    IsNextLine n bytes coming
+next-ended n bytes coming e lt =
+    let lt' : prefix_len is_within_line bytes < length bytes = omega (arith, e) in (
+      [],
+      lines_of (drop (n + 1) bytes ++ coming),
+      rw (e, append-nil (take (prefix_len is_within_line bytes) bytes)) (first-ended bytes coming lt'),
+      λ short. (refl, refl),
+    )
+
+next-long : (n : ℕ) (bytes coming : List ℕ) → n ≡ prefix_len is_within_line bytes → n ≡ length bytes →
+    MOST_BYTES < n → IsNextLine n bytes coming
+next-long n [] coming e f lt = absurd (omega (arith, f))
+next-long n (b ∷ bytes) coming e f lt =
+    let r = first-open b bytes coming (sym e ∙ f) in (
+      r.0,
+      r.1,
+      r.2 ∙ ap (λ (w : List ℕ). (w ++ r.0) ∷ r.1) (sym (take_all n (b ∷ bytes) (omega (arith, f)))),
+      λ short. absurd (omega arith),
+    )
+
+-- a line feed stands there, or more bytes than a line has
+pub next-found : (n : ℕ) (bytes coming : List ℕ) → n ≡ prefix_len is_within_line bytes → n ≤ length bytes →
+    (n ≤ MOST_BYTES → n ≡ length bytes → ⊥) → IsNextLine n bytes coming
+next-found n bytes coming e within some =
+    elim (cases_lt n (length bytes)) [
+      | inl lt ↦ next-ended n bytes coming e lt
+      | inr ge ↦ let same : n ≡ length bytes = omega arith in
+          elim (cases_lt MOST_BYTES n) [
+            | inl long ↦ next-long n bytes coming e same long
+            | inr short ↦ absurd (some short same)
+          ]
+    ]
+
+-- at the end
+pub next-last : (n : ℕ) (bytes coming : List ℕ) → n ≡ prefix_len is_within_line bytes → n ≡ length bytes →
+    (n ≡ 0 → ⊥) → coming ≡ [] → IsNextLine n bytes coming
+next-last n [] coming e f some none = absurd (some f)
+next-last n (b ∷ bytes) coming e f some none =
+    let all : take n (b ∷ bytes) ≡ b ∷ bytes = take_all n (b ∷ bytes) (omega (arith, f)) in
+    let rest : drop (n + 1) (b ∷ bytes) ≡ [] = drop_all (n + 1) (b ∷ bytes) (omega (arith, f)) in (
+      [],
+      [],
+      rw (none, all, append-nil (b ∷ bytes)) (first-last b bytes (sym e ∙ f)),
+      λ short. (refl, rw (none, rest) (sym lines-none)),
+    )
+
+-- ---- bytes that are known
+
+pub both-start : (a : Option (List ℕ)) (x : List ℕ) → Both a a (λ before after. x ++ before ≡ x ++ after)
+both-start None x = tt
+both-start (Some before) x = refl
+
+-- bytes that came stand behind those in front
+pub both-more : (a b c : Option (List ℕ)) (x y z came : List ℕ) → Both a b (λ before after. x ++ before ≡ y ++ after) →
+    Loses b c came → z ≡ y ++ came → Both a c (λ before after. x ++ before ≡ z ++ after)
+both-more None b c x y z came p q e = tt
+both-more (Some before) None c x y z came p q e = absurd p
+both-more (Some before) (Some after) None x y z came p q e = absurd q
+both-more (Some before) (Some after) (Some last) x y z came p q e =
+    p ∙ ap (λ (w : List ℕ). y ++ w) q ∙ sym (append_assoc y came last) ∙ ap (λ (w : List ℕ). w ++ last) (sym e)
+
+pub both-with : (a b : Option (List ℕ)) (P Q : List ℕ → List ℕ → Type 0) → Both a b P →
+    ((before after : List ℕ) → P before after → Q before after) → Both a b Q
+both-with None b P Q p f = tt
+both-with (Some before) None P Q p f = absurd p
+both-with (Some before) (Some after) P Q p f = f before after p
+
+-- nothing came, at the end
+pub none-left : (a b : Option (List ℕ)) (came : List ℕ) → came ≡ [] → Loses a b came → AtEnd a →
+    IfSome a (λ known. AtEnd b)
+none-left None b came e p h = tt
+none-left (Some before) None came e p h = absurd p
+none-left (Some before) (Some after) came e p h =
+    let same : before ≡ after = p ∙ ap (λ (w : List ℕ). w ++ after) e in sym same ∙ h
+
+pub both-last : (a b c : Option (List ℕ)) (x y z came : List ℕ) → Both a b (λ before after. x ++ before ≡ y ++ after) →
+    Loses b c came → z ≡ y ++ came → IfSome b (λ known. AtEnd c) →
+    Both a c (λ before after. (x ++ before ≡ z ++ after) × (after ≡ []))
+both-last None b c x y z came p q e h = tt
+both-last (Some before) None c x y z came p q e h = absurd p
+both-last (Some before) (Some after) None x y z came p q e h = absurd q
+both-last (Some before) (Some after) (Some last) x y z came p q e h =
+    (both-more (Some before) (Some after) (Some last) x y z came p q e, h)
+
+-- what stands is as it was, and the next line is found in it
+pub found-after : (a b : Option (List ℕ)) (x y : List ℕ) (n : ℕ) → Both a b (λ before after. x ++ before ≡ y ++ after) →
+    n ≡ prefix_len is_within_line y → n ≤ length y → (n ≤ MOST_BYTES → n ≡ length y → ⊥) →
+    Both a b (λ before after. (x ++ before ≡ y ++ after) × IsNextLine n y after)
+found-after a b x y n p e within some =
+    both-with a b (λ before after. x ++ before ≡ y ++ after)
+    (λ before after. (x ++ before ≡ y ++ after) × IsNextLine n y after) p
+    (λ before after q. (q, next-found n y after e within some))
+
+pub found-last : (a b : Option (List ℕ)) (x y : List ℕ) (n : ℕ) →
+    Both a b (λ before after. (x ++ before ≡ y ++ after) × (after ≡ [])) →
+    n ≡ prefix_len is_within_line y → n ≡ length y → (n ≡ 0 → ⊥) →
+    Both a b (λ before after. (x ++ before ≡ y ++ after) × IsNextLine n y after)
+found-last a b x y n p e all some =
+    both-with a b (λ before after. (x ++ before ≡ y ++ after) × (after ≡ []))
+    (λ before after. (x ++ before ≡ y ++ after) × IsNextLine n y after) p
+    (λ before after q. (q.0, next-last n y after e all some q.1))

@@ -1,0 +1,46 @@
+-- What the texts of traces and of records are: relations between bytes and what they tell.
+use Rattle.std.specs.Prelude.{◌≡◌, ℕ, ◌≤◌, List, [], ◌∷◌, length, ◌⊎◌}
+use Rattle.physiological_order.specs.declared.operation.Record.{Record}
+use Rattle.trace_lines.specs.declared.steps.Form.{Form}
+use Rattle.trace_lines.specs.declared.steps.Form.TheVariants.{One, Two}
+use Rattle.trace_lines.specs.declared.steps.Step.{Step}
+use Rattle.trace_lines.specs.Grammar.{IsTraceLine, IsRecordLine, IsFormLine}
+use Rattle.trace_reader.specs.declared.limits.TheConstants.{MOST_BYTES, MOST_LINES}
+use Rattle.trace_reader.specs.Lines.{lines_of, worded}
+use Rattle.trace_reader.specs.Steps.{IsByCore}
+
+-- no line has more bytes than a line may have
+unfoldable pub AreShort : List (List ℕ) → Type 0
+AreShort [] = Unit {0}
+AreShort (line ∷ lines) = (length line ≤ MOST_BYTES) × AreShort lines
+
+-- no more lines than there may be, and none too long
+abbrev pub Fits : List (List ℕ) → Type 0
+Fits lines = (length lines ≤ MOST_LINES) × AreShort lines
+
+-- each line's fields tell a step of a core, in this form
+unfoldable pub TellSteps : Form → List (List (List ℕ)) → List (ℕ × Step) → Type 0
+TellSteps form [] [] = Unit {0}
+TellSteps form (fields ∷ lines) (told ∷ later) = IsTraceLine form fields told.0 told.1 × TellSteps form lines later
+TellSteps form lines told = ⊥
+
+-- the first line tells the form: trace 2 alone stands for form 2 and is no step; any other line is a step of form 1
+abbrev pub TellTrace : List (List (List ℕ)) → List (ℕ × Step) → Type 0
+TellTrace [] told = told ≡ []
+TellTrace (first ∷ lines) told = (IsFormLine first One × TellSteps One (first ∷ lines) told)
+    ⊎ (IsFormLine first Two × TellSteps Two lines told)
+
+-- the text of a trace with these steps of each core
+abbrev pub IsTrace : List ℕ → List (List Step) → Type 0
+IsTrace bytes lanes = Fits (lines_of bytes)
+    × ((told : List (ℕ × Step)) × TellTrace (worded (lines_of bytes)) told × IsByCore told lanes)
+
+-- each line's fields tell a record
+unfoldable pub TellRecords : List (List (List ℕ)) → List Record → Type 0
+TellRecords [] [] = Unit {0}
+TellRecords (fields ∷ lines) (told ∷ later) = IsRecordLine fields told × TellRecords lines later
+TellRecords lines told = ⊥
+
+-- the text of these records, as they are written
+abbrev pub AreRecords : List ℕ → List Record → Type 0
+AreRecords bytes records = Fits (lines_of bytes) × TellRecords (worded (lines_of bytes)) records

@@ -1,0 +1,7 @@
+pub mod Lines
+pub mod Steps
+pub mod Grammar
+pub mod Causes
+pub mod Reading
+pub mod Ahead
+pub mod Outcomes

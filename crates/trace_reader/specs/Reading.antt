@@ -1,0 +1,68 @@
+-- Reading the lines of a text from its front, up to the first fault.
+use Rattle.std.specs.Prelude.{ℕ, suc, ◌||◌, nat_lt, if◌then◌else◌, List, [], ◌∷◌, ◌++◌, length}
+use Rattle.std.specs.Prelude.{Option, Some, None, Result, Ok, Err}
+use Rattle.physiological_order.specs.declared.operation.Record.{Record}
+use Rattle.trace_lines.specs.declared.errors.Kind.{Kind}
+use Rattle.trace_lines.specs.declared.errors.Kind.TheVariants.{TooLong}
+use Rattle.trace_lines.specs.declared.errors.TraceError.{TraceError}
+use Rattle.trace_lines.specs.declared.steps.Form.{Form}
+use Rattle.trace_lines.specs.declared.steps.Form.TheVariants.{One, Two}
+use Rattle.trace_lines.specs.declared.steps.Step.{Step}
+use Rattle.trace_lines.specs.Fields.{fields_of}
+use Rattle.trace_lines.specs.Reading.{◌>>=◌, trace_line_at, record_line_at, form_line_at}
+use Rattle.trace_reader.specs.declared.limits.TheConstants.{MOST_BYTES, MOST_LINES}
+use Rattle.trace_reader.specs.Lines.{lines_of}
+
+-- what a line with this number says, unless it is too long
+abbrev pub fitted : {X : Type 0} → ℕ → List ℕ → Result X Kind → Result X Kind
+fitted number line said =
+    if nat_lt MOST_BYTES (length line) || nat_lt MOST_LINES number then Err TooLong else said
+
+-- what is read on, or the fault of the line with this number
+abbrev pub at_line : {X Y : Type 0} → ℕ → Result X Kind → (X → Result Y TraceError) → Result Y TraceError
+at_line number (Ok x) f = f x
+at_line number (Err kind) f = Err (record { line = number; kind = kind })
+
+abbrev pub listed : {X : Type 0} → Option X → List X
+listed None = []
+listed (Some x) = x ∷ []
+
+-- these in front of what is read on
+abbrev pub behind : {X : Type 0} → List X → Result (List X) TraceError → Result (List X) TraceError
+behind xs (Ok ys) = Ok (xs ++ ys)
+behind xs (Err e) = Err e
+
+-- a step of a line in a form that is known
+abbrev pub step_said : Form → List (List ℕ) → Result (Option Form × Option (ℕ × Step)) Kind
+step_said form fields = trace_line_at form fields >>= (λ told. Ok (Some form, told))
+
+-- a line that tells the form: that of form 2 is no step
+abbrev pub form_said : List (List ℕ) → Option Form → Result (Option Form × Option (ℕ × Step)) Kind
+form_said fields None = Ok (None, None)
+form_said fields (Some One) = step_said One fields
+form_said fields (Some Two) = Ok (Some Two, None)
+
+-- what a line says, behind lines that told this form or none: the form from there on, and a step
+unfoldable pub said_at : Option Form → List (List ℕ) → Result (Option Form × Option (ℕ × Step)) Kind
+said_at (Some form) fields = step_said form fields
+said_at None fields = form_line_at fields >>= form_said fields
+
+-- the steps of lines, of which the first has this number
+unfoldable pub steps_from : ℕ → Option Form → List (List ℕ) → Result (List (ℕ × Step)) TraceError
+steps_from number form [] = Ok []
+steps_from number form (line ∷ lines) = at_line number (fitted number line (said_at form (fields_of line)))
+    (λ said. behind (listed said.1) (steps_from (suc number) said.0 lines))
+
+-- the steps of a text in their order, or its first fault
+abbrev pub read_at : List ℕ → Result (List (ℕ × Step)) TraceError
+read_at bytes = steps_from 1 None (lines_of bytes)
+
+-- the records of lines, of which the first has this number
+unfoldable pub records_from : ℕ → List (List ℕ) → Result (List Record) TraceError
+records_from number [] = Ok []
+records_from number (line ∷ lines) = at_line number (fitted number line (record_line_at (fields_of line)))
+    (λ said. behind (listed said) (records_from (suc number) lines))
+
+-- the records of a text, or its first fault
+abbrev pub records_at : List ℕ → Result (List Record) TraceError
+records_at bytes = records_from 1 (lines_of bytes)

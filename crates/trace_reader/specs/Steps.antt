@@ -1,0 +1,29 @@
+-- Steps in the order of a text, and the same by core.
+use Rattle.std.specs.Prelude.{◌≡◌, ℕ, suc, ◌==◌, max, if◌then◌else◌, List, [], ◌∷◌, length, get_or}
+use Rattle.physiological_order.specs.declared.operation.Op.{Op}
+use Rattle.trace_lines.specs.declared.steps.Step.{Step}
+use Rattle.trace_lines.specs.declared.steps.Step.TheVariants as step
+
+-- the greatest core plus 1; 0 without steps
+abbrev pub cores_of : List (ℕ × Step) → ℕ
+cores_of [] = 0
+cores_of (told ∷ later) = max (suc told.0) (cores_of later)
+
+-- the steps of a core, in order
+abbrev pub steps_of : ℕ → List (ℕ × Step) → List Step
+steps_of core [] = []
+steps_of core (told ∷ later) = if told.0 == core then told.1 ∷ steps_of core later else steps_of core later
+
+-- the steps of a core out of those of each core; none of a core that isn't there
+abbrev pub lane : List (List Step) → ℕ → List Step
+lane lanes core = get_or lanes core []
+
+-- the steps of each core, up to the greatest one
+abbrev pub IsByCore : List (ℕ × Step) → List (List Step) → Type 0
+IsByCore told lanes = (length lanes ≡ cores_of told) × ((core : ℕ) → lane lanes core ≡ steps_of core told)
+
+-- the operations among steps, in order
+unfoldable pub ops_of : List Step → List Op
+ops_of [] = []
+ops_of (step.Op op ∷ steps) = op ∷ ops_of steps
+ops_of (step.Advance ∷ steps) = ops_of steps

@@ -1,0 +1,15 @@
+//! Reads the texts of traces and of records from a source of bytes.
+#![tactic(auto)]
+
+mod blocks;
+mod limits;
+mod next_lines;
+mod record_texts;
+mod trace_texts;
+mod traces;
+
+pub use limits::{MOST_BYTES, MOST_LINES};
+pub use record_texts::read_records;
+pub use trace_lines::{Form, Kind, Step, TraceError};
+pub use trace_texts::read;
+pub use traces::Trace;

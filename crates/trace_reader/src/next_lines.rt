@@ -1,0 +1,51 @@
+//! The next line of a text, with what is wrong with its length.
+
+ghost use Rattle.std.specs.Prelude.{◌≡◌, ◌≤◌, ◌<◌, ◌+◌, ◌⊎◌, ◌++◌, suc, length, IfOk, IfErr, OnOk, MatchOption};
+ghost use Rattle.trace_lines.specs.declared.errors.Kind.TheVariants.{Read, TooLong};
+ghost use Rattle.trace_reader.specs.Ahead.{ahead, Both};
+ghost use Rattle.trace_reader.specs.Lines.{lines_of};
+ghost use Rattle.trace_reader.specs.Outcomes.{whole, BeginTooLong, IsFound};
+
+use crate::blocks::Block;
+use crate::limits::{MOST_BYTES, MOST_LINES};
+use byte_streams::Source;
+use trace_lines::{Kind, TraceError};
+
+/// Reads until the next line stands in front of the block, where so many lines came before it: how many bytes it has, or
+/// nothing at the end of the text.
+pub(crate) fn next_line<S: Source>(
+    block: &mut Block,
+    source: &mut S,
+    number: usize,
+) -> Result<Option<usize>, TraceError>
+    requires { number ≤ MOST_LINES }
+    ensures next { IfOk result (λ found. Both (S.remaining source.old) (S.remaining source.new)
+        (λ before after. IsFound found (ahead block.old ++ before) (ahead block.new) after)) }
+    ensures short { IfOk result (λ found. MatchOption found (Unit {0})
+        (λ n. (n ≤ MOST_BYTES) × (n ≤ length (ahead block.new)) × (number < MOST_LINES))) }
+    ensures none_failed { OnOk result (S.failures source.new ≡ S.failures source.old) }
+    ensures fault { IfErr result (λ e.
+        ((e ≡ whole Read) × (S.failures source.new ≡ suc (S.failures source.old)))
+        ⊎ ((e ≡ record { line = suc number; kind = TooLong })
+        × (S.failures source.new ≡ S.failures source.old)
+        × Both (S.remaining source.old) (S.remaining source.new)
+        (λ before after. BeginTooLong (suc number) (lines_of (ahead block.old ++ before))))) }
+{
+    match block.find_line(source) {
+        Err(_) => Err(TraceError {
+            line: 0,
+            kind: Kind::Read,
+        }),
+        Ok(None) => Ok(None),
+        Ok(Some(length)) => {
+            if length > MOST_BYTES || number >= MOST_LINES {
+                Err(TraceError {
+                    line: number + 1,
+                    kind: Kind::TooLong,
+                })
+            } else {
+                Ok(Some(length))
+            }
+        }
+    }
+}

@@ -1,0 +1,126 @@
+//! Reading the text of a trace.
+
+ghost use Rattle.std.specs.Prelude.{◌≡◌, ◌≤◌, ◌<◌, ◌⊎◌, ◌++◌, ℕ, suc, List, Option, Ok, Err, IfOk, IfErr, IfSome, OnOk};
+ghost use Rattle.byte_streams.specs.Device.{AtEnd};
+ghost use Rattle.trace_lines.specs.declared.errors.Kind.TheVariants.{Read, NoMemory};
+ghost use Rattle.trace_lines.specs.declared.steps.Form.{Form};
+ghost use Rattle.trace_lines.specs.declared.steps.Step.{Step};
+ghost use Rattle.trace_lines.specs.Fields.{fields_of};
+ghost use Rattle.trace_lines.specs.Reading.{form_line_at, trace_line_at};
+ghost use Rattle.trace_reader.specs.Causes.{Fault};
+ghost use Rattle.trace_reader.specs.Grammar.{IsTrace};
+ghost use Rattle.trace_reader.specs.Outcomes.{whole, Refused, Gives, IsCaused};
+ghost use Rattle.trace_reader.specs.Reading.{listed, step_said, form_said, said_at, read_at};
+ghost use Rattle.trace_reader.specs.Steps.{IsByCore};
+
+use crate::blocks::Block;
+use crate::next_lines::next_line;
+use crate::traces::Trace;
+use byte_streams::Source;
+use std::alloc::Global;
+use trace_lines::{Form, Kind, Step, TraceError, form_line, trace_line};
+
+type Said = (Option<Form>, Option<(u32, Step)>);
+
+/// What a line says in a form that is known.
+fn step_said(form: Form, line: &[u8]) -> Result<Said, Kind>
+    ensures told { result ≡ step_said form (fields_of line.now) }
+    ensures few { IfOk result (λ said. IfSome said.1 (λ told. told.0 < 64)) }
+{
+    let told = trace_line(form, line)?;
+    Ok((Some(form), told))
+}
+
+/// What a line says behind lines that told this form or none: the form from there on, and a step of a core.
+#[tactic(auto, unfolding(crate::specs::Reading::said_at))]
+fn said(form: Option<Form>, line: &[u8]) -> Result<Said, Kind>
+    ensures told { result ≡ said_at form (fields_of line.now) }
+    ensures few { IfOk result (λ said. IfSome said.1 (λ told. told.0 < 64)) }
+{
+    match form {
+        Some(form) => step_said(form, line),
+        None => match form_line(line)? {
+            None => Ok((None, None)),
+            Some(Form::One) => step_said(Form::One, line),
+            Some(Form::Two) => Ok((Some(Form::Two), None)),
+        },
+    }
+}
+
+/// Adds the step of the line with this number, if it tells one: the form from there on.
+fn add_line(
+    trace: &mut Trace,
+    form: Option<Form>,
+    number: usize,
+    line: &[u8],
+) -> Result<Option<Form>, TraceError>
+    ensures added { IfOk result (λ next. (told : Option (ℕ × Step))
+        × (said_at form (fields_of line.now) ≡ Ok (next, told))
+        × ((before : List (ℕ × Step)) → IsByCore before trace.old →
+        IsByCore (before ++ listed told) trace.new)) }
+    ensures fault { IfErr result (λ e. ((e ≡ whole NoMemory)
+        × ((next : Option Form) × (told : ℕ × Step)
+        × (said_at form (fields_of line.now) ≡ Ok (next, Some told))))
+        ⊎ ((e.line ≡ number) × (said_at form (fields_of line.now) ≡ Err e.kind))) }
+{
+    match said(form, line) {
+        Err(kind) => Err(TraceError { line: number, kind }),
+        Ok((form, None)) => Ok(form),
+        Ok((form, Some((core, step)))) => match trace.push(core, step) {
+            Ok(()) => Ok(form),
+            Err(_) => Err(TraceError {
+                line: 0,
+                kind: Kind::NoMemory,
+            }),
+        },
+    }
+}
+
+fn read_whole<S: Source>(alloc: Global, source: &mut S) -> Result<Trace, TraceError>
+    ensures told { IfOk result (λ trace. IfSome (S.remaining source.old)
+        (λ bytes. (told : List (ℕ × Step)) × (read_at bytes ≡ Ok told) × IsByCore told trace)) }
+    ensures end { OnOk result (IfSome (S.remaining source.old)
+        (λ known. AtEnd (S.remaining source.new))) }
+    ensures none_failed { OnOk result (S.failures source.new ≡ S.failures source.old) }
+    ensures fault { IfErr result (Refused read_at (S.failures source.old)
+        (S.failures source.new) (S.remaining source.old)) }
+{
+    let mut trace = Trace::new(alloc);
+    let mut block = Block::new();
+    let mut form = None;
+    let mut number = 0;
+    'lines: while let Some(length) = next_line(&mut block, source, number)? {
+        number += 1;
+        form = add_line(&mut trace, form, number, block.front(length))?;
+        block.pass(length);
+    }
+    Ok(trace)
+}
+
+/// Reads all that a source has as the text of a trace of at most 16,777,216 lines of at most 256 bytes; its first line
+/// that has fields tells its form (docs/TEXTS.md).
+///
+/// A text that is refused is answered by its first fault: the number of the line, counted from 1, and the kind. `TooLong`
+/// if a line has more bytes or there are more lines; the other kinds as `trace_line` and `form_line` tell them. If a call
+/// of the source failed the answer is `Read`, and if memory was refused `NoMemory`, both with line 0.
+pub fn read<S: Source>(alloc: Global, source: &mut S) -> Result<Trace, TraceError>
+    // What is read is what the text says.
+    ensures found { IfOk result (λ trace. IfSome (S.remaining source.old)
+        (λ bytes. IsTrace bytes trace)) }
+    // Every text of the grammar is read, as the trace that it stands for.
+    ensures only { IfSome (S.remaining source.old) (λ bytes.
+        (lanes : List (List Step)) → IsTrace bytes lanes → Gives lanes result) }
+    // The fault of a line has its cause there.
+    ensures fault { IfErr result (IsCaused Fault (S.remaining source.old)) }
+    // The steps as they are read from the front, each at its core.
+    ensures told { IfOk result (λ trace. IfSome (S.remaining source.old)
+        (λ bytes. (told : List (ℕ × Step)) × (read_at bytes ≡ Ok told) × IsByCore told trace)) }
+    // The first fault; memory is refused only where there is a step.
+    ensures refused { IfErr result (Refused read_at (S.failures source.old)
+        (S.failures source.new) (S.remaining source.old)) }
+    ensures none_failed { OnOk result (S.failures source.new ≡ S.failures source.old) }
+    ensures end { OnOk result (IfSome (S.remaining source.old)
+        (λ known. AtEnd (S.remaining source.new))) }
+{
+    read_whole(alloc, source)
+}

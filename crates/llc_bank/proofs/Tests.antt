@@ -1,5 +1,5 @@
 -- A set without a line that something is under way for is settled.
-use Rattle.std.proofs.Common.{◌≡◌, ℕ, ◌&&◌, Bool, true, false, not, cond, List, [], ◌∷◌, Option, Some, None, refl, sym, ap}
+use Rattle.std.proofs.Common.{◌≡◌, ℕ, ◌&&◌, Bool, true, false, not, cond, List, [], ◌∷◌, Option, Some, refl, sym, ap}
 use Rattle.std.specs.Option.{is_some, option_map}
 use Rattle.std.specs.List as list
 use Rattle.line_sets.specs.Order.{first_where}

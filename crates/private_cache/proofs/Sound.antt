@@ -1,6 +1,6 @@
 -- What a cache keeps when a copy is put, changed or taken out, and that a victim makes a place.
 use Rattle.std.proofs.Common.{◌≡◌, ◌≢◌, ℕ, zero, suc, ◌<◌, ◌≤◌, ◌%◌, true, false, ltb, List, [], ◌∷◌, length}
-use Rattle.std.proofs.Common.{replicate, Some, None, refl, sym, ap, ◌∙◌, arith, ⊎_elim, IsTrue}
+use Rattle.std.proofs.Common.{replicate, Some, refl, sym, ap, ◌∙◌, arith, ⊎_elim, IsTrue}
 use Rattle.std.specs.Option.{is_some}
 use Rattle.std.proofs.lemmas.List.{length-replicate}
 use Rattle.std.proofs.lemmas.Bool.{cases_eq, cond-true, eq-eqb, lt-ltb, or_right}

@@ -1,4 +1,4 @@
-use Rattle.std.proofs.Common.{◌≡◌, sym, ap, ◌∙◌, not}
+use Rattle.std.proofs.Common.{sym, ap, ◌∙◌, not}
 use Rattle.std.specs.Option.{is_some}
 use Rattle.line_sets.specs.SetTable.{set_at}
 use Rattle.llc_bank.proofs.Tests.{none-under-way, turned}

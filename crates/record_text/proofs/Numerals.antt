@@ -1,5 +1,6 @@
 -- Numbers as they are written are read as the same numbers.
-use Rattle.std.proofs.Common.{◌≡◌, ℕ, zero, suc, ◌+◌, ◌-◌, ◌*◌, ◌/◌, ◌%◌, ◌^◌, ◌<◌, ◌≤◌, Bool, true, false, List, [], ◌∷◌}
+use Rattle.std.proofs.Common.{◌≡◌, ℕ, zero, suc, ◌+◌, ◌-◌, ◌*◌, ◌/◌, ◌%◌, ◌^◌}
+use Rattle.std.proofs.Common.{◌<◌, ◌≤◌, Bool, true, false, List, [], ◌∷◌}
 use Rattle.std.proofs.Common.{◌++◌, length, refl, ap, ◌∙◌, arith, length-append, decimal, inl, inr, zero-add}
 use Rattle.std.specs.Prelude.{nat_lt, nat_le, ◌==◌}
 use Rattle.std.specs.List.{list_all}
@@ -55,7 +56,8 @@ numeral-more n ds ge k =
       digit = all-push is_digit ds (48 + n % 10) k.digit (digit-of (n % 10) last);
       plain = plain-append ds ((48 + n % 10) ∷ []) k.plain (omega arith, tt);
       some = omega (arith, length-append ds ((48 + n % 10) ∷ []));
-      value = fold_push (λ value digit. 10 * value + (digit - 48)) 0 ds (48 + n % 10) ∙ (let v = k.value in omega (arith, v));
+      value = fold_push (λ value digit. 10 * value + (digit - 48)) 0 ds (48 + n % 10) ∙ (let v = k.value in omega
+          (arith, v));
     }
 
 pub decimal-numeral : (n : ℕ) → n < 2 ^ 64 → IsNumeral n (decimal n)

@@ -11,7 +11,8 @@ use Rattle.trace_lines.specs.Grammar.{IsRecordLine, IsCompletion}
 use Rattle.trace_reader.specs.declared.limits.TheConstants.{MOST_BYTES, MOST_LINES}
 use Rattle.trace_reader.specs.Grammar.{AreShort, TellRecords, AreRecords}
 use Rattle.trace_reader.specs.Lines.{lines_of, worded, with_fields}
-use Rattle.record_text.specs.Text.{address_text, spaced, record_text, records_text, IsAnswered, IsWritable, AreWritable}
+use Rattle.record_text.specs.Text.{address_text, spaced, record_text, records_text}
+use Rattle.record_text.specs.Text.{IsAnswered, IsWritable, AreWritable}
 use Rattle.record_text.proofs.Numerals.{IsPlain, decimal-numeral, number-read, address-plain}
 use Rattle.record_text.proofs.Spaced.{tail, ArePlain, line-parted, line-fields}
 
@@ -73,7 +74,12 @@ completion-plain (Load word) (Some received) ts number h t n =
     let a = address-plain word h.0 in let v = number-plain received h.1 in
     let x = number-plain ts t in let y = number-plain number n in
     let read = λ (m : ℕ) (lt : m < 2 ^ 64). number-read 20 (2 ^ 64) m (omega arith) (omega arith) lt lt in (
-      (omega arith, (omega arith, tt), (a.1, a.0, (v.0, v.1, (x.0, x.1, (y.0, y.1, tt, y.2), x.2), v.2), a.2), omega arith),
+      (
+        omega arith,
+        (omega arith, tt),
+        (a.1, a.0, (v.0, v.1, (x.0, x.1, (y.0, y.1, tt, y.2), x.2), v.2), a.2),
+        omega arith,
+      ),
       omega arith,
       (refl, a.3, read received h.1, read ts t, read number n),
     )
@@ -81,7 +87,12 @@ completion-plain (Store word value) None ts number h t n =
     let a = address-plain word h.0 in let v = number-plain value h.1 in
     let x = number-plain ts t in let y = number-plain number n in
     let read = λ (m : ℕ) (lt : m < 2 ^ 64). number-read 20 (2 ^ 64) m (omega arith) (omega arith) lt lt in (
-      (omega arith, (omega arith, tt), (a.1, a.0, (v.0, v.1, (x.0, x.1, (y.0, y.1, tt, y.2), x.2), v.2), a.2), omega arith),
+      (
+        omega arith,
+        (omega arith, tt),
+        (a.1, a.0, (v.0, v.1, (x.0, x.1, (y.0, y.1, tt, y.2), x.2), v.2), a.2),
+        omega arith,
+      ),
       omega arith,
       (refl, a.3, read value h.1, read ts t, read number n),
     )
@@ -113,7 +124,12 @@ record-parts r h =
     let near : r.place < 10 ^ 20 = let k = h.1 in omega (arith, k) in (
       (x.0, x.1, (y.0, y.1, c.0, y.2), x.2),
       let l = c.1 in omega (arith, l),
-      (number-read 2 64 r.core (omega arith) small wide h.0, number-read 20 (2 ^ 32) r.place (omega arith) near far h.1, c.2),
+      (
+        number-read 2 64 r.core (omega arith) small wide h.0,
+        number-read 20 (2 ^ 32) r.place (omega arith) near far
+            h.1,
+        c.2,
+      ),
     )
 
 -- ---- all records
@@ -132,10 +148,12 @@ stands (r ∷ records) h =
     ∙ ap lines_of (append_assoc (line r) (10 ∷ []) (records_text records))
     ∙ line-parted (line r) (records_text records) l.0 in
     let short : length (line r) ≤ MOST_BYTES = let a = l.2 in let b = p.1 in omega (arith, a, b) in
-    let told : TellRecords (with_fields (fields_of (line r)) (worded (lines_of (records_text records)))) (r ∷ records) =
+    let told : TellRecords (with_fields (fields_of (line r)) (worded (lines_of (records_text records)))) (r ∷
+    records) =
     subst (λ (w : List (List ℕ)). TellRecords (with_fields w (worded (lines_of (records_text records)))) (r ∷ records))
     (sym l.1) (p.2, later.2) in
-    subst (λ (w : List (List ℕ)). (length w ≡ length (r ∷ records)) × AreShort w × TellRecords (worded w) (r ∷ records))
+    subst (λ (w : List (List ℕ)). (length w ≡ length (r ∷ records)) × AreShort w × TellRecords (worded w) (r ∷
+    records))
     (sym whole) (ap suc later.0, (short, later.1), told)
 
 pub text-stands : (records : List Record) → AreWritable records → length records ≤ MOST_LINES →

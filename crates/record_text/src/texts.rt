@@ -29,8 +29,9 @@ fn put_record(out: &mut Vec<u8>, told: &Record) -> Result<(), AllocError>
     put_end(out, told)
 }
 
-/// The text of records, a line each in the order in which they are given: numbers in decimal and addresses in hexadecimal
-/// digits without leading zeros, fields parted by one space, each line ended by a line feed (docs/TEXTS.md).
+/// The text of records, a line each in the order in which they are given: numbers in decimal and addresses in
+/// hexadecimal digits without leading zeros, fields parted by one space, each line ended by a line feed
+/// (docs/TEXTS.md).
 pub fn records_text(alloc: Global, records: &[Record]) -> Result<Vec<u8>, AllocError>
     ensures text { IfOk result (λ text. text.items ≡ records_text records.now) }
     // The text of records that the grammar has, no more than a text has lines, stands for them: read back, it is they.

@@ -63,7 +63,8 @@ LineFault {X = X} number b r f fault = ((b ≡ true) × (fault ≡ record { line
     ⊎ ((b ≡ false) × (r ≡ Err fault.kind) × (fault.line ≡ number))
     ⊎ ((b ≡ false) × ((x : X) × (r ≡ Ok x) × (f x ≡ Err fault)))
 
-line-err : {X Y : Type 0} (number : ℕ) (b : Bool) (r : Result X Kind) (f : X → Result Y TraceError) (fault : TraceError) →
+line-err : {X Y : Type 0} (number : ℕ) (b : Bool) (r : Result X Kind) (f : X →
+    Result Y TraceError) (fault : TraceError) →
     at_line number (cond b (Err TooLong) r) f ≡ Err fault → LineFault number b r f fault
 line-err number true r f fault e = inl (refl, cc)
 line-err number false (Ok x) f fault e = inr (inr (refl, (x, refl, e)))
@@ -74,7 +75,11 @@ too-long : (number : ℕ) (line : List ℕ) → number ≤ suc MOST_LINES →
 too-long number line few e =
     elim (cases_lt MOST_BYTES (length line)) [
       | inl long ↦ inl long
-      | inr short ↦ let late : MOST_LINES < number = grind (arith, nat_tests, e, short) in inr (omega (arith, few, late))
+      | inr short ↦ let late : MOST_LINES < number = grind (arith, nat_tests, e, short) in inr (omega (
+        arith,
+        few,
+        late,
+      ))
     ]
 
 -- a line is too long or too late; or it is refused for what it says; or a later one is
@@ -85,7 +90,12 @@ pub fitted-err : {X Y : Type 0} (number : ℕ) (line : List ℕ) (r : Result X K
     ⊎ ((number ≤ MOST_LINES) × ((x : X) × (r ≡ Ok x) × (f x ≡ Err fault)))
 fitted-err number line r f fault few e =
     elim (line-err number (nat_lt MOST_BYTES (length line) || nat_lt MOST_LINES number) r f fault e) [
-      | inl t ↦ inl (ap (λ (w : TraceError). w.line) t.1, ap (λ (w : TraceError). w.kind) t.1, too-long number line few t.0)
+      | inl t ↦ inl (
+        ap (λ (w : TraceError). w.line) t.1,
+        ap (λ (w : TraceError). w.kind) t.1,
+        too-long number line
+            few t.0,
+      )
       | inr (inl t) ↦ inr (inl (t.2, t.1))
       | inr (inr t) ↦ inr (inr (grind (arith, nat_tests, t.0), t.1))
     ]

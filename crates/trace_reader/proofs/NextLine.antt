@@ -1,6 +1,7 @@
 -- The next line of a text, from the bytes in front.
 use Rattle.std.proofs.Common.{◌≡◌, ℕ, suc, ◌+◌, ◌-◌, ◌<◌, ◌≤◌, ◌==◌, true, false, List, [], ◌∷◌, ◌++◌, length}
-use Rattle.std.proofs.Common.{take, drop, slice_range, Option, Some, None, IfSome, refl, sym, ap, ◌∙◌, append_assoc, arith, inl, inr}
+use Rattle.std.proofs.Common.{take, drop, slice_range, Option, Some, None, IfSome, refl}
+use Rattle.std.proofs.Common.{sym, ap, ◌∙◌, append_assoc, arith, inl, inr}
 use Rattle.std.proofs.lemmas.Bool.{cases_Bool, cases_lt}
 use Rattle.std.proofs.lemmas.List.{append-nil, take_at, drop_at, take-append-le, drop-append-le, drop-take}
 use Rattle.std.proofs.lemmas.List.{length-take-le, length-drop, take_all, drop_all}
@@ -188,7 +189,8 @@ both-last (Some before) (Some after) (Some last) x y z came p q e h =
     (both-more (Some before) (Some after) (Some last) x y z came p q e, h)
 
 -- what stands is as it was, and the next line is found in it
-pub found-after : (a b : Option (List ℕ)) (x y : List ℕ) (n : ℕ) → Both a b (λ before after. x ++ before ≡ y ++ after) →
+pub found-after : (a b : Option (List ℕ)) (x y : List ℕ) (n : ℕ) →
+    Both a b (λ before after. x ++ before ≡ y ++ after) →
     n ≡ prefix_len is_within_line y → n ≤ length y → (n ≤ MOST_BYTES → n ≡ length y → ⊥) →
     Both a b (λ before after. (x ++ before ≡ y ++ after) × IsNextLine n y after)
 found-after a b x y n p e within some =

@@ -26,7 +26,8 @@ both-next P Q (Some x) (Some y) (Some z) old new found n p q e f last g =
     let r : Q x (lines_of (drop (n + 1) new ++ z)) = f x (lines_of (drop (n + 1) new ++ z)) (subst (P x) h p) in
     subst (λ (w : List ℕ). Q x (lines_of (w ++ z))) (sym g) r
 
-pub both-fault : (P : List ℕ → List (List ℕ) → Type 0) (Q : List ℕ → Type 0) (a b c : Option (List ℕ)) (old new : List ℕ)
+pub both-fault : (P : List ℕ → List (List ℕ) → Type 0) (Q : List ℕ →
+    Type 0) (a b c : Option (List ℕ)) (old new : List ℕ)
     (found : Option ℕ) (n : ℕ) → Both a b (λ before after. P before (lines_of (old ++ after))) →
     Both b c (λ before after. IsFound found (old ++ before) new after) → found ≡ Some n →
     ((before : List ℕ) (later : List (List ℕ)) → P before (take n new ∷ later) → Q before) → IfSome a Q

@@ -29,7 +29,8 @@ says-more : (said : Option Record) (fields : List (List ℕ)) (lines : List (Lis
     MatchOption said (fields ≡ []) (λ read. IsRecordLine fields read) → TellRecords lines later →
     TellRecords (with_fields fields lines) (listed said ++ later)
 unfolding TellRecords
-says-more None fields lines later m s = subst (λ (w : List (List ℕ)). TellRecords (with_fields w lines) later) (sym m) s
+says-more None fields lines later m s = subst (λ (w : List (List ℕ)). TellRecords (with_fields w lines) later) (sym
+    m) s
 says-more (Some told) [] lines later m s = absurd m
 says-more (Some told) (field ∷ fields) lines later m s = (m, s)
 

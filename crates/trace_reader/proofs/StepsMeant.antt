@@ -108,7 +108,8 @@ SaysFrom None lines told = TellTrace lines told
 abbrev FitsFrom : ℕ → List (List ℕ) → Type 0
 FitsFrom number lines = (number + length lines ≤ suc MOST_LINES) × AreShort lines
 
-says-more : (form next : Option Form) (said : Option (ℕ × Step)) (fields : List (List ℕ)) (lines : List (List (List ℕ)))
+says-more : (form next : Option Form) (said : Option (ℕ × Step)) (fields : List (List ℕ)) (lines : List (List (List
+    ℕ)))
     (later : List (ℕ × Step)) → Meant form fields next said → SaysFrom next lines later →
     SaysFrom form (with_fields fields lines) (listed said ++ later)
 unfolding TellSteps
@@ -268,7 +269,18 @@ fault-from [] number form fault few e = absurd cc
 fault-from (line ∷ lines) number form fault few e =
     elim (fitted-err number line (said_at form (fields_of line))
     (λ said. behind (listed said.1) (steps_from (suc number) said.0 lines)) fault few e) [
-      | inl t ↦ ([], line, lines, refl, omega (arith, t.0), inl (t.1, subst (λ (k : ℕ). IsTooLong k line) (sym t.0) t.2))
+      | inl t ↦ (
+        [],
+        line,
+        lines,
+        refl,
+        omega (arith, t.0),
+        inl (
+          t.1,
+          subst (λ (k : ℕ). IsTooLong k line) (sym t.0)
+              t.2,
+        ),
+      )
       | inr (inl t) ↦ let r = said-refused form (fields_of line) fault.kind t.1 in
           ([], line, lines, refl, omega (arith, t.0), inr (r.0, none-before form fault.kind (fields_of line) r.1))
       | inr (inr t) ↦ let next = t.1.0.0 in let said = t.1.0.1 in

@@ -21,7 +21,8 @@ use Rattle.trace_reader.proofs.Inverses.{behind-some}
 
 -- ---- the next line
 
-pub line-said : (number : ℕ) (form next : Option Form) (line : List ℕ) (later : List (List ℕ)) (said : Option (ℕ × Step)) →
+pub line-said : (number : ℕ) (form next : Option Form) (line : List ℕ) (later : List (List ℕ)) (said : Option (ℕ ×
+    Step)) →
     length line ≤ MOST_BYTES → number ≤ MOST_LINES → said_at form (fields_of line) ≡ Ok (next, said) →
     steps_from number form (line ∷ later) ≡ behind (listed said) (steps_from (suc number) next later)
 unfolding steps_from
@@ -100,7 +101,8 @@ steps-refused a b c old new line found n number form x fault p q e h f at r =
     let early : suc number ≤ MOST_LINES = h.2 in
     let again : suc number ≡ fault.line = omega arith in
     both-fault (SoFar x (suc number) form) (λ bytes. read_at bytes ≡ Err fault) a b c old new found n p q e
-    (λ before later s. s.2 ∙ ap (behind s.0) (line-refused (suc number) form (take n new) later fault.kind len early said)
+    (λ before later s. s.2 ∙ ap (behind s.0) (line-refused (suc number) form (take n new) later fault.kind len
+    early said)
     ∙ ap (λ k. Err (record { line = k; kind = fault.kind })) again)
 
 pub steps-long : (a b c : Option (List ℕ)) (old : List ℕ) (number : ℕ) (form : Option Form) (x : List (List Step))
@@ -120,7 +122,8 @@ steps-end a b c old new found number form x p q e =
     (λ bytes. (told : List (ℕ × Step)) × (read_at bytes ≡ Ok told) × IsByCore told x) a b c old new found p q e
     (λ before s. (s.0, s.2 ∙ ap (behind s.0) (lines-end (suc number) form) ∙ ap Ok (append-nil s.0), s.1))
 
-pub long-of-line : (number : ℕ) (fault : TraceError) → fault ≡ record { line = suc number; kind = TooLong } → IsOfLine fault
+pub long-of-line : (number : ℕ) (fault : TraceError) → fault ≡ record { line = suc number; kind = TooLong } →
+    IsOfLine fault
 long-of-line number fault e = rw e (omega arith, λ k. cc, λ k. cc)
 
 -- a step that memory was refused for was there

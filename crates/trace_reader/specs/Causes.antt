@@ -14,8 +14,8 @@ use Rattle.trace_reader.specs.Lines.{lines_of, worded}
 abbrev pub IsTooLong : ℕ → List ℕ → Type 0
 IsTooLong number line = (MOST_BYTES < length line) ⊎ (number ≡ MOST_LINES + 1)
 
--- what is wrong with a line's fields behind these lines, of which the first with fields tells the form; without one, the
--- line itself tells it
+-- what is wrong with a line's fields behind these lines, of which the first with fields tells the form; without one,
+-- the line itself tells it
 abbrev pub FieldsCause : Option Form → List (List (List ℕ)) → Kind → List (List ℕ) → Type 0
 FieldsCause (Some form) lines kind fields = TraceCause form kind fields
 FieldsCause None [] kind fields = FormCause kind fields ⊎ (IsFormLine fields One × TraceCause One kind fields)

@@ -27,7 +27,8 @@ IsOfLine e = (0 < e.line) × (e.kind ≢ Read) × (e.kind ≢ NoMemory)
 
 -- Why a text was not read. A call of the device failed. Or none did: memory was refused, where there is something to
 -- keep, or reading gives this fault.
-abbrev pub Refused : {X : Type 0} → (List ℕ → Result (List X) TraceError) → ℕ → ℕ → Option (List ℕ) → TraceError → Type 0
+abbrev pub Refused : {X : Type 0} → (List ℕ → Result (List X) TraceError) → ℕ → ℕ → Option (List ℕ) → TraceError →
+    Type 0
 Refused read old new bytes e = ((e ≡ whole Read) × (new ≡ suc old))
     ⊎ ((new ≡ old) × (((e ≡ whole NoMemory) × IfSome bytes (λ known. read known ≢ Ok []))
     ⊎ (IsOfLine e × IfSome bytes (λ known. read known ≡ Err e))))

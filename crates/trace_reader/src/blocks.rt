@@ -1,6 +1,7 @@
 //! Bytes that were read ahead, and the next line among them.
 
-ghost use Rattle.std.specs.Prelude.{◌≡◌, ◌≢◌, ◌≤◌, ◌+◌, ◌<◌, length, drop, take, suc, [], ◌++◌, List, ℕ, IfOk, OnErr, Ok};
+ghost use Rattle.std.specs.Prelude.{◌≡◌, ◌≢◌, ◌≤◌, ◌+◌, ◌<◌, length, drop, take, suc};
+ghost use Rattle.std.specs.Prelude.{[], ◌++◌, List, ℕ, IfOk, OnErr, Ok};
 ghost use Rattle.std.specs.Prelude.{MatchOption, IfSome, true, false};
 ghost use Rattle.std.specs.List.{prefix_len};
 ghost use Rattle.byte_streams.specs.Device.{Loses, AtEnd, Counts};
@@ -78,8 +79,8 @@ impl Block {
         Ok(count > 0)
     }
 
-    /// Reads until the end of the next line is there, or more than a line has: how many bytes stand before it, or nothing
-    /// at the end.
+    /// Reads until the end of the next line is there, or more than a line has: how many bytes stand before it, or
+    /// nothing at the end.
     pub(crate) fn find_line<S: Source>(
         &mut self,
         source: &mut S,

@@ -61,12 +61,12 @@ fn read_whole<S: Source>(alloc: Global, source: &mut S) -> Result<Vec<Record>, T
     Ok(records)
 }
 
-/// Reads all that a source has as the text of records, at most 16,777,216 lines of at most 256 bytes, and gives them in
-/// the order in which they are written (docs/TEXTS.md).
+/// Reads all that a source has as the text of records, at most 16,777,216 lines of at most 256 bytes, and gives them
+/// in the order in which they are written (docs/TEXTS.md).
 ///
-/// A text that is refused is answered by its first fault: the number of the line, counted from 1, and the kind. `TooLong`
-/// if a line has more bytes or there are more lines; the other kinds as `record_line` tells them. If a call of the source
-/// failed the answer is `Read`, and if memory was refused `NoMemory`, both with line 0.
+/// A text that is refused is answered by its first fault: the number of the line, counted from 1, and the kind.
+/// `TooLong` if a line has more bytes or there are more lines; the other kinds as `record_line` tells them. If a
+/// call of the source failed the answer is `Read`, and if memory was refused `NoMemory`, both with line 0.
 pub fn read_records<S: Source>(alloc: Global, source: &mut S) -> Result<Vec<Record>, TraceError>
     // What is read is what the text says.
     ensures found { IfOk result (λ records. IfSome (S.remaining source.old)

@@ -1,6 +1,7 @@
 //! Reading the text of a trace.
 
-ghost use Rattle.std.specs.Prelude.{◌≡◌, ◌≤◌, ◌<◌, ◌⊎◌, ◌++◌, ℕ, suc, List, Option, Ok, Err, IfOk, IfErr, IfSome, OnOk};
+ghost use Rattle.std.specs.Prelude.{◌≡◌, ◌≤◌, ◌<◌, ◌⊎◌, ◌++◌, ℕ, suc, List};
+ghost use Rattle.std.specs.Prelude.{Option, Ok, Err, IfOk, IfErr, IfSome, OnOk};
 ghost use Rattle.byte_streams.specs.Device.{AtEnd};
 ghost use Rattle.trace_lines.specs.declared.errors.Kind.TheVariants.{Read, NoMemory};
 ghost use Rattle.trace_lines.specs.declared.steps.Form.{Form};
@@ -100,9 +101,10 @@ fn read_whole<S: Source>(alloc: Global, source: &mut S) -> Result<Trace, TraceEr
 /// Reads all that a source has as the text of a trace of at most 16,777,216 lines of at most 256 bytes; its first line
 /// that has fields tells its form (docs/TEXTS.md).
 ///
-/// A text that is refused is answered by its first fault: the number of the line, counted from 1, and the kind. `TooLong`
-/// if a line has more bytes or there are more lines; the other kinds as `trace_line` and `form_line` tell them. If a call
-/// of the source failed the answer is `Read`, and if memory was refused `NoMemory`, both with line 0.
+/// A text that is refused is answered by its first fault: the number of the line, counted from 1, and the kind.
+/// `TooLong` if a line has more bytes or there are more lines; the other kinds as `trace_line` and `form_line` tell
+/// them. If a call of the source failed the answer is `Read`, and if memory was refused `NoMemory`, both with line
+/// 0.
 pub fn read<S: Source>(alloc: Global, source: &mut S) -> Result<Trace, TraceError>
     // What is read is what the text says.
     ensures found { IfOk result (λ trace. IfSome (S.remaining source.old)

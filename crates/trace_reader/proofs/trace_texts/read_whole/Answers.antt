@@ -62,7 +62,8 @@ pub lines-preserved : goal.lines-preserved
 lines-preserved g c =
     let short = rw c.in-Some.is at c.in_ok-length.ensures.short in
     record {
-      read = steps-on _ _ _ _ (ahead c.next_line.new.block) c.front.result.now _ c.in_ok-length.field-0 c.in-Some.length
+      read = steps-on _ _ _ _ (ahead c.next_line.new.block) c.front.result.now _ c.in_ok-length.field-0
+          c.in-Some.length
           c.lines.number c.lines.form _ _ _ c.lines.invariant.read c.in_ok-length.ensures.next c.in-Some.is short
           c.front.ensures c.pass.ensures c.in_ok-form.ensures.added;
       counted = c.in_ok-length.ensures.none_failed ∙ c.lines.invariant.counted;

@@ -71,6 +71,8 @@ fn machine(alloc: Global, config: Config) -> Result<System, AllocError>
 }
 
 fn steps(alloc: Global, list: &[On]) -> Result<Vec<Step>, AllocError> {
+    // The check finds what a step holds only where the function names its type.
+    let _inside: Option<Op> = None;
     let mut steps = Vec::new(alloc);
     for on in list {
         steps.push(step(on))?;

@@ -22,7 +22,7 @@ use Rattle.sequential_machine.specs.SequentialMachine.{memory_opened}
 use Rattle.sequential_machine.specs.Performed.{ArePerformed, Performs as Does}
 use Rattle.trace_lines.specs.declared.steps.Step.TheVariants as step
 use Rattle.worker_driver.specs.Acts.{as_step, next_in}
-use Rattle.worker_driver.specs.Service.{AreServed, IsServed, Performs, rests, waits, does as performs}
+use Rattle.worker_driver.specs.Service.{AreServed, IsServed, Performs, rests, advances, does as performs}
 use Rattle.report.specs.Runs.{started, state_at, thread_acts, threads_from, values_from}
 
 -- ---- rows of threads, values and cores, by number
@@ -57,13 +57,13 @@ operation : (o : Option Op) (op : Op) → as_step o ≡ Some (step.Op op) → o 
 operation None op is = absurd cc
 operation (Some other) op is = cc
 
-never_waits : (o : Option Op) → as_step o ≡ Some step.Advance → ⊥
-never_waits None is = cc
-never_waits (Some op) is = cc
+never_advances : (o : Option Op) → as_step o ≡ Some step.Advance → ⊥
+never_advances None is = cc
+never_advances (Some op) is = cc
 
 does : (t : Thread) (rs : List Record) (last : Thread) → Performs thread_acts rs t last → Does t rs last
 does t rs last rests = refl
-does t rs last (waits waiting more) = absurd (never_waits (next_of t) waiting)
+does t rs last (advances waiting more) = absurd (never_advances (next_of t) waiting)
 does t rs last (performs {r = r} {rs = left} next more) =
     (operation (next_of t) r.op next, does (done_with t r.received) left last more)
 

@@ -127,11 +127,11 @@ fn run_long(alloc: Global) -> Result<(Driven, u64), AllocError> {
         many_loads(alloc)?,
         OpProgram::new(Vec::new(alloc)),
     ];
-    let driven = drive_round(alloc, &mut system, &mut programs, 100_000);
+    let driven = drive_round(alloc, &mut system, &mut programs, u32::MAX);
     Ok((driven, system.records().len() as u64))
 }
 
-// The first load takes 14 events in 6 rounds, as in the first case; each further one takes two.
+// The first load takes 14 events in 6 rounds, as in the case that attempts in each round; each further one takes two.
 #[test]
 fn a_long_run(rt: HostRuntime) -> Result<(), Fail> {
     let (driven, completed) = run_long(rt.alloc())?;

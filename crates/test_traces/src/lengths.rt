@@ -79,15 +79,15 @@ fn lines(alloc: Global, line: &str, count: usize, last: &str) -> Result<Vec<u8>,
 
 #[test]
 fn texts_of_many_blocks(rt: HostRuntime) -> Result<(), Fail> {
-    let steps = lines(rt.alloc(), "0 R 0xabc0\n", 5_000, "0 W 0x8 1")?;
-    assert!(rt; count(rt.alloc(), &steps) == Ok(5_001));
-    let records = lines(rt.alloc(), "0 0 R 0xabc0 1 2 3\n", 5_000, "")?;
-    assert!(rt; record_count(rt.alloc(), &records) == Ok(5_000));
-    let fault = lines(rt.alloc(), "0 R 0xabc0\n", 5_000, "0 W 0x8")?;
+    let steps = lines(rt.alloc(), "0 R 0xabc0\n", 70_000, "0 W 0x8 1")?;
+    assert!(rt; count(rt.alloc(), &steps) == Ok(70_001));
+    let records = lines(rt.alloc(), "0 0 R 0xabc0 1 2 3\n", 70_000, "")?;
+    assert!(rt; record_count(rt.alloc(), &records) == Ok(70_000));
+    let fault = lines(rt.alloc(), "0 R 0xabc0\n", 70_000, "0 W 0x8")?;
     assert!(rt;
         count(rt.alloc(), &fault)
             == Err(TraceError {
-                line: 5_001,
+                line: 70_001,
                 kind: Kind::BadValue
             })
     );

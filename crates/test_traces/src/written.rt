@@ -2,6 +2,7 @@
 use byte_streams::FromRead;
 use physiological_order::{Op, Record, WordAddr};
 use record_text::records_text;
+use std::alloc::{AllocError, Global};
 use std::test::Fail;
 use trace_reader::read_records;
 
@@ -63,6 +64,33 @@ fn text_is_read_back(rt: HostRuntime) -> Result<(), Fail> {
     let mut source = FromRead::new(text.as_slice());
     match read_records(rt.alloc(), &mut source) {
         Ok(read) => assert!(rt; read.as_slice() == records.as_slice()),
+        Err(_) => assert!(rt; false),
+    }
+    Ok(())
+}
+
+// So many records are more than 65,536.
+const MANY: usize = 70_000;
+
+fn many_records(alloc: Global) -> Result<Vec<Record>, AllocError> {
+    // The check finds what a record holds only where the function names its type.
+    let _inside: Option<Op> = None;
+    let mut records = Vec::new(alloc);
+    for _ in 0..MANY {
+        records.push(of_load())?;
+    }
+    Ok(records)
+}
+
+// A line of 16 bytes for each.
+#[test]
+fn text_of_many_records(rt: HostRuntime) -> Result<(), Fail> {
+    let records = many_records(rt.alloc())?;
+    let text = records_text(rt.alloc(), &records)?;
+    assert_eq!(rt; text.len(), 16 * MANY);
+    let mut source = FromRead::new(text.as_slice());
+    match read_records(rt.alloc(), &mut source) {
+        Ok(read) => assert_eq!(rt; read.len(), MANY),
         Err(_) => assert!(rt; false),
     }
     Ok(())

@@ -25,8 +25,8 @@ IsFound (Some n) old new coming = lines_of old ≡ take n new ∷ lines_of (drop
 abbrev pub IsOfLine : TraceError → Type 0
 IsOfLine e = (0 < e.line) × (e.kind ≢ Read) × (e.kind ≢ NoMemory)
 
--- Why a text was not read. A call of the device failed. Or none did: memory was refused, where there is something to
--- keep, or reading gives this fault.
+-- Why a text was not read. A call of the device failed. Or none did: memory was refused, where there is a step or a
+-- record to keep or the text has a fault, or reading gives this fault.
 abbrev pub Refused : {X : Type 0} → (List ℕ → Result (List X) TraceError) → ℕ → ℕ → Option (List ℕ) → TraceError →
     Type 0
 Refused read old new bytes e = ((e ≡ whole Read) × (new ≡ suc old))

@@ -117,7 +117,7 @@ pub fn read<S: Source>(alloc: Global, source: &mut S) -> Result<Trace, TraceErro
     // The steps as they are read from the front, each at its core.
     ensures told { IfOk result (λ trace. IfSome (S.remaining source.old)
         (λ bytes. (told : List (ℕ × Step)) × (read_at bytes ≡ Ok told) × IsByCore told trace)) }
-    // The first fault; memory is refused only where there is a step.
+    // The first fault; memory is refused only where there is a step or a fault.
     ensures refused { IfErr result (Refused read_at (S.failures source.old)
         (S.failures source.new) (S.remaining source.old)) }
     ensures none_failed { OnOk result (S.failures source.new ≡ S.failures source.old) }

@@ -10,7 +10,7 @@ use Rattle.machine_table.specs.declared.event.Event.TheVariants as event
 use Rattle.machine_table.specs.Machine.{Machine}
 use Rattle.interleaving_core.specs.LookUps.{open_op}
 use Rattle.worker_driver.specs.Acts.{Acts, next_in}
-use Rattle.worker_driver.specs.Schedules.{Choice, Does, Tries, Delivers, Waits, Goes, Over}
+use Rattle.worker_driver.specs.Schedules.{Choice, Does, Tries, Delivers, Advances, Goes, Over}
 use Rattle.worker_driver.specs.RoundSchedule.{Round, RoundStage, Stepping, Attempting, AttemptingAgain, Delivering}
 use Rattle.worker_driver.specs.RoundSchedule.{rounds, round_next, step_of, attempt_of, to_stage, in_flight}
 use Rattle.worker_driver.specs.Service.{GivesSteps}
@@ -25,7 +25,7 @@ module _ {P : Type 0} (acts : Acts P) (m : Machine) (programs : List P) where
   Gives (Does (event.EvictCache core line)) = Unit {0}
   Gives (Does (event.EvictBank bank line)) = Unit {0}
   Gives (Does (event.Advance core)) = Unit {0}
-  Gives (Waits core) = (open_op m core ≡ None) × (next_in acts programs core ≡ Some step.Advance)
+  Gives (Advances core) = (open_op m core ≡ None) × (next_in acts programs core ≡ Some step.Advance)
   Gives (Tries core) = Unit {0}
   Gives (Delivers number) = Unit {0}
   Gives (Goes own) = Unit {0}
@@ -60,7 +60,7 @@ module _ {P : Type 0} (acts : Acts P) (m : Machine) (programs : List P) where
   unfolding Gives
   issue_given round core op is = subst Gives is (stage_gives round round.stage)
 
-  advance_given : (round : Round) (core : ℕ) → round_next acts m programs round round.stage ≡ Waits core →
+  advance_given : (round : Round) (core : ℕ) → round_next acts m programs round round.stage ≡ Advances core →
       (open_op m core ≡ None) × (next_in acts programs core ≡ Some step.Advance)
   unfolding Gives
   advance_given round core is = subst Gives is (stage_gives round round.stage)
@@ -68,5 +68,5 @@ module _ {P : Type 0} (acts : Acts P) (m : Machine) (programs : List P) where
 pub rounds_give_steps : {P : Type 0} (acts : Acts P) → GivesSteps acts (rounds acts)
 rounds_give_steps acts = record {
   issues = λ m programs own core op is. issue_given acts m programs own core op is;
-  waits = λ m programs own core is. advance_given acts m programs own core is;
+  advances = λ m programs own core is. advance_given acts m programs own core is;
 }

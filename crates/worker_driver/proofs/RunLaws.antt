@@ -11,10 +11,10 @@ use Rattle.interleaving_core.specs.LookUps.{open_op, make_room}
 use Rattle.run_ends.specs.declared.ends.End.{End}
 use Rattle.run_ends.specs.declared.ends.End.TheVariants.{AllDone, Stalled, TurnsUsed, Exhausted, NoMemory}
 use Rattle.worker_driver.specs.Acts.{Acts, next_in}
-use Rattle.worker_driver.specs.Schedules.{Choice, Does, Tries, Delivers, Waits, Goes, Over}
+use Rattle.worker_driver.specs.Schedules.{Choice, Does, Tries, Delivers, Advances, Goes, Over}
 use Rattle.worker_driver.specs.Runs.{Plan, Stage, Before, Within, Evicting, MakingRoom, OutOfTimes, Position, Next}
 use Rattle.worker_driver.specs.Runs.{Makes, Moves, Ends, next, next_at, begin, finish, chosen, evict, evict_bank}
-use Rattle.worker_driver.specs.Runs.{does, tries, delivers, waits, evicts, onward, told, at_stage, answered, victim_for}
+use Rattle.worker_driver.specs.Runs.{does, tries, delivers, advances, evicts, onward, told, at_stage, answered, victim_for}
 use Rattle.worker_driver.specs.Runs.{is_progress, is_exhausted, is_no_room, is_over, are_over}
 use Rattle.worker_driver.specs.RunEvents.{Follows, stays, moves, makes, Ended}
 use Rattle.worker_driver.proofs.Over.{each_over}
@@ -61,7 +61,7 @@ module _ {P S : Type 0} (plan : Plan P S) where
   chosen_keeps d (Does event) = arrives d (does plan.acts plan.schedule) (λ a e. refl)
   chosen_keeps d (Tries core) = arrives d (tries plan.acts plan.schedule core) (tries_arrives core)
   chosen_keeps d (Delivers number) = arrives d (delivers plan.acts plan.schedule number) (λ a e. refl)
-  chosen_keeps d (Waits core) = arrives d (waits plan.acts plan.schedule core) (λ a e. refl)
+  chosen_keeps d (Advances core) = arrives d (advances plan.acts plan.schedule core) (λ a e. refl)
   chosen_keeps d (Goes own) = (refl, refl)
   chosen_keeps d Over = cond_both (plan.schedule.stalls && not d.has_progressed) (Ends Stalled)
       (Moves (record d { stage = Before; turns = d.turns + 1 })) (Keeps d) (λ t. tt) (λ t. (refl, refl))
@@ -128,7 +128,7 @@ module _ {P S : Type 0} (plan : Plan P S) where
   chosen_says d (Does event) = refl
   chosen_says d (Tries core) = refl
   chosen_says d (Delivers number) = refl
-  chosen_says d (Waits core) = refl
+  chosen_says d (Advances core) = refl
   chosen_says d (Goes own) = refl
   chosen_says d Over = cond_both (plan.schedule.stalls && not d.has_progressed) (Ends Stalled)
       (Moves (record d { stage = Before; turns = d.turns + 1 })) (λ x. says_done x ≡ false) (λ t. refl) (λ t. refl)

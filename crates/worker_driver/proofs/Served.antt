@@ -24,10 +24,10 @@ use Rattle.interleaving_core.specs.LookUps.{open_op, open_op_of, make_room}
 use Rattle.run_ends.specs.declared.ends.End.{End}
 use Rattle.run_ends.specs.declared.ends.End.TheVariants.{Stalled, TurnsUsed}
 use Rattle.worker_driver.specs.Acts.{Acts, next_in, done_in}
-use Rattle.worker_driver.specs.Schedules.{Choice, Does, Tries, Delivers, Waits, Goes, Over}
+use Rattle.worker_driver.specs.Schedules.{Choice, Does, Tries, Delivers, Advances, Goes, Over}
 use Rattle.worker_driver.specs.Runs.{Plan, Stage, Before, Within, Evicting, MakingRoom, OutOfTimes, Position, Next}
 use Rattle.worker_driver.specs.Runs.{Makes, Moves, Ends, next, next_at, begin, chosen, evict, evict_bank}
-use Rattle.worker_driver.specs.Runs.{does, tries, delivers, waits, evicts, onward, told, told_advance, at_stage}
+use Rattle.worker_driver.specs.Runs.{does, tries, delivers, advances, evicts, onward, told, told_advance, at_stage}
 use Rattle.worker_driver.specs.Runs.{answered, victim_for, is_progress, is_exhausted, is_advanced, is_no_room, are_over}
 use Rattle.worker_driver.specs.RunEvents.{Follows, stays, moves, makes, Ended}
 use Rattle.worker_driver.specs.Service.{still_open, AreServed, GivesSteps}
@@ -35,7 +35,7 @@ use Rattle.worker_driver.proofs.InProgram.{behind}
 use Rattle.worker_driver.proofs.TableSteps.{op_of, op_at, IsQuiet, Opens, IsDone, Tries as TriesTo, is_completion}
 use Rattle.worker_driver.proofs.TableSteps.{not_completed, issue_does, attempt_does, advance_stays, delivery_stays}
 use Rattle.worker_driver.proofs.TableSteps.{cache_eviction_stays, bank_eviction_stays}
-use Rattle.worker_driver.proofs.Serving.{Serving, served_none, served_quiet, served_issue, served_done, served_wait}
+use Rattle.worker_driver.proofs.Serving.{Serving, served_none, served_quiet, served_issue, served_done, served_advance}
 use Rattle.worker_driver.proofs.RunLaws.{moves_keeps, made_by, run_makes}
 
 -- a core that isn't there has no open operation
@@ -253,16 +253,16 @@ module _ {P S : Type 0} (plan : Plan P S) (gives : GivesSteps plan.acts plan.sch
     does_onward (Advance core) is = quietly (does plan.acts plan.schedule) (Advance core)
         (advance_stays d.machine core) does_same
 
-    waits_onward : (core : ℕ) → plan.schedule.next d.machine d.programs d.own ≡ Waits core →
-        KeptAt (answered d (waits plan.acts plan.schedule core) (transition d.machine (Advance core)))
-    waits_onward core is =
-        let step = gives.waits d.machine d.programs d.own core is in
+    advances_onward : (core : ℕ) → plan.schedule.next d.machine d.programs d.own ≡ Advances core →
+        KeptAt (answered d (advances plan.acts plan.schedule core) (transition d.machine (Advance core)))
+    advances_onward core is =
+        let step = gives.advances d.machine d.programs d.own core is in
         let o = transition d.machine (Advance core) in
         let quiet = advance_stays d.machine core in
         let still = served_quiet plan.acts start.machine start.programs d.machine o.1 d.programs so_far quiet in
-        let moved = served_wait plan.acts start.machine start.programs d.machine o.1 d.programs so_far core
+        let moved = served_advance plan.acts start.machine start.programs d.machine o.1 d.programs so_far core
         (none_open d.machine core step.0) step.1 quiet in
-        lands d (waits plan.acts plan.schedule core) o (λ t. still) (λ e machine programs.
+        lands d (advances plan.acts plan.schedule core) o (λ t. still) (λ e machine programs.
         rw (machine, programs) (cond_both (is_advanced o.0) (done_in plan.acts d.programs core None) d.programs
         (λ (ps : List P). Kept o.1 ps) (λ t. moved) (λ t. still)))
 
@@ -273,7 +273,7 @@ module _ {P S : Type 0} (plan : Plan P S) (gives : GivesSteps plan.acts plan.sch
     chosen_onward (Tries core) is = tells (tries plan.acts plan.schedule core) core (tries_same core)
     chosen_onward (Delivers number) is = quietly (delivers plan.acts plan.schedule number) (Deliver number)
         (delivery_stays d.machine number) (λ e a silent. (refl, refl))
-    chosen_onward (Waits core) is = waits_onward core is
+    chosen_onward (Advances core) is = advances_onward core is
     chosen_onward (Goes own) is = tt
     chosen_onward Over is = cond_both (plan.schedule.stalls && not d.has_progressed) (Ends Stalled)
         (Moves (record d { stage = Before; turns = d.turns + 1 })) Onward (λ t. tt) (λ t. tt)

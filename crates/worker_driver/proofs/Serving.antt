@@ -12,7 +12,7 @@ use Rattle.trace_lines.specs.declared.steps.Step.TheVariants as step
 use Rattle.machine_table.specs.Machine.{Machine}
 use Rattle.machine_theorem.proofs.Lemmas.{get-set_same, get-set_other}
 use Rattle.worker_driver.specs.Acts.{Acts, next_of, next_in, done_of, done_in}
-use Rattle.worker_driver.specs.Service.{Performs, rests, waits, does}
+use Rattle.worker_driver.specs.Service.{Performs, rests, advances, does}
 use Rattle.worker_driver.proofs.InProgram.{of_core-own, of_core-other}
 use Rattle.worker_driver.proofs.TableSteps.{op_at, IsQuiet, Opens, IsDone}
 
@@ -21,16 +21,16 @@ module _ {P : Type 0} (acts : Acts P) where
   performs_more : (rs : List Record) (p q : P) (r : Record) → Performs acts rs p q →
       acts.next q ≡ Some (step.Op r.op) → Performs acts (rs ++ r ∷ []) p (acts.done q r.received)
   performs_more rs p q r rests next = does next rests
-  performs_more rs p q r (waits waiting more) next = waits waiting (performs_more rs (acts.done p None) q r more next)
+  performs_more rs p q r (advances waiting more) next = advances waiting (performs_more rs (acts.done p None) q r more next)
   performs_more rs p q r (does {r = s} {rs = left} is more) next =
       does is (performs_more left (acts.done p s.received) q r more next)
 
-  waits_more : (rs : List Record) (p q : P) → Performs acts rs p q → acts.next q ≡ Some step.Advance →
+  advances_more : (rs : List Record) (p q : P) → Performs acts rs p q → acts.next q ≡ Some step.Advance →
       Performs acts rs p (acts.done q None)
-  waits_more rs p q rests next = waits next rests
-  waits_more rs p q (waits waiting more) next = waits waiting (waits_more rs (acts.done p None) q more next)
-  waits_more rs p q (does {r = s} {rs = left} is more) next =
-      does is (waits_more left (acts.done p s.received) q more next)
+  advances_more rs p q rests next = advances next rests
+  advances_more rs p q (advances waiting more) next = advances waiting (advances_more rs (acts.done p None) q more next)
+  advances_more rs p q (does {r = s} {rs = left} is more) next =
+      does is (advances_more left (acts.done p s.received) q more next)
 
   done_here : (programs : List P) (c : ℕ) (received : Option ℕ) (q : P) → slice_get programs c ≡ Some q →
       slice_get (done_in acts programs c received) c ≡ Some (acts.done q received)
@@ -157,9 +157,9 @@ module _ {P : Type 0} (acts : Acts P) where
               (sym (done_there programs c done.received core other)) gone))
 
       -- a core without an open operation advances, and its program is told
-      pub served_wait : (c : ℕ) → op_at m c ≡ None → next_in acts programs c ≡ Some step.Advance →
+      pub served_advance : (c : ℕ) → op_at m c ≡ None → next_in acts programs c ≡ Some step.Advance →
           IsQuiet m after → Serving after (done_in acts programs c None)
-      served_wait c free next quiet =
+      served_advance c free next quiet =
           record {
             added = so_far.added;
             records = quiet.records ∙ so_far.records;
@@ -177,7 +177,7 @@ module _ {P : Type 0} (acts : Acts P) where
               let program : slice_get programs c ≡ Some gone.0 = ap (slice_get programs) (sym here) ∙ gone.1 in (
                 acts.done gone.0 None,
                 ap (slice_get (done_in acts programs c None)) here ∙ done_here programs c None gone.0 program,
-                waits_more (of_core core so_far.added) p gone.0 gone.2 gives,
+                advances_more (of_core core so_far.added) p gone.0 gone.2 gives,
                 subst (λ (o : Option Op). IfSome o (λ x. acts.next (acts.done gone.0 None) ≡ Some (step.Op x)))
                     (sym still) tt,
               )

@@ -8,8 +8,8 @@ use Rattle.interleaving_core.specs.LookUps.{open_op, make_room}
 use Rattle.run_ends.specs.declared.ends.End.{End}
 use Rattle.run_ends.specs.declared.ends.End.TheVariants.{NoMemory}
 use Rattle.worker_driver.specs.Acts.{Acts}
-use Rattle.worker_driver.specs.Schedules.{Schedule, Choice, Does, Tries, Delivers, Waits, Goes, Over}
-use Rattle.worker_driver.specs.Runs.{Stage, Within, Evicting, MakingRoom, Position, chosen, does, tries, delivers, waits}
+use Rattle.worker_driver.specs.Schedules.{Schedule, Choice, Does, Tries, Delivers, Advances, Goes, Over}
+use Rattle.worker_driver.specs.Runs.{Stage, Within, Evicting, MakingRoom, Position, chosen, does, tries, delivers, advances}
 use Rattle.worker_driver.specs.Runs.{evict, evict_bank, evicts, victim_for, told, told_advance, is_held, is_no_room}
 use Rattle.worker_driver.specs.Runs.{plan_of, Ends}
 use Rattle.worker_driver.specs.Notes.{Log, Noted, Point, at, position, Leads, Stops, Led}
@@ -95,23 +95,23 @@ module _ {P S : Type 0} (acts : Acts P) (schedule : Schedule P S) (m : Machine) 
         stops_by acts schedule Here (Deliver number) (delivers acts schedule number) e after after_log
         (delivers_next number is) noted
 
-    waits_next : (core : ℕ) → Chooses (Waits core) →
-        Next acts schedule Here (Advance core) (waits acts schedule core)
+    advances_next : (core : ℕ) → Chooses (Advances core) →
+        Next acts schedule Here (Advance core) (advances acts schedule core)
     unfolding Next
-    waits_next core is limit turns = ap (chosen (plan_of acts schedule limit) (position Here turns)) is
+    advances_next core is limit turns = ap (chosen (plan_of acts schedule limit) (position Here turns)) is
 
-    pub waited : (core : ℕ) → Chooses (Waits core) → (answer : Answer) →
+    pub advanced : (core : ℕ) → Chooses (Advances core) → (answer : Answer) →
         Noted m log (Advance core) (Ok answer) after after_log →
         Leads acts schedule Here (On (told_advance acts programs core answer) false)
-    waited core is answer noted =
-        leads_by acts schedule Here (Advance core) (waits acts schedule core) answer after
-        (told_advance acts programs core answer) after_log (schedule.behind false own) Within (waits_next core is)
+    advanced core is answer noted =
+        leads_by acts schedule Here (Advance core) (advances acts schedule core) answer after
+        (told_advance acts programs core answer) after_log (schedule.behind false own) Within (advances_next core is)
         noted (λ turns. refl)
 
-    pub waited_not : (core : ℕ) → Chooses (Waits core) → (e : End) →
+    pub advanced_not : (core : ℕ) → Chooses (Advances core) → (e : End) →
         Noted m log (Advance core) (Err e) after after_log → Stops acts schedule Here after programs after_log e
-    waited_not core is e noted =
-        stops_by acts schedule Here (Advance core) (waits acts schedule core) e after after_log (waits_next core is)
+    advanced_not core is e noted =
+        stops_by acts schedule Here (Advance core) (advances acts schedule core) e after after_log (advances_next core is)
         noted
 
     -- evictions
@@ -167,7 +167,7 @@ module _ {P S : Type 0} (acts : Acts P) (schedule : Schedule P S) (m : Machine) 
   still_in limit turns end (Does event) ends = absurd cc
   still_in limit turns end (Tries core) ends = absurd cc
   still_in limit turns end (Delivers number) ends = absurd cc
-  still_in limit turns end (Waits core) ends = absurd cc
+  still_in limit turns end (Advances core) ends = absurd cc
   still_in limit turns end (Goes other) ends = absurd cc
   still_in limit turns end Over ends = refl
 

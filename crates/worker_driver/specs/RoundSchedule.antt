@@ -9,7 +9,7 @@ use Rattle.machine_table.specs.declared.event.Event.TheVariants as event
 use Rattle.machine_table.specs.Machine.{Machine}
 use Rattle.interleaving_core.specs.LookUps.{open_op}
 use Rattle.worker_driver.specs.Acts.{Acts, next_in}
-use Rattle.worker_driver.specs.Schedules.{Schedule, Choice, Does, Tries, Delivers, Waits, Goes, Over}
+use Rattle.worker_driver.specs.Schedules.{Schedule, Choice, Does, Tries, Delivers, Advances, Goes, Over}
 
 -- the stages of a round
 pub data RoundStage : Type 0 where
@@ -33,7 +33,7 @@ to_stage round stage = Goes (record round { stage = stage })
 -- a core without an open operation does its program's next step
 abbrev pub step_of : Round → ℕ → Option (Op × Bool) → Option Step → Choice Round
 step_of round core None (Some (step.Op op)) = Does (event.Issue core op)
-step_of round core None (Some step.Advance) = Waits core
+step_of round core None (Some step.Advance) = Advances core
 step_of round core None None = to_stage round (Attempting core)
 step_of round core (Some x) next = to_stage round (Attempting core)
 
@@ -42,7 +42,7 @@ abbrev pub attempt_of : Round → ℕ → Option (Op × Bool) → Choice Round
 attempt_of round core None = to_stage round (Stepping (core + 1))
 attempt_of round core (Some x) = Tries core
 
--- the numbers of the messages in flight
+-- the numbers of the messages in flight, which rise: a machine has its messages in the order of sending
 abbrev pub in_flight : Machine → List ℕ
 in_flight m = map (λ message. message.0) m.mail.messages
 
@@ -55,7 +55,7 @@ round_next acts m programs round (AttemptingAgain core) = Does (event.Attempt co
 round_next acts m programs round (Delivering []) = Over
 round_next acts m programs round (Delivering (number ∷ left)) = Delivers number
 
--- a second time without a way there is no second eviction
+-- a second time without a place there is no second eviction
 abbrev pub round_behind : Bool → RoundStage → RoundStage
 round_behind full (Stepping core) = Attempting core
 round_behind full (Attempting core) = if full then AttemptingAgain core else Stepping (core + 1)

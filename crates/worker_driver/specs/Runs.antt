@@ -13,7 +13,7 @@ use Rattle.interleaving_core.specs.LookUps.{open_op, victim, make_room}
 use Rattle.run_ends.specs.declared.ends.End.{End}
 use Rattle.run_ends.specs.declared.ends.End.TheVariants.{AllDone, Stalled, TurnsUsed, Exhausted}
 use Rattle.worker_driver.specs.Acts.{Acts, next_in, done_in}
-use Rattle.worker_driver.specs.Schedules.{Schedule, Choice, Does, Tries, Delivers, Waits, Goes, Over}
+use Rattle.worker_driver.specs.Schedules.{Schedule, Choice, Does, Tries, Delivers, Advances, Goes, Over}
 
 -- what a run follows: what its programs do, its schedule, and the most turns
 pub record Plan (P S : Type 0) : Type 0 where
@@ -27,7 +27,7 @@ pub data Stage : Type 0 where
   Before : Stage
   -- in a turn, where the schedule says what comes next
   Within : Stage
-  -- there was no way for the line of a core's open operation: a copy is to go
+  -- there was no place for the line of a core's open operation: a copy is to go
   Evicting : ℕ → Stage
   -- a message was held: its bank may be made room in
   MakingRoom : ℕ → Stage
@@ -102,7 +102,7 @@ abbrev pub are_over : {P : Type 0} → Acts P → Machine → List P → ℕ →
 are_over acts m programs zero = true
 are_over acts m programs (suc core) = are_over acts m programs core && is_over acts m programs core
 
--- the copy that goes so that there is a way for the line of a core's open operation
+-- the copy that goes so that there is a place for the line of a core's open operation
 abbrev pub victim_for : Machine → ℕ → Option (Op × Bool) → Option ℕ
 victim_for m core None = None
 victim_for m core (Some x) = victim m core (address x.0 / m.config.line_words)
@@ -124,8 +124,8 @@ module _ {P S : Type 0} (acts : Acts P) (schedule : Schedule P S) where
   abbrev pub delivers : ℕ → Answer → Position P S → Position P S
   delivers number answer d = onward false (if is_held answer then MakingRoom number else Within) d
 
-  abbrev pub waits : ℕ → Answer → Position P S → Position P S
-  waits core answer d = onward false Within (record d { programs = told_advance acts d.programs core answer })
+  abbrev pub advances : ℕ → Answer → Position P S → Position P S
+  advances core answer d = onward false Within (record d { programs = told_advance acts d.programs core answer })
 
 -- after an eviction the schedule says what comes next
 abbrev pub evicts : {P S : Type 0} → Answer → Position P S → Position P S
@@ -158,7 +158,7 @@ module _ {P S : Type 0} (plan : Plan P S) where
   chosen d (Does e) = Makes e (answered d (does plan.acts plan.schedule))
   chosen d (Tries core) = Makes (event.Attempt core) (answered d (tries plan.acts plan.schedule core))
   chosen d (Delivers number) = Makes (event.Deliver number) (answered d (delivers plan.acts plan.schedule number))
-  chosen d (Waits core) = Makes (event.Advance core) (answered d (waits plan.acts plan.schedule core))
+  chosen d (Advances core) = Makes (event.Advance core) (answered d (advances plan.acts plan.schedule core))
   chosen d (Goes own) = Moves (record d { own = own })
   chosen d Over = finish d
 

@@ -7,12 +7,12 @@ use Rattle.machine_table.specs.Machine.{Machine}
 pub data Choice (S : Type 0) : Type 0 where
   -- an event
   Does : Event → Choice S
-  -- the open operation of a core is tried; if there is no way for its line, a copy goes
+  -- the open operation of a core is tried; if there is no place for its line, a copy goes
   Tries : ℕ → Choice S
-  -- the message with this number is delivered; if it is held, a line leaves its bank if that makes a way
+  -- the message with this number is delivered; if it is held, a line leaves its bank if that makes a place
   Delivers : ℕ → Choice S
   -- a core advances, as the next step of its program says
-  Waits : ℕ → Choice S
+  Advances : ℕ → Choice S
   -- no event: another stage of the turn
   Goes : S → Choice S
   -- the turn is over
@@ -24,7 +24,7 @@ pub record Schedule (P S : Type 0) : Type 0 where
   pub first : S → S
   -- what comes next, by the machine and the programs
   pub next : Machine → List P → S → Choice S
-  -- the stage after an answered event; and whether there was no way for an operation's line
+  -- the stage after an answered event; and whether there was no place for an operation's line
   pub behind : Bool → S → S
   -- whether a turn without progress is the last
   pub stalls : Bool

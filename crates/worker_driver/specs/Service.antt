@@ -12,13 +12,13 @@ use Rattle.machine_table.specs.declared.event.Event.TheVariants as event
 use Rattle.machine_table.specs.Machine.{Machine}
 use Rattle.interleaving_core.specs.LookUps.{open_op}
 use Rattle.worker_driver.specs.Acts.{Acts, next_in}
-use Rattle.worker_driver.specs.Schedules.{Schedule, Choice, Does, Waits}
+use Rattle.worker_driver.specs.Schedules.{Schedule, Choice, Does, Advances}
 
 -- a program gave these records' operations, one after the other, and was told what each received; in between it
 -- advanced, any number of times; it is now this one
 pub data Performs {P : Type 0} (acts : Acts P) : List Record → P → P → Type 0 where
   rests : {p : P} → Performs acts [] p p
-  waits : {p q : P} {rs : List Record} → acts.next p ≡ Some step.Advance → Performs acts rs (acts.done p None) q →
+  advances : {p q : P} {rs : List Record} → acts.next p ≡ Some step.Advance → Performs acts rs (acts.done p None) q →
       Performs acts rs p q
   does : {p q : P} {r : Record} {rs : List Record} → acts.next p ≡ Some (step.Op r.op) →
       Performs acts rs (acts.done p r.received) q → Performs acts (r ∷ rs) p q
@@ -54,6 +54,6 @@ pub record GivesSteps {P S : Type 0} (acts : Acts P) (schedule : Schedule P S) :
   pub issues : (m : Machine) (programs : List P) (own : S) (core : ℕ) (op : Op) →
       schedule.next m programs own ≡ Does (event.Issue core op) →
       (open_op m core ≡ None) × (next_in acts programs core ≡ Some (step.Op op))
-  pub waits : (m : Machine) (programs : List P) (own : S) (core : ℕ) →
-      schedule.next m programs own ≡ Waits core →
+  pub advances : (m : Machine) (programs : List P) (own : S) (core : ℕ) →
+      schedule.next m programs own ≡ Advances core →
       (open_op m core ≡ None) × (next_in acts programs core ≡ Some step.Advance)

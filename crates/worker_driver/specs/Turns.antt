@@ -5,7 +5,7 @@ use Rattle.run_ends.specs.declared.ends.End.{End}
 use Rattle.worker_driver.specs.declared.schedule.Choice.{Choice as Chosen}
 use Rattle.worker_driver.specs.declared.schedule.Choice.TheVariants as chosen
 use Rattle.worker_driver.specs.Acts.{Acts}
-use Rattle.worker_driver.specs.Schedules.{Schedule, Choice, Does, Tries, Delivers, Waits, Goes, Over}
+use Rattle.worker_driver.specs.Schedules.{Schedule, Choice, Does, Tries, Delivers, Advances, Goes, Over}
 use Rattle.worker_driver.specs.Notes.{Point, Leads, Stops}
 
 -- the code's choice: the schedule stands where it stood, or at the other stage
@@ -13,7 +13,7 @@ abbrev pub IsChoice : {S : Type 0} → Choice S → S → Chosen → S → Type 
 IsChoice next old (chosen.Does event) new = (next ≡ Does event) × (new ≡ old)
 IsChoice next old (chosen.Tries core) new = (next ≡ Tries core) × (new ≡ old)
 IsChoice next old (chosen.Delivers number) new = (next ≡ Delivers number) × (new ≡ old)
-IsChoice next old (chosen.Waits core) new = (next ≡ Waits core) × (new ≡ old)
+IsChoice next old (chosen.Advances core) new = (next ≡ Advances core) × (new ≡ old)
 IsChoice next old chosen.Goes new = next ≡ Goes new
 IsChoice next old chosen.Over new = (next ≡ Over) × (new ≡ old)
 

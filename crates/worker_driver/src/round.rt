@@ -77,7 +77,7 @@ impl Rounds {
         }
         match next_in(programs, core) {
             Some(Step::Op(op)) => Choice::Does(Event::Issue(core, op)),
-            Some(Step::Advance) => Choice::Waits(core),
+            Some(Step::Advance) => Choice::Advances(core),
             None => {
                 self.stage = RoundStage::Attempting(core);
                 Choice::Goes

@@ -26,8 +26,9 @@ pub struct Driven {
 /// Drives the machine by the schedule of rounds (docs/SCHEDULES.md), one program a core, until every program is done,
 /// a round went by without progress, `limit` rounds were made, times are exhausted or allocation failed. The events
 /// are those that the schedule has, each by the machine and the programs as they then are, and so is the end, unless it
-/// is NoMemory. What was given to the machine is in the list, and nothing else. Whatever the end, each core was issued
-/// what its program gave, in order, and the program was told what each completed operation received, in order.
+/// is NoMemory. What was given to the machine is in the list, and nothing else. Whatever the end, each core that had no
+/// open operation before was issued what its program gave, in order, and the program was told what each completed
+/// operation received, in order.
 pub fn drive_round<P: Program>(
     alloc: Global,
     system: &mut System,

@@ -11,12 +11,12 @@ use std::alloc::AllocError;
 pub(crate) enum Choice {
     // An event.
     Does(Event),
-    // An attempt of a core; if there is no way for its line, a copy goes.
+    // An attempt of a core; if there is no place for its line, a copy goes.
     Tries(u32),
-    // The delivery of a message; if it is held, a line leaves its bank if that makes a way.
+    // The delivery of a message; if it is held, a line leaves its bank if that makes a place.
     Delivers(MsgNo),
     // A core advances, as the next step of its program says.
-    Waits(u32),
+    Advances(u32),
     // Nothing yet: the schedule has gone to another stage.
     Goes,
     // The turn is over.
@@ -48,7 +48,7 @@ pub(crate) trait Schedule<P: Program> {
         ensures fewer { IfOk result (λ choice.
             Fewer left ready rule.behind self.old choice self.new) };
 
-    // An event was answered; and whether there was no way for an operation's line.
+    // An event was answered; and whether there was no place for an operation's line.
     fn pass(&mut self, full: bool)
         requires { ready self.old }
         ensures { self.new ≡ rule.behind full self.old };

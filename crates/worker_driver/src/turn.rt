@@ -1,6 +1,6 @@
 //! One turn of a schedule: each event is noted, the program is told, and the eviction that follows is made.
 ghost use Rattle.std.specs.Prelude.{◌≡◌, Bool, false, List, OnOk};
-ghost use Rattle.worker_driver.specs.Schedules.{Does, Tries, Delivers, Waits, Over};
+ghost use Rattle.worker_driver.specs.Schedules.{Does, Tries, Delivers, Advances, Over};
 ghost use Rattle.worker_driver.specs.Runs.{Within, Evicting, MakingRoom};
 ghost use Rattle.worker_driver.specs.Notes.{Led, at};
 ghost use Rattle.worker_driver.specs.Turns.{WentOn};
@@ -33,7 +33,7 @@ fn make<P: Program, S: Schedule<P>>(
     Ok(())
 }
 
-// An attempt; if there is no way for the line, a copy goes.
+// An attempt; if there is no place for the line, a copy goes.
 fn attempt<P: Program, S: Schedule<P>>(
     schedule: &mut S,
     system: &mut System,
@@ -57,7 +57,7 @@ fn attempt<P: Program, S: Schedule<P>>(
     Ok(())
 }
 
-// A copy goes so that there is a way for the line of a core's open operation.
+// A copy goes so that there is a place for the line of a core's open operation.
 fn evict<P: Program, S: Schedule<P>>(
     system: &mut System,
     log: &mut Log,
@@ -74,7 +74,7 @@ fn evict<P: Program, S: Schedule<P>>(
     Ok(())
 }
 
-// A message is delivered; if it is held, a line leaves its bank if that makes a way.
+// A message is delivered; if it is held, a line leaves its bank if that makes a place.
 fn deliver<P: Program, S: Schedule<P>>(
     schedule: &mut S,
     system: &mut System,
@@ -96,7 +96,7 @@ fn deliver<P: Program, S: Schedule<P>>(
     Ok(())
 }
 
-// A line leaves the bank of a held message, if that makes a way for it.
+// A line leaves the bank of a held message, if that makes a place for it.
 fn evict_bank<P: Program, S: Schedule<P>>(
     system: &mut System,
     log: &mut Log,
@@ -114,14 +114,14 @@ fn evict_bank<P: Program, S: Schedule<P>>(
 }
 
 // A core advances, and its program is told.
-fn wait<P: Program, S: Schedule<P>>(
+fn advance<P: Program, S: Schedule<P>>(
     schedule: &mut S,
     system: &mut System,
     programs: &mut [P],
     log: &mut Log,
     core: u32,
 ) -> Result<(), End>
-    requires next { S.rule.next system.old programs.old schedule.old ≡ Waits core }
+    requires next { S.rule.next system.old programs.old schedule.old ≡ Advances core }
     requires ready { S.ready schedule.old }
     ensures led { Led P.acts S.rule (at system.old programs.old log.old schedule.old Within) result
         (at system.new programs.new log.new schedule.new Within) }
@@ -153,7 +153,7 @@ fn go_on<P: Program, S: Schedule<P>>(
         Choice::Does(event) => make(schedule, system, programs, log, &event)?,
         Choice::Tries(core) => attempt(schedule, system, programs, log, core)?,
         Choice::Delivers(number) => deliver::<P, S>(schedule, system, log, number)?,
-        Choice::Waits(core) => wait(schedule, system, programs, log, core)?,
+        Choice::Advances(core) => advance(schedule, system, programs, log, core)?,
     }
     Ok(true)
 }

@@ -13,7 +13,7 @@ use Rattle.machine_theorem.specs.Kept.{Invariant}
 use Rattle.machine_theorem.proofs.Lemmas.{any_transition, delivery_found, messages_find_cases, set_up_same}
 use Rattle.machine_theorem.proofs.Lemmas.{transition_same}
 use Rattle.interleaving_core.specs.StepAnswers.{Stepped}
-use Rattle.interleaving_core.proofs.Applied.{had}
+use Rattle.interleaving_core.proofs.ChangedParts.{had}
 
 pub step_invariant : (m : Machine) (event : Event) (answer : Answer) (after : Machine) → Invariant m →
     Stepped m event answer after → Invariant after

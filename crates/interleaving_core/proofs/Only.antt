@@ -38,7 +38,7 @@ use Rattle.machine_table.specs.Change.{Change, Keeps, Exhausts, Drops, Makes, Co
 use Rattle.machine_table.specs.Change.{attempted_op, reacted, copy_evicted, entry_evicted, advanced}
 use Rattle.interleaving_core.specs.PartChanges.{IsQuiet, applied, stops, with_record}
 use Rattle.interleaving_core.specs.Reservation.{owed_for}
-use Rattle.interleaving_core.proofs.Closing.{Closes, attempt_closes}
+use Rattle.interleaving_core.proofs.ClosedOps.{Closes, attempt_closes}
 
 -- an answer that adds no record and doesn't stop the machine
 abbrev pub IsPlain : Answer → Type 0

@@ -8,7 +8,7 @@ use Rattle.machine_theorem.specs.Kept.{Invariant}
 use Rattle.machine_theorem.proofs.Lemmas.{consistent, set_up_same}
 use Rattle.interleaving_core.specs.StepAnswers.{Ran}
 use Rattle.interleaving_core.specs.Midway.{IsMidway}
-use Rattle.interleaving_core.proofs.Running.{set_up_on}
+use Rattle.interleaving_core.proofs.RunSteps.{set_up_on}
 use Rattle.interleaving_core.proofs.Runs.{run_issues, run_sends}
 use Rattle.interleaving_core.proofs.Coherence.{step_set_up, step_invariant}
 

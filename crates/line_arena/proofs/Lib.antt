@@ -1,7 +1,7 @@
 mod Absent
 mod Counts
 mod Edits
-mod Emptied
+mod EmptiedCells
 mod Finds
 mod Lent
 mod Links
@@ -9,7 +9,7 @@ mod ListLaws
 mod Made
 mod Moves
 mod Once
-mod Opened
+mod OpenedPlaces
 mod Places
 mod Rewrites
 mod Row

@@ -29,7 +29,7 @@ use Rattle.machine_table.specs.declared.event.Refusal.TheVariants.{NoSuch}
 use Rattle.machine_table.specs.Machine.{Machine, with_bank, with_dram}
 use Rattle.network.specs.Mail.{has_number, has_capacity}
 use Rattle.machine_table.specs.Transition.{refused, deliver_bank, deliver_dram, evict_entry}
-use Rattle.machine_theorem.proofs.Changed.{reacted, entry_evicted, tested}
+use Rattle.machine_theorem.proofs.PartChanges.{reacted, entry_evicted, tested}
 use Rattle.protocol.specs.Machine as by_line
 use Rattle.protocol.specs.Machine.{Shared, Absent, Loading, Recalling, Storing, DramLd, DramLdRep, DramSt, DramStRep}
 use Rattle.protocol.specs.Machine.{FlushReq, Line, IsPinned, LineTransition, evict_clean, evict_dirty, flush_starts}

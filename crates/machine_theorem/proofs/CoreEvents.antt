@@ -27,7 +27,7 @@ use Rattle.core_pts.specs.OnCopy.{is_exclusive, serves, time_of, received_at, co
 use Rattle.machine_table.specs.Machine.{Machine, with_core}
 use Rattle.network.specs.Mail.{has_capacity}
 use Rattle.machine_table.specs.Transition.{issued, issue_at, attempt_at, evict_copy, advance_at}
-use Rattle.machine_theorem.proofs.Changed.{requested, attempted_op, attempt_open, copy_evicted, advanced, tested}
+use Rattle.machine_theorem.proofs.PartChanges.{requested, attempted_op, attempt_open, copy_evicted, advanced, tested}
 use Rattle.protocol.specs.Machine as by_line
 use Rattle.protocol.specs.Machine.{Config, Copy, Line, Core, ShReq, ExReq, FlushRep, version_of, line_of, with_at}
 use Rattle.protocol.specs.Machine.{IsPinned, CannotUse, Asks, to_read, to_write, Uses, Transition, issue, advance}

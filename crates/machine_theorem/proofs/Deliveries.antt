@@ -25,7 +25,7 @@ use Rattle.machine_table.specs.Machine.{Machine, with_core}
 use Rattle.network.specs.Mail.{has_number}
 use Rattle.machine_table.specs.declared.event.Refusal.TheVariants.{NoSuch}
 use Rattle.machine_table.specs.Transition.{refused, deliver_core}
-use Rattle.machine_theorem.proofs.Changed.{reacted, tested}
+use Rattle.machine_theorem.proofs.PartChanges.{reacted, tested}
 use Rattle.llc_bank.specs.BankTable.{core_of}
 use Rattle.protocol.specs.Machine as by_line
 use Rattle.protocol.specs.Machine.{Copy, Line, Core, with_at, IsPinned, Answers, answer, Reachable, goes_on}

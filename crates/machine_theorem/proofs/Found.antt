@@ -20,7 +20,7 @@ use Rattle.network.specs.Mail.{has_number, has_capacity}
 use Rattle.machine_table.specs.Change.{Change, Keeps}
 use Rattle.machine_table.specs.Transition.{changed, refused, deliver_core, deliver_bank, deliver_dram, deliver_to}
 use Rattle.machine_table.specs.Transition.{deliver_message, transition}
-use Rattle.machine_theorem.proofs.Changed.{reacted}
+use Rattle.machine_theorem.proofs.PartChanges.{reacted}
 use Rattle.machine_table.specs.declared.event.Answer.{Answer}
 use Rattle.machine_theorem.specs.Cases.{core_case, bank_case, dram_case, has_case_at, has_case}
 use Rattle.machine_theorem.proofs.Lookups.{each_at_number}

@@ -1,4 +1,4 @@
-mod Changed
+mod PartChanges
 mod Lookups
 mod Transitions
 mod OnCopies
@@ -21,5 +21,5 @@ mod Found
 mod StaleRun
 mod PrivateRun
 mod Reorderings
-mod Renumbering
+mod Renumberings
 pub mod Lemmas

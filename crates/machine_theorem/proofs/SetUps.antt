@@ -35,8 +35,9 @@ use Rattle.network.specs.Mail.{has_number, has_capacity}
 use Rattle.machine_table.specs.Transition.{issued, issue_at, attempt_at, deliver_core, deliver_bank, deliver_dram}
 use Rattle.machine_table.specs.Transition.{deliver_to, deliver_message, evict_copy, evict_entry, advance_at, on_event}
 use Rattle.machine_table.specs.Transition.{transition}
-use Rattle.machine_theorem.proofs.Changed.{attempted_op, attempt_open, reacted, copy_evicted, entry_evicted, advanced}
-use Rattle.machine_theorem.proofs.Changed.{tested}
+use Rattle.machine_theorem.proofs.PartChanges.{attempted_op, attempt_open, reacted, copy_evicted, entry_evicted}
+use Rattle.machine_theorem.proofs.PartChanges.{advanced}
+use Rattle.machine_theorem.proofs.PartChanges.{tested}
 use Rattle.machine_table.specs.declared.event.Answer.{Answer}
 use Rattle.machine_table.specs.Runs.{after_all}
 use Rattle.machine_table.specs.SetUp.{SetUpAs}

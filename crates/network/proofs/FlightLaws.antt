@@ -5,7 +5,7 @@ use Rattle.std.proofs.lemmas.Bool.Decides.{nat_tests}
 use Rattle.network.specs.declared.message.Message.{Message}
 use Rattle.network.specs.NumberedMessages.{IsRising, at_number, without_number}
 use Rattle.network.specs.Search.{first_message, count_messages}
-use Rattle.network.proofs.Sending.{IsRising-lower}
+use Rattle.network.proofs.SlotChanges.{IsRising-lower}
 
 module _ {X : Type 0} where
   -- a number below all is not found

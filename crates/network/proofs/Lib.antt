@@ -1,5 +1,5 @@
 mod FlightLaws
-mod Keeping
-mod Rising
-mod Sending
+mod SlotInvariants
+mod RisingLists
+mod SlotChanges
 pub mod Lemmas

@@ -1,3 +1,3 @@
-mod Copied
-mod Hashed
-mod Rising
+mod CopiedMaps
+mod HashedMaps
+mod SortedEntries

@@ -11,10 +11,11 @@ use Rattle.physiological_order.specs.declared.operation.Record.{Record}
 use Rattle.physiological_order.specs.Order.{Memory, Follows, of_core, Arrangement, Legal}
 use Rattle.physiological_order.specs.Completion.{placed, arranged, Ascends, Receives, Kept, Fits}
 use Rattle.physiological_order.proofs.History.{Sorted, each_weaker, Receives-placed, replay-from_Receives}
-use Rattle.physiological_order.proofs.Arranged.{arranged-push, each_arranged, each_push, IsPermutation-push_placed}
-use Rattle.physiological_order.proofs.Arranged.{Ascends-placed, Sorted-from_Ascends, Rises-from_Ascends}
-use Rattle.physiological_order.proofs.Arranged.{of_core-placed_other, of_core-placed_own, Follows-push}
-use Rattle.physiological_order.proofs.Arranged.{Follows-issued, counts-push, length_arranged}
+use Rattle.physiological_order.proofs.ArrangedRecords.{arranged-push, each_arranged, each_push}
+use Rattle.physiological_order.proofs.ArrangedRecords.{IsPermutation-push_placed}
+use Rattle.physiological_order.proofs.ArrangedRecords.{Ascends-placed, Sorted-from_Ascends, Rises-from_Ascends}
+use Rattle.physiological_order.proofs.ArrangedRecords.{of_core-placed_other, of_core-placed_own, Follows-push}
+use Rattle.physiological_order.proofs.ArrangedRecords.{Follows-issued, counts-push, length_arranged}
 
 pub arrangement_of : (opening : Memory) (issued : ℕ → List Op) (records : List Record) → Kept opening issued records →
     Arrangement records (arranged records)

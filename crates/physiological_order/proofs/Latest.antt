@@ -16,7 +16,7 @@ use Rattle.physiological_order.specs.declared.operation.Record.{Record}
 use Rattle.physiological_order.specs.StaleHits.{writes, is_stale_load, RisesByNumber}
 use Rattle.physiological_order.specs.LatestWrites.{later_than, raised, latest_after, stale_by}
 use Rattle.physiological_order.proofs.History.{each_weaker}
-use Rattle.physiological_order.proofs.Walked.{split_at, take-next}
+use Rattle.physiological_order.proofs.WalkSteps.{split_at, take-next}
 
 -- some record writes the word at a later time
 abbrev pub writes_later : ℕ → ℕ → List Record → Bool

@@ -1,8 +1,9 @@
 -- What the proofs of this crate give to the crates above: they import this file and no other of this folder.
 
 -- Records arranged one after another: their members, order, program orders and numbers.
-pub use Rattle.physiological_order.proofs.Arranged.{Follows-issued, Follows-push, Sorted-from_Ascends, arranged-push}
-pub use Rattle.physiological_order.proofs.Arranged.{each_arranged, each_push}
+pub use Rattle.physiological_order.proofs.ArrangedRecords.{Follows-issued, Follows-push, Sorted-from_Ascends}
+pub use Rattle.physiological_order.proofs.ArrangedRecords.{arranged-push}
+pub use Rattle.physiological_order.proofs.ArrangedRecords.{each_arranged, each_push}
 -- One more record behind those of its time or an earlier one: what the records receive, and the memory up to a time.
 pub use Rattle.physiological_order.proofs.History.{Keeps, Keeps-load, Keeps-other, Sorted, each_weaker}
 pub use Rattle.physiological_order.proofs.History.{memory_at-end, memory_at-placed_before, memory_at-placed_keeps}

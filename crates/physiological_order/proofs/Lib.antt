@@ -1,18 +1,18 @@
-mod Arranged
-mod Checked
+mod ArrangedRecords
+mod CheckedRecords
 mod Deals
 mod History
 mod Kept
 mod Latest
-mod Looked
+mod LookCounts
 mod Merges
-mod Numbered
-mod Picked
-mod Replayed
-mod Rising
-mod Sorted
+mod RecordNumbers
+mod PickedRecords
+mod ReplaySteps
+mod RisingRecords
+mod SortedRecords
 mod Unique
 mod Verdicts
-mod Walked
+mod WalkSteps
 mod WordBound
 pub mod Lemmas

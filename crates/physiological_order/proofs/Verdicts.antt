@@ -13,7 +13,7 @@ use Rattle.physiological_order.specs.declared.verdict.Verdict.TheVariants.{OutOf
 use Rattle.physiological_order.specs.Order.{Memory, Follows, of_core, KeepsProgramOrder, ReceivesAsReplayed}
 use Rattle.physiological_order.specs.Order.{NumberedOnce, Arrangement, Legal, replay, flat_received, flat_after}
 use Rattle.physiological_order.specs.Faults.{LeastMissing, UpTo, OrderFault, ValueFault, WalksTo, IsWalked, IsVerdict}
-use Rattle.physiological_order.proofs.Numbered.{numbers_apart}
+use Rattle.physiological_order.proofs.RecordNumbers.{numbers_apart}
 use Rattle.physiological_order.proofs.Unique.{one_arrangement}
 
 -- a beginning of a list in order is in order

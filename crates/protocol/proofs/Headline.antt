@@ -24,7 +24,7 @@ use Rattle.protocol.proofs.Lines.{Holder, Bank, about, about_itself, EntryOk, wi
 use Rattle.protocol.proofs.Lines.{with_at_cases}
 use Rattle.protocol.proofs.LineChanges.{Goes, moves_keep}
 use Rattle.protocol.proofs.Cores.{answers_keep, asks_keep}
-use Rattle.protocol.proofs.Completed.{values, values-other, ok_beside, uses_keep}
+use Rattle.protocol.proofs.Completions.{values, values-other, ok_beside, uses_keep}
 use Rattle.physiological_order.specs.Completion.{Kept, arranged}
 
 -- what is issued and not completed is the open operation

@@ -7,9 +7,9 @@ pub use Rattle.protocol.proofs.Owners.{at_most_one}
 pub use Rattle.protocol.proofs.Coherent.{coherent_is}
 pub use Rattle.protocol.proofs.InProgram.{what_is_issued}
 -- An operation whose request is out is not served by its core's copy; every message has a case in its part's table.
-pub use Rattle.protocol.proofs.Blocked.{reachable_blocked}
+pub use Rattle.protocol.proofs.BlockedRequests.{reachable_blocked}
 pub use Rattle.protocol.proofs.Cases.{messages_have_cases}
 -- Functions that are changed at one number.
 pub use Rattle.protocol.proofs.Lines.{with_at_cases, with_at_other, with_at_same}
-pub use Rattle.protocol.proofs.Completed.{with_at_id}
+pub use Rattle.protocol.proofs.Completions.{with_at_id}
 pub use Rattle.protocol.proofs.Cores.{Some_injective}

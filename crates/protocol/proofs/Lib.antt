@@ -3,11 +3,11 @@ mod Lease
 mod Lines
 mod LineChanges
 mod Cores
-mod Completed
+mod Completions
 mod Headline
 mod Owners
 mod Coherent
-mod Blocked
+mod BlockedRequests
 mod Cases
 mod InProgram
 pub mod Lemmas

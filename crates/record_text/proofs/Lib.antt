@@ -1,4 +1,4 @@
 mod HexDigits
 mod Numerals
-mod Spaced
+mod SpacedFields
 mod ReadBack

@@ -14,7 +14,7 @@ use Rattle.trace_reader.specs.Lines.{lines_of, worded, with_fields}
 use Rattle.record_text.specs.Text.{address_text, spaced, record_text, records_text}
 use Rattle.record_text.specs.Text.{IsAnswered, IsWritable, AreWritable}
 use Rattle.record_text.proofs.Numerals.{IsPlain, decimal-numeral, number-read, address-plain}
-use Rattle.record_text.proofs.Spaced.{tail, ArePlain, line-parted, line-fields}
+use Rattle.record_text.proofs.SpacedFields.{tail, ArePlain, line-parted, line-fields}
 
 -- the fields behind the place
 abbrev completion : Op → Option ℕ → ℕ → ℕ → List (List ℕ)

@@ -1,8 +1,8 @@
 mod Parts
 mod HexBound
 mod Rules
-mod Spelled
-mod Judged
+mod Spellings
+mod FieldKinds
 mod TraceLines
 mod RecordLines
 mod FormLines

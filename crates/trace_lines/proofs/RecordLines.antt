@@ -16,10 +16,10 @@ use Rattle.trace_lines.specs.Grammar.{IsNumber, IsCore, IsValue, IsAddress, IsCo
 use Rattle.trace_lines.specs.Causes.{HasCore, HasPlace, HasAddress, HasValue, IsAccess, FewValues, CompletionCause}
 use Rattle.trace_lines.specs.Causes.{RecordCause}
 use Rattle.trace_lines.proofs.Rules.{judged, missing, read_as}
-use Rattle.trace_lines.proofs.Spelled.{letter_of, number-takes, number-again, address-takes, address-again}
-use Rattle.trace_lines.proofs.Spelled.{access-takes, access-again}
-use Rattle.trace_lines.proofs.Judged.{core-spelled, place-spelled, value-spelled, address-spelled, access-spelled}
-use Rattle.trace_lines.proofs.Judged.{access-stands}
+use Rattle.trace_lines.proofs.Spellings.{letter_of, number-takes, number-again, address-takes, address-again}
+use Rattle.trace_lines.proofs.Spellings.{access-takes, access-again}
+use Rattle.trace_lines.proofs.FieldKinds.{core-spelled, place-spelled, value-spelled, address-spelled, access-spelled}
+use Rattle.trace_lines.proofs.FieldKinds.{access-stands}
 
 abbrev value_in : List ℕ → Option ℕ
 value_in = decimal_in 20 (2 ^ 64)

@@ -22,9 +22,9 @@ use Rattle.trace_lines.specs.Grammar.{IsCore, IsValue, IsAddress, IsOp, IsStep, 
 use Rattle.trace_lines.specs.Causes.{Missing, Behind, Follows, HasCore, HasAddress, HasValue, IsAccess, IsWriting}
 use Rattle.trace_lines.specs.Causes.{IsStepWord, StepCause, TraceCause}
 use Rattle.trace_lines.proofs.Rules.{judged, missing, read_as}
-use Rattle.trace_lines.proofs.Spelled.{letter_of, number-takes, number-again, address-takes, address-again}
-use Rattle.trace_lines.proofs.Spelled.{access-takes, access-again}
-use Rattle.trace_lines.proofs.Judged.{core-spelled, value-spelled, address-spelled, access-spelled, access-stands}
+use Rattle.trace_lines.proofs.Spellings.{letter_of, number-takes, number-again, address-takes, address-again}
+use Rattle.trace_lines.proofs.Spellings.{access-takes, access-again}
+use Rattle.trace_lines.proofs.FieldKinds.{core-spelled, value-spelled, address-spelled, access-spelled, access-stands}
 
 -- ---- what reading gives: an operation that stands, or a cause that stands
 

@@ -1,12 +1,12 @@
 mod Over
 mod DoneOps
-mod Following
+mod RunSteps
 mod TurnSteps
 mod TurnEnds
 mod Deliveries
 mod RoundSteps
 mod InProgram
 mod TableSteps
-mod Serving
+mod ServiceSteps
 mod RunLaws
 mod Served

@@ -13,7 +13,8 @@ use Rattle.physiological_order.specs.Order.{Follows as Stand, of_core}
 use Rattle.trace_lines.specs.declared.steps.Step.TheVariants as step
 use Rattle.core_pts.specs.CoreTable.{CoreState}
 use Rattle.machine_table.specs.declared.event.Event.{Event}
-use Rattle.machine_table.specs.declared.event.Event.TheVariants.{Issue, Attempt, Deliver, EvictCache, EvictBank, Advance}
+use Rattle.machine_table.specs.declared.event.Event.TheVariants.{Issue, Attempt, Deliver, EvictCache, EvictBank}
+use Rattle.machine_table.specs.declared.event.Event.TheVariants.{Advance}
 use Rattle.machine_table.specs.declared.event.Answer.{Answer}
 use Rattle.machine_table.specs.declared.event.Answer.TheVariants as answer
 use Rattle.machine_table.specs.Machine.{Machine}
@@ -35,7 +36,8 @@ use Rattle.worker_driver.proofs.InProgram.{behind}
 use Rattle.worker_driver.proofs.TableSteps.{op_of, op_at, IsQuiet, Opens, IsDone, Tries as TriesTo, is_completion}
 use Rattle.worker_driver.proofs.TableSteps.{not_completed, issue_does, attempt_does, advance_stays, delivery_stays}
 use Rattle.worker_driver.proofs.TableSteps.{cache_eviction_stays, bank_eviction_stays}
-use Rattle.worker_driver.proofs.Serving.{Serving, served_none, served_quiet, served_issue, served_done, served_advance}
+use Rattle.worker_driver.proofs.ServiceSteps.{Serving, served_none, served_quiet, served_issue, served_done}
+use Rattle.worker_driver.proofs.ServiceSteps.{served_advance}
 use Rattle.worker_driver.proofs.RunLaws.{moves_keeps, made_by, run_makes}
 
 -- a core that isn't there has no open operation

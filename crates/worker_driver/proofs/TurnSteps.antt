@@ -9,11 +9,12 @@ use Rattle.run_ends.specs.declared.ends.End.{End}
 use Rattle.run_ends.specs.declared.ends.End.TheVariants.{NoMemory}
 use Rattle.worker_driver.specs.Acts.{Acts}
 use Rattle.worker_driver.specs.Schedules.{Schedule, Choice, Does, Tries, Delivers, Advances, Goes, Over}
-use Rattle.worker_driver.specs.Runs.{Stage, Within, Evicting, MakingRoom, Position, chosen, does, tries, delivers, advances}
+use Rattle.worker_driver.specs.Runs.{Stage, Within, Evicting, MakingRoom, Position, chosen, does, tries, delivers}
+use Rattle.worker_driver.specs.Runs.{advances}
 use Rattle.worker_driver.specs.Runs.{evict, evict_bank, evicts, victim_for, told, told_advance, is_held, is_no_room}
 use Rattle.worker_driver.specs.Runs.{plan_of, Ends}
 use Rattle.worker_driver.specs.Notes.{Log, Noted, Point, at, position, Leads, Stops, Led}
-use Rattle.worker_driver.proofs.Following.{Next, leads_by, stops_by, leads_over}
+use Rattle.worker_driver.proofs.RunSteps.{Next, leads_by, stops_by, leads_over}
 
 module _ {P S : Type 0} (acts : Acts P) (schedule : Schedule P S) (m : Machine) (programs : List P) (log : Log)
     (own : S) where
@@ -111,8 +112,8 @@ module _ {P S : Type 0} (acts : Acts P) (schedule : Schedule P S) (m : Machine) 
     pub advanced_not : (core : ℕ) → Chooses (Advances core) → (e : End) →
         Noted m log (Advance core) (Err e) after after_log → Stops acts schedule Here after programs after_log e
     advanced_not core is e noted =
-        stops_by acts schedule Here (Advance core) (advances acts schedule core) e after after_log (advances_next core is)
-        noted
+        stops_by acts schedule Here (Advance core) (advances acts schedule core) e after after_log
+        (advances_next core is) noted
 
     -- evictions
     evicts_next : (core line : ℕ) → victim_for m core (open_op m core) ≡ Some line →

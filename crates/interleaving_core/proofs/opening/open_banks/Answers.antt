@@ -1,5 +1,5 @@
 use Rattle.std.proofs.Common.{◌++◌, [], ◌∷◌, ap₂, ◌∙◌}
-use Rattle.interleaving_core.proofs.Opened.{next_bank}
+use Rattle.interleaving_core.proofs.PartRows.{next_bank}
 use Rattle.interleaving_core.proofs.opening.open_banks.Goals as goal
 
 pub loop-number-preserved : goal.loop-number-preserved

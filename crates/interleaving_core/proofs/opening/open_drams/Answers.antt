@@ -2,7 +2,7 @@ use Rattle.std.proofs.Common.{◌≡◌, ◌-◌, ◌∙◌, [], ap, ap₂, appe
 use Rattle.std.proofs.lemmas.List.{length-replicate}
 use Rattle.std.specs.FinMap.{empty, entries}
 use Rattle.machine_theorem.proofs.Lemmas.{fair}
-use Rattle.interleaving_core.proofs.Filled.{filled, filled_last, filled_is, set_counts}
+use Rattle.interleaving_core.proofs.DramWords.{filled, filled_last, filled_is, set_counts}
 use Rattle.interleaving_core.proofs.opening.open_drams.Goals as goal
 
 pub loop-word-init : goal.loop-word-init

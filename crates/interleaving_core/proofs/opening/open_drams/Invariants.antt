@@ -1,6 +1,6 @@
 use Rattle.std.proofs.Common.{◌≡◌, length}
 use Rattle.std.specs.FinMap.{entries}
-use Rattle.interleaving_core.proofs.Filled.{filled, no_words}
+use Rattle.interleaving_core.proofs.DramWords.{filled, no_words}
 use Rattle.interleaving_core.proofs.opening.open_drams.Given as goal
 
 -- the words that are left make of these DRAMs what all words make of empty ones

@@ -3,7 +3,7 @@ use Rattle.std.proofs.Common.{◌≡◌, Some, IfOk, ap, sym, subst, refl, ◌�
 use Rattle.core_pts.specs.CoreTable.{CoreState}
 use Rattle.network.specs.Mail.{Mail}
 use Rattle.machine_table.specs.declared.event.Answer.{Answer}
-use Rattle.interleaving_core.proofs.Closing.{attempt_requests, seen_beside}
+use Rattle.interleaving_core.proofs.ClosedOps.{attempt_requests, seen_beside}
 use Rattle.interleaving_core.proofs.operations.attempt.Goals as goal
 
 pub returns-in-Ok-NeedShared-clause-done : goal.returns-in-Ok-NeedShared-clause-done

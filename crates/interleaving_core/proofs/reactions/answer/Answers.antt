@@ -1,7 +1,7 @@
 use Rattle.std.proofs.Common.{IsTrue, sym, subst}
 use Rattle.network.specs.Flight.{Flight}
 use Rattle.network.specs.Mail.{has_capacity}
-use Rattle.interleaving_core.proofs.Applied.{capacity_of_taken}
+use Rattle.interleaving_core.proofs.ChangedParts.{capacity_of_taken}
 use Rattle.interleaving_core.proofs.reactions.answer.Goals as goal
 
 pub send-requires-clause-capacity : goal.send-requires-clause-capacity

@@ -1,6 +1,6 @@
 use Rattle.std.proofs.Common.{◌≡◌, filter, is_some, rules, arith}
 use Rattle.std.proofs.lemmas.Fn.{filter_same}
-use Rattle.network.proofs.Sending.{still_there-filter, IsRising-filter, length-filter_full}
+use Rattle.network.proofs.SlotChanges.{still_there-filter, IsRising-filter, length-filter_full}
 use Rattle.network.proofs.slots.drop_empty.Goals as goal
 
 pub returns-then-len-count-clause-same : goal.returns-then-len-count-clause-same

@@ -1,5 +1,5 @@
 use Rattle.std.proofs.Common.{◌^◌}
-use Rattle.network.proofs.Sending.{still_there-set, IsRising-set}
+use Rattle.network.proofs.SlotChanges.{still_there-set, IsRising-set}
 use Rattle.network.proofs.slots.empty_slot.Goals as goal
 
 pub returns-clause-after : goal.returns-clause-after

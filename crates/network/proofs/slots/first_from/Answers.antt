@@ -1,5 +1,5 @@
 use Rattle.std.proofs.Common.{arith}
-use Rattle.network.proofs.Rising.{passes_middle, stops_middle}
+use Rattle.network.proofs.RisingLists.{passes_middle, stops_middle}
 use Rattle.network.proofs.slots.first_from.Goals as goal
 
 pub loop-low-preserved-then-slots-middle : goal.loop-low-preserved-then-slots-middle

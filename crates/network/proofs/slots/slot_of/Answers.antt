@@ -1,5 +1,5 @@
 use Rattle.std.proofs.Common.{◌^◌, ◌∙◌, sym, arith}
-use Rattle.network.proofs.Rising.{at_number-absent, slice_get-at_number, number_at-get_or}
+use Rattle.network.proofs.RisingLists.{at_number-absent, slice_get-at_number, number_at-get_or}
 use Rattle.network.proofs.slots.slot_of.Goals as goal
 
 pub returns-clause-found : goal.returns-clause-found

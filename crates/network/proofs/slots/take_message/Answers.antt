@@ -1,6 +1,6 @@
 use Rattle.std.proofs.Common.{sym}
 use Rattle.network.specs.NumberedMessages.{still_there}
-use Rattle.network.proofs.Sending.{without_number-none}
+use Rattle.network.proofs.SlotChanges.{without_number-none}
 use Rattle.network.proofs.slots.take_message.Goals as goal
 
 pub returns-in_err-at-clause-after : goal.returns-in_err-at-clause-after

@@ -1,6 +1,6 @@
 use Rattle.physiological_order.proofs.History.{memory_at-placed_before, memory_at-placed_keeps}
 use Rattle.physiological_order.proofs.History.{memory_at-placed_writes, memory_at-end}
-use Rattle.physiological_order.proofs.Arranged.{Sorted-from_Ascends}
+use Rattle.physiological_order.proofs.ArrangedRecords.{Sorted-from_Ascends}
 use Rattle.physiological_order.proofs.laws.memory_up_to_a_time.Goals as goal
 
 pub returns-clause-before : goal.returns-clause-before

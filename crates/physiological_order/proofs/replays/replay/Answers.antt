@@ -2,7 +2,7 @@ use Rattle.std.proofs.Common.{◌++◌, ◌∷◌, [], ap, ap₂, sym, ◌∙◌
 use Rattle.std.proofs.lemmas.List.{take_all}
 use Rattle.physiological_order.specs.Order.{flat, flat_received}
 use Rattle.physiological_order.specs.Words.{words_after, words_end}
-use Rattle.physiological_order.proofs.Replayed.{words_end-take, replay-take, flat-words_end}
+use Rattle.physiological_order.proofs.ReplaySteps.{words_end-take, replay-take, flat-words_end}
 use Rattle.physiological_order.proofs.replays.replay.Goals as goal
 
 pub loop-operation-preserved : goal.loop-operation-preserved

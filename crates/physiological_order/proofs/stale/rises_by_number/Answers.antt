@@ -1,6 +1,6 @@
 use Rattle.std.proofs.Common.{◌≡◌, nat_lt, rules}
 use Rattle.std.proofs.lemmas.Fn.{always_returns_same}
-use Rattle.physiological_order.proofs.Rising.{rises_exactly}
+use Rattle.physiological_order.proofs.RisingRecords.{rises_exactly}
 use Rattle.physiological_order.proofs.stale.rises_by_number.Goals as goal
 
 pub returns : goal.returns

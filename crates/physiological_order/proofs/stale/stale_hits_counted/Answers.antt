@@ -2,10 +2,10 @@ use Rattle.std.proofs.Common.{◌≡◌, ℕ, ◌+◌, ◌*◌, ◌≤◌, lengt
 use Rattle.std.proofs.Common.{arith}
 use Rattle.physiological_order.specs.declared.operation.Record.{Record}
 use Rattle.physiological_order.specs.LatestWrites.{latest_after}
-use Rattle.physiological_order.proofs.Walked.{take-next}
+use Rattle.physiological_order.proofs.WalkSteps.{take-next}
 use Rattle.std.proofs.lemmas.List.{take_all}
-use Rattle.physiological_order.proofs.Looked.{after_none, after_more, after_at_most, looks-next, looks-part}
-use Rattle.physiological_order.proofs.Looked.{looks-one_more}
+use Rattle.physiological_order.proofs.LookCounts.{after_none, after_more, after_at_most, looks-next, looks-part}
+use Rattle.physiological_order.proofs.LookCounts.{looks-one_more}
 use Rattle.physiological_order.specs.Counting.{after_steps, looks, looks_of}
 use Rattle.physiological_order.proofs.Latest.{Latest, Latest-none, Latest-push, stale_among-take}
 use Rattle.physiological_order.proofs.stale.stale_hits_counted.Goals as goal

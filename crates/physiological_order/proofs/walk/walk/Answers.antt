@@ -6,10 +6,10 @@ use Rattle.physiological_order.specs.Faults.{issued_by}
 use mathlib.Core.Bool.{false≢true}
 use Rattle.physiological_order.specs.Walking.{IsNext}
 use Rattle.physiological_order.specs.Picking.{picked}
-use Rattle.physiological_order.proofs.Picked.{picked-next, picked-split}
-use Rattle.physiological_order.proofs.Walked.{next_from, order_with, values-last, values-push, received_same}
-use Rattle.physiological_order.proofs.Walked.{received_other, Counted, Counted-push, left_by, left_by-push}
-use Rattle.physiological_order.proofs.Replayed.{flat-words_after}
+use Rattle.physiological_order.proofs.PickedRecords.{picked-next, picked-split}
+use Rattle.physiological_order.proofs.WalkSteps.{next_from, order_with, values-last, values-push, received_same}
+use Rattle.physiological_order.proofs.WalkSteps.{received_other, Counted, Counted-push, left_by, left_by-push}
+use Rattle.physiological_order.proofs.ReplaySteps.{flat-words_after}
 use Rattle.physiological_order.proofs.walk.walk.Goals as goal
 
 pub returns-then-not-is_next : goal.returns-then-not-is_next

@@ -2,7 +2,7 @@ use Rattle.std.proofs.Common.{◌≡◌, length, take}
 use Rattle.physiological_order.specs.Order.{flat, KeepsProgramOrder, ReceivesAsReplayed}
 use Rattle.physiological_order.specs.Faults.{issued_by}
 use Rattle.physiological_order.specs.Picking.{picked}
-use Rattle.physiological_order.proofs.Walked.{left_by, Counted}
+use Rattle.physiological_order.proofs.WalkSteps.{left_by, Counted}
 use Rattle.physiological_order.proofs.walk.walk.Given as goal
 
 abbrev pub invariant-loop-index : goal.invariant-loop-index

@@ -7,7 +7,7 @@ use Rattle.protocol.proofs.Headline.{legal, reachable_ok}
 use Rattle.protocol.proofs.InProgram.{what_is_issued}
 use Rattle.protocol.proofs.Owners.{at_most_one}
 use Rattle.protocol.proofs.Coherent.{coherent_is}
-use Rattle.protocol.proofs.Blocked.{reachable_blocked}
+use Rattle.protocol.proofs.BlockedRequests.{reachable_blocked}
 use Rattle.protocol.proofs.Cases.{messages_have_cases}
 
 pub returns-clause-legal : goal.returns-clause-legal

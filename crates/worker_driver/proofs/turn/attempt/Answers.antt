@@ -2,7 +2,7 @@ use Rattle.std.proofs.Common.{rules, false, true}
 use Rattle.std.proofs.lemmas.Result.{err_from_is_err_and}
 use Rattle.worker_driver.specs.Runs.{Within, Evicting}
 use Rattle.worker_driver.specs.Notes.{at}
-use Rattle.worker_driver.proofs.Following.{and_led}
+use Rattle.worker_driver.proofs.RunSteps.{and_led}
 use Rattle.worker_driver.proofs.TurnSteps.{tried, found_no_room, tried_not}
 use Rattle.worker_driver.proofs.turn.attempt.Goals as goal
 

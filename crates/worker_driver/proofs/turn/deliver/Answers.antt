@@ -2,7 +2,7 @@ use Rattle.std.proofs.Common.{rules, false}
 use Rattle.std.proofs.lemmas.Result.{err_from_is_err_and}
 use Rattle.worker_driver.specs.Runs.{Within, MakingRoom}
 use Rattle.worker_driver.specs.Notes.{at}
-use Rattle.worker_driver.proofs.Following.{and_led}
+use Rattle.worker_driver.proofs.RunSteps.{and_led}
 use Rattle.worker_driver.proofs.TurnSteps.{delivered, held, delivered_not}
 use Rattle.worker_driver.proofs.turn.deliver.Goals as goal
 

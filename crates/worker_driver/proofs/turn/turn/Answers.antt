@@ -1,7 +1,7 @@
 use Rattle.std.proofs.lemmas.Result.{err_from_is_err_and}
 use Rattle.worker_driver.specs.Runs.{Within}
 use Rattle.worker_driver.specs.Notes.{at}
-use Rattle.worker_driver.proofs.Following.{and_stops}
+use Rattle.worker_driver.proofs.RunSteps.{and_stops}
 use Rattle.worker_driver.proofs.turn.turn.Goals as goal
 
 pub returns-in_err-go_on-clause-led : goal.returns-in_err-go_on-clause-led

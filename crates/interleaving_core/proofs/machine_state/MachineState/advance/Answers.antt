@@ -6,9 +6,9 @@ use Rattle.machine_table.specs.declared.event.Answer.{Answer}
 use Rattle.machine_table.specs.Machine.{Machine}
 use Rattle.machine_table.specs.Transition.{advance_at}
 use Rattle.interleaving_core.specs.contracts.machine_state.MachineState.{the_view}
-use Rattle.interleaving_core.proofs.Applied.{made_without, set_same}
+use Rattle.interleaving_core.proofs.ChangedParts.{made_without, set_same}
 use Rattle.interleaving_core.proofs.Only.{SameOpen, advance_only, kept_open}
-use Rattle.interleaving_core.proofs.Owed.{owed_kept}
+use Rattle.interleaving_core.proofs.OpenCounts.{owed_kept}
 use Rattle.interleaving_core.proofs.machine_state.MachineState.advance.Goals as goal
 
 pub invariant_of-self : goal.invariant_of-self

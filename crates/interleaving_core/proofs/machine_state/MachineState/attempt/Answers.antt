@@ -12,9 +12,9 @@ use Rattle.interleaving_core.specs.contracts.machine_state.MachineState.{the_vie
 use Rattle.interleaving_core.specs.PartChanges.{applied, with_record}
 use Rattle.interleaving_core.specs.Reservation.{completes, owed_for}
 use Rattle.interleaving_core.specs.StepAnswers.{TakesMemory}
-use Rattle.interleaving_core.proofs.Applied.{made_so, sending_takes, set_same}
+use Rattle.interleaving_core.proofs.ChangedParts.{made_so, sending_takes, set_same}
 use Rattle.interleaving_core.proofs.Only.{OneLess, SameOpen, attempt_only, balanced}
-use Rattle.interleaving_core.proofs.Owed.{owed_set}
+use Rattle.interleaving_core.proofs.OpenCounts.{owed_set}
 use Rattle.interleaving_core.proofs.Endpoints.{still_fitted}
 use Rattle.interleaving_core.proofs.Parts.{core_below, core_banks}
 use Rattle.interleaving_core.proofs.machine_state.MachineState.attempt.Goals as goal

@@ -5,7 +5,7 @@ use Rattle.machine_table.specs.Machine.{Machine}
 use Rattle.machine_table.specs.Change.{reacted}
 use Rattle.machine_table.specs.Transition.{deliver_bank}
 use Rattle.interleaving_core.specs.contracts.machine_state.MachineState.{the_view}
-use Rattle.interleaving_core.proofs.Applied.{event_done, event_wanted, set_same}
+use Rattle.interleaving_core.proofs.ChangedParts.{event_done, event_wanted, set_same}
 use Rattle.interleaving_core.proofs.Endpoints.{bank_delivers, bank_endpoints, bank_has, fitted_reaction}
 use Rattle.interleaving_core.proofs.Only.{Any, bank_quiet, reacted_only}
 use Rattle.interleaving_core.proofs.machine_state.MachineState.deliver_bank.Goals as goal

@@ -7,10 +7,10 @@ use Rattle.machine_table.specs.Machine.{Machine}
 use Rattle.machine_table.specs.Change.{reacted}
 use Rattle.machine_table.specs.Transition.{deliver_core}
 use Rattle.interleaving_core.specs.contracts.machine_state.MachineState.{the_view}
-use Rattle.interleaving_core.proofs.Applied.{event_done, event_wanted, set_same}
+use Rattle.interleaving_core.proofs.ChangedParts.{event_done, event_wanted, set_same}
 use Rattle.interleaving_core.proofs.Endpoints.{core_delivers, core_endpoints, core_has, fitted_reaction, still_fitted}
 use Rattle.interleaving_core.proofs.Only.{SameOpen, core_only, core_quiet, kept_open}
-use Rattle.interleaving_core.proofs.Owed.{owed_kept}
+use Rattle.interleaving_core.proofs.OpenCounts.{owed_kept}
 use Rattle.interleaving_core.proofs.machine_state.MachineState.deliver_core.Goals as goal
 
 pub react-requires-clause-case : goal.react-requires-clause-case

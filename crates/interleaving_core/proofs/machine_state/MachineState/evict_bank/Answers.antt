@@ -7,7 +7,7 @@ use Rattle.machine_table.specs.Transition.{evict_entry}
 use Rattle.machine_theorem.specs.Kept.{Invariant}
 use Rattle.interleaving_core.specs.contracts.machine_state.MachineState.{the_view}
 use Rattle.interleaving_core.specs.Endpoints.{EvictedHasEndpoints}
-use Rattle.interleaving_core.proofs.Applied.{event_done, event_wanted, set_same}
+use Rattle.interleaving_core.proofs.ChangedParts.{event_done, event_wanted, set_same}
 use Rattle.interleaving_core.proofs.Endpoints.{evicted_endpoints, fitted_ends}
 use Rattle.interleaving_core.proofs.Only.{Any, entry_only}
 use Rattle.interleaving_core.proofs.machine_state.MachineState.evict_bank.Goals as goal

@@ -10,10 +10,10 @@ use Rattle.machine_table.specs.Transition.{evict_copy}
 use Rattle.machine_theorem.specs.Kept.{Invariant}
 use Rattle.interleaving_core.specs.contracts.machine_state.MachineState.{the_view}
 use Rattle.interleaving_core.specs.Endpoints.{BackHasEndpoints}
-use Rattle.interleaving_core.proofs.Applied.{event_done, event_wanted, set_same}
+use Rattle.interleaving_core.proofs.ChangedParts.{event_done, event_wanted, set_same}
 use Rattle.interleaving_core.proofs.Endpoints.{back_endpoints, fitted_ends, still_fitted}
 use Rattle.interleaving_core.proofs.Only.{SameOpen, evict_only, kept_open}
-use Rattle.interleaving_core.proofs.Owed.{owed_kept}
+use Rattle.interleaving_core.proofs.OpenCounts.{owed_kept}
 use Rattle.interleaving_core.proofs.machine_state.MachineState.evict_cache.Goals as goal
 
 pub evict_copy-requires : goal.evict_copy-requires

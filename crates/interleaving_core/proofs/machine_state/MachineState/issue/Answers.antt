@@ -8,8 +8,8 @@ use Rattle.machine_table.specs.Machine.{Machine}
 use Rattle.machine_table.specs.Transition.{issue_at}
 use Rattle.machine_theorem.specs.Kept.{Invariant}
 use Rattle.interleaving_core.specs.contracts.machine_state.MachineState.{the_view}
-use Rattle.interleaving_core.proofs.Issued.{issue_changes}
-use Rattle.interleaving_core.proofs.Owed.{no_open, owed_within}
+use Rattle.interleaving_core.proofs.OpenedOps.{issue_changes}
+use Rattle.interleaving_core.proofs.OpenCounts.{no_open, owed_within}
 use Rattle.interleaving_core.proofs.machine_state.MachineState.issue.Goals as goal
 
 pub invariant_of-self-2 : goal.invariant_of-self-2

@@ -1,7 +1,7 @@
 use Rattle.std.proofs.Common.{ap, ◌∙◌, arith, length}
 use Rattle.interleaving_core.specs.Reservation.{owed}
 use Rattle.network.specs.Flight.{Flight}
-use Rattle.interleaving_core.proofs.Owed.{none_at_first}
+use Rattle.interleaving_core.proofs.OpenCounts.{none_at_first}
 use Rattle.interleaving_core.proofs.machine_state.MachineState.open.Goals as goal
 
 pub invariant_of-result : goal.invariant_of-result

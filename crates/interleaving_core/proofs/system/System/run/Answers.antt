@@ -6,7 +6,7 @@ use Rattle.machine_theorem.proofs.Lemmas.{set_up_same}
 use Rattle.interleaving_core.specs.StepAnswers.{Ran}
 use Rattle.machine_theorem.specs.Kept.{Invariant}
 use Rattle.interleaving_core.proofs.Throughout.{throughout}
-use Rattle.interleaving_core.proofs.Running.{ran_more, set_up_on}
+use Rattle.interleaving_core.proofs.RunSteps.{ran_more, set_up_on}
 use Rattle.interleaving_core.proofs.system.System.run.Goals as goal
 
 pub loop-event-init : goal.loop-event-init

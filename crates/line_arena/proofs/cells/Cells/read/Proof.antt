@@ -34,7 +34,7 @@ use Rattle.line_arena.specs.Filled.{IsFilled}
 use Rattle.line_arena.specs.Ownership.{slot_at}
 use Rattle.line_arena.proofs.Row.{CellsRow, BaseRow, Place, width, base_val, base_vals, base_tells, base_good}
 use Rattle.line_arena.proofs.Row.{filled_within}
-use Rattle.line_arena.proofs.Opened.{put, opens_place, closes_place}
+use Rattle.line_arena.proofs.OpenedPlaces.{put, opens_place, closes_place}
 use Rattle.line_arena.specs.contracts.cells.Cells.read.{ended, clauses}
 use Rattle.line_arena.specs.contracts.cells.Cells.read.Key.{name as key}
 use Rattle.line_arena.proofs.cells.Cells.read.Statement.{statement}

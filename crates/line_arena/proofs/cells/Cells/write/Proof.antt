@@ -31,7 +31,7 @@ use Rattle.core.proofs.mem.Param.{El, R, args, elτ, one, lawful}
 use Rattle.std_alloc.proofs.VecSteps.Shapes.{after}
 use Rattle.line_arena.specs.Ownership.{slot_at}
 use Rattle.line_arena.proofs.Row.{CellsRow, BaseRow, Place, width, base_val, base_tells, base_good}
-use Rattle.line_arena.proofs.Opened.{put, opens_place, closes_place}
+use Rattle.line_arena.proofs.OpenedPlaces.{put, opens_place, closes_place}
 use Rattle.line_arena.specs.contracts.cells.Cells.write.{ended, clauses}
 use Rattle.line_arena.specs.contracts.cells.Cells.write.Key.{name as key}
 use Rattle.line_arena.proofs.cells.Cells.write.Statement.{statement}

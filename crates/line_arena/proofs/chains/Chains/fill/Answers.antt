@@ -3,7 +3,7 @@ use Rattle.line_arena.specs.CellLists.{append_to}
 use Rattle.line_arena.specs.Chains.{IsTied, SameUse}
 use Rattle.line_arena.specs.Filled.{IsFilled}
 use Rattle.line_arena.specs.Rings.{node, at, or_blank, rings}
-use Rattle.line_arena.proofs.Emptied.{set_twice, set_none}
+use Rattle.line_arena.proofs.EmptiedCells.{set_twice, set_none}
 use Rattle.line_arena.proofs.Shows.{arena_from}
 use Rattle.line_arena.proofs.chains.Chains.fill.Goals as goal
 

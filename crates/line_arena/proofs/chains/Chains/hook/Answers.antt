@@ -3,7 +3,7 @@ use Rattle.std.proofs.Common.{get_or-set_same}
 use Rattle.std.proofs.lemmas.List.{get_or_read}
 use Rattle.line_arena.specs.Rings.{no_head, node, at, with_next, edit}
 use Rattle.line_arena.specs.Filled.{IsFilled}
-use Rattle.line_arena.proofs.Emptied.{set_twice}
+use Rattle.line_arena.proofs.EmptiedCells.{set_twice}
 use Rattle.line_arena.proofs.Moves.{attach_made, last_near, edit_filled, Kept, kept_set, kept_edit}
 use Rattle.line_arena.proofs.chains.Chains.hook.Goals as goal
 

@@ -3,7 +3,7 @@ use Rattle.std.proofs.lemmas.List.{get_or_read}
 use Rattle.line_arena.specs.Rings.{no_head, node, at, with_next, with_prev, edit}
 use Rattle.line_arena.specs.Filled.{IsFilled}
 use Rattle.line_arena.proofs.Edits.{length-edit}
-use Rattle.line_arena.proofs.Emptied.{filled_back, edit_emptied, edit_item}
+use Rattle.line_arena.proofs.EmptiedCells.{filled_back, edit_emptied, edit_item}
 use Rattle.line_arena.proofs.Moves.{prev_near, next_near, some, on_one, found, detach_made, edit_filled, Kept}
 use Rattle.line_arena.proofs.Moves.{kept_set, kept_edit, total_down}
 use Rattle.line_arena.proofs.chains.Chains.unhook.Goals as goal

@@ -1,5 +1,5 @@
 use Rattle.std.proofs.Common.{◌^◌, arith}
-use Rattle.network.proofs.Sending.{IsRising-higher, ends_if_seen}
+use Rattle.network.proofs.SlotChanges.{IsRising-higher, ends_if_seen}
 use Rattle.network.proofs.in_flight.InFlight.look.Goals as goal
 
 pub message_of-requires : goal.message_of-requires

@@ -1,4 +1,4 @@
-use Rattle.network.proofs.Sending.{IsRising-still_there}
+use Rattle.network.proofs.SlotChanges.{IsRising-still_there}
 use Rattle.network.proofs.in_flight.InFlight.numbers.Goals as goal
 
 pub returns-clause-rising : goal.returns-clause-rising

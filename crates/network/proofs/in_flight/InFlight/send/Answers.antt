@@ -1,6 +1,6 @@
 use Rattle.std.proofs.Common.{◌≡◌, ◌+◌, ◌++◌, ◌∷◌, [], length, length-append, Some, refl, ap, ◌∙◌, arith}
-use Rattle.network.proofs.Keeping.{IsKept-send}
-use Rattle.network.proofs.Sending.{still_there-append}
+use Rattle.network.proofs.SlotInvariants.{IsKept-send}
+use Rattle.network.proofs.SlotChanges.{still_there-append}
 use Rattle.network.specs.NumberedMessages.{still_there}
 use Rattle.network.proofs.in_flight.InFlight.send.Goals as goal
 

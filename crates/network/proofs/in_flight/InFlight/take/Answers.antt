@@ -1,6 +1,6 @@
 use Rattle.std.proofs.Common.{◌^◌, sym, ◌∙◌, arith}
-use Rattle.network.proofs.Keeping.{IsKept-none, IsKept-take}
-use Rattle.network.proofs.Sending.{IsRising-higher, AllHaveEndpoints-at_number, length-without_number}
+use Rattle.network.proofs.SlotInvariants.{IsKept-none, IsKept-take}
+use Rattle.network.proofs.SlotChanges.{IsRising-higher, AllHaveEndpoints-at_number, length-without_number}
 use Rattle.network.specs.NumberedMessages.{still_there}
 use Rattle.network.proofs.in_flight.InFlight.take.Goals as goal
 

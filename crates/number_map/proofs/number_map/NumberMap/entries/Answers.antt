@@ -2,7 +2,7 @@ use Rattle.std.proofs.Common.{◌∙◌, ap, subst}
 use Rattle.std.specs.List.Sorted.{IsPermutation}
 use Rattle.std.proofs.lemmas.List.{map-id}
 use Rattle.std.specs.FinMap as finite
-use Rattle.number_map.proofs.Rising.{rising_entries}
+use Rattle.number_map.proofs.SortedEntries.{rising_entries}
 use Rattle.number_map.proofs.number_map.NumberMap.entries.Goals as goal
 
 pub returns : goal.returns

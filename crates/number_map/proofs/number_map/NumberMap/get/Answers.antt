@@ -1,6 +1,6 @@
 use Rattle.std.proofs.Common.{ap, sym, ◌∙◌}
 use Rattle.std.specs.FinMap as map
-use Rattle.number_map.proofs.Hashed.{get_hashed}
+use Rattle.number_map.proofs.HashedMaps.{get_hashed}
 use Rattle.number_map.proofs.number_map.NumberMap.get.Goals as goal
 
 pub returns : goal.returns

@@ -1,7 +1,7 @@
 use Rattle.std.proofs.Common.{ap, sym, ◌∙◌}
 use mathlib.Core.Bool.{false≢true}
 use Rattle.std.specs.FinMap as map
-use Rattle.number_map.proofs.Hashed.{hashed_given, get_hashed}
+use Rattle.number_map.proofs.HashedMaps.{hashed_given, get_hashed}
 use Rattle.number_map.proofs.number_map.NumberMap.insert.Goals as goal
 
 pub returns-clause-inserted : goal.returns-clause-inserted

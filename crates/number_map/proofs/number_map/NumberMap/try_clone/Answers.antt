@@ -1,5 +1,5 @@
 use Rattle.std.proofs.Common.{◌∙◌, ap, sym, ◌≡◌, ◌-◌, [], take, append-nil}
-use Rattle.number_map.proofs.Copied.{found, found-start, found-insert, copied}
+use Rattle.number_map.proofs.CopiedMaps.{found, found-start, found-insert, copied}
 use Rattle.number_map.proofs.number_map.NumberMap.try_clone.Goals as goal
 
 pub loop-entry-init : goal.loop-entry-init

@@ -1,6 +1,6 @@
 use Rattle.std.proofs.Common.{◌≡◌, ℕ, vec_len}
 use Rattle.std.specs.FinMap as finite
-use Rattle.number_map.proofs.Copied.{found}
+use Rattle.number_map.proofs.CopiedMaps.{found}
 use Rattle.number_map.proofs.number_map.NumberMap.try_clone.Given as goal
 
 abbrev pub invariant-loop-entry : goal.invariant-loop-entry

@@ -4,7 +4,7 @@ use Rattle.trace_lines.specs.declared.steps.Access.{Access}
 use Rattle.trace_lines.specs.declared.steps.Access.TheVariants as access
 use Rattle.trace_lines.specs.Reading.{decimal_in, address_in, access_in}
 use Rattle.trace_lines.specs.Causes.{HasCore, HasPlace, HasAddress, HasValue, IsAccess}
-use Rattle.trace_lines.proofs.Spelled.{letter_of, number-again, address-again, access-again}
+use Rattle.trace_lines.proofs.Spellings.{letter_of, number-again, address-again, access-again}
 
 pub core-spelled : (cores : ℕ) (field : List ℕ) → HasCore cores field → (n : ℕ) × (decimal_in 2 cores field ≡ Some n)
 core-spelled cores field h = (h.0, number-again 2 cores field h.0 h.1)

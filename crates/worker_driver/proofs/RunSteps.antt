@@ -11,7 +11,8 @@ use Rattle.run_ends.specs.declared.ends.End.{End}
 use Rattle.run_ends.specs.declared.ends.End.TheVariants as end
 use Rattle.worker_driver.specs.Acts.{Acts}
 use Rattle.worker_driver.specs.Schedules.{Schedule}
-use Rattle.worker_driver.specs.Runs.{Plan, Stage, OutOfTimes, Position, Makes, Moves, Ends, next, answered, is_exhausted}
+use Rattle.worker_driver.specs.Runs.{Plan, Stage, OutOfTimes, Position, Makes, Moves, Ends, next, answered}
+use Rattle.worker_driver.specs.Runs.{is_exhausted}
 use Rattle.worker_driver.specs.Runs.{plan_of}
 use Rattle.worker_driver.specs.RunEvents.{Follows, makes, moves, Ended}
 use Rattle.worker_driver.specs.Notes.{Log, IsNoted, Noted, Point, at, position, Leads, Stops, Led}

@@ -13,7 +13,7 @@ use Rattle.std.proofs.lemmas.Map.Views.{Contains-from_lookup, lookup-from_Contai
 use Rattle.std.specs.FinMap.{from_entries, from_sorted, entries, is_sorted, get-from_sorted, entries-from_sorted}
 use Rattle.std.specs.FinMap.{same_map, nat_cmp-IsAntisymmetric}
 use Rattle.std.specs.FinMap.Entries.{below_all}
-use Rattle.number_map.proofs.Hashed.{get_hashed, find_hashed}
+use Rattle.number_map.proofs.HashedMaps.{get_hashed, find_hashed}
 
 same_keys : (x y : ℕ) → nat_eq x y ≡ true → x ≡ y
 same_keys x y e = grind (arith, nat_tests)

@@ -9,8 +9,8 @@ use Rattle.network.specs.Flight.{IsKept}
 use Rattle.network.specs.Mail.{AreCounts, counted}
 use Rattle.network.specs.NumberedMessages.{IsRising, at_number, without_number, still_there}
 use Rattle.network.specs.Routes.{has_endpoints}
-use Rattle.network.proofs.Sending.{still_there-append, IsRising-append, without_number-none, length-without_number}
-use Rattle.network.proofs.Sending.{AllHaveEndpoints-append, AllHaveEndpoints-without_number}
+use Rattle.network.proofs.SlotChanges.{still_there-append, IsRising-append, without_number-none, length-without_number}
+use Rattle.network.proofs.SlotChanges.{AllHaveEndpoints-append, AllHaveEndpoints-without_number}
 
 -- one more message is at most one more of each kind
 still_below : (counts : Counts) (next : ℕ) (body : Body) → AreCounts counts next →

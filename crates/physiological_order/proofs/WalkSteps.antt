@@ -15,8 +15,8 @@ use Rattle.physiological_order.specs.Order.{Memory, Follows, of_core, KeepsProgr
 use Rattle.physiological_order.specs.Order.{flat_received, flat_after, replay, replay_end}
 use Rattle.physiological_order.specs.Faults.{Lists, issued_by}
 use Rattle.physiological_order.specs.Walking.{IsNext}
-use Rattle.physiological_order.proofs.Arranged.{Follows-push}
-use Rattle.physiological_order.proofs.Replayed.{replay-push, replay_end-push}
+use Rattle.physiological_order.proofs.ArrangedRecords.{Follows-push}
+use Rattle.physiological_order.proofs.ReplaySteps.{replay-push, replay_end-push}
 
 -- a core's records with one more
 pub of_core-push_own : (core : ℕ) (rs : List Record) (r : Record) → r.core ≡ core → of_core core (rs ++ r ∷ []) ≡

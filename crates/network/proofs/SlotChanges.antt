@@ -8,7 +8,7 @@ use Rattle.std.proofs.lemmas.Option.{slice_get_within}
 use Rattle.network.specs.declared.message.Message.{Message}
 use Rattle.network.specs.NumberedMessages.{IsRising, at_number, without_number, still_there, given}
 use Rattle.network.specs.Routes.{has_endpoints, AllHaveEndpoints}
-use Rattle.network.proofs.Rising.{at_number-below, number_at-within, number_at-slice_get}
+use Rattle.network.proofs.RisingLists.{at_number-below, number_at-within, number_at-slice_get}
 
 module _ {X : Type 0} where
   given-append : (n : ℕ) (o : Option X) (xs ys : List (ℕ × X)) → given n o (xs ++ ys) ≡ given n o xs ++ ys

@@ -21,7 +21,8 @@ module _ {P : Type 0} (acts : Acts P) where
   performs_more : (rs : List Record) (p q : P) (r : Record) → Performs acts rs p q →
       acts.next q ≡ Some (step.Op r.op) → Performs acts (rs ++ r ∷ []) p (acts.done q r.received)
   performs_more rs p q r rests next = does next rests
-  performs_more rs p q r (advances waiting more) next = advances waiting (performs_more rs (acts.done p None) q r more next)
+  performs_more rs p q r (advances waiting more) next =
+      advances waiting (performs_more rs (acts.done p None) q r more next)
   performs_more rs p q r (does {r = s} {rs = left} is more) next =
       does is (performs_more left (acts.done p s.received) q r more next)
 

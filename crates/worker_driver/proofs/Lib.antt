@@ -1,10 +1,14 @@
 mod Over
+mod Pieces
 mod DoneOps
 mod RunSteps
 mod TurnSteps
 mod TurnEnds
 mod Deliveries
+mod GivenSteps
 mod RoundSteps
+mod SeedSteps
+mod SeedEntries
 mod InProgram
 mod TableSteps
 mod ServiceSteps

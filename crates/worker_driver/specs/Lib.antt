@@ -3,6 +3,9 @@ pub mod Schedules
 pub mod Runs
 pub mod RoundSchedule
 pub mod RoundViews
+pub mod Shim
+pub mod SeedSchedule
+pub mod SeedViews
 pub mod RunEvents
 pub mod Notes
 pub mod Turns

@@ -3,6 +3,7 @@
 #![tactic(auto)]
 
 pub mod laws;
+mod driven;
 mod lists;
 mod log;
 mod look_ups;
@@ -11,10 +12,15 @@ mod round;
 pub mod rounds;
 mod run;
 mod schedule;
+mod seed;
+pub mod seeds;
+mod shim;
 mod turn;
 
 pub use lists::{OpProgram, StepProgram};
 pub use program::Program;
-pub use rounds::{Driven, drive_round};
+pub use driven::Driven;
+pub use rounds::drive_round;
 pub use run_ends::{End, RunEnd};
+pub use seeds::drive_seed;
 pub use trace_lines::Step;

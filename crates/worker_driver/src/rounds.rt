@@ -1,4 +1,4 @@
-//! Rounds, until a run ends.
+//! The schedule of rounds, until a run ends.
 ghost use Rattle.std.specs.Prelude.{◌≡◌, ◌<◌, None, length, ℕ};
 ghost use Rattle.machine_table.specs.Runs.{after_all};
 ghost use Rattle.interleaving_core.specs.LookUps.{open_op};
@@ -8,20 +8,12 @@ ghost use Rattle.worker_driver.specs.RunEvents.{Ended, initial};
 ghost use Rattle.worker_driver.specs.Runs.{plan_of};
 ghost use Rattle.worker_driver.specs.Service.{AreServed};
 
-use crate::log::Log;
+use crate::driven::{Driven, drive};
 use crate::program::Program;
 use crate::round::Rounds;
-use crate::run::run;
-use interleaving_core::{Event, System};
+use interleaving_core::System;
 use run_ends::End;
 use std::alloc::Global;
-
-/// What a run came to: its end, and the events that the machine was given, in order.
-#[derive(Drop)]
-pub struct Driven {
-    pub end: End,
-    pub events: Vec<Event>,
-}
 
 /// Drives the machine by the schedule of rounds (docs/SCHEDULES.md), one program a core, until every program is done,
 /// a round went by without progress, `limit` rounds were made, times are exhausted or allocation failed. The events
@@ -45,12 +37,5 @@ pub fn drive_round<P: Program>(
     ensures served { AreServed P.acts system.old system.new programs.old programs.new }
 {
     let mut schedule = Rounds::new(alloc, system.cores());
-    let mut log = Log::new(alloc);
-    let _before = system.records();
-    let end = run(&mut schedule, system, programs, &mut log, limit);
-    let _after = system.records();
-    Driven {
-        end,
-        events: log.into_events(),
-    }
+    drive(alloc, system, programs, &mut schedule, limit)
 }

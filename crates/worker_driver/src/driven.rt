@@ -1,0 +1,51 @@
+//! Turns of any schedule from the first one, and what they came to.
+ghost use Rattle.std.specs.Prelude.{◌≡◌, ◌<◌, None, length, ℕ};
+ghost use Rattle.machine_table.specs.Runs.{after_all};
+ghost use Rattle.interleaving_core.specs.LookUps.{open_op};
+ghost use Rattle.worker_driver.specs.Acts.{next_in};
+ghost use Rattle.worker_driver.specs.RunEvents.{Ended, initial};
+ghost use Rattle.worker_driver.specs.Runs.{plan_of};
+ghost use Rattle.worker_driver.specs.Service.{AreServed, GivesSteps};
+
+use crate::log::Log;
+use crate::program::Program;
+use crate::run::run;
+use crate::schedule::Schedule;
+use interleaving_core::{Event, System};
+use run_ends::End;
+use std::alloc::Global;
+
+/// What a run came to: its end, and the events that the machine was given, in order.
+#[derive(Drop)]
+pub struct Driven {
+    pub end: End,
+    pub events: Vec<Event>,
+}
+
+// Drives the machine by a schedule that issues and advances cores as their programs say.
+pub(crate) fn drive<P: Program, S: Schedule<P>>(
+    alloc: Global,
+    system: &mut System,
+    programs: &mut [P],
+    schedule: &mut S,
+    limit: u32,
+) -> Driven
+    requires { GivesSteps P.acts S.rule }
+    ensures schedule { Ended (plan_of P.acts S.rule limit)
+        (initial system.old programs.old schedule.old)
+        result.events.items system.new programs.new result.end }
+    ensures machine { system.new ≡ after_all system.old result.events.items }
+    ensures all_done { result.end ≡ End.AllDone → (core : ℕ) → core < system.old.config.cores →
+        (open_op system.new core ≡ None) × (next_in P.acts programs.new core ≡ None) }
+    ensures served { AreServed P.acts system.old system.new programs.old programs.new }
+{
+    let mut log = Log::new(alloc);
+    let _cores = system.cores();
+    let _before = system.records();
+    let end = run(schedule, system, programs, &mut log, limit);
+    let _after = system.records();
+    Driven {
+        end,
+        events: log.into_events(),
+    }
+}

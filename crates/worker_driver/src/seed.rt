@@ -1,0 +1,290 @@
+//! The seeded schedule: each turn draws two words, the first for a list of events, the second for the entry of it that
+//! is made. No list is built: entries are counted, and the one that is wanted is looked up.
+ghost use Rattle.std.specs.Prelude.{◌≡◌, ◌<◌, ◌≤◌, ◌+◌, ◌*◌, ◌^◌, ℕ, List, length, IfOk, Some, slice_get};
+ghost use Rattle.interleaving_core.specs.LookUps.{entries, open_op};
+ghost use Rattle.worker_driver.specs.Acts.{next_in};
+ghost use Rattle.worker_driver.specs.Shim.{free_copies, risen};
+ghost use Rattle.worker_driver.specs.SeedSchedule.{advances, core_step, core_steps, entry, line_events, of_seed, steps};
+ghost use Rattle.worker_driver.specs.SeedViews.{Picks, PicksAny, PicksOne};
+
+use crate::look_ups::next_in;
+use crate::program::Program;
+use crate::schedule::{Choice, Schedule};
+use crate::shim;
+use interleaving_core::{Event, System};
+use network::LineNo;
+use physiological_order::Op;
+use rand_core::SeedableRng;
+use rand_core::utils::NextWord;
+use rand_pcg::Pcg32;
+use std::alloc::AllocError;
+use std::marker::Model;
+use trace_lines::Step;
+
+// The generator, and the words that were drawn for the turn, until its event is answered.
+#[derive(Drop)]
+pub(crate) struct Seeds {
+    generator: Pcg32,
+    drawn: Option<(u32, u32)>,
+}
+
+impl Model for Seeds {
+    ghost use Rattle.worker_driver.specs.SeedSchedule.{Seeded};
+
+    ghost Value = { Seeded };
+
+    ghost view = { λ a. record { generator = a.generator; drawn = a.drawn } };
+}
+
+impl Seeds {
+    // Before the first turn.
+    pub(crate) fn new(seed: u64) -> Seeds
+        ensures { result ≡ of_seed seed }
+    {
+        Seeds {
+            generator: Pcg32::seed_from_u64(seed),
+            drawn: None,
+        }
+    }
+}
+
+// What holds lines that may leave it: the cores' caches, or the banks.
+trait Holder {
+    ghost use Rattle.std.specs.Prelude.{ℕ, List};
+    ghost use Rattle.machine_table.specs.Machine.{Machine};
+    ghost use Rattle.machine_table.specs.declared.event.Event.{Event};
+
+    // How many there are, their lines, and a line's event.
+    ghost holders: { Machine → ℕ };
+
+    ghost lines: { Machine → ℕ → List ℕ };
+
+    ghost eviction: { ℕ → ℕ → Event };
+
+    fn holders(system: &System) -> u32
+        ensures { result ≡ holders system.now };
+
+    fn count(system: &System, holder: u32) -> usize
+        ensures { result ≡ length (lines system.now holder) };
+
+    fn line(system: &System, holder: u32, at: usize) -> Result<LineNo, AllocError>
+        requires { at < length (lines system.now holder) }
+        ensures { IfOk result (λ line. slice_get (risen (lines system.now holder)) at ≡ Some line) };
+
+    fn eviction(holder: u32, line: LineNo) -> Event
+        ensures { result ≡ eviction holder line };
+}
+
+// The cores, with the copies that aren't pinned.
+struct Copies;
+
+impl Holder for Copies {
+    ghost use Rattle.machine_table.specs.declared.event.Event.TheVariants as event;
+    ghost use Rattle.worker_driver.specs.Shim.{free_copies};
+
+    ghost holders = { λ m. m.config.cores };
+
+    ghost lines = { free_copies };
+
+    ghost eviction = { event.EvictCache };
+
+    fn holders(system: &System) -> u32 {
+        system.cores()
+    }
+
+    fn count(system: &System, holder: u32) -> usize {
+        shim::free_copies(system, holder)
+    }
+
+    fn line(system: &System, holder: u32, at: usize) -> Result<LineNo, AllocError> {
+        shim::free_copy(system, holder, at)
+    }
+
+    fn eviction(holder: u32, line: LineNo) -> Event {
+        Event::EvictCache(holder, line)
+    }
+}
+
+// The banks, with the lines that they have Shared or Exclusive.
+struct Entries;
+
+impl Holder for Entries {
+    ghost use Rattle.machine_table.specs.declared.event.Event.TheVariants as event;
+    ghost use Rattle.interleaving_core.specs.LookUps.{entries};
+
+    ghost holders = { λ m. m.config.banks };
+
+    ghost lines = { entries };
+
+    ghost eviction = { event.EvictBank };
+
+    fn holders(system: &System) -> u32 {
+        shim::banks(system)
+    }
+
+    fn count(system: &System, holder: u32) -> usize {
+        shim::settled(system, holder)
+    }
+
+    fn line(system: &System, holder: u32, at: usize) -> Result<LineNo, AllocError> {
+        shim::entry(system, holder, at)
+    }
+
+    fn eviction(holder: u32, line: LineNo) -> Event {
+        Event::EvictBank(holder, line)
+    }
+}
+
+// An advance of a core.
+fn advance(system: &System, b: u32) -> Choice
+    ensures { Picks (entry (advances system.now) b) result }
+{
+    let cores = system.cores();
+    if cores == 0 {
+        return Choice::Over;
+    }
+    Choice::Does(Event::Advance(b % cores))
+}
+
+// How many lines all holders have.
+fn line_count<H: Holder>(system: &System) -> u128
+    ensures { result ≡ length (line_events H.eviction (H.lines system.now) (H.holders system.now)) }
+{
+    let mut total = 0;
+    for holder in 0..H::holders(system) {
+        total += H::count(system, holder) as u128;
+    }
+    total
+}
+
+// The eviction of a line.
+fn evict<H: Holder>(system: &System, b: u32) -> Result<Choice, AllocError>
+    ensures { PicksOne (entry (line_events H.eviction (H.lines system.now) (H.holders system.now)) b) result }
+{
+    let total = line_count::<H>(system);
+    if total == 0 {
+        return Ok(Choice::Over);
+    }
+    let mut at = u128::from(b) % total;
+    for holder in 0..H::holders(system) {
+        let count = H::count(system, holder) as u128;
+        if at < count {
+            return match H::line(system, holder, at as usize) {
+                Ok(line) => Ok(Choice::Does(H::eviction(holder, line))),
+                Err(error) => Err(error),
+            };
+        }
+        at -= count;
+    }
+    Ok(Choice::Over)
+}
+
+// What a core does next, if it does something.
+fn core_step<P: Program>(system: &System, programs: &mut [P], core: u32) -> Option<Choice>
+    ensures step { PicksAny (core_step core (open_op system.now core)
+        (next_in P.acts programs.old core)) result }
+    ensures same { programs.new ≡ programs.old }
+{
+    let _inside: Option<Op> = None;
+    if let Some((_op, is_out)) = system.open_op(core) {
+        if is_out {
+            return None;
+        }
+        return Some(Choice::Tries(core));
+    }
+    match next_in(programs, core) {
+        Some(Step::Op(op)) => Some(Choice::Does(Event::Issue(core, op))),
+        Some(Step::Advance) => Some(Choice::Advances(core)),
+        None => None,
+    }
+}
+
+// How many cores do something next.
+fn step_count<P: Program>(system: &System, programs: &mut [P]) -> u32
+    ensures count { result ≡ length (core_steps P.acts system.now programs.old system.now.config.cores) }
+    ensures same { programs.new ≡ programs.old }
+{
+    let mut count = 0;
+    for core in 0..system.cores() {
+        if core_step(system, programs, core).is_some() {
+            count += 1;
+        }
+    }
+    count
+}
+
+// What the core at a place among those does.
+fn step_at<P: Program>(system: &System, programs: &mut [P], place: u32) -> Choice
+    requires { place < length (core_steps P.acts system.now programs.old system.now.config.cores) }
+    ensures step { (next : _) × (slice_get (core_steps P.acts system.now programs.old
+        system.now.config.cores) place ≡ Some next) × Picks next result }
+    ensures same { programs.new ≡ programs.old }
+{
+    let mut at = place;
+    for core in 0..system.cores() {
+        if let Some(choice) = core_step(system, programs, core) {
+            if at == 0 {
+                return choice;
+            }
+            at -= 1;
+        }
+    }
+    unreachable!()
+}
+
+// A step of a core, or the delivery of a message.
+fn step<P: Program>(system: &System, programs: &mut [P], b: u32) -> Choice
+    ensures step { Picks (entry (steps P.acts system.now programs.old) b) result }
+    ensures same { programs.new ≡ programs.old }
+{
+    let count = step_count(system, programs);
+    let total = u64::from(count) + u64::from(shim::messages(system));
+    if total == 0 {
+        return Choice::Over;
+    }
+    let at = (u64::from(b) % total) as u32;
+    if at < count {
+        return step_at(system, programs, at);
+    }
+    match shim::message(system, at - count) {
+        Some(number) => Choice::Delivers(number),
+        None => unreachable!(),
+    }
+}
+
+impl<P: Program> Schedule<P> for Seeds {
+    ghost use Rattle.worker_driver.specs.SeedSchedule.{seeded};
+    ghost use Rattle.worker_driver.specs.SeedViews.{draws_left, IsDrawn};
+
+    ghost rule = { seeded P.acts };
+
+    ghost left = { draws_left };
+
+    ghost ready = { IsDrawn };
+
+    fn begin(&mut self) {
+        let a = self.generator.next_word();
+        let b = self.generator.next_word();
+        self.drawn = Some((a, b));
+    }
+
+    fn choose(&mut self, system: &System, programs: &mut [P]) -> Result<Choice, AllocError> {
+        let Some((a, b)) = self.drawn else {
+            return Ok(Choice::Over);
+        };
+        match a % 16 {
+            0 => Ok(advance(system, b)),
+            1 => evict::<Copies>(system, b),
+            2 => evict::<Entries>(system, b),
+            _ => Ok(step(system, programs, b)),
+        }
+    }
+
+    fn pass(&mut self, full: bool) {
+        self.drawn = None;
+    }
+
+    fn stalls(&self) -> bool {
+        false
+    }
+}

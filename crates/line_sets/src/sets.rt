@@ -201,7 +201,7 @@ impl<V: Copy + Listed> LineSets<V> {
 
     /// The line that comes after so many others, once the lines of all sets whose values are listed, but that one, are
     /// in rising order.
-    pub fn nth_listed(&self, but: Option<u64>, at: usize) -> Result<LineNo, AllocError>
+    pub fn nth_listed(&self, but: Option<LineNo>, at: usize) -> Result<LineNo, AllocError>
         requires { at < length (all_but but (all_listed V.is_listed self.now.sets)) }
         ensures { IfOk result (λ line. slice_get (risen (all_but but
             (all_listed V.is_listed self.now.sets))) at ≡ Some line) }
@@ -210,6 +210,7 @@ impl<V: Copy + Listed> LineSets<V> {
         leave_out(&mut numbers, but);
         Ok(LineNo(number_at(&mut numbers, at)))
     }
+
     /// The lines of all sets whose values are listed, rising.
     pub fn lines(&self) -> Result<Vec<LineNo>, AllocError>
         ensures lines { IfOk result (λ lines. IsPermutation (all_listed V.is_listed self.now.sets)

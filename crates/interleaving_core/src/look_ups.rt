@@ -98,7 +98,10 @@ impl MachineState {
         ensures { IfOk result (λ line. slice_get (risen (free_copies self.now core)) at ≡ Some
             line) }
     {
-        self.cores[core as usize].free_copy(at)
+        match self.cores.get(core as usize) {
+            Some(core) => core.free_copy(at),
+            None => unreachable!(),
+        }
     }
 
     // How many lines a bank has that nothing is under way for.
@@ -116,7 +119,10 @@ impl MachineState {
         requires { at < length (entries self.now bank) }
         ensures { IfOk result (λ line. slice_get (risen (entries self.now bank)) at ≡ Some line) }
     {
-        self.banks[bank as usize].settled_line(at)
+        match self.banks.get(bank as usize) {
+            Some(bank) => bank.settled_line(at),
+            None => unreachable!(),
+        }
     }
 }
 

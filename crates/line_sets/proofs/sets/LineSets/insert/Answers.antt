@@ -79,8 +79,7 @@ invariant_of-self-2 g c =
     let new = used w a c.move_to_back.new.self rs c.args.set c.args.line c.in-Some.cell c.args.value c.self.invariant.0
     c.lists-lists.ensures.once c.looked_up.ensures c.taken_off.ensures h here after in
     let found = is-found w a rs c.args.set c.args.line c.in-Some.cell c.self.invariant.0 c.lists-lists.ensures.once
-    c.looked_up.ensures h (sym c.find.ensures ∙ c.in-Some.is) in
-    (
+    c.looked_up.ensures h (sym c.find.ensures ∙ c.in-Some.is) in (
       new.stored,
       counted-put g.V.Listed.is_listed w a rs c.args.set c.args.line c.self.inside.listed c.self.invariant.0 h
           c.self.invariant.1 c.args.value c.count_of-before.result c.count_of-2.result _ (was-counted g.V.Listed.is_listed a.lists c.args.set c.args.line
@@ -114,8 +113,7 @@ invariant_of-self-then-is_none g c =
     let new = used-last w a rs c.args.set c.args.line c.in-Some.cell c.args.value c.self.invariant.0
     c.lists-lists.ensures.once c.looked_up.ensures c.taken_off.ensures h (sym c.find.ensures ∙ c.in-Some.is) last in
     let found = is-found w a rs c.args.set c.args.line c.in-Some.cell c.self.invariant.0 c.lists-lists.ensures.once
-    c.looked_up.ensures h (sym c.find.ensures ∙ c.in-Some.is) in
-    (
+    c.looked_up.ensures h (sym c.find.ensures ∙ c.in-Some.is) in (
       new.stored,
       counted-put g.V.Listed.is_listed w a rs c.args.set c.args.line c.self.inside.listed c.self.invariant.0 h
           c.self.invariant.1 c.args.value c.count_of-before.result c.count_of-2.result _ (was-counted g.V.Listed.is_listed a.lists c.args.set c.args.line

@@ -7,8 +7,7 @@ use Rattle.line_sets.proofs.sets.LineSets.remove.Goals as goal
 pub invariant_of-self : goal.invariant_of-self
 invariant_of-self g c =
     let a = c.self.inside.arena in let rs = c.self.inside.rows in let w = c.self.inside.ways in
-    let h = below a.lists c.args.set (rw (← c.self.view_is) at c.requires) in
-    (
+    let h = below a.lists c.args.set (rw (← c.self.view_is) at c.requires) in (
       (nothing-cut w a rs c.take.new.self c.args.set c.args.line c.self.invariant.0 h
           (sym c.take.ensures.value ∙ c.in_default.is) c.take.ensures.after).stored,
       c.self.invariant.1,
@@ -44,8 +43,7 @@ invariant_of-self-2 g c =
     c.self.invariant.0 c.lists-lists.ensures.once c.looked_up.ensures c.taken_off.ensures h
     (sym c.take.ensures.value ∙ c.in-Some.is) c.unlink-line.ensures.after in
     let found = is-found w a rs c.args.set c.args.line c.in-Some.cell c.self.invariant.0 c.lists-lists.ensures.once
-    c.looked_up.ensures h (sym c.take.ensures.value ∙ c.in-Some.is) in
-    (
+    c.looked_up.ensures h (sym c.take.ensures.value ∙ c.in-Some.is) in (
       rw c.take.ensures.after new.stored,
       counted-drop_line g.V.Listed.is_listed w a rs c.args.set c.args.line c.self.inside.listed c.self.invariant.0 h
           c.self.invariant.1 c.count_of.result _ (was-counted g.V.Listed.is_listed a.lists c.args.set c.args.line

@@ -1,4 +1,5 @@
 pub mod CoreLaws
 pub mod CoreTable
+pub mod FreeCopies
 pub mod OnCopy
 pub mod SetUp

@@ -1,13 +1,15 @@
 //! A core and what it does by itself: it takes an operation, attempts it, raises its time and evicts copies.
 ghost use Rattle.std.specs.Prelude.{◌≡◌, ◌≢◌, ◌⊎◌, ◌<◌, ◌≤◌, ◌%◌, ◌^◌, IfOk, IfSome, IsPermutation, IsSorted, IsSome};
-ghost use Rattle.std.specs.Prelude.{IsTrue, is_some, not, true, option_copied, option_map, Some};
+ghost use Rattle.std.specs.Prelude.{IsTrue, is_some, length, not, true, option_copied, option_map, slice_get, Some};
 ghost use Rattle.std.specs.Ordering.{nat_cmp};
 ghost use Rattle.std.specs.Result.{result_ok};
 ghost use Rattle.line_sets.specs.Geometry.{IsGeometry};
+ghost use Rattle.line_sets.specs.Rising.{risen};
 ghost use Rattle.line_sets.specs.SetTable.{all_listed};
 ghost use Rattle.private_cache.specs.CopyTable.{copy_of, place_for, victim_for, without_copy};
 ghost use Rattle.core_pts.specs.SetUp.{IsInRange};
 ghost use Rattle.core_pts.specs.CoreTable.{advance, attempt, attempt_unserved, attempt_without, completed_at, evict};
+ghost use Rattle.core_pts.specs.FreeCopies.{free_copies};
 ghost use Rattle.core_pts.specs.CoreTable.{index_of, is_pinned, issue, line_of, need, opened, pinned_line, to_bank};
 
 use crate::attempt::{Attempt, IssueError};
@@ -124,6 +126,21 @@ impl Core {
         ensures rising { IfOk result (λ lines. IsSorted nat_cmp lines.items) }
     {
         self.cache.lines()
+    }
+
+    /// How many copies may be evicted: all but that of the open operation's line.
+    pub fn free_copies(&self) -> usize
+        ensures { result ≡ length (free_copies self.now) }
+    {
+        self.cache.free_copies(self.pinned_line())
+    }
+
+    /// The line that comes after so many others, once those of the copies that may be evicted are in rising order.
+    pub fn free_copy(&self, at: usize) -> Result<LineNo, AllocError>
+        requires { at < length (free_copies self.now) }
+        ensures { IfOk result (λ line. slice_get (risen (free_copies self.now)) at ≡ Some line) }
+    {
+        self.cache.free_copy(self.pinned_line(), at)
     }
 
     /// The line of an operation's word.

@@ -11,6 +11,7 @@ use Rattle.network.specs.declared.message.Node.TheVariants.{Bank}
 use Rattle.network.specs.NumberedMessages.{at_number}
 use Rattle.private_cache.specs.CopyTable.{victim_for}
 use Rattle.core_pts.specs.CoreTable.{CoreState}
+use Rattle.core_pts.specs.FreeCopies as core_copies
 use Rattle.llc_bank.specs.BankTable as bank_table
 use Rattle.llc_bank.specs.BankTable.{BankState}
 use Rattle.llc_bank.specs.Settled.{is_settled}
@@ -39,6 +40,14 @@ copies_of (Some core) = all_listed (λ copy. true) core.cache.sets
 
 abbrev pub copies : Machine → ℕ → List ℕ
 copies m core = copies_of (slice_get m.cores core)
+
+-- of the copies, those that may be evicted: all but that of the core's open operation
+abbrev pub free_copies_of : Option CoreState → List ℕ
+free_copies_of None = []
+free_copies_of (Some core) = core_copies.free_copies core
+
+abbrev pub free_copies : Machine → ℕ → List ℕ
+free_copies m core = free_copies_of (slice_get m.cores core)
 
 abbrev pub entries_of : Option BankState → List ℕ
 entries_of None = []

@@ -1,8 +1,10 @@
 //! What is looked up in a machine.
-ghost use Rattle.std.specs.Prelude.{◌≡◌, IfOk, IsPermutation, IsSorted, map};
+ghost use Rattle.std.specs.Prelude.{◌≡◌, ◌<◌, IfOk, IsPermutation, IsSorted, length, map, slice_get, Some};
 ghost use Rattle.std.specs.Ordering.{nat_cmp};
 ghost use Rattle.network.specs.NumberedMessages.{IsRising};
-ghost use Rattle.interleaving_core.specs.LookUps.{copies, entries, is_request, make_room, open_op, room_at, victim};
+ghost use Rattle.line_sets.specs.Rising.{risen};
+ghost use Rattle.interleaving_core.specs.LookUps.{copies, entries, free_copies, is_request, make_room, open_op};
+ghost use Rattle.interleaving_core.specs.LookUps.{room_at, victim};
 
 use crate::machine_state::MachineState;
 use network::{Body, LineNo, Message, MsgNo, Node};
@@ -77,6 +79,49 @@ impl MachineState {
         match self.banks.get(bank as usize) {
             Some(bank) => bank.lines(),
             None => Ok(Vec::new(self.allocator())),
+        }
+    }
+
+    // How many copies may be evicted from a core's cache.
+    pub(crate) fn free_copies(&self, core: u32) -> usize
+        ensures { result ≡ length (free_copies self.now core) }
+    {
+        match self.cores.get(core as usize) {
+            Some(core) => core.free_copies(),
+            None => 0,
+        }
+    }
+
+    // The line that comes after so many others, once those that may be evicted are in rising order.
+    pub(crate) fn free_copy(&self, core: u32, at: usize) -> Result<LineNo, AllocError>
+        requires { at < length (free_copies self.now core) }
+        ensures { IfOk result (λ line. slice_get (risen (free_copies self.now core)) at ≡ Some
+            line) }
+    {
+        match self.cores.get(core as usize) {
+            Some(core) => core.free_copy(at),
+            None => unreachable!(),
+        }
+    }
+
+    // How many lines a bank has that nothing is under way for.
+    pub(crate) fn settled(&self, bank: u32) -> usize
+        ensures { result ≡ length (entries self.now bank) }
+    {
+        match self.banks.get(bank as usize) {
+            Some(bank) => bank.settled(),
+            None => 0,
+        }
+    }
+
+    // The line that comes after so many others, once those that nothing is under way for are in rising order.
+    pub(crate) fn entry(&self, bank: u32, at: usize) -> Result<LineNo, AllocError>
+        requires { at < length (entries self.now bank) }
+        ensures { IfOk result (λ line. slice_get (risen (entries self.now bank)) at ≡ Some line) }
+    {
+        match self.banks.get(bank as usize) {
+            Some(bank) => bank.settled_line(at),
+            None => unreachable!(),
         }
     }
 }

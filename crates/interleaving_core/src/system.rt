@@ -1,19 +1,20 @@
 //! The machine that users drive, and what is always true of it.
 ghost use Rattle.std.specs.Prelude.{◌≡◌, ◌≢◌, ◌≤◌, ◌<◌, ◌++◌, ◌∷◌, vec_capacity, [], false, true, IfOk, IfErr};
 ghost use Rattle.std.specs.Prelude.{IfSome, IsSome, IsTrue, OnErr, OnOk, IsPermutation, IsSorted, length, map};
-ghost use Rattle.std.specs.Prelude.{slice_get, slice_index_or, List, ℕ};
+ghost use Rattle.std.specs.Prelude.{slice_get, slice_index_or, List, Some, ℕ};
 ghost use Rattle.std.specs.Ordering.{nat_cmp};
 ghost use Rattle.physiological_order.specs.Order.{flat, Legal, Arrangement, of_core, replay_end};
 ghost use Rattle.physiological_order.specs.StaleHits.{RisesByNumber};
 ghost use Rattle.physiological_order.specs.declared.operation.Record.{Record};
 ghost use Rattle.network.specs.NumberedMessages.{IsRising, at_number};
+ghost use Rattle.line_sets.specs.Rising.{risen};
 ghost use Rattle.machine_table.specs.SetUp.{SetUpAs, is_good};
 ghost use Rattle.machine_table.specs.Machine.{operation_of};
 ghost use Rattle.machine_table.specs.Opening.{at_start};
 ghost use Rattle.protocol.specs.Issued.{IsIssued};
 ghost use Rattle.machine_theorem.specs.Coherence.{owners, coherent};
 ghost use Rattle.machine_theorem.specs.Kept.{Invariant};
-ghost use Rattle.interleaving_core.specs.LookUps.{copies, entries, make_room, open_op, victim};
+ghost use Rattle.interleaving_core.specs.LookUps.{copies, entries, free_copies, make_room, open_op, victim};
 ghost use Rattle.interleaving_core.specs.Reservation.{completes};
 ghost use Rattle.interleaving_core.specs.Midway.{IsMidway};
 ghost use Rattle.interleaving_core.specs.StepAnswers.{Stepped, Ran};
@@ -139,6 +140,14 @@ impl System {
         self.state.config.cores
     }
 
+    /// How many banks there are: the machine has that many.
+    pub fn banks(&self) -> u32
+        ensures banks { result ≡ self.now.config.banks }
+        ensures count { length self.now.banks ≡ result }
+    {
+        self.state.config.banks
+    }
+
     /// How many words a line has: 1 or 8.
     pub fn line_words(&self) -> u32
         ensures words { result ≡ self.now.config.line_words }
@@ -242,6 +251,52 @@ impl System {
         ensures rising { IfOk result (λ lines. IsSorted nat_cmp lines.items) }
     {
         self.state.entries(bank)
+    }
+
+    /// How many of a core's copies may be evicted: all but that of its open operation; none for a core that isn't there.
+    pub fn free_copies(&self, core: u32) -> usize
+        ensures { result ≡ length (free_copies self.now core) }
+    {
+        self.state.free_copies(core)
+    }
+
+    /// The line of the copy that may be evicted and comes after so many others, by rising line. NoMemory is the one
+    /// refusal.
+    pub fn free_copy(&self, core: u32, at: usize) -> Result<LineNo, AllocError>
+        requires { at < length (free_copies self.now core) }
+        ensures { IfOk result (λ line. slice_get (risen (free_copies self.now core)) at ≡ Some
+            line) }
+    {
+        self.state.free_copy(core, at)
+    }
+
+    /// How many lines a bank has Shared or Exclusive; none for a bank that isn't there.
+    pub fn settled(&self, bank: u32) -> usize
+        ensures { result ≡ length (entries self.now bank) }
+    {
+        self.state.settled(bank)
+    }
+
+    /// The line that a bank has Shared or Exclusive and that comes after so many others, by rising line.
+    pub fn entry(&self, bank: u32, at: usize) -> Result<LineNo, AllocError>
+        requires { at < length (entries self.now bank) }
+        ensures { IfOk result (λ line. slice_get (risen (entries self.now bank)) at ≡ Some line) }
+    {
+        self.state.entry(bank, at)
+    }
+
+    /// How many messages are in flight.
+    pub fn messages(&self) -> u32
+        ensures { result ≡ length self.now.mail.messages }
+    {
+        self.state.flight.count()
+    }
+
+    /// The number of the message in flight that was sent after so many others in flight; none past the last one.
+    pub fn message(&self, at: u32) -> Option<MsgNo>
+        ensures { result ≡ slice_get (map (λ m. m.0) self.now.mail.messages) at }
+    {
+        self.state.flight.nth(at)
     }
 
     /// The numbers of the messages in flight, rising.

@@ -1,6 +1,8 @@
 mod LineNumbers
+mod ListedCounts
 mod Indices
 mod OrderLaws
+mod RisenLists
 mod RowLaws
 mod StoredSets
 mod TableLaws

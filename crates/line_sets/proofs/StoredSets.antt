@@ -5,12 +5,13 @@ use Rattle.std.proofs.Common.{⊎_elim, length-set, get_or-set_same, get_or-set_
 use Rattle.std.specs.Prelude.{Result, Ok, Err, IsOk, IsErr, IfOk, IfSome}
 use Rattle.std.specs.Option.{is_some}
 use Rattle.std.proofs.lemmas.Bool.{cases_eq, ltb-true, or_cases, eq-eqb, ne_eqb}
-use Rattle.std.proofs.lemmas.List.{get_or-map, length-map, map-set, ext_get_or, set-set, set-get_or}
+use Rattle.std.proofs.lemmas.List.{get_or-map, length-map, length-replicate, map-set, ext_get_or, set-set, set-get_or}
 use Rattle.std.proofs.lemmas.List.Sums.{sum_by-cons}
 use Rattle.line_arena.specs.CellLists.{find_cell, look_up, append_to, rewritten}
 use Rattle.line_arena.specs.CellLists as cell
 use Rattle.line_arena.specs.Arenas.{Lists, lists_of, pushed, unlinked, free_cells, cell_in, IsOnce}
 use Rattle.line_arena.specs.ListLaws.{LookUpLaws, WithoutLaws}
+use Rattle.line_sets.specs.Geometry.{IsGeometry}
 use Rattle.line_sets.specs.Order.{find, is_there, put_last, put_in_place, without}
 use Rattle.line_sets.specs.SetTable.{Sets, set_at, look, has_place, put, put_within, drop_line}
 use Rattle.line_sets.specs.Stored.{entries_of, tags_of, sets_of, Fits, IsStored}
@@ -382,3 +383,28 @@ if-some P o x h e = rw e at h
 pub sets-empty : {X : Type 0} (n : ℕ) → sets_of {X = X} (replicate n []) ≡ replicate n []
 sets-empty zero = refl
 sets-empty (suc n) = ap (λ us. [] ∷ us) (sets-empty n)
+
+empty-at : {X : Type 0} (n i : ℕ) → get_or {A = List X} (replicate n []) i [] ≡ []
+empty-at zero i = refl
+empty-at (suc n) zero = refl
+empty-at (suc n) (suc i) = empty-at n i
+
+pub stored-empty :
+    {X : Type 0} (ways sets : ℕ) (a : Lists (ℕ × X)) (rows : List (List (ℕ × ℕ))) → IsGeometry sets ways →
+    a ≡ lists_of (replicate sets []) (sets * ways) → rows ≡ replicate sets [] → IsStored ways a rows
+stored-empty {X} ways sets a rows shape is empty =
+    let long : length (replicate {A = List (ℕ × (ℕ × X))} sets []) ≡ sets = length-replicate sets [] in
+    let many : length (replicate {A = List (ℕ × ℕ)} sets []) ≡ sets = length-replicate sets [] in
+    rw (is, empty) (record {
+      cells = rw long refl;
+      narrow = shape.most_ways;
+      small = rw long shape.most_sets;
+      many = many ∙ sym long;
+      fits = λ set h. rw (empty-at {X = ℕ × ℕ} sets set, empty-at {X = ℕ × (ℕ × X)} sets set) (record {
+        within = omega arith;
+        short = omega arith;
+        found = λ line. refl;
+        distinct = tt;
+        lines = tt;
+      });
+    })

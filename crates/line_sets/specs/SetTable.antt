@@ -1,5 +1,6 @@
 -- A table of sets, each with as many ways. Which set a line belongs to is said by whoever uses the table.
-use Rattle.std.specs.Prelude.{ℕ, nat_lt, Bool, ◌||◌, List, [], length, replicate, Option, slice_index_or, slice_set}
+use Rattle.std.specs.Prelude.{ℕ, nat_lt, Bool, ◌||◌, List, [], length, replicate, Option, Some, None, slice_index_or}
+use Rattle.std.specs.Prelude.{slice_set, if◌then◌else◌}
 use Rattle.std.specs.List.{flat_map}
 use Rattle.line_sets.specs.Order.{find, without, put_last, put_in_place, is_there, listed}
 
@@ -43,3 +44,8 @@ has_place table i line = is_there (set_at table.sets i) line || has_room table i
 -- the lines of all sets, set by set, of values that a test passes
 abbrev pub all_listed : {X : Type 0} → (X → Bool) → List (List (ℕ × X)) → List ℕ
 all_listed passes sets = flat_map (listed passes) sets
+
+-- how many values that a test passes there are where one may be
+abbrev pub count_of : {X : Type 0} → (X → Bool) → Option X → ℕ
+count_of passes None = 0
+count_of passes (Some x) = if passes x then 1 else 0

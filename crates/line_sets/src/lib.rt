@@ -2,8 +2,10 @@
 #![tactic(auto)]
 
 mod entries;
+pub mod laws;
 pub mod listed;
 mod rows;
+mod selection;
 pub mod sets;
 
 pub use listed::{LineTest, Listed};

@@ -1,5 +1,6 @@
 //! Which lines of a table are listed, and which are looked for.
-ghost use Rattle.std.specs.Prelude.{◌≡◌, Bool, IfOk};
+ghost use Rattle.std.specs.Prelude.{◌≡◌, Bool, IfOk, Some};
+ghost use Rattle.line_sets.specs.SetTable.{count_of};
 
 use network::LineNo;
 use std::alloc::AllocError;
@@ -20,6 +21,13 @@ pub trait LineTest<V> {
     /// Whether the value passes.
     fn passes(&self, value: &V) -> bool
         ensures { result ≡ passes self.now value.now };
+}
+
+/// How many values this is of those that are listed: one or none.
+pub(crate) fn count_of<V: Listed>(value: &V) -> usize
+    ensures { result ≡ count_of V.is_listed (Some value.now) }
+{
+    if value.is_listed() { 1 } else { 0 }
 }
 
 // Numbers as those of lines.

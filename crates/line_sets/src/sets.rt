@@ -1,14 +1,17 @@
 //! A table of sets of lines in order of use, whose memory is all taken when it is made.
-ghost use Rattle.std.specs.Prelude.{◌≡◌, ◌<◌, ◌≤◌, IfOk, IsPermutation, IsSorted, IsTrue, length, OnOk, ◌++◌};
+ghost use Rattle.std.specs.Prelude.{◌≡◌, ◌<◌, ◌≤◌, IfOk, IsPermutation, IsSorted, IsTrue, length, OnOk, ◌++◌, ℕ};
+ghost use Rattle.std.specs.Prelude.{slice_get, Some};
 ghost use Rattle.std.specs.Option.{option_copied};
-ghost use Rattle.line_sets.specs.Order.{first_where, is_there, listed, oldest};
+ghost use Rattle.line_sets.specs.Order.{first_where, is_there, listed, oldest, IsDistinct};
 ghost use Rattle.std.specs.Ordering.{nat_cmp};
 ghost use Rattle.line_sets.specs.Geometry.{IsGeometry};
+ghost use Rattle.line_sets.specs.Rising.{all_but, risen};
 ghost use Rattle.line_sets.specs.SetTable.{all_listed, drop_line, empty_sets, has_place, has_room, look, put};
 ghost use Rattle.line_sets.specs.SetTable.{put_within, set_at};
 
-use crate::listed::{LineTest, Listed, line_numbers};
+use crate::listed::{LineTest, Listed, count_of, line_numbers};
 use crate::rows::Rows;
+use crate::selection::{leave_out, number_at};
 use line_arena::laws::{looked_up, taken_off};
 use line_arena::{Arena, ArenaError, Cell};
 use network::LineNo;
@@ -19,26 +22,29 @@ use std::marker::Model;
 /// each line. A set has as many lines as it has ways, at most, and no line twice. Which set a line belongs to is the
 /// caller's to say. Contracts see the ways and the list of sets.
 #[derive(Drop)]
-pub struct LineSets<V> {
+pub struct LineSets<V: Listed> {
     ways: usize,
+    // How many values are listed.
+    listed: usize,
     // Each set's lines and values, in order of use.
     arena: Arena<(u64, V)>,
     // Each set's lines and their cells of the arena.
     rows: Rows,
 }
 
-impl<V> Model for LineSets<V> {
-    ghost use Rattle.line_sets.specs.SetTable.{Sets};
+impl<V: Listed> Model for LineSets<V> {
+    ghost use Rattle.std.specs.Prelude.{◌≡◌, length};
+    ghost use Rattle.line_sets.specs.SetTable.{Sets, all_listed};
     ghost use Rattle.line_sets.specs.Stored.{sets_of, IsStored};
 
     ghost Value = { Sets V };
 
     ghost view = { λ table. record { ways = table.ways; sets = sets_of table.arena.lists } };
 
-    ghost invariant = { λ table. IsStored table.ways table.arena table.rows };
+    ghost invariant = { λ table. IsStored table.ways table.arena table.rows × (table.listed ≡ length (all_listed V.is_listed (sets_of table.arena.lists))) };
 }
 
-impl<V: Copy> LineSets<V> {
+impl<V: Copy + Listed> LineSets<V> {
     /// As many sets without lines, each with room for as many lines as there are ways. All memory is taken here.
     pub fn new(alloc: Global, sets: u32, ways: u32) -> Result<LineSets<V>, AllocError>
         requires { IsGeometry sets ways }
@@ -48,6 +54,7 @@ impl<V: Copy> LineSets<V> {
         match Arena::new(alloc, sets * ways, sets) {
             Ok(arena) => Ok(LineSets {
                 ways: ways as usize,
+                listed: 0,
                 arena,
                 rows,
             }),
@@ -140,8 +147,11 @@ impl<V: Copy> LineSets<V> {
             let pushed = self.arena.push_back(set as u32, (line, value));
             let cell = pushed.unwrap();
             self.rows.push(set, line, cell.0);
+            self.listed += count_of(&value);
             return;
         };
+        let before = count_of(&self.arena.get(Cell(cell)).1);
+        self.listed = self.listed - before + count_of(&value);
         *self.arena.get_mut(Cell(cell)) = (line, value);
         if self.arena.next(Cell(cell)).is_none() {
             return;
@@ -158,6 +168,8 @@ impl<V: Copy> LineSets<V> {
         looked_up::<(u64, V)>();
         let _lists = self.arena.lists();
         if let Some(cell) = self.rows.find(set, line) {
+            let before = count_of(&self.arena.get(Cell(cell)).1);
+            self.listed = self.listed - before + count_of(&value);
             *self.arena.get_mut(Cell(cell)) = (line, value);
         }
     }
@@ -175,11 +187,30 @@ impl<V: Copy> LineSets<V> {
             return None;
         };
         let (_line, value) = self.arena.unlink(Cell(cell));
+        self.listed -= count_of(&value);
         Some(value)
     }
-}
 
-impl<V: Copy + Listed> LineSets<V> {
+    /// How many lines of all sets have a value that is listed. No set has a line twice.
+    pub fn listed(&self) -> usize
+        ensures count { result ≡ length (all_listed V.is_listed self.now.sets) }
+        ensures once { (set : ℕ) → IsDistinct (set_at self.now.sets set) }
+    {
+        self.listed
+    }
+
+    /// The line that comes after so many others, once the lines of all sets whose values are listed, but that one, are
+    /// in rising order.
+    pub fn nth_listed(&self, but: Option<LineNo>, at: usize) -> Result<LineNo, AllocError>
+        requires { at < length (all_but but (all_listed V.is_listed self.now.sets)) }
+        ensures { IfOk result (λ line. slice_get (risen (all_but but
+            (all_listed V.is_listed self.now.sets))) at ≡ Some line) }
+    {
+        let mut numbers = self.gathered()?;
+        leave_out(&mut numbers, but);
+        Ok(LineNo(number_at(&mut numbers, at)))
+    }
+
     /// The lines of all sets whose values are listed, rising.
     pub fn lines(&self) -> Result<Vec<LineNo>, AllocError>
         ensures lines { IfOk result (λ lines. IsPermutation (all_listed V.is_listed self.now.sets)
@@ -196,11 +227,19 @@ impl<V: Copy + Listed> LineSets<V> {
             lines.items) }
         ensures rising { IfOk result (λ lines. IsSorted nat_cmp lines.items) }
     {
+        let mut lines = self.gathered()?;
+        lines.sort_unstable();
+        Ok(lines)
+    }
+
+    // The listed lines of all sets, set by set.
+    fn gathered(&self) -> Result<Vec<u64>, AllocError>
+        ensures { IfOk result (λ lines. lines.items ≡ all_listed V.is_listed self.now.sets) }
+    {
         let mut lines = Vec::new(self.rows.allocator());
         for set in 0..self.sets() {
             self.push_listed(&mut lines, set)?;
         }
-        lines.sort_unstable();
         Ok(lines)
     }
 

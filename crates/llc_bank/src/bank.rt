@@ -1,9 +1,10 @@
 //! A bank of the shared cache, whose memory is all taken when it is made.
 ghost use Rattle.std.specs.Prelude.{◌≡◌, ◌≢◌, ◌≤◌, ◌<◌, length, IfOk, IfSome, IsOk, IsPermutation, IsSorted, IsSome};
-ghost use Rattle.std.specs.Prelude.{IsTrue, is_some, Err, None, OnErr, Some};
+ghost use Rattle.std.specs.Prelude.{IsTrue, is_some, slice_get, Err, None, OnErr, Some};
 ghost use Rattle.std.specs.Ordering.{nat_cmp};
 ghost use Rattle.std.specs.Option.{option_copied};
 ghost use Rattle.line_sets.specs.Geometry.{IsGeometry};
+ghost use Rattle.line_sets.specs.Rising.{risen};
 ghost use Rattle.line_sets.specs.SetTable.{all_listed, has_room, has_place};
 ghost use Rattle.llc_bank.specs.SetUp.{IsInRange};
 ghost use Rattle.llc_bank.specs.OnEntry.{finds_place};
@@ -236,6 +237,22 @@ impl Bank {
         ensures rising { IfOk result (λ lines. IsSorted nat_cmp lines.items) }
     {
         self.table.lines()
+    }
+
+    /// How many lines are Shared or Exclusive.
+    pub fn settled(&self) -> usize
+        ensures { result ≡ length (all_listed is_settled self.now.table.sets) }
+    {
+        self.table.listed()
+    }
+
+    /// The line that comes after so many others, once those that are Shared or Exclusive are in rising order.
+    pub fn settled_line(&self, at: usize) -> Result<LineNo, AllocError>
+        requires { at < length (all_listed is_settled self.now.table.sets) }
+        ensures { IfOk result (λ line. slice_get (risen (all_listed is_settled
+            self.now.table.sets)) at ≡ Some line) }
+    {
+        self.table.nth_listed(None, at)
     }
 }
 

@@ -1,6 +1,7 @@
 //! The messages in flight, by number.
 ghost use Rattle.std.specs.Prelude.{◌≡◌, ◌+◌, ◌*◌, ◌<◌, ◌≤◌, ◌^◌, ◌++◌, ◌∷◌, [], false, IsTrue, IfOk, IfErr, IfSome};
 ghost use Rattle.std.specs.Prelude.{OnOk, OnErr, IsOk, Option, None, Some, option_copied, option_map, length, map};
+ghost use Rattle.std.specs.Prelude.{slice_get};
 ghost use Rattle.network.specs.SetUp.{IsInRange};
 ghost use Rattle.network.specs.NumberedMessages.{IsRising, at_number};
 ghost use Rattle.network.specs.Routes.{has_endpoints};
@@ -13,7 +14,7 @@ use crate::criteria::Wanted;
 use crate::message::{Message, Node};
 use crate::numbers::{LineNo, MsgNo};
 use crate::slots::{
-    Slot, count_wanted, drop_empty, first_wanted, message_of, numbers_of, reserve_slot,
+    Slot, count_wanted, drop_empty, first_wanted, message_of, nth_number, numbers_of, reserve_slot,
     take_message,
 };
 use std::alloc::{AllocError, Global};
@@ -218,6 +219,20 @@ impl InFlight {
         ensures rising { IsRising 0 self.now.mail.messages self.now.mail.next }
     {
         numbers_of(*self.slots.allocator(), &self.slots)
+    }
+
+    /// How many messages are in flight.
+    pub fn count(&self) -> u32
+        ensures { result ≡ length self.now.mail.messages }
+    {
+        self.count
+    }
+
+    /// The number of the message in flight before which so many were sent that still are; none past the last one.
+    pub fn nth(&self, at: u32) -> Option<MsgNo>
+        ensures { result ≡ slice_get (map (λ x. x.0) self.now.mail.messages) at }
+    {
+        nth_number(&self.slots, at)
     }
 
     /// How many messages carry the line's ownership.

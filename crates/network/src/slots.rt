@@ -173,3 +173,19 @@ pub(crate) fn numbers_of(alloc: Global, slots: &[Slot]) -> Result<Vec<MsgNo>, Al
     }
     Ok(numbers)
 }
+
+/// The number of the slot that has its message and comes after so many others that have theirs; none past the last.
+pub(crate) fn nth_number(slots: &[Slot], at: u32) -> Option<MsgNo>
+    ensures { result ≡ slice_get (map (λ x. x.0) (still_there slots.now)) at }
+{
+    let mut left = at;
+    for slot in slots {
+        if slot.1.is_some() {
+            if left == 0 {
+                return Some(MsgNo(slot.0));
+            }
+            left -= 1;
+        }
+    }
+    None
+}

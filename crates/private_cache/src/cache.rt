@@ -1,11 +1,13 @@
 //! A private cache, whose memory is all taken when it is made.
 ghost use Rattle.std.specs.Prelude.{◌≡◌, ◌≤◌, ◌<◌, length, IfOk, IfSome, IsPermutation, IsSorted, IsSome, IsTrue};
-ghost use Rattle.std.specs.Prelude.{is_some, not, true};
+ghost use Rattle.std.specs.Prelude.{is_some, not, slice_get, true, Some};
 ghost use Rattle.std.specs.Ordering.{nat_cmp};
 ghost use Rattle.std.specs.Option.{option_copied};
 ghost use Rattle.line_sets.specs.Geometry.{IsGeometry};
+ghost use Rattle.line_sets.specs.Rising.{risen};
 ghost use Rattle.line_sets.specs.SetTable.{all_listed, empty_sets};
 ghost use Rattle.private_cache.specs.CopyTable.{is_pinned};
+ghost use Rattle.private_cache.specs.FreeLines.{free_lines};
 
 use crate::line_copy::{CopyState, LineCopy};
 use line_sets::LineSets;
@@ -227,5 +229,28 @@ impl Cache {
         ensures rising { IfOk result (λ lines. IsSorted nat_cmp lines.items) }
     {
         self.table.lines()
+    }
+
+    /// How many copies may leave: all but that of the pinned line.
+    pub fn free_copies(&self, pinned: Option<LineNo>) -> usize
+        ensures { result ≡ length (free_lines self.now pinned) }
+    {
+        let copies = self.table.listed();
+        let Some(line) = pinned else {
+            return copies;
+        };
+        if self.find(line).is_none() {
+            return copies;
+        }
+        copies - 1
+    }
+
+    /// The line that comes after so many others, once the lines of all copies but the pinned one are in rising order.
+    pub fn free_copy(&self, pinned: Option<LineNo>, at: usize) -> Result<LineNo, AllocError>
+        requires { at < length (free_lines self.now pinned) }
+        ensures { IfOk result (λ line. slice_get (risen (free_lines self.now pinned)) at ≡ Some
+            line) }
+    {
+        self.table.nth_listed(pinned, at)
     }
 }

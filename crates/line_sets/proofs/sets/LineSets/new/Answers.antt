@@ -1,8 +1,19 @@
-use Rattle.std.proofs.Common.{ap, ◌∙◌}
+use Rattle.std.proofs.Common.{sym, ap, ◌∙◌, length}
+use Rattle.line_sets.specs.SetTable.{all_listed}
 use Rattle.line_sets.specs.Stored.{sets_of}
-use Rattle.line_sets.proofs.StoredSets.{table_of, sets-empty}
+use Rattle.line_sets.proofs.ListedCounts.{none-listed}
+use Rattle.line_sets.proofs.StoredSets.{table_of, sets-empty, stored-empty}
 use Rattle.line_sets.proofs.sets.LineSets.new.Goals as goal
 
 pub returns-in-Ok : goal.returns-in-Ok
 returns-in-Ok g c =
     ap (table_of c.args.ways) (ap (λ a. sets_of a.lists) c.in-Ok.ensures.made ∙ sets-empty c.args.sets)
+
+pub invariant_of-result : goal.invariant_of-result
+invariant_of-result g c = (
+  stored-empty c.args.ways c.args.sets c.in-Ok.arena c.in_ok-rows.rows c.requires c.in-Ok.ensures.made
+      c.in_ok-rows.ensures,
+  sym (ap (λ sets. length (all_listed g.V.Listed.is_listed sets))
+      (ap (λ a. sets_of a.lists) c.in-Ok.ensures.made ∙ sets-empty c.args.sets)
+      ∙ ap length (none-listed g.V.Listed.is_listed c.args.sets)),
+)

@@ -1,34 +1,37 @@
 use Rattle.std.proofs.Common.{sym, ap, ◌∙◌}
 use Rattle.std.specs.Option.{is_some}
+use Rattle.line_sets.proofs.ListedCounts.{counted-drop_line, in-count, was-counted}
 use Rattle.line_sets.proofs.StoredSets.{table_of, below, is-found, is-missing, nothing-cut, cut-off, second-of}
 use Rattle.line_sets.proofs.sets.LineSets.remove.Goals as goal
 
 pub invariant_of-self : goal.invariant_of-self
 invariant_of-self g c =
     let a = c.self.inside.arena in let rs = c.self.inside.rows in let w = c.self.inside.ways in
-    let h = below a.lists c.args.set (rw (← c.self.view_is) at c.requires) in
-    (nothing-cut w a rs c.take.new.self c.args.set c.args.line c.self.invariant h
-    (sym c.take.ensures.value ∙ c.in_default.is) c.take.ensures.after).stored
+    let h = below a.lists c.args.set (rw (← c.self.view_is) at c.requires) in (
+      (nothing-cut w a rs c.take.new.self c.args.set c.args.line c.self.invariant.0 h
+          (sym c.take.ensures.value ∙ c.in_default.is) c.take.ensures.after).stored,
+      c.self.invariant.1,
+    )
 
 pub returns-in_default-clause-value : goal.returns-in_default-clause-value
 returns-in_default-clause-value g c =
     let a = c.self.inside.arena in let rs = c.self.inside.rows in let w = c.self.inside.ways in
     let h = below a.lists c.args.set (rw (← c.self.view_is) at c.requires) in
-    rw (← c.self.view_is) (sym (is-missing w a rs c.args.set c.args.line c.self.invariant h
+    rw (← c.self.view_is) (sym (is-missing w a rs c.args.set c.args.line c.self.invariant.0 h
     (sym c.take.ensures.value ∙ c.in_default.is)))
 
 pub returns-in_default-clause-after : goal.returns-in_default-clause-after
 returns-in_default-clause-after g c =
     let a = c.self.inside.arena in let rs = c.self.inside.rows in let w = c.self.inside.ways in
     let h = below a.lists c.args.set (rw (← c.self.view_is) at c.requires) in
-    rw (← c.self.view_is) (ap (table_of w) (nothing-cut w a rs c.take.new.self c.args.set c.args.line c.self.invariant
+    rw (← c.self.view_is) (ap (table_of w) (nothing-cut w a rs c.take.new.self c.args.set c.args.line c.self.invariant.0
     h (sym c.take.ensures.value ∙ c.in_default.is) c.take.ensures.after).are)
 
 pub unlink-line-requires : goal.unlink-line-requires
 unlink-line-requires g c =
     let a = c.self.inside.arena in let rs = c.self.inside.rows in let w = c.self.inside.ways in
     let h = below a.lists c.args.set (rw (← c.self.view_is) at c.requires) in
-    let found = is-found w a rs c.args.set c.args.line c.in-Some.cell c.self.invariant c.lists-lists.ensures.once
+    let found = is-found w a rs c.args.set c.args.line c.in-Some.cell c.self.invariant.0 c.lists-lists.ensures.once
     c.looked_up.ensures h (sym c.take.ensures.value ∙ c.in-Some.is) in
     ap is_some found.cell
 
@@ -36,15 +39,23 @@ pub invariant_of-self-2 : goal.invariant_of-self-2
 invariant_of-self-2 g c =
     let a = c.self.inside.arena in let rs = c.self.inside.rows in let w = c.self.inside.ways in
     let h = below a.lists c.args.set (rw (← c.self.view_is) at c.requires) in
-    rw c.take.ensures.after (cut-off w a c.unlink-line.new.self rs c.args.set c.args.line c.in-Some.cell
-    c.self.invariant c.lists-lists.ensures.once c.looked_up.ensures c.taken_off.ensures h
-    (sym c.take.ensures.value ∙ c.in-Some.is) c.unlink-line.ensures.after).stored
+    let new = cut-off w a c.unlink-line.new.self rs c.args.set c.args.line c.in-Some.cell
+    c.self.invariant.0 c.lists-lists.ensures.once c.looked_up.ensures c.taken_off.ensures h
+    (sym c.take.ensures.value ∙ c.in-Some.is) c.unlink-line.ensures.after in
+    let found = is-found w a rs c.args.set c.args.line c.in-Some.cell c.self.invariant.0 c.lists-lists.ensures.once
+    c.looked_up.ensures h (sym c.take.ensures.value ∙ c.in-Some.is) in (
+      rw c.take.ensures.after new.stored,
+      counted-drop_line g.V.Listed.is_listed w a rs c.args.set c.args.line c.self.inside.listed c.self.invariant.0 h
+          c.self.invariant.1 c.count_of.result _ (was-counted g.V.Listed.is_listed a.lists c.args.set c.args.line
+          c.in-Some.cell c.count_of.result c.unlink-line.result found c.unlink-line.ensures.value c.count_of.ensures)
+          new.are,
+    )
 
 pub returns-clause-value : goal.returns-clause-value
 returns-clause-value g c =
     let a = c.self.inside.arena in let rs = c.self.inside.rows in let w = c.self.inside.ways in
     let h = below a.lists c.args.set (rw (← c.self.view_is) at c.requires) in
-    let found = is-found w a rs c.args.set c.args.line c.in-Some.cell c.self.invariant c.lists-lists.ensures.once
+    let found = is-found w a rs c.args.set c.args.line c.in-Some.cell c.self.invariant.0 c.lists-lists.ensures.once
     c.looked_up.ensures h (sym c.take.ensures.value ∙ c.in-Some.is) in
     rw (← c.self.view_is) (second-of c.unlink-line.result c.args.line found.value
     (sym c.unlink-line.ensures.value ∙ found.cell) ∙ sym found.entry)
@@ -54,5 +65,15 @@ returns-clause-after g c =
     let a = c.self.inside.arena in let rs = c.self.inside.rows in let w = c.self.inside.ways in
     let h = below a.lists c.args.set (rw (← c.self.view_is) at c.requires) in
     rw (← c.self.view_is) (ap (table_of w) (cut-off w a c.unlink-line.new.self rs c.args.set c.args.line c.in-Some.cell
-    c.self.invariant c.lists-lists.ensures.once c.looked_up.ensures c.taken_off.ensures h
+    c.self.invariant.0 c.lists-lists.ensures.once c.looked_up.ensures c.taken_off.ensures h
     (sym c.take.ensures.value ∙ c.in-Some.is) c.unlink-line.ensures.after).are)
+
+pub overflow_sub-self : goal.overflow_sub-self
+overflow_sub-self g c =
+    let a = c.self.inside.arena in let rs = c.self.inside.rows in let w = c.self.inside.ways in
+    let h = below a.lists c.args.set (rw (← c.self.view_is) at c.requires) in
+    let found = is-found w a rs c.args.set c.args.line c.in-Some.cell c.self.invariant.0 c.lists-lists.ensures.once
+    c.looked_up.ensures h (sym c.take.ensures.value ∙ c.in-Some.is) in
+    in-count g.V.Listed.is_listed w a rs c.args.set c.args.line c.self.inside.listed c.self.invariant.0 h
+    c.self.invariant.1 c.count_of.result (was-counted g.V.Listed.is_listed a.lists c.args.set c.args.line
+    c.in-Some.cell c.count_of.result c.unlink-line.result found c.unlink-line.ensures.value c.count_of.ensures)

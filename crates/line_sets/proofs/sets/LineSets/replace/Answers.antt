@@ -1,5 +1,6 @@
-use Rattle.std.proofs.Common.{refl, sym, ap, ◌∙◌, true≢false}
+use Rattle.std.proofs.Common.{arith, refl, sym, ap, ◌∙◌, true≢false}
 use Rattle.std.specs.Option.{is_some}
+use Rattle.line_sets.proofs.ListedCounts.{counted-put_within, in-count, next-fits, was-counted}
 use Rattle.line_sets.proofs.StoredSets.{table_of, below, is-found, is-missing, written, written-in}
 use Rattle.line_sets.proofs.sets.LineSets.replace.Goals as goal
 
@@ -7,24 +8,59 @@ pub get_mut-requires : goal.get_mut-requires
 get_mut-requires g c =
     let a = c.self.inside.arena in let rs = c.self.inside.rows in let w = c.self.inside.ways in
     let h = below a.lists c.args.set (rw (← c.self.view_is) at c.requires.in_table) in
-    let found = is-found w a rs c.args.set c.args.line c.in-Some.cell c.self.invariant c.lists-lists.ensures.once
+    let found = is-found w a rs c.args.set c.args.line c.in-Some.cell c.self.invariant.0 c.lists-lists.ensures.once
     c.looked_up.ensures h (sym c.find.ensures ∙ c.in-Some.is) in
     ap is_some found.cell
+
+pub get-requires : goal.get-requires
+get-requires g c =
+    let a = c.self.inside.arena in let rs = c.self.inside.rows in let w = c.self.inside.ways in
+    let h = below a.lists c.args.set (rw (← c.self.view_is) at c.requires.in_table) in
+    let found = is-found w a rs c.args.set c.args.line c.in-Some.cell c.self.invariant.0 c.lists-lists.ensures.once
+    c.looked_up.ensures h (sym c.find.ensures ∙ c.in-Some.is) in
+    ap is_some found.cell
+
+pub overflow_sub-self : goal.overflow_sub-self
+overflow_sub-self g c =
+    let a = c.self.inside.arena in let rs = c.self.inside.rows in let w = c.self.inside.ways in
+    let h = below a.lists c.args.set (rw (← c.self.view_is) at c.requires.in_table) in
+    let found = is-found w a rs c.args.set c.args.line c.in-Some.cell c.self.invariant.0 c.lists-lists.ensures.once
+    c.looked_up.ensures h (sym c.find.ensures ∙ c.in-Some.is) in
+    in-count g.V.Listed.is_listed w a rs c.args.set c.args.line c.self.inside.listed c.self.invariant.0 h
+    c.self.invariant.1 c.count_of-before.result (was-counted g.V.Listed.is_listed a.lists c.args.set c.args.line
+    c.in-Some.cell c.count_of-before.result c.get.result.now found c.get.ensures c.count_of-before.ensures)
+
+pub overflow_add-self : goal.overflow_add-self
+overflow_add-self g c =
+    let a = c.self.inside.arena in let rs = c.self.inside.rows in let w = c.self.inside.ways in
+    let h = below a.lists c.args.set (rw (← c.self.view_is) at c.requires.in_table) in
+    let fits = next-fits g.V.Listed.is_listed w a rs c.args.set c.args.line c.self.inside.listed c.self.invariant.0 h
+    c.self.invariant.1 c.args.value c.count_of.result c.count_of.ensures in
+    omega (arith, fits)
 
 pub invariant_of-self : goal.invariant_of-self
 invariant_of-self g c =
     let a = c.self.inside.arena in let rs = c.self.inside.rows in let w = c.self.inside.ways in
     let h = below a.lists c.args.set (rw (← c.self.view_is) at c.requires.in_table) in
-    (written w a (written-in c.in-Some.cell (c.args.line, c.args.value) a) rs c.args.set c.args.line c.in-Some.cell
-    c.args.value c.self.invariant c.lists-lists.ensures.once c.looked_up.ensures h
-    (sym c.find.ensures ∙ c.in-Some.is) refl).stored
+    let after = written w a (written-in c.in-Some.cell (c.args.line, c.args.value) a) rs c.args.set c.args.line
+    c.in-Some.cell c.args.value c.self.invariant.0 c.lists-lists.ensures.once c.looked_up.ensures h
+    (sym c.find.ensures ∙ c.in-Some.is) refl in
+    let found = is-found w a rs c.args.set c.args.line c.in-Some.cell c.self.invariant.0 c.lists-lists.ensures.once
+    c.looked_up.ensures h (sym c.find.ensures ∙ c.in-Some.is) in (
+      after.stored,
+      counted-put_within g.V.Listed.is_listed w a rs c.args.set c.args.line c.self.inside.listed c.self.invariant.0 h
+          c.self.invariant.1 c.args.value c.count_of-before.result c.count_of.result _
+          (rw (← c.self.view_is) at c.requires.there) (was-counted g.V.Listed.is_listed a.lists c.args.set c.args.line
+          c.in-Some.cell c.count_of-before.result c.get.result.now found c.get.ensures c.count_of-before.ensures)
+          c.count_of.ensures after.are,
+    )
 
 pub returns-in-Some : goal.returns-in-Some
 returns-in-Some g c =
     let a = c.self.inside.arena in let rs = c.self.inside.rows in let w = c.self.inside.ways in
     let h = below a.lists c.args.set (rw (← c.self.view_is) at c.requires.in_table) in
     rw (← c.self.view_is) (ap (table_of w) (written w a (written-in c.in-Some.cell (c.args.line, c.args.value) a) rs
-    c.args.set c.args.line c.in-Some.cell c.args.value c.self.invariant c.lists-lists.ensures.once
+    c.args.set c.args.line c.in-Some.cell c.args.value c.self.invariant.0 c.lists-lists.ensures.once
     c.looked_up.ensures h (sym c.find.ensures ∙ c.in-Some.is) refl).are)
 
 pub returns-in_default : goal.returns-in_default
@@ -32,6 +68,6 @@ returns-in_default g c =
     let a = c.self.inside.arena in let rs = c.self.inside.rows in let w = c.self.inside.ways in
     let h = below a.lists c.args.set (rw (← c.self.view_is) at c.requires.in_table) in
     let there = rw (← c.self.view_is) at c.requires.there in
-    let none = ap is_some (is-missing w a rs c.args.set c.args.line c.self.invariant h
+    let none = ap is_some (is-missing w a rs c.args.set c.args.line c.self.invariant.0 h
     (sym c.find.ensures ∙ c.in_default.is)) in
     absurd (true≢false (sym there ∙ none))

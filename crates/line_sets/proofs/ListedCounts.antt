@@ -1,0 +1,210 @@
+-- How many lines are listed, before and after each change of a table.
+use Rattle.std.proofs.Common.{◌≡◌, ◌≢◌, ℕ, zero, suc, ◌+◌, ◌-◌, ◌*◌, ◌<◌, ◌≤◌, Bool, true, false, cond, List, []}
+use Rattle.std.proofs.Common.{◌∷◌, ◌++◌, length, map, filter, set, get_or, replicate, inl, inr, Option, Some, None, refl, sym, ap, ◌∙◌, arith}
+use Rattle.std.specs.Option.{is_some}
+use Rattle.std.proofs.lemmas.Bool.{cases_eq, cases_lt, cond_both, cond-true, cond-false, eq-eqb, ne_eqb}
+use Rattle.std.proofs.lemmas.List.{get_or_past, length-append, length-map}
+use Rattle.line_arena.specs.Arenas.{Lists}
+use Rattle.line_sets.specs.Order.{find, is_there, listed, put_in_place, put_last, without, IsDistinct}
+use Rattle.line_sets.specs.SetTable.{all_listed, count_of, drop_line, look, put, put_within, set_at}
+use Rattle.line_sets.specs.Stored.{entries_of, sets_of, tags_of, IsStored}
+use Rattle.line_sets.proofs.Indices.{missing-without}
+use Rattle.line_arena.specs.CellLists.{look_up}
+use Rattle.line_sets.proofs.StoredSets.{entries-at, length-sets, second-of, IsFound}
+use Rattle.line_sets.proofs.TaggedCells.{entry-there}
+
+module _ {X : Type 0} (passes : X → Bool) where
+  -- one set
+  listed-more : (p : ℕ × X) (ps : List (ℕ × X)) →
+      length (listed passes (p ∷ ps)) ≡ count_of passes (Some p.1) + length (listed passes ps)
+  listed-more p ps = go (passes p.1)
+    where
+      go : (b : Bool) → length (map (λ (q : ℕ × X). q.0) (cond b (p ∷ filter (λ q. passes q.1) ps)
+          (filter (λ q. passes q.1) ps))) ≡ cond b 1 0 + length (listed passes ps)
+      go true = omega arith
+      go false = omega arith
+
+  count-without : (ps : List (ℕ × X)) (line : ℕ) → IsDistinct ps →
+      length (listed passes (without ps line)) + count_of passes (find ps line) ≡ length (listed passes ps)
+  count-without [] line once = refl
+  count-without (p ∷ ps) line once = elim (cases_eq p.0 line) [
+    | inl e ↦
+        let gone : is_there ps line ≡ false = ap (λ j. is_there ps j) (sym e) ∙ once.0 in
+        ap (λ b. length (listed passes (cond b (without ps line) (p ∷ without ps line)))
+        + count_of passes (cond b (Some p.1) (find ps line))) (eq-eqb p.0 line e)
+        ∙ (let same : length (listed passes (without ps line)) ≡ length (listed passes ps) =
+        ap (λ us. length (listed passes us)) (missing-without ps line gone) in
+        let more = listed-more p ps in omega (arith, same, more))
+    | inr ne ↦
+        ap (λ b. length (listed passes (cond b (without ps line) (p ∷ without ps line)))
+        + count_of passes (cond b (Some p.1) (find ps line))) (ne_eqb p.0 line ne)
+        ∙ (let more = listed-more p (without ps line) in let before = listed-more p ps in
+        let later = count-without ps line once.1 in omega (arith, more, before, later))
+  ]
+
+  count-push : (ps : List (ℕ × X)) (line : ℕ) (x : X) →
+      length (listed passes (ps ++ (line, x) ∷ [])) ≡ length (listed passes ps) + count_of passes (Some x)
+  count-push [] line x = let one = listed-more (line, x) [] in omega (arith, one)
+  count-push (p ∷ ps) line x =
+      let more = listed-more p (ps ++ (line, x) ∷ []) in let before = listed-more p ps in
+      let later = count-push ps line x in omega (arith, more, before, later)
+
+  count-put_last : (ps : List (ℕ × X)) (line : ℕ) (x : X) → IsDistinct ps →
+      length (listed passes (put_last ps line x)) + count_of passes (find ps line)
+      ≡ length (listed passes ps) + count_of passes (Some x)
+  count-put_last ps line x once =
+      let cut = count-without ps line once in let more = count-push (without ps line) line x in
+      omega (arith, cut, more)
+
+  count-put_in_place : (ps : List (ℕ × X)) (line : ℕ) (x : X) → is_there ps line ≡ true →
+      length (listed passes (put_in_place ps line x)) + count_of passes (find ps line)
+      ≡ length (listed passes ps) + count_of passes (Some x)
+  count-put_in_place [] line x there = cc
+  count-put_in_place (p ∷ ps) line x there = elim (cases_eq p.0 line) [
+    | inl e ↦
+        ap (λ b. length (listed passes (cond b ((line, x) ∷ ps) (p ∷ put_in_place ps line x)))
+        + count_of passes (cond b (Some p.1) (find ps line))) (eq-eqb p.0 line e)
+        ∙ (let more = listed-more (line, x) ps in let before = listed-more p ps in omega (arith, more, before))
+    | inr ne ↦
+        ap (λ b. length (listed passes (cond b ((line, x) ∷ ps) (p ∷ put_in_place ps line x)))
+        + count_of passes (cond b (Some p.1) (find ps line))) (ne_eqb p.0 line ne)
+        ∙ (let more = listed-more p (put_in_place ps line x) in let before = listed-more p ps in
+        let later = count-put_in_place ps line x
+        (sym (ap is_some (cond-false _ (Some p.1) (find ps line) (ne_eqb p.0 line ne))) ∙ there) in
+        omega (arith, more, before, later))
+  ]
+
+  -- one set is another now
+  count-set : (sets : List (List (ℕ × X))) (i : ℕ) (ps : List (ℕ × X)) → i < length sets →
+      length (all_listed passes (set sets i ps)) + length (listed passes (set_at sets i))
+      ≡ length (all_listed passes sets) + length (listed passes ps)
+  count-set [] i ps h = absurd (omega (arith, h))
+  count-set (qs ∷ sets) zero ps h =
+      let after = length-append (listed passes ps) (all_listed passes sets) in
+      let before = length-append (listed passes qs) (all_listed passes sets) in omega (arith, after, before)
+  count-set (qs ∷ sets) (suc i) ps h =
+      let after = length-append (listed passes qs) (all_listed passes (set sets i ps)) in
+      let before = length-append (listed passes qs) (all_listed passes sets) in
+      let later = count-set sets i ps (omega (arith, h)) in omega (arith, after, before, later)
+
+  pub count-put : (sets : List (List (ℕ × X))) (i line : ℕ) (x : X) → i < length sets → IsDistinct (set_at sets i) →
+      length (all_listed passes (put sets i line x)) + count_of passes (look sets i line)
+      ≡ length (all_listed passes sets) + count_of passes (Some x)
+  count-put sets i line x h once =
+      let one = count-put_last (set_at sets i) line x once in
+      let all = count-set sets i (put_last (set_at sets i) line x) h in omega (arith, one, all)
+
+  pub count-put_within : (sets : List (List (ℕ × X))) (i line : ℕ) (x : X) → i < length sets →
+      is_there (set_at sets i) line ≡ true →
+      length (all_listed passes (put_within sets i line x)) + count_of passes (look sets i line)
+      ≡ length (all_listed passes sets) + count_of passes (Some x)
+  count-put_within sets i line x h there =
+      let one = count-put_in_place (set_at sets i) line x there in
+      let all = count-set sets i (put_in_place (set_at sets i) line x) h in omega (arith, one, all)
+
+  pub count-drop_line : (sets : List (List (ℕ × X))) (i line : ℕ) → i < length sets → IsDistinct (set_at sets i) →
+      length (all_listed passes (drop_line sets i line)) + count_of passes (look sets i line)
+      ≡ length (all_listed passes sets)
+  count-drop_line sets i line h once =
+      let one = count-without (set_at sets i) line once in
+      let all = count-set sets i (without (set_at sets i) line) h in omega (arith, one, all)
+
+  -- no more than 16 lines in each of 1,024 sets
+  listed-few : (ps : List (ℕ × X)) → length (listed passes ps) ≤ length ps
+  listed-few [] = omega arith
+  listed-few (p ∷ ps) =
+      let more = listed-more p ps in let later = listed-few ps in
+      let one : count_of passes (Some p.1) ≤ 1 = cond_both (passes p.1) 1 0 (λ n. n ≤ 1) (λ e. omega arith)
+      (λ e. omega arith) in omega (arith, more, later, one)
+
+  all-few : (sets : List (List (ℕ × X))) → ((i : ℕ) → i < length sets → length (set_at sets i) ≤ 16) →
+      length (all_listed passes sets) ≤ length sets * 16
+  all-few [] h = omega arith
+  all-few (ps ∷ sets) h =
+      let more = length-append (listed passes ps) (all_listed passes sets) in let few = listed-few ps in
+      let first = h 0 (omega arith) in let later = all-few sets (λ i lt. h (suc i) (omega (arith, lt))) in
+      omega (arith, more, few, first, later)
+
+  pub one-at-most : (x : X) → count_of passes (Some x) ≤ 1
+  one-at-most x = cond_both (passes x) 1 0 (λ n. n ≤ 1) (λ e. omega arith) (λ e. omega arith)
+
+  -- no line is twice in a set of a table
+  distinct-entries : (xs : List (ℕ × (ℕ × X))) → IsDistinct (tags_of xs) → IsDistinct (entries_of xs)
+  distinct-entries [] h = tt
+  distinct-entries (a ∷ xs) h = (entry-there xs a.1.0 ∙ h.0, distinct-entries xs h.1)
+
+  pub distinct-at : (ways : ℕ) (a : Lists (ℕ × X)) (rows : List (List (ℕ × ℕ))) (i : ℕ) → IsStored ways a rows →
+      i < length a.lists → IsDistinct (set_at (sets_of a.lists) i)
+  distinct-at ways a rows i stored h =
+      rw (entries-at a.lists i h) (distinct-entries (get_or a.lists i []) (stored.fits i h).lines)
+
+  pub distinct-everywhere : (ways : ℕ) (a : Lists (ℕ × X)) (rows : List (List (ℕ × ℕ))) (i : ℕ) →
+      IsStored ways a rows → IsDistinct (set_at (sets_of a.lists) i)
+  distinct-everywhere ways a rows i stored = elim (cases_lt i (length a.lists)) [
+    | inl lt ↦ distinct-at ways a rows i stored lt
+    | inr ge ↦ (let long = length-sets a.lists in
+        rw (get_or_past (sets_of a.lists) i [] (omega (arith, ge, long))) tt)
+  ]
+
+  -- there are not so many lines that their count doesn't fit
+  pub listed-fits : (ways : ℕ) (a : Lists (ℕ × X)) (rows : List (List (ℕ × ℕ))) → IsStored ways a rows →
+      length (all_listed passes (sets_of a.lists)) ≤ 16384
+  listed-fits ways a rows stored =
+      let long = length-sets a.lists in let small = stored.small in let narrow = stored.narrow in
+      let few = all-few (sets_of a.lists) (λ i lt.
+      (let h : i < length a.lists = omega (arith, lt, long) in
+      let at : length (set_at (sets_of a.lists) i) ≡ length (get_or a.lists i []) =
+      ap length (entries-at a.lists i h) ∙ length-map (get_or a.lists i []) (λ (p : ℕ × (ℕ × X)). (p.1.0, p.1.1)) in
+      let within = (stored.fits i h).within in omega (arith, at, within, narrow))) in
+      omega (arith, few, long, small)
+
+  -- a table without lines
+  pub none-listed : (n : ℕ) → all_listed passes (replicate n []) ≡ []
+  none-listed zero = refl
+  none-listed (suc n) = none-listed n
+
+  -- a table whose count is kept: how many values are listed before a change, and after it
+  pub was-counted : (ls : List (List (ℕ × (ℕ × X)))) (i line c n : ℕ) (p : ℕ × X) → IsFound ls i line c →
+      look_up c ls ≡ Some p → n ≡ count_of passes (Some p.1) → n ≡ count_of passes (look (sets_of ls) i line)
+  was-counted ls i line c n p found read is =
+      is ∙ ap (count_of passes) (second-of p line found.value (sym read ∙ found.cell) ∙ sym found.entry)
+
+  module _ (ways : ℕ) (a : Lists (ℕ × X)) (rows : List (List (ℕ × ℕ))) (i line count : ℕ) (stored : IsStored ways a rows)
+      (h : i < length a.lists) (counted : count ≡ length (all_listed passes (sets_of a.lists))) where
+    pub in-count : (n : ℕ) → n ≡ count_of passes (look (sets_of a.lists) i line) → n ≤ count
+    in-count n is =
+        let gone = count-drop_line (sets_of a.lists) i line (omega (arith, h, length-sets a.lists))
+        (distinct-at ways a rows i stored h) in omega (arith, gone, is, counted)
+
+    pub next-fits : (x : X) (m : ℕ) → m ≡ count_of passes (Some x) → count + m ≤ 16385
+    next-fits x m is =
+        let few = listed-fits ways a rows stored in let one = one-at-most x in omega (arith, few, one, is, counted)
+
+    pub counted-put : (x : X) (n m : ℕ) (new : List (List (ℕ × X))) →
+        n ≡ count_of passes (look (sets_of a.lists) i line) → m ≡ count_of passes (Some x) →
+        new ≡ put (sets_of a.lists) i line x → count - n + m ≡ length (all_listed passes new)
+    counted-put x n m new was is all =
+        let after = count-put (sets_of a.lists) i line x (omega (arith, h, length-sets a.lists))
+        (distinct-at ways a rows i stored h) in
+        let inside = in-count n was in rw all (omega (arith, after, inside, was, is, counted))
+
+    pub counted-new : (x : X) (m : ℕ) (new : List (List (ℕ × X))) → look (sets_of a.lists) i line ≡ None →
+        m ≡ count_of passes (Some x) → new ≡ put (sets_of a.lists) i line x → count + m ≡ length (all_listed passes new)
+    counted-new x m new none is all =
+        let same = counted-put x 0 m new (sym (ap (count_of passes) none)) is all in omega (arith, same)
+
+    pub counted-put_within : (x : X) (n m : ℕ) (new : List (List (ℕ × X))) →
+        is_there (set_at (sets_of a.lists) i) line ≡ true →
+        n ≡ count_of passes (look (sets_of a.lists) i line) → m ≡ count_of passes (Some x) →
+        new ≡ put_within (sets_of a.lists) i line x → count - n + m ≡ length (all_listed passes new)
+    counted-put_within x n m new there was is all =
+        let after = count-put_within (sets_of a.lists) i line x (omega (arith, h, length-sets a.lists)) there in
+        let inside = in-count n was in rw all (omega (arith, after, inside, was, is, counted))
+
+    pub counted-drop_line : (n : ℕ) (new : List (List (ℕ × X))) →
+        n ≡ count_of passes (look (sets_of a.lists) i line) →
+        new ≡ drop_line (sets_of a.lists) i line → count - n ≡ length (all_listed passes new)
+    counted-drop_line n new was all =
+        let after = count-drop_line (sets_of a.lists) i line (omega (arith, h, length-sets a.lists))
+        (distinct-at ways a rows i stored h) in
+        rw all (omega (arith, after, was, counted))

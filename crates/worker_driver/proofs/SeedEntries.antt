@@ -15,7 +15,7 @@ use Rattle.worker_driver.specs.declared.schedule.Choice.{Choice as Chosen}
 use Rattle.machine_table.specs.declared.event.Event.{Event}
 use Rattle.machine_table.specs.declared.event.Event.TheVariants as event
 use Rattle.machine_table.specs.Machine.{Machine}
-use Rattle.worker_driver.specs.Shim.{put_in, risen}
+use Rattle.line_sets.specs.Rising.{put_in, risen}
 use Rattle.worker_driver.specs.Acts.{Acts, next_in}
 use Rattle.worker_driver.specs.Schedules.{Choice, Does, Tries, Delivers, Advances, Goes, Over}
 use Rattle.worker_driver.specs.SeedSchedule.{Seeded, advances, core_step, core_steps, entry, line_events}

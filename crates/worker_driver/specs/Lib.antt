@@ -3,7 +3,6 @@ pub mod Schedules
 pub mod Runs
 pub mod RoundSchedule
 pub mod RoundViews
-pub mod Shim
 pub mod SeedSchedule
 pub mod SeedViews
 pub mod RunEvents

@@ -11,8 +11,8 @@ use Rattle.trace_lines.specs.declared.steps.Step.TheVariants as step
 use Rattle.machine_table.specs.declared.event.Event.{Event}
 use Rattle.machine_table.specs.declared.event.Event.TheVariants as event
 use Rattle.machine_table.specs.Machine.{Machine}
-use Rattle.interleaving_core.specs.LookUps.{open_op, entries}
-use Rattle.worker_driver.specs.Shim.{free_copies, risen}
+use Rattle.line_sets.specs.Rising.{risen}
+use Rattle.interleaving_core.specs.LookUps.{open_op, entries, free_copies}
 use Rattle.worker_driver.specs.Acts.{Acts, next_in}
 use Rattle.worker_driver.specs.Schedules.{Schedule, Choice, Does, Tries, Delivers, Advances, Over}
 use Rattle.worker_driver.specs.RoundSchedule.{in_flight}

@@ -2,8 +2,8 @@
 //! one that the schedule has next. docs/SCHEDULES.md has the schedules.
 #![tactic(auto)]
 
-pub mod laws;
 mod driven;
+pub mod laws;
 mod lists;
 mod log;
 mod look_ups;
@@ -14,12 +14,11 @@ mod run;
 mod schedule;
 mod seed;
 pub mod seeds;
-mod shim;
 mod turn;
 
+pub use driven::Driven;
 pub use lists::{OpProgram, StepProgram};
 pub use program::Program;
-pub use driven::Driven;
 pub use rounds::drive_round;
 pub use run_ends::{End, RunEnd};
 pub use seeds::drive_seed;

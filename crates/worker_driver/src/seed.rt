@@ -1,16 +1,15 @@
 //! The seeded schedule: each turn draws two words, the first for a list of events, the second for the entry of it that
 //! is made. No list is built: entries are counted, and the one that is wanted is looked up.
 ghost use Rattle.std.specs.Prelude.{◌≡◌, ◌<◌, ◌≤◌, ◌+◌, ◌*◌, ◌^◌, ℕ, List, length, IfOk, Some, slice_get};
-ghost use Rattle.interleaving_core.specs.LookUps.{entries, open_op};
+ghost use Rattle.interleaving_core.specs.LookUps.{entries, free_copies, open_op};
+ghost use Rattle.line_sets.specs.Rising.{risen};
 ghost use Rattle.worker_driver.specs.Acts.{next_in};
-ghost use Rattle.worker_driver.specs.Shim.{free_copies, risen};
 ghost use Rattle.worker_driver.specs.SeedSchedule.{advances, core_step, core_steps, entry, line_events, of_seed, steps};
 ghost use Rattle.worker_driver.specs.SeedViews.{Picks, PicksAny, PicksOne};
 
 use crate::look_ups::next_in;
 use crate::program::Program;
 use crate::schedule::{Choice, Schedule};
-use crate::shim;
 use interleaving_core::{Event, System};
 use network::LineNo;
 use physiological_order::Op;
@@ -80,7 +79,7 @@ struct Copies;
 
 impl Holder for Copies {
     ghost use Rattle.machine_table.specs.declared.event.Event.TheVariants as event;
-    ghost use Rattle.worker_driver.specs.Shim.{free_copies};
+    ghost use Rattle.interleaving_core.specs.LookUps.{free_copies};
 
     ghost holders = { λ m. m.config.cores };
 
@@ -93,11 +92,11 @@ impl Holder for Copies {
     }
 
     fn count(system: &System, holder: u32) -> usize {
-        shim::free_copies(system, holder)
+        system.free_copies(holder)
     }
 
     fn line(system: &System, holder: u32, at: usize) -> Result<LineNo, AllocError> {
-        shim::free_copy(system, holder, at)
+        system.free_copy(holder, at)
     }
 
     fn eviction(holder: u32, line: LineNo) -> Event {
@@ -119,15 +118,15 @@ impl Holder for Entries {
     ghost eviction = { event.EvictBank };
 
     fn holders(system: &System) -> u32 {
-        shim::banks(system)
+        system.banks()
     }
 
     fn count(system: &System, holder: u32) -> usize {
-        shim::settled(system, holder)
+        system.settled(holder)
     }
 
     fn line(system: &System, holder: u32, at: usize) -> Result<LineNo, AllocError> {
-        shim::entry(system, holder, at)
+        system.entry(holder, at)
     }
 
     fn eviction(holder: u32, line: LineNo) -> Event {
@@ -238,7 +237,7 @@ fn step<P: Program>(system: &System, programs: &mut [P], b: u32) -> Choice
     ensures same { programs.new ≡ programs.old }
 {
     let count = step_count(system, programs);
-    let total = u64::from(count) + u64::from(shim::messages(system));
+    let total = u64::from(count) + u64::from(system.messages());
     if total == 0 {
         return Choice::Over;
     }
@@ -246,7 +245,7 @@ fn step<P: Program>(system: &System, programs: &mut [P], b: u32) -> Choice
     if at < count {
         return step_at(system, programs, at);
     }
-    match shim::message(system, at - count) {
+    match system.message(at - count) {
         Some(number) => Choice::Delivers(number),
         None => unreachable!(),
     }

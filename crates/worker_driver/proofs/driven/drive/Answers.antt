@@ -34,5 +34,5 @@ returns-clause-served g c =
     let n = c.run-end.new in
     all_served (plan_of g.P.Program.acts g.S.Schedule.rule a.limit) c.requires
     (initial a.system.now a.programs.now a.schedule.now)
-    (c.cores-cores.ensures.count ∙ c.cores-_cores.ensures.cores) c.records-before.ensures.issued n.log.events n.system n.programs
+    (c.cores-cores.ensures.count ∙ c.cores-cores.ensures.cores) c.records-before.ensures.issued n.log.events n.system n.programs
     c.run-end.result c.records-after.ensures.issued c.run-end.ensures

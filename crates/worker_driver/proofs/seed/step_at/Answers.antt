@@ -7,10 +7,13 @@ use Rattle.worker_driver.proofs.seed.step_at.Goals as goal
 pub returns-then-at-eq0-clause-step : goal.returns-then-at-eq0-clause-step
 returns-then-at-eq0-clause-step g c =
     let l = c.loop-core in
-    let picks = rw l.invariant.same at c.in-Some.ensures.step in
-    (picks.0, step_found g.P.Program.acts c.args.system.now c.args.programs.now c.args.system.now.config.cores l.core
-    c.args.place picks.0 (omega (arith, c.loop-core-test.true, c.cores-core-end.ensures.cores)) picks.1
-    (omega (arith, c.if-at-eq0.true, rw l.invariant.same at l.invariant.passed)) c.requires, picks.2)
+    let picks = rw l.invariant.same at c.in-Some.ensures.step in (
+      picks.0,
+      step_found g.P.Program.acts c.args.system.now c.args.programs.now c.args.system.now.config.cores l.core
+          c.args.place picks.0 (omega (arith, c.loop-core-test.true, c.cores-core-end.ensures.cores)) picks.1
+          (omega (arith, c.if-at-eq0.true, rw l.invariant.same at l.invariant.passed)) c.requires,
+      picks.2,
+    )
 
 pub loop-core-preserved : goal.loop-core-preserved
 loop-core-preserved g c =

@@ -1,4 +1,0 @@
-use Rattle.worker_driver.proofs.shim.settled.Goals as goal
-
-pub unreachable-requires : goal.unreachable-requires
-unreachable-requires c = ?

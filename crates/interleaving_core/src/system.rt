@@ -253,15 +253,16 @@ impl System {
         self.state.entries(bank)
     }
 
-    /// How many of a core's copies may be evicted: all but that of its open operation; none for a core that isn't there.
+    /// How many of a core's copies may be evicted: all but that of its open operation; none for a core that isn't
+    /// there.
     pub fn free_copies(&self, core: u32) -> usize
         ensures { result ≡ length (free_copies self.now core) }
     {
         self.state.free_copies(core)
     }
 
-    /// The line of the copy that may be evicted and comes after so many others, by rising line. NoMemory is the one
-    /// refusal.
+    /// The line of the copy that may be evicted and comes after so many others, by rising line. Refused only
+    /// where no memory is left for the list of the lines.
     pub fn free_copy(&self, core: u32, at: usize) -> Result<LineNo, AllocError>
         requires { at < length (free_copies self.now core) }
         ensures { IfOk result (λ line. slice_get (risen (free_copies self.now core)) at ≡ Some
@@ -277,7 +278,8 @@ impl System {
         self.state.settled(bank)
     }
 
-    /// The line that a bank has Shared or Exclusive and that comes after so many others, by rising line.
+    /// The line that a bank has Shared or Exclusive and that comes after so many others, by rising line. Refused only
+    /// where no memory is left for the list of the lines.
     pub fn entry(&self, bank: u32, at: usize) -> Result<LineNo, AllocError>
         requires { at < length (entries self.now bank) }
         ensures { IfOk result (λ line. slice_get (risen (entries self.now bank)) at ≡ Some line) }

@@ -1,16 +1,18 @@
 -- How many lines are listed, before and after each change of a table.
-use Rattle.std.proofs.Common.{◌≡◌, ◌≢◌, ℕ, zero, suc, ◌+◌, ◌-◌, ◌*◌, ◌<◌, ◌≤◌, Bool, true, false, cond, List, []}
-use Rattle.std.proofs.Common.{◌∷◌, ◌++◌, length, map, filter, set, get_or, replicate, inl, inr, Option, Some, None, refl, sym, ap, ◌∙◌, arith}
+use Rattle.std.proofs.Common.{◌≡◌, ℕ, zero, suc, ◌+◌, ◌-◌, ◌*◌, ◌<◌, ◌≤◌, Bool, true, false, cond, List, []}
+use Rattle.std.proofs.Common.{◌∷◌, ◌++◌, length, map, filter, set, get_or, replicate, inl, inr, Some, None, refl, sym, ap}
+use Rattle.std.proofs.Common.{◌∙◌, arith}
 use Rattle.std.specs.Option.{is_some}
-use Rattle.std.proofs.lemmas.Bool.{cases_eq, cases_lt, cond_both, cond-true, cond-false, eq-eqb, ne_eqb}
+use Rattle.std.proofs.lemmas.Bool.{cases_eq, cases_lt, cond_both, cond-false, eq-eqb, ne_eqb}
 use Rattle.std.proofs.lemmas.List.{get_or_past, length-append, length-map}
-use Rattle.line_arena.specs.Arenas.{Lists}
+use Rattle.line_arena.specs.Arenas.{Lists, IsOnce}
+use Rattle.line_arena.specs.CellLists.{look_up}
+use Rattle.line_arena.specs.ListLaws.{LookUpLaws}
 use Rattle.line_sets.specs.Order.{find, is_there, listed, put_in_place, put_last, without, IsDistinct}
 use Rattle.line_sets.specs.SetTable.{all_listed, count_of, drop_line, look, put, put_within, set_at}
 use Rattle.line_sets.specs.Stored.{entries_of, sets_of, tags_of, IsStored}
 use Rattle.line_sets.proofs.Indices.{missing-without}
-use Rattle.line_arena.specs.CellLists.{look_up}
-use Rattle.line_sets.proofs.StoredSets.{entries-at, length-sets, second-of, IsFound}
+use Rattle.line_sets.proofs.StoredSets.{entries-at, is-found, length-sets, second-of, IsFound}
 use Rattle.line_sets.proofs.TaggedCells.{entry-there}
 
 module _ {X : Type 0} (passes : X → Bool) where
@@ -110,12 +112,14 @@ module _ {X : Type 0} (passes : X → Bool) where
       let all = count-set sets i (without (set_at sets i) line) h in omega (arith, one, all)
 
   -- no more than 16 lines in each of 1,024 sets
+  one-at-most : (x : X) → count_of passes (Some x) ≤ 1
+  one-at-most x = cond_both (passes x) 1 0 (λ n. n ≤ 1) (λ e. omega arith) (λ e. omega arith)
+
   listed-few : (ps : List (ℕ × X)) → length (listed passes ps) ≤ length ps
   listed-few [] = omega arith
   listed-few (p ∷ ps) =
       let more = listed-more p ps in let later = listed-few ps in
-      let one : count_of passes (Some p.1) ≤ 1 = cond_both (passes p.1) 1 0 (λ n. n ≤ 1) (λ e. omega arith)
-      (λ e. omega arith) in omega (arith, more, later, one)
+      let one = one-at-most p.1 in omega (arith, more, later, one)
 
   all-few : (sets : List (List (ℕ × X))) → ((i : ℕ) → i < length sets → length (set_at sets i) ≤ 16) →
       length (all_listed passes sets) ≤ length sets * 16
@@ -124,9 +128,6 @@ module _ {X : Type 0} (passes : X → Bool) where
       let more = length-append (listed passes ps) (all_listed passes sets) in let few = listed-few ps in
       let first = h 0 (omega arith) in let later = all-few sets (λ i lt. h (suc i) (omega (arith, lt))) in
       omega (arith, more, few, first, later)
-
-  pub one-at-most : (x : X) → count_of passes (Some x) ≤ 1
-  one-at-most x = cond_both (passes x) 1 0 (λ n. n ≤ 1) (λ e. omega arith) (λ e. omega arith)
 
   -- no line is twice in a set of a table
   distinct-entries : (xs : List (ℕ × (ℕ × X))) → IsDistinct (tags_of xs) → IsDistinct (entries_of xs)
@@ -164,13 +165,16 @@ module _ {X : Type 0} (passes : X → Bool) where
   none-listed (suc n) = none-listed n
 
   -- a table whose count is kept: how many values are listed before a change, and after it
-  pub was-counted : (ls : List (List (ℕ × (ℕ × X)))) (i line c n : ℕ) (p : ℕ × X) → IsFound ls i line c →
-      look_up c ls ≡ Some p → n ≡ count_of passes (Some p.1) → n ≡ count_of passes (look (sets_of ls) i line)
-  was-counted ls i line c n p found read is =
+  pub was-counted : (ways : ℕ) (a : Lists (ℕ × X)) (rows : List (List (ℕ × ℕ))) (i line c n : ℕ) (p : ℕ × X) →
+      IsStored ways a rows → IsOnce a.lists → LookUpLaws (ℕ × X) → i < length a.lists →
+      find (set_at rows i) line ≡ Some c → look_up c a.lists ≡ Some p → n ≡ count_of passes (Some p.1) →
+      n ≡ count_of passes (look (sets_of a.lists) i line)
+  was-counted ways a rows i line c n p stored once laws h e read is =
+      let found : IsFound a.lists i line c = is-found ways a rows i line c stored once laws h e in
       is ∙ ap (count_of passes) (second-of p line found.value (sym read ∙ found.cell) ∙ sym found.entry)
 
-  module _ (ways : ℕ) (a : Lists (ℕ × X)) (rows : List (List (ℕ × ℕ))) (i line count : ℕ) (stored : IsStored ways a rows)
-      (h : i < length a.lists) (counted : count ≡ length (all_listed passes (sets_of a.lists))) where
+  module _ (ways : ℕ) (a : Lists (ℕ × X)) (rows : List (List (ℕ × ℕ))) (i line count : ℕ)
+      (stored : IsStored ways a rows) (h : i < length a.lists) (counted : count ≡ length (all_listed passes (sets_of a.lists))) where
     pub in-count : (n : ℕ) → n ≡ count_of passes (look (sets_of a.lists) i line) → n ≤ count
     in-count n is =
         let gone = count-drop_line (sets_of a.lists) i line (omega (arith, h, length-sets a.lists))

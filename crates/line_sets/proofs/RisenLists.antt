@@ -1,11 +1,11 @@
 -- Rising lists: the one list of its numbers that rises, and the number at an index of it.
-use Rattle.std.proofs.Common.{◌≡◌, ◌≢◌, ℕ, zero, suc, ◌+◌, ◌<◌, ◌≤◌, Bool, true, false, cond, eqb, ltb, List, [], ◌∷◌}
-use Rattle.std.proofs.Common.{◌++◌, length, get_or, inl, inr, None, Some, refl, sym, ap, ◌∙◌, subst, arith, IsPermutation, IsSorted}
+use Rattle.std.proofs.Common.{◌≡◌, ◌≢◌, ℕ, suc, ◌+◌, ◌<◌, ◌≤◌, cond, eqb, ltb, List, [], ◌∷◌}
+use Rattle.std.proofs.Common.{◌++◌, length, get_or, inl, inr, None, Some, refl, sym, ap, ◌∙◌, arith, IsPermutation}
+use Rattle.std.proofs.Common.{IsSorted}
 use Rattle.std.specs.List.{slice_get, sum_by}
 use Rattle.std.specs.List.Sorted.{IsSplitAround, IsNonDecreasing}
 use Rattle.std.specs.Ordering.{nat_cmp}
-use Rattle.std.proofs.lemmas.Bool.{cases_Bool, cases_eq, cases_lt, cond-true, cond-false, cond_both, eq-eqb, ne_eqb}
-use Rattle.std.proofs.lemmas.Bool.{ltb-true, ltb-false}
+use Rattle.std.proofs.lemmas.Bool.{cases_lt, cond_both, eq-eqb, ltb-false, ltb-true, ne_eqb}
 use Rattle.std.proofs.lemmas.List.Sorted.{sum_by-IsPermutation, IsNonDecreasingBy-from_sort}
 use Rattle.std.proofs.lemmas.List.Sums.{sum_by-cons}
 use Rattle.std.proofs.lemmas.Map.Keys.{ge_from_not_lt}
@@ -122,7 +122,8 @@ one-risen (x ∷ xs) (y ∷ ys) r s h =
     let down : x ≤ y = first-least y x ys xs r.0 (sym (h y)) in
     let same : x ≡ y = omega (arith, up, down) in
     let rest : xs ≡ ys = one-risen xs ys r.1 s.1 (λ c.
-    (let all = h c in let here : ◌≡◌ {A = ℕ} (cond (eqb x c) 1 0) (cond (eqb y c) 1 0) = ap (λ z. cond (eqb z c) 1 0) same in
+    (let all = h c in
+    let here : ◌≡◌ {A = ℕ} (cond (eqb x c) 1 0) (cond (eqb y c) 1 0) = ap (λ z. cond (eqb z c) 1 0) same in
     omega (arith, all, here))) in
     ap (λ z. z ∷ xs) same ∙ ap (λ zs. y ∷ zs) rest
 
@@ -173,8 +174,8 @@ get-seam [] x bs = refl
 get-seam (f ∷ fs) x bs = get-seam fs x bs
 
 -- the number that a list is split around stands at its index once the list is risen
-pub risen-at : (xs fs : List ℕ) (x : ℕ) (bs : List ℕ) → IsPermutation xs (fs ++ x ∷ bs) → IsSplitAround nat_cmp fs x bs →
-    slice_get (risen xs) (length fs) ≡ Some x
+pub risen-at : (xs fs : List ℕ) (x : ℕ) (bs : List ℕ) → IsPermutation xs (fs ++ x ∷ bs) →
+    IsSplitAround nat_cmp fs x bs → slice_get (risen xs) (length fs) ≡ Some x
 risen-at xs fs x bs p s =
     let to : AllTo x fs = to-all x fs (λ j d lt. ge_from_not_lt x (get_or fs j d) (s.0 j d lt)) in
     let from : AllFrom x bs = from-all x bs (λ j d lt. ge_from_not_lt (get_or bs j d) x (s.1 j d lt)) in
@@ -187,7 +188,8 @@ risen-at xs fs x bs p s =
     let front = tally-risen c fs in let back = tally-risen c bs in
     omega (arith, whole, cut, parts, risen_parts, front, back))) in
     let long : length (risen fs) ≡ length fs = length-risen fs in
-    ap (λ zs. slice_get zs (length fs)) same ∙ ap (λ n. slice_get joined n) (sym long) ∙ get-seam (risen fs) x (risen bs)
+    ap (λ zs. slice_get zs (length fs)) same ∙ ap (λ n. slice_get joined n) (sym long)
+    ∙ get-seam (risen fs) x (risen bs)
 
 -- a list but no number
 pub all_but-none : (xs : List ℕ) → all_but None xs ≡ xs

@@ -103,8 +103,8 @@ some-copied (Some copy) = refl
 pub free-counted :
     (table cache : Sets LineCopy) (pinned : Option ℕ) (line count : ℕ) (copy : Option (Bor LineCopy)) →
     table ≡ cache → IsSound table → ((i : ℕ) → IsDistinct (set_at table.sets i)) →
-    count ≡ length (all_listed (λ copy. true) table.sets) → pinned ≡ Some line → option_copied copy ≡ copy_of cache line →
-    length (free_lines cache pinned) + cond (is_some copy) 1 0 ≡ count
+    count ≡ length (all_listed (λ copy. true) table.sets) → pinned ≡ Some line →
+    option_copied copy ≡ copy_of cache line → length (free_lines cache pinned) + cond (is_some copy) 1 0 ≡ count
 free-counted table cache pinned line count copy view sound once counted some found =
     let whole = pinned-counted line table sound once in
     let there : ◌≡◌ {A = ℕ} (cond (is_some copy) 1 0) (cond (is_some (copy_of cache line)) 1 0) =

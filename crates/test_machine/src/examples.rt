@@ -75,16 +75,18 @@ pub(crate) enum Step {
     Open(u32, bool, bool),
     /// The lines of a core's copies.
     Copies(u32, &'static [u64]),
-    /// The lines of a bank's settled entries.
+    /// The lines of a core's copies that may be evicted, one by one.
+    Free(u32, &'static [u64]),
+    /// The lines of a bank's settled entries, as a list and one by one.
     Entries(u32, &'static [u64]),
-    /// The messages in flight.
+    /// The messages in flight, as a list and one by one.
     InFlight(&'static [u64]),
     /// The operations that a core was issued.
     Issues(u32, &'static [On]),
     /// How many cores there are, and whether the machine is stopped.
     Cores(u32, bool),
-    /// How many words a line has.
-    LineWords(u32),
+    /// How many banks there are, and how many words a line has.
+    Shape(u32, u32),
 }
 
 /// The words x, y and z, of number 0, 1 and 2.

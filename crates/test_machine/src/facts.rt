@@ -43,6 +43,46 @@ fn are_messages(messages: &[MsgNo], numbers: &[u64]) -> bool {
     left.is_empty()
 }
 
+// Whether the copies that may be evicted, one by one, are those of these lines.
+fn are_free(system: &System, core: u32, numbers: &[u64]) -> Result<bool, AllocError> {
+    if system.free_copies(core) != numbers.len() {
+        return Ok(false);
+    }
+    for (at, number) in numbers.iter().enumerate() {
+        if system.free_copy(core, at)?.0 != *number {
+            return Ok(false);
+        }
+    }
+    Ok(true)
+}
+
+// Whether a bank's settled entries, one by one, are those of these lines.
+fn are_settled(system: &System, bank: u32, numbers: &[u64]) -> Result<bool, AllocError> {
+    if system.settled(bank) != numbers.len() {
+        return Ok(false);
+    }
+    for (at, number) in numbers.iter().enumerate() {
+        if system.entry(bank, at)?.0 != *number {
+            return Ok(false);
+        }
+    }
+    Ok(true)
+}
+
+// Whether the messages in flight, one by one, are those of these numbers.
+fn are_in_flight(system: &System, numbers: &[u64]) -> bool {
+    let count = system.messages();
+    for at in 0..count {
+        let Some(MsgNo(number)) = system.message(at) else {
+            return false;
+        };
+        if numbers.get(at as usize) != Some(&number) {
+            return false;
+        }
+    }
+    count as usize == numbers.len() && system.message(count).is_none()
+}
+
 fn are_issued(ops: &[Op], wanted: &[On]) -> bool {
     let mut left = wanted;
     for given in ops {
@@ -87,8 +127,13 @@ fn sent_of(counts: &Counts) -> (u128, u128, u128, u128) {
 fn has_lists(alloc: Global, system: &System, step: &Step) -> Result<bool, AllocError> {
     match step {
         Step::Copies(core, lines) => Ok(are_lines(&system.copies(*core)?, lines)),
-        Step::Entries(bank, lines) => Ok(are_lines(&system.entries(*bank)?, lines)),
-        Step::InFlight(numbers) => Ok(are_messages(&system.in_flight()?, numbers)),
+        Step::Free(core, lines) => are_free(system, *core, lines),
+        Step::Entries(bank, lines) => Ok(
+            are_lines(&system.entries(*bank)?, lines) && are_settled(system, *bank, lines)?,
+        ),
+        Step::InFlight(numbers) => Ok(
+            are_messages(&system.in_flight()?, numbers) && are_in_flight(system, numbers),
+        ),
         Step::Issues(core, ops) => Ok(are_issued(system.issued(*core), ops)),
         Step::Records(count, hits) => {
             let records = system.records();
@@ -109,7 +154,9 @@ pub(crate) fn is_so(alloc: Global, system: &System, step: &Step) -> Result<bool,
         Step::Cores(cores, stopped) => {
             Ok(system.cores() == *cores && system.is_stopped() == *stopped)
         }
-        Step::LineWords(words) => Ok(system.line_words() == *words),
+        Step::Shape(banks, words) => {
+            Ok(system.banks() == *banks && system.line_words() == *words)
+        }
         Step::Victim(core, line, victim) => {
             Ok(number_of(system.victim(*core, LineNo(*line))) == *victim)
         }

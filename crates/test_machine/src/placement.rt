@@ -48,7 +48,7 @@ const EXAMPLES: &[Example] = &[
         config: USUAL,
         words: &[(X, 9), (5, 7), (LAST, 3)],
         steps: &[
-            Step::LineWords(1),
+            Step::Shape(1, 1),
             Step::Word(X, 9),
             Step::Word(Y, 0),
             Step::Word(5, 7),
@@ -130,6 +130,7 @@ const EXAMPLES: &[Example] = &[
         config: FOUR_LINES,
         words: &[],
         steps: &[
+            Step::Shape(2, 1),
             Step::Fetches(0, On::Load(0), 0),
             Step::Completes(0, 0, On::Load(0), Some(0), 0, 0),
             Step::Fetches(0, On::Load(2), 4),

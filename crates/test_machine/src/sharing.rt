@@ -227,7 +227,7 @@ const EXAMPLES: &[Example] = &[
             Step::Owners(0, 1),
             Step::Sent(0, 1, 0, 1),
             Step::Records(5, 1),
-            Step::LineWords(8),
+            Step::Shape(1, 8),
         ],
     },
     Example {

@@ -1,4 +1,4 @@
-use Rattle.std.proofs.Common.{◌≡◌, ap, ◌∙◌, sym}
+use Rattle.std.proofs.Common.{ap, ◌∙◌, sym}
 use Rattle.std.specs.List.{slice_get}
 use Rattle.line_sets.specs.Rising.{risen}
 use Rattle.line_sets.proofs.RisenLists.{risen-at}

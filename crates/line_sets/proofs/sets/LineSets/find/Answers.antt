@@ -14,15 +14,15 @@ pub get-requires : goal.get-requires
 get-requires g c =
     let a = c.self.inside.arena in
     let h = below a.lists c.args.set (rw (← c.self.view_is) at c.requires) in
-    let found = is-found c.self.inside.ways a c.self.inside.rows c.args.set c.args.line c.in-Some.cell c.self.invariant.0
-    c.lists-lists.ensures.once c.looked_up.ensures h (sym c.find.ensures ∙ c.in-Some.is) in
+    let found = is-found c.self.inside.ways a c.self.inside.rows c.args.set c.args.line c.in-Some.cell
+    c.self.invariant.0 c.lists-lists.ensures.once c.looked_up.ensures h (sym c.find.ensures ∙ c.in-Some.is) in
     ap is_some found.cell
 
 pub returns : goal.returns
 returns g c =
     let a = c.self.inside.arena in
     let h = below a.lists c.args.set (rw (← c.self.view_is) at c.requires) in
-    let found = is-found c.self.inside.ways a c.self.inside.rows c.args.set c.args.line c.in-Some.cell c.self.invariant.0
-    c.lists-lists.ensures.once c.looked_up.ensures h (sym c.find.ensures ∙ c.in-Some.is) in
+    let found = is-found c.self.inside.ways a c.self.inside.rows c.args.set c.args.line c.in-Some.cell
+    c.self.invariant.0 c.lists-lists.ensures.once c.looked_up.ensures h (sym c.find.ensures ∙ c.in-Some.is) in
     rw (← c.self.view_is)
     (second-of c.get.result.now c.args.line found.value (sym c.get.ensures ∙ found.cell) ∙ sym found.entry)

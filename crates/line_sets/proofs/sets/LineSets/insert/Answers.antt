@@ -78,12 +78,12 @@ invariant_of-self-2 g c =
     let after = if-some _ _ (c.args.line, c.args.value) c.move_to_back.ensures there in
     let new = used w a c.move_to_back.new.self rs c.args.set c.args.line c.in-Some.cell c.args.value c.self.invariant.0
     c.lists-lists.ensures.once c.looked_up.ensures c.taken_off.ensures h here after in
-    let found = is-found w a rs c.args.set c.args.line c.in-Some.cell c.self.invariant.0 c.lists-lists.ensures.once
-    c.looked_up.ensures h (sym c.find.ensures ∙ c.in-Some.is) in (
+    let was = was-counted g.V.Listed.is_listed w a rs c.args.set c.args.line c.in-Some.cell c.count_of-before.result
+    c.get.result.now c.self.invariant.0 c.lists-lists.ensures.once c.looked_up.ensures h
+    (sym c.find.ensures ∙ c.in-Some.is) c.get.ensures c.count_of-before.ensures in (
       new.stored,
       counted-put g.V.Listed.is_listed w a rs c.args.set c.args.line c.self.inside.listed c.self.invariant.0 h
-          c.self.invariant.1 c.args.value c.count_of-before.result c.count_of-2.result _ (was-counted g.V.Listed.is_listed a.lists c.args.set c.args.line
-          c.in-Some.cell c.count_of-before.result c.get.result.now found c.get.ensures c.count_of-before.ensures)
+          c.self.invariant.1 c.args.value c.count_of-before.result c.count_of-2.result _ was
           c.count_of-2.ensures new.are,
     )
 
@@ -96,7 +96,8 @@ returns g c =
     c.lists-lists.ensures.once c.looked_up.ensures h here in
     let after = if-some _ _ (c.args.line, c.args.value) c.move_to_back.ensures there in
     rw (← c.self.view_is) (ap (table_of w) (used w a c.move_to_back.new.self rs c.args.set c.args.line c.in-Some.cell
-    c.args.value c.self.invariant.0 c.lists-lists.ensures.once c.looked_up.ensures c.taken_off.ensures h here after).are)
+    c.args.value c.self.invariant.0 c.lists-lists.ensures.once c.looked_up.ensures c.taken_off.ensures h here
+    after).are)
 
 pub next-requires : goal.next-requires
 next-requires g c =
@@ -112,12 +113,12 @@ invariant_of-self-then-is_none g c =
     let last = sym c.next.ensures ∙ is-none c.next.result (c.is_none.ensures ∙ ap not c.if-is_none.true) in
     let new = used-last w a rs c.args.set c.args.line c.in-Some.cell c.args.value c.self.invariant.0
     c.lists-lists.ensures.once c.looked_up.ensures c.taken_off.ensures h (sym c.find.ensures ∙ c.in-Some.is) last in
-    let found = is-found w a rs c.args.set c.args.line c.in-Some.cell c.self.invariant.0 c.lists-lists.ensures.once
-    c.looked_up.ensures h (sym c.find.ensures ∙ c.in-Some.is) in (
+    let was = was-counted g.V.Listed.is_listed w a rs c.args.set c.args.line c.in-Some.cell c.count_of-before.result
+    c.get.result.now c.self.invariant.0 c.lists-lists.ensures.once c.looked_up.ensures h
+    (sym c.find.ensures ∙ c.in-Some.is) c.get.ensures c.count_of-before.ensures in (
       new.stored,
       counted-put g.V.Listed.is_listed w a rs c.args.set c.args.line c.self.inside.listed c.self.invariant.0 h
-          c.self.invariant.1 c.args.value c.count_of-before.result c.count_of-2.result _ (was-counted g.V.Listed.is_listed a.lists c.args.set c.args.line
-          c.in-Some.cell c.count_of-before.result c.get.result.now found c.get.ensures c.count_of-before.ensures)
+          c.self.invariant.1 c.args.value c.count_of-before.result c.count_of-2.result _ was
           c.count_of-2.ensures new.are,
     )
 
@@ -150,11 +151,11 @@ pub overflow_sub-self : goal.overflow_sub-self
 overflow_sub-self g c =
     let a = c.self.inside.arena in let rs = c.self.inside.rows in let w = c.self.inside.ways in
     let h = below a.lists c.args.set (rw (← c.self.view_is) at c.requires.in_table) in
-    let found = is-found w a rs c.args.set c.args.line c.in-Some.cell c.self.invariant.0 c.lists-lists.ensures.once
-    c.looked_up.ensures h (sym c.find.ensures ∙ c.in-Some.is) in
+    let was = was-counted g.V.Listed.is_listed w a rs c.args.set c.args.line c.in-Some.cell c.count_of-before.result
+    c.get.result.now c.self.invariant.0 c.lists-lists.ensures.once c.looked_up.ensures h
+    (sym c.find.ensures ∙ c.in-Some.is) c.get.ensures c.count_of-before.ensures in
     in-count g.V.Listed.is_listed w a rs c.args.set c.args.line c.self.inside.listed c.self.invariant.0 h
-    c.self.invariant.1 c.count_of-before.result (was-counted g.V.Listed.is_listed a.lists c.args.set c.args.line
-    c.in-Some.cell c.count_of-before.result c.get.result.now found c.get.ensures c.count_of-before.ensures)
+    c.self.invariant.1 c.count_of-before.result was
 
 pub overflow_add-self-2 : goal.overflow_add-self-2
 overflow_add-self-2 g c =

@@ -42,12 +42,12 @@ invariant_of-self-2 g c =
     let new = cut-off w a c.unlink-line.new.self rs c.args.set c.args.line c.in-Some.cell
     c.self.invariant.0 c.lists-lists.ensures.once c.looked_up.ensures c.taken_off.ensures h
     (sym c.take.ensures.value ∙ c.in-Some.is) c.unlink-line.ensures.after in
-    let found = is-found w a rs c.args.set c.args.line c.in-Some.cell c.self.invariant.0 c.lists-lists.ensures.once
-    c.looked_up.ensures h (sym c.take.ensures.value ∙ c.in-Some.is) in (
+    let was = was-counted g.V.Listed.is_listed w a rs c.args.set c.args.line c.in-Some.cell c.count_of.result
+    c.unlink-line.result c.self.invariant.0 c.lists-lists.ensures.once c.looked_up.ensures h
+    (sym c.take.ensures.value ∙ c.in-Some.is) c.unlink-line.ensures.value c.count_of.ensures in (
       rw c.take.ensures.after new.stored,
       counted-drop_line g.V.Listed.is_listed w a rs c.args.set c.args.line c.self.inside.listed c.self.invariant.0 h
-          c.self.invariant.1 c.count_of.result _ (was-counted g.V.Listed.is_listed a.lists c.args.set c.args.line
-          c.in-Some.cell c.count_of.result c.unlink-line.result found c.unlink-line.ensures.value c.count_of.ensures)
+          c.self.invariant.1 c.count_of.result _ was
           new.are,
     )
 
@@ -72,8 +72,8 @@ pub overflow_sub-self : goal.overflow_sub-self
 overflow_sub-self g c =
     let a = c.self.inside.arena in let rs = c.self.inside.rows in let w = c.self.inside.ways in
     let h = below a.lists c.args.set (rw (← c.self.view_is) at c.requires) in
-    let found = is-found w a rs c.args.set c.args.line c.in-Some.cell c.self.invariant.0 c.lists-lists.ensures.once
-    c.looked_up.ensures h (sym c.take.ensures.value ∙ c.in-Some.is) in
+    let was = was-counted g.V.Listed.is_listed w a rs c.args.set c.args.line c.in-Some.cell c.count_of.result
+    c.unlink-line.result c.self.invariant.0 c.lists-lists.ensures.once c.looked_up.ensures h
+    (sym c.take.ensures.value ∙ c.in-Some.is) c.unlink-line.ensures.value c.count_of.ensures in
     in-count g.V.Listed.is_listed w a rs c.args.set c.args.line c.self.inside.listed c.self.invariant.0 h
-    c.self.invariant.1 c.count_of.result (was-counted g.V.Listed.is_listed a.lists c.args.set c.args.line
-    c.in-Some.cell c.count_of.result c.unlink-line.result found c.unlink-line.ensures.value c.count_of.ensures)
+    c.self.invariant.1 c.count_of.result was

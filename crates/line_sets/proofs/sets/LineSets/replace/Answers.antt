@@ -24,11 +24,11 @@ pub overflow_sub-self : goal.overflow_sub-self
 overflow_sub-self g c =
     let a = c.self.inside.arena in let rs = c.self.inside.rows in let w = c.self.inside.ways in
     let h = below a.lists c.args.set (rw (← c.self.view_is) at c.requires.in_table) in
-    let found = is-found w a rs c.args.set c.args.line c.in-Some.cell c.self.invariant.0 c.lists-lists.ensures.once
-    c.looked_up.ensures h (sym c.find.ensures ∙ c.in-Some.is) in
+    let was = was-counted g.V.Listed.is_listed w a rs c.args.set c.args.line c.in-Some.cell c.count_of-before.result
+    c.get.result.now c.self.invariant.0 c.lists-lists.ensures.once c.looked_up.ensures h
+    (sym c.find.ensures ∙ c.in-Some.is) c.get.ensures c.count_of-before.ensures in
     in-count g.V.Listed.is_listed w a rs c.args.set c.args.line c.self.inside.listed c.self.invariant.0 h
-    c.self.invariant.1 c.count_of-before.result (was-counted g.V.Listed.is_listed a.lists c.args.set c.args.line
-    c.in-Some.cell c.count_of-before.result c.get.result.now found c.get.ensures c.count_of-before.ensures)
+    c.self.invariant.1 c.count_of-before.result was
 
 pub overflow_add-self : goal.overflow_add-self
 overflow_add-self g c =
@@ -45,13 +45,13 @@ invariant_of-self g c =
     let after = written w a (written-in c.in-Some.cell (c.args.line, c.args.value) a) rs c.args.set c.args.line
     c.in-Some.cell c.args.value c.self.invariant.0 c.lists-lists.ensures.once c.looked_up.ensures h
     (sym c.find.ensures ∙ c.in-Some.is) refl in
-    let found = is-found w a rs c.args.set c.args.line c.in-Some.cell c.self.invariant.0 c.lists-lists.ensures.once
-    c.looked_up.ensures h (sym c.find.ensures ∙ c.in-Some.is) in (
+    let was = was-counted g.V.Listed.is_listed w a rs c.args.set c.args.line c.in-Some.cell c.count_of-before.result
+    c.get.result.now c.self.invariant.0 c.lists-lists.ensures.once c.looked_up.ensures h
+    (sym c.find.ensures ∙ c.in-Some.is) c.get.ensures c.count_of-before.ensures in (
       after.stored,
       counted-put_within g.V.Listed.is_listed w a rs c.args.set c.args.line c.self.inside.listed c.self.invariant.0 h
           c.self.invariant.1 c.args.value c.count_of-before.result c.count_of.result _
-          (rw (← c.self.view_is) at c.requires.there) (was-counted g.V.Listed.is_listed a.lists c.args.set c.args.line
-          c.in-Some.cell c.count_of-before.result c.get.result.now found c.get.ensures c.count_of-before.ensures)
+          (rw (← c.self.view_is) at c.requires.there) was
           c.count_of.ensures after.are,
     )
 

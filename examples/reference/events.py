@@ -20,3 +20,10 @@ def list_of_events(run, end, seed):
     lines = [f"// seed {seed}: {end} after {run.turns} turns, {len(run.made)} events"]
     lines += [event_text(event) + "," for event, _ in run.made]
     return "".join(line + "\n" for line in lines)
+
+
+def record_text(record):
+    """A record as (core, place, operation, received, time, number)."""
+    received = "None" if record.received is None else f"Some({record.received})"
+    op = step_text((record.kind, record.word, record.value))
+    return f"({record.core}, {record.place}, {op}, {received}, {record.time}, {record.number})"

@@ -7,9 +7,9 @@ from reference.traces import record_line
 ENDS = ("all-done", "stalled", "limit", "exhausted", "memory")
 
 
-def drive(options, programs, memory, seed, tell=None):
+def drive(options, programs, memory, seed, tell=None, kind=Run):
     """A run by the schedule of the options, and its end."""
-    run = Run(Machine(options, len(programs), memory), programs, tell)
+    run = kind(Machine(options, len(programs), memory), programs, tell)
     end = by_seed(run, options.limit, seed) if options.schedule == "seed" else by_rounds(run, options.limit)
     return run, end
 

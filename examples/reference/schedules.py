@@ -43,11 +43,12 @@ def test_generator():
 
 
 class Run:
-    """A machine and its programs. `made` lists the events with their answers; `tell` is given each, with its turn."""
+    """A machine and its programs. `made` lists the events with their answers; `tell` is given each, with its turn.
+    `drawn` has for each turn of a seeded run how many events were made before, its list and the list's length."""
 
     def __init__(self, machine, programs, tell=None):
         self.machine, self.programs, self.tell = machine, programs, tell
-        self.made, self.turns = [], 0
+        self.made, self.drawn, self.turns = [], [], 0
 
     def make(self, *event):
         answer = self.machine.step(event)
@@ -67,6 +68,12 @@ class Run:
         if answer == "Advanced":
             self.programs[core].done(None)
         return answer
+
+    def choose(self, which):
+        """The list of events of a turn of a seeded run."""
+        events = chosen_list(self, which)
+        self.drawn.append((len(self.made), which, len(events)))
+        return events
 
     def is_open(self, core):
         return self.machine.cores[core].op is not None
@@ -128,7 +135,7 @@ def by_seed(run, limit, seed):
 
     def turn(run):
         first, second = generator.draw(), generator.draw()
-        events = chosen_list(run, first % 16)
+        events = run.choose(first % 16)
         if events:
             make_one(run, events[second % len(events)])
 

@@ -1,9 +1,9 @@
 #!/usr/bin/env python3
 """Writes the gate's tests of examples/ anew: crates/test_reports/src/texts.rt, the texts of examples/litmus and the
-reports that are wanted of them, and crates/test_settings/src/texts.rt, the same of examples/settings with their options.
+reports that are wanted of them, and crates/test_settings/src/texts.rt, the same of examples/settings with options.
 
-Texts with seeds are left out until SEEDS is set; then those of at most MOST_RUNS runs are taken, and the type Given must
-have `BySeed` (of `--schedule seed`) and `Seed`."""
+Texts with seeds are left out until SEEDS is set; then those of at most MOST_RUNS runs are taken, and the type Given
+must have `BySeed` (of `--schedule seed`) and `Seed`."""
 import re
 from pathlib import Path
 

@@ -5,8 +5,8 @@
     examples/expected.py --check    says which of these files differ, and fails if one does
 
 The options of an example stand in its text: in a litmus test in the header line `options=..`, in a trace in the comment
-line `# options= ..`. The tables (bad/traces.table, bad/records.table, verdicts.table) are written by hand: a row that
-the oracle answers otherwise is told, too.
+line `# options= ..`. Each trace's records must be legal. The tables (bad/traces.table, bad/records.table,
+verdicts.table) are written by hand: a row that the oracle answers otherwise is told, too.
 """
 import re
 import sys
@@ -63,6 +63,10 @@ def differing_rows():
     def verdict(trace, records):
         return check({}, Trace(trace).issued(), read_records(records))
 
+    for path in sorted(FOLDER.glob("traces/*.trace")):
+        said = said_of(verdict, path.read_bytes(), path.with_suffix(".records").read_bytes())
+        if said != "legal":
+            yield f"{path.relative_to(FOLDER)} and its records: {said}"
     for name, reader in (("bad/traces.table", Trace), ("bad/records.table", read_records), ("verdicts.table", verdict)):
         for number, words, texts in rows(name):
             said = said_of(reader, *texts)

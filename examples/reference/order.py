@@ -43,19 +43,16 @@ def end_memory(opening, records):
     return memory
 
 
-def is_stale(record, records):
-    """A load of a value that was overwritten by a smaller completion number at a greater time."""
-    return record.kind == "load" and any(
-        other.kind != "load" and other.word == record.word and other.number < record.number
-        and other.time > record.time for other in records)
+def stale_loads(records):
+    """The numbers of the loads with a store or swap of their word of a smaller number and a greater time."""
+    latest, stale = {}, []  # the greatest time of a write so far, by word
+    for record in sorted(records, key=lambda record: record.number):
+        if record.kind != "load":
+            latest[record.word] = max(latest.get(record.word, -1), record.time)
+        elif latest.get(record.word, -1) > record.time:
+            stale.append(record.number)
+    return stale
 
 
 def stale_hits(records):
-    """As is_stale counts them, by rising number in one walk."""
-    latest, stale = {}, 0
-    for record in sorted(records, key=lambda record: record.number):
-        if record.kind == "load":
-            stale += latest.get(record.word, -1) > record.time
-        else:
-            latest[record.word] = max(latest.get(record.word, -1), record.time)
-    return stale
+    return len(stale_loads(records))

@@ -22,7 +22,8 @@ from reference.litmus import Test
 from reference.order import check
 from reference.reports import litmus_report, trace_report
 from reference.schedules import test_generator
-from reference.traces import Fault, Trace, read_records
+from reference.traces import Fault, Trace, read_records, record_line
+from reference.worked import test_machine
 
 DEFAULTS = {"seed": 0, "limit": 100000, "lease": 10, "time": 0, "banks": 1, "sets": 64, "ways": 4, "bank_sets": 256,
             "bank_ways": 8, "line_words": 1, "messages": 4096, "workers": 1}
@@ -48,9 +49,8 @@ def words():
     return parser
 
 
-def tell(turn, event, answer):
-    name, *of = event
-    print(f"turn {turn}: {name} {' '.join(map(str, of))}: {answer}", file=sys.stderr)
+def tell(turn, about, answer):
+    print(f"turn {turn}: {about}: {answer}", file=sys.stderr)
 
 
 def read_litmus(path):
@@ -71,7 +71,9 @@ def run(options):
 
     def after(run, end, seed):
         if options.tell:
-            print(f"{end} after {run.turns} turns, records {run.machine.records}", file=sys.stderr)
+            print(f"{end} after {run.turns} turns", file=sys.stderr)
+            for record in run.machine.records:
+                print(record_line(record), file=sys.stderr)
         if options.events:
             events.append(list_of_events(run, end, seed))
 
@@ -85,7 +87,7 @@ def run(options):
 def main(given):
     test_generator()
     if given == ["--self-test"]:
-        print("the generator is the published one")
+        print(f"the generator is the published one, and {test_machine()} runs are as by hand")
         return 0
     if given and given[0] not in ("litmus", "trace", "check", "-h", "--help"):
         given = ["litmus", *given]

@@ -43,6 +43,10 @@ class Machine:
         self.counts = dict.fromkeys(COUNTED, 0)
         self.stopped = False
 
+    def totals(self):
+        """How many messages of the counted kinds were sent, by the names of reports."""
+        return {name: self.counts[kind] for kind, name in COUNTED.items()}
+
     def line(self, word):
         return word // self.o.line_words
 
@@ -75,6 +79,17 @@ class Machine:
 
     def line_of(self, holder):
         return dict(wts=holder.wts, rts=holder.rts, words=list(holder.words))
+
+    def about(self, event):
+        """An event in words: what a message carries, and the operation that is issued or open."""
+        name, *of = event
+        words = [name, *(str(one) for one in of if not isinstance(one, tuple))]
+        if name == "Deliver":
+            words += [f"{key}={value}" for key, value in vars(self.flight[of[0]]).items() if value is not None]
+        if name in ("Issue", "Attempt"):
+            op = of[1] if name == "Issue" else self.cores[of[0]].op
+            words += [str(part) for part in op or () if part is not None]
+        return " ".join(words)
 
     def step(self, event):
         """The answer to an event. Exhausted stops the machine; no refusal changes anything else."""

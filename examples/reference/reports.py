@@ -34,8 +34,8 @@ class Batch:
         self.runs += 1
         self.ends[end] += 1
         self.sums["completed"] += len(machine.records)
-        for kind, name in COUNTED.items():
-            self.sums[name] += machine.counts[kind]
+        for name, count in machine.totals().items():
+            self.sums[name] += count
         self.sums["stale-hits"] += order.stale_hits(machine.records)
         if end == "all-done":
             memory = order.end_memory(self.test.memory, machine.records)
@@ -94,7 +94,7 @@ def trace_lines(trace, run, end):
     kinds = [record.kind for record in records]
     yield from (f"cores {trace.cores}", f"issued {machine.issued}", f"completed {len(records)}", f"end {end}")
     yield from (f"{kind}s {kinds.count(kind)}" for kind in ("load", "store", "swap"))
-    yield from (f"{name} {machine.counts[kind]}" for kind, name in COUNTED.items())
+    yield from (f"{name} {count}" for name, count in machine.totals().items())
     yield f"stale-hits {order.stale_hits(records)}"
     yield f"order {order.check({}, trace.issued(), records)}"
     yield from (f"word {8 * word:#x} {memory.get(word, 0)}" for word in trace.words())

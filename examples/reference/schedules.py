@@ -43,7 +43,8 @@ def test_generator():
 
 
 class Run:
-    """A machine and its programs. `made` lists the events with their answers; `tell` is given each, with its turn.
+    """A machine and its programs. `made` lists the events with their answers; `tell` is given each, with its turn
+    and what the machine says about it beforehand.
     `drawn` has for each turn of a seeded run how many events were made before, its list and the list's length."""
 
     def __init__(self, machine, programs, tell=None):
@@ -51,12 +52,13 @@ class Run:
         self.made, self.drawn, self.turns = [], [], 0
 
     def make(self, *event):
+        about = self.machine.about(event) if self.tell else None
         answer = self.machine.step(event)
         self.made.append((event, answer))
         if answer == "Completed":
             self.programs[event[1]].done(self.machine.records[-1].received)
         if self.tell:
-            self.tell(self.turns, event, answer)
+            self.tell(self.turns, about, answer)
         return answer
 
     def make_step(self, core):

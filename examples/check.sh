@@ -1,7 +1,12 @@
 #!/bin/sh
 # Runs every example and compares its report, and some refused inputs and their error lines: examples/check.sh [PROGRAM]
-# PROGRAM is a program that is built; without it the program at the top is built where it isn't, and run. The reports are
-# those of examples/oracle.py, which knows nothing of the program.
+# PROGRAM is a program that is built; without it the program at the top is built where it isn't, and run. The reports
+# are those of examples/oracle.py, which knows nothing of the program; the tables and error lines are by hand.
+#
+# The parts that are run, each a function below: litmus settings refusals seeds traces seeded_traces verdicts
+# trace_refusals. A part whose command or option the program hasn't yet is left out of the list.
+parts=${PARTS:-litmus settings refusals}
+
 top=$(CDPATH='' cd -- "$(dirname -- "$0")/.." && pwd) || exit 1
 tardis=${1:-$top/tardis}
 examples=$top/examples
@@ -12,18 +17,22 @@ trap 'exit 1' HUP INT TERM
 passed=0
 failed=0
 
-# told NAME STATUS OUT ERR WORDS..: the program's status, standard output and standard error with these words are those of
-# the number and the two files. Both differences are shown.
+# told NAME STATUS OUT ERR WORDS..: the program's status, standard output and standard error with these words are those
+# of the number and the two files. Both differences are shown.
 told() {
     name=$1 status=$2 out=$3 err=$4
     shift 4
-    "$tardis" litmus "$@" >"$work/out" 2>"$work/err"
+    "$tardis" "$@" >"$work/out" 2>"$work/err"
     got=$?
     good=yes
     [ "$got" -eq "$status" ] || { echo "$name: status $got, wanted $status"; good=no; }
     diff "$out" "$work/out" || { echo "$name: another report"; good=no; }
     diff "$err" "$work/err" || { echo "$name: another error text"; good=no; }
-    if [ "$good" = yes ]; then passed=$((passed + 1)); else failed=$((failed + 1)); fi
+    count "$good"
+}
+
+count() {
+    if [ "$1" = yes ]; then passed=$((passed + 1)); else failed=$((failed + 1)); fi
 }
 
 # refused NAME STATUS TEXT WORDS..: nothing on standard output, and TEXT with a line feed on standard error.
@@ -34,43 +43,167 @@ refused() {
     told "$name" "$status" /dev/null "$work/wanted" "$@"
 }
 
+# full NAME WORDS..: a device that takes no bytes.
+full() {
+    name=$1
+    shift
+    "$tardis" "$@" >/dev/full 2>"$work/err"
+    got=$?
+    if [ "$got" -eq 4 ] && [ "$(cat "$work/err")" = 'tardis: write failed' ]; then
+        count yes
+    else
+        echo "$name: status $got"
+        count no
+    fi
+}
+
+# The options of an example's text: words, parted by spaces.
+options_of() {
+    sed -n 's/^\(# \)\{0,1\}options=//p' "$1"
+}
+
+is_seeded() {
+    options_of "$1" | grep -q -e '--schedule seed'
+}
+
+litmus() {
+    for text in "$examples"/litmus/*.litmus; do
+        told "${text##*/}" 0 "${text%.litmus}.report" /dev/null litmus "$text"
+    done
+}
+
+# A text with options of its own, in the header line options=; a run that isn't all done is status 1.
+setting() {
+    report=${1%.litmus}.report
+    status=0
+    [ "$(sed -n 's/^runs //p' "$report")" = "$(sed -n 's/^all-done //p' "$report")" ] || status=1
+    # shellcheck disable=SC2046
+    told "${1##*/}" "$status" "$report" /dev/null litmus $(options_of "$1") "$1"
+}
+
+settings() {
+    for text in "$examples"/settings/*.litmus; do
+        is_seeded "$text" || setting "$text"
+    done
+}
+
+seeds() {
+    for text in "$examples"/settings/*.litmus; do
+        if is_seeded "$text"; then setting "$text"; fi
+    done
+}
+
+refusals() {
+    told "messages 1" 1 "$bad/SB-messages-1.report" /dev/null litmus --messages 1 "$examples/litmus/SB.litmus"
+    refused "cut short" 2 'tardis: line 6: 14 CutShort' litmus "$bad/SB-cut.litmus"
+    refused "value range" 2 'tardis: line 2: 9 ValueRange' litmus "$bad/SB-value.litmus"
+    refused "messages 0" 3 'tardis: bad configuration' litmus --messages 0 "$examples/litmus/SB.litmus"
+    refused "limit 0" 3 "error: invalid value '0' for '--limit <limit>': 0 is not in 1..=4294967295
+
+For more information, try '--help'." litmus --limit 0 "$examples/litmus/SB.litmus"
+    refused "no file" 4 'tardis: read failed' litmus "$bad/none.litmus"
+    refused "a folder" 4 'tardis: read failed' litmus "$examples"
+    refused "no text" 3 'tardis: bad command line' litmus "$(printf 'a\377b')"
+    full "full device" litmus "$examples/litmus/SB.litmus"
+}
+
+# A trace's report, its records, and what is said of these.
+trace() {
+    report=${1%.trace}.report records=${1%.trace}.records
+    status=1
+    if grep -q '^end all-done$' "$report"; then status=0; fi
+    # shellcheck disable=SC2046
+    told "${1##*/}" "$status" "$report" /dev/null trace $(options_of "$1") "$1"
+    # shellcheck disable=SC2046
+    told "${1##*/} --records" "$status" "$records" /dev/null trace --records $(options_of "$1") "$1"
+    told "${1##*/} and its records" 0 "$work/legal" /dev/null check "$1" "$records"
+}
+
+traces() {
+    echo legal >"$work/legal"
+    for text in "$examples"/traces/*.trace; do
+        is_seeded "$text" || trace "$text"
+    done
+}
+
+seeded_traces() {
+    echo legal >"$work/legal"
+    for text in "$examples"/traces/*.trace; do
+        if is_seeded "$text"; then trace "$text"; fi
+    done
+}
+
+# Rows: the verdict, the trace, the records.
+verdicts() {
+    while IFS='|' read -r verdict steps records; do
+        case $verdict in '#'*) continue ;; esac
+        printf '%b' "$steps" >"$work/steps"
+        printf '%b' "$records" >"$work/records"
+        printf '%s\n' "$verdict" >"$work/wanted"
+        status=1
+        if [ "$verdict" = legal ]; then status=0; fi
+        told "$verdict: $steps and $records" "$status" "$work/wanted" /dev/null check "$work/steps" "$work/records"
+    done <"$examples/verdicts.table"
+}
+
+# faults TABLE WORDS..: each text of the table, written to a file whose name follows the words.
+faults() {
+    table=$1
+    shift
+    while IFS='|' read -r fault text; do
+        case $fault in '#'*) continue ;; esac
+        printf '%b' "$text" >"$work/text"
+        refused "$text" 2 "tardis: $fault" "$@" "$work/text"
+    done <"$table"
+}
+
+# many NUMBER LETTER: so many times the letter.
+many() {
+    head -c "$1" /dev/zero | tr '\0' "$2"
+}
+
+# long_lines WORDS..: lines of 256 and of 257 bytes, with their comments, and one line more than there may be.
+long_lines() {
+    { many 257 a; echo; } >"$work/text"
+    refused "257 letters" 2 'tardis: line 1: 3 TooLong' "$@" "$work/text"
+    { echo; printf '#'; many 256 c; } >"$work/text"
+    refused "a comment of 257 bytes" 2 'tardis: line 2: 3 TooLong' "$@" "$work/text"
+    { many 256 a; echo; } >"$work/text"
+    refused "256 letters" 2 'tardis: line 1: 4 BadCore' "$@" "$work/text"
+    { many 16777216 '\n'; } >"$work/text"
+    printf ' ' >>"$work/text"
+    refused "16,777,217 lines" 2 'tardis: line 16777217: 3 TooLong' "$@" "$work/text"
+}
+
+trace_refusals() {
+    some=$examples/traces/EMPTY.trace
+    faults "$bad/traces.table" trace
+    faults "$bad/records.table" check "$some"
+    long_lines trace
+    long_lines check "$some"
+    echo legal >"$work/legal"
+    { printf '#'; many 255 c; echo; many 16777215 '\n'; } >"$work/text"
+    told "16,777,216 lines, and one of 256 bytes" 0 "$work/legal" /dev/null check "$work/text" "$some"
+    echo '0 X' >"$work/text"
+    fault='tardis: line 1: 5 BadOperation'
+    refused "the trace's fault goes before the records'" 2 "$fault" check "$work/text" "$work/text"
+    refused "an input refused, with a bad configuration" 2 "$fault" trace --lease 0 "$work/text"
+    refused "lease 0" 3 'tardis: bad configuration' trace --lease 0 "$some"
+    refused "no trace" 4 'tardis: read failed' trace "$bad/none.trace"
+    refused "a folder as a trace" 4 'tardis: read failed' trace "$examples"
+    refused "no trace to check" 4 'tardis: read failed' check "$bad/none.trace" "$some"
+    refused "no records, and a bad trace" 4 'tardis: read failed' check "$work/text" "$bad/none.records"
+    refused "a folder as records" 4 'tardis: read failed' check "$some" "$examples"
+    full "a trace's report to a full device" trace "$some"
+    full "a verdict to a full device" check "$some" "$some"
+}
+
 # The program is built here, where it isn't, so that what building tells is no example's error text.
 "$tardis" litmus "$examples/litmus/SB.litmus" >/dev/null || { echo "check.sh: the program doesn't run"; exit 1; }
 
-for text in "$examples"/litmus/*.litmus; do
-    told "${text##*/}" 0 "${text%.litmus}.report" /dev/null "$text"
+for part in $parts; do
+    "$part"
 done
-
-# Texts with options of their own, in the header line options=; a run that isn't all done is status 1.
-for text in "$examples"/settings/*.litmus; do
-    report=${text%.litmus}.report
-    status=0
-    [ "$(sed -n 's/^runs //p' "$report")" = "$(sed -n 's/^all-done //p' "$report")" ] || status=1
-    # The options are words, parted by spaces.
-    # shellcheck disable=SC2046
-    told "${text##*/}" "$status" "$report" /dev/null $(sed -n 's/^options=//p' "$text") "$text"
-done
-
-told "messages 1" 1 "$bad/SB-messages-1.report" /dev/null --messages 1 "$examples/litmus/SB.litmus"
-refused "cut short" 2 'tardis: line 6: 14 CutShort' "$bad/SB-cut.litmus"
-refused "value range" 2 'tardis: line 2: 9 ValueRange' "$bad/SB-value.litmus"
-refused "messages 0" 3 'tardis: bad configuration' --messages 0 "$examples/litmus/SB.litmus"
-refused "limit 0" 3 "error: invalid value '0' for '--limit <limit>': 0 is not in 1..=4294967295
-
-For more information, try '--help'." --limit 0 "$examples/litmus/SB.litmus"
-refused "no file" 4 'tardis: read failed' "$bad/none.litmus"
-refused "a folder" 4 'tardis: read failed' "$examples"
-refused "no text" 3 'tardis: bad command line' "$(printf 'a\377b')"
-
-# A device that takes no bytes.
-"$tardis" litmus "$examples/litmus/SB.litmus" >/dev/full 2>"$work/err"
-got=$?
-if [ "$got" -eq 4 ] && [ "$(cat "$work/err")" = 'tardis: write failed' ]; then
-    passed=$((passed + 1))
-else
-    echo "full device: status $got"
-    failed=$((failed + 1))
-fi
 
 echo "$passed passed, $failed failed"
 [ "$failed" -eq 0 ]

@@ -1,13 +1,18 @@
 #!/usr/bin/env python3
-"""Writes the gate's tests of examples/ anew: crates/test_reports/src/texts.rt, the texts of examples/litmus and the reports
-that are wanted of them, and crates/test_settings/src/texts.rt, the same of examples/settings with their options."""
+"""Writes the gate's tests of examples/ anew: crates/test_reports/src/texts.rt, the texts of examples/litmus and the
+reports that are wanted of them, and crates/test_settings/src/texts.rt, the same of examples/settings with options.
+
+Texts with seeds are left out until SEEDS is set; then those of at most MOST_RUNS runs are taken, and the type Given
+must have `BySeed` (of `--schedule seed`) and `Seed`."""
 import re
 from pathlib import Path
 
 TOP = Path(__file__).resolve().parent.parent
 OPTIONS = {"limit": "Limit", "runs": "Runs", "lease": "Lease", "time": "Time", "banks": "Banks", "sets": "Sets",
            "ways": "Ways", "bank-sets": "BankSets", "bank-ways": "BankWays", "line-words": "LineWords",
-           "messages": "Messages"}
+           "messages": "Messages", "seed": "Seed"}
+SEEDS = False
+MOST_RUNS = 20
 
 
 def literal(path):
@@ -16,19 +21,34 @@ def literal(path):
     return f'b"{escaped}"'
 
 
-def options(path):
-    """The options in a text's header line `options=--NAME NUMBER ..`, as a list of values of the type Given."""
+def words(path):
+    """The words of a text's header line `options=--NAME NUMBER ..`."""
     found = re.search(r"^options=(.*)$", path.read_text(encoding="ascii"), re.M)
-    words = found[1].split() if found else []
-    given = []
-    while words:
-        name = words.pop(0).removeprefix("--")
-        given.append("Given::PrivateWrite" if name == "private-write" else f"Given::{OPTIONS[name]}({words.pop(0)})")
+    return found[1].split() if found else []
+
+
+def options(path):
+    """The options of a text, as a list of values of the type Given."""
+    left, given = words(path), []
+    while left:
+        name = left.pop(0).removeprefix("--")
+        if name == "private-write":
+            given.append("Given::PrivateWrite")
+        elif name == "schedule":
+            given.append({"seed": "Given::BySeed"}[left.pop(0)])
+        else:
+            given.append(f"Given::{OPTIONS[name]}({left.pop(0)})")
     return f"&[{', '.join(given)}]"
 
 
+def is_taken(path):
+    given = words(path)
+    runs = int(given[given.index("--runs") + 1]) if "--runs" in given else 1
+    return "seed" not in given or SEEDS and runs <= MOST_RUNS
+
+
 def examples(folder):
-    return sorted((TOP / "examples" / folder).glob("*.litmus"))
+    return [path for path in sorted((TOP / "examples" / folder).glob("*.litmus")) if is_taken(path)]
 
 
 def write(crate, lines):

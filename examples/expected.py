@@ -1,0 +1,94 @@
+#!/usr/bin/env python3
+"""Writes what is wanted of the examples by examples/oracle.py, or says what differs from it.
+
+    examples/expected.py            writes the .report of each litmus test and trace, and the .records of each trace
+    examples/expected.py --check    says which of these files differ, and fails if one does
+
+The options of an example stand in its text: in a litmus test in the header line `options=..`, in a trace in the comment
+line `# options= ..`. Each trace's records must be legal. The tables (bad/traces.table, bad/records.table,
+verdicts.table) are written by hand: a row that the oracle answers otherwise is told, too.
+"""
+import re
+import sys
+from pathlib import Path
+
+import oracle
+from reference.order import check
+from reference.traces import Fault, Trace, read_records
+
+FOLDER = Path(__file__).resolve().parent
+
+
+def options_of(path):
+    found = re.search(rb"^(?:# )?options=(.*)$", path.read_bytes(), re.M)
+    return found[1].decode("ascii").split() if found else []
+
+
+def wanted():
+    """Each file with the text that it must have."""
+    def text(*given):
+        return oracle.run(oracle.words().parse_args([*map(str, given)]))[0]
+
+    for path in sorted([*FOLDER.glob("litmus/*.litmus"), *FOLDER.glob("settings/*.litmus")]):
+        yield path.with_suffix(".report"), text("litmus", *options_of(path), path)
+    for path in sorted(FOLDER.glob("traces/*.trace")):
+        yield path.with_suffix(".report"), text("trace", *options_of(path), path)
+        yield path.with_suffix(".records"), text("trace", "--records", *options_of(path), path)
+
+
+def rows(name):
+    """The rows of a table, with their line's number: the wanted words, and the texts as bytes."""
+    for number, line in enumerate((FOLDER / name).read_text(encoding="ascii").splitlines(), 1):
+        if not line.startswith("#"):
+            words, *texts = line.split("|")
+            yield number, words, [printed(text) for text in texts]
+
+
+def printed(text):
+    """What `printf %b` makes of a text: line feeds, tabs, carriage returns and bytes in octal."""
+    signs = {"n": "\n", "t": "\t", "r": "\r"}
+    found = re.sub(r"\\(?:([ntr])|0([0-7]{3}))", lambda m: signs[m[1]] if m[1] else chr(int(m[2], 8)), text)
+    return found.encode("latin-1")
+
+
+def said_of(reader, *texts):
+    """The fault that a reader tells, or what it answers."""
+    try:
+        return reader(*texts)
+    except Fault as fault:
+        return str(fault)
+
+
+def differing_rows():
+    def verdict(trace, records):
+        return check({}, Trace(trace).issued(), read_records(records))
+
+    for path in sorted(FOLDER.glob("traces/*.trace")):
+        said = said_of(verdict, path.read_bytes(), path.with_suffix(".records").read_bytes())
+        if said != "legal":
+            yield f"{path.relative_to(FOLDER)} and its records: {said}"
+    for name, reader in (("bad/traces.table", Trace), ("bad/records.table", read_records), ("verdicts.table", verdict)):
+        for number, words, texts in rows(name):
+            said = said_of(reader, *texts)
+            if said != words:
+                yield f"{name}, line {number}: {words} wanted, {said} is said"
+
+
+def differing_files(write):
+    for path, text in wanted():
+        if not path.exists() or path.read_bytes() != text.encode("ascii"):
+            yield f"{path.relative_to(FOLDER)} {'is written' if write else 'differs'}"
+            if write:
+                path.write_bytes(text.encode("ascii"))
+
+
+def main(write):
+    files = list(differing_files(write))
+    tables = list(differing_rows())
+    print("\n".join(files + tables) or "nothing differs")
+    return int(bool(tables or files and not write))
+
+
+if __name__ == "__main__":
+    oracle.test_generator()
+    sys.exit(main(sys.argv[1:] != ["--check"]))

@@ -1,0 +1,58 @@
+"""The checker of docs/ORDER.md, by a plain method, and the count of stale hits. Memory is a mapping of words."""
+
+
+def arrange(records):
+    return sorted(records, key=lambda record: (record.time, record.number))
+
+
+def operation(record):
+    return record.kind, record.word, record.value
+
+
+def flat_step(memory, record):
+    """What the flat memory gives to the record's operation; a store receives nothing."""
+    received = None if record.kind == "store" else memory.get(record.word, 0)
+    if record.kind != "load":
+        memory[record.word] = record.value
+    return received
+
+
+def check(opening, issued, records):
+    """The verdict's line. `issued` is a list of operations for each core."""
+    numbers = {record.number for record in records}
+    for number in range(len(records)):
+        if number not in numbers:
+            return f"bad number {number}"
+    memory, places = dict(opening), {}
+    for record in arrange(records):
+        place = places.get(record.core, 0)
+        wanted = issued[record.core] if record.core < len(issued) else []
+        if record.place != place or place >= len(wanted) or wanted[place] != operation(record):
+            return f"out of program order {record.number}"
+        places[record.core] = place + 1
+        if flat_step(memory, record) != record.received:
+            return f"wrong value {record.number}"
+    return "legal"
+
+
+def end_memory(opening, records):
+    """The memory that the arranged records leave."""
+    memory = dict(opening)
+    for record in arrange(records):
+        flat_step(memory, record)
+    return memory
+
+
+def stale_loads(records):
+    """The numbers of the loads with a store or swap of their word of a smaller number and a greater time."""
+    latest, stale = {}, []  # the greatest time of a write so far, by word
+    for record in sorted(records, key=lambda record: record.number):
+        if record.kind != "load":
+            latest[record.word] = max(latest.get(record.word, -1), record.time)
+        elif latest.get(record.word, -1) > record.time:
+            stale.append(record.number)
+    return stale
+
+
+def stale_hits(records):
+    return len(stale_loads(records))

@@ -1,0 +1,107 @@
+"""Runs of the machine that were worked out by hand, event by event: what the second program is itself tested by.
+
+A run is a list of words. An event with its answer: `I0:S0,5` issues to core 0 a store of 5 to word 0 (R a load, X a
+swap), `A0` an attempt of core 0, `D3` the delivery of message 3, `C0,2` the eviction of core 0's copy of line 2,
+`B0,2` that of bank 0's entry of line 2, `T0` an advance of core 0; behind `=` stands the answer's beginning. `0:R1`
+does a whole operation of core 0: behind `=` stand the received value (- for none), a comma and the time.
+"""
+from types import SimpleNamespace
+
+from reference import order
+from reference.machine import Machine
+
+USUAL = {"banks": 1, "sets": 64, "ways": 4, "bank_sets": 256, "bank_ways": 8, "line_words": 1, "lease": 10,
+         "messages": 4096, "time": 0, "private_write": False}
+LAST = 2 ** 64 - 1
+KINDS = {"R": "load", "S": "store", "X": "swap"}
+EVENTS = {"A": "Attempt", "D": "Deliver", "C": "EvictCache", "B": "EvictBank", "T": "Advance"}
+
+# What a run shows, its options, its words, and at its end: counts that aren't 0, memory times, values of words.
+RUNS = [
+    ("a load on a lease reads the past", {}, "1:R0=0,0 0:S0,1=-,11 1:R0=0,0", {"stale": 1}, [0], {0: 1}),
+    ("past its lease it reads what was written", {}, "1:R0=0,0 0:S0,1=-,11 1:R0=0,0" + 11 * " T1=Adv" + " 1:R0=1,11",
+     {"write-backs": 1, "stale": 1}, [0], {0: 1}),
+    ("a copy that is still the line's is renewed", {}, "1:R0=0,0" + 11 * " T1=Adv" + " 1:R0=0,11",
+     {"renewals": 1}, [0], {0: 0}),
+    ("and upgraded", {}, "0:R0=0,0 0:S0,4=-,11", {"upgrades": 1}, [0], {0: 4}),
+    ("a swap receives the old word, and takes a store's time", {}, "0:S0,3=-,1 0:X0,5=3,2", {}, [0], {0: 5}),
+    ("a line comes back from DRAM at the memory time", {},
+     "0:R0=0,0 B0,0=Evicted 1:R0=0,10 0:R0=0,0", {}, [10], {0: 0}),
+    ("a dirty line is stored before it is loaded again", {},
+     "I0:S0,5=Iss A0=Req D0=Sta D1=Del D2=Del D0=Del D3=Del A0=Com C0,0=Evi D4=Del B0,0=Evi I1:R0=Iss A1=Req D6=Held "
+     "D5=Del D6=Held D7=Del D6=Sta D8=Del D9=Del D6=Del D10=Del A1=Com", {"flushes": 1}, [1], {0: 5}),
+    ("a recall waits for the grant, and for the operation", {},
+     "I0:S0,1=Iss A0=Req D0=Sta D1=Del D2=Del D0=Del I1:S0,2=Iss A1=Req D4=Sta D5=Held D3=Del D5=Held A0=Com D5=Del "
+     "D6=Del D4=Del D7=Del A1=Com", {"flushes": 1}, [0], {0: 2}),
+    ("a copy is pinned while its upgrade is asked for", {}, "0:R0=0,0 I0:S0,1=Iss A0=Req C0,0=Pinned", {}, [0], {0: 0}),
+    ("and once the operation is open", {}, "0:R0=0,0 I0:R0=Iss C0,0=Pinned", {}, [0], {0: 0}),
+    ("an owner that evicted its copy is recalled, and owns it anew", {},
+     "I0:S0,1=Iss A0=Req D0=Sta D1=Del D2=Del D0=Del D3=Del A0=Com C0,0=Evi I0:S0,2=Iss A0=Req D5=Sta D4=Del D5=Del "
+     "D6=Held D7=Del A0=Com D6=Del D8=Del", {"flushes": 2}, [0], {0: 2}),
+    ("times end", {"time": LAST - 10}, f"0:R0=0,{LAST - 10} I0:S0,1=Iss A0=Req D4=Del D5=Del A0=Exh A0=Sto T1=Sto",
+     {"upgrades": 1}, [LAST - 10], {0: 0}),
+    ("one way: another line has no place until the first one leaves", {"sets": 1, "ways": 1},
+     "0:R0=0,0 I0:R1=Iss A0=NoRoom C0,0=Evi A0=Req", {}, [0], {}),
+    ("each bank has its own memory time", {"banks": 2}, "0:R0=0,0 B0,0=Evi 0:R1=0,0", {}, [10, 0], {}),
+    ("one place in the bank: a request is held until the line leaves", {"bank_sets": 1, "bank_ways": 1},
+     "0:R0=0,0 I0:R1=Iss A0=Req D4=Held B0,0=Evi D4=Sta D5=Del D6=Del D4=Del D7=Del A0=Com", {}, [10], {}),
+    ("lines of eight words", {"line_words": 8}, "0:S0,5=-,1 1:R1=0,1 0:S1,6=-,12 1:R0=5,1 1:R1=0,1",
+     {"upgrades": 1, "write-backs": 1, "stale": 1}, [0], {0: 5, 1: 6}),
+    ("private writes", {"private_write": True},
+     "0:S0,1=-,1 0:S0,2=-,1 0:S0,3=-,1 1:R0=3,1 0:S0,4=-,12 0:S0,5=-,12 1:R0=3,1",
+     {"upgrades": 1, "write-backs": 1, "stale": 1}, [0], {0: 5}),
+    ("without them", {}, "0:S0,1=-,1 0:S0,2=-,2 0:S0,3=-,3", {}, [0], {0: 3}),
+    ("private writes at the last time", {"private_write": True, "time": LAST - 1}, f"0:S0,1=-,{LAST} 0:S0,2=-,{LAST}",
+     {}, [LAST - 1], {0: 2}),
+    ("an advance past the last time stops all", {"time": LAST - 1}, f"0:S0,1=-,{LAST} T0=Exh T1=Sto I0:R0=Sto",
+     {}, [LAST - 1], {0: 1}),
+    ("what isn't there", {}, "D0=NoSuch A0=Idle C0,0=NoSuch B0,0=NoSuch", {}, [0], {}),
+]
+
+
+def operation(words):
+    word, _, value = words[1:].partition(",")
+    return KINDS[words[0]], int(word), int(value) if value else None
+
+
+def event_of(words):
+    if words[0] == "I":
+        core, _, op = words[1:].partition(":")
+        return "Issue", int(core), operation(op)
+    return EVENTS[words[0]], *map(int, words[1:].split(","))
+
+
+def do(machine, core, op):
+    """A whole operation: attempts, and each message as soon as it can be delivered. What it received, and when."""
+    machine.step(("Issue", core, op))
+    while machine.step(("Attempt", core)) != "Completed":
+        for number in sorted(machine.flight):
+            machine.step(("Deliver", number))
+    record = machine.records[-1]
+    return f"{'-' if record.received is None else record.received},{record.time}"
+
+
+def said(machine, words):
+    if words[0].isdigit():
+        core, _, op = words.partition(":")
+        return do(machine, int(core), operation(op))
+    return machine.step(event_of(words))
+
+
+def test_run(shows, options, words, counts, times, values):
+    machine = Machine(SimpleNamespace(**{**USUAL, **options}), 2, {})
+    for word in words.split():
+        event, _, wanted = word.partition("=")
+        answer = said(machine, event)
+        assert answer.startswith(wanted), f"{shows}: {event} is answered {answer}"
+    made = {**machine.totals(), "stale": order.stale_hits(machine.records)}
+    assert made == {**dict.fromkeys(made, 0), **counts}, f"{shows}: {made}"
+    assert machine.mts == times, f"{shows}: {machine.mts}"
+    memory = order.end_memory({}, machine.records)
+    assert all(memory.get(word, 0) == value for word, value in values.items()), f"{shows}: {memory}"
+
+
+def test_machine():
+    for run in RUNS:
+        test_run(*run)
+    return len(RUNS)

@@ -1,3 +1,4 @@
+mod KnownEvents
 mod Over
 mod Pieces
 mod DoneOps

@@ -14,7 +14,7 @@ use Rattle.worker_driver.specs.Runs.{advances}
 use Rattle.worker_driver.specs.Runs.{evict, evict_bank, evicts, victim_for, told, told_advance, is_held, is_no_room}
 use Rattle.worker_driver.specs.Runs.{plan_of, Ends}
 use Rattle.worker_driver.specs.Notes.{Log, Noted, Point, at, position, Leads, Stops, Led}
-use Rattle.worker_driver.proofs.RunSteps.{Next, leads_by, stops_by, leads_over}
+use Rattle.worker_driver.proofs.RunSteps.{Next, finished, leads_by, stops_by, leads_over}
 
 module _ {P S : Type 0} (acts : Acts P) (schedule : Schedule P S) (m : Machine) (programs : List P) (log : Log)
     (own : S) where
@@ -174,10 +174,15 @@ module _ {P S : Type 0} (acts : Acts P) (schedule : Schedule P S) (m : Machine) 
 
   -- memory was refused before the turn was over
   pub refused : schedule.next m programs own ≢ Over → Stops acts schedule Here m programs log NoMemory
-  refused more limit start turns before = record {
-    last = position Here turns;
-    follows = before;
-    machine_is = refl;
-    programs_are = refl;
-    ends = inr (refl, λ other ends. more (still_in limit turns other (schedule.next m programs own) ends));
-  }
+  refused more = (
+    refl,
+    λ limit start turns before.
+        finished (plan_of acts schedule limit) start log.events (position Here turns) m programs NoMemory before
+        (λ events follows. record {
+          last = position Here turns;
+          follows = follows;
+          machine_is = refl;
+          programs_are = refl;
+          ends = inr (refl, λ other ends. more (still_in limit turns other (schedule.next m programs own) ends));
+        }),
+  )

@@ -5,6 +5,7 @@ pub mod RoundSchedule
 pub mod RoundViews
 pub mod SeedSchedule
 pub mod SeedViews
+pub mod Policies
 pub mod RunEvents
 pub mod Notes
 pub mod Turns

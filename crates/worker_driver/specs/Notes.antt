@@ -1,5 +1,6 @@
 -- How a run notes the events that it makes.
-use Rattle.std.specs.Prelude.{◌≡◌, ℕ, Bool, true, false, ◌||◌, List, [], ◌∷◌, ◌++◌, Result, Ok, Err}
+use Rattle.std.specs.Prelude.{◌≡◌, ℕ, Bool, true, false, ◌||◌, List, [], ◌∷◌, ◌++◌, Option, is_some, option_map}
+use Rattle.std.specs.Prelude.{Result, Ok, Err}
 use Rattle.machine_table.specs.declared.event.Event.{Event}
 use Rattle.machine_table.specs.declared.event.Answer.{Answer}
 use Rattle.machine_table.specs.declared.event.Answer.TheVariants.{Refused}
@@ -11,18 +12,18 @@ use Rattle.run_ends.specs.declared.ends.End.TheVariants.{AllDone, Stalled, Turns
 use Rattle.worker_driver.specs.Acts.{Acts}
 use Rattle.worker_driver.specs.Schedules.{Schedule}
 use Rattle.worker_driver.specs.Runs.{Stage, Position, plan_of, is_progress, is_exhausted}
-use Rattle.worker_driver.specs.RunEvents.{Follows, Ended}
+use Rattle.worker_driver.specs.RunEvents.{Arrives, Finishes}
 
--- the events so far, whether an answer of this turn was progress, and how many more can be noted before memory is
--- asked for
+-- the events so far, if they are kept, whether an answer of this turn was progress, and how many more can be noted
+-- before memory is asked for
 pub record Log : Type 0 where
-  pub events : List Event
+  pub events : Option (List Event)
   pub has_progressed : Bool
   pub reserved : ℕ
 
 -- an answered event is noted
 pub record IsNoted (log : Log) (event : Event) (answer : Answer) (after : Log) : Type 0 where
-  pub events : after.events ≡ log.events ++ event ∷ []
+  pub events : after.events ≡ option_map (λ events. events ++ event ∷ []) log.events
   pub has_progressed : after.has_progressed ≡ (log.has_progressed || is_progress answer)
 
 -- nothing is noted
@@ -70,17 +71,21 @@ position p turns =
       turns = turns;
     }
 
+-- events are kept exactly if they were
+abbrev pub KeepsAs : Log → Log → Type 0
+KeepsAs log after = is_some after.events ≡ is_some log.events
+
 -- a run that follows its plan to the one point follows it to the other, whatever the most turns are
 abbrev pub Leads : {P S : Type 0} → Acts P → Schedule P S → Point P S → Point P S → Type 0
-Leads {P} {S} acts schedule p q = (limit : ℕ) (start : Position P S) (turns : ℕ) →
-    Follows (plan_of acts schedule limit) start p.log.events (position p turns) →
-    Follows (plan_of acts schedule limit) start q.log.events (position q turns)
+Leads {P} {S} acts schedule p q = KeepsAs p.log q.log × ((limit : ℕ) (start : Position P S) (turns : ℕ) →
+    Arrives (plan_of acts schedule limit) start p.log.events (position p turns) →
+    Arrives (plan_of acts schedule limit) start q.log.events (position q turns))
 
 -- a run that follows its plan to the point ends with this machine, these programs and this log
 abbrev pub Stops : {P S : Type 0} → Acts P → Schedule P S → Point P S → Machine → List P → Log → End → Type 0
-Stops {P} {S} acts schedule p m programs log end = (limit : ℕ) (start : Position P S) (turns : ℕ) →
-    Follows (plan_of acts schedule limit) start p.log.events (position p turns) →
-    Ended (plan_of acts schedule limit) start log.events m programs end
+Stops {P} {S} acts schedule p m programs log end = KeepsAs p.log log × ((limit : ℕ) (start : Position P S)
+    (turns : ℕ) → Arrives (plan_of acts schedule limit) start p.log.events (position p turns) →
+    Finishes (plan_of acts schedule limit) start log.events m programs end)
 
 -- a part of a run leads from the one point to the other, or ends the run
 abbrev pub Led : {X : Type 0} {P S : Type 0} → Acts P → Schedule P S → Point P S → Result X End →

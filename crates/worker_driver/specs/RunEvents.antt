@@ -1,5 +1,5 @@
 -- Which events a run that follows its plan makes, and where they lead.
-use Rattle.std.specs.Prelude.{◌≡◌, ◌≢◌, ◌⊎◌, ℕ, false, List, [], ◌∷◌, ◌++◌}
+use Rattle.std.specs.Prelude.{◌≡◌, ◌≢◌, ◌⊎◌, ℕ, false, List, [], ◌∷◌, ◌++◌, Option, Some, None}
 use Rattle.machine_table.specs.declared.event.Event.{Event}
 use Rattle.machine_table.specs.declared.event.Answer.{Answer}
 use Rattle.machine_table.specs.Machine.{Machine}
@@ -39,3 +39,14 @@ pub record Ended {P S : Type 0} (plan : Plan P S) (start : Position P S) (events
   pub programs_are : last.programs ≡ programs
   pub ends : (next plan last ≡ Ends end) ⊎
       ((end ≡ NoMemory) × ((other : End) → next plan last ≢ Ends other))
+
+-- what is so of the events: of those that were kept, or else of some
+abbrev pub Known : Option (List Event) → (List Event → Type 0) → Type 0
+Known (Some events) Holds = Holds events
+Known None Holds = (events : List Event) × Holds events
+
+abbrev pub Arrives : {P S : Type 0} → Plan P S → Position P S → Option (List Event) → Position P S → Type 0
+Arrives plan start kept d = Known kept (λ events. Follows plan start events d)
+
+abbrev pub Finishes : {P S : Type 0} → Plan P S → Position P S → Option (List Event) → Machine → List P → End → Type 0
+Finishes plan start kept m programs end = Known kept (λ events. Ended plan start events m programs end)

@@ -1,9 +1,10 @@
 //! Turns of any schedule from the first one, and what they came to.
-ghost use Rattle.std.specs.Prelude.{◌≡◌, ◌<◌, None, length, ℕ};
+ghost use Rattle.std.specs.Prelude.{◌≡◌, ◌<◌, [], false, None, IfSome, ℕ};
 ghost use Rattle.machine_table.specs.Runs.{after_all};
 ghost use Rattle.interleaving_core.specs.LookUps.{open_op};
 ghost use Rattle.worker_driver.specs.Acts.{next_in};
-ghost use Rattle.worker_driver.specs.RunEvents.{Ended, initial};
+ghost use Rattle.worker_driver.specs.Notes.{KeepsAs};
+ghost use Rattle.worker_driver.specs.RunEvents.{Ended, Known, initial};
 ghost use Rattle.worker_driver.specs.Runs.{plan_of};
 ghost use Rattle.worker_driver.specs.Service.{AreServed, GivesSteps};
 
@@ -22,7 +23,34 @@ pub struct Driven {
     pub events: Vec<Event>,
 }
 
-// Drives the machine by a schedule that issues and advances cores as their programs say.
+// Turns until a run ends, of a schedule that issues and advances cores as their programs say.
+pub(crate) fn finish<P: Program, S: Schedule<P>>(
+    schedule: &mut S,
+    system: &mut System,
+    programs: &mut [P],
+    log: &mut Log,
+    limit: u32,
+) -> End
+    requires gives { GivesSteps P.acts S.rule }
+    requires nothing_yet { IfSome log.old.events (λ events. events ≡ []) }
+    requires no_progress_yet { log.old.has_progressed ≡ false }
+    ensures ended { Known log.new.events (λ events.
+        Ended (plan_of P.acts S.rule limit) (initial system.old programs.old schedule.old) events
+        system.new programs.new result
+        × (system.new ≡ after_all system.old events)) }
+    ensures kept { KeepsAs log.old log.new }
+    ensures all_done { result ≡ End.AllDone → (core : ℕ) → core < system.old.config.cores →
+        (open_op system.new core ≡ None) × (next_in P.acts programs.new core ≡ None) }
+    ensures served { AreServed P.acts system.old system.new programs.old programs.new }
+{
+    let _cores = system.cores();
+    let _before = system.records();
+    let end = run(schedule, system, programs, log, limit);
+    let _after = system.records();
+    end
+}
+
+// The same, with the list of events.
 pub(crate) fn drive<P: Program, S: Schedule<P>>(
     alloc: Global,
     system: &mut System,
@@ -40,10 +68,7 @@ pub(crate) fn drive<P: Program, S: Schedule<P>>(
     ensures served { AreServed P.acts system.old system.new programs.old programs.new }
 {
     let mut log = Log::new(alloc);
-    let _cores = system.cores();
-    let _before = system.records();
-    let end = run(schedule, system, programs, &mut log, limit);
-    let _after = system.records();
+    let end = finish(schedule, system, programs, &mut log, limit);
     Driven {
         end,
         events: log.into_events(),

@@ -7,6 +7,8 @@ pub mod laws;
 mod lists;
 mod log;
 mod look_ups;
+pub mod policies;
+mod policy;
 pub mod program;
 mod round;
 pub mod rounds;
@@ -18,6 +20,8 @@ mod turn;
 
 pub use driven::Driven;
 pub use lists::{OpProgram, StepProgram};
+pub use policies::run_to_end;
+pub use policy::Policy;
 pub use program::Program;
 pub use rounds::drive_round;
 pub use run_ends::{End, RunEnd};

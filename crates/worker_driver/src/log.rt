@@ -1,5 +1,6 @@
 //! The events that a run made, each noted as it is answered.
-ghost use Rattle.std.specs.Prelude.{◌≡◌, ◌<◌, ◌++◌, ◌∷◌, [], false, ◌||◌, OnErr, OnOk};
+ghost use Rattle.std.specs.Prelude.{◌≡◌, ◌<◌, ◌++◌, ◌∷◌, [], false, ◌||◌, IsSome, None, OnErr, OnOk, Some};
+ghost use Rattle.std.specs.Prelude.{option_map};
 ghost use Rattle.worker_driver.specs.Notes.{Noted, is_no_memory};
 ghost use Rattle.worker_driver.specs.Runs.{is_advanced, is_exhausted, is_held, is_progress, is_no_room};
 
@@ -10,20 +11,21 @@ use run_ends::End;
 use std::alloc::{AllocError, Global};
 use std::marker::Model;
 
-// The events of a run so far, and whether one of them was progress in this turn.
+// The events of a run so far, if it keeps them, and whether one of them was progress in this turn.
 #[derive(Drop)]
 pub(crate) struct Log {
     events: Vec<Event>,
+    keeps: bool,
     has_progressed: bool,
 }
 
 impl Model for Log {
-    ghost use Rattle.std.specs.Prelude.{◌-◌, vec_capacity, vec_len};
+    ghost use Rattle.std.specs.Prelude.{◌-◌, None, Some, if◌then◌else◌, vec_capacity, vec_len};
     ghost use Rattle.worker_driver.specs.Notes.{Log};
 
     ghost Value = { Log };
 
-    ghost view = { λ a. record { events = a.events.items; has_progressed = a.has_progressed; reserved = vec_capacity a.events - vec_len a.events } };
+    ghost view = { λ a. record { events = if a.keeps then Some a.events.items else None; has_progressed = a.has_progressed; reserved = if a.keeps then vec_capacity a.events - vec_len a.events else 1 } };
 }
 
 // Whether an answer is more than Waiting, Held or a refusal.
@@ -64,13 +66,26 @@ fn is_exhausted(answer: &Answer) -> bool
 }
 
 impl Log {
-    // Nothing is noted; this takes no memory yet.
+    // Nothing is noted, and events are to be kept; this takes no memory yet.
     pub(crate) fn new(alloc: Global) -> Log
-        ensures events { result.events ≡ [] }
+        ensures events { result.events ≡ Some [] }
         ensures progressed { result.has_progressed ≡ false }
     {
         Log {
             events: Vec::new(alloc),
+            keeps: true,
+            has_progressed: false,
+        }
+    }
+
+    // The same, where no event is kept; this never takes memory.
+    pub(crate) fn without_events(alloc: Global) -> Log
+        ensures events { result.events ≡ None }
+        ensures progressed { result.has_progressed ≡ false }
+    {
+        Log {
+            events: Vec::new(alloc),
+            keeps: false,
             has_progressed: false,
         }
     }
@@ -89,9 +104,10 @@ impl Log {
         self.has_progressed
     }
 
-    // The events.
+    // The events, which were kept.
     pub(crate) fn into_events(self) -> Vec<Event>
-        ensures { result.items ≡ self.events }
+        requires { IsSome self.events }
+        ensures { self.events ≡ Some result.items }
     {
         self.events
     }
@@ -102,19 +118,34 @@ impl Log {
         ensures progressed { self.new.has_progressed ≡ self.old.has_progressed }
         ensures ok { OnOk result (0 < self.new.reserved) }
     {
+        if !self.keeps {
+            return Ok(());
+        }
         self.events.reserve(1)
     }
 
-    // An answered event is added, for which memory was reserved.
-    fn note(&mut self, event: &Event, answer: &Answer)
+    // An event is added if events are kept; memory was reserved for it.
+    fn keep(&mut self, event: &Event)
         requires { 0 < self.old.reserved }
-        ensures events { self.new.events ≡ self.old.events ++ event.now ∷ [] }
-        ensures progressed { self.new.has_progressed ≡ (self.old.has_progressed
-            || is_progress answer.now) }
+        ensures events { self.new.events ≡ option_map (λ events. events ++ event.now ∷ []) self.old.events }
+        ensures progressed { self.new.has_progressed ≡ self.old.has_progressed }
     {
         // The check finds the parts of an event only where the function names an operation's type.
         let _op: Option<Op> = None;
+        if !self.keeps {
+            return;
+        }
         self.events.push_reserved(*event);
+    }
+
+    // An answered event is noted, for which memory was reserved.
+    fn note(&mut self, event: &Event, answer: &Answer)
+        requires { 0 < self.old.reserved }
+        ensures events { self.new.events ≡ option_map (λ events. events ++ event.now ∷ []) self.old.events }
+        ensures progressed { self.new.has_progressed ≡ (self.old.has_progressed
+            || is_progress answer.now) }
+    {
+        self.keep(event);
         self.has_progressed = self.has_progressed || is_progress(answer);
     }
 }

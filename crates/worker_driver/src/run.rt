@@ -1,6 +1,7 @@
 //! Turns of a schedule, until a run ends.
-ghost use Rattle.std.specs.Prelude.{◌≡◌, ◌&&◌, [], false, not};
-ghost use Rattle.worker_driver.specs.RunEvents.{Ended, initial};
+ghost use Rattle.std.specs.Prelude.{◌≡◌, ◌&&◌, [], false, not, IfSome};
+ghost use Rattle.worker_driver.specs.Notes.{KeepsAs};
+ghost use Rattle.worker_driver.specs.RunEvents.{Finishes, initial};
 ghost use Rattle.worker_driver.specs.Runs.{plan_of};
 
 use crate::log::Log;
@@ -27,10 +28,12 @@ pub(crate) fn run<P: Program, S: Schedule<P>>(
     log: &mut Log,
     limit: u32,
 ) -> End
-    requires nothing_yet { log.old.events ≡ [] }
+    requires nothing_yet { IfSome log.old.events (λ events. events ≡ []) }
     requires no_progress_yet { log.old.has_progressed ≡ false }
-    ensures { Ended (plan_of P.acts S.rule limit) (initial system.old programs.old schedule.old)
+    ensures ended { Finishes (plan_of P.acts S.rule limit) (initial system.old programs.old
+        schedule.old)
         log.new.events system.new programs.new result }
+    ensures kept { KeepsAs log.old log.new }
 {
     for _made in 0..limit {
         if are_over(system, programs, system.cores()) {

@@ -1,10 +1,13 @@
 use Rattle.worker_driver.specs.Runs.{Before, plan_of}
-use Rattle.worker_driver.specs.RunEvents.{Follows, initial}
-use Rattle.worker_driver.specs.Notes.{at, position}
+use Rattle.worker_driver.specs.RunEvents.{Arrives, initial}
+use Rattle.worker_driver.specs.Notes.{KeepsAs, at, position}
 use Rattle.worker_driver.proofs.run.run.Given as goal
 
 abbrev pub invariant-loop-made : goal.invariant-loop-made
-invariant-loop-made g l =
-    Follows (plan_of g.P.Program.acts g.S.Schedule.rule l.fn.limit)
-    (initial l.fn.system l.fn.programs l.fn.schedule) l.log.events
-    (position (at l.system l.programs l.log l.schedule Before) l._made)
+invariant-loop-made g l = record {
+  arrived :
+      Arrives (plan_of g.P.Program.acts g.S.Schedule.rule l.fn.limit)
+      (initial l.fn.system l.fn.programs l.fn.schedule) l.log.events
+      (position (at l.system l.programs l.log l.schedule Before) l._made);
+  kept : KeepsAs l.fn.log l.log;
+}

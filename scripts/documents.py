@@ -30,8 +30,10 @@ GROUPS = [
     ("The readings: which of a text's faults is told", [
         ("litmus_reader", "*", "")]),
     ("Runs and reports: the schedule, the sequential machine, the text, the program", [
-        (name, "*", "") for name in ("byte_streams", "run_ends", "worker_driver", "sequential_machine", "report_text", "report",
+        (name, "*", "") for name in ("byte_streams", "run_ends", "worker_driver", "sequential_machine", "report_text", "report_parts", "report",
                                      "run_results", "command_line", "program")]),
+    ("Traces and records: their texts, their runs, and the verdict of a check", [
+        (name, "*", "") for name in ("trace_lines", "trace_reader", "record_text", "trace_report_text", "trace_report")]),
     ("Laws for later layers: of the table's histories, of the moves of a state, of the protocol by lines", [
         ("machine_theorem", "*", ""), ("machine_moves", "*", ""), ("protocol", "*", "")]),
 ]

@@ -9,12 +9,11 @@ use Rattle.clap.specs.declared.error.Error.{Error}
 use Rattle.clap.specs.declared.error.kind.ErrorKind.TheVariants.{OutOfMemory}
 use Rattle.clap.specs.declared.parser.matches.ArgMatches.{ArgMatches}
 use Rattle.clap.specs.declared.parser.matches.Found.{Found}
-use Rattle.clap.specs.declared.builder.value_parser.ValueParser.{ValueParser}
 use Rattle.clap.proofs.WalkLemmas.{first_value-rows}
 use Rattle.clap.proofs.OnLiterals.{clap_on_literals}
-use Rattle.command_line.specs.App.{tardis_app}
+use Rattle.command_line.specs.App.{Parsers, tardis_app}
 
-simple : (p : ValueParser) → is_simple (tardis_app p) ≡ true
+simple : (p : Parsers) → is_simple (tardis_app p) ≡ true
 unfolding clap_on_literals
 simple p = refl
 
@@ -25,7 +24,7 @@ both_known : {A : Type 0} (o : Option A) (name : A → Text) (rows : A → List 
 both_known None name rows n r e f = absurd cc
 both_known (Some b) name rows n r e f = let x : n ≡ name b = cc in let y : r ≡ rows b = cc in rw (x, y) refl
 
-pub found_is : (a : App) (p : ValueParser) (words : List Text) (m : ArgMatches) (n : Text) (r : List Row) →
+pub found_is : (a : App) (p : Parsers) (words : List Text) (m : ArgMatches) (n : Text) (r : List Row) →
     a ≡ tardis_app p → HasMatchesOf a words m → Some n ≡ subcommand_name_of m
     → Some r ≡ option_map (λ (p : Text × List Row). p.1) (subcommand_rows_of m) → subcommand_of (tardis_app p)
     words ≡ Some (n, r)
@@ -42,15 +41,15 @@ file_is f id path None other file given is e = let bad : None ≡ Some path =
 file_is f id path (Some s) other file given is e = let same : Some s.now ≡ Some path =
     given ∙ first_value-rows f id ∙ e in ap (λ (x : Bor (List ℕ)). x.now) is ∙ cc
 
-free : (p : ValueParser) → is_simple_and_free (tardis_app p) ≡ true
+free : (p : Parsers) → is_simple_and_free (tardis_app p) ≡ true
 unfolding clap_on_literals
 free p = refl
 
-pub no_fault : (a : App) (p : ValueParser) (words : List Text) → a ≡ tardis_app p →
+pub no_fault : (a : App) (p : Parsers) (words : List Text) → a ≡ tardis_app p →
     (is_simple_and_free a ≡ true → fault_of a words ≡ []) → fault_of (tardis_app p) words ≡ []
 no_fault a p words e given = ap (λ (b : App). fault_of b words) (sym e) ∙ given (ap is_simple_and_free e ∙ free p)
 
-pub has_fault : (a : App) (p : ValueParser) (words : List Text) (error : Error) → a ≡ tardis_app p →
+pub has_fault : (a : App) (p : Parsers) (words : List Text) (error : Error) → a ≡ tardis_app p →
     (is_simple_and_free a ≡ true → HasKind (fault_of a words) error) → (kind_of error ≡ OutOfMemory → ⊥) →
     IsAmong (kind_of error) (fault_of (tardis_app p) words)
 has_fault a p words error e given other = elim (given (ap is_simple_and_free e ∙ free p)) [

@@ -1,6 +1,6 @@
--- Words that name the command help are refused, so words that aren't refused name the one command that the program has.
+-- Words that name the command help are refused, so words that aren't refused name a command that the program has.
 use Rattle.std.proofs.Common.{◌≡◌, ◌≢◌, cond, ℕ, Bool, true, false, List, [], ◌∷◌, Option, Some, None, refl, sym, ap}
-use Rattle.std.proofs.Common.{◌∙◌, true≢false, if◌then◌else◌, codes}
+use Rattle.std.proofs.Common.{◌∙◌, ◌++◌, ◌⊎◌, inl, inr, true≢false, if◌then◌else◌, codes}
 use Rattle.std.specs.Prelude.{fold, find, option_and_then, option_map, ◌||◌}
 use Rattle.std.specs.Option.{option_map_or}
 use Rattle.std.specs.Str.{bytes_eq}
@@ -15,9 +15,8 @@ use Rattle.clap.specs.Simple.{subcommand_of}
 use Rattle.clap.specs.Faults.{fault_of, other_fault, turn_fault, walk_fault}
 use Rattle.clap.specs.Kinds.{Kinds, or_else}
 use Rattle.clap.specs.Walk.{nothing_held, walk, walk_from}
-use Rattle.clap.specs.declared.builder.value_parser.ValueParser.{ValueParser}
 use Rattle.clap.proofs.OnLiterals.{clap_on_literals}
-use Rattle.command_line.specs.App.{litmus_app, tardis_app}
+use Rattle.command_line.specs.App.{Parsers, check_app, litmus_app, tardis_app, trace_app}
 
 no_first : (a b : Kinds) → or_else a b ≡ [] → a ≡ []
 no_first [] b e = refl
@@ -125,62 +124,85 @@ module _ (s : Shape) (names : Names) (enabled : s.disable_help_subcommand ≡ fa
   all_words w (word ∷ ws) passes before = all_words (walked s.rules names w word) ws (no_second _ _ passes)
       (next_word w word (no_first _ _ passes) before)
 
--- ---- the program's one command
+-- ---- the program's commands
 
 or_false : (b : Bool) → (b || false) ≡ true → b ≡ true
 or_false true e = refl
 or_false false e = e
 
--- of two commands, of which the second is help, the first is entered
-module _ (first second : Shape) (helps : (word : Text) → answers_to word (label_of second) ≡
-    (bytes_eq (codes "help") word || false)) where
-  abbrev picked : Bool → Bool → Option Shape
-  picked b h = if b then Some first else (if h then Some second else None)
+-- the name of what was entered
+abbrev name_in : Option (Text × List Row) → Text
+name_in o = option_map_or (λ q. q.0) o []
 
-  -- the name of what was entered
-  abbrev name_in : Option (Text × List Row) → Text
-  name_in o = option_map_or (λ q. q.0) o []
+-- the name is that of one of these commands
+abbrev IsNameOf : Text → List Shape → Type 0
+IsNameOf n [] = ⊥
+IsNameOf n (s ∷ shapes) = (n ≡ s.name) ⊎ IsNameOf n shapes
 
-  first_entered : (stop : Option (Text × List Text)) (n : Text) (r : List Row) → NoHelp stop
-      → option_and_then (λ q. option_map (λ s. rows_at s q.1) (find (λ s. answers_to q.0 (label_of s))
-      (first ∷ second ∷ []))) stop ≡ Some (n, r) → n ≡ first.name
-  first_entered None n r apart e = absurd cc
-  first_entered (Some q) n r apart e =
-      by (answers_to q.0 (label_of first)) (answers_to q.0 (label_of second)) refl refl
+-- behind commands stands help, which isn't entered
+module _ (q : Text × List Text) (n : Text) (r : List Row) (help : Shape) (helps : (word : Text) → answers_to word
+    (label_of help) ≡ (bytes_eq (codes "help") word || false)) (apart : bytes_eq q.0 (codes "help") ≡ false) where
+  abbrev rows : Option Shape → Option (Text × List Row)
+  rows o = option_map (λ s. rows_at s q.1) o
+
+  abbrev entered : List Shape → Option Shape
+  entered shapes = find (λ s. answers_to q.0 (label_of s)) shapes
+
+  at_help : (h : Bool) → answers_to q.0 (label_of help) ≡ h → rows (entered (help ∷ [])) ≡ Some (n, r) → ⊥
+  at_help true is e =
+      let same : bytes_eq (codes "help") q.0 ≡ true = or_false _ (sym (helps q.0) ∙ is) in
+      true≢false
+      (sym ((bytes_eq-Decides q.0 (codes "help")).1 (sym ((bytes_eq-Decides (codes "help") q.0).0 same))) ∙ apart)
+  at_help false is e =
+      let passed : entered (help ∷ []) ≡ None = rw (is) refl in
+      let none : rows None ≡ Some (n, r) = sym (ap rows passed) ∙ e in absurd cc
+
+  one_entered : (shapes : List Shape) → rows (entered (shapes ++ help ∷ [])) ≡ Some (n, r) → IsNameOf n shapes
+  one_entered [] e = at_help (answers_to q.0 (label_of help)) refl e
+  one_entered (s ∷ shapes) e = by (answers_to q.0 (label_of s)) refl (one_entered shapes)
     where
-      rows : Option Shape → Option (Text × List Row)
-      rows o = option_map (λ s. rows_at s q.1) o
+      by : (b : Bool) → answers_to q.0 (label_of s) ≡ b
+          → (rows (entered (shapes ++ help ∷ [])) ≡ Some (n, r) → IsNameOf n shapes) → IsNameOf n (s ∷ shapes)
+      by true is later =
+          let first : entered (s ∷ shapes ++ help ∷ []) ≡ Some s = rw (is) refl in
+          inl (sym (ap name_in (sym (ap rows first) ∙ e)))
+      by false is later =
+          let passed : entered (s ∷ shapes ++ help ∷ []) ≡ entered (shapes ++ help ∷ []) = rw (is) refl in
+          inr (later (sym (ap rows passed) ∙ e))
 
-      found : (b h : Bool) → answers_to q.0 (label_of first) ≡ b → answers_to q.0 (label_of second) ≡ h →
-          find (λ s. answers_to q.0 (label_of s)) (first ∷ second ∷ []) ≡ picked b h
-      found b h one two = rw (one, two) refl
+stopped_at : (shapes : List Shape) (help : Shape) → ((word : Text) → answers_to word (label_of help) ≡
+    (bytes_eq (codes "help") word || false)) → (stop : Option (Text × List Text)) (n : Text) (r : List Row) → NoHelp
+    stop → option_and_then (λ q. option_map (λ s. rows_at s q.1) (find (λ s. answers_to q.0 (label_of s))
+    (shapes ++ help ∷ []))) stop ≡ Some (n, r) → IsNameOf n shapes
+stopped_at shapes help helps None n r apart e = absurd cc
+stopped_at shapes help helps (Some q) n r apart e = one_entered q n r help helps apart shapes e
 
-      by : (b h : Bool) → answers_to q.0 (label_of first) ≡ b → answers_to q.0 (label_of second) ≡ h → n ≡ first.name
-      by true h one two = sym (ap name_in (sym (ap rows (found true h one two)) ∙ e))
-      by false true one two =
-          let same : bytes_eq (codes "help") q.0 ≡ true = or_false _ (sym (helps q.0) ∙ two) in
-          absurd (true≢false
-          (sym ((bytes_eq-Decides q.0 (codes "help")).1 (sym ((bytes_eq-Decides (codes "help") q.0).0 same)))
-          ∙ apart))
-      by false false one two = let none : None ≡ Some (n, r) =
-          sym (ap rows (found false false one two)) ∙ e in absurd cc
-
-enabled : (p : ValueParser) → (built (tardis_app p)).top.disable_help_subcommand ≡ false
+enabled : (p : Parsers) → (built (tardis_app p)).top.disable_help_subcommand ≡ false
 unfolding clap_on_literals
 enabled p = refl
 
-subs : (p : ValueParser) → (built (tardis_app p)).subs ≡ built_leaf (litmus_app p).top ∷ built_leaf help_shape ∷ []
+abbrev commands : Parsers → List Shape
+commands p = built_leaf (litmus_app p.0).top ∷ built_leaf (trace_app p.1).top ∷ built_leaf check_app.top ∷ []
+
+subs : (p : Parsers) → (built (tardis_app p)).subs ≡ commands p ++ built_leaf help_shape ∷ []
 unfolding clap_on_literals
 subs p = refl
 
-pub litmus_is_named : (p : ValueParser) (words : List Text) (n : Text) (r : List Row) → fault_of (tardis_app p)
-    words ≡ [] → subcommand_of (tardis_app p) words ≡ Some (n, r) → n ≡ codes "litmus"
-litmus_is_named p words n r passes e =
+pub one_is_named : (p : Parsers) (words : List Text) (n : Text) (r : List Row) → fault_of (tardis_app p) words ≡ [] →
+    subcommand_of (tardis_app p) words ≡ Some (n, r) →
+    (n ≡ codes "litmus") ⊎ (n ≡ codes "trace") ⊎ (n ≡ codes "check")
+one_is_named p words n r passes e =
     let top = (built (tardis_app p)).top in
     let names = names_of (built (tardis_app p)) in
     let given = argument_words (tardis_app p) words in
     let stop = (walk top.rules names nothing_held given).stopped in
-    first_entered (built_leaf (litmus_app p).top) (built_leaf help_shape) (λ word. refl) stop n r
+    named (stopped_at (commands p) (built_leaf help_shape) (λ word. refl) stop n r
     (all_words top names (enabled p) (walk_from nothing_held) given (no_first _ _ passes) tt)
     (ap (λ shapes. option_and_then (λ q. option_map (λ s. rows_at s q.1) (find (λ s. answers_to q.0 (label_of s))
-    shapes)) stop) (sym (subs p)) ∙ e)
+    shapes)) stop) (sym (subs p)) ∙ e))
+  where
+    named : IsNameOf n (commands p) → (n ≡ codes "litmus") ⊎ (n ≡ codes "trace") ⊎ (n ≡ codes "check")
+    named (inl litmus) = inl litmus
+    named (inr (inl trace)) = inr (inl trace)
+    named (inr (inr (inl check))) = inr (inr check)
+    named (inr (inr (inr none))) = absurd none

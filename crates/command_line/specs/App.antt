@@ -27,24 +27,26 @@ number_rule name default p =
 abbrev pub schedule_rule : ValueParser → Rule
 schedule_rule p = number_rule (codes "schedule") (codes "round") p
 
-abbrev pub flag_rule : Rule
-flag_rule = record (new_rule (codes "private-write")) { long = Some (codes "private-write"); action = Some SetTrue }
+-- --name without a value
+abbrev pub flag_rule : Text → Rule
+flag_rule name = record (new_rule name) { long = Some name; action = Some SetTrue }
 
-abbrev pub file_rule : Rule
-file_rule = record (new_rule (codes "FILE")) { required = true }
+-- a word in its place, which may not be left out
+abbrev pub file_rule : Text → Rule
+file_rule name = record (new_rule name) { required = true }
 
 abbrev pub with_rules : App → List Rule → App
 with_rules app [] = app
 with_rules app (rule ∷ rules) = with_rules (with_rule app rule) rules
 
--- how often and in which order a test is run
+-- in which order and how far a run goes
 abbrev pub run_rules : ValueParser → List Rule
 run_rules p =
     schedule_rule p
+    ∷ number_rule (codes "seed") (codes "0") any_number
     ∷ number_rule (codes "limit") (codes "100000") (up_to 4294967295)
-    ∷ number_rule (codes "runs") (codes "1") (up_to 1000000)
     ∷ number_rule (codes "workers") (codes "1") (up_to 16)
-    ∷ flag_rule
+    ∷ flag_rule (codes "private-write")
     ∷ []
 
 -- how the machine is built
@@ -61,10 +63,36 @@ machine_rules =
     ∷ number_rule (codes "messages") (codes "4096") any_number
     ∷ []
 
-abbrev pub litmus_app : ValueParser → App
-litmus_app p = with_rule (with_rules (with_rules (new_app (codes "litmus")) (run_rules p)) machine_rules) file_rule
+-- all the options of a run, and a file
+abbrev pub with_run : App → ValueParser → App
+with_run app p = with_rule (with_rules (with_rules app (run_rules p)) machine_rules) (file_rule (codes "FILE"))
 
--- the program wants a command
-abbrev pub tardis_app : ValueParser → App
-tardis_app p = let app = with_subcommand (new_app (codes "tardis")) (litmus_app p).top in
-    record app { top = record (app.top) { subcommand_required = true } }
+-- a litmus test may be run more than once
+abbrev pub litmus_app : ValueParser → App
+litmus_app p =
+    with_run (with_rule (new_app (codes "litmus")) (number_rule (codes "runs") (codes "1") (up_to 1000000))) p
+
+-- of a trace the records may be asked for
+abbrev pub trace_app : ValueParser → App
+trace_app p = with_run (with_rule (new_app (codes "trace")) (flag_rule (codes "records"))) p
+
+-- a check wants two files
+abbrev pub check_app : App
+check_app = with_rule (with_rule (new_app (codes "check")) (file_rule (codes "TRACE"))) (file_rule (codes "RECORDS"))
+
+-- what the two commands that run take as a schedule
+abbrev pub Parsers : Type 0
+Parsers = ValueParser × ValueParser
+
+abbrev pub AreRoundOnly : Parsers → Type 0
+AreRoundOnly p = IsRoundOnly p.0 × IsRoundOnly p.1
+
+-- a command is wanted
+abbrev pub wanting : App → App
+wanting app = record app { top = record (app.top) { subcommand_required = true } }
+
+abbrev pub tardis_app : Parsers → App
+tardis_app p =
+    with_subcommand
+    (with_subcommand (with_subcommand (wanting (new_app (codes "tardis"))) (litmus_app p.0).top) (trace_app p.1).top)
+    check_app.top

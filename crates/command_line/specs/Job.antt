@@ -1,31 +1,33 @@
 -- What a job has of the words, and why words are refused.
 use Rattle.std.specs.Prelude.{◌≡◌, ℕ, List, [], Some, codes}
-use Rattle.clap.specs.Words.{IsAmong, Row, Text, fault_of, first_of, subcommand_of}
-use Rattle.clap.specs.declared.builder.value_parser.ValueParser.{ValueParser}
+use Rattle.clap.specs.Words.{IsAmong, Row, Text, fault_of, subcommand_of}
 use Rattle.clap.specs.declared.error.kind.ErrorKind.{ErrorKind}
-use Rattle.command_line.specs.App.{IsRoundOnly, tardis_app}
-use Rattle.command_line.specs.Options.{Tells}
+use Rattle.command_line.specs.App.{AreRoundOnly, Parsers, tardis_app}
+use Rattle.command_line.specs.Options.{HasPath, Tells, TellsTrace}
 use Rattle.command_line.specs.declared.words.Job.{Job}
-use Rattle.command_line.specs.declared.words.Job.TheVariants.{Litmus}
+use Rattle.command_line.specs.declared.words.Job.TheVariants.{Litmus, Trace, Check}
 use Rattle.command_line.specs.declared.words.WordsError.{WordsError}
 use Rattle.command_line.specs.declared.words.WordsError.TheVariants.{NoMemory, Refused}
 
--- the command, its options and its file are those that the words give
+-- the command, its options and its files are those that the words give
 abbrev pub Asks : Text → List Row → Job → Type 0
 Asks command rows (Litmus options file) =
-    (command ≡ codes "litmus")
-    × Tells rows options
-    × ((path : Text) → first_of (codes "FILE") rows ≡ Some path → file.now ≡ path)
+    (command ≡ codes "litmus") × Tells rows options × HasPath rows (codes "FILE") file.now
+Asks command rows (Trace options file) =
+    (command ≡ codes "trace") × TellsTrace rows options × HasPath rows (codes "FILE") file.now
+Asks command rows (Check trace records) =
+    (command ≡ codes "check")
+    × HasPath rows (codes "TRACE") trace.now × HasPath rows (codes "RECORDS") records.now
 
--- clap's rules find no fault in the words, which name the command that has the job's options and file
+-- clap's rules find no fault in the words, which name the command that has the job's options and files
 abbrev pub IsAskedBy : List Text → Job → Type 0
 IsAskedBy words job =
-    (p : ValueParser) × IsRoundOnly p × (fault_of (tardis_app p) words ≡ [])
+    (p : Parsers) × AreRoundOnly p × (fault_of (tardis_app p) words ≡ [])
     × (found : Text × List Row) × (subcommand_of (tardis_app p) words ≡ Some found) × Asks found.0 found.1 job
 
 -- clap's rules find a fault of this kind in the words
 abbrev pub IsFaulty : List Text → ErrorKind → Type 0
-IsFaulty words kind = (p : ValueParser) × IsRoundOnly p × IsAmong kind (fault_of (tardis_app p) words)
+IsFaulty words kind = (p : Parsers) × AreRoundOnly p × IsAmong kind (fault_of (tardis_app p) words)
 
 -- words are refused only for a fault that clap's rules find in them
 abbrev pub IsRefusedFor : List Text → WordsError → Type 0

@@ -1,11 +1,12 @@
 -- What the options say of the matches.
-use Rattle.std.specs.Prelude.{◌≡◌, ℕ, ◌≤◌, true, false, List, Some, codes}
+use Rattle.std.specs.Prelude.{◌≡◌, ℕ, ◌≤◌, Bool, true, false, List, Some, codes}
 use Rattle.std.specs.Str.Parse.{IsNumeral, digits_value, without_leading_plus}
-use Rattle.clap.specs.Words.{Row, Text, one_of}
+use Rattle.clap.specs.Words.{Row, Text, first_of, one_of}
 use Rattle.run_options.specs.declared.options.LitmusOptions.{LitmusOptions}
 use Rattle.run_options.specs.declared.options.MachineOptions.{MachineOptions}
 use Rattle.run_options.specs.declared.options.RunOptions.{RunOptions}
 use Rattle.run_options.specs.declared.options.Schedule.TheVariants.{Round}
+use Rattle.run_options.specs.declared.options.TraceOptions.{TraceOptions}
 
 -- the text is this number in decimal, with a plus before it or without one
 abbrev pub Writes : Text → ℕ → Type 0
@@ -20,6 +21,15 @@ IsNumber rows name least most value =
 abbrev pub IsAnyNumber : List Row → Text → ℕ → Type 0
 IsAnyNumber rows name value = IsNumber rows name 0 18446744073709551615 value
 
+-- the flag is there, or it isn't
+abbrev pub IsFlag : List Row → Text → Bool → Type 0
+IsFlag rows name value =
+    (one_of name rows ≡ Some (codes "true") → value ≡ true) × (one_of name rows ≡ Some (codes "false") → value ≡ false)
+
+-- the path of a file is the word in its place
+abbrev pub HasPath : List Row → Text → Text → Type 0
+HasPath rows name path = (word : Text) → first_of name rows ≡ Some word → path ≡ word
+
 -- how the machine is built
 abbrev pub TellsMachine : List Row → MachineOptions → Type 0
 TellsMachine rows options =
@@ -32,14 +42,13 @@ TellsMachine rows options =
     × IsAnyNumber rows (codes "bank-ways") options.bank_ways
     × IsAnyNumber rows (codes "line-words") options.line_words
     × IsAnyNumber rows (codes "messages") options.messages
-    × (one_of (codes "private-write") rows ≡ Some (codes "true") → options.private_write ≡ true)
-    × (one_of (codes "private-write") rows ≡ Some (codes "false") → options.private_write ≡ false)
+    × IsFlag rows (codes "private-write") options.private_write
 
--- how a run goes; schedule round is the only one, and has no seed
+-- how a run goes; schedule round is the only one
 abbrev pub TellsRun : List Row → RunOptions → Type 0
 TellsRun rows options =
     (options.schedule ≡ Round)
-    × (options.seed ≡ 0)
+    × IsAnyNumber rows (codes "seed") options.seed
     × IsNumber rows (codes "workers") 1 16 options.workers
     × IsNumber rows (codes "limit") 1 4294967295 options.limit
     × TellsMachine rows options.machine
@@ -47,3 +56,7 @@ TellsRun rows options =
 -- how often the test is run, and how
 abbrev pub Tells : List Row → LitmusOptions → Type 0
 Tells rows options = IsNumber rows (codes "runs") 1 1000000 options.runs × TellsRun rows options.run
+
+-- whether the records of a trace are asked for, and how it is run
+abbrev pub TellsTrace : List Row → TraceOptions → Type 0
+TellsTrace rows options = IsFlag rows (codes "records") options.records × TellsRun rows options.run

@@ -1,10 +1,11 @@
 //! The command line as `clap` reads it: the command, its options with defaults and ranges, and what help says of them.
 
 ghost use Rattle.std.specs.Prelude.{◌≡◌, IfOk, false, true};
-ghost use Rattle.clap.specs.Words.{app_of, rule_of, with_rule};
+ghost use Rattle.clap.specs.Words.{app_of, rule_of, with_rule, with_subcommand};
 ghost use Rattle.clap.specs.declared.builder.command.Command.TheViews.{out-Command as fields_of};
-ghost use Rattle.command_line.specs.App.{IsRoundOnly, any_number, up_to, number_rule, schedule_rule, flag_rule};
-ghost use Rattle.command_line.specs.App.{file_rule, with_rules, run_rules, machine_rules, litmus_app, tardis_app};
+ghost use Rattle.command_line.specs.App.{AreRoundOnly, IsRoundOnly, any_number, up_to, number_rule, schedule_rule};
+ghost use Rattle.command_line.specs.App.{file_rule, flag_rule, with_rules, run_rules, machine_rules};
+ghost use Rattle.command_line.specs.App.{with_run, litmus_app, trace_app, check_app, tardis_app};
 
 use clap::builder::ValueParser;
 use clap::{Arg, ArgAction, Command, value_parser};
@@ -15,6 +16,9 @@ static SCHEDULES: [&str; 1] = ["round"];
 // What help says of each option.
 const SCHEDULE: &str =
     "The order of events: round gives each core its turn, then each message in flight";
+
+const SEED: &str =
+    "What a seeded schedule draws from, any number of 64 bits; schedule round draws nothing";
 
 const LIMIT: &str = "How many rounds a run has at most, 1 to 4294967295";
 
@@ -42,7 +46,13 @@ const LINE_WORDS: &str = "How many words a line has, 1 or 8";
 
 const MESSAGES: &str = "How many messages can be in flight, 1 to 65536";
 
-const FILE: &str = "The file with the text of the litmus test";
+const RECORDS: &str = "Writes the records of the completed operations in place of the report";
+
+const LITMUS_FILE: &str = "The file with the text of the litmus test";
+
+const TRACE_FILE: &str = "The file with the text of the trace";
+
+const RECORDS_FILE: &str = "The file with the text of the records";
 
 /// An option with a number, and the number that it has where the words don't give it.
 fn number<'a>(
@@ -76,15 +86,23 @@ fn schedule<'a>(alloc: Global) -> Arg<'a>
         .help(SCHEDULE)
 }
 
-/// Whether a core that wrote a line stores to it again without a later time.
-fn private_write<'a>(alloc: Global) -> Arg<'a>
-    ensures rule { rule_of result ≡ flag_rule }
+/// An option without a value.
+fn flag<'a>(alloc: Global, name: &'a str, help: &'a str) -> Arg<'a>
+    ensures rule { rule_of result ≡ flag_rule name.entry.now }
     ensures local { result.global ≡ false }
 {
-    Arg::new(alloc, "private-write")
-        .long("private-write")
+    Arg::new(alloc, name)
+        .long(name)
         .action(ArgAction::SetTrue)
-        .help(PRIVATE_WRITE)
+        .help(help)
+}
+
+/// The path of a file, without which the words are refused.
+fn file<'a>(alloc: Global, name: &'a str, help: &'a str) -> Arg<'a>
+    ensures rule { rule_of result ≡ file_rule name.entry.now }
+    ensures local { result.global ≡ false }
+{
+    Arg::new(alloc, name).required(true).help(help)
 }
 
 /// A command with one more argument.
@@ -118,7 +136,7 @@ fn with_any<'a>(
     )
 }
 
-/// A command with the options that say how often and in which order a test is run.
+/// A command with the options that say in which order and how far a run goes.
 fn with_run_options<'a>(command: Command<'a>, alloc: Global) -> Result<Command<'a>, AllocError>
     ensures app { IfOk result (λ c. (p : _) × IsRoundOnly p
         × (app_of c ≡ with_rules (app_of command.entry) (run_rules p))) }
@@ -126,13 +144,12 @@ fn with_run_options<'a>(command: Command<'a>, alloc: Global) -> Result<Command<'
         (fields_of c).has_globals ≡ (fields_of command.entry).has_globals) }
 {
     let limit = value_parser!(u64).range(1..4294967296);
-    let runs = value_parser!(u64).range(1..1000001);
     let workers = value_parser!(u64).range(1..17);
     let command = with(command, schedule(alloc))?;
+    let command = with_any(command, alloc, "seed", "0", SEED)?;
     let command = with(command, number(alloc, "limit", "100000", limit, LIMIT))?;
-    let command = with(command, number(alloc, "runs", "1", runs, RUNS))?;
     let command = with(command, number(alloc, "workers", "1", workers, WORKERS))?;
-    with(command, private_write(alloc))
+    with(command, flag(alloc, "private-write", PRIVATE_WRITE))
 }
 
 /// A command with the options that say how the machine is built.
@@ -152,29 +169,83 @@ fn with_machine_options<'a>(command: Command<'a>, alloc: Global) -> Result<Comma
     with_any(command, alloc, "messages", "4096", MESSAGES)
 }
 
+/// A command with all the options of a run, and with a file.
+fn with_run<'a>(
+    command: Command<'a>,
+    alloc: Global,
+    help: &'a str,
+) -> Result<Command<'a>, AllocError>
+    ensures app { IfOk result (λ c. (p : _) × IsRoundOnly p
+        × (app_of c ≡ with_run (app_of command.entry) p)) }
+    ensures globals { IfOk result (λ c.
+        (fields_of c).has_globals ≡ (fields_of command.entry).has_globals) }
+{
+    let command = with_run_options(command, alloc)?;
+    let command = with_machine_options(command, alloc)?;
+    with(command, file(alloc, "FILE", help))
+}
+
 /// The command `litmus`.
 fn litmus_command<'a>(alloc: Global) -> Result<Command<'a>, AllocError>
     ensures app { IfOk result (λ c. (p : _) × IsRoundOnly p × (app_of c ≡ litmus_app p)) }
     ensures globals { IfOk result (λ c. (fields_of c).has_globals ≡ false) }
 {
-    let file = Arg::new(alloc, "FILE").required(true).help(FILE);
     let command = Command::new(alloc, "litmus").about(
         "Runs a litmus test and reports its end states and the verdict on its condition",
     );
-    let command = with_run_options(command, alloc)?;
-    let command = with_machine_options(command, alloc)?;
-    with(command, file)
+    let runs = value_parser!(u64).range(1..1000001);
+    let command = with(command, number(alloc, "runs", "1", runs, RUNS))?;
+    with_run(command, alloc, LITMUS_FILE)
+}
+
+/// The command `trace`.
+fn trace_command<'a>(alloc: Global) -> Result<Command<'a>, AllocError>
+    ensures app { IfOk result (λ c. (p : _) × IsRoundOnly p × (app_of c ≡ trace_app p)) }
+    ensures globals { IfOk result (λ c. (fields_of c).has_globals ≡ false) }
+{
+    let command = Command::new(alloc, "trace").about(
+        "Runs a trace and reports what came of it, or its records",
+    );
+    let command = with(command, flag(alloc, "records", RECORDS))?;
+    with_run(command, alloc, TRACE_FILE)
+}
+
+/// The command `check`.
+fn check_command<'a>(alloc: Global) -> Result<Command<'a>, AllocError>
+    ensures app { IfOk result (λ c. app_of c ≡ check_app) }
+    ensures globals { IfOk result (λ c. (fields_of c).has_globals ≡ false) }
+{
+    let command = Command::new(alloc, "check").about(
+        "Says whether records are a legal history of a trace over a memory of zeros",
+    );
+    let command = with(command, file(alloc, "TRACE", TRACE_FILE))?;
+    with(command, file(alloc, "RECORDS", RECORDS_FILE))
+}
+
+/// A program with one more command.
+fn with_command<'a>(command: Command<'a>, inner: Command<'a>) -> Result<Command<'a>, AllocError>
+    requires { (fields_of inner).has_globals ≡ false }
+    ensures app { IfOk result (λ c.
+        app_of c ≡ with_subcommand (app_of command.entry) (app_of inner.entry).top) }
+    ensures globals { IfOk result (λ c.
+        (fields_of c).has_globals ≡ (fields_of command.entry).has_globals) }
+{
+    command.subcommand(inner)
 }
 
 /// The command line of the program.
 pub(crate) fn command<'a>(alloc: Global) -> Result<Command<'a>, AllocError>
-    ensures app { IfOk result (λ c. (p : _) × IsRoundOnly p × (app_of c ≡ tardis_app p)) }
+    ensures app { IfOk result (λ c. (p : _) × AreRoundOnly p × (app_of c ≡ tardis_app p)) }
     ensures globals { IfOk result (λ c. (fields_of c).has_globals ≡ false) }
     ensures required { IfOk result (λ c. (fields_of c).subcommand_required ≡ true) }
 {
     let litmus = litmus_command(alloc)?;
+    let trace = trace_command(alloc)?;
+    let check = check_command(alloc)?;
     let command = Command::new(alloc, "tardis")
         .about("A simulator of the Tardis coherence protocol that checks what it simulates")
-        .subcommand(litmus)?;
-    Ok(command.subcommand_required(true))
+        .subcommand_required(true);
+    let command = with_command(command, litmus)?;
+    let command = with_command(command, trace)?;
+    with_command(command, check)
 }

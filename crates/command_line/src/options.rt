@@ -2,10 +2,10 @@
 
 ghost use Rattle.std.specs.Prelude.{◌≡◌, ◌≤◌};
 ghost use Rattle.clap.specs.Words.{found_of, rows_of};
-ghost use Rattle.command_line.specs.Options.{IsNumber, Tells, TellsMachine, TellsRun};
+ghost use Rattle.command_line.specs.Options.{HasPath, IsFlag, IsNumber, Tells, TellsMachine, TellsRun, TellsTrace};
 
 use clap::ArgMatches;
-use run_options::{LitmusOptions, MachineOptions, RunOptions, Schedule};
+use run_options::{LitmusOptions, MachineOptions, RunOptions, Schedule, TraceOptions};
 
 /// The number that an option has, from least to most, or this one where it has none.
 fn number(matches: &ArgMatches<'_>, name: &str, least: u64, most: u64, other: u64) -> u64
@@ -26,6 +26,20 @@ fn any_number(matches: &ArgMatches<'_>, name: &str, other: u64) -> u64
     number(matches, name, 0, u64::MAX, other)
 }
 
+/// Whether a flag is there.
+fn flag(matches: &ArgMatches<'_>, name: &str) -> bool
+    ensures { IsFlag (rows_of (found_of matches.now)) name.now result }
+{
+    matches.get_flag(name)
+}
+
+/// The path of a file.
+pub(crate) fn path_of<'a>(matches: &ArgMatches<'a>, name: &str) -> &'a str
+    ensures { HasPath (rows_of (found_of matches.now)) name.now result.now }
+{
+    matches.get_str(name).unwrap_or("")
+}
+
 /// The machine that the words ask for.
 fn machine_of(matches: &ArgMatches<'_>) -> MachineOptions
     ensures { TellsMachine (rows_of (found_of matches.now)) result }
@@ -41,7 +55,7 @@ fn machine_of(matches: &ArgMatches<'_>) -> MachineOptions
         bank_ways: any_number(matches, "bank-ways", default.bank_ways),
         line_words: any_number(matches, "line-words", default.line_words),
         messages: any_number(matches, "messages", default.messages),
-        private_write: matches.get_flag("private-write"),
+        private_write: flag(matches, "private-write"),
     }
 }
 
@@ -52,7 +66,7 @@ fn run_of(matches: &ArgMatches<'_>) -> RunOptions
     let default = RunOptions::DEFAULT;
     RunOptions {
         schedule: Schedule::Round,
-        seed: default.seed,
+        seed: any_number(matches, "seed", default.seed),
         workers: number(matches, "workers", 1, 16, default.workers),
         limit: number(matches, "limit", 1, 4294967295, default.limit),
         machine: machine_of(matches),
@@ -60,11 +74,21 @@ fn run_of(matches: &ArgMatches<'_>) -> RunOptions
 }
 
 /// The runs of a litmus test that the words ask for.
-pub(crate) fn options_of(matches: &ArgMatches<'_>) -> LitmusOptions
+pub(crate) fn litmus_options(matches: &ArgMatches<'_>) -> LitmusOptions
     ensures { Tells (rows_of (found_of matches.now)) result }
 {
     LitmusOptions {
         runs: number(matches, "runs", 1, 1000000, LitmusOptions::DEFAULT.runs),
+        run: run_of(matches),
+    }
+}
+
+/// The run of a trace that the words ask for.
+pub(crate) fn trace_options(matches: &ArgMatches<'_>) -> TraceOptions
+    ensures { TellsTrace (rows_of (found_of matches.now)) result }
+{
+    TraceOptions {
+        records: flag(matches, "records"),
         run: run_of(matches),
     }
 }

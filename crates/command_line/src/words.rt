@@ -1,14 +1,14 @@
 //! The words of a command line, and the job that they ask for.
 
-ghost use Rattle.std.specs.Prelude.{◌≡◌, map, IfOk, IfErr, List};
-ghost use Rattle.clap.specs.Words.{Text, kind_of};
-ghost use Rattle.command_line.specs.Job.{IsAskedBy, IsFaulty, IsRefusedFor, words_number};
+ghost use Rattle.std.specs.Prelude.{◌≡◌, ◌⊎◌, codes, map, IfOk, IfErr, List};
+ghost use Rattle.clap.specs.Words.{Text, found_of, kind_of, rows_of};
+ghost use Rattle.command_line.specs.Job.{Asks, IsAskedBy, IsFaulty, IsRefusedFor, words_number};
 
 use crate::app::command;
-use crate::options::options_of;
-use clap::Error;
+use crate::options::{litmus_options, path_of, trace_options};
 use clap::error::ErrorKind;
-use run_options::LitmusOptions;
+use clap::{ArgMatches, Error};
+use run_options::{LitmusOptions, TraceOptions};
 use std::alloc::Global;
 
 /// What the words ask for.
@@ -16,6 +16,10 @@ use std::alloc::Global;
 pub enum Job<'a> {
     /// To run the litmus test of the file that has this path.
     Litmus(LitmusOptions, &'a str),
+    /// To run the trace of the file that has this path.
+    Trace(TraceOptions, &'a str),
+    /// To check the records of the file that has the second path against the trace of the file that has the first.
+    Check(&'a str, &'a str),
 }
 
 /// Why words are no job.
@@ -49,7 +53,19 @@ fn refused(alloc: Global, error: &Error) -> WordsError
     }
 }
 
-/// The command that the words name, with its options and its file. The first word is the program's own name.
+/// The job of a command that the program has.
+fn job_of<'a>(name: &str, matches: &ArgMatches<'a>) -> Job<'a>
+    requires { (name.now ≡ codes "litmus") ⊎ (name.now ≡ codes "trace") ⊎ (name.now ≡ codes "check") }
+    ensures { Asks name.now (rows_of (found_of matches.now)) result }
+{
+    match name {
+        "litmus" => Job::Litmus(litmus_options(matches), path_of(matches, "FILE")),
+        "trace" => Job::Trace(trace_options(matches), path_of(matches, "FILE")),
+        _ => Job::Check(path_of(matches, "TRACE"), path_of(matches, "RECORDS")),
+    }
+}
+
+/// The command that the words name, with its options and its files. The first word is the program's own name.
 pub fn read_words<'a>(alloc: Global, words: &'a [&'a str]) -> Result<Job<'a>, WordsError>
     ensures job { IfOk result (IsAskedBy (map (λ w. w.now) words.entry.now)) }
     ensures refused { IfErr result (IsRefusedFor (map (λ w. w.now) words.entry.now)) }
@@ -62,9 +78,8 @@ pub fn read_words<'a>(alloc: Global, words: &'a [&'a str]) -> Result<Job<'a>, Wo
         Err(error) if error.kind() == ErrorKind::OutOfMemory => return Err(WordsError::NoMemory),
         Err(error) => return Err(refused(alloc, &error)),
     };
-    let Some((_, inner)) = matches.subcommand() else {
+    let Some((name, inner)) = matches.subcommand() else {
         unreachable!()
     };
-    let file = inner.get_str("FILE").unwrap_or("");
-    Ok(Job::Litmus(options_of(inner), file))
+    Ok(job_of(name, inner))
 }

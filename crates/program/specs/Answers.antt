@@ -1,20 +1,27 @@
 -- What the program answers.
-use Rattle.std.specs.Prelude.{◌≡◌, ℕ, Bool, List, [], Option, Result, Ok, Err, codes, string_bytes}
+use Rattle.std.specs.Prelude.{◌≡◌, ◌⊎◌, ℕ, Bool, List, [], Option, Result, Ok, Err, codes, string_bytes}
 use Rattle.byte_streams.specs.Device.{Grows}
 use Rattle.byte_streams.specs.Whole.{GrowsByFront}
 use Rattle.command_line.specs.declared.words.Job.{Job}
-use Rattle.command_line.specs.declared.words.Job.TheVariants.{Litmus as LitmusJob}
+use Rattle.command_line.specs.declared.words.Job.TheVariants.{Litmus as LitmusJob, Trace as TraceJob}
+use Rattle.command_line.specs.declared.words.Job.TheVariants.{Check as CheckJob}
 use Rattle.command_line.specs.declared.words.WordsError.{WordsError}
 use Rattle.command_line.specs.declared.words.WordsError.TheVariants.{Refused as RefusedWords}
 use Rattle.command_line.specs.declared.words.WordsError.TheVariants.{NoMemory as NoMemoryForWords}
 use Rattle.byte_streams.specs.declared.device.DeviceError.{DeviceError}
-use Rattle.report.specs.Answers.{AreCounted, IsCutOff, IsReported, OfBytes}
+use Rattle.report.specs.Bytes.{OfBytes}
+use Rattle.report_parts.specs.Answers.{AreCounted, IsCutOff, IsReported}
 use Rattle.report.specs.Litmus.{HasNoReport, IsLitmusReport}
 use Rattle.run_options.specs.declared.options.LitmusOptions.{LitmusOptions}
+use Rattle.run_options.specs.declared.options.TraceOptions.{TraceOptions}
 use Rattle.run_results.specs.ErrorLine.{error_line}
 use Rattle.run_results.specs.declared.results.Done.{Done}
 use Rattle.run_results.specs.declared.results.RunError.{RunError}
 use Rattle.run_results.specs.declared.results.RunError.TheVariants.{Read, Write}
+use Rattle.trace_lines.specs.declared.steps.Step.{Step}
+use Rattle.trace_report.specs.Refusals.{IsRead}
+use Rattle.trace_report.specs.Reports.{HasNoReport as HasNoTraceReport, IsTraceReport}
+use Rattle.trace_report.specs.Verdicts.{HasNoVerdict, IsCheckReport, ReadsCounted, WritesCounted}
 
 -- what went out is a beginning of the text, and all of it if no write failed
 abbrev pub Told : Option (List ℕ) → Option (List ℕ) → ℕ → ℕ → List ℕ → Type 0
@@ -39,35 +46,82 @@ abbrev pub came_text : Result Done RunError → List ℕ
 came_text (Ok done) = []
 came_text (Err error) = error_line error
 
+-- what files have, and how often reading them failed; what the output has, and how often writing failed
+pub record Devices (F K : Type 0) : Type 0 where
+  pub remaining : F → Option (List ℕ)
+  pub unread : F → ℕ
+  pub contents : K → Option (List ℕ)
+  pub unwritten : K → ℕ
+
+abbrev pub devices : {F K : Type 0} → (F → Option (List ℕ)) → (F → ℕ) → (K → Option (List ℕ)) → (K → ℕ) →
+    Devices F K
+devices remaining unread contents unwritten =
+    record { remaining = remaining; unread = unread; contents = contents; unwritten = unwritten }
+
 -- the report went out, or a beginning of it; by another error nothing did
-abbrev pub RunsLitmus : {K : Type 0} → (K → Option (List ℕ)) → LitmusOptions → Option (List ℕ) → K → K
-    → Result Done RunError → Type 0
-RunsLitmus contents options known old new (Ok done) =
-    OfBytes known (λ bytes. IsReported (IsLitmusReport options bytes done.all_done) (contents old) (contents new))
-RunsLitmus contents options known old new (Err Read) = new ≡ old
-RunsLitmus contents options known old new (Err Write) =
+abbrev pub Came : {F K : Type 0} → Devices F K → (Bool → List ℕ → Type 0) → (RunError → Type 0) → K → K →
+    Result Done RunError → Type 0
+Came d IsReport HasNone old new (Ok done) = IsReported (IsReport done.all_done) (d.contents old) (d.contents new)
+Came d IsReport HasNone old new (Err Read) = new ≡ old
+Came d IsReport HasNone old new (Err Write) =
+    (all_done : Bool) × IsCutOff (IsReport all_done) (d.contents old) (d.contents new)
+Came d IsReport HasNone old new (Err error) = HasNone error × (new ≡ old)
+
+-- the same of a litmus test
+abbrev pub RunsLitmus : {F K : Type 0} → Devices F K → LitmusOptions → Option (List ℕ) → K → K →
+    Result Done RunError → Type 0
+RunsLitmus d options known old new (Ok done) =
+    OfBytes known (λ bytes. IsReported (IsLitmusReport options bytes done.all_done) (d.contents old) (d.contents new))
+RunsLitmus d options known old new (Err Read) = new ≡ old
+RunsLitmus d options known old new (Err Write) =
     OfBytes known (λ bytes. (all_done : Bool)
-    × IsCutOff (IsLitmusReport options bytes all_done) (contents old) (contents new))
-RunsLitmus contents options known old new (Err error) =
+    × IsCutOff (IsLitmusReport options bytes all_done) (d.contents old) (d.contents new))
+RunsLitmus d options known old new (Err error) =
     OfBytes known (λ bytes. HasNoReport options bytes error) × (new ≡ old)
 
--- the job was done on this file, which it left as another: failures are told exactly as they were counted
-abbrev pub RunsOn : {F K : Type 0} → (F → Option (List ℕ)) → (F → ℕ) → (K → Option (List ℕ)) → (K → ℕ)
-    → LitmusOptions → F → F → K → K → Result Done RunError → Type 0
-RunsOn remaining unread contents unwritten options file left old new came =
-    AreCounted came (unread file) (unread left) (unwritten old) (unwritten new)
-    × RunsLitmus contents options (remaining file) old new came
+-- the report of a trace, or its records
+abbrev pub RunsTrace : {F K : Type 0} → Devices F K → TraceOptions → Option (List ℕ) → K → K →
+    Result Done RunError → Type 0
+RunsTrace d options known old new came =
+    Came d (IsTraceReport options known) (HasNoTraceReport options known) old new came
 
--- the job was done on the file that was opened; a file that can't be opened is told as one that can't be read
-abbrev pub Runs : {F K : Type 0} → (F → Option (List ℕ)) → (F → ℕ) → (K → Option (List ℕ)) → (K → ℕ)
-    → LitmusOptions → Result F DeviceError → K → K → Result Done RunError → Type 0
-Runs {F} remaining unread contents unwritten options (Ok file) old new came =
-    (left : F) × RunsOn remaining unread contents unwritten options file left old new came
-Runs remaining unread contents unwritten options (Err error) old new came = (came ≡ Err Read) × (new ≡ old)
+-- the job was done on a file, which it left as another: failures are told exactly as they were counted
+abbrev pub RunsOn : {F K : Type 0} → Devices F K → (Option (List ℕ) → K → K → Result Done RunError → Type 0) →
+    (file left : F) → K → K → Result Done RunError → Type 0
+RunsOn d Runs file left old new came =
+    AreCounted came (d.unread file) (d.unread left) (d.unwritten old) (d.unwritten new)
+    × Runs (d.remaining file) old new came
 
--- the name of a job's file, and its options
-abbrev pub name_of : Job → List ℕ
-name_of (LitmusJob options name) = name.now
+-- it was done on the file that was opened; a file that can't be opened is told as one that can't be read
+abbrev pub OnFile : {F K : Type 0} → Devices F K → (Option (List ℕ) → K → K → Result Done RunError → Type 0) →
+    Result F DeviceError → K → K → Result Done RunError → Type 0
+OnFile {F} d Runs (Ok file) old new came = (left : F) × RunsOn d Runs file left old new came
+OnFile d Runs (Err error) old new came = (came ≡ Err Read) × (new ≡ old)
 
-abbrev pub options_of : Job → LitmusOptions
-options_of (LitmusJob options name) = options
+-- the records of the second file were checked against the trace of the first; they were read only behind a trace that
+-- was accepted
+abbrev pub ChecksOn : {F K : Type 0} → Devices F K → (trace records trace' records' : F) → K → K →
+    Result Done RunError → Type 0
+ChecksOn d trace records trace' records' old new came =
+    Came d (IsCheckReport (d.remaining trace) (d.remaining records))
+    (HasNoVerdict (d.remaining trace) (d.remaining records)) old new came
+    × ((records' ≡ records) ⊎ ((lanes : List (List Step)) × IsRead (d.remaining trace) lanes))
+    × ReadsCounted came (d.unread trace) (d.unread trace') (d.unread records) (d.unread records')
+    × WritesCounted came (d.unwritten old) (d.unwritten new)
+
+-- both files were opened before either was read
+abbrev pub OnFiles : {F K : Type 0} → Devices F K → (trace records : Result F DeviceError) → K → K →
+    Result Done RunError → Type 0
+OnFiles {F} d (Ok trace) (Ok records) old new came =
+    (trace' records' : F) × ChecksOn d trace records trace' records' old new came
+OnFiles d trace records old new came = (came ≡ Err Read) × (new ≡ old)
+
+-- the job was done on the files that have its names, where this tells what may come of opening a name
+abbrev pub Does : {F K : Type 0} → Devices F K → (List ℕ → Result F DeviceError → Type 0) → Job → K → K →
+    Result Done RunError → Type 0
+Does {F} d opens (LitmusJob options name) old new came = (opened : Result F DeviceError) × opens name.now opened
+    × OnFile d (RunsLitmus d options) opened old new came
+Does {F} d opens (TraceJob options name) old new came = (opened : Result F DeviceError) × opens name.now opened
+    × OnFile d (RunsTrace d options) opened old new came
+Does {F} d opens (CheckJob trace records) old new came = (opened opened' : Result F DeviceError)
+    × opens trace.now opened × opens records.now opened' × OnFiles d opened opened' old new came

@@ -7,16 +7,13 @@ ghost use Rattle.command_line.specs.declared.words.WordsError.{WordsError};
 ghost use Rattle.run_results.specs.Results.{status_of};
 ghost use Rattle.run_results.specs.declared.results.Done.{Done};
 ghost use Rattle.run_results.specs.declared.results.RunError.{RunError};
-ghost use Rattle.program.specs.Answers.{Runs, RunsOn, Told, bad_words, came_text, name_of, options_of, words_status};
-ghost use Rattle.program.specs.Answers.{words_text};
-ghost use Rattle.byte_streams.specs.declared.device.DeviceError.{DeviceError};
+ghost use Rattle.program.specs.Answers.{Does, Told, bad_words, came_text, devices, words_status, words_text};
 
 use crate::files::Files;
-use byte_streams::{DeviceError, Sink, Source, write_all};
-use command_line::{Job, WordsError, read_words};
-use report::{Done, RunError, exit_status, run_litmus};
-use run_options::LitmusOptions;
-use run_results::{ErrorLine, error_line};
+use crate::jobs::run_job;
+use byte_streams::{Sink, write_all};
+use command_line::{WordsError, read_words};
+use run_results::{Done, ErrorLine, RunError, error_line, exit_status};
 use std::alloc::Global;
 
 /// Does what the words ask for, and answers the exit status. A report goes to `out`; why there is none goes to
@@ -32,12 +29,11 @@ pub fn answer<F: Files, K: Sink, E: Sink>(
         × (result ≡ words_status e) × (out.new ≡ out.old)
         × Told (E.contents errors.old) (E.contents errors.new)
         (E.failures errors.old) (E.failures errors.new) (words_text e))
-        ⊎ ((job : Job) × (opened : Result F.File DeviceError) × (came : Result Done RunError)
+        ⊎ ((job : Job) × (came : Result Done RunError)
         × IsAskedBy (map (λ w. w.now) words.entry.now) job
-        × F.opens files.now (name_of job) opened
         × (result ≡ status_of came)
-        × Runs F.File.remaining F.File.failures K.contents K.failures (options_of job) opened
-        out.old out.new came
+        × Does (devices F.File.remaining F.File.failures K.contents K.failures) (F.opens files.now)
+        job out.old out.new came
         × Told (E.contents errors.old) (E.contents errors.new)
         (E.failures errors.old) (E.failures errors.new) (came_text came)) }
 {
@@ -73,70 +69,6 @@ pub fn refuse_memory<E: Sink>(errors: &mut E) -> u8
     let error = WordsError::NoMemory;
     tell(errors, words_text(&error));
     words_status(&error)
-}
-
-// Does a job.
-fn run_job<F: Files, K: Sink>(
-    alloc: Global,
-    files: &F,
-    job: &Job<'_>,
-    out: &mut K,
-) -> Result<Done, RunError>
-    ensures { (opened : Result F.File DeviceError) × F.opens files.now (name_of job.now) opened
-        × Runs F.File.remaining F.File.failures K.contents K.failures (options_of job.now) opened
-        out.old out.new result }
-{
-    run_named(alloc, files, name_of(job), &options_of(job), out)
-}
-
-// The name of a job's file.
-fn name_of<'a>(job: &Job<'a>) -> &'a str
-    ensures { result.now ≡ name_of job.now }
-{
-    match job {
-        Job::Litmus(_, name) => name,
-    }
-}
-
-// The options of a job.
-fn options_of(job: &Job<'_>) -> LitmusOptions
-    ensures { result ≡ options_of job.now }
-{
-    match job {
-        Job::Litmus(options, _) => *options,
-    }
-}
-
-// Opens the file of a name, and runs its litmus test.
-fn run_named<F: Files, K: Sink>(
-    alloc: Global,
-    files: &F,
-    name: &str,
-    options: &LitmusOptions,
-    out: &mut K,
-) -> Result<Done, RunError>
-    ensures { (opened : Result F.File DeviceError) × F.opens files.now name.now opened
-        × Runs F.File.remaining F.File.failures K.contents K.failures options.now opened
-        out.old out.new result }
-{
-    match files.open(name) {
-        Ok(file) => run_on(alloc, file, options, out),
-        Err(DeviceError) => Err(RunError::Read),
-    }
-}
-
-// Runs the litmus test of a file.
-fn run_on<S: Source + Drop, K: Sink>(
-    alloc: Global,
-    file: S,
-    options: &LitmusOptions,
-    out: &mut K,
-) -> Result<Done, RunError>
-    ensures { (left : S) × RunsOn S.remaining S.failures K.contents K.failures options.now
-        file left out.old out.new result }
-{
-    let mut source = file;
-    run_litmus(alloc, &mut source, out, options)
 }
 
 // Why words are no job, as it is told.

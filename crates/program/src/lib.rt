@@ -3,6 +3,7 @@
 
 mod answers;
 mod files;
+mod jobs;
 
 pub use answers::{answer, refuse, refuse_memory};
 pub use files::Files;

@@ -1,4 +1,3 @@
-mod HexDigits
 mod Numerals
 mod SpacedFields
 mod ReadBack

@@ -12,8 +12,8 @@ use Rattle.std.proofs.lemmas.List.Folds.{list_all-append}
 use Rattle.std.proofs.lemmas.List.Sums.{fold_push}
 use Rattle.trace_lines.specs.Spelling.{is_digit, is_hex_digit, is_few, decimal_of, hex_digit, hex_of}
 use Rattle.trace_lines.specs.Grammar.{IsNumber, IsAddress}
-use Rattle.record_text.specs.Text.{hex_glyph, hex_digits, address_text}
-use Rattle.record_text.proofs.HexDigits.{hex-one, hex-more}
+use Rattle.report_lines.specs.Hexadecimal.{hex_glyph, hex_digits, address_text}
+use Rattle.report_lines.proofs.Lemmas.{hex-one, hex-more}
 
 -- each byte stands above #, and so above blanks and line feeds
 abbrev pub IsPlain : List ℕ → Type 0

@@ -1,43 +1,23 @@
 //! The fields of a record's line: each is put after the text so far. If allocation fails, part of it may stand there.
 
-ghost use Rattle.std.specs.Prelude.{◌≡◌, ◌<◌, ◌^◌, ◌++◌, decimal, OnOk};
-ghost use Rattle.record_text.specs.Text.{hex_glyph, hex_digits, address_text, spaced, spaced_value, op_text};
+ghost use Rattle.std.specs.Prelude.{◌≡◌, ◌++◌, decimal, OnOk};
+ghost use Rattle.record_text.specs.Text.{spaced, spaced_value, op_text};
+ghost use Rattle.report_lines.specs.Hexadecimal.{address_text};
 
 use itoa::Buffer;
 use physiological_order::{Op, WordAddr};
+use report_lines::put_address;
 use std::alloc::AllocError;
 
-fn hex_glyph(digit: u8) -> u8
-    requires { digit < 16 }
-    ensures { result ≡ hex_glyph digit }
-{
-    if digit < 10 { b'0' + digit } else { 87 + digit }
-}
-
-/// A number in at most so many hexadecimal digits.
-fn put_hex(out: &mut Vec<u8>, places: u32, number: u64) -> Result<(), AllocError>
-    ensures { OnOk result (out.new.items ≡ out.old.items ++ hex_digits places number) }
-{
-    if places == 0 {
-        return Ok(());
-    }
-    if number < 16 {
-        out.push(hex_glyph(number as u8))?;
-        return Ok(());
-    }
-    put_hex(out, places - 1, number / 16)?;
-    out.push(hex_glyph((number % 16) as u8))?;
-    Ok(())
-}
-
-#[tactic(auto, unfolding(crate::specs::Text::address_text))]
-fn put_address(out: &mut Vec<u8>, word: WordAddr) -> Result<(), AllocError>
+/// An address behind a space.
+fn put_next_address(out: &mut Vec<u8>, word: WordAddr) -> Result<(), AllocError>
     ensures { OnOk result (out.new.items ≡ out.old.items ++ spaced (address_text word)) }
 {
-    out.extend_from_slice(b" 0x")?;
-    put_hex(out, 16, word.byte())
+    out.push(b' ')?;
+    put_address(out, word)
 }
 
+/// A number in decimal.
 pub(crate) fn put_number(out: &mut Vec<u8>, number: u64) -> Result<(), AllocError>
     ensures { OnOk result (out.new.items ≡ out.old.items ++ decimal number) }
 {
@@ -71,16 +51,16 @@ pub(crate) fn put_op(out: &mut Vec<u8>, op: Op) -> Result<(), AllocError>
     match op {
         Op::Load(word) => {
             out.extend_from_slice(b" R")?;
-            put_address(out, word)
+            put_next_address(out, word)
         }
         Op::Store(word, value) => {
             out.extend_from_slice(b" W")?;
-            put_address(out, word)?;
+            put_next_address(out, word)?;
             put_next(out, value)
         }
         Op::Swap(word, value) => {
             out.extend_from_slice(b" S")?;
-            put_address(out, word)?;
+            put_next_address(out, word)?;
             put_next(out, value)
         }
     }

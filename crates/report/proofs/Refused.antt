@@ -18,9 +18,8 @@ use Rattle.litmus_reader.specs.TestViews.{test_of}
 use Rattle.run_options.specs.declared.options.LitmusOptions.{LitmusOptions}
 use Rattle.run_results.specs.declared.results.RunError.{RunError}
 use Rattle.run_results.specs.declared.results.RunError.TheVariants.{Read, Write, NoMemory, Litmus as Refused}
-use Rattle.run_results.specs.declared.results.RunError.TheVariants.{BadConfig}
-use Rattle.report.specs.Answers.{OfBytes}
-use Rattle.report.specs.Devices.{IsReadError}
+use Rattle.run_results.specs.declared.results.RunError.TheVariants.{Trace, BadConfig}
+use Rattle.report.specs.Bytes.{OfBytes, IsReadError}
 use Rattle.report.specs.Litmus.{HasNoReport, IsFault, refusal, refusal_of}
 
 module _ (options : LitmusOptions) (text : List ℕ) (error : LitmusError) where
@@ -91,6 +90,7 @@ unread known options before after Read is some other = absurd (other refl)
 unread known options before after NoMemory is some other = some_bytes known (some refl)
 unread known options before after Write is some other = absurd is
 unread known options before after (Refused e) is some other = absurd is
+unread known options before after (Trace e) is some other = absurd is
 unread known options before after BadConfig is some other = absurd is
 
 -- and a fault speaks of those that were read

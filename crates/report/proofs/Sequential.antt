@@ -1,5 +1,5 @@
 -- The end state of a run that is all done is an outcome of the sequential machine.
-use Rattle.std.proofs.Common.{◌≡◌, ℕ, zero, suc, ◌+◌, ◌<◌, List, [], ◌∷◌, length, map, replicate, Option, Some, None}
+use Rattle.std.proofs.Common.{◌≡◌, ℕ, zero, suc, ◌+◌, ◌<◌, List, [], length, map, replicate, Option, Some, None}
 use Rattle.std.proofs.Common.{IfSome, refl, sym, ap, subst, ◌∙◌, arith}
 use Rattle.std.specs.List.{slice_get, AllByRecursion}
 use Rattle.std.specs.Prelude.{slice_index_or}

@@ -1,5 +1,3 @@
-pub mod SetUp
 pub mod Runs
-pub mod Answers
-pub mod Devices
+pub mod Bytes
 pub mod Litmus

@@ -1,5 +1,5 @@
 -- The report on a litmus text, and why a text has none.
-use Rattle.std.specs.Prelude.{◌≡◌, ◌≢◌, ℕ, ◌<◌, min, Bool, true, false, List, length, Err, IfSome}
+use Rattle.std.specs.Prelude.{◌≡◌, ◌≢◌, ℕ, ◌<◌, Bool, true, false, List, length, Err, IfSome}
 use Rattle.std.specs.List.{list_all, AllByRecursion}
 use Rattle.litmus_lexer.specs.declared.errors.Kind.{Kind}
 use Rattle.litmus_lexer.specs.declared.errors.Kind.TheVariants.{NoMemory as LackOfMemory}
@@ -9,6 +9,7 @@ use Rattle.litmus_reader.specs.Grammar.{IsTest}
 use Rattle.litmus_reader.specs.Litmus.{Litmus}
 use Rattle.litmus_reader.specs.ReadingTest.{read_at}
 use Rattle.machine_table.specs.SetUp.{is_good}
+use Rattle.report_parts.specs.SetUp.{config_of, limit_of}
 use Rattle.report_text.specs.Ends.{ends_as}
 use Rattle.report_text.specs.Text.{litmus_text}
 use Rattle.run_ends.specs.declared.ends.End.TheVariants.{AllDone}
@@ -16,14 +17,13 @@ use Rattle.run_ends.specs.declared.ends.RunEnd.{RunEnd}
 use Rattle.run_options.specs.declared.options.LitmusOptions.{LitmusOptions}
 use Rattle.run_results.specs.declared.results.RunError.{RunError}
 use Rattle.run_results.specs.declared.results.RunError.TheVariants.{Read, Write, NoMemory, Litmus as Refused}
-use Rattle.run_results.specs.declared.results.RunError.TheVariants.{BadConfig}
+use Rattle.run_results.specs.declared.results.RunError.TheVariants.{Trace, BadConfig}
 use Rattle.sequential_machine.specs.SequentialMachine.{IsOutcome}
 use Rattle.report.specs.Runs.{IsRun}
-use Rattle.report.specs.SetUp.{config_of}
 
 -- the most rounds of a run
 abbrev pub rounds : LitmusOptions → ℕ
-rounds options = min options.run.limit 4294967295
+rounds options = limit_of options.run
 
 -- the end state of a run that has one is an outcome of the sequential machine
 abbrev pub HasOutcome : Litmus → RunEnd → Type 0
@@ -56,6 +56,7 @@ IsFault bytes e = (read_at bytes ≡ Err e) × IsNoTest bytes e × (e.kind ≢ L
 -- why bytes have no report
 abbrev pub HasNoReport : LitmusOptions → List ℕ → RunError → Type 0
 HasNoReport options bytes (Refused e) = IsFault bytes e
+HasNoReport options bytes (Trace e) = ⊥
 HasNoReport options bytes BadConfig =
     (test : Litmus) × IsTest bytes test × (is_good (config_of options.run.machine test.threads) ≡ false)
 -- memory was refused for bytes that there are

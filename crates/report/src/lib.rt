@@ -1,11 +1,10 @@
 //! Runs a litmus test from its text to the text of its report.
 #![tactic(auto)]
 
-mod devices;
 pub mod laws;
 mod litmus;
 mod one_run;
-mod set_up;
+mod sources;
 
 pub use litmus::run_litmus;
 pub use report_text::litmus_text;

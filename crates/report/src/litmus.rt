@@ -4,17 +4,18 @@ ghost use Rattle.std.specs.List.{AllByRecursion, list_all};
 ghost use Rattle.litmus_reader.specs.Grammar.{IsTest};
 ghost use Rattle.litmus_reader.specs.TestViews.{test_of};
 ghost use Rattle.machine_table.specs.SetUp.{is_good};
+ghost use Rattle.report_parts.specs.Answers.{AreCounted, IsCutOff, IsReported};
 ghost use Rattle.report_text.specs.Ends.{ends_as};
-ghost use Rattle.report.specs.Answers.{AreCounted, IsCutOff, IsReported, OfBytes};
+ghost use Rattle.report.specs.Bytes.{OfBytes};
 ghost use Rattle.report.specs.Litmus.{HasNoReport, HasOutcome, IsLitmusReport, refusal, rounds};
 ghost use Rattle.report.specs.Runs.{IsRun};
 
-use crate::devices::{bytes_of, put_out};
 use crate::one_run::run_once;
-use crate::set_up::config_of;
+use crate::sources::bytes_of;
 use byte_streams::{Sink, Source};
 use interleaving_core::Config;
 use litmus_reader::{Kind, LitmusError, Test, read};
+use report_parts::{config_of, limit_of, put_out};
 use report_text::litmus_text;
 use run_ends::{End, RunEnd};
 use run_options::LitmusOptions;
@@ -113,7 +114,7 @@ fn run_often(
     ensures outcomes { IfOk result (λ runs. (text : List ℕ) → IsTest text (test_of test.now) →
         AllByRecursion (HasOutcome (test_of test.now)) runs.items) }
 {
-    let limit = options.run.limit.min(u64::from(u32::MAX)) as u32;
+    let limit = limit_of(&options.run);
     let mut runs = Vec::new(alloc);
     for _ in 0..options.runs {
         runs.push(run_once(alloc, test, config, limit)?)?;

@@ -1,6 +1,7 @@
 -- The lines that the texts of all reports share.
 use Rattle.std.specs.Prelude.{ℕ, List, [], ◌∷◌, ◌++◌, codes, decimal}
 use Rattle.network.specs.declared.counts.Counts.{Counts}
+use Rattle.report_lines.specs.Hexadecimal.{address_text}
 
 abbrev pub newline : List ℕ
 newline = 10 ∷ []
@@ -19,3 +20,7 @@ counts_text counts = field (codes "renewals") counts.renewals
     ++ field (codes "upgrades") counts.upgrades
     ++ field (codes "flushes") counts.flushes
     ++ field (codes "write-backs") counts.write_backs
+
+-- a word of memory: its address and its value
+abbrev pub value_line : ℕ → ℕ → List ℕ
+value_line word value = codes "word " ++ address_text word ++ (32 ∷ decimal value) ++ newline

@@ -1,6 +1,8 @@
 //! The lines that the texts of all reports share: each is put after the text so far.
 #![tactic(auto)]
 
+mod addresses;
 mod lines;
 
-pub use lines::{put_counts, put_field, put_word};
+pub use addresses::put_address;
+pub use lines::{put_counts, put_field, put_value, put_word};

@@ -1,10 +1,12 @@
 //! Lines of a label and a number or a word, and the lines of what was sent.
 
 ghost use Rattle.std.specs.Prelude.{◌≡◌, ◌++◌, OnOk};
-ghost use Rattle.report_lines.specs.Lines.{counts_text, field, word_line};
+ghost use Rattle.report_lines.specs.Lines.{counts_text, field, value_line, word_line};
 
+use crate::addresses::put_address;
 use itoa::Buffer;
 use network::Counts;
+use physiological_order::WordAddr;
 use std::alloc::AllocError;
 
 /// A label, a space and a number. If allocation fails, part of the line may stand in the text.
@@ -35,4 +37,13 @@ pub fn put_counts(out: &mut Vec<u8>, counts: Counts) -> Result<(), AllocError>
     put_field(out, b"upgrades", counts.upgrades)?;
     put_field(out, b"flushes", counts.flushes)?;
     put_field(out, b"write-backs", counts.write_backs)
+}
+
+/// The line of a word of memory: its address, and its value. If allocation fails, part of it may stand in the text.
+pub fn put_value(out: &mut Vec<u8>, word: WordAddr, value: u64) -> Result<(), AllocError>
+    ensures { OnOk result (out.new.items ≡ out.old.items ++ value_line word value) }
+{
+    out.extend_from_slice(b"word ")?;
+    put_address(out, word)?;
+    put_field(out, b"", u128::from(value))
 }

@@ -5,10 +5,11 @@ ghost use Rattle.run_options.specs.declared.options.Schedule.TheVariants.{Round}
 ghost use Rattle.run_options.specs.declared.options.TheConstants.MachineOptions.{DEFAULT as machine_default};
 ghost use Rattle.run_options.specs.declared.options.TheConstants.RunOptions.{DEFAULT as run_default};
 ghost use Rattle.run_options.specs.declared.options.TheConstants.LitmusOptions.{DEFAULT as litmus_default};
+ghost use Rattle.run_options.specs.declared.options.TheConstants.TraceOptions.{DEFAULT as trace_default};
 
 /// A machine has a lease of 10, the time 0, one bank, private caches of 64 sets of 4 lines, a bank of 256 sets of 8
 /// lines, lines of one word, 4,096 messages in flight and no private writes. A run is by rounds, at most 100,000 of
-/// them, with one worker. A test is run once.
+/// them, with one worker. A test is run once. A trace is reported.
 pub fn defaults_are_these()
     ensures machine { machine_default ≡ record {
       lease = 10;
@@ -30,4 +31,5 @@ pub fn defaults_are_these()
       machine = machine_default;
     } }
     ensures litmus { litmus_default ≡ record { runs = 1; run = run_default } }
+    ensures trace { trace_default ≡ record { records = false; run = run_default } }
 {}

@@ -4,4 +4,4 @@
 pub mod laws;
 mod options;
 
-pub use options::{LitmusOptions, MachineOptions, RunOptions, Schedule};
+pub use options::{LitmusOptions, MachineOptions, RunOptions, Schedule, TraceOptions};

@@ -89,3 +89,19 @@ impl LitmusOptions {
         run: RunOptions::DEFAULT,
     };
 }
+
+/// The run of a trace.
+#[derive(Clone, Copy, Debug, PartialEq, Eq)]
+pub struct TraceOptions {
+    /// Whether the records are written in place of the report.
+    pub records: bool,
+    pub run: RunOptions,
+}
+
+impl TraceOptions {
+    /// The run of a trace if no option says otherwise.
+    pub const DEFAULT: TraceOptions = TraceOptions {
+        records: false,
+        run: RunOptions::DEFAULT,
+    };
+}

@@ -6,7 +6,6 @@ ghost use Rattle.run_results.specs.ErrorLine.{error_line, fault_line};
 use crate::results::RunError;
 use arrayvec::ArrayVec;
 use itoa::Buffer;
-use litmus_lexer::LitmusError;
 
 /// A line of at most 64 bytes, which takes no memory: the want of memory is told too.
 pub type ErrorLine = ArrayVec<u8, 64>;
@@ -30,16 +29,17 @@ fn line_of(bytes: &[u8]) -> ErrorLine
 }
 
 // The line of a text's fault: where it is, and its kind by number and name.
-fn fault_line(fault: &LitmusError) -> ErrorLine
-    ensures { result.items ≡ fault_line fault.now }
+fn fault_line(place: usize, number: u8, name: &str) -> ErrorLine
+    requires { length name.now ≤ 14 }
+    ensures { result.items ≡ fault_line place number name.now }
 {
     let mut digits = Buffer::new();
     let mut line = line_of(b"tardis: line ");
-    put(&mut line, digits.format(fault.line).as_bytes());
+    put(&mut line, digits.format(place).as_bytes());
     put(&mut line, b": ");
-    put(&mut line, digits.format(fault.kind.number()).as_bytes());
+    put(&mut line, digits.format(number).as_bytes());
     put(&mut line, b" ");
-    put(&mut line, fault.kind.name().as_bytes());
+    put(&mut line, name.as_bytes());
     put(&mut line, b"\n");
     line
 }
@@ -52,7 +52,8 @@ pub fn error_line(error: &RunError) -> ErrorLine
         RunError::Read => line_of(b"tardis: read failed\n"),
         RunError::Write => line_of(b"tardis: write failed\n"),
         RunError::NoMemory => line_of(b"tardis: no memory\n"),
-        RunError::Litmus(fault) => fault_line(fault),
+        RunError::Litmus(e) => fault_line(e.line, e.kind.number(), e.kind.name()),
+        RunError::Trace(e) => fault_line(e.line, e.kind.number(), e.kind.name()),
         RunError::BadConfig => line_of(b"tardis: bad configuration\n"),
     }
 }

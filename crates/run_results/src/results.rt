@@ -5,6 +5,7 @@ ghost use Rattle.run_results.specs.Results.{run_number, status_of};
 
 use litmus_lexer::LitmusError;
 use thiserror::Error;
+use trace_lines::TraceError;
 
 /// What came of a run of the program that gave its report.
 #[derive(Clone, Copy, Debug, PartialEq, Eq)]
@@ -28,13 +29,17 @@ pub enum RunError {
     /// The text is no litmus test: its first fault.
     #[error("line {line}: {kind:?}", line = .0.line, kind = .0.kind)]
     Litmus(LitmusError),
+    /// The text is no trace, or its records are none: its first fault.
+    #[error("line {line}: {kind:?}", line = .0.line, kind = .0.kind)]
+    Trace(TraceError),
     /// A value of the machine's configuration is out of its range.
     #[error("bad configuration")]
     BadConfig,
 }
 
 impl RunError {
-    /// Its number: 1 reading, 2 writing, 3 no memory, 4 a litmus text, 6 a configuration.
+    /// Its number: 1 reading, 2 writing, 3 no memory, 4 a litmus text, 5 a text of a trace or of records, 6 a
+    /// configuration.
     pub fn number(&self) -> u8
         ensures { result ≡ run_number self.now }
     {
@@ -43,6 +48,7 @@ impl RunError {
             RunError::Write => 2,
             RunError::NoMemory => 3,
             RunError::Litmus(_) => 4,
+            RunError::Trace(_) => 5,
             RunError::BadConfig => 6,
         }
     }
@@ -58,6 +64,7 @@ pub fn exit_status(came: &Result<Done, RunError>) -> u8
         Ok(_) => 1,
         Err(RunError::NoMemory) => 1,
         Err(RunError::Litmus(_)) => 2,
+        Err(RunError::Trace(_)) => 2,
         Err(RunError::BadConfig) => 3,
         Err(RunError::Read) => 4,
         Err(RunError::Write) => 4,

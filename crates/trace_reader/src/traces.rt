@@ -1,6 +1,6 @@
 //! The steps of a trace by core.
 
-ghost use Rattle.std.specs.Prelude.{◌≡◌, ◌<◌, ◌≤◌, ◌++◌, ◌∷◌, [], List, ℕ, max, suc, length, get_or, OnOk, OnErr};
+ghost use Rattle.std.specs.Prelude.{◌≡◌, ◌<◌, ◌≤◌, ◌++◌, ◌∷◌, [], List, ℕ, max, suc, length, get_or, map, IfOk, OnOk, OnErr};
 ghost use Rattle.std.specs.Prelude.{◌==◌, if◌then◌else◌};
 ghost use Rattle.trace_lines.specs.declared.steps.Step.{Step};
 ghost use Rattle.trace_reader.specs.Steps.{lane, ops_of};
@@ -49,6 +49,12 @@ impl Lane {
         ensures { result.now ≡ ops_of self.now }
     {
         &self.ops
+    }
+
+    fn into_ops(self) -> Vec<Op>
+        ensures { result.items ≡ ops_of self }
+    {
+        self.ops
     }
 
     fn push_op(&mut self, op: &Op) -> Result<(), AllocError>
@@ -137,6 +143,18 @@ impl Trace {
             Some(lane) => lane.ops(),
             None => &[],
         }
+    }
+
+    /// The operations of each core that has a step or stands below one that has, in their order. The lists are
+    /// handed over; no operation is copied.
+    pub fn into_issued(self) -> Result<Vec<Vec<Op>>, AllocError>
+        ensures { IfOk result (λ lists. map (λ ops. ops.items) lists.items ≡ map ops_of self) }
+    {
+        let mut lists = Vec::new(self.alloc);
+        for lane in self.lanes {
+            lists.push(lane.into_ops())?;
+        }
+        Ok(lists)
     }
 
     /// Lists for the cores up to this one.

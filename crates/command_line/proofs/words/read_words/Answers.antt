@@ -1,8 +1,7 @@
-use Rattle.std.proofs.Common.{◌≡◌, ◌∙◌, sym, codes, map, true, false, true≢false}
-use Rattle.clap.specs.Words.{found_of}
+use Rattle.std.proofs.Common.{◌≡◌, ◌∙◌, sym, map, true, false, true≢false}
 use Rattle.clap.specs.declared.error.kind.ErrorKind.TheVariants.{OutOfMemory}
-use Rattle.command_line.proofs.Found.{found_is, file_is, no_fault, has_fault}
-use Rattle.command_line.proofs.HelpIsRefused.{litmus_is_named}
+use Rattle.command_line.proofs.Found.{found_is, no_fault, has_fault}
+use Rattle.command_line.proofs.HelpIsRefused.{one_is_named}
 use Rattle.command_line.proofs.words.read_words.Goals as goal
 
 pub returns-in-Err-2-clause-refused : goal.returns-in-Err-2-clause-refused
@@ -17,21 +16,22 @@ returns-in-Err-2-clause-refused c =
           absurd (true≢false (sym bad))),
     )
 
+pub job_of-requires : goal.job_of-requires
+job_of-requires c =
+    let e = c.in-Ok.ensures.app in
+    one_is_named e.0 (map (λ w. w.now) c.args.words.now) _ _
+    (no_fault _ e.0 _ e.2 c.in-Ok-try_get_matches_from.ensures.kinds)
+    (found_is _ e.0 _ _ _ _ e.2 c.in-Ok-try_get_matches_from.ensures.matches c.in-Some.ensures.name
+    c.in-Some.ensures.rows)
+
 pub returns-clause-job : goal.returns-clause-job
 returns-clause-job c =
-    let e = c.in-Ok.ensures.app in
-    let found = found_is _ e.0 _ _ _ _ e.2 c.in-Ok-try_get_matches_from.ensures.matches c.in-Some.ensures.name
-    c.in-Some.ensures.rows in
-    let passes = no_fault _ e.0 _ e.2 c.in-Ok-try_get_matches_from.ensures.kinds in (
+    let e = c.in-Ok.ensures.app in (
       e.0,
       e.1,
-      passes,
+      no_fault _ e.0 _ e.2 c.in-Ok-try_get_matches_from.ensures.kinds,
       _,
-      found,
-      (
-        litmus_is_named e.0 (map (λ w. w.now) c.args.words.now) _ _ passes found,
-        c.options_of.ensures,
-        λ path is. file_is (found_of c.in-Some.inner.now) (codes "FILE") path _ _ _
-            c.get_str.ensures c.unwrap_or-file.ensures is,
-      ),
+      found_is _ e.0 _ _ _ _ e.2 c.in-Ok-try_get_matches_from.ensures.matches c.in-Some.ensures.name
+          c.in-Some.ensures.rows,
+      c.job_of.ensures,
     )

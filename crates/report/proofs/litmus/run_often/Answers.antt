@@ -1,4 +1,4 @@
-use Rattle.std.proofs.Common.{◌+◌, ◌++◌, List, [], ◌∷◌, length, length-append, min, subst, sym, ap, ◌∙◌}
+use Rattle.std.proofs.Common.{◌+◌, ◌++◌, List, [], ◌∷◌, length, length-append, subst, sym, ap, ◌∙◌}
 use Rattle.std.specs.List.{AllByRecursion}
 use Rattle.litmus_reader.specs.TestViews.{test_of}
 use Rattle.report.specs.Runs.{IsRun}
@@ -19,8 +19,7 @@ loop-preserved c =
       ap length longer ∙ length-append runs (run ∷ []) ∙ ap (λ n. n + 1) c.loop.invariant.0,
       subst (AllByRecursion (IsRun test c.args.config (rounds c.args.options.now))) (sym longer)
           (one_more (IsRun test c.args.config (rounds c.args.options.now)) runs run c.loop.invariant.1
-          (subst (λ n. IsRun test c.args.config n run) (c.min-limit.ensures
-          ∙ ap (min c.args.options.now.run.limit) c.from.ensures) c.in_ok-run_once.ensures.run)),
+          (subst (λ n. IsRun test c.args.config n run) c.limit_of-limit.ensures c.in_ok-run_once.ensures.run)),
       λ text is. subst (AllByRecursion (HasOutcome test)) (sym longer) (one_more (HasOutcome test) runs run
           (c.loop.invariant.2 text is) (c.in_ok-run_once.ensures.outcome text is)),
     )

@@ -1,0 +1,7 @@
+use Rattle.clap.specs.Words.{found_of}
+use Rattle.command_line.proofs.Found.{file_is}
+use Rattle.command_line.proofs.options.path_of.Goals as goal
+
+pub returns : goal.returns
+returns c = λ word is.
+    file_is (found_of c.args.matches.now) c.args.name.now word _ _ _ c.get_str.ensures c.unwrap_or.ensures is

@@ -1,0 +1,32 @@
+-- The machine that options ask for, and how far a run of it goes.
+use Rattle.std.specs.Prelude.{ℕ, min, nat_le, Bool, ◌&&◌}
+use Rattle.run_options.specs.declared.options.MachineOptions.{MachineOptions}
+use Rattle.run_options.specs.declared.options.RunOptions.{RunOptions}
+use Rattle.machine_table.specs.declared.config.Config.{Config}
+
+-- so many cores
+abbrev pub config_of : MachineOptions → ℕ → Config
+config_of options cores = record {
+  cores = cores;
+  banks = options.banks;
+  sets = options.sets;
+  ways = options.ways;
+  bank_sets = options.bank_sets;
+  bank_ways = options.bank_ways;
+  line_words = options.line_words;
+  lease = options.lease;
+  messages = options.messages;
+  opening_time = options.time;
+  private_write = options.private_write;
+}
+
+-- no number of the machine's parts is past what any machine has
+abbrev pub fits : MachineOptions → Bool
+fits options =
+    nat_le options.banks 65536 && nat_le options.sets 65536 && nat_le options.ways 65536
+    && nat_le options.bank_sets 65536
+    && nat_le options.bank_ways 65536 && nat_le options.line_words 65536 && nat_le options.messages 65536
+
+-- the most rounds of a run
+abbrev pub limit_of : RunOptions → ℕ
+limit_of options = min options.limit 4294967295

@@ -1,0 +1,9 @@
+//! What the reports of litmus tests and of traces share: the machine that options ask for, how far a run goes, and a
+//! whole text to a sink.
+#![tactic(auto)]
+
+mod outputs;
+mod set_up;
+
+pub use outputs::put_out;
+pub use set_up::{config_of, limit_of};

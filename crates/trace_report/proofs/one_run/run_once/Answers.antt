@@ -1,0 +1,52 @@
+use Rattle.std.proofs.Common.{◌≡◌, ℕ, List, [], map, ap, sym, subst, length, ◌∙◌}
+use Rattle.std.specs.Prelude.{slice_index_or}
+use Rattle.std.specs.FinMap.{FinMap, empty}
+use Rattle.std.specs.Ordering.{nat_cmp}
+use Rattle.physiological_order.specs.declared.operation.Record.{Record}
+use Rattle.physiological_order.specs.Order.{flat, Arrangement, Legal, replay_end}
+use Rattle.physiological_order.specs.StaleHits.{RisesByNumber}
+use Rattle.machine_table.specs.Machine.{Machine}
+use Rattle.machine_table.specs.Opening.{at_start}
+use Rattle.machine_table.specs.Runs.{after_all}
+use Rattle.machine_theorem.specs.Coherence.{coherent}
+use Rattle.machine_theorem.specs.Consistency.{IsConsistent}
+use Rattle.trace_lines.specs.declared.steps.Step.{Step}
+use Rattle.trace_report.specs.Runs.{DrivenBy, core_count, step_acts}
+use Rattle.trace_report.proofs.CoreCounts.{programs_count}
+use Rattle.trace_report.proofs.one_run.run_once.Goals as goal
+
+pub drive-driven-requires : goal.drive-driven-requires
+drive-driven-requires c = record {
+  one_each = ap length (c.as_mut_slice.ensures.value ∙ c.in_ok-programs.ensures)
+      ∙ programs_count c.args.trace.now (core_count c.args.trace.now)
+      ∙ sym c.requires.cores ∙ sym (ap (λ (m : Machine). m.config.cores) c.in-Ok.ensures.opened);
+}
+
+pub returns : goal.returns
+returns c =
+    let config = c.args.config in
+    let m : Machine = c.drive-driven.new.system in
+    let last = c.drive-driven.new.programs in
+    let events = c.drive-driven.result.events.items in
+    let end = c.drive-driven.result.end in
+    let options = c.args.options.now in
+    let first = c.in-Ok.ensures.opened ∙ ap (at_start config) c.new.ensures in
+    let after : m ≡ after_all (at_start config empty) events =
+    c.drive-driven.ensures.machine ∙ ap (λ (k : Machine). after_all k events) first in
+    let consistent = subst IsConsistent (sym after)
+    (c.every_history_is_legal.ensures.consistent config empty events c.requires.good) in
+    let opened : m.opening ≡ empty = ap (λ (k : Machine). k.opening) after
+    ∙ c.every_history_is_legal.ensures.opening config empty events in
+    record {
+      events = events;
+      programs = last;
+      driven = subst (λ (ts : List (List Step)). DrivenBy step_acts options options.schedule (at_start config empty) ts
+          events m last end) (c.as_mut_slice.ensures.value ∙ c.in_ok-programs.ensures)
+          (subst (λ (k : Machine). DrivenBy step_acts options options.schedule k c.as_mut_slice.result.now events m
+          last end) first c.drive-driven.ensures.driven);
+      legal = subst (λ (ws : FinMap nat_cmp ℕ). Legal (flat ws) (λ core. slice_index_or m.issued core []) m.records)
+          opened consistent.legal;
+      rising = subst RisesByNumber c.records-rising.ensures.records c.records-rising.ensures.rising;
+      left = subst (λ (ws : FinMap nat_cmp ℕ). (arranged : List Record) → Arrangement m.records arranged → (word : ℕ) →
+          coherent m word ≡ replay_end (flat ws) (map (λ r. r.op) arranged) word) opened consistent.coherent;
+    }

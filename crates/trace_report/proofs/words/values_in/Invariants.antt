@@ -1,0 +1,7 @@
+use Rattle.std.proofs.Common.{◌≡◌, map, take}
+use Rattle.machine_theorem.specs.Coherence.{coherent}
+use Rattle.trace_report.proofs.words.values_in.Given as goal
+
+abbrev pub invariant-loop-entry : goal.invariant-loop-entry
+invariant-loop-entry l = l.values.items ≡ map (λ entry. (entry.0, coherent l.system entry.0)) (take l.entry-index
+    l.entry-items)

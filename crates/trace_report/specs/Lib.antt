@@ -1,0 +1,4 @@
+pub mod Runs
+pub mod Refusals
+pub mod Reports
+pub mod Verdicts

@@ -1,0 +1,104 @@
+-- What a run of a trace is, and the texts that tell it.
+use Rattle.std.specs.Prelude.{◌≡◌, ℕ, zero, suc, ◌+◌, max, Bool, true, false, List, [], ◌∷◌, ◌++◌, length, map}
+use Rattle.std.specs.Prelude.{slice_index_or}
+use Rattle.std.specs.Ordering.{nat_cmp}
+use Rattle.std.specs.FinMap.{FinMap, empty, entries, insert}
+use Rattle.machine_table.specs.declared.config.Config.{Config}
+use Rattle.machine_table.specs.declared.event.Event.{Event}
+use Rattle.machine_table.specs.Machine.{Machine}
+use Rattle.machine_table.specs.Opening.{at_start}
+use Rattle.machine_theorem.specs.Coherence.{coherent}
+use Rattle.physiological_order.specs.declared.operation.Op.{Op}
+use Rattle.physiological_order.specs.declared.operation.Record.{Record}
+use Rattle.physiological_order.specs.Order.{address, flat, Legal, Arrangement, replay_end}
+use Rattle.physiological_order.specs.StaleHits.{RisesByNumber, stale_count}
+use Rattle.record_text.specs.Text.{records_text}
+use Rattle.report_parts.specs.SetUp.{limit_of}
+use Rattle.run_ends.specs.declared.ends.End.{End}
+use Rattle.run_ends.specs.declared.ends.End.TheVariants.{AllDone, Stalled, TurnsUsed, Exhausted, NoMemory}
+use Rattle.run_options.specs.declared.options.RunOptions.{RunOptions}
+use Rattle.run_options.specs.declared.options.Schedule.{Schedule}
+use Rattle.run_options.specs.declared.options.Schedule.TheVariants.{Round}
+use Rattle.trace_lines.specs.declared.steps.Step.{Step}
+use Rattle.trace_reader.specs.Steps.{lane, ops_of}
+use Rattle.trace_report_text.specs.declared.text.TraceEnd.{TraceEnd}
+use Rattle.trace_report_text.specs.Text.{trace_text}
+use Rattle.worker_driver.specs.Acts.{Acts, first_step, behind_first}
+use Rattle.worker_driver.specs.RoundSchedule.{no_round, rounds}
+use Rattle.worker_driver.specs.RunEvents.{Ended, initial}
+use Rattle.worker_driver.specs.Runs.{plan_of}
+
+-- a machine and its programs were driven by a schedule: these events lead to this machine, these programs and this end
+abbrev pub DrivenBy : {P : Type 0} → Acts P → RunOptions → Schedule → Machine → List P → List Event → Machine → List P →
+    End → Type 0
+DrivenBy acts options Round m programs events after programs' end =
+    Ended (plan_of acts (rounds acts) (limit_of options)) (initial m programs (no_round m.config.cores)) events after
+    programs' end
+
+-- the steps of a core are its program
+abbrev pub step_acts : Acts (List Step)
+step_acts = record { next = first_step; done = behind_first }
+
+-- a machine has a core for each of the trace, and one if no line has a step
+abbrev pub core_count : List (List Step) → ℕ
+core_count lanes = max 1 (length lanes)
+
+-- the programs of the cores below a number
+abbrev pub programs_below : List (List Step) → ℕ → List (List Step)
+programs_below lanes zero = []
+programs_below lanes (suc core) = programs_below lanes core ++ lane lanes core ∷ []
+
+-- a run of a trace over a memory of zeros: its records are a legal history, by rising number, and the words have the
+-- values that the records leave, one after the other in the order of their times
+pub record IsRun (options : RunOptions) (config : Config) (lanes : List (List Step)) (end : End)
+    (machine : Machine) : Type 0 where
+  pub events : List Event
+  pub programs : List (List Step)
+  pub driven : DrivenBy step_acts options options.schedule (at_start config empty)
+      (programs_below lanes (core_count lanes)) events machine programs end
+  pub legal : Legal (flat empty) (λ core. slice_index_or machine.issued core []) machine.records
+  pub rising : RisesByNumber machine.records
+  pub left : (arranged : List Record) → Arrangement machine.records arranged → (word : ℕ) →
+      coherent machine word ≡ replay_end (flat empty) (map (λ r. r.op) arranged) word
+
+-- how many operations the cores below a number were issued
+abbrev pub issued_below : Machine → ℕ → ℕ
+issued_below m zero = 0
+issued_below m (suc core) = issued_below m core + length (slice_index_or m.issued core [])
+
+-- the words that operations name, beside those that are there: a map, whose entries rise by word
+abbrev pub with_words : FinMap nat_cmp ℕ → List Op → FinMap nat_cmp ℕ
+with_words words [] = words
+with_words words (op ∷ ops) = with_words (insert words (address op) 0) ops
+
+-- the words that the operations of the cores below a number name, done or not
+abbrev pub words_below : List (List Step) → ℕ → FinMap nat_cmp ℕ
+words_below lanes zero = empty
+words_below lanes (suc core) = with_words (words_below lanes core) (ops_of (lane lanes core))
+
+-- the values of words, where they stand
+abbrev pub values_in : Machine → FinMap nat_cmp ℕ → List (ℕ × ℕ)
+values_in m words = map (λ entry. (entry.0, coherent m entry.0)) (entries words)
+
+-- what the report says of a run beside its records and its words
+abbrev pub end_of : List (List Step) → End → Machine → TraceEnd
+end_of lanes end m = record {
+  cores = core_count lanes;
+  issued = issued_below m (core_count lanes);
+  end = end;
+  counts = m.mail.counts;
+  stale = stale_count m.records;
+}
+
+-- the text of the records alone, or the report
+abbrev pub run_text : Bool → List (List Step) → End → Machine → List ℕ
+run_text true lanes end m = records_text m.records
+run_text false lanes end m =
+    trace_text (end_of lanes end m) m.records (values_in m (words_below lanes (core_count lanes)))
+
+abbrev pub is_all_done : End → Bool
+is_all_done AllDone = true
+is_all_done Stalled = false
+is_all_done TurnsUsed = false
+is_all_done Exhausted = false
+is_all_done NoMemory = false

@@ -1,0 +1,105 @@
+//! From a source with the text of a trace to a sink for its report.
+ghost use Rattle.std.specs.Prelude.{◌≡◌, ◌≢◌, IfErr, IfOk, IsErrOf, false, true};
+ghost use Rattle.machine_table.specs.SetUp.{is_good};
+ghost use Rattle.report_parts.specs.Answers.{AreCounted, IsCutOff, IsReported};
+ghost use Rattle.report_parts.specs.SetUp.{config_of};
+ghost use Rattle.trace_report.specs.Reports.{HasNoReport, HasNoRun, IsTraceReport, Tells};
+ghost use Rattle.trace_report.specs.Runs.{core_count, is_all_done};
+
+use crate::one_run::{run_once, text_of};
+use crate::texts::trace_of;
+use byte_streams::{Sink, Source};
+use interleaving_core::Config;
+use report_parts::{config_of, put_out};
+use run_ends::End;
+use run_options::TraceOptions;
+use run_results::{Done, RunError};
+use std::alloc::{AllocError, Global};
+use trace_reader::Trace;
+
+/// Reads a trace to the end of the source, runs it over a memory of zeros as the options say, and writes the report of
+/// the run, or its records alone. What goes out is told of a legal history, whatever the end of the run. Read goes
+/// before Trace, that before BadConfig, and Write comes last; by an error but Write the sink is unchanged.
+pub fn run_trace<S: Source, K: Sink>(
+    alloc: Global,
+    source: &mut S,
+    sink: &mut K,
+    options: &TraceOptions,
+) -> Result<Done, RunError>
+    ensures reported { IfOk result (λ done.
+        IsReported (IsTraceReport options.now (S.remaining source.old) done.all_done)
+        (K.contents sink.old) (K.contents sink.new)) }
+
+    // Why there is no report, or not all of it.
+    ensures refused { IfErr result (λ e. e ≢ RunError.Read → e ≢ RunError.Write →
+        HasNoReport options.now (S.remaining source.old) e) }
+    ensures cut_off { IsErrOf result RunError.Write →
+        (all_done : _) × IsCutOff (IsTraceReport options.now (S.remaining source.old) all_done)
+        (K.contents sink.old) (K.contents sink.new) }
+
+    // Failures are told, and nothing else is written.
+    ensures counted { AreCounted result
+        (S.failures source.old) (S.failures source.new)
+        (K.failures sink.old) (K.failures sink.new) }
+    ensures nothing { IfErr result (λ e. e ≢ RunError.Write → sink.new ≡ sink.old) }
+{
+    let trace = match trace_of(alloc, source) {
+        Ok(trace) => trace,
+        Err(error) => return Err(error),
+    };
+    let report = match report_of(alloc, &trace, options) {
+        Ok(report) => report,
+        Err(error) => return Err(error),
+    };
+    let done = Done {
+        all_done: report.all_done,
+    };
+    put_out(sink, &report.text, done)
+}
+
+/// A text that goes out, and whether it tells that all is done, or legal.
+#[derive(Drop)]
+pub(crate) struct Report {
+    pub(crate) text: Vec<u8>,
+    pub(crate) all_done: bool,
+}
+
+// The report on a trace, or its records.
+fn report_of(alloc: Global, trace: &Trace, options: &TraceOptions) -> Result<Report, RunError>
+    ensures report { IfOk result (λ report.
+        Tells options.now trace.now report.all_done report.text.items) }
+    ensures refused { IfErr result (HasNoRun options.now trace.now) }
+{
+    let Some(config) = config_of(&options.run.machine, trace.cores()) else {
+        return Err(RunError::BadConfig);
+    };
+    match told(alloc, trace, config, options) {
+        Ok(report) => Ok(report),
+        Err(AllocError) => Err(RunError::NoMemory),
+    }
+}
+
+// A run of the trace on this machine, as it is told.
+fn told(
+    alloc: Global,
+    trace: &Trace,
+    config: Config,
+    options: &TraceOptions,
+) -> Result<Report, AllocError>
+    requires good { is_good config ≡ true }
+    requires config { config ≡ config_of options.now.run.machine (core_count trace.now) }
+    ensures { IfOk result (λ report. Tells options.now trace.now report.all_done report.text.items) }
+{
+    let ran = run_once(alloc, trace, config, &options.run)?;
+    let text = text_of(alloc, trace, &ran, options.records)?;
+    Ok(Report {
+        text,
+        all_done: is_all_done(ran.end),
+    })
+}
+
+fn is_all_done(end: End) -> bool
+    ensures { result ≡ is_all_done end }
+{
+    matches!(end, End::AllDone)
+}

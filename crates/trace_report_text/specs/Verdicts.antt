@@ -1,0 +1,17 @@
+-- A verdict on records in words.
+use Rattle.std.specs.Prelude.{ℕ, List, ◌++◌, codes}
+use Rattle.physiological_order.specs.declared.verdict.Verdict.{Verdict}
+use Rattle.physiological_order.specs.declared.verdict.Verdict.TheVariants.{Legal, BadNumber, OutOfProgramOrder}
+use Rattle.physiological_order.specs.declared.verdict.Verdict.TheVariants.{WrongValue}
+use Rattle.report_lines.specs.Lines.{field, newline}
+
+-- one line; the number is the missing one, or that of the record at fault
+abbrev pub check_text : Verdict → List ℕ
+check_text Legal = codes "legal" ++ newline
+check_text (BadNumber number) = field (codes "bad number") number
+check_text (OutOfProgramOrder number) = field (codes "out of program order") number
+check_text (WrongValue number) = field (codes "wrong value") number
+
+-- the same line in a report
+abbrev pub order_line : Verdict → List ℕ
+order_line verdict = codes "order " ++ check_text verdict

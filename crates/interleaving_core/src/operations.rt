@@ -6,7 +6,7 @@ ghost use Rattle.network.specs.Mail.{Mail};
 ghost use Rattle.llc_bank.specs.BankTable as bank_table;
 ghost use Rattle.interleaving_core.specs.LookUps.{is_request};
 ghost use Rattle.machine_table.specs.Change.{advanced, attempt, copy_evicted, entry_evicted, requests};
-ghost use Rattle.interleaving_core.specs.PartChanges.{applied};
+ghost use Rattle.interleaving_core.specs.PartChanges.{applied, requested};
 ghost use Rattle.interleaving_core.specs.Endpoints.{BackHasEndpoints, EvictedHasEndpoints, is_sent_back};
 
 use crate::reactions::send;
@@ -47,21 +47,33 @@ pub(crate) fn attempt(core: &mut Core, flight: &mut InFlight, number: u32, count
             number: count as u64,
         }),
         Ok(Attempt::NeedShared(pts, version)) => {
-            request(core, flight, &op, Body::ShReq { pts, version })
+            answer_to(request(core, flight, &op, Body::ShReq { pts, version }))
         }
-        Ok(Attempt::NeedExclusive(version)) => request(core, flight, &op, Body::ExReq { version }),
+        Ok(Attempt::NeedExclusive(version)) => {
+            answer_to(request(core, flight, &op, Body::ExReq { version }))
+        }
         Ok(Attempt::NoRoom) => Answer::Refused(Refusal::NoRoom),
         Ok(Attempt::Waiting) => Answer::Waiting,
         Ok(Attempt::Idle) => Answer::Idle,
     }
 }
 
-/// A core asks the bank of an operation's line.
-fn request(core: &mut Core, flight: &mut InFlight, op: &Op, body: Body) -> Answer
+// What an attempt is answered that needs a request, by whether it was sent.
+fn answer_to(sent: bool) -> Answer
+    ensures { result ≡ requested sent }
+{
+    if sent {
+        return Answer::Requested;
+    }
+    Answer::Refused(Refusal::NetworkFull)
+}
+
+/// A core asks the bank of an operation's line, if there is capacity for the request.
+fn request(core: &mut Core, flight: &mut InFlight, op: &Op, body: Body) -> bool
     requires request { IsTrue (is_request body) }
     requires number { core.old.number < flight.old.cores }
     requires banks { core.old.banks ≡ flight.old.banks }
-    ensures done { (result, core.new, flight.new.mail) ≡ applied core.old
+    ensures done { (requested result, core.new, flight.new.mail) ≡ applied core.old
         flight.old.mail (requests flight.old.capacity flight.old.mail core.old op.now body) }
     ensures set_up { flight.new ≡ record flight.old {
       slots = flight.new.slots;
@@ -71,12 +83,12 @@ fn request(core: &mut Core, flight: &mut InFlight, op: &Op, body: Body) -> Answe
     } }
 {
     if !flight.has_capacity() {
-        return Answer::Refused(Refusal::NetworkFull);
+        return false;
     }
     let message = core.to_bank(core.line_of(*op), body);
     send(flight, message);
     core.requested();
-    Answer::Requested
+    true
 }
 
 /// A core's time goes on by one.

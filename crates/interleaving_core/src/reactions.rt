@@ -1,6 +1,6 @@
 //! A message in flight is handed to the part that it goes to.
-ghost use Rattle.std.specs.Prelude.{◌≡◌, ◌<◌, ◌≤◌, IfOk, IsSome, IsTrue, OnErr, Some};
-ghost use Rattle.network.specs.Mail.{answered, has_capacity, has_number, sent, taken};
+ghost use Rattle.std.specs.Prelude.{◌≡◌, ◌<◌, ◌≤◌, ℕ, IfOk, IsSome, IsTrue, OnErr, Some};
+ghost use Rattle.network.specs.Mail.{Mail, answered, has_capacity, has_number, sent, taken};
 ghost use Rattle.network.specs.NumberedMessages.{at_number};
 ghost use Rattle.network.specs.Routes.{has_endpoints};
 ghost use Rattle.network.specs.Sends.{sent_by, sent_in};
@@ -49,7 +49,11 @@ pub(crate) fn react<P: Part>(
     match part.deliver(message) {
         Err(PartError::Exhausted) => Ok(Answer::Refused(Refusal::Exhausted)),
         Err(PartError::NoMemory) => Err(AllocError),
-        Ok(reaction) => Ok(settle(flight, number, reaction)),
+        Ok(reaction) => {
+            let answer = answer_to(&reaction);
+            settle(flight, number, reaction);
+            Ok(answer)
+        }
     }
 }
 
@@ -76,12 +80,24 @@ fn can_send(flight: &InFlight, sends: Option<(Node, bool)>) -> bool
     }
 }
 
-// What a reaction to a delivered message is answered, and what becomes of the messages in flight.
-fn settle(flight: &mut InFlight, number: MsgNo, reaction: Reaction) -> Answer
+// What a reaction to a delivered message is answered.
+fn answer_to(reaction: &Reaction) -> Answer
+    ensures { (mail : Mail) (n : ℕ) → result ≡ (settled mail n reaction.now).0 }
+{
+    match reaction {
+        Reaction::Held => Answer::Held,
+        Reaction::Dropped => Answer::Dropped,
+        Reaction::Done(_) => Answer::Delivered,
+        Reaction::HeldAfter(_) => Answer::Started,
+    }
+}
+
+// What becomes of the messages in flight after a reaction to a delivered one.
+fn settle(flight: &mut InFlight, number: MsgNo, reaction: Reaction)
     requires there { IsSome (at_number number flight.old.mail.messages) }
     requires endpoints { SendsWithEndpoints flight.old.cores flight.old.banks reaction }
     requires capacity { IsTrue (can_send flight.old.capacity flight.old.mail (sent_in reaction)) }
-    ensures answer { (result, flight.new.mail) ≡ settled flight.old.mail number reaction }
+    ensures mail { flight.new.mail ≡ (settled flight.old.mail number reaction).1 }
     ensures set_up { flight.new ≡ record flight.old {
       slots = flight.new.slots;
       reserved =
@@ -90,23 +106,11 @@ fn settle(flight: &mut InFlight, number: MsgNo, reaction: Reaction) -> Answer
     } }
 {
     match reaction {
-        Reaction::Held => Answer::Held,
-        Reaction::Dropped => {
-            take(flight, number);
-            Answer::Dropped
-        }
-        Reaction::Done(None) => {
-            take(flight, number);
-            Answer::Delivered
-        }
-        Reaction::Done(Some(reply)) => {
-            answer(flight, number, reply);
-            Answer::Delivered
-        }
-        Reaction::HeldAfter(started) => {
-            send(flight, started);
-            Answer::Started
-        }
+        Reaction::Held => (),
+        Reaction::Dropped => take(flight, number),
+        Reaction::Done(None) => take(flight, number),
+        Reaction::Done(Some(reply)) => answer(flight, number, reply),
+        Reaction::HeldAfter(started) => send(flight, started),
     }
 }
 

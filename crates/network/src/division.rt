@@ -1,5 +1,5 @@
 //! Division of the numbers of words and lines, which takes no division of the processor where a machine is of the usual
-//! sizes: one bank, lines of one or eight words, sets by a power of two.
+//! sizes: one bank, lines of one or eight words, as many sets as a power of two.
 ghost use Rattle.std.specs.Prelude.{◌≡◌, ◌<◌, ◌/◌, ◌%◌};
 
 /// How often a number above 0 goes into another one.
@@ -19,16 +19,9 @@ pub fn remainder(number: u64, by: u64) -> u64
     requires { 0 < by }
     ensures { result ≡ number % by }
 {
-    match by {
-        1 => 0,
-        8 => number % 8,
-        16 => number % 16,
-        32 => number % 32,
-        64 => number % 64,
-        128 => number % 128,
-        256 => number % 256,
-        512 => number % 512,
-        1024 => number % 1024,
-        _ => number % by,
+    let power = by.trailing_zeros() % 64;
+    if by == 1 << power {
+        return number & (by - 1);
     }
+    number % by
 }

@@ -2,6 +2,7 @@ mod LineNumbers
 mod Indices
 mod OrderLaws
 mod RowLaws
+mod ShiftedPairs
 mod StoredSets
 mod TableLaws
 mod TaggedCells

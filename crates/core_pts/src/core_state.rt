@@ -15,7 +15,7 @@ ghost use Rattle.core_pts.specs.CoreTable.{index_of, is_pinned, issue, line_of, 
 use crate::attempt::{Attempt, IssueError};
 use crate::config::CoreConfig;
 use crate::on_copy::{copy_after, is_exclusive, received_at, serves, time_of, words_of_copy};
-use network::{Body, LineNo, Message, Node};
+use network::{Body, LineNo, Message, Node, quotient, remainder};
 use physiological_order::Op;
 use private_cache::{Cache, CacheError, Geometry, LineCopy};
 use std::alloc::{AllocError, Global};
@@ -154,7 +154,7 @@ impl Core {
     fn line_of_word(&self, op: &Op) -> LineNo
         ensures { result ≡ line_of self.now op.now }
     {
-        LineNo(op.word() / self.config.line_words as u64)
+        LineNo(quotient(op.word(), self.config.line_words as u64))
     }
 
     // The index in its line of an operation's word.
@@ -162,7 +162,7 @@ impl Core {
         ensures value { result ≡ index_of self.now op.now }
         ensures bound { result < 8 }
     {
-        (op.word() % self.config.line_words as u64) as usize
+        remainder(op.word(), self.config.line_words as u64) as usize
     }
 
     /// A message of the core about a line to the line's bank, one of the banks that there are.
@@ -183,7 +183,7 @@ impl Core {
         ensures node { result ≡ Node.Bank (line % self.now.banks) }
         ensures below { line % self.now.banks < self.now.banks }
     {
-        Node::Bank((line.0 % self.config.banks as u64) as u32)
+        Node::Bank(remainder(line.0, self.config.banks as u64) as u32)
     }
 
     // How far a lease goes on from a time.
@@ -279,7 +279,7 @@ impl Core {
         let index = self.index_of(op);
         let line = self.line_of_word(op);
         let received = received_at(index, op, copy);
-        let _done = self.cache.complete(line, copy_after(index, ts, op, copy));
+        self.cache.put(line, copy_after(index, ts, op, copy));
         self.pts = ts;
         self.open_op = None;
         self.is_out = false;

@@ -1,5 +1,5 @@
 //! What a core does with a message.
-ghost use Rattle.std.specs.Prelude.{◌≡◌, ◌≢◌, IfOk, IsSome, IsTrue, is_some, Err, None, OnErr, Some};
+ghost use Rattle.std.specs.Prelude.{◌≡◌, ◌≢◌, IfOk, IsSome, IsTrue, false, is_some, Err, None, OnErr, Some};
 ghost use Rattle.network.specs.Sends.{sent_by};
 ghost use Rattle.private_cache.specs.CopyTable.{copy_of, place_for};
 ghost use Rattle.core_pts.specs.OnCopy.{finds_place};
@@ -47,6 +47,8 @@ impl Part for Core {
     ghost has_case = { core_has_case };
 
     ghost table = { core_table };
+
+    ghost takes_memory = { λ _ _. false };
 
     fn sends(&self, message: &Message) -> Option<(Node, bool)>
         requires { IsTrue (core_has_case self.now message.now) }

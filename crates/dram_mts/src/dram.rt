@@ -98,6 +98,8 @@ impl Part for Dram {
 
     ghost table = { dram_table };
 
+    ghost takes_memory = { needs_memory };
+
     fn sends(&self, message: &Message) -> Option<(Node, bool)> {
         Some((message.from, false))
     }

@@ -4,6 +4,7 @@ mod Coherence
 mod Endpoints
 mod DramWords
 mod InOrder
+mod MemoryAnswers
 mod OpenedOps
 mod Only
 mod PartRows

@@ -6,7 +6,7 @@ use Rattle.network.specs.declared.part.Reaction.TheVariants.{Done, Dropped, Held
 use Rattle.network.specs.Mail.{Mail}
 use Rattle.machine_table.specs.declared.event.Answer.{Answer}
 use Rattle.machine_table.specs.declared.event.Answer.TheVariants as answer
-use Rattle.machine_table.specs.declared.event.Refusal.TheVariants.{Exhausted}
+use Rattle.machine_table.specs.declared.event.Refusal.TheVariants.{Exhausted, NetworkFull}
 use Rattle.machine_table.specs.Change as change
 use Rattle.machine_table.specs.Change.{Change, Keeps, Exhausts, Drops, Makes, Completes}
 
@@ -27,6 +27,11 @@ with_record records _ = records
 abbrev pub stops : Answer → Bool
 stops (answer.Refused Exhausted) = true
 stops _ = false
+
+-- what an attempt is answered that needs a request, by whether it was sent
+abbrev pub requested : Bool → Answer
+requested true = answer.Requested
+requested false = answer.Refused NetworkFull
 
 -- what a reaction to a delivered message is answered, and the messages in flight afterwards: the same at every part
 abbrev pub settled : Mail → ℕ → Reaction → Answer × Mail

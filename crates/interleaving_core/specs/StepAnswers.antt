@@ -1,7 +1,15 @@
 -- How a machine in memory follows the table: each event is answered as the table says, or, where it takes memory, it is
 -- refused for want of that and leaves the machine as it was.
-use Rattle.std.specs.Prelude.{◌≡◌, ◌⊎◌, ◌<◌, List, [], ◌∷◌}
+use Rattle.std.specs.Prelude.{◌≡◌, ◌⊎◌, ◌<◌, ℕ, Bool, true, false, List, [], ◌∷◌, Option, Some, None, slice_get}
+use Rattle.std.specs.FinMap.{FinMap}
+use Rattle.std.specs.Ordering.{nat_cmp}
+use Rattle.network.specs.declared.message.Message.{Message}
+use Rattle.network.specs.declared.message.Node.{Node}
+use Rattle.network.specs.declared.message.Node.TheVariants.{Dram}
+use Rattle.network.specs.NumberedMessages.{at_number}
+use Rattle.dram_mts.specs.Table.{needs_memory}
 use Rattle.machine_table.specs.declared.event.Event.{Event}
+use Rattle.machine_table.specs.declared.event.Event.TheVariants.{Issue, Deliver}
 use Rattle.machine_table.specs.declared.event.Answer.{Answer}
 use Rattle.machine_table.specs.declared.event.Answer.TheVariants.{Issued, Refused}
 use Rattle.machine_table.specs.declared.event.Refusal.TheVariants.{NoMemory}
@@ -11,6 +19,26 @@ use Rattle.machine_table.specs.Transition.{transition}
 -- memory is taken to open an operation and to send a message, and else for nothing
 abbrev pub TakesMemory : Machine → Answer × Machine → Type 0
 TakesMemory m next = (next.0 ≡ Issued) ⊎ (m.mail.next < next.1.mail.next)
+
+-- a message is the first store of its line in a DRAM
+abbrev pub is_first_store : Option (FinMap nat_cmp (List ℕ)) → Message → Bool
+is_first_store None message = false
+is_first_store (Some dram) message = needs_memory dram message
+
+-- so it is in the DRAM that it goes to
+abbrev pub is_first_store_at : Machine → Message → Node → Bool
+is_first_store_at m message (Dram bank) = is_first_store (slice_get m.drams bank) message
+is_first_store_at m message _ = false
+
+abbrev pub delivery_asks : Machine → Option Message → Bool
+delivery_asks m None = false
+delivery_asks m (Some message) = is_first_store_at m message message.to
+
+-- which events ask for memory: an issue, and the delivery of the first store of a line to its DRAM
+abbrev pub asks_memory : Machine → Event → Bool
+asks_memory m (Issue core op) = true
+asks_memory m (Deliver number) = delivery_asks m (at_number number m.mail.messages)
+asks_memory m _ = false
 
 -- one event
 abbrev pub Stepped : Machine → Event → Answer → Machine → Type 0

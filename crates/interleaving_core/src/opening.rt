@@ -18,8 +18,8 @@ use private_cache::Geometry;
 use std::alloc::{AllocError, Global};
 
 impl MachineState {
-    /// A machine that is set up so, with this memory. All the memory of its parts is taken here, but that of messages,
-    /// records and operations.
+    /// A machine that is set up so, with this memory. All the memory of its parts and of messages is taken
+    /// here, but that of records and operations.
     pub(crate) fn open(
         alloc: Global,
         config: Config,
@@ -32,13 +32,14 @@ impl MachineState {
         let banks = open_banks(alloc, config)?;
         let drams = open_drams(alloc, config, &memory)?;
         let issued = no_operations(alloc, config.cores)?;
+        let flight = InFlight::new(alloc, config.cores, config.banks, config.messages)?;
         Ok(MachineState {
             config,
             opening: memory,
             cores,
             banks,
             drams,
-            flight: InFlight::new(alloc, config.cores, config.banks, config.messages),
+            flight,
             issued,
             records: Vec::new(alloc),
             is_stopped: false,

@@ -6,9 +6,8 @@ ghost use Rattle.network.specs.Mail.{Mail};
 ghost use Rattle.llc_bank.specs.BankTable as bank_table;
 ghost use Rattle.interleaving_core.specs.LookUps.{is_request};
 ghost use Rattle.machine_table.specs.Change.{advanced, attempt, copy_evicted, entry_evicted, requests};
-ghost use Rattle.interleaving_core.specs.PartChanges.{applied};
+ghost use Rattle.interleaving_core.specs.PartChanges.{applied, requested};
 ghost use Rattle.interleaving_core.specs.Endpoints.{BackHasEndpoints, EvictedHasEndpoints, is_sent_back};
-ghost use Rattle.interleaving_core.specs.Reservation.{completes};
 
 use crate::reactions::send;
 use core_pts::{Attempt, Core, nothing_completed_keeps};
@@ -17,91 +16,79 @@ use machine_table::{Answer, Refusal};
 use network::{Body, InFlight, LineNo};
 use physiological_order::{Op, Record};
 use private_cache::{CacheError, CopyState};
-use std::alloc::AllocError;
 use timestamp_manager::Exhausted;
 
-/// A core of this number attempts its open operation, where so many operations were completed before. A completion
-/// takes no memory.
-pub(crate) fn attempt(
-    core: &mut Core,
-    flight: &mut InFlight,
-    number: u32,
-    count: usize,
-) -> Result<Answer, AllocError>
+/// A core of this number attempts its open operation, where so many operations were completed before.
+pub(crate) fn attempt(core: &mut Core, flight: &mut InFlight, number: u32, count: usize) -> Answer
     requires number { core.old.number < flight.old.cores }
     requires banks { core.old.banks ≡ flight.old.banks }
-    ensures done { IfOk result (λ answer. (answer, core.new, flight.new.mail) ≡ applied core.old
-        flight.old.mail (attempt number count flight.old.capacity flight.old.mail core.old)) }
+    ensures done { (result, core.new, flight.new.mail) ≡ applied core.old
+        flight.old.mail (attempt number count flight.old.capacity flight.old.mail core.old) }
     ensures set_up { flight.new ≡ record flight.old {
       slots = flight.new.slots;
       reserved =
           flight.new.reserved;
       mail = flight.new.mail;
     } }
-    ensures refused { OnErr result (core.new ≡ core.old) }
-    ensures kept { OnErr result (flight.new.mail ≡ flight.old.mail) }
-    ensures completed { IsTrue (completes core.old) → IsOk result }
-    ensures memory { OnErr result
-        (flight.old.mail.next < (applied core.old flight.old.mail
-        (attempt number count flight.old.capacity flight.old.mail core.old)).2.next) }
 {
     nothing_completed_keeps();
     let Some((op, _)) = core.open_op() else {
-        return Ok(Answer::Idle);
+        return Answer::Idle;
     };
     let issued = core.issued();
     match core.attempt() {
-        Err(Exhausted) => Ok(Answer::Refused(Refusal::Exhausted)),
-        Ok(Attempt::Completed(received, ts)) => Ok(Answer::Completed(Record {
+        Err(Exhausted) => Answer::Refused(Refusal::Exhausted),
+        Ok(Attempt::Completed(received, ts)) => Answer::Completed(Record {
             core: number,
             place: issued.saturating_sub(1),
             op,
             received,
             ts,
             number: count as u64,
-        })),
+        }),
         Ok(Attempt::NeedShared(pts, version)) => {
-            request(core, flight, &op, Body::ShReq { pts, version })
+            answer_to(request(core, flight, &op, Body::ShReq { pts, version }))
         }
-        Ok(Attempt::NeedExclusive(version)) => request(core, flight, &op, Body::ExReq { version }),
-        Ok(Attempt::NoRoom) => Ok(Answer::Refused(Refusal::NoRoom)),
-        Ok(Attempt::Waiting) => Ok(Answer::Waiting),
-        Ok(Attempt::Idle) => Ok(Answer::Idle),
+        Ok(Attempt::NeedExclusive(version)) => {
+            answer_to(request(core, flight, &op, Body::ExReq { version }))
+        }
+        Ok(Attempt::NoRoom) => Answer::Refused(Refusal::NoRoom),
+        Ok(Attempt::Waiting) => Answer::Waiting,
+        Ok(Attempt::Idle) => Answer::Idle,
     }
 }
 
-/// A core asks the bank of an operation's line.
-fn request(
-    core: &mut Core,
-    flight: &mut InFlight,
-    op: &Op,
-    body: Body,
-) -> Result<Answer, AllocError>
+// What an attempt is answered that needs a request, by whether it was sent.
+fn answer_to(sent: bool) -> Answer
+    ensures { result ≡ requested sent }
+{
+    if sent {
+        return Answer::Requested;
+    }
+    Answer::Refused(Refusal::NetworkFull)
+}
+
+/// A core asks the bank of an operation's line, if there is capacity for the request.
+fn request(core: &mut Core, flight: &mut InFlight, op: &Op, body: Body) -> bool
     requires request { IsTrue (is_request body) }
     requires number { core.old.number < flight.old.cores }
     requires banks { core.old.banks ≡ flight.old.banks }
-    ensures done { IfOk result (λ answer. (answer, core.new, flight.new.mail) ≡ applied core.old
-        flight.old.mail (requests flight.old.capacity flight.old.mail core.old op.now body)) }
-    ensures memory { OnErr result
-        (flight.old.mail.next < (applied core.old flight.old.mail
-        (requests flight.old.capacity flight.old.mail core.old op.now body)).2.next) }
+    ensures done { (requested result, core.new, flight.new.mail) ≡ applied core.old
+        flight.old.mail (requests flight.old.capacity flight.old.mail core.old op.now body) }
     ensures set_up { flight.new ≡ record flight.old {
       slots = flight.new.slots;
       reserved =
           flight.new.reserved;
       mail = flight.new.mail;
     } }
-    ensures refused { OnErr result (core.new ≡ core.old) }
-    ensures kept { OnErr result (flight.new.mail ≡ flight.old.mail) }
 {
     if !flight.has_capacity() {
-        return Ok(Answer::Refused(Refusal::NetworkFull));
+        return false;
     }
-    flight.reserve()?;
     let message = core.to_bank(core.line_of(*op), body);
     send(flight, message);
     core.requested();
-    Ok(Answer::Requested)
+    true
 }
 
 /// A core's time goes on by one.
@@ -116,86 +103,65 @@ pub(crate) fn advance(core: &mut Core) -> Answer
 }
 
 /// A copy of a line leaves a core's cache. A copy that the core owns is sent back.
-pub(crate) fn evict_copy(
-    core: &mut Core,
-    flight: &mut InFlight,
-    line: LineNo,
-) -> Result<Answer, AllocError>
+pub(crate) fn evict_copy(core: &mut Core, flight: &mut InFlight, line: LineNo) -> Answer
     requires endpoints { BackHasEndpoints flight.old.cores flight.old.banks
         (evict core.old line).0 }
-    ensures done { IfOk result (λ answer. (answer, core.new, flight.new.mail) ≡ applied core.old
-        flight.old.mail (copy_evicted flight.old.capacity flight.old.mail (evict core.old line))) }
-    ensures memory { OnErr result
-        (flight.old.mail.next < (applied core.old flight.old.mail
-        (copy_evicted flight.old.capacity flight.old.mail (evict core.old line))).2.next) }
+    ensures done { (result, core.new, flight.new.mail) ≡ applied core.old
+        flight.old.mail (copy_evicted flight.old.capacity flight.old.mail (evict core.old line)) }
     ensures set_up { flight.new ≡ record flight.old {
       slots = flight.new.slots;
       reserved =
           flight.new.reserved;
       mail = flight.new.mail;
     } }
-    ensures refused { OnErr result (core.new ≡ core.old) }
-    ensures kept { OnErr result (flight.new.mail ≡ flight.old.mail) }
 {
-    if sends_back(core, line) {
-        if !flight.has_capacity() {
-            return Ok(Answer::Refused(Refusal::NetworkFull));
+    if !flight.has_capacity() {
+        if sends_back(core, line) {
+            return Answer::Refused(Refusal::NetworkFull);
         }
-        flight.reserve()?;
     }
     match core.evict(line) {
-        Err(CacheError::NotHere) => Ok(Answer::Refused(Refusal::NoSuch)),
-        Err(CacheError::NoRoom) => Ok(Answer::Refused(Refusal::NoSuch)),
-        Err(CacheError::Pinned) => Ok(Answer::Refused(Refusal::Pinned)),
-        Ok(None) => Ok(Answer::Evicted),
+        Err(CacheError::NotHere) => Answer::Refused(Refusal::NoSuch),
+        Err(CacheError::NoRoom) => Answer::Refused(Refusal::NoSuch),
+        Err(CacheError::Pinned) => Answer::Refused(Refusal::Pinned),
+        Ok(None) => Answer::Evicted,
         Ok(Some(back)) => {
             send(flight, back);
-            Ok(Answer::Evicted)
+            Answer::Evicted
         }
     }
 }
 
 /// A line leaves a bank, or its owner is asked to give it back for that.
-pub(crate) fn evict_entry(
-    bank: &mut Bank,
-    flight: &mut InFlight,
-    line: LineNo,
-) -> Result<Answer, AllocError>
+pub(crate) fn evict_entry(bank: &mut Bank, flight: &mut InFlight, line: LineNo) -> Answer
     requires endpoints { EvictedHasEndpoints flight.old.cores flight.old.banks
         (bank_table.evict bank.old line).0 }
-    ensures done { IfOk result (λ answer. (answer, bank.new, flight.new.mail) ≡ applied bank.old
+    ensures done { (result, bank.new, flight.new.mail) ≡ applied bank.old
         flight.old.mail (entry_evicted flight.old.capacity flight.old.mail
-        (bank_table.evict bank.old line))) }
-    ensures memory { OnErr result
-        (flight.old.mail.next < (applied bank.old flight.old.mail
-        (entry_evicted flight.old.capacity flight.old.mail
-        (bank_table.evict bank.old line))).2.next) }
+        (bank_table.evict bank.old line)) }
     ensures set_up { flight.new ≡ record flight.old {
       slots = flight.new.slots;
       reserved =
           flight.new.reserved;
       mail = flight.new.mail;
     } }
-    ensures refused { OnErr result (bank.new ≡ bank.old) }
-    ensures kept { OnErr result (flight.new.mail ≡ flight.old.mail) }
 {
-    if let Ok(Some(_)) = bank.evicts(line) {
-        if !flight.has_capacity() {
-            return Ok(Answer::Refused(Refusal::NetworkFull));
+    if !flight.has_capacity() {
+        if let Ok(Some(_)) = bank.evicts(line) {
+            return Answer::Refused(Refusal::NetworkFull);
         }
-        flight.reserve()?;
     }
     match bank.evict(line) {
-        Err(EvictError::NotHere) => Ok(Answer::Refused(Refusal::NoSuch)),
-        Err(EvictError::Busy) => Ok(Answer::Refused(Refusal::Busy)),
-        Ok(Evict::Clean) => Ok(Answer::Evicted),
+        Err(EvictError::NotHere) => Answer::Refused(Refusal::NoSuch),
+        Err(EvictError::Busy) => Answer::Refused(Refusal::Busy),
+        Ok(Evict::Clean) => Answer::Evicted,
         Ok(Evict::Stored(store)) => {
             send(flight, store);
-            Ok(Answer::Evicted)
+            Answer::Evicted
         }
         Ok(Evict::Recalled(recall)) => {
             send(flight, recall);
-            Ok(Answer::Recalled)
+            Answer::Recalled
         }
     }
 }

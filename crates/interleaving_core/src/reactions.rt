@@ -1,6 +1,6 @@
 //! A message in flight is handed to the part that it goes to.
-ghost use Rattle.std.specs.Prelude.{◌≡◌, ◌<◌, ◌≤◌, IfOk, IsSome, IsTrue, OnErr, Some};
-ghost use Rattle.network.specs.Mail.{answered, has_capacity, has_number, sent, taken};
+ghost use Rattle.std.specs.Prelude.{◌≡◌, ◌<◌, ◌≤◌, ℕ, IfOk, IsSome, IsTrue, OnErr, Some};
+ghost use Rattle.network.specs.Mail.{Mail, answered, has_capacity, has_number, sent, taken};
 ghost use Rattle.network.specs.NumberedMessages.{at_number};
 ghost use Rattle.network.specs.Routes.{has_endpoints};
 ghost use Rattle.network.specs.Sends.{sent_by, sent_in};
@@ -33,6 +33,7 @@ pub(crate) fn react<P: Part>(
         (flight.old.mail.next < (applied part.old flight.old.mail
         (reacted flight.old.capacity flight.old.mail number
         (P.table part.old message.now))).2.next) }
+    ensures sure { OnErr result (IsTrue (P.takes_memory part.old message.now)) }
     ensures refused { OnErr result (part.new ≡ part.old) }
     ensures set_up { flight.new ≡ record flight.old {
       slots = flight.new.slots;
@@ -42,18 +43,30 @@ pub(crate) fn react<P: Part>(
     } }
     ensures kept { OnErr result (flight.new.mail ≡ flight.old.mail) }
 {
-    let sends = part.sends(message);
-    if !can_send(flight, sends) {
+    if !can_answer(part, flight, message) {
         return Ok(Answer::Refused(Refusal::NetworkFull));
-    }
-    if sends.is_some() {
-        flight.reserve()?;
     }
     match part.deliver(message) {
         Err(PartError::Exhausted) => Ok(Answer::Refused(Refusal::Exhausted)),
         Err(PartError::NoMemory) => Err(AllocError),
-        Ok(reaction) => Ok(settle(flight, number, reaction)),
+        Ok(reaction) => {
+            let answer = answer_to(&reaction);
+            settle(flight, number, reaction);
+            Ok(answer)
+        }
     }
+}
+
+// Whether what a part would send can be sent. Where one more message can be sent, the part isn't asked what it would.
+fn can_answer<P: Part>(part: &P, flight: &InFlight, message: &Message) -> bool
+    requires { IsTrue (P.has_case part.now message.now) }
+    ensures { result ≡ can_send flight.now.capacity flight.now.mail
+        (sent_by (P.table part.now message.now)) }
+{
+    if flight.has_capacity() {
+        return true;
+    }
+    can_send(flight, part.sends(message))
 }
 
 // Whether what a part would send can be sent: an answer takes the place of the delivered message.
@@ -67,13 +80,24 @@ fn can_send(flight: &InFlight, sends: Option<(Node, bool)>) -> bool
     }
 }
 
-// What a reaction to a delivered message is answered, and what becomes of the messages in flight.
-fn settle(flight: &mut InFlight, number: MsgNo, reaction: Reaction) -> Answer
+// What a reaction to a delivered message is answered.
+fn answer_to(reaction: &Reaction) -> Answer
+    ensures { (mail : Mail) (n : ℕ) → result ≡ (settled mail n reaction.now).0 }
+{
+    match reaction {
+        Reaction::Held => Answer::Held,
+        Reaction::Dropped => Answer::Dropped,
+        Reaction::Done(_) => Answer::Delivered,
+        Reaction::HeldAfter(_) => Answer::Started,
+    }
+}
+
+// What becomes of the messages in flight after a reaction to a delivered one.
+fn settle(flight: &mut InFlight, number: MsgNo, reaction: Reaction)
     requires there { IsSome (at_number number flight.old.mail.messages) }
     requires endpoints { SendsWithEndpoints flight.old.cores flight.old.banks reaction }
     requires capacity { IsTrue (can_send flight.old.capacity flight.old.mail (sent_in reaction)) }
-    requires reserved { IsSome (sent_in reaction) → 0 < flight.old.reserved }
-    ensures answer { (result, flight.new.mail) ≡ settled flight.old.mail number reaction }
+    ensures mail { flight.new.mail ≡ (settled flight.old.mail number reaction).1 }
     ensures set_up { flight.new ≡ record flight.old {
       slots = flight.new.slots;
       reserved =
@@ -82,31 +106,18 @@ fn settle(flight: &mut InFlight, number: MsgNo, reaction: Reaction) -> Answer
     } }
 {
     match reaction {
-        Reaction::Held => Answer::Held,
-        Reaction::Dropped => {
-            take(flight, number);
-            Answer::Dropped
-        }
-        Reaction::Done(None) => {
-            take(flight, number);
-            Answer::Delivered
-        }
-        Reaction::Done(Some(reply)) => {
-            answer(flight, number, reply);
-            Answer::Delivered
-        }
-        Reaction::HeldAfter(started) => {
-            send(flight, started);
-            Answer::Started
-        }
+        Reaction::Held => (),
+        Reaction::Dropped => take(flight, number),
+        Reaction::Done(None) => take(flight, number),
+        Reaction::Done(Some(reply)) => answer(flight, number, reply),
+        Reaction::HeldAfter(started) => send(flight, started),
     }
 }
 
-/// Sends a message for which there is capacity, and memory was reserved.
+/// Sends a message for which there is capacity.
 pub(crate) fn send(flight: &mut InFlight, message: Message)
     requires endpoints { IsTrue (has_endpoints flight.old.cores flight.old.banks message) }
     requires capacity { IsTrue (has_capacity flight.old.capacity flight.old.mail) }
-    requires reserved { 0 < flight.old.reserved }
     ensures { flight.new ≡ record flight.old {
       slots = flight.new.slots;
       reserved =
@@ -122,13 +133,12 @@ pub(crate) fn send(flight: &mut InFlight, message: Message)
 
 // Takes a message that is in flight.
 fn take(flight: &mut InFlight, number: MsgNo)
-    ensures after { flight.new ≡ record flight.old {
+    ensures { flight.new ≡ record flight.old {
       slots = flight.new.slots;
       reserved =
           flight.new.reserved;
       mail = taken flight.old.mail number;
     } }
-    ensures reserved { flight.old.reserved ≤ flight.new.reserved }
 {
     let _message = flight.take(number);
 }
@@ -138,7 +148,6 @@ fn answer(flight: &mut InFlight, number: MsgNo, message: Message)
     requires there { IsSome (at_number number flight.old.mail.messages) }
     requires endpoints { IsTrue (has_endpoints flight.old.cores flight.old.banks message) }
     requires number { IsTrue (has_number flight.old.mail) }
-    requires reserved { 0 < flight.old.reserved }
     ensures { flight.new ≡ record flight.old {
       slots = flight.new.slots;
       reserved =

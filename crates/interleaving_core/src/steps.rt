@@ -4,8 +4,7 @@ ghost use Rattle.network.specs.NumberedMessages.{at_number};
 ghost use Rattle.machine_table.specs.Transition.{advance_at, attempt_at, deliver_core, deliver_bank, deliver_dram};
 ghost use Rattle.machine_table.specs.Transition.{deliver_message, evict_copy, evict_entry, issue_at, transition};
 ghost use Rattle.machine_theorem.specs.Kept.{Invariant};
-ghost use Rattle.interleaving_core.specs.Reservation.{completes};
-ghost use Rattle.interleaving_core.specs.StepAnswers.{Stepped, TakesMemory};
+ghost use Rattle.interleaving_core.specs.StepAnswers.{Stepped, TakesMemory, asks_memory, delivery_asks, is_first_store};
 
 use crate::machine_state::MachineState;
 use crate::operations;
@@ -42,26 +41,20 @@ impl MachineState {
         Ok(Answer::Issued)
     }
 
-    // A core tries to complete its open operation. A completion takes no memory.
-    fn attempt(&mut self, core: u32) -> Result<Answer, AllocError>
+    // A core tries to complete its open operation.
+    fn attempt(&mut self, core: u32) -> Answer
         requires { Invariant self.old }
-        ensures done { IfOk result (λ answer. (answer, self.new) ≡ attempt_at self.old core
-            (slice_get self.old.cores core)) }
-        ensures refused { OnErr result (self.new ≡ self.old) }
-        ensures wanted { OnErr result
-            (TakesMemory self.old (attempt_at self.old core (slice_get self.old.cores core))) }
-        ensures completed { IfSome (slice_get self.old.cores core)
-            (λ c. IsTrue (completes c) → IsOk result) }
+        ensures { (result, self.new) ≡ attempt_at self.old core (slice_get self.old.cores core) }
     {
         let at = core as usize;
         if at >= self.cores.len() {
-            return Ok(Answer::Refused(Refusal::NoSuch));
+            return Answer::Refused(Refusal::NoSuch);
         }
         let count = self.records.len();
-        let answer = operations::attempt(&mut self.cores[at], &mut self.flight, core, count)?;
+        let answer = operations::attempt(&mut self.cores[at], &mut self.flight, core, count);
         keep(&mut self.records, &answer);
         stop(&mut self.is_stopped, &answer);
-        Ok(answer)
+        answer
     }
 
     // A core's time goes on by one.
@@ -78,40 +71,33 @@ impl MachineState {
     }
 
     // A copy of a line leaves a core's cache.
-    fn evict_cache(&mut self, core: u32, line: LineNo) -> Result<Answer, AllocError>
+    fn evict_cache(&mut self, core: u32, line: LineNo) -> Answer
         requires { Invariant self.old }
-        ensures done { IfOk result (λ answer. (answer, self.new) ≡ evict_copy self.old core line
-            (slice_get self.old.cores core)) }
-        ensures refused { OnErr result (self.new ≡ self.old) }
-        ensures wanted { OnErr result
-            (TakesMemory self.old (evict_copy self.old core line (slice_get self.old.cores core))) }
+        ensures { (result, self.new) ≡ evict_copy self.old core line
+            (slice_get self.old.cores core) }
     {
         let at = core as usize;
         if at >= self.cores.len() {
-            return Ok(Answer::Refused(Refusal::NoSuch));
+            return Answer::Refused(Refusal::NoSuch);
         }
-        let answer = operations::evict_copy(&mut self.cores[at], &mut self.flight, line)?;
+        let answer = operations::evict_copy(&mut self.cores[at], &mut self.flight, line);
         stop(&mut self.is_stopped, &answer);
-        Ok(answer)
+        answer
     }
 
     // A line leaves a bank, or is recalled for that.
-    fn evict_bank(&mut self, bank: u32, line: LineNo) -> Result<Answer, AllocError>
+    fn evict_bank(&mut self, bank: u32, line: LineNo) -> Answer
         requires { Invariant self.old }
-        ensures done { IfOk result (λ answer. (answer, self.new) ≡ evict_entry self.old bank line
-            (slice_get self.old.banks bank)) }
-        ensures refused { OnErr result (self.new ≡ self.old) }
-        ensures wanted { OnErr result
-            (TakesMemory self.old
-            (evict_entry self.old bank line (slice_get self.old.banks bank))) }
+        ensures { (result, self.new) ≡ evict_entry self.old bank line
+            (slice_get self.old.banks bank) }
     {
         let at = bank as usize;
         if at >= self.banks.len() {
-            return Ok(Answer::Refused(Refusal::NoSuch));
+            return Answer::Refused(Refusal::NoSuch);
         }
-        let answer = operations::evict_entry(&mut self.banks[at], &mut self.flight, line)?;
+        let answer = operations::evict_entry(&mut self.banks[at], &mut self.flight, line);
         stop(&mut self.is_stopped, &answer);
-        Ok(answer)
+        answer
     }
 
     // A message in flight is delivered.
@@ -123,6 +109,8 @@ impl MachineState {
         ensures wanted { OnErr result
             (TakesMemory self.old (deliver_message self.old number
             (at_number number self.old.mail.messages))) }
+        ensures store { OnErr result
+            (IsTrue (delivery_asks self.old (at_number number self.old.mail.messages))) }
     {
         let Some(message) = self.flight.look(number).copied() else {
             return Ok(Answer::Refused(Refusal::NoSuch));
@@ -150,6 +138,7 @@ impl MachineState {
         ensures wanted { OnErr result (TakesMemory self.old (deliver_core self.old number
             message.now core
             (slice_get self.old.cores core))) }
+        ensures sure { IsOk result }
     {
         let at = core as usize;
         if at >= self.cores.len() {
@@ -176,6 +165,7 @@ impl MachineState {
         ensures wanted { OnErr result (TakesMemory self.old (deliver_bank self.old number
             message.now bank
             (slice_get self.old.banks bank))) }
+        ensures sure { IsOk result }
     {
         let at = bank as usize;
         if at >= self.banks.len() {
@@ -202,6 +192,8 @@ impl MachineState {
         ensures wanted { OnErr result (TakesMemory self.old (deliver_dram self.old number
             message.now bank
             (slice_get self.old.drams bank))) }
+        ensures store { OnErr result
+            (IsTrue (is_first_store (slice_get self.old.drams bank) message.now)) }
     {
         let at = bank as usize;
         if at >= self.drams.len() {
@@ -212,29 +204,36 @@ impl MachineState {
         Ok(answer)
     }
 
+    // What the table answers to an event, if there is memory for it.
+    fn answer(&mut self, event: Event) -> Result<Answer, AllocError>
+        requires { Invariant self.old }
+        ensures done { IfOk result (λ answer. (answer, self.new) ≡ transition self.old event) }
+        ensures refused { OnErr result (self.new ≡ self.old) }
+        ensures wanted { OnErr result (TakesMemory self.old (transition self.old event)) }
+        ensures memory { OnErr result (IsTrue (asks_memory self.old event)) }
+    {
+        if self.is_stopped {
+            return Ok(Answer::Refused(Refusal::Stopped));
+        }
+        match event {
+            Event::Issue(core, op) => self.issue(core, op),
+            Event::Attempt(core) => Ok(self.attempt(core)),
+            Event::Deliver(number) => self.deliver(number),
+            Event::EvictCache(core, line) => Ok(self.evict_cache(core, line)),
+            Event::EvictBank(bank, line) => Ok(self.evict_bank(bank, line)),
+            Event::Advance(core) => Ok(self.advance(core)),
+        }
+    }
+
     /// One event. The answer and the machine afterwards are those of the machine's table, or, where the table issues an
-    /// operation or sends a message, the answer is NoMemory and the machine is as it was.
+    /// operation, or answers a DRAM's first store of a line, the answer is NoMemory and the machine is as it was.
     pub(crate) fn step(&mut self, event: Event) -> Answer
         requires { Invariant self.old }
         ensures stepped { Stepped self.old event result self.new }
-        ensures advanced { (core : ℕ) → event ≡ Event.Advance core →
-            result ≢ Answer.Refused Refusal.NoMemory }
-        ensures completed { (c : ℕ) → event ≡ Event.Attempt c →
-            IfSome (slice_get self.old.cores c) (λ core. IsTrue (completes core) →
-            result ≢ Answer.Refused Refusal.NoMemory) }
+        ensures memory { result ≡ Answer.Refused Refusal.NoMemory →
+            IsTrue (asks_memory self.old event) }
     {
-        if self.is_stopped {
-            return Answer::Refused(Refusal::Stopped);
-        }
-        let answer = match event {
-            Event::Issue(core, op) => self.issue(core, op),
-            Event::Attempt(core) => self.attempt(core),
-            Event::Deliver(number) => self.deliver(number),
-            Event::EvictCache(core, line) => self.evict_cache(core, line),
-            Event::EvictBank(bank, line) => self.evict_bank(bank, line),
-            Event::Advance(core) => Ok(self.advance(core)),
-        };
-        match answer {
+        match self.answer(event) {
             Ok(answer) => answer,
             Err(AllocError) => Answer::Refused(Refusal::NoMemory),
         }

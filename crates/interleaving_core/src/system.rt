@@ -17,7 +17,7 @@ ghost use Rattle.machine_theorem.specs.Kept.{Invariant};
 ghost use Rattle.interleaving_core.specs.LookUps.{copies, entries, free_copies, make_room, open_op, victim};
 ghost use Rattle.interleaving_core.specs.Reservation.{completes};
 ghost use Rattle.interleaving_core.specs.Midway.{IsMidway};
-ghost use Rattle.interleaving_core.specs.StepAnswers.{Stepped, Ran};
+ghost use Rattle.interleaving_core.specs.StepAnswers.{Stepped, Ran, asks_memory};
 ghost use Rattle.interleaving_core.specs.OpenNumbers.{number_of};
 
 use crate::machine_state::MachineState;
@@ -95,9 +95,9 @@ impl System {
     }
 
     /// One event. The answer and the machine afterwards are those of the machine's table; or allocation failed, the
-    /// answer is NoMemory, and the machine is unchanged. That comes only if the table issues an operation or sends a
-    /// message: nothing else takes memory. A message in flight always finds its part, with a case for it: its
-    /// delivery is never answered NoSuch.
+    /// answer is NoMemory, and the machine is unchanged. That comes only if the table issues an operation, or a DRAM's
+    /// first store of a line is delivered to it: nothing else takes memory. A message in flight always finds its part,
+    /// with a case for it: its delivery is never answered NoSuch.
     pub fn step(&mut self, event: Event) -> Answer
         ensures stepped { Stepped self.old event result self.new }
         ensures set_up { SetUpAs self.old self.new }
@@ -106,6 +106,8 @@ impl System {
         ensures completed { (core : ℕ) → event ≡ Event.Attempt core →
             IfSome (slice_get self.old.cores core) (λ c. IsTrue (completes c) →
             result ≢ Answer.Refused Refusal.NoMemory) }
+        ensures memory { result ≡ Answer.Refused Refusal.NoMemory →
+            IsTrue (asks_memory self.old event) }
         ensures found { (number : ℕ) → event ≡ Event.Deliver number → IsSome (at_number number
             self.old.mail.messages) →
             result ≢ Answer.Refused Refusal.NoSuch }

@@ -1,5 +1,5 @@
 -- What the index of a line in its set says of the definitions by recursion.
-use Rattle.std.proofs.Common.{◌≡◌, ℕ, zero, suc, ◌+◌, Bool, true, false, cond, eqb, List, [], ◌∷◌}
+use Rattle.std.proofs.Common.{◌≡◌, ℕ, zero, suc, ◌+◌, ◌<◌, length, Bool, true, false, cond, eqb, List, [], ◌∷◌}
 use Rattle.std.proofs.Common.{get_or, Option, Some, None, refl, sym, ap, ◌∙◌, arith, position}
 use Rattle.std.specs.Option.{is_some}
 use Rattle.std.specs.List.{position_from, remove}
@@ -92,17 +92,11 @@ first-without (p ∷ ps) line (suc at) once h =
     ∙ ap (λ qs. p ∷ qs) (first-without ps line at once.1 h.1)
 
 -- the index in a list that is seen under another name
-pub index-seen :
-    {X : Type 0} (ps qs : List (ℕ × X)) (line : ℕ) (r : Option ℕ) → qs ≡ ps →
-    r ≡ position (λ (p : ℕ × X). eqb p.0 line) qs → IsIndexOf ps line r
-index-seen {X} ps qs line r same e =
-    index-of ps line r (e ∙ ap (λ (us : List (ℕ × X)). position (λ (p : ℕ × X). eqb p.0 line) us) same)
-
--- what is known of a removed pair
-pub found-removed :
-    {X : Type 0} (ps : List (ℕ × X)) (line at : ℕ) (p : ℕ × X) → IsFirstAt ps line at → p ≡ get_or ps at p →
-    Some p.1 ≡ find ps line
-found-removed {X} ps line at p h e = ap (λ (q : ℕ × X). Some q.1) e ∙ sym (first-find ps line at p h)
+-- the index is one of the list's
+pub first-below : {X : Type 0} (ps : List (ℕ × X)) (line at : ℕ) → IsFirstAt ps line at → at < length ps
+first-below [] line at h = absurd h
+first-below (p ∷ ps) line zero h = omega arith
+first-below (p ∷ ps) line (suc at) h = (let low = first-below ps line at h.1 in omega arith)
 
 pub removed :
     {X : Type 0} (ps qs : List (ℕ × X)) (line at : ℕ) → IsDistinct ps → IsFirstAt ps line at → qs ≡ remove ps at →

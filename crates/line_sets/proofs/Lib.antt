@@ -4,6 +4,7 @@ mod Indices
 mod OrderLaws
 mod RisenLists
 mod RowLaws
+mod ShiftedPairs
 mod StoredSets
 mod TableLaws
 mod TaggedCells

@@ -2,110 +2,101 @@
 use Rattle.std.proofs.Common.{◌≡◌, ◌≢◌, ℕ, zero, suc, ◌+◌, ◌<◌, ◌≤◌, List, [], ◌∷◌, ◌++◌, length, get_or, set, map}
 use Rattle.std.proofs.Common.{Option, Some, None, refl, sym, ap, ◌∙◌, arith, ⊎_elim, length-set}
 use Rattle.std.proofs.Common.{get_or-set_same, get_or-set_other, replicate}
-use Rattle.std.proofs.lemmas.List.{get_or-map, length-map, map-set, ext_get_or, length_push, get_or_push, map_push}
+use Rattle.std.proofs.lemmas.List.{get_or-map, length-map, ext_get_or, length_push, get_or_push}
 use Rattle.std.proofs.lemmas.List.{get_or_append_left, get_or_read, length-replicate}
 use Rattle.std.proofs.lemmas.Bool.{cases_eq}
-use Rattle.arrayvec.specs.ArrayVec.{ArrayVec}
 use Rattle.line_sets.specs.SetTable.{set_at}
-use Rattle.line_sets.specs.RowPlaces.{items_of, row_at, rows_of, count_none, IsSpread}
+use Rattle.line_sets.specs.RowPlaces.{row_at, rows_of, count_none, IsSpread}
 
 same-some : {Y : Type 0} (x y : Y) → Some x ≡ Some y → x ≡ y
 same-some x y e = cc
 
 -- the row of a set
 pub row-of :
-    (places : List (Option ℕ)) (rows : List (ArrayVec (ℕ × ℕ))) (i : ℕ) → i < length (rows_of places rows) →
-    set_at (rows_of places rows) i ≡ row_at (items_of rows) (get_or places i None)
+    (places : List (Option ℕ)) (rows : List (List (ℕ × ℕ))) (i : ℕ) → i < length (rows_of places rows) →
+    set_at (rows_of places rows) i ≡ row_at rows (get_or places i None)
 row-of places rows i h =
-    get_or-map (row_at (items_of rows)) places i None []
-    (omega (arith, length-map places (row_at (items_of rows))))
+    get_or-map (row_at rows) places i None []
+    (omega (arith, length-map places (row_at rows)))
 
 pub below-of :
-    (places : List (Option ℕ)) (rows : List (ArrayVec (ℕ × ℕ))) (i : ℕ) → i < length (rows_of places rows) →
+    (places : List (Option ℕ)) (rows : List (List (ℕ × ℕ))) (i : ℕ) → i < length (rows_of places rows) →
     i < length places
-below-of places rows i h = omega (arith, length-map places (row_at (items_of rows)))
+below-of places rows i h = omega (arith, length-map places (row_at rows))
 
 pub row-kept :
-    (rows : List (ArrayVec (ℕ × ℕ))) (k : ℕ) (v : ArrayVec (ℕ × ℕ)) → k < length rows → v ≡ get_or rows k v →
-    v.items ≡ get_or (items_of rows) k []
+    (rows : List (List (ℕ × ℕ))) (k : ℕ) (v : List (ℕ × ℕ)) → k < length rows → v ≡ get_or rows k v →
+    v ≡ get_or rows k []
 row-kept rows k v h e =
-    ap (λ (u : ArrayVec (ℕ × ℕ)). u.items) e ∙ sym (get_or-map (λ (u : ArrayVec (ℕ × ℕ)). u.items) rows k v [] h)
+    get_or_read rows k v h e []
 
 -- a row that is written, seen from a place
 seen-written :
-    (rows : List (ArrayVec (ℕ × ℕ))) (k : ℕ) (w : ArrayVec (ℕ × ℕ)) (o : Option ℕ) → (o ≡ Some k → ⊥) →
-    row_at (items_of (set rows k w)) o ≡ row_at (items_of rows) o
+    (rows : List (List (ℕ × ℕ))) (k : ℕ) (w : List (ℕ × ℕ)) (o : Option ℕ) → (o ≡ Some k → ⊥) →
+    row_at (set rows k w) o ≡ row_at rows o
 seen-written rows k w None ne = refl
 seen-written rows k w (Some m) ne =
-    ap (λ (us : List (List (ℕ × ℕ))). get_or us m []) (map-set (λ (u : ArrayVec (ℕ × ℕ)). u.items) rows k w)
-    ∙ get_or-set_other (items_of rows) k m w.items [] (λ e. ne (ap Some e))
+    get_or-set_other rows k m w [] (λ e. ne (ap Some e))
 
 pub rows-written :
-    (places : List (Option ℕ)) (rows : List (ArrayVec (ℕ × ℕ))) (capacity i k : ℕ) (w : ArrayVec (ℕ × ℕ)) →
+    (places : List (Option ℕ)) (rows : List (List (ℕ × ℕ))) (capacity i k : ℕ) (w : List (ℕ × ℕ)) →
     IsSpread places rows capacity → i < length places → get_or places i None ≡ Some k →
-    rows_of places (set rows k w) ≡ set (rows_of places rows) i w.items
+    rows_of places (set rows k w) ≡ set (rows_of places rows) i w
 rows-written places rows capacity i k w spread h at =
-    let f : Option ℕ → List (ℕ × ℕ) = row_at (items_of rows) in
-    let g : Option ℕ → List (ℕ × ℕ) = row_at (items_of (set rows k w)) in
+    let f : Option ℕ → List (ℕ × ℕ) = row_at rows in
+    let g : Option ℕ → List (ℕ × ℕ) = row_at (set rows k w) in
     let long : length (rows_of places rows) ≡ length places = length-map places f in
-    ext_get_or [] (map g places) (set (map f places) i w.items)
-    (length-map places g ∙ sym long ∙ sym (length-set (map f places) i w.items))
+    ext_get_or [] (map g places) (set (map f places) i w)
+    (length-map places g ∙ sym long ∙ sym (length-set (map f places) i w))
     (λ j lt.
     let jl : j < length places = omega (arith, length-map places g) in
     get_or-map g places j None [] jl ∙
     ⊎_elim
     (λ (e : j ≡ i).
     ap (λ m. g (get_or places m None)) e ∙ ap g at
-    ∙ ap (λ (us : List (List (ℕ × ℕ))). get_or us k []) (map-set (λ (u : ArrayVec (ℕ × ℕ)). u.items) rows k w)
-    ∙ get_or-set_same (items_of rows) k w.items []
-    (let b = spread.below i k at in omega (arith, length-map rows (λ (u : ArrayVec (ℕ × ℕ)). u.items)))
-    ∙ sym (ap (λ m. get_or (set (map f places) i w.items) m []) e
-    ∙ get_or-set_same (map f places) i w.items [] (omega (arith, long))))
+    ∙ get_or-set_same rows k w [] (spread.below i k at)
+    ∙ sym (ap (λ m. get_or (set (map f places) i w) m []) e
+    ∙ get_or-set_same (map f places) i w [] (omega (arith, long))))
     (λ (ne : j ≡ i → ⊥).
     seen-written rows k w (get_or places j None) (λ e. ne (spread.own j i k e at))
     ∙ sym (get_or-map f places j None [] jl)
-    ∙ sym (get_or-set_other (map f places) i j w.items [] ne))
+    ∙ sym (get_or-set_other (map f places) i j w [] ne))
     (cases_eq j i))
 
 -- a set gets a row of its own
 seen-new :
-    (rows : List (ArrayVec (ℕ × ℕ))) (w : ArrayVec (ℕ × ℕ)) (o : Option ℕ) →
-    ((m : ℕ) → o ≡ Some m → m < length rows) → row_at (items_of (rows ++ w ∷ [])) o ≡ row_at (items_of rows) o
+    (rows : List (List (ℕ × ℕ))) (w : List (ℕ × ℕ)) (o : Option ℕ) →
+    ((m : ℕ) → o ≡ Some m → m < length rows) → row_at (rows ++ w ∷ []) o ≡ row_at rows o
 seen-new rows w None below = refl
 seen-new rows w (Some m) below =
-    let f : ArrayVec (ℕ × ℕ) → List (ℕ × ℕ) = λ u. u.items in
-    let b : m < length rows = below m refl in
-    ap (λ (us : List (List (ℕ × ℕ))). get_or us m []) (map_push f rows w)
-    ∙ get_or_append_left (items_of rows) (w.items ∷ []) [] m (omega (arith, length-map rows f))
+    get_or_append_left rows (w ∷ []) [] m (below m refl)
 
 pub rows-more :
-    (places : List (Option ℕ)) (rows : List (ArrayVec (ℕ × ℕ))) (capacity i n : ℕ) (w : ArrayVec (ℕ × ℕ)) →
+    (places : List (Option ℕ)) (rows : List (List (ℕ × ℕ))) (capacity i n : ℕ) (w : List (ℕ × ℕ)) →
     IsSpread places rows capacity → i < length places → n ≡ length rows →
-    rows_of (set places i (Some n)) (rows ++ w ∷ []) ≡ set (rows_of places rows) i w.items
+    rows_of (set places i (Some n)) (rows ++ w ∷ []) ≡ set (rows_of places rows) i w
 rows-more places rows capacity i n w spread h is =
-    let item : ArrayVec (ℕ × ℕ) → List (ℕ × ℕ) = λ u. u.items in
-    let f : Option ℕ → List (ℕ × ℕ) = row_at (items_of rows) in
-    let g : Option ℕ → List (ℕ × ℕ) = row_at (items_of (rows ++ w ∷ [])) in
+    let f : Option ℕ → List (ℕ × ℕ) = row_at rows in
+    let g : Option ℕ → List (ℕ × ℕ) = row_at (rows ++ w ∷ []) in
     let more : List (Option ℕ) = set places i (Some n) in
     let same : length more ≡ length places = length-set places i (Some n) in
     let long : length (rows_of places rows) ≡ length places = length-map places f in
-    ext_get_or [] (map g more) (set (map f places) i w.items)
-    (length-map more g ∙ same ∙ sym long ∙ sym (length-set (map f places) i w.items))
+    ext_get_or [] (map g more) (set (map f places) i w)
+    (length-map more g ∙ same ∙ sym long ∙ sym (length-set (map f places) i w))
     (λ j lt.
     let jl : j < length places = omega (arith, length-map more g, same) in
     get_or-map g more j None [] (omega (arith, same)) ∙
     ⊎_elim
     (λ (e : j ≡ i).
     ap (λ m. g (get_or more m None)) e ∙ ap g (get_or-set_same places i (Some n) None h)
-    ∙ ap (λ (us : List (List (ℕ × ℕ))). get_or us n []) (map_push item rows w)
-    ∙ get_or_push (items_of rows) w.items [] n (length-map rows item ∙ sym is)
-    ∙ sym (ap (λ m. get_or (set (map f places) i w.items) m []) e
-    ∙ get_or-set_same (map f places) i w.items [] (omega (arith, long))))
+    ∙ get_or_push rows w [] n (sym is)
+    ∙ sym (ap (λ m. get_or (set (map f places) i w) m []) e
+    ∙ get_or-set_same (map f places) i w [] (omega (arith, long))))
     (λ (ne : j ≡ i → ⊥).
     ap g (get_or-set_other places i j (Some n) None ne)
     ∙ seen-new rows w (get_or places j None) (λ m e. spread.below j m e)
     ∙ sym (get_or-map f places j None [] jl)
-    ∙ sym (get_or-set_other (map f places) i j w.items [] ne))
+    ∙ sym (get_or-set_other (map f places) i j w [] ne))
     (cases_eq j i))
 
 -- a set that gets its row is one fewer without
@@ -119,13 +110,13 @@ count-fewer (None ∷ places) (suc i) n h e = omega (arith, count-fewer places i
 count-fewer (Some k ∷ places) (suc i) n h e = count-fewer places i n (omega arith) e
 
 pub room-for :
-    (places : List (Option ℕ)) (rows : List (ArrayVec (ℕ × ℕ))) (capacity i : ℕ) →
+    (places : List (Option ℕ)) (rows : List (List (ℕ × ℕ))) (capacity i : ℕ) →
     IsSpread places rows capacity → i < length places → get_or places i None ≡ None → length rows < capacity
 room-for places rows capacity i spread h e =
     let fewer = count-fewer places i 0 h e in let c = spread.counted in let r = spread.room in omega arith
 
 pub spread-more :
-    (places : List (Option ℕ)) (rows : List (ArrayVec (ℕ × ℕ))) (capacity i n : ℕ) (w : ArrayVec (ℕ × ℕ)) →
+    (places : List (Option ℕ)) (rows : List (List (ℕ × ℕ))) (capacity i n : ℕ) (w : List (ℕ × ℕ)) →
     IsSpread places rows capacity → i < length places → get_or places i None ≡ None → n ≡ length rows →
     IsSpread (set places i (Some n)) (rows ++ w ∷ []) capacity
 spread-more places rows capacity i n w spread h none is =
@@ -170,25 +161,25 @@ no-place (Some k) h = absurd (h k refl)
 
 -- a set without a row
 pub row-none :
-    (places : List (Option ℕ)) (rows : List (ArrayVec (ℕ × ℕ))) (i : ℕ) → i < length (rows_of places rows) →
+    (places : List (Option ℕ)) (rows : List (List (ℕ × ℕ))) (i : ℕ) → i < length (rows_of places rows) →
     get_or places i None ≡ None → set_at (rows_of places rows) i ≡ []
-row-none places rows i h e = row-of places rows i h ∙ ap (row_at (items_of rows)) e
+row-none places rows i h e = row-of places rows i h ∙ ap (row_at rows) e
 
 -- a set with a row
 pub row-some :
-    (places : List (Option ℕ)) (rows : List (ArrayVec (ℕ × ℕ))) (i k : ℕ) (v : ArrayVec (ℕ × ℕ)) →
+    (places : List (Option ℕ)) (rows : List (List (ℕ × ℕ))) (i k : ℕ) (v : List (ℕ × ℕ)) →
     i < length (rows_of places rows) → get_or places i None ≡ Some k → k < length rows → v ≡ get_or rows k v →
-    set_at (rows_of places rows) i ≡ v.items
+    set_at (rows_of places rows) i ≡ v
 row-some places rows i k v h e low read =
-    row-of places rows i h ∙ ap (row_at (items_of rows)) e ∙ sym (row-kept rows k v low read)
+    row-of places rows i h ∙ ap (row_at rows) e ∙ sym (row-kept rows k v low read)
 
 -- no set has a row
-rows-none : (n : ℕ) (rows : List (ArrayVec (ℕ × ℕ))) → rows_of (replicate n None) rows ≡ replicate n []
+rows-none : (n : ℕ) (rows : List (List (ℕ × ℕ))) → rows_of (replicate n None) rows ≡ replicate n []
 rows-none zero rows = refl
 rows-none (suc n) rows = ap (λ (us : List (List (ℕ × ℕ))). [] ∷ us) (rows-none n rows)
 
 pub rows-empty :
-    (n : ℕ) (places : List (Option ℕ)) (rows : List (ArrayVec (ℕ × ℕ))) → places ≡ replicate n None →
+    (n : ℕ) (places : List (Option ℕ)) (rows : List (List (ℕ × ℕ))) → places ≡ replicate n None →
     rows_of places rows ≡ replicate n []
 rows-empty n places rows e = ap (λ ps. rows_of ps rows) e ∙ rows-none n rows
 
@@ -202,7 +193,7 @@ all-none zero = refl
 all-none (suc n) = omega (arith, all-none n)
 
 pub spread-empty :
-    (n : ℕ) (places : List (Option ℕ)) (rows : List (ArrayVec (ℕ × ℕ))) (capacity : ℕ) →
+    (n : ℕ) (places : List (Option ℕ)) (rows : List (List (ℕ × ℕ))) (capacity : ℕ) →
     places ≡ replicate n None → rows ≡ [] → n ≤ capacity → n ≤ 1048576 → IsSpread places rows capacity
 spread-empty n places rows capacity e f room small =
     let nowhere : (i k : ℕ) → get_or places i None ≡ Some k → ⊥ = λ i k h.

@@ -1,10 +1,5 @@
 -- How rows are stored: each set that had a line has a row of its own, by its number.
 use Rattle.std.specs.Prelude.{◌≡◌, ℕ, suc, ◌+◌, ◌<◌, ◌≤◌, List, [], ◌∷◌, length, map, get_or, Option, Some, None}
-use Rattle.arrayvec.specs.ArrayVec.{ArrayVec}
-
--- the lines and cells of each row
-abbrev pub items_of : List (ArrayVec (ℕ × ℕ)) → List (List (ℕ × ℕ))
-items_of rows = map (λ row. row.items) rows
 
 -- the row of a set, empty if it has none
 abbrev pub row_at : List (List (ℕ × ℕ)) → Option ℕ → List (ℕ × ℕ)
@@ -12,8 +7,8 @@ row_at rows None = []
 row_at rows (Some k) = get_or rows k []
 
 -- the row of each set
-abbrev pub rows_of : List (Option ℕ) → List (ArrayVec (ℕ × ℕ)) → List (List (ℕ × ℕ))
-rows_of places rows = map (row_at (items_of rows)) places
+abbrev pub rows_of : List (Option ℕ) → List (List (ℕ × ℕ)) → List (List (ℕ × ℕ))
+rows_of places rows = map (row_at rows) places
 
 -- how many sets have no row
 abbrev pub count_none : List (Option ℕ) → ℕ
@@ -22,7 +17,7 @@ count_none (None ∷ places) = suc (count_none places)
 count_none (Some k ∷ places) = count_none places
 
 -- no two sets have one row, and there is room for the rows of the others
-pub record IsSpread (places : List (Option ℕ)) (rows : List (ArrayVec (ℕ × ℕ))) (capacity : ℕ) : Type 0 where
+pub record IsSpread (places : List (Option ℕ)) (rows : List (List (ℕ × ℕ))) (capacity : ℕ) : Type 0 where
   pub below : (i k : ℕ) → get_or places i None ≡ Some k → k < length rows
   pub own : (i j k : ℕ) → get_or places i None ≡ Some k → get_or places j None ≡ Some k → i ≡ j
   pub counted : length rows + count_none places ≡ length places

@@ -1,15 +1,25 @@
 //! One row: lines, each with the cell where it is kept.
-ghost use Rattle.std.specs.Prelude.{◌≡◌, ◌==◌, length, position, ℕ};
-ghost use Rattle.std.specs.Option.{option_copied};
+ghost use Rattle.std.specs.Prelude.{◌≡◌, ◌==◌, ◌<◌, ◌≤◌, ◌++◌, ◌∷◌, [], length, position, remove, take, ℕ, ◌-◌};
 ghost use Rattle.line_sets.specs.Order.{find, without, IsDistinct};
 
-use arrayvec::ArrayVec;
+use std::marker::Model;
 
-/// The most lines in a row.
-pub(crate) const MOST_WAYS: usize = 16;
+/// Lines with their cells, 16 at most. How many there are stands beside the first of them. Contracts see the list.
+#[derive(Drop)]
+pub struct Row {
+    count: u32,
+    entries: [(u64, u32); 16],
+}
 
-/// Lines with their cells.
-pub(crate) type Row = ArrayVec<(u64, u32), 16>;
+impl Model for Row {
+    ghost use Rattle.std.specs.Prelude.{◌≤◌, List, ℕ, take};
+
+    ghost Value = { List (ℕ × ℕ) };
+
+    ghost view = { λ row. take row.count row.entries };
+
+    ghost invariant = { λ row. row.count ≤ 16 };
+}
 
 /// The index of a line.
 fn index_of(entries: &[(u64, u32)], line: u64) -> Option<usize>
@@ -19,7 +29,7 @@ fn index_of(entries: &[(u64, u32)], line: u64) -> Option<usize>
 }
 
 /// The cell of a line.
-pub(crate) fn find_cell(entries: &[(u64, u32)], line: u64) -> Option<u32>
+fn find_cell(entries: &[(u64, u32)], line: u64) -> Option<u32>
     ensures { result ≡ find entries.now line }
 {
     match index_of(entries, line) {
@@ -28,15 +38,59 @@ pub(crate) fn find_cell(entries: &[(u64, u32)], line: u64) -> Option<u32>
     }
 }
 
-/// Takes a line out, if it is there, and gives its cell.
-pub(crate) fn take_line(row: &mut Row, line: u64) -> Option<u32>
-    requires { IsDistinct row.old.items }
-    ensures value { result ≡ find row.old.items line }
-    ensures items { row.new.items ≡ without row.old.items line }
+/// Moves the pairs after an index, of so many, down by one.
+fn move_down(entries: &mut [(u64, u32)], count: usize, at: usize)
+    requires index { at < count }
+    requires within { count ≤ length entries.old }
+    ensures { take (count - 1) entries.new ≡ remove (take count entries.old) at }
 {
-    let Some(at) = index_of(row, line) else {
-        return None;
-    };
-    let (_line, cell) = row.remove(at);
-    Some(cell)
+    let mut to = at;
+    while to + 1 < count {
+        entries[to] = entries[to + 1];
+        to += 1;
+    }
+}
+
+impl Row {
+    /// No lines.
+    pub(crate) fn new() -> Row
+        ensures { result ≡ [] }
+    {
+        Row {
+            count: 0,
+            entries: [(0, 0); 16],
+        }
+    }
+
+    /// The cell of a line.
+    pub(crate) fn find(&self, line: u64) -> Option<u32>
+        ensures { result ≡ find self.now line }
+    {
+        find_cell(&self.entries[..self.count as usize], line)
+    }
+
+    /// Puts a line with its cell at the end.
+    pub(crate) fn push(&mut self, line: u64, cell: u32)
+        requires { length self.old < 16 }
+        ensures { self.new ≡ self.old ++ (line, cell) ∷ [] }
+    {
+        self.entries[self.count as usize] = (line, cell);
+        self.count += 1;
+    }
+
+    /// Takes a line out, if it is there, and gives its cell.
+    pub(crate) fn take(&mut self, line: u64) -> Option<u32>
+        requires { IsDistinct self.old }
+        ensures value { result ≡ find self.old line }
+        ensures items { self.new ≡ without self.old line }
+    {
+        let count = self.count as usize;
+        let Some(at) = index_of(&self.entries[..count], line) else {
+            return None;
+        };
+        let cell = self.entries[at].1;
+        move_down(&mut self.entries, count, at);
+        self.count -= 1;
+        Some(cell)
+    }
 }

@@ -3,7 +3,7 @@ ghost use Rattle.std.specs.Prelude.{◌≡◌, ◌<◌, ◌≤◌, [], ◌∷◌
 ghost use Rattle.line_sets.specs.Order.{find, without, IsDistinct};
 ghost use Rattle.line_sets.specs.SetTable.{set_at};
 
-use crate::entries::{Row, find_cell, take_line};
+use crate::entries::Row;
 use std::alloc::{AllocError, Global};
 use std::marker::Model;
 
@@ -53,7 +53,7 @@ impl Rows {
     {
         match self.places[set] {
             None => None,
-            Some(place) => find_cell(&self.rows[place as usize], line),
+            Some(place) => self.rows[place as usize].find(line),
         }
     }
 
@@ -66,12 +66,12 @@ impl Rows {
         let Some(place) = self.places[set] else {
             let place = self.rows.len() as u32;
             let mut row = Row::new();
-            row.push((line, cell));
+            row.push(line, cell);
             self.rows.push_reserved(row);
             self.places[set] = Some(place);
             return;
         };
-        self.rows[place as usize].push((line, cell));
+        self.rows[place as usize].push(line, cell);
     }
 
     /// Takes a line out of the row of its set, if it is there, and gives its cell.
@@ -84,6 +84,6 @@ impl Rows {
         let Some(place) = self.places[set] else {
             return None;
         };
-        take_line(&mut self.rows[place as usize], line)
+        self.rows[place as usize].take(line)
     }
 }

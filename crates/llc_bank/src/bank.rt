@@ -1,6 +1,6 @@
 //! A bank of the shared cache, whose memory is all taken when it is made.
 ghost use Rattle.std.specs.Prelude.{◌≡◌, ◌≢◌, ◌≤◌, ◌<◌, length, IfOk, IfSome, IsOk, IsPermutation, IsSorted, IsSome};
-ghost use Rattle.std.specs.Prelude.{IsTrue, is_some, slice_get, Err, None, OnErr, Some};
+ghost use Rattle.std.specs.Prelude.{IsTrue, false, is_some, slice_get, Err, None, OnErr, Some};
 ghost use Rattle.std.specs.Ordering.{nat_cmp};
 ghost use Rattle.std.specs.Option.{option_copied};
 ghost use Rattle.line_sets.specs.Geometry.{IsGeometry};
@@ -17,7 +17,7 @@ use crate::decision::{Decision, Eviction, decide, decide_eviction};
 use crate::entry::{Entry, Evict, EvictError};
 use dram_mts::MemoryTime;
 use line_sets::LineSets;
-use network::{Body, LineNo, Message, Node, Part, PartError, Reaction};
+use network::{Body, LineNo, Message, Node, Part, PartError, Reaction, quotient, remainder};
 use std::alloc::{AllocError, Global};
 use std::marker::Model;
 
@@ -83,7 +83,10 @@ impl Bank {
         ensures set { result ≡ set_of self.now line }
         ensures below { result < length self.now.table.sets }
     {
-        (line.0 / self.banks as u64 % self.table.sets() as u64) as usize
+        remainder(
+            quotient(line.0, self.banks as u64),
+            self.table.sets() as u64,
+        ) as usize
     }
 
     /// What the bank keeps of a line, `None` if it does not have it.
@@ -273,6 +276,8 @@ impl Part for Bank {
     ghost has_case = { bank_has_case };
 
     ghost table = { bank_table };
+
+    ghost takes_memory = { λ _ _. false };
 
     fn sends(&self, message: &Message) -> Option<(Node, bool)> {
         match self.decided(message) {

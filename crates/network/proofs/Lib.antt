@@ -1,3 +1,4 @@
+mod Powers
 mod FlightLaws
 mod SlotInvariants
 mod RisingLists

@@ -14,8 +14,8 @@ use crate::criteria::Wanted;
 use crate::message::{Message, Node};
 use crate::numbers::{LineNo, MsgNo};
 use crate::slots::{
-    Slot, count_wanted, drop_empty, first_wanted, message_of, nth_number, numbers_of, reserve_slot,
-    take_message,
+    Slot, count_wanted, drop_empty, first_wanted, message_of, nth_number, numbers_of, take_message,
+    with_room,
 };
 use std::alloc::{AllocError, Global};
 use std::marker::Model;
@@ -58,7 +58,7 @@ pub struct InFlight {
 }
 
 impl Model for InFlight {
-    ghost use Rattle.std.specs.Prelude.{◌-◌, length, vec_capacity, vec_len};
+    ghost use Rattle.std.specs.Prelude.{◌+◌, ◌-◌, ◌*◌, ◌≤◌, length, vec_capacity, vec_len};
     ghost use Rattle.network.specs.Flight.{Flight, IsKept};
     ghost use Rattle.network.specs.NumberedMessages.{still_there};
 
@@ -66,33 +66,35 @@ impl Model for InFlight {
 
     ghost view = { λ a. record { cores = a.cores; banks = a.banks; capacity = a.capacity; slots = length a.slots.items; reserved = vec_capacity a.slots - vec_len a.slots; mail = record { messages = still_there a.slots.items; next = a.next; counts = a.counts } } };
 
-    ghost invariant = { λ a. IsKept a.cores a.banks a.capacity a.next a.count a.counts a.slots.items };
+    // There is memory for every slot that may be kept, and for one more.
+    ghost invariant = { λ a. IsKept a.cores a.banks a.capacity a.next a.count a.counts a.slots.items × (2 * a.capacity + 2 ≤ vec_capacity a.slots) };
 }
 
 impl InFlight {
     /// No message in flight, for a machine with 1 to 64 cores and 1 to 8 banks. At most `capacity`, 1 to 65,536, may be
-    /// in flight at once.
-    pub fn new(alloc: Global, cores: u32, banks: u32, capacity: u32) -> InFlight
+    /// in flight at once. All memory is taken here, for all of them, and none of it is written.
+    pub fn new(alloc: Global, cores: u32, banks: u32, capacity: u32) -> Result<InFlight, AllocError>
         requires { IsInRange cores banks capacity }
-        ensures { result ≡ record {
+        ensures { IfOk result (λ flight. flight ≡ record {
           cores = cores;
           banks = banks;
           capacity = capacity;
           slots =
               0;
-          reserved = result.reserved;
+          reserved = flight.reserved;
           mail = no_mail;
-        } }
+        }) }
     {
-        InFlight {
+        let slots = with_room(alloc, capacity)?;
+        Ok(InFlight {
             cores,
             banks,
             capacity,
             next: 0,
             count: 0,
             counts: Counts::zeros(),
-            slots: Vec::new(alloc),
-        }
+            slots,
+        })
     }
 
     /// Whether the numbers are not used up: the last one, 2^64 - 1, is given to no message.
@@ -119,19 +121,18 @@ impl InFlight {
         message_of(&self.slots, number.0)
     }
 
-    /// Reserves memory for one more message, so that the next `send` is not refused for memory.
+    /// Reserves memory for one more message: `new` took it, so there always is some.
     pub fn reserve(&mut self) -> Result<(), AllocError>
-        ensures after { self.new ≡ record self.old { reserved = self.new.reserved } }
-        ensures ok { OnOk result (0 < self.new.reserved) }
-        ensures reserved { self.old.reserved ≤ self.new.reserved }
-        ensures refused { OnErr result (self.new ≡ self.old) }
-        ensures had { 0 < self.old.reserved → IsOk result }
+        ensures after { self.new ≡ self.old }
+        ensures ok { 0 < self.new.reserved }
+        ensures sure { IsOk result }
     {
-        reserve_slot(&mut self.slots)
+        let _slots = &self.slots;
+        Ok(())
     }
 
     /// Sends a message, which has the endpoints of its kind: it gets the next number. Else the message is given back,
-    /// and nothing changes: Full goes before NoMemory.
+    /// and nothing changes. This takes no memory: NoMemory is never answered.
     pub fn send(&mut self, message: Message) -> Result<MsgNo, (SendError, Message)>
         requires { IsTrue (has_endpoints self.old.cores self.old.banks message) }
         ensures number { IfOk result (λ number. number ≡ self.old.mail.next) }
@@ -141,23 +142,20 @@ impl InFlight {
               self.new.reserved;
           mail = sent self.old.mail message;
         }) }
-        ensures reserved { OnOk result (self.old.reserved ≤ self.new.reserved + 1) }
+        ensures reserved { OnOk result (self.old.reserved ≡ self.new.reserved + 1) }
         ensures refused { OnErr result (self.new ≡ self.old) }
         ensures returned { IfErr result (λ refusal. refusal.1 ≡ message) }
         ensures full { has_capacity self.old.capacity self.old.mail ≡ false →
             result ≡ Err (SendError.Full, message) }
         ensures not_full { IfErr result (λ refusal. refusal.0 ≡ SendError.Full →
             has_capacity self.old.capacity self.old.mail ≡ false) }
-        ensures had { 0 < self.old.reserved → IfErr result (λ refusal. refusal.0 ≡ SendError.Full) }
+        ensures sure { IfErr result (λ refusal. refusal.0 ≡ SendError.Full) }
     {
         if self.count >= self.capacity {
             return Err((SendError::Full, message));
         }
         if self.next == u64::MAX {
             return Err((SendError::Full, message));
-        }
-        if reserve_slot(&mut self.slots).is_err() {
-            return Err((SendError::NoMemory, message));
         }
         let number = self.next;
         let counts = self.counts.with(&message.body);

@@ -4,6 +4,7 @@
 
 pub mod counts;
 mod criteria;
+pub mod division;
 pub mod endpoints;
 pub mod in_flight;
 pub mod laws;
@@ -14,6 +15,7 @@ mod slots;
 pub mod words;
 
 pub use counts::Counts;
+pub use division::{quotient, remainder};
 pub use endpoints::has_endpoints;
 pub use in_flight::{InFlight, SendError};
 pub use message::{Body, Message, Node, TimedLine};

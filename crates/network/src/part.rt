@@ -51,6 +51,9 @@ pub trait Part {
     /// The part's table: what it does with a message and what it is afterwards, or `None` where a sum does not fit.
     ghost table: { Self → Message → Option (Reaction × Self) };
 
+    /// Whether the part takes memory for the message.
+    ghost takes_memory: { Self → Message → Bool };
+
     /// The node that `deliver` would send a message to, and whether the delivered one stays in flight then; `None`
     /// where nothing would be sent.
     fn sends(&self, message: &Message) -> Option<(Node, bool)>
@@ -69,5 +72,7 @@ pub trait Part {
         ensures exhausted { result ≡ Err PartError.Exhausted → table self.old message.now ≡ None }
         ensures fits { table self.old message.now ≡ None → result ≡ Err PartError.Exhausted }
         ensures wanted { result ≡ Err PartError.NoMemory →
-            IsTrue (is_some (sent_by (table self.old message.now))) };
+            IsTrue (is_some (sent_by (table self.old message.now))) }
+        ensures memory { result ≡ Err PartError.NoMemory →
+            IsTrue (takes_memory self.old message.now) };
 }

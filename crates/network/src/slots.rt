@@ -1,6 +1,6 @@
 //! Slots of numbered messages in the order of sending, some of which are empty.
-ghost use Rattle.std.specs.Prelude.{◌≡◌, ◌+◌, ◌-◌, ◌*◌, ◌<◌, ◌≤◌, ◌^◌, ℕ, None, Some, IfSome, IfNone, IfOk, OnOk};
-ghost use Rattle.std.specs.Prelude.{OnErr, IsOk, option_copied, option_map, length, map, slice_get, vec_capacity};
+ghost use Rattle.std.specs.Prelude.{◌≡◌, ◌+◌, ◌*◌, ◌<◌, ◌≤◌, ◌^◌, [], ℕ, None, Some, IfSome, IfNone, IfOk};
+ghost use Rattle.std.specs.Prelude.{option_copied, option_map, length, map, slice_get, vec_capacity};
 ghost use Rattle.std.specs.Prelude.{vec_len};
 ghost use Rattle.network.specs.Requests.{is_wanted};
 ghost use Rattle.network.specs.Search.{first_message, count_messages, kept_if, with_message};
@@ -13,6 +13,15 @@ use std::alloc::{AllocError, Global};
 
 /// The number of a message, and the message until it is taken.
 pub(crate) type Slot = (u64, Option<Message>);
+
+/// No slots yet, and memory for all that may be kept where so many messages may be in flight, and for one more.
+pub(crate) fn with_room(alloc: Global, capacity: u32) -> Result<Vec<Slot>, AllocError>
+    requires { capacity ≤ 65536 }
+    ensures items { IfOk result (λ slots. slots.items ≡ []) }
+    ensures room { IfOk result (λ slots. 2 * capacity + 2 ≤ vec_capacity slots) }
+{
+    Vec::with_capacity(alloc, 2 * capacity as usize + 2)
+}
 
 /// The first index whose slot's number is not below `number`, found by halving.
 pub(crate) fn first_from(slots: &[Slot], number: u64) -> usize
@@ -124,8 +133,8 @@ pub(crate) fn drop_empty(slots: &mut Vec<Slot>, count: usize)
     ensures same { still_there slots.new.items ≡ still_there slots.old.items }
     ensures rising { (high : ℕ) → IsRising 0 slots.old.items high →
         IsRising 0 slots.new.items high }
-    ensures reserved { vec_capacity slots.old - vec_len slots.old ≤ vec_capacity
-        slots.new - vec_len slots.new }
+    ensures capacity { vec_capacity slots.new ≡ vec_capacity slots.old }
+    ensures len { vec_len slots.new ≤ vec_len slots.old }
 {
     if slots.len() / 2 > count {
         slots.retain(|slot| slot.1.is_some());
@@ -146,19 +155,6 @@ pub(crate) fn take_message(slots: &mut Vec<Slot>, number: u64) -> Option<Message
 {
     let at = slot_of(slots, number)?;
     empty_slot(slots, at, number)
-}
-
-/// Reserves memory for one more slot.
-pub(crate) fn reserve_slot(slots: &mut Vec<Slot>) -> Result<(), AllocError>
-    ensures items { slots.new.items ≡ slots.old.items }
-    ensures ok { OnOk result (vec_len slots.new < vec_capacity slots.new) }
-    ensures reserved { vec_capacity slots.old - vec_len slots.old ≤ vec_capacity
-        slots.new - vec_len slots.new }
-    ensures same { OnErr result (vec_capacity slots.new - vec_len slots.new ≡ vec_capacity
-        slots.old - vec_len slots.old) }
-    ensures had { 0 < vec_capacity slots.old - vec_len slots.old → IsOk result }
-{
-    slots.reserve(1)
 }
 
 /// The numbers of the slots that have their message, in their order.

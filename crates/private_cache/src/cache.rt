@@ -11,7 +11,7 @@ ghost use Rattle.private_cache.specs.FreeLines.{free_lines};
 
 use crate::line_copy::{CopyState, LineCopy};
 use line_sets::LineSets;
-use network::{LineNo, TimedLine};
+use network::{LineNo, TimedLine, remainder};
 use std::alloc::{AllocError, Global};
 use std::marker::Model;
 
@@ -90,7 +90,7 @@ impl Cache {
         ensures set { result ≡ set_of self.now line }
         ensures below { result < length self.now.sets }
     {
-        (line.0 % self.table.sets() as u64) as usize
+        remainder(line.0, self.table.sets() as u64) as usize
     }
 
     /// The copy of a line.

@@ -1,8 +1,9 @@
 use Rattle.std.specs.Result.{result_ok}
-use Rattle.std.proofs.Common.{◌≡◌, Some, IfOk, ap, sym, subst, refl, ◌∙◌}
+use Rattle.std.proofs.Common.{◌≡◌, Some, ap, sym, subst, refl, ◌∙◌}
 use Rattle.core_pts.specs.CoreTable.{CoreState}
 use Rattle.network.specs.Mail.{Mail}
 use Rattle.machine_table.specs.declared.event.Answer.{Answer}
+use Rattle.interleaving_core.specs.PartChanges.{requested}
 use Rattle.interleaving_core.proofs.ClosedOps.{attempt_requests, seen_beside}
 use Rattle.interleaving_core.proofs.operations.attempt.Goals as goal
 
@@ -12,8 +13,9 @@ returns-in-Ok-NeedShared-clause-done c =
     let is = sym c.attempt.ensures ∙ ap (λ r. (r, c.attempt.new.self)) (ap result_ok c.in-Ok-NeedShared.is
     ∙ ap Some c.in-Ok-NeedShared.field-0-is) in
     let kept = c.nothing_completed_keeps.ensures c.args.core.now c.attempt.new.self _ is refl in
-    subst (λ (x : Answer × CoreState × Mail). IfOk c.request.result
-    (λ answer. (answer, c.request.new.core, c.request.new.flight.mail) ≡ x))
+    ap (λ (a : Answer). (a, c.request.new.core, c.request.new.flight.mail)) c.answer_to.ensures
+    ∙ subst (λ (x : Answer × CoreState × Mail).
+    (requested c.request.result, c.request.new.core, c.request.new.flight.mail) ≡ x)
     (attempt_requests c.args.number c.args.count c.args.flight.now.capacity c.args.flight.now.mail c.args.core.now
     c.attempt.new.self _ c.in-Ok-NeedShared.pts c.in-Ok-NeedShared.version kept opens is)
     c.request.ensures.done

@@ -6,6 +6,6 @@ use Rattle.interleaving_core.proofs.reactions.answer.Goals as goal
 
 pub send-requires-clause-capacity : goal.send-requires-clause-capacity
 send-requires-clause-capacity c =
-    subst (λ (t : Flight). IsTrue (has_capacity t.capacity t.mail)) (sym c.take.ensures.after)
+    subst (λ (t : Flight). IsTrue (has_capacity t.capacity t.mail)) (sym c.take.ensures)
     (capacity_of_taken c.args.flight.now.capacity c.args.flight.now.mail c.args.number c.requires.there
     c.has_capacity-more.ensures.bound c.requires.number)

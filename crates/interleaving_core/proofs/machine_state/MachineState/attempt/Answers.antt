@@ -19,8 +19,8 @@ use Rattle.interleaving_core.proofs.Endpoints.{still_fitted}
 use Rattle.interleaving_core.proofs.Parts.{core_below, core_banks}
 use Rattle.interleaving_core.proofs.machine_state.MachineState.attempt.Goals as goal
 
-pub attempt-requires-clause-number : goal.attempt-requires-clause-number
-attempt-requires-clause-number c =
+pub attempt-answer-requires-clause-number : goal.attempt-answer-requires-clause-number
+attempt-answer-requires-clause-number c =
     let m : Machine = the_view c.self.inside in
     let here = slice_get_read c.self.inside.cores.items (length c.self.inside.cores.items) c.args.core
     c.index_mut.result.now refl (omega (arith, c.if-at-len.false, c.len.ensures)) c.index_mut.ensures.value in
@@ -28,21 +28,13 @@ attempt-requires-clause-number c =
     c.index_mut.result.now here in
     omega (arith, below, c.self.invariant.cores_are)
 
-pub attempt-requires-clause-banks : goal.attempt-requires-clause-banks
-attempt-requires-clause-banks c =
+pub attempt-answer-requires-clause-banks : goal.attempt-answer-requires-clause-banks
+attempt-answer-requires-clause-banks c =
     let m : Machine = the_view c.self.inside in
     let here = slice_get_read c.self.inside.cores.items (length c.self.inside.cores.items) c.args.core
     c.index_mut.result.now refl (omega (arith, c.if-at-len.false, c.len.ensures)) c.index_mut.ensures.value in
     core_banks m (subst Invariant (sym c.self.view_is) c.requires).whole c.args.core c.index_mut.result.now here
     ∙ sym c.self.invariant.banks_are
-
-pub returns-in_err-answer-clause-completed : goal.returns-in_err-answer-clause-completed
-returns-in_err-answer-clause-completed c =
-    let here = slice_get_read c.self.inside.cores.items (length c.self.inside.cores.items) c.args.core
-    c.index_mut.result.now refl (omega (arith, c.if-at-len.false, c.len.ensures)) c.index_mut.ensures.value in
-    subst (λ o. IfSome o (λ x. IsTrue (completes x) → IsOk c.from_residual.result))
-    (sym here ∙ ap (λ (n : Machine). slice_get n.cores c.args.core) c.self.view_is)
-    (λ done. absurd (let no_result = c.in_err-answer.ensures.completed done in cc))
 
 pub keep-requires : goal.keep-requires
 keep-requires c =
@@ -50,64 +42,44 @@ keep-requires c =
     c.index_mut.result.now refl (omega (arith, c.if-at-len.false, c.len.ensures)) c.index_mut.ensures.value in
     let count = subst (λ (x : Answer × CoreState × Mail). length (with_record c.self.inside.records.items x.0) +
     owed_for x.1.open_op ≡ length c.self.inside.records.items + owed_for c.index_mut.result.now.open_op)
-    (sym c.in_ok-answer.ensures.done)
+    (sym c.attempt-answer.ensures.done)
     (balanced c.index_mut.result.now c.self.inside.flight.mail c.self.inside.records.items _
     (attempt_only c.index_mut.result.now c.args.core c.len-count.result c.self.inside.flight.capacity
     c.self.inside.flight.mail)) in
-    let all = owed_set c.self.inside.cores.items c.args.core c.index_mut.result.now c.attempt.new.core here in
+    let all = owed_set c.self.inside.cores.items c.args.core c.index_mut.result.now c.attempt-answer.new.core here in
     omega (arith, count, all, c.self.invariant.reserved)
 
-pub invariant_of-self-2 : goal.invariant_of-self-2
-invariant_of-self-2 c =
+pub invariant_of-self : goal.invariant_of-self
+invariant_of-self c =
     let here = slice_get_read c.self.inside.cores.items (length c.self.inside.cores.items) c.args.core
     c.index_mut.result.now refl (omega (arith, c.if-at-len.false, c.len.ensures)) c.index_mut.ensures.value in
     let count = subst (λ (x : Answer × CoreState × Mail). length (with_record c.self.inside.records.items x.0) +
     owed_for x.1.open_op ≡ length c.self.inside.records.items + owed_for c.index_mut.result.now.open_op)
-    (sym c.in_ok-answer.ensures.done)
+    (sym c.attempt-answer.ensures.done)
     (balanced c.index_mut.result.now c.self.inside.flight.mail c.self.inside.records.items _
     (attempt_only c.index_mut.result.now c.args.core c.len-count.result c.self.inside.flight.capacity
     c.self.inside.flight.mail)) in
-    let all = owed_set c.self.inside.cores.items c.args.core c.index_mut.result.now c.attempt.new.core here in
+    let all = owed_set c.self.inside.cores.items c.args.core c.index_mut.result.now c.attempt-answer.new.core here in
     let kept = ap length c.keep.ensures.records in
     still_fitted c.self.inside.config c.self.inside.flight c.self.inside.cores.items c.self.inside.records.items _
-    c.self.invariant _ _ _ _ c.in_ok-answer.ensures.set_up
+    c.self.invariant _ _ _ _ c.attempt-answer.ensures.set_up
     (omega (arith, count, all, kept, c.keep.ensures.capacity, c.self.invariant.reserved))
 
-pub returns-clause-done : goal.returns-clause-done
-returns-clause-done c =
+pub returns : goal.returns
+returns c =
     let m : Machine = the_view c.self.inside in
     let core = c.index_mut.result.now in
     let here = slice_get_read c.self.inside.cores.items (length c.self.inside.cores.items) c.args.core
     c.index_mut.result.now refl (omega (arith, c.if-at-len.false, c.len.ensures)) c.index_mut.ensures.value in
     let counted : c.len-count.result ≡ length c.self.inside.records.items = omega (arith, c.len-count.ensures) in
-    let done = c.in_ok-answer.ensures.done
+    let done = c.attempt-answer.ensures.done
     ∙ ap (λ (n : ℕ). applied core m.mail (attempt c.args.core n c.self.inside.flight.capacity m.mail core)) counted
     ∙ ap (λ (n : ℕ). applied core m.mail (attempt c.args.core (length m.records) n m.mail core))
     c.self.invariant.capacity_is in
     made_so m (λ x. set m.cores c.args.core x) (λ x. m.banks) (λ x. m.drams) core
     (set_same m.cores c.args.core core here) refl refl
     (SameOpen core) (OneLess core) _ (attempt_only core c.args.core (length m.records) m.config.messages m.mail)
-    c.in_ok-answer.answer c.attempt.new.core c.attempt.new.flight.mail c.keep.new.records.items c.stop.new.is_stopped
+    c.attempt-answer.result c.attempt-answer.new.core c.attempt-answer.new.flight.mail c.keep.new.records.items c.stop.new.is_stopped
     done c.keep.ensures.records c.stop.ensures
     ∙ ap (attempt_at m c.args.core) (sym here)
     ∙ ap (λ (n : Machine). attempt_at n c.args.core (slice_get n.cores c.args.core)) c.self.view_is
-
-pub returns-in_err-answer-clause-wanted : goal.returns-in_err-answer-clause-wanted
-returns-in_err-answer-clause-wanted c =
-    let m : Machine = the_view c.self.inside in
-    let core = c.index_mut.result.now in
-    let here = slice_get_read c.self.inside.cores.items (length c.self.inside.cores.items) c.args.core
-    c.index_mut.result.now refl (omega (arith, c.if-at-len.false, c.len.ensures)) c.index_mut.ensures.value in
-    let counted : c.len-count.result ≡ length c.self.inside.records.items = omega (arith, c.len-count.ensures) in
-    let same = ap
-    (λ (n : ℕ). (applied core m.mail (attempt c.args.core n c.self.inside.flight.capacity m.mail core)).2.next)
-    counted
-    ∙ ap (λ (n : ℕ). (applied core m.mail (attempt c.args.core (length m.records) n m.mail core)).2.next)
-    c.self.invariant.capacity_is in
-    subst (λ (n : Machine). OnErr c.from_residual.result
-    (TakesMemory n (attempt_at n c.args.core (slice_get n.cores c.args.core)))) c.self.view_is
-    (subst (λ o. OnErr c.from_residual.result (TakesMemory m (attempt_at m c.args.core o))) (sym here)
-    (sending_takes m (λ x. set m.cores c.args.core x) (λ x. m.banks) (λ x. m.drams) core
-    (set_same m.cores c.args.core core here) refl refl _
-    (SameOpen core) (OneLess core) _ (attempt_only core c.args.core (length m.records) m.config.messages m.mail)
-    (omega (arith, same, c.in_err-answer.ensures.memory))))

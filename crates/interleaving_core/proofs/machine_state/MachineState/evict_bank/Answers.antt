@@ -7,13 +7,13 @@ use Rattle.machine_table.specs.Transition.{evict_entry}
 use Rattle.machine_theorem.specs.Kept.{Invariant}
 use Rattle.interleaving_core.specs.contracts.machine_state.MachineState.{the_view}
 use Rattle.interleaving_core.specs.Endpoints.{EvictedHasEndpoints}
-use Rattle.interleaving_core.proofs.ChangedParts.{event_done, event_wanted, set_same}
+use Rattle.interleaving_core.proofs.ChangedParts.{event_done, set_same}
 use Rattle.interleaving_core.proofs.Endpoints.{evicted_endpoints, fitted_ends}
 use Rattle.interleaving_core.proofs.Only.{Any, entry_only}
 use Rattle.interleaving_core.proofs.machine_state.MachineState.evict_bank.Goals as goal
 
-pub evict_entry-requires : goal.evict_entry-requires
-evict_entry-requires c =
+pub evict_entry-answer-requires : goal.evict_entry-answer-requires
+evict_entry-answer-requires c =
     let m : Machine = the_view c.self.inside in
     let part = c.index_mut.result.now in
     let here = slice_get_read c.self.inside.banks.items (length c.self.inside.banks.items) c.args.bank part refl
@@ -25,8 +25,8 @@ evict_entry-requires c =
           part here c.args.line);
     }
 
-pub returns-clause-done : goal.returns-clause-done
-returns-clause-done c =
+pub returns : goal.returns
+returns c =
     let m : Machine = the_view c.self.inside in
     let part = c.index_mut.result.now in
     let here = slice_get_read c.self.inside.banks.items (length c.self.inside.banks.items) c.args.bank part refl
@@ -38,20 +38,5 @@ returns-clause-done c =
     c.self.inside.flight.capacity c.self.invariant.capacity_is _ c.self.view_is
     (λ n. evict_entry n c.args.bank c.args.line (slice_get n.banks c.args.bank))
     (ap (evict_entry m c.args.bank c.args.line) (sym here))
-    c.in_ok-answer.answer c.evict_entry.new.bank c.evict_entry.new.flight.mail c.stop.new.is_stopped
-    c.in_ok-answer.ensures.done c.stop.ensures
-
-pub returns-in_err-answer-clause-wanted : goal.returns-in_err-answer-clause-wanted
-returns-in_err-answer-clause-wanted c =
-    let m : Machine = the_view c.self.inside in
-    let part = c.index_mut.result.now in
-    let here = slice_get_read c.self.inside.banks.items (length c.self.inside.banks.items) c.args.bank part refl
-    (omega (arith, c.if-at-len.false, c.len.ensures)) c.index_mut.ensures.value in
-    event_wanted m (λ x. m.cores) (λ x. set m.banks c.args.bank x) (λ x. m.drams) part refl
-    (set_same m.banks c.args.bank part here) refl
-    Any (λ n. entry_evicted n m.mail (bank_table.evict part c.args.line)) (entry_only part m.config.messages
-    m.mail c.args.line)
-    c.self.inside.flight.capacity c.self.invariant.capacity_is _ c.self.view_is
-    (λ n. evict_entry n c.args.bank c.args.line (slice_get n.banks c.args.bank))
-    (ap (evict_entry m c.args.bank c.args.line) (sym here))
-    _ c.in_err-answer.ensures.memory
+    c.evict_entry-answer.result c.evict_entry-answer.new.bank c.evict_entry-answer.new.flight.mail c.stop.new.is_stopped
+    c.evict_entry-answer.ensures.done c.stop.ensures

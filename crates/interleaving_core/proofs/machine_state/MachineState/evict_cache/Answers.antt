@@ -10,14 +10,14 @@ use Rattle.machine_table.specs.Transition.{evict_copy}
 use Rattle.machine_theorem.specs.Kept.{Invariant}
 use Rattle.interleaving_core.specs.contracts.machine_state.MachineState.{the_view}
 use Rattle.interleaving_core.specs.Endpoints.{BackHasEndpoints}
-use Rattle.interleaving_core.proofs.ChangedParts.{event_done, event_wanted, set_same}
+use Rattle.interleaving_core.proofs.ChangedParts.{event_done, set_same}
 use Rattle.interleaving_core.proofs.Endpoints.{back_endpoints, fitted_ends, still_fitted}
 use Rattle.interleaving_core.proofs.Only.{SameOpen, evict_only, kept_open}
 use Rattle.interleaving_core.proofs.OpenCounts.{owed_kept}
 use Rattle.interleaving_core.proofs.machine_state.MachineState.evict_cache.Goals as goal
 
-pub evict_copy-requires : goal.evict_copy-requires
-evict_copy-requires c =
+pub evict_copy-answer-requires : goal.evict_copy-answer-requires
+evict_copy-answer-requires c =
     let m : Machine = the_view c.self.inside in
     let part = c.index_mut.result.now in
     let here = slice_get_read c.self.inside.cores.items (length c.self.inside.cores.items) c.args.core part refl
@@ -29,20 +29,20 @@ evict_copy-requires c =
           part here c.args.line);
     }
 
-pub invariant_of-self-2 : goal.invariant_of-self-2
-invariant_of-self-2 c =
+pub invariant_of-self : goal.invariant_of-self
+invariant_of-self c =
     let m : Machine = the_view c.self.inside in
     let part = c.index_mut.result.now in
     let here = slice_get_read c.self.inside.cores.items (length c.self.inside.cores.items) c.args.core part refl
     (omega (arith, c.if-at-len.false, c.len.ensures)) c.index_mut.ensures.value in
-    let kept = subst (λ (x : Answer × CoreState × Mail). x.1.open_op ≡ part.open_op) (sym c.in_ok-answer.ensures.done)
+    let kept = subst (λ (x : Answer × CoreState × Mail). x.1.open_op ≡ part.open_op) (sym c.evict_copy-answer.ensures.done)
     (kept_open part m.mail _ (evict_only part c.self.inside.flight.capacity m.mail c.args.line)) in
-    let same = owed_kept m.cores c.args.core part c.evict_copy.new.core here kept in
+    let same = owed_kept m.cores c.args.core part c.evict_copy-answer.new.core here kept in
     still_fitted m.config c.self.inside.flight c.self.inside.cores.items c.self.inside.records.items _
-    c.self.invariant _ _ _ _ c.in_ok-answer.ensures.set_up (omega (arith, same, c.self.invariant.reserved))
+    c.self.invariant _ _ _ _ c.evict_copy-answer.ensures.set_up (omega (arith, same, c.self.invariant.reserved))
 
-pub returns-clause-done : goal.returns-clause-done
-returns-clause-done c =
+pub returns : goal.returns
+returns c =
     let m : Machine = the_view c.self.inside in
     let part = c.index_mut.result.now in
     let here = slice_get_read c.self.inside.cores.items (length c.self.inside.cores.items) c.args.core part refl
@@ -54,20 +54,5 @@ returns-clause-done c =
     c.self.inside.flight.capacity c.self.invariant.capacity_is _ c.self.view_is
     (λ n. evict_copy n c.args.core c.args.line (slice_get n.cores c.args.core))
     (ap (evict_copy m c.args.core c.args.line) (sym here))
-    c.in_ok-answer.answer c.evict_copy.new.core c.evict_copy.new.flight.mail c.stop.new.is_stopped
-    c.in_ok-answer.ensures.done c.stop.ensures
-
-pub returns-in_err-answer-clause-wanted : goal.returns-in_err-answer-clause-wanted
-returns-in_err-answer-clause-wanted c =
-    let m : Machine = the_view c.self.inside in
-    let part = c.index_mut.result.now in
-    let here = slice_get_read c.self.inside.cores.items (length c.self.inside.cores.items) c.args.core part refl
-    (omega (arith, c.if-at-len.false, c.len.ensures)) c.index_mut.ensures.value in
-    event_wanted m (λ x. set m.cores c.args.core x) (λ x. m.banks) (λ x. m.drams) part
-    (set_same m.cores c.args.core part here) refl refl
-    (SameOpen part) (λ n. copy_evicted n m.mail (core_table.evict part c.args.line))
-    (evict_only part m.config.messages m.mail c.args.line)
-    c.self.inside.flight.capacity c.self.invariant.capacity_is _ c.self.view_is
-    (λ n. evict_copy n c.args.core c.args.line (slice_get n.cores c.args.core))
-    (ap (evict_copy m c.args.core c.args.line) (sym here))
-    _ c.in_err-answer.ensures.memory
+    c.evict_copy-answer.result c.evict_copy-answer.new.core c.evict_copy-answer.new.flight.mail c.stop.new.is_stopped
+    c.evict_copy-answer.ensures.done c.stop.ensures

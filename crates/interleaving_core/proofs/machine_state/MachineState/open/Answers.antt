@@ -9,8 +9,8 @@ invariant_of-result c =
     let none = ap owed c.in_ok-cores.ensures ∙ none_at_first c.args.config 0 c.args.config.cores in
     let empty = ap length c.new-2.ensures.items in
     record {
-      cores_are = ap (λ (t : Flight). t.cores) c.new.ensures;
-      banks_are = ap (λ (t : Flight). t.banks) c.new.ensures;
-      capacity_is = ap (λ (t : Flight). t.capacity) c.new.ensures;
+      cores_are = ap (λ (t : Flight). t.cores) c.in_ok-flight.ensures;
+      banks_are = ap (λ (t : Flight). t.banks) c.in_ok-flight.ensures;
+      capacity_is = ap (λ (t : Flight). t.capacity) c.in_ok-flight.ensures;
       reserved = omega (arith, none, empty);
     }

@@ -1,8 +1,9 @@
-use Rattle.std.proofs.Common.{IsSome, ap, sym, subst, ◌∙◌}
+use Rattle.std.proofs.Common.{IsSome, ap, refl, sym, subst, slice_get, ◌∙◌}
 use Rattle.network.specs.NumberedMessages.{at_number}
 use Rattle.machine_table.specs.Machine.{Machine}
 use Rattle.machine_table.specs.SetUp.{SetUpAs, is_good}
 use Rattle.interleaving_core.proofs.InOrder.{step_numbers}
+use Rattle.interleaving_core.proofs.MemoryAnswers.{all_some, not_asked}
 use Rattle.interleaving_core.proofs.Coherence.{step_found, step_set_up, step_invariant}
 use Rattle.interleaving_core.proofs.system.System.step.Goals as goal
 
@@ -16,6 +17,13 @@ invariant_of-self c = (
 pub returns-clause-set_up : goal.returns-clause-set_up
 returns-clause-set_up c = subst (λ (m : Machine). SetUpAs m c.step.new.self) c.self.view_is
     (step_set_up _ c.args.event _ _ c.step.ensures.stepped)
+
+pub returns-clause-advanced : goal.returns-clause-advanced
+returns-clause-advanced c = λ core is none. not_asked c.self.inside.state c.args.event _ is refl (c.step.ensures.memory none)
+
+pub returns-clause-completed : goal.returns-clause-completed
+returns-clause-completed c = λ core is.
+    all_some (slice_get _ core) (λ x done none. not_asked c.self.inside.state c.args.event _ is refl (c.step.ensures.memory none))
 
 pub returns-clause-found : goal.returns-clause-found
 returns-clause-found c = λ number delivers there.

@@ -19,5 +19,4 @@ returns-in-Some c =
     let in_rows : c.in-Some.place < length rs = c.self.invariant.below c.args.set c.in-Some.place at in
     let same = row-some ps rs c.args.set c.in-Some.place c.index-in-Some.result.now below at in_rows
     c.index-in-Some.ensures in
-    rw (← c.self.view_is) (c.find_cell.ensures
-    ∙ ap (λ us. find us c.args.line) (c.deref.ensures.0 ∙ sym same))
+    rw (← c.self.view_is) (c.find.ensures ∙ ap (λ us. find us c.args.line) (sym same))

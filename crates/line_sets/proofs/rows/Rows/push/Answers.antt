@@ -31,8 +31,8 @@ returns-in_default c =
     let none = place-read ps c.args.set c.index.result.now low c.index.ensures
     ∙ no-place c.index.result.now c.in_default.not-Some in
     let empty : set_at (rows_of ps rs) c.args.set ≡ [] = row-none ps rs c.args.set below none in
-    let one : c.push.new.self.items ≡ set_at (rows_of ps rs) c.args.set ++ (c.args.line, c.args.cell) ∷ [] =
-    c.push.ensures.items ∙ ap (λ us. us ++ (c.args.line, c.args.cell) ∷ []) (c.new-row.ensures ∙ sym empty) in
+    let one : c.push.new.self ≡ set_at (rows_of ps rs) c.args.set ++ (c.args.line, c.args.cell) ∷ [] =
+    c.push.ensures ∙ ap (λ us. us ++ (c.args.line, c.args.cell) ∷ []) (c.new-row.ensures ∙ sym empty) in
     let last : c.len-place.result ≡ length rs = omega (arith, c.len-place.ensures) in
     rw (← c.self.view_is, c.push_reserved.ensures.items)
     (rows-more ps rs _ c.args.set c.len-place.result c.push.new.self c.self.invariant low last
@@ -54,7 +54,7 @@ push-requires-2 c =
     let in_rows : c.in-Some.place < length rs = c.self.invariant.below c.args.set c.in-Some.place at in
     let same = row-some ps rs c.args.set c.in-Some.place c.index_mut-2.result.now below at in_rows
     c.index_mut-2.ensures.value in
-    let room = rw (← c.self.view_is) at c.requires.room in (omega arith, rw same at room)
+    let room = rw (← c.self.view_is) at c.requires.room in rw same at room
 
 pub returns : goal.returns
 returns c =
@@ -67,5 +67,5 @@ returns c =
     c.index_mut-2.ensures.value in
     rw (← c.self.view_is)
     (rows-written ps rs _ c.args.set c.in-Some.place c.push-2.new.self c.self.invariant low at
-    ∙ ap (λ us. set (rows_of ps rs) c.args.set us) (c.push-2.ensures.items
+    ∙ ap (λ us. set (rows_of ps rs) c.args.set us) (c.push-2.ensures
     ∙ ap (λ us. us ++ (c.args.line, c.args.cell) ∷ []) (sym same)))

@@ -11,8 +11,8 @@ index_mut-requires c =
     let at = place-read ps c.args.set c.index.result.now low c.index.ensures ∙ c.in-Some.is in
     omega (arith, c.self.invariant.below c.args.set c.in-Some.place at)
 
-pub take_line-requires : goal.take_line-requires
-take_line-requires c =
+pub take-requires : goal.take-requires
+take-requires c =
     let ps = c.self.inside.places.items in let rs = c.self.inside.rows.items in
     let below = rw (← c.self.view_is) at c.requires.in_table in
     let low : c.args.set < length ps = below-of ps rs c.args.set below in
@@ -31,7 +31,7 @@ returns-clause-value c =
     let in_rows : c.in-Some.place < length rs = c.self.invariant.below c.args.set c.in-Some.place at in
     let same = row-some ps rs c.args.set c.in-Some.place c.index_mut.result.now below at in_rows
     c.index_mut.ensures.value in
-    rw (← c.self.view_is) (c.take_line.ensures.value ∙ ap (λ us. find us c.args.line) (sym same))
+    rw (← c.self.view_is) (c.take.ensures.value ∙ ap (λ us. find us c.args.line) (sym same))
 
 pub returns-clause-after : goal.returns-clause-after
 returns-clause-after c =
@@ -43,6 +43,6 @@ returns-clause-after c =
     let same = row-some ps rs c.args.set c.in-Some.place c.index_mut.result.now below at in_rows
     c.index_mut.ensures.value in
     rw (← c.self.view_is)
-    (rows-written ps rs _ c.args.set c.in-Some.place c.take_line.new.row c.self.invariant low at
-    ∙ ap (λ us. set (rows_of ps rs) c.args.set us) (c.take_line.ensures.items
+    (rows-written ps rs _ c.args.set c.in-Some.place c.take.new.self c.self.invariant low at
+    ∙ ap (λ us. set (rows_of ps rs) c.args.set us) (c.take.ensures.items
     ∙ ap (λ us. without us c.args.line) (sym same)))

@@ -1,0 +1,35 @@
+use Rattle.std.proofs.Common.{◌<◌, Some, None, sym, ap, ◌∙◌, arith, take, ℕ}
+use Rattle.std.proofs.lemmas.List.{get_or-take}
+use Rattle.line_sets.proofs.Indices.{index-of, first-below, first-find, missing-find, missing-without, removed}
+use Rattle.line_sets.proofs.ShiftedPairs.{length-first}
+use Rattle.line_sets.proofs.entries.Row.take.Goals as goal
+
+pub returns-in_default-clause-value : goal.returns-in_default-clause-value
+returns-in_default-clause-value c =
+    let row = take c.self.inside.count c.self.inside.entries in
+    rw (← c.self.view_is) (sym (missing-find row c.args.line
+    (index-of row c.args.line None (sym c.in_default.is ∙ c.index_of.ensures))))
+
+pub returns-in_default-clause-items : goal.returns-in_default-clause-items
+returns-in_default-clause-items c =
+    let row = take c.self.inside.count c.self.inside.entries in
+    rw (← c.self.view_is) (sym (missing-without row c.args.line
+    (index-of row c.args.line None (sym c.in_default.is ∙ c.index_of.ensures))))
+
+pub returns-clause-value : goal.returns-clause-value
+returns-clause-value c =
+    let row = take c.self.inside.count c.self.inside.entries in
+    let h = index-of row c.args.line (Some c.in-Some.at) (sym c.in-Some.is ∙ c.index_of.ensures) in
+    let below = first-below row c.args.line c.in-Some.at h in
+    let most = length-first c.self.inside.count c.self.inside.entries in
+    let low : c.in-Some.at < c.self.inside.count = omega arith in
+    rw (← c.self.view_is) (ap (λ (p : ℕ × ℕ). Some p.1)
+    (sym (get_or-take c.self.inside.count c.self.inside.entries c.in-Some.at (0, 0) low))
+    ∙ sym (first-find row c.args.line c.in-Some.at (0, 0) h))
+
+pub returns-clause-items : goal.returns-clause-items
+returns-clause-items c =
+    let row = take c.self.inside.count c.self.inside.entries in
+    let h = index-of row c.args.line (Some c.in-Some.at) (sym c.in-Some.is ∙ c.index_of.ensures) in
+    let distinct = rw (← c.self.view_is) at c.requires in
+    rw (← c.self.view_is) (removed row _ c.args.line c.in-Some.at distinct h c.move_down.ensures)

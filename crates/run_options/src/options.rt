@@ -6,6 +6,8 @@
 pub enum Schedule {
     /// In rounds: each core in turn, and then each message in flight.
     Round,
+    /// One event a turn, drawn by a generator that a seed opens.
+    Seed,
 }
 
 /// How the machine is built.
@@ -54,9 +56,10 @@ impl MachineOptions {
 pub struct RunOptions {
     /// The order of events.
     pub schedule: Schedule,
-    /// What a seeded schedule draws from. Schedule round draws nothing.
+    /// What opens the generator of schedule seed, in the first of several runs: run i, counted from 0, has this number
+    /// plus i, modulo 2^64. Schedule round draws nothing.
     pub seed: u64,
-    /// How many threads share the work, 1 to 16. Schedule round uses one.
+    /// How many threads share the work, 1 to 16. Schedule round uses one, whatever is said here.
     pub workers: u64,
     /// How many rounds a run has at most, 1 to 4294967295.
     pub limit: u64,

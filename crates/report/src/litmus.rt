@@ -7,15 +7,14 @@ ghost use Rattle.machine_table.specs.SetUp.{is_good};
 ghost use Rattle.report_parts.specs.Answers.{AreCounted, IsCutOff, IsReported};
 ghost use Rattle.report_text.specs.Ends.{ends_as};
 ghost use Rattle.report.specs.Bytes.{OfBytes};
-ghost use Rattle.report.specs.Litmus.{HasNoReport, HasOutcome, IsLitmusReport, refusal, rounds};
-ghost use Rattle.report.specs.Runs.{IsRun};
+ghost use Rattle.report.specs.Litmus.{AreFrom, HasNoReport, HasOutcome, IsLitmusReport, refusal};
 
 use crate::one_run::run_once;
 use crate::sources::bytes_of;
 use byte_streams::{Sink, Source};
 use interleaving_core::Config;
 use litmus_reader::{Kind, LitmusError, Test, read};
-use report_parts::{config_of, limit_of, put_out};
+use report_parts::{config_of, limit_of, policy_of, put_out};
 use report_text::litmus_text;
 use run_ends::{End, RunEnd};
 use run_options::LitmusOptions;
@@ -110,14 +109,15 @@ fn run_often(
     requires cores { config.cores ≡ (test_of test.now).threads }
     ensures count { IfOk result (λ runs. length runs.items ≡ options.now.runs) }
     ensures each { IfOk result (λ runs.
-        AllByRecursion (IsRun (test_of test.now) config (rounds options.now)) runs.items) }
+        AreFrom (test_of test.now) config options.now 0 runs.items) }
     ensures outcomes { IfOk result (λ runs. (text : List ℕ) → IsTest text (test_of test.now) →
         AllByRecursion (HasOutcome (test_of test.now)) runs.items) }
 {
     let limit = limit_of(&options.run);
     let mut runs = Vec::new(alloc);
-    for _ in 0..options.runs {
-        runs.push(run_once(alloc, test, config, limit)?)?;
+    for i in 0..options.runs {
+        let policy = policy_of(&options.run, i);
+        runs.push(run_once(alloc, test, config, policy, limit)?)?;
     }
     Ok(runs)
 }

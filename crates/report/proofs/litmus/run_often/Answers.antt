@@ -1,8 +1,14 @@
-use Rattle.std.proofs.Common.{◌+◌, ◌++◌, List, [], ◌∷◌, length, length-append, subst, sym, ap, ◌∙◌}
+use Rattle.std.proofs.Common.{◌≡◌, ◌+◌, ◌++◌, ℕ, List, [], ◌∷◌, length, length-append, subst, sym, ap, ◌∙◌, arith}
 use Rattle.std.specs.List.{AllByRecursion}
+use Rattle.litmus_reader.specs.Litmus.{Litmus}
 use Rattle.litmus_reader.specs.TestViews.{test_of}
+use Rattle.machine_table.specs.declared.config.Config.{Config}
+use Rattle.report_parts.specs.SetUp.{policy_of}
+use Rattle.run_ends.specs.declared.ends.RunEnd.{RunEnd}
+use Rattle.run_options.specs.declared.options.LitmusOptions.{LitmusOptions}
+use Rattle.worker_driver.specs.declared.policy.Policy.{Policy}
 use Rattle.report.specs.Runs.{IsRun}
-use Rattle.report.specs.Litmus.{HasOutcome, rounds}
+use Rattle.report.specs.Litmus.{AreFrom, HasOutcome, turns}
 use Rattle.report.proofs.litmus.run_often.Goals as goal
 
 one_more : {X : Type 0} (P : X → Type 0) (xs : List X) (x : X) → AllByRecursion P xs → P x →
@@ -10,16 +16,31 @@ one_more : {X : Type 0} (P : X → Type 0) (xs : List X) (x : X) → AllByRecurs
 one_more P [] x all is = (is, tt)
 one_more P (y ∷ ys) x all is = (all.0, one_more P ys x all.1 is)
 
-pub loop-preserved : goal.loop-preserved
-loop-preserved c =
+one_run_more : (test : Litmus) (config : Config) (options : LitmusOptions) (i j : ℕ) (runs : List RunEnd)
+    (run : RunEnd) → AreFrom test config options i runs → i + length runs ≡ j →
+    IsRun test config (policy_of options.run j) (turns options) run →
+    AreFrom test config options i (runs ++ run ∷ [])
+one_run_more test config options i j [] run all here is =
+    let same : i ≡ j = omega (arith, here) in
+    (subst (λ n. IsRun test config (policy_of options.run n) (turns options) run) (sym same) is, tt)
+one_run_more test config options i j (r ∷ runs) run all here is =
+    (all.0, one_run_more test config options (i + 1) j runs run all.1 (omega (arith, here)) is)
+
+pub loop-i-preserved : goal.loop-i-preserved
+loop-i-preserved c =
     let test = test_of c.args.test.now in
+    let options = c.args.options.now in
+    let config = c.args.config in
     let run = c.in_ok-run_once.field-0 in
-    let runs = c.loop.runs.items in
+    let runs = c.loop-i.runs.items in
     let longer = c.in_ok-push.ensures.items in (
-      ap length longer ∙ length-append runs (run ∷ []) ∙ ap (λ n. n + 1) c.loop.invariant.0,
-      subst (AllByRecursion (IsRun test c.args.config (rounds c.args.options.now))) (sym longer)
-          (one_more (IsRun test c.args.config (rounds c.args.options.now)) runs run c.loop.invariant.1
-          (subst (λ n. IsRun test c.args.config n run) c.limit_of-limit.ensures c.in_ok-run_once.ensures.run)),
+      ap length longer ∙ length-append runs (run ∷ []) ∙ ap (λ n. n + 1) c.loop-i.invariant.0,
+      subst (AreFrom test config options 0) (sym longer)
+          (one_run_more test config options 0 c.loop-i.i runs run c.loop-i.invariant.1
+          (omega (arith, c.loop-i.invariant.0))
+          (subst (λ (p : Policy). IsRun test config p (turns options) run) c.policy_of-policy.ensures
+          (subst (λ n. IsRun test config c.policy_of-policy.result n run) c.limit_of-limit.ensures
+          c.in_ok-run_once.ensures.run))),
       λ text is. subst (AllByRecursion (HasOutcome test)) (sym longer) (one_more (HasOutcome test) runs run
-          (c.loop.invariant.2 text is) (c.in_ok-run_once.ensures.outcome text is)),
+          (c.loop-i.invariant.2 text is) (c.in_ok-run_once.ensures.outcome text is)),
     )

@@ -5,8 +5,8 @@
 use anyhow::{Context, Result, bail, ensure};
 use interleaving_core::{Config, System};
 use physiological_order::{Memory, Op, WordAddr};
-use rand_core::utils::NextWord;
 use rand_core::SeedableRng;
+use rand_core::utils::NextWord;
 use rand_pcg::Pcg32;
 use std::alloc::Global;
 use worker_driver::{End, OpProgram, Policy, drive_round, drive_seed, run_to_end};
@@ -78,7 +78,10 @@ fn machine(alloc: Global, cores: u32) -> Result<System> {
 fn measure(alloc: Global, load: &Load) -> Result<usize> {
     let mut system = machine(alloc, load.cores)?;
     let mut programs = programs(alloc, load)?;
-    ensure!(programs.len() as u64 == u64::from(system.cores()), "programs are missing");
+    ensure!(
+        programs.len() as u64 == u64::from(system.cores()),
+        "programs are missing"
+    );
     let programs = programs.as_mut_slice();
     let (end, events) = if load.counts {
         let driven = match load.policy {
@@ -87,14 +90,19 @@ fn measure(alloc: Global, load: &Load) -> Result<usize> {
         };
         (driven.end, driven.events.len())
     } else {
-        (run_to_end(alloc, &mut system, programs, load.policy, u32::MAX), 0)
+        (
+            run_to_end(alloc, &mut system, programs, load.policy, u32::MAX),
+            0,
+        )
     };
     ensure!(matches!(end, End::AllDone), "not all is done");
     Ok(events)
 }
 
 fn number(text: Option<String>) -> Result<u32> {
-    let text = text.context("a schedule and three numbers are wanted: cores, words and operations")?;
+    let text = text.context(
+        "a schedule and three numbers are wanted: cores, words and operations",
+    )?;
     let number: u32 = text.as_str().parse().context("a number is wanted")?;
     ensure!(number > 0, "a number above 0 is wanted");
     Ok(number)

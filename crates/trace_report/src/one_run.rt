@@ -42,7 +42,13 @@ pub(crate) fn run_once(
     };
     let mut programs = programs_of(alloc, trace)?;
     let policy = policy_of(options, 0);
-    let end = run_to_end(alloc, &mut system, programs.as_mut_slice(), policy, limit_of(options));
+    let end = run_to_end(
+        alloc,
+        &mut system,
+        programs.as_mut_slice(),
+        policy,
+        limit_of(options),
+    );
     let _rising = system.records();
     Ok(Ran { system, end })
 }

@@ -1,6 +1,5 @@
 -- The report on a litmus text, and why a text has none.
-use Rattle.std.specs.Prelude.{◌≡◌, ◌≢◌, ℕ, ◌+◌, ◌<◌, Bool, true, false, List, [], ◌∷◌, length}
-use Rattle.std.specs.Prelude.{Err, IfSome}
+use Rattle.std.specs.Prelude.{◌≡◌, ◌≢◌, ℕ, ◌<◌, Bool, true, false, List, length, Err, IfSome}
 use Rattle.std.specs.List.{list_all, AllByRecursion}
 use Rattle.litmus_lexer.specs.declared.errors.Kind.{Kind}
 use Rattle.litmus_lexer.specs.declared.errors.Kind.TheVariants.{NoMemory as LackOfMemory}
@@ -9,7 +8,6 @@ use Rattle.litmus_reader.specs.Faults.{Fault}
 use Rattle.litmus_reader.specs.Grammar.{IsTest}
 use Rattle.litmus_reader.specs.Litmus.{Litmus}
 use Rattle.litmus_reader.specs.ReadingTest.{read_at}
-use Rattle.machine_table.specs.declared.config.Config.{Config}
 use Rattle.machine_table.specs.SetUp.{is_good}
 use Rattle.report_parts.specs.SetUp.{config_of, limit_of, policy_of}
 use Rattle.report_text.specs.Ends.{ends_as}
@@ -21,17 +19,12 @@ use Rattle.run_results.specs.declared.results.RunError.{RunError}
 use Rattle.run_results.specs.declared.results.RunError.TheVariants.{Read, Write, NoMemory, Litmus as Refused}
 use Rattle.run_results.specs.declared.results.RunError.TheVariants.{Trace, BadConfig}
 use Rattle.sequential_machine.specs.SequentialMachine.{IsOutcome}
-use Rattle.report.specs.Runs.{IsRun}
+use Rattle.report.specs.Runs.{AreFrom}
 
 -- the most turns of a run
 abbrev pub turns : LitmusOptions → ℕ
 turns options = limit_of options.run
 
--- runs on a machine, of which the first has this number, each by the policy of its number
-abbrev pub AreFrom : Litmus → Config → LitmusOptions → ℕ → List RunEnd → Type 0
-AreFrom test config options i [] = Unit {0}
-AreFrom test config options i (run ∷ runs) =
-    IsRun test config (policy_of options.run i) (turns options) run × AreFrom test config options (i + 1) runs
 
 -- the end state of a run that has one is an outcome of the sequential machine
 abbrev pub HasOutcome : Litmus → RunEnd → Type 0
@@ -42,7 +35,7 @@ pub record AreRuns (options : LitmusOptions) (bytes : List ℕ) (test : Litmus) 
   pub is_test : IsTest bytes test
   pub good : is_good (config_of options.run.machine test.threads) ≡ true
   pub count : length runs ≡ options.runs
-  pub each : AreFrom test (config_of options.run.machine test.threads) options 0 runs
+  pub each : AreFrom test (config_of options.run.machine test.threads) (policy_of options.run) (turns options) 0 runs
   pub outcomes : AllByRecursion (HasOutcome test) runs
 
 -- the text reports on such runs, and says whether all of them ended all done

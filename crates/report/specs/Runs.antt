@@ -17,6 +17,7 @@ use Rattle.run_ends.specs.declared.ends.RunEnd.{RunEnd}
 use Rattle.worker_driver.specs.Acts.{Acts, as_step}
 use Rattle.worker_driver.specs.declared.policy.Policy.{Policy}
 use Rattle.worker_driver.specs.Policies.{EndedBy}
+use Rattle.worker_driver.specs.Batches.{policy_of_run}
 
 -- what the threads of a test do
 abbrev pub thread_acts : Acts Thread
@@ -52,3 +53,9 @@ pub record IsRun (test : Litmus) (config : Config) (policy : Policy) (limit : �
   pub completed : run.completed ≡ length machine.records
   pub stale : run.stale ≡ stale_count machine.records
   pub counts : run.counts ≡ machine.mail.counts
+
+-- runs of a batch from its run i on, where its first run follows this policy
+abbrev pub AreFrom : Litmus → Config → Policy → ℕ → ℕ → List RunEnd → Type 0
+AreFrom test config first limit i [] = Unit {0}
+AreFrom test config first limit i (run ∷ runs) =
+    IsRun test config (policy_of_run first i) limit run × AreFrom test config first limit (i + 1) runs

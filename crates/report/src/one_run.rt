@@ -17,7 +17,7 @@ use worker_driver::{Policy, run_to_end};
 
 /// A run of the test on a machine with a core for each thread, by this policy, with at most so many turns. The end
 /// state of a run that is all done is an outcome of the sequential machine.
-pub(crate) fn run_once(
+pub fn run_once(
     alloc: Global,
     test: &Test,
     config: Config,

@@ -1,5 +1,5 @@
 -- The machine that options ask for, which schedule a run of it follows, and how far it goes.
-use Rattle.std.specs.Prelude.{ℕ, ◌+◌, ◌%◌, ◌^◌, min, nat_le, Bool, ◌&&◌}
+use Rattle.std.specs.Prelude.{ℕ, min, nat_le, Bool, ◌&&◌}
 use Rattle.run_options.specs.declared.options.MachineOptions.{MachineOptions}
 use Rattle.run_options.specs.declared.options.RunOptions.{RunOptions}
 use Rattle.run_options.specs.declared.options.Schedule.{Schedule}
@@ -35,10 +35,10 @@ fits options =
 abbrev pub limit_of : RunOptions → ℕ
 limit_of options = min options.limit 4294967295
 
--- which schedule run i follows, of several that are counted from 0: by seeds it has the first seed plus i
-abbrev pub policy_by : Schedule → ℕ → ℕ → Policy
-policy_by Round seed i = Rounds
-policy_by ScheduledBySeed seed i = Seed ((seed + i) % 2 ^ 64)
+-- which schedule the first run follows
+abbrev pub policy_by : Schedule → ℕ → Policy
+policy_by Round seed = Rounds
+policy_by ScheduledBySeed seed = Seed seed
 
-abbrev pub policy_of : RunOptions → ℕ → Policy
-policy_of options i = policy_by options.schedule options.seed i
+abbrev pub policy_of : RunOptions → Policy
+policy_of options = policy_by options.schedule options.seed

@@ -52,13 +52,12 @@ pub fn limit_of(options: &RunOptions) -> u32
     options.limit.min(u64::from(u32::MAX)) as u32
 }
 
-/// Which schedule run `i` follows, of several that are counted from 0: rounds, or the seed of the options plus `i`,
-/// modulo 2^64.
-pub fn policy_of(options: &RunOptions, i: u64) -> Policy
-    ensures { result ≡ policy_of options.now i }
+/// Which schedule the first run follows: rounds, or the seed of the options.
+pub fn policy_of(options: &RunOptions) -> Policy
+    ensures { result ≡ policy_of options.now }
 {
     match options.schedule {
         Schedule::Round => Policy::Rounds,
-        Schedule::Seed => Policy::Seed(options.seed.wrapping_add(i)),
+        Schedule::Seed => Policy::Seed(options.seed),
     }
 }

@@ -43,7 +43,7 @@ pub record IsRun (options : RunOptions) (config : Config) (lanes : List (List St
     (machine : Machine) : Type 0 where
   pub events : List Event
   pub programs : List (List Step)
-  pub ended : EndedBy step_acts (policy_of options 0) (limit_of options) (at_start config empty)
+  pub ended : EndedBy step_acts (policy_of options) (limit_of options) (at_start config empty)
       (programs_below lanes (core_count lanes)) events machine programs end
   pub legal : Legal (flat empty) (λ core. slice_index_or machine.issued core []) machine.records
   pub rising : RisesByNumber machine.records

@@ -41,7 +41,7 @@ pub(crate) fn run_once(
         return Err(AllocError);
     };
     let mut programs = programs_of(alloc, trace)?;
-    let policy = policy_of(options, 0);
+    let policy = policy_of(options);
     let end = run_to_end(
         alloc,
         &mut system,

@@ -43,11 +43,11 @@ returns c =
     record {
       events = events;
       programs = last;
-      ended = subst (λ (ts : List (List Step)). EndedBy step_acts (policy_of options 0) (limit_of options)
+      ended = subst (λ (ts : List (List Step)). EndedBy step_acts (policy_of options) (limit_of options)
           (at_start config empty) ts events m last end) (c.as_mut_slice.ensures.value ∙ c.in_ok-programs.ensures)
-          (subst (λ (k : Machine). EndedBy step_acts (policy_of options 0) (limit_of options) k
+          (subst (λ (k : Machine). EndedBy step_acts (policy_of options) (limit_of options) k
           c.as_mut_slice.result.now events m last end) first
-          (subst (λ n. EndedBy step_acts (policy_of options 0) n c.in-Ok.system c.as_mut_slice.result.now events m last
+          (subst (λ n. EndedBy step_acts (policy_of options) n c.in-Ok.system c.as_mut_slice.result.now events m last
           end) c.limit_of.ensures
           (subst (λ (p : Policy). EndedBy step_acts p c.limit_of.result c.in-Ok.system c.as_mut_slice.result.now events m
           last end) c.policy_of-policy.ensures c.run_to_end-end.ensures.ended.1)));

@@ -28,9 +28,10 @@ const WORKERS: &str = "How many threads share the work, 1 to 16; schedule round 
 
 const PRIVATE_WRITE: &str = "Lets a core that wrote a line store to it again without a later time";
 
-const LEASE: &str = "How far a lease goes past the times that it covers, 1 to 4294967296";
+const LEASE: &str = "How many ticks a lease goes past the times that it covers, 1 to 4294967296";
 
-const TIME: &str = "The time of every core and bank before the first event";
+const TIME: &str =
+    "The time of every core and bank before the first event, in ticks, any number of 64 bits";
 
 const BANKS: &str = "How many banks the last-level cache has, 1 to 8";
 

@@ -1,20 +1,24 @@
-//! A host that is made for a test: one file, an output and an output of errors, which move few bytes a call.
+//! A host that is made for a test: two files, an output and an output of errors, which move few bytes a call.
 
 use byte_streams::{DeviceError, FromRead, ToWrite};
 use program::{Files, answer};
 use std::alloc::Global;
 use test_devices::Limited;
 
-/// The name of the file that is there.
+/// The name of the first file.
 pub(crate) const NAME: &str = "there";
+
+/// The name of the file with records.
+pub(crate) const RECORDS: &str = "records";
 
 /// How many calls succeed where none is to fail.
 pub(crate) const ALL: u32 = 1_000_000;
 
-/// A file of this text, which fails after so many reads of at most seven bytes.
+/// Files of these texts, which fail after so many reads of at most seven bytes.
 #[derive(Clone, Copy)]
 pub(crate) struct Shelf<'a> {
     pub(crate) text: &'a [u8],
+    pub(crate) records: &'a [u8],
     pub(crate) reads: u32,
 }
 
@@ -24,11 +28,13 @@ impl<'a> Files for Shelf<'a> {
     ghost opens = { λ _ _ _. Unit {0} };
 
     fn open(&self, name: &str) -> Result<FromRead<Limited<&'a [u8]>>, DeviceError> {
-        if name != NAME {
-            return Err(DeviceError);
-        }
+        let text = match name {
+            NAME => self.text,
+            RECORDS => self.records,
+            _ => return Err(DeviceError),
+        };
         Ok(FromRead::new(Limited {
-            inner: self.text,
+            inner: text,
             step: 7,
             calls: self.reads,
         }))

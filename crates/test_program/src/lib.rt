@@ -7,3 +7,5 @@ mod host;
 mod lines;
 #[cfg(test)]
 mod statuses;
+#[cfg(test)]
+mod traces;

@@ -3,6 +3,7 @@
 use crate::host::{ALL, NAME, Shelf, answered};
 use litmus_lexer::{Kind, LitmusError};
 use run_results::{RunError, error_line, exit_status};
+use trace_lines::{Kind as TraceKind, TraceError};
 
 // Every kind, in a line of its own, as it is told.
 const KINDS: [(Kind, usize, &[u8]); 14] = [
@@ -43,6 +44,35 @@ const KINDS: [(Kind, usize, &[u8]); 14] = [
         Kind::CutShort,
         18446744073709551615,
         b"tardis: line 18446744073709551615: 14 CutShort\n",
+    ),
+];
+
+// The same of a trace and of records.
+const TRACE_KINDS: [(TraceKind, usize, &[u8]); 9] = [
+    (TraceKind::Read, 0, b"tardis: line 0: 1 Read\n"),
+    (TraceKind::NoMemory, 0, b"tardis: line 0: 2 NoMemory\n"),
+    (
+        TraceKind::TooLong,
+        16777217,
+        b"tardis: line 16777217: 3 TooLong\n",
+    ),
+    (TraceKind::BadCore, 1, b"tardis: line 1: 4 BadCore\n"),
+    (
+        TraceKind::BadOperation,
+        2,
+        b"tardis: line 2: 5 BadOperation\n",
+    ),
+    (TraceKind::BadAddress, 9, b"tardis: line 9: 6 BadAddress\n"),
+    (TraceKind::BadValue, 10, b"tardis: line 10: 7 BadValue\n"),
+    (
+        TraceKind::ExtraWords,
+        256,
+        b"tardis: line 256: 8 ExtraWords\n",
+    ),
+    (
+        TraceKind::BadForm,
+        18446744073709551615,
+        b"tardis: line 18446744073709551615: 9 BadForm\n",
     ),
 ];
 
@@ -130,10 +160,21 @@ fn each_kind_has_its_line(rt: HostRuntime) {
 }
 
 #[test]
+fn each_kind_of_a_trace_has_its_line(rt: HostRuntime) {
+    for (kind, line, text) in TRACE_KINDS {
+        let error = RunError::Trace(TraceError { line, kind });
+        assert_eq!(rt; error.number(), 5);
+        assert_eq!(rt; exit_status(&Err(error)), 2);
+        assert!(rt; error_line(&error).as_slice() == text, "line {line}");
+    }
+}
+
+#[test]
 fn each_fault_is_told(rt: HostRuntime) {
     for (number, (text, line)) in FAULTS.iter().enumerate() {
         let shelf = Shelf {
             text: *text,
+            records: b"",
             reads: ALL,
         };
         let told = answered(rt.alloc(), shelf, &["tardis", "litmus", NAME], ALL);

@@ -30,6 +30,7 @@ const EXHAUSTED: &[u8] =
 fn told(alloc: Global, words: &[&str]) -> Answer {
     let shelf = Shelf {
         text: STORE,
+        records: b"",
         reads: ALL,
     };
     answered(alloc, shelf, words, ALL)
@@ -112,7 +113,11 @@ fn refused_words(rt: HostRuntime) {
 #[test]
 fn devices_that_fail(rt: HostRuntime) {
     let words = ["tardis", "litmus", NAME];
-    let shelf = |reads: u32| Shelf { text: STORE, reads };
+    let shelf = |reads: u32| Shelf {
+        text: STORE,
+        records: b"",
+        reads,
+    };
     let none = answered(rt.alloc(), shelf(ALL), &["tardis", "litmus", "none"], ALL);
     let read = answered(rt.alloc(), shelf(2), &words, ALL);
     for told in [none, read] {

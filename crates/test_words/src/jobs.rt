@@ -1,15 +1,16 @@
 //! Command lines that are taken, with what they ask for.
 use command_line::{Job, read_words};
-use run_options::{LitmusOptions, MachineOptions, RunOptions, Schedule};
+use run_options::{LitmusOptions, MachineOptions, RunOptions, Schedule, TraceOptions};
 use std::test::Fail;
 
 static PLAIN: [&str; 3] = ["tardis", "litmus", "sb.litmus"];
 
-static FULL: [&str; 26] = [
+static FULL: [&str; 27] = [
     "tardis",
     "litmus",
     "--schedule",
     "round",
+    "--seed=18446744073709551615",
     "--limit=4294967295",
     "--runs",
     "1000000",
@@ -39,7 +40,9 @@ fn defaults(rt: HostRuntime) -> Result<(), Fail> {
     let job = read_words(rt.alloc(), PLAIN.as_slice())
         .ok()
         .ok_or("a job")?;
-    let Job::Litmus(options, file) = job;
+    let Job::Litmus(options, file) = job else {
+        return Err("a litmus test".into());
+    };
     assert_eq!(rt; options, LitmusOptions::DEFAULT);
     assert_eq!(rt; file, "sb.litmus");
     Ok(())
@@ -53,7 +56,9 @@ fn a_long_path(rt: HostRuntime) -> Result<(), Fail> {
     }
     let words: [&str; 3] = ["tardis", "litmus", &path];
     let job = read_words(rt.alloc(), &words).ok().ok_or("a job")?;
-    let Job::Litmus(_, file) = job;
+    let Job::Litmus(_, file) = job else {
+        return Err("a litmus test".into());
+    };
     assert_eq!(rt; file.len(), 5_000);
     Ok(())
 }
@@ -61,12 +66,14 @@ fn a_long_path(rt: HostRuntime) -> Result<(), Fail> {
 #[test]
 fn all_options(rt: HostRuntime) -> Result<(), Fail> {
     let job = read_words(rt.alloc(), FULL.as_slice()).ok().ok_or("a job")?;
-    let Job::Litmus(options, file) = job;
+    let Job::Litmus(options, file) = job else {
+        return Err("a litmus test".into());
+    };
     let wanted = LitmusOptions {
         runs: 1000000,
         run: RunOptions {
             schedule: Schedule::Round,
-            seed: 0,
+            seed: 18446744073709551615,
             workers: 16,
             limit: 4294967295,
             machine: MachineOptions {
@@ -85,5 +92,44 @@ fn all_options(rt: HostRuntime) -> Result<(), Fail> {
     };
     assert_eq!(rt; options, wanted);
     assert_eq!(rt; file, "mp.litmus");
+    Ok(())
+}
+
+// Words of a trace, whether the records are asked for, the most rounds, and the file.
+const TRACES: [(&[&str], bool, u64, &str); 3] = [
+    (&["tardis", "trace", "a.trace"], false, 100_000, "a.trace"),
+    (
+        &["tardis", "trace", "--records", "a.trace"],
+        true,
+        100_000,
+        "a.trace",
+    ),
+    (&["tardis", "trace", "b", "--limit=7"], false, 7, "b"),
+];
+
+#[test]
+fn traces(rt: HostRuntime) -> Result<(), Fail> {
+    for (words, records, limit, wanted) in TRACES {
+        let Ok(Job::Trace(options, file)) = read_words(rt.alloc(), words) else {
+            return Err("a trace".into());
+        };
+        let run = RunOptions {
+            limit,
+            ..RunOptions::DEFAULT
+        };
+        let asked = TraceOptions { records, run };
+        assert!(rt; options == asked && file == wanted, "{words:?}");
+    }
+    Ok(())
+}
+
+#[test]
+fn checks(rt: HostRuntime) -> Result<(), Fail> {
+    let words: [&str; 4] = ["tardis", "check", "a.trace", "a.records"];
+    let Ok(Job::Check(trace, records)) = read_words(rt.alloc(), &words) else {
+        return Err("a check".into());
+    };
+    assert_eq!(rt; trace, "a.trace");
+    assert_eq!(rt; records, "a.records");
     Ok(())
 }

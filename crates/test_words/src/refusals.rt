@@ -10,10 +10,14 @@ const PROGRAM: &str = "\n\nUsage: tardis <COMMAND>";
 
 const LITMUS: &str = "\n\nUsage: tardis litmus [OPTIONS] <FILE>";
 
-const REFUSED: [(&[&str], &str, &str); 24] = [
+const TRACE: &str = "\n\nUsage: tardis trace [OPTIONS] <FILE>";
+
+const CHECK: &str = "\n\nUsage: tardis check <TRACE> <RECORDS>";
+
+const REFUSED: [(&[&str], &str, &str); 31] = [
     (
         &["tardis"],
-        "'tardis' requires a subcommand but one was not provided\n  [subcommands: litmus, help]",
+        "'tardis' requires a subcommand but one was not provided\n  [subcommands: litmus, trace, check, help]",
         PROGRAM,
     ),
     (&["tardis", "run"], "unrecognized subcommand 'run'", PROGRAM),
@@ -98,9 +102,44 @@ const REFUSED: [(&[&str], &str, &str); 24] = [
         NO_USAGE,
     ),
     (
-        &["tardis", "litmus", "--seed", "1", "a"],
-        "unexpected argument '--seed' found\n\n  tip: a similar argument exists: '--schedule'",
-        "\n\nUsage: tardis litmus --schedule <schedule> <FILE>",
+        &["tardis", "litmus", "--seed", "-1", "a"],
+        "unexpected argument '-1' found\n\n  tip: to pass '-1' as a value, use '-- -1'",
+        LITMUS,
+    ),
+    (
+        &["tardis", "trace", "--seed=1x", "a"],
+        "invalid value '1x' for '--seed <seed>': invalid digit found in string",
+        NO_USAGE,
+    ),
+    (
+        &["tardis", "trace"],
+        "the following required arguments were not provided:\n  <FILE>",
+        "\n\nUsage: tardis trace <FILE>",
+    ),
+    (
+        &["tardis", "trace", "--records=1", "a"],
+        "unexpected value '1' for '--records' found; no more were expected",
+        "\n\nUsage: tardis trace --records <FILE>",
+    ),
+    (
+        &["tardis", "trace", "a", "b"],
+        "unexpected argument 'b' found",
+        TRACE,
+    ),
+    (
+        &["tardis", "check", "a"],
+        "the following required arguments were not provided:\n  <RECORDS>",
+        CHECK,
+    ),
+    (
+        &["tardis", "check", "a", "b", "c"],
+        "unexpected argument 'c' found",
+        CHECK,
+    ),
+    (
+        &["tardis", "check", "--lease", "1", "a", "b"],
+        "unexpected argument '--lease' found\n\n  tip: to pass '--lease' as a value, use '-- --lease'",
+        CHECK,
     ),
     (
         &["tardis", "litmus", "--threads", "1", "a"],
@@ -136,21 +175,23 @@ const REFUSED: [(&[&str], &str, &str); 24] = [
 ];
 
 // Help on the program.
-const PROGRAM_HELP: [&str; 10] = [
+const PROGRAM_HELP: [&str; 12] = [
     "A simulator of the Tardis coherence protocol that checks what it simulates",
     "",
     "Usage: tardis <COMMAND>",
     "",
     "Commands:",
     "  litmus  Runs a litmus test and reports its end states and the verdict on its condition",
+    "  trace   Runs a trace and reports what came of it, or its records",
+    "  check   Says whether records are a legal history of a trace over a memory of zeros",
     "  help    Print this message or the help of the given subcommand(s)",
     "",
     "Options:",
     "  -h, --help  Print help",
 ];
 
-// Help on its command, with the options and their defaults.
-const LITMUS_HELP: [&str; 23] = [
+// Help on its commands, with the options and their defaults.
+const LITMUS_HELP: [&str; 24] = [
     "Runs a litmus test and reports its end states and the verdict on its condition",
     "",
     "Usage: tardis litmus [OPTIONS] <FILE>",
@@ -159,14 +200,18 @@ const LITMUS_HELP: [&str; 23] = [
     "  <FILE>  The file with the text of the litmus test",
     "",
     "Options:",
+    "      --runs <runs>              How often the test is run, 1 to 1000000 [default: 1]",
     "      --schedule <schedule>      The order of events: round gives each core its turn, then each message in flight \
         [default: round] [possible values: round]",
+    "      --seed <seed>              What a seeded schedule draws from, any number of 64 bits; schedule round draws \
+        nothing [default: 0]",
     "      --limit <limit>            How many rounds a run has at most, 1 to 4294967295 [default: 100000]",
-    "      --runs <runs>              How often the test is run, 1 to 1000000 [default: 1]",
     "      --workers <workers>        How many threads share the work, 1 to 16; schedule round uses one [default: 1]",
     "      --private-write            Lets a core that wrote a line store to it again without a later time",
-    "      --lease <lease>            How far a lease goes past the times that it covers, 1 to 4294967296 [default: 10]",
-    "      --time <time>              The time of every core and bank before the first event [default: 0]",
+    "      --lease <lease>            How many ticks a lease goes past the times that it covers, 1 to 4294967296 \
+        [default: 10]",
+    "      --time <time>              The time of every core and bank before the first event, in ticks, any number of \
+        64 bits [default: 0]",
     "      --banks <banks>            How many banks the last-level cache has, 1 to 8 [default: 1]",
     "      --sets <sets>              How many sets a private cache has, 1 to 1024 [default: 64]",
     "      --ways <ways>              How many lines a set of a private cache holds, 1 to 16 [default: 4]",
@@ -175,6 +220,50 @@ const LITMUS_HELP: [&str; 23] = [
     "      --line-words <line-words>  How many words a line has, 1 or 8 [default: 1]",
     "      --messages <messages>      How many messages can be in flight, 1 to 65536 [default: 4096]",
     "  -h, --help                     Print help",
+];
+
+const TRACE_HELP: [&str; 24] = [
+    "Runs a trace and reports what came of it, or its records",
+    "",
+    "Usage: tardis trace [OPTIONS] <FILE>",
+    "",
+    "Arguments:",
+    "  <FILE>  The file with the text of the trace",
+    "",
+    "Options:",
+    "      --records                  Writes the records of the completed operations in place of the report",
+    "      --schedule <schedule>      The order of events: round gives each core its turn, then each message in flight \
+        [default: round] [possible values: round]",
+    "      --seed <seed>              What a seeded schedule draws from, any number of 64 bits; schedule round draws \
+        nothing [default: 0]",
+    "      --limit <limit>            How many rounds a run has at most, 1 to 4294967295 [default: 100000]",
+    "      --workers <workers>        How many threads share the work, 1 to 16; schedule round uses one [default: 1]",
+    "      --private-write            Lets a core that wrote a line store to it again without a later time",
+    "      --lease <lease>            How many ticks a lease goes past the times that it covers, 1 to 4294967296 \
+        [default: 10]",
+    "      --time <time>              The time of every core and bank before the first event, in ticks, any number of \
+        64 bits [default: 0]",
+    "      --banks <banks>            How many banks the last-level cache has, 1 to 8 [default: 1]",
+    "      --sets <sets>              How many sets a private cache has, 1 to 1024 [default: 64]",
+    "      --ways <ways>              How many lines a set of a private cache holds, 1 to 16 [default: 4]",
+    "      --bank-sets <bank-sets>    How many sets a bank has, 1 to 1024 [default: 256]",
+    "      --bank-ways <bank-ways>    How many lines a set of a bank holds, 1 to 16 [default: 8]",
+    "      --line-words <line-words>  How many words a line has, 1 or 8 [default: 1]",
+    "      --messages <messages>      How many messages can be in flight, 1 to 65536 [default: 4096]",
+    "  -h, --help                     Print help",
+];
+
+const CHECK_HELP: [&str; 10] = [
+    "Says whether records are a legal history of a trace over a memory of zeros",
+    "",
+    "Usage: tardis check <TRACE> <RECORDS>",
+    "",
+    "Arguments:",
+    "  <TRACE>    The file with the text of the trace",
+    "  <RECORDS>  The file with the text of the records",
+    "",
+    "Options:",
+    "  -h, --help  Print help",
 ];
 
 fn refuses(alloc: Global, words: &[&str], wanted: &str) -> bool {
@@ -214,15 +303,19 @@ fn help(rt: HostRuntime) -> Result<(), Fail> {
             "{words:?}"
         );
     }
-    let litmus = text_of(rt.alloc(), LITMUS_HELP.as_slice())?;
-    for words in [
-        &["tardis", "litmus", "--help"],
-        &["tardis", "help", "litmus"],
-    ] {
-        assert!(rt;
-            refuses(rt.alloc(), words.as_slice(), litmus.as_str()),
-            "{words:?}"
-        );
+    let helps: [(&str, &[&str]); 3] = [
+        ("litmus", LITMUS_HELP.as_slice()),
+        ("trace", TRACE_HELP.as_slice()),
+        ("check", CHECK_HELP.as_slice()),
+    ];
+    for (command, lines) in helps {
+        let wanted = text_of(rt.alloc(), lines)?;
+        for words in [["tardis", command, "--help"], ["tardis", "help", command]] {
+            assert!(rt;
+                refuses(rt.alloc(), words.as_slice(), wanted.as_str()),
+                "{words:?}"
+            );
+        }
     }
     Ok(())
 }

@@ -14,10 +14,11 @@ any_number = Unsigned 0 18446744073709551615
 abbrev pub up_to : ℕ → ValueParser
 up_to most = Unsigned 1 most
 
--- the word round, and no other
-abbrev pub IsRoundOnly : ValueParser → Type 0
-IsRoundOnly p =
-    (names : Bor (List (Bor Text))) × (p ≡ Names names) × (map (λ name. name.now) names.now ≡ codes "round" ∷ [])
+-- the word round or the word seed, and no other
+abbrev pub NamesSchedules : ValueParser → Type 0
+NamesSchedules p =
+    (names : Bor (List (Bor Text))) × (p ≡ Names names)
+    × (map (λ name. name.now) names.now ≡ codes "round" ∷ codes "seed" ∷ [])
 
 -- --name N, which is a default where it isn't given
 abbrev pub number_rule : Text → Text → ValueParser → Rule
@@ -84,8 +85,8 @@ check_app = with_rule (with_rule (new_app (codes "check")) (file_rule (codes "TR
 abbrev pub Parsers : Type 0
 Parsers = ValueParser × ValueParser
 
-abbrev pub AreRoundOnly : Parsers → Type 0
-AreRoundOnly p = IsRoundOnly p.0 × IsRoundOnly p.1
+abbrev pub NameSchedules : Parsers → Type 0
+NameSchedules p = NamesSchedules p.0 × NamesSchedules p.1
 
 -- a command is wanted
 abbrev pub wanting : App → App

@@ -5,7 +5,8 @@ use Rattle.clap.specs.Words.{Row, Text, first_of, one_of}
 use Rattle.run_options.specs.declared.options.LitmusOptions.{LitmusOptions}
 use Rattle.run_options.specs.declared.options.MachineOptions.{MachineOptions}
 use Rattle.run_options.specs.declared.options.RunOptions.{RunOptions}
-use Rattle.run_options.specs.declared.options.Schedule.TheVariants.{Round}
+use Rattle.run_options.specs.declared.options.Schedule.{Schedule}
+use Rattle.run_options.specs.declared.options.Schedule.TheVariants.{Round, Seed}
 use Rattle.run_options.specs.declared.options.TraceOptions.{TraceOptions}
 
 -- the text is this number in decimal, with a plus before it or without one
@@ -26,9 +27,9 @@ abbrev pub IsFlag : List Row → Text → Bool → Type 0
 IsFlag rows name value =
     (one_of name rows ≡ Some (codes "true") → value ≡ true) × (one_of name rows ≡ Some (codes "false") → value ≡ false)
 
--- the path of a file is the word in its place
-abbrev pub HasPath : List Row → Text → Text → Type 0
-HasPath rows name path = (word : Text) → first_of name rows ≡ Some word → path ≡ word
+-- the text is the word that the argument has, as it was written
+abbrev pub HasWord : List Row → Text → Text → Type 0
+HasWord rows name text = (word : Text) → first_of name rows ≡ Some word → text ≡ word
 
 -- how the machine is built
 abbrev pub TellsMachine : List Row → MachineOptions → Type 0
@@ -44,10 +45,16 @@ TellsMachine rows options =
     × IsAnyNumber rows (codes "messages") options.messages
     × IsFlag rows (codes "private-write") options.private_write
 
--- how a run goes; schedule round is the only one
+-- the schedule is the one that the word names
+abbrev pub IsSchedule : List Row → Text → Schedule → Type 0
+IsSchedule rows name schedule =
+    (first_of name rows ≡ Some (codes "round") → schedule ≡ Round)
+    × (first_of name rows ≡ Some (codes "seed") → schedule ≡ Seed)
+
+-- how a run goes
 abbrev pub TellsRun : List Row → RunOptions → Type 0
 TellsRun rows options =
-    (options.schedule ≡ Round)
+    IsSchedule rows (codes "schedule") options.schedule
     × IsAnyNumber rows (codes "seed") options.seed
     × IsNumber rows (codes "workers") 1 16 options.workers
     × IsNumber rows (codes "limit") 1 4294967295 options.limit

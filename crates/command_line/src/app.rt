@@ -3,7 +3,7 @@
 ghost use Rattle.std.specs.Prelude.{◌≡◌, IfOk, false, true};
 ghost use Rattle.clap.specs.Words.{app_of, rule_of, with_rule, with_subcommand};
 ghost use Rattle.clap.specs.declared.builder.command.Command.TheViews.{out-Command as fields_of};
-ghost use Rattle.command_line.specs.App.{AreRoundOnly, IsRoundOnly, any_number, up_to, number_rule, schedule_rule};
+ghost use Rattle.command_line.specs.App.{NameSchedules, NamesSchedules, any_number, up_to, number_rule, schedule_rule};
 ghost use Rattle.command_line.specs.App.{file_rule, flag_rule, with_rules, run_rules, machine_rules};
 ghost use Rattle.command_line.specs.App.{with_run, litmus_app, trace_app, check_app, tardis_app};
 
@@ -11,20 +11,22 @@ use clap::builder::ValueParser;
 use clap::{Arg, ArgAction, Command, value_parser};
 use std::alloc::{AllocError, Global};
 
-static SCHEDULES: [&str; 1] = ["round"];
+static SCHEDULES: [&str; 2] = ["round", "seed"];
 
 // What help says of each option.
 const SCHEDULE: &str =
-    "The order of events: round gives each core its turn, then each message in flight";
+    "The order of events: round gives each core its turn, then each message in flight; seed draws one event a turn";
 
 const SEED: &str =
-    "What a seeded schedule draws from, any number of 64 bits; schedule round draws nothing";
+    "What opens the generator of schedule seed, any number of 64 bits; run i of several, counted from 0, \
+    has this number plus i";
 
-const LIMIT: &str = "How many rounds a run has at most, 1 to 4294967295";
+const LIMIT: &str = "How many rounds a run has at most, or turns by schedule seed, 1 to 4294967295";
 
 const RUNS: &str = "How often the test is run, 1 to 1000000";
 
-const WORKERS: &str = "How many threads share the work, 1 to 16; schedule round uses one";
+const WORKERS: &str =
+    "How many threads share the work, 1 to 16; schedule seed takes one, and schedule round uses one";
 
 const PRIVATE_WRITE: &str = "Lets a core that wrote a line store to it again without a later time";
 
@@ -74,9 +76,9 @@ fn number<'a>(
         .help(help)
 }
 
-/// The schedule, which is `round`.
+/// The schedule, which is `round` or `seed`.
 fn schedule<'a>(alloc: Global) -> Arg<'a>
-    ensures rule { (p : _) × IsRoundOnly p × (rule_of result ≡ schedule_rule p) }
+    ensures rule { (p : _) × NamesSchedules p × (rule_of result ≡ schedule_rule p) }
     ensures local { result.global ≡ false }
 {
     Arg::new(alloc, "schedule")
@@ -139,7 +141,7 @@ fn with_any<'a>(
 
 /// A command with the options that say in which order and how far a run goes.
 fn with_run_options<'a>(command: Command<'a>, alloc: Global) -> Result<Command<'a>, AllocError>
-    ensures app { IfOk result (λ c. (p : _) × IsRoundOnly p
+    ensures app { IfOk result (λ c. (p : _) × NamesSchedules p
         × (app_of c ≡ with_rules (app_of command.entry) (run_rules p))) }
     ensures globals { IfOk result (λ c.
         (fields_of c).has_globals ≡ (fields_of command.entry).has_globals) }
@@ -176,7 +178,7 @@ fn with_run<'a>(
     alloc: Global,
     help: &'a str,
 ) -> Result<Command<'a>, AllocError>
-    ensures app { IfOk result (λ c. (p : _) × IsRoundOnly p
+    ensures app { IfOk result (λ c. (p : _) × NamesSchedules p
         × (app_of c ≡ with_run (app_of command.entry) p)) }
     ensures globals { IfOk result (λ c.
         (fields_of c).has_globals ≡ (fields_of command.entry).has_globals) }
@@ -188,7 +190,7 @@ fn with_run<'a>(
 
 /// The command `litmus`.
 fn litmus_command<'a>(alloc: Global) -> Result<Command<'a>, AllocError>
-    ensures app { IfOk result (λ c. (p : _) × IsRoundOnly p × (app_of c ≡ litmus_app p)) }
+    ensures app { IfOk result (λ c. (p : _) × NamesSchedules p × (app_of c ≡ litmus_app p)) }
     ensures globals { IfOk result (λ c. (fields_of c).has_globals ≡ false) }
 {
     let command = Command::new(alloc, "litmus").about(
@@ -201,7 +203,7 @@ fn litmus_command<'a>(alloc: Global) -> Result<Command<'a>, AllocError>
 
 /// The command `trace`.
 fn trace_command<'a>(alloc: Global) -> Result<Command<'a>, AllocError>
-    ensures app { IfOk result (λ c. (p : _) × IsRoundOnly p × (app_of c ≡ trace_app p)) }
+    ensures app { IfOk result (λ c. (p : _) × NamesSchedules p × (app_of c ≡ trace_app p)) }
     ensures globals { IfOk result (λ c. (fields_of c).has_globals ≡ false) }
 {
     let command = Command::new(alloc, "trace").about(
@@ -236,7 +238,7 @@ fn with_command<'a>(command: Command<'a>, inner: Command<'a>) -> Result<Command<
 
 /// The command line of the program.
 pub(crate) fn command<'a>(alloc: Global) -> Result<Command<'a>, AllocError>
-    ensures app { IfOk result (λ c. (p : _) × AreRoundOnly p × (app_of c ≡ tardis_app p)) }
+    ensures app { IfOk result (λ c. (p : _) × NameSchedules p × (app_of c ≡ tardis_app p)) }
     ensures globals { IfOk result (λ c. (fields_of c).has_globals ≡ false) }
     ensures required { IfOk result (λ c. (fields_of c).subcommand_required ≡ true) }
 {

@@ -2,7 +2,8 @@
 
 ghost use Rattle.std.specs.Prelude.{◌≡◌, ◌≤◌};
 ghost use Rattle.clap.specs.Words.{found_of, rows_of};
-ghost use Rattle.command_line.specs.Options.{HasPath, IsFlag, IsNumber, Tells, TellsMachine, TellsRun, TellsTrace};
+ghost use Rattle.command_line.specs.Options.{HasWord, IsFlag, IsNumber, IsSchedule, Tells};
+ghost use Rattle.command_line.specs.Options.{TellsMachine, TellsRun, TellsTrace};
 
 use clap::ArgMatches;
 use run_options::{LitmusOptions, MachineOptions, RunOptions, Schedule, TraceOptions};
@@ -33,11 +34,21 @@ fn flag(matches: &ArgMatches<'_>, name: &str) -> bool
     matches.get_flag(name)
 }
 
-/// The path of a file.
-pub(crate) fn path_of<'a>(matches: &ArgMatches<'a>, name: &str) -> &'a str
-    ensures { HasPath (rows_of (found_of matches.now)) name.now result.now }
+/// The word that an argument has, as the path of a file, or nothing where it has none.
+pub(crate) fn word_of<'a>(matches: &ArgMatches<'a>, name: &str) -> &'a str
+    ensures { HasWord (rows_of (found_of matches.now)) name.now result.now }
 {
     matches.get_str(name).unwrap_or("")
+}
+
+/// The schedule that an option's word names.
+fn schedule(matches: &ArgMatches<'_>, name: &str) -> Schedule
+    ensures { IsSchedule (rows_of (found_of matches.now)) name.now result }
+{
+    match word_of(matches, name) {
+        "seed" => Schedule::Seed,
+        _ => Schedule::Round,
+    }
 }
 
 /// The machine that the words ask for.
@@ -65,7 +76,7 @@ fn run_of(matches: &ArgMatches<'_>) -> RunOptions
 {
     let default = RunOptions::DEFAULT;
     RunOptions {
-        schedule: Schedule::Round,
+        schedule: schedule(matches, "schedule"),
         seed: any_number(matches, "seed", default.seed),
         workers: number(matches, "workers", 1, 16, default.workers),
         limit: number(matches, "limit", 1, 4294967295, default.limit),

@@ -1,6 +1,7 @@
 //! Command lines that are taken, with what they ask for.
 use command_line::{Job, read_words};
 use run_options::{LitmusOptions, MachineOptions, RunOptions, Schedule, TraceOptions};
+use std::alloc::Global;
 use std::test::Fail;
 
 static PLAIN: [&str; 3] = ["tardis", "litmus", "sb.litmus"];
@@ -93,6 +94,81 @@ fn all_options(rt: HostRuntime) -> Result<(), Fail> {
     assert_eq!(rt; options, wanted);
     assert_eq!(rt; file, "mp.litmus");
     Ok(())
+}
+
+// Words, the schedule that they name, its seed and its workers.
+const SCHEDULES: [(&[&str], Schedule, u64, u64); 6] = [
+    (
+        &["tardis", "litmus", "--schedule", "seed", "a"],
+        Schedule::Seed,
+        0,
+        1,
+    ),
+    (
+        &["tardis", "trace", "--schedule=seed", "--workers=1", "a"],
+        Schedule::Seed,
+        0,
+        1,
+    ),
+    (
+        &[
+            "tardis",
+            "litmus",
+            "a",
+            "--seed",
+            "18446744073709551615",
+            "--schedule=seed",
+        ],
+        Schedule::Seed,
+        18446744073709551615,
+        1,
+    ),
+    (
+        &[
+            "tardis",
+            "trace",
+            "a",
+            "--schedule=round",
+            "--seed=9",
+            "--workers=2",
+        ],
+        Schedule::Round,
+        9,
+        2,
+    ),
+    (
+        &["tardis", "trace", "--workers", "+16", "--seed=007", "a"],
+        Schedule::Round,
+        7,
+        16,
+    ),
+    (
+        &["tardis", "trace", "--schedule", "seed", "--seed=+1", "a"],
+        Schedule::Seed,
+        1,
+        1,
+    ),
+];
+
+fn run_of(alloc: Global, words: &[&str]) -> Option<RunOptions> {
+    match read_words(alloc, words) {
+        Ok(Job::Litmus(options, _)) => Some(options.run),
+        Ok(Job::Trace(options, _)) => Some(options.run),
+        _ => None,
+    }
+}
+
+#[test]
+fn schedules(rt: HostRuntime) {
+    for (words, schedule, seed, workers) in SCHEDULES {
+        let wanted = RunOptions {
+            schedule,
+            seed,
+            workers,
+            ..RunOptions::DEFAULT
+        };
+        assert_eq!(rt; run_of(rt.alloc(), words), Some(wanted), "{words:?}");
+    }
 }
 
 // Words of a trace, whether the records are asked for, the most rounds, and the file.

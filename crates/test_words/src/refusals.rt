@@ -14,7 +14,10 @@ const TRACE: &str = "\n\nUsage: tardis trace [OPTIONS] <FILE>";
 
 const CHECK: &str = "\n\nUsage: tardis check <TRACE> <RECORDS>";
 
-const REFUSED: [(&[&str], &str, &str); 31] = [
+// More workers than one, by schedule seed.
+const MANY: &str = "schedule seed has one worker: '--workers' must be 1";
+
+const REFUSED: [(&[&str], &str, &str); 36] = [
     (
         &["tardis"],
         "'tardis' requires a subcommand but one was not provided\n  [subcommands: litmus, trace, check, help]",
@@ -92,13 +95,46 @@ const REFUSED: [(&[&str], &str, &str); 31] = [
         NO_USAGE,
     ),
     (
-        &["tardis", "litmus", "--schedule", "seed", "a"],
-        "invalid value 'seed' for '--schedule <schedule>'\n  [possible values: round]",
+        &["tardis", "litmus", "--schedule", "threads", "a"],
+        "invalid value 'threads' for '--schedule <schedule>'\n  [possible values: round, seed]",
         NO_USAGE,
     ),
     (
         &["tardis", "litmus", "--schedule", "rounds", "a"],
-        "invalid value 'rounds' for '--schedule <schedule>'\n  [possible values: round]\n\n  tip: a similar value exists: 'round'",
+        "invalid value 'rounds' for '--schedule <schedule>'\n  [possible values: round, seed]\n\n  tip: a similar value exists: 'round'",
+        NO_USAGE,
+    ),
+    (
+        &["tardis", "trace", "--schedule=Seed", "a"],
+        "invalid value 'Seed' for '--schedule <schedule>'\n  [possible values: round, seed]\n\n  tip: a similar value exists: 'seed'",
+        NO_USAGE,
+    ),
+    (
+        &["tardis", "litmus", "--seed", "18446744073709551616", "a"],
+        "invalid value '18446744073709551616' for '--seed <seed>': number too large to fit in target type",
+        NO_USAGE,
+    ),
+    (
+        &[
+            "tardis",
+            "litmus",
+            "--schedule",
+            "seed",
+            "--workers",
+            "2",
+            "a",
+        ],
+        MANY,
+        NO_USAGE,
+    ),
+    (
+        &["tardis", "trace", "--workers=16", "a", "--schedule=seed"],
+        MANY,
+        NO_USAGE,
+    ),
+    (
+        &["tardis", "trace", "--schedule=seed", "--workers=17", "a"],
+        "invalid value '17' for '--workers <workers>': 17 is not in 1..=16",
         NO_USAGE,
     ),
     (
@@ -201,12 +237,14 @@ const LITMUS_HELP: [&str; 24] = [
     "",
     "Options:",
     "      --runs <runs>              How often the test is run, 1 to 1000000 [default: 1]",
-    "      --schedule <schedule>      The order of events: round gives each core its turn, then each message in flight \
-        [default: round] [possible values: round]",
-    "      --seed <seed>              What a seeded schedule draws from, any number of 64 bits; schedule round draws \
-        nothing [default: 0]",
-    "      --limit <limit>            How many rounds a run has at most, 1 to 4294967295 [default: 100000]",
-    "      --workers <workers>        How many threads share the work, 1 to 16; schedule round uses one [default: 1]",
+    "      --schedule <schedule>      The order of events: round gives each core its turn, then each message in flight; \
+        seed draws one event a turn [default: round] [possible values: round, seed]",
+    "      --seed <seed>              What opens the generator of schedule seed, any number of 64 bits; run i of \
+        several, counted from 0, has this number plus i [default: 0]",
+    "      --limit <limit>            How many rounds a run has at most, or turns by schedule seed, 1 to 4294967295 \
+        [default: 100000]",
+    "      --workers <workers>        How many threads share the work, 1 to 16; schedule seed takes one, and schedule \
+        round uses one [default: 1]",
     "      --private-write            Lets a core that wrote a line store to it again without a later time",
     "      --lease <lease>            How many ticks a lease goes past the times that it covers, 1 to 4294967296 \
         [default: 10]",
@@ -232,12 +270,14 @@ const TRACE_HELP: [&str; 24] = [
     "",
     "Options:",
     "      --records                  Writes the records of the completed operations in place of the report",
-    "      --schedule <schedule>      The order of events: round gives each core its turn, then each message in flight \
-        [default: round] [possible values: round]",
-    "      --seed <seed>              What a seeded schedule draws from, any number of 64 bits; schedule round draws \
-        nothing [default: 0]",
-    "      --limit <limit>            How many rounds a run has at most, 1 to 4294967295 [default: 100000]",
-    "      --workers <workers>        How many threads share the work, 1 to 16; schedule round uses one [default: 1]",
+    "      --schedule <schedule>      The order of events: round gives each core its turn, then each message in flight; \
+        seed draws one event a turn [default: round] [possible values: round, seed]",
+    "      --seed <seed>              What opens the generator of schedule seed, any number of 64 bits; run i of \
+        several, counted from 0, has this number plus i [default: 0]",
+    "      --limit <limit>            How many rounds a run has at most, or turns by schedule seed, 1 to 4294967295 \
+        [default: 100000]",
+    "      --workers <workers>        How many threads share the work, 1 to 16; schedule seed takes one, and schedule \
+        round uses one [default: 1]",
     "      --private-write            Lets a core that wrote a line store to it again without a later time",
     "      --lease <lease>            How many ticks a lease goes past the times that it covers, 1 to 4294967296 \
         [default: 10]",

@@ -4,7 +4,7 @@ use Rattle.clap.specs.declared.builder.command.Command.{Command}
 use Rattle.clap.specs.declared.builder.command.Command.TheOpen.{Command-F}
 use Rattle.clap.specs.Simple.{app_of_fields}
 use Rattle.clap.specs.Words.{App, app_of, new_app}
-use Rattle.command_line.specs.App.{AreRoundOnly, Parsers, tardis_app, wanting}
+use Rattle.command_line.specs.App.{NameSchedules, Parsers, tardis_app, wanting}
 use Rattle.command_line.proofs.Chain.{inside}
 use Rattle.command_line.proofs.app.command.Goals as goal
 
@@ -33,5 +33,5 @@ returns-clause-globals c =
 
 pub returns-clause-required : goal.returns-clause-required
 returns-clause-required c = IfOk-weaker c.with_command-3.result
-    (λ m. (p : Parsers) × AreRoundOnly p × (app_of m ≡ tardis_app p)) _
+    (λ m. (p : Parsers) × NameSchedules p × (app_of m ≡ tardis_app p)) _
     (λ m h. ap (λ (a : App). a.top.subcommand_required) h.2) (returns-clause-app c)

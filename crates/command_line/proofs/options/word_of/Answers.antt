@@ -1,6 +1,6 @@
 use Rattle.clap.specs.Words.{found_of}
 use Rattle.command_line.proofs.Found.{file_is}
-use Rattle.command_line.proofs.options.path_of.Goals as goal
+use Rattle.command_line.proofs.options.word_of.Goals as goal
 
 pub returns : goal.returns
 returns c = λ word is.

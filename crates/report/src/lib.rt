@@ -1,13 +1,13 @@
 //! Runs a litmus test from its text to the text of its report.
 #![tactic(auto)]
 
-mod batch;
+mod batches;
 pub mod laws;
 mod litmus;
 mod one_run;
 mod sources;
 
-pub use batch::batch;
+pub use batches::batch;
 pub use litmus::run_litmus;
 pub use one_run::run_once;
 pub use report_text::litmus_text;

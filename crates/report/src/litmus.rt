@@ -6,7 +6,7 @@ ghost use Rattle.report_text.specs.Ends.{ends_as};
 ghost use Rattle.report.specs.Bytes.{OfBytes};
 ghost use Rattle.report.specs.Litmus.{HasNoReport, IsLitmusReport, refusal};
 
-use crate::batch::batch;
+use crate::batches::batch;
 use crate::sources::bytes_of;
 use byte_streams::{Sink, Source};
 use litmus_reader::{Kind, LitmusError, read};

@@ -8,7 +8,7 @@ use Rattle.worker_driver.specs.declared.policy.Policy.{Policy}
 use Rattle.worker_driver.specs.Batches.{policy_of_run}
 use Rattle.report.specs.Runs.{AreFrom, IsRun}
 use Rattle.report.specs.Litmus.{HasOutcome}
-use Rattle.report.proofs.batch.batch.Goals as goal
+use Rattle.report.proofs.batches.batch.Goals as goal
 
 one_more : {X : Type 0} (P : X → Type 0) (xs : List X) (x : X) → AllByRecursion P xs → P x →
     AllByRecursion P (xs ++ x ∷ [])

@@ -4,7 +4,7 @@ use Rattle.litmus_reader.specs.Grammar.{IsTest}
 use Rattle.litmus_reader.specs.TestViews.{test_of}
 use Rattle.report.specs.Litmus.{HasOutcome}
 use Rattle.report.specs.Runs.{AreFrom}
-use Rattle.report.proofs.batch.batch.Given as goal
+use Rattle.report.proofs.batches.batch.Given as goal
 
 abbrev pub invariant-loop-i : goal.invariant-loop-i
 invariant-loop-i l = (length l.runs.items ≡ l.i) ×

@@ -79,7 +79,8 @@ returns c =
     made_so m (λ x. set m.cores c.args.core x) (λ x. m.banks) (λ x. m.drams) core
     (set_same m.cores c.args.core core here) refl refl
     (SameOpen core) (OneLess core) _ (attempt_only core c.args.core (length m.records) m.config.messages m.mail)
-    c.attempt-answer.result c.attempt-answer.new.core c.attempt-answer.new.flight.mail c.keep.new.records.items c.stop.new.is_stopped
+    c.attempt-answer.result c.attempt-answer.new.core c.attempt-answer.new.flight.mail
+    c.keep.new.records.items c.stop.new.is_stopped
     done c.keep.ensures.records c.stop.ensures
     ∙ ap (attempt_at m c.args.core) (sym here)
     ∙ ap (λ (n : Machine). attempt_at n c.args.core (slice_get n.cores c.args.core)) c.self.view_is

@@ -35,7 +35,8 @@ invariant_of-self c =
     let part = c.index_mut.result.now in
     let here = slice_get_read c.self.inside.cores.items (length c.self.inside.cores.items) c.args.core part refl
     (omega (arith, c.if-at-len.false, c.len.ensures)) c.index_mut.ensures.value in
-    let kept = subst (λ (x : Answer × CoreState × Mail). x.1.open_op ≡ part.open_op) (sym c.evict_copy-answer.ensures.done)
+    let kept = subst (λ (x : Answer × CoreState × Mail). x.1.open_op ≡ part.open_op)
+    (sym c.evict_copy-answer.ensures.done)
     (kept_open part m.mail _ (evict_only part c.self.inside.flight.capacity m.mail c.args.line)) in
     let same = owed_kept m.cores c.args.core part c.evict_copy-answer.new.core here kept in
     still_fitted m.config c.self.inside.flight c.self.inside.cores.items c.self.inside.records.items _

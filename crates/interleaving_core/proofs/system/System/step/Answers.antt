@@ -19,11 +19,13 @@ returns-clause-set_up c = subst (λ (m : Machine). SetUpAs m c.step.new.self) c.
     (step_set_up _ c.args.event _ _ c.step.ensures.stepped)
 
 pub returns-clause-advanced : goal.returns-clause-advanced
-returns-clause-advanced c = λ core is none. not_asked c.self.inside.state c.args.event _ is refl (c.step.ensures.memory none)
+returns-clause-advanced c = λ core is none.
+    not_asked c.self.inside.state c.args.event _ is refl (c.step.ensures.memory none)
 
 pub returns-clause-completed : goal.returns-clause-completed
 returns-clause-completed c = λ core is.
-    all_some (slice_get _ core) (λ x done none. not_asked c.self.inside.state c.args.event _ is refl (c.step.ensures.memory none))
+    all_some (slice_get _ core) (λ x done none.
+    not_asked c.self.inside.state c.args.event _ is refl (c.step.ensures.memory none))
 
 pub returns-clause-found : goal.returns-clause-found
 returns-clause-found c = λ number delivers there.

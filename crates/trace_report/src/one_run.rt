@@ -2,6 +2,7 @@
 ghost use Rattle.std.specs.Prelude.{◌≡◌, true, IfOk};
 ghost use Rattle.machine_table.specs.SetUp.{is_good};
 ghost use Rattle.physiological_order.specs.StaleHits.{RisesByNumber};
+ghost use Rattle.record_text.specs.Text.{records_text};
 ghost use Rattle.trace_report.specs.Runs.{IsRun, core_count, end_of, run_text};
 
 use crate::programs::programs_of;
@@ -67,6 +68,13 @@ fn end_of(alloc: Global, trace: &Trace, ran: &Ran) -> Result<TraceEnd, AllocErro
     })
 }
 
+// The text of the records of a run, by rising number.
+fn records_of(alloc: Global, ran: &Ran) -> Result<Vec<u8>, AllocError>
+    ensures { IfOk result (λ text. text.items ≡ records_text ran.now.system.records) }
+{
+    records_text(alloc, ran.system.records())
+}
+
 /// The text that tells a run: its report, or its records alone.
 pub(crate) fn text_of(
     alloc: Global,
@@ -78,7 +86,7 @@ pub(crate) fn text_of(
         run_text records trace.now ran.now.end ran.now.system) }
 {
     if records {
-        return records_text(alloc, ran.system.records());
+        return records_of(alloc, ran);
     }
     let end = end_of(alloc, trace, ran)?;
     let values = values_of(alloc, trace, &ran.system)?;

@@ -3,9 +3,8 @@
 # PROGRAM is a program that is built; without it the program at the top is built where it isn't, and run. The reports
 # are those of examples/oracle.py, which knows nothing of the program; the tables and error lines are by hand.
 #
-# The parts that are run, each a function below: litmus settings refusals seeds traces seeded_traces verdicts
-# trace_refusals. A part whose command or option the program hasn't yet is left out of the list.
-parts=${PARTS:-litmus settings refusals}
+# The parts that are run, each a function below; PARTS names others.
+parts=${PARTS:-litmus settings refusals seeds traces seeded_traces verdicts trace_refusals}
 
 top=$(CDPATH='' cd -- "$(dirname -- "$0")/.." && pwd) || exit 1
 tardis=${1:-$top/tardis}

@@ -1,9 +1,7 @@
 #!/usr/bin/env python3
 """Writes the gate's tests of examples/ anew: crates/test_reports/src/texts.rt, the texts of examples/litmus and the
-reports that are wanted of them, and crates/test_settings/src/texts.rt, the same of examples/settings with options.
-
-Texts with seeds are left out until SEEDS is set; then those of at most MOST_RUNS runs are taken, and the type Given
-must have `BySeed` (of `--schedule seed`) and `Seed`."""
+reports that are wanted of them, and crates/test_settings/src/texts.rt, the same of examples/settings with options. Of
+texts with seeds those of at most MOST_RUNS runs are taken."""
 import re
 from pathlib import Path
 
@@ -11,7 +9,6 @@ TOP = Path(__file__).resolve().parent.parent
 OPTIONS = {"limit": "Limit", "runs": "Runs", "lease": "Lease", "time": "Time", "banks": "Banks", "sets": "Sets",
            "ways": "Ways", "bank-sets": "BankSets", "bank-ways": "BankWays", "line-words": "LineWords",
            "messages": "Messages", "seed": "Seed"}
-SEEDS = False
 MOST_RUNS = 20
 
 
@@ -44,7 +41,7 @@ def options(path):
 def is_taken(path):
     given = words(path)
     runs = int(given[given.index("--runs") + 1]) if "--runs" in given else 1
-    return "seed" not in given or SEEDS and runs <= MOST_RUNS
+    return "seed" not in given or runs <= MOST_RUNS
 
 
 def examples(folder):

@@ -1,13 +1,13 @@
 #!/usr/bin/env python3
-"""Writes small seeded runs for the tests of the gate: examples/seeded_cases.py [FOLDER], by default tests/.
+"""Writes small seeded runs for the tests of the gate: examples/seeded_cases.py [FOLDER].
 
-FOLDER/seeded-cases.json has for each case what it shows, the configuration, the programs, the seed, the limit, the
-events with their turns, lists and answers, the end and the records; and the first words of some seeds.
-FOLDER/seeded_cases.rt has the same as constants of a Rattle test. A case's seed is the one out of those that it names
-(most: 0 to 2,999) whose run shows all that is wanted within the fewest events: so the files are the same each time.
+FOLDER, by default crates/test_seeds/src, gets evictions.rt and turns.rt: each case with what it shows, the machine,
+the programs, the seed, the limit, the end, the events with their turns and lists, and the records. A case's seed is
+the one out of those that it names (most: 0 to 2,999) whose run shows all that is wanted within the fewest events: so
+the files are the same each time.
 """
-import json
 import sys
+from itertools import chain
 from pathlib import Path
 from types import SimpleNamespace
 
@@ -25,7 +25,9 @@ USUAL = {"banks": 1, "sets": 64, "ways": 4, "bank_sets": 256, "bank_ways": 8, "l
 ONE_COPY = {"sets": 1, "ways": 1}
 ONE_LINE = {"bank_sets": 1, "bank_ways": 1}
 ENDS = {"all-done": "AllDone", "limit": "TurnsUsed", "exhausted": "Exhausted"}
-WORD_SEEDS = (0, 1, 42, 2 ** 32, LAST)
+# The cores of the machine of most cases; and the most letters of a list on one line.
+USUAL_CORES = 2
+LONGEST_LIST = 63
 
 
 def load(word):
@@ -44,8 +46,8 @@ STORE_BUFFERING = [[store(0, 1), load(1)], [store(1, 1), load(0)]]
 
 # What a case shows; its options; its programs; its limit; its end; what must occur, as reference/watch.py says it; and
 # the seeds that are tried.
-CASES = [
-    ("after NoRoom the victim leaves, a Shared copy or an owned one, and no attempt follows it in that turn",
+EVICTIONS = [
+    ("after NoRoom the victim leaves, Shared or owned, and no attempt follows it in that turn",
      ONE_COPY, [[load(0), load(1)], [store(2, 5), load(3)]], 200, "all-done",
      ["follow-up EvictCache Shared Evicted", "follow-up EvictCache Exclusive Evicted"], ANY),
     ("after Held a line of the bank leaves: a clean one",
@@ -56,42 +58,31 @@ CASES = [
     ("the list of banks' lines recalls an owned line, and lets a clean and a dirty one leave",
      {}, [[store(0, 1), load(0)], [load(1)]], 200, "all-done",
      ["list 2 EvictBank Exclusive Recalled", "list 2 EvictBank Shared Evicted", "list 2 EvictBank dirty Evicted"], ANY),
-    ("an advance of the first list isn't told to the program, also if it wants one; what a step asks for is",
-     {}, [[ADVANCE, store(0, 1)], [load(0), ADVANCE]], 200, "all-done",
-     ["list 0 Advance Advanced", "list 0, wanted too Advance Advanced", "Advance Advanced"], ANY),
-    ("from an empty list of copies and from one of banks' lines no event is made, and each is a turn",
-     {}, [[load(0)], [store(0, 3)]], 200, "all-done", ["list of copies: empty", "list of banks' lines: empty"], ANY),
-    ("a full network: a request and the load that another one starts are refused, and the run goes on",
-     {"messages": 2}, [[store(0, 1)], [load(0)], [load(0)]], 60, "limit",
-     ["Attempt load NetworkFull", "Deliver ShReq NetworkFull"], ANY),
-    ("the eviction that follows NoRoom is refused by a full network; a list's eviction is, too",
-     {"sets": 1, "ways": 1, "messages": 2}, [[store(0, 1), load(1)], [load(2)]], 300, "all-done",
-     ["follow-up EvictCache Exclusive NetworkFull", "list 1 EvictCache Exclusive NetworkFull"], ANY),
     ("a copy is pinned from the issue of an operation on its line on; other copies leave",
      {}, [[load(0), store(0, 2)], [load(1), load(1)]], 200, "all-done",
      ["pinned, no request yet", "pinned, request out", "list 1 EvictCache Shared Evicted"], ANY),
     ("the list of copies gives back an owned line, and the recall that comes too late is dropped",
      {}, [[store(0, 1)], [swap(0, 3)]], 200, "all-done",
      ["list 1 EvictCache Exclusive Evicted", "Deliver FlushReq Dropped"], ANY),
-    ("a recall and a write-back are held while the open operation is on the line",
-     {}, [[store(0, 1), swap(0, 2)], [load(0), swap(0, 3)]], 300, "all-done",
-     ["Deliver FlushReq Held", "Deliver WbReq Held"], ANY),
-    ("a swap lock: both cores take the lock word and give it back",
-     {}, [[swap(0, 1), store(0, 0)], [swap(0, 1), store(0, 0)]], 300, "all-done",
-     ["Deliver FlushReq Delivered", "list 0 Advance Advanced"], ANY),
-    ("a stale hit; and a copy whose lease has ended is renewed",
-     {"lease": 1}, [[store(0, 1)], [load(0), load(0), ADVANCE, ADVANCE, load(0)]], 300, "all-done",
-     ["Attempt stale load Completed", "Deliver RenewRep Delivered"], ANY),
-    ("an upgrade and a renewal", {"lease": 1}, [[load(0), ADVANCE, ADVANCE, load(0), store(0, 4)]] + [[]], 300,
-     "all-done", ["Deliver RenewRep Delivered", "Deliver UpgradeRep Delivered"], ANY),
-    ("two banks with one line each, lines of eight words, private writes, three cores",
-     {"banks": 2, "bank_sets": 1, "bank_ways": 1, "line_words": 8, "private_write": True},
-     [[store(0, 1), store(1, 2), load(16)], [load(8), swap(1, 3)], [ADVANCE, load(24)]], 400, "all-done",
-     ["follow-up EvictBank Shared Evicted", "Attempt written store Completed"], ANY),
+    ("the eviction that follows NoRoom is refused by a full network; a list's eviction is, too",
+     {"sets": 1, "ways": 1, "messages": 2}, [[store(0, 1), load(1)], [load(2)]], 300, "all-done",
+     ["follow-up EvictCache Exclusive NetworkFull", "list 1 EvictCache Exclusive NetworkFull"], ANY),
     ("four cores, one-line private caches and a bank of two lines: both evictions that follow",
      {"sets": 1, "ways": 1, "bank_sets": 1, "bank_ways": 2},
      [[load(0), store(2, 1)], [store(1, 2)], [swap(2, 4)], [ADVANCE, load(1)]], 400, "all-done",
      ["follow-up EvictCache Shared Evicted", "follow-up EvictBank Shared Evicted"], ANY),
+    ("two banks with one line each, lines of eight words, private writes, three cores",
+     {"banks": 2, "bank_sets": 1, "bank_ways": 1, "line_words": 8, "private_write": True},
+     [[store(0, 1), store(1, 2), load(16)], [load(8), swap(1, 3)], [ADVANCE, load(24)]], 400, "all-done",
+     ["follow-up EvictBank Shared Evicted", "Attempt written store Completed"], ANY),
+]
+
+TURNS = [
+    ("an advance of the first list isn't told, also where the program wants one; what a step asks for is",
+     {}, [[ADVANCE, store(0, 1)], [load(0), ADVANCE]], 200, "all-done",
+     ["list 0 Advance Advanced", "list 0, wanted too Advance Advanced", "Advance Advanced"], ANY),
+    ("from an empty list of copies and from one of banks' lines no event is made, and each is a turn",
+     {}, [[load(0)], [store(0, 3)]], 200, "all-done", ["list of copies: empty", "list of banks' lines: empty"], ANY),
     ("the turns are used before all is done", {}, [[load(0)], [store(0, 1)]], 12, "limit", ["Issue Issued"], ANY),
     ("the last turn that may be made is enough", {}, [[load(0)], []], 9, "all-done", [], range(6, 7)),
     ("the same with one turn less", {}, [[load(0)], []], 8, "limit", [], range(6, 7)),
@@ -107,8 +98,13 @@ CASES = [
      {"time": LAST}, [[store(0, 1)], [store(1, 1)]], 100, "exhausted", ["Attempt store Exhausted"], ANY),
     ("no turn may be made", {}, [[load(0)], []], 0, "limit", [], range(1)),
     ("nothing is to be done: all done without a turn", {}, [[], []], 0, "all-done", [], range(1)),
-    ("the greatest seed", {}, STORE_BUFFERING, 200, "all-done", [], range(LAST, LAST + 1)),
+    ("seed 42 as far as twelve turns", {}, STORE_BUFFERING, 12, "limit", [], range(42, 43)),
+    ("the least seed of 33 bits", {}, STORE_BUFFERING, 12, "limit", [], range(2 ** 32, 2 ** 32 + 1)),
+    ("the greatest seed, a longer run", {}, STORE_BUFFERING, 200, "all-done", [], range(LAST, LAST + 1)),
 ]
+
+# What each file that is written has.
+FILES = {"evictions": ("Seeded runs with evictions", EVICTIONS), "turns": ("Seeded runs: turns, seeds and ends", TURNS)}
 
 
 def drive_case(case, seed):
@@ -131,86 +127,67 @@ def search(case):
     return best
 
 
-def events_of(run):
-    """Each turn with its list and its events; a turn without an event has none."""
+def block(head, lines, tail):
+    """Lines between a head and a tail, further in."""
+    return [head, *("    " + line for line in lines), tail]
+
+
+def listed(items):
+    line = f"&[{', '.join(items)}]"
+    return [line] if len(line) <= LONGEST_LIST else block("&[", [f"{item}," for item in items], "]")
+
+
+def named(name, lines):
+    """A field of a constant."""
+    lines = [f"{name}: {lines[0]}", *lines[1:]]
+    return [*lines[:-1], f"{lines[-1]},"]
+
+
+def made_lines(run):
+    """Each event with its turn and list; a turn without an event has a comment."""
     starts = [start for start, _, _ in run.drawn] + [len(run.made)]
-    for turn, (start, which, length) in enumerate(run.drawn):
-        yield {"turn": turn + 1, "list": which, "length": length,
-               "events": [[event_text(event), answer] for event, answer in run.made[start:starts[turn + 1]]]}
+    for turn, (start, which, _) in enumerate(run.drawn):
+        note = f"// turn {turn + 1}, list {which}"
+        events = run.made[start:starts[turn + 1]]
+        yield from [f"{event_text(event)}, {note}" for event, _ in events] or [f"{note}: empty"]
 
 
-def config_of(options, cores):
-    config = {"cores": cores, **USUAL, **options}
-    config["opening_time"] = config.pop("time")
-    return config
+def config_lines(options, cores):
+    changed = [] if cores == USUAL_CORES else [f"cores: {cores},"]
+    for name, value in options.items():
+        changed += named("opening_time" if name == "time" else name, [str(value).lower()])
+    return block("Config {", [*changed, "..TWO_CORES"], "}") if changed else ["TWO_CORES"]
 
 
-def told(case):
-    """A case as the files tell it."""
+def case_lines(case):
+    """A case as a constant of a Rattle test."""
     shows, options, programs, limit, *_ = case
     seed, run, end = search(case)
-    return {"shows": shows, "config": config_of(options, len(programs)),
-            "programs": [[step_text(step) for step in steps] for steps in programs], "seed": seed, "limit": limit,
-            "turns": list(events_of(run)), "end": ENDS[end],
-            "records": [record_text(record) for record in run.machine.records]}
+    print(f"{len(run.made)} events, {len(run.drawn)} turns, seed {seed}: {shows}")
+    steps = [listed([step_text(step) for step in program])[0] for program in programs]
+    made = block("&[", made_lines(run), "]") if run.drawn else ["&[]"]
+    of_run = [named("shows", [f'"{shows}"']), named("config", config_lines(options, len(programs))),
+              named("programs", listed(steps)), named("limit", [str(limit)]), named("end", [f"End::{ENDS[end]}"]),
+              named("made", made)]
+    records = listed([record_text(record) for record in run.machine.records])
+    run_lines = block("Case {", chain(*of_run), "}")
+    of_case = [named("seed", [str(seed)]), named("run", run_lines), named("records", records)]
+    return block("Seeded {", chain(*of_case), "},")
 
 
-def words_of(seed):
-    generator = Pcg32.of_seed(seed)
-    return [f"{generator.draw():08x}" for _ in range(8)]
-
-
-def json_text(cases):
-    """JSON with one turn a line."""
-    lines = ['{"words": ' + json.dumps({str(seed): words_of(seed) for seed in WORD_SEEDS}) + ",", '"cases": [']
-    for case in cases:
-        lines.append("{")
-        for name in ("shows", "config", "programs", "seed", "limit", "end", "records"):
-            lines.append(f'  "{name}": {json.dumps(case[name])},')
-        turns = ",\n    ".join(json.dumps(turn) for turn in case["turns"])
-        lines += ['  "turns": [' + (f"\n    {turns}\n  " if turns else "") + "]", "},"]
-    lines[-1] = "}"
-    return "\n".join(lines + ["]}"]) + "\n"
-
-
-def list_text(items):
-    return f"&[{', '.join(items)}]"
-
-
-def rattle_case(case):
-    config = [f"{name}: {str(value).lower()}" for name, value in case["config"].items()
-              if name != "cores" and value != USUAL.get(name, 0)]
-    yield from ("    Case {", f'        shows: "{case["shows"]}",')
-    yield f"        config: Config {{ {', '.join([*config, '..USUAL'])} }}," if config else "        config: USUAL,"
-    programs = [f"            {list_text(program)}," for program in case["programs"]]
-    yield from ("        programs: &[", *programs, "        ],", f"        seed: {case['seed']},")
-    yield from (f"        limit: {case['limit']},", f"        end: End::{case['end']},", "        made: &[")
-    for turn in case["turns"]:
-        note = f"list {turn['list']}" + ("" if turn["events"] else ", empty")
-        yield f"            // turn {turn['turn']}, {note}"
-        yield from (f"            {event}," for event, _ in turn["events"])
-    yield from ("        ],", "        records: &[", *(f"            {record}," for record in case["records"]))
-    yield from ("        ],", "    },")
-
-
-def rattle_text(cases):
-    lines = ["//! Runs by seeds: written by examples/seeded_cases.py, which knows nothing of the program."]
-    for cores in sorted({case["config"]["cores"] for case in cases}):
-        lines += ["", f"pub(crate) const OF_{cores}_CORES: &[Case] = &["]
-        lines += [line for case in cases if case["config"]["cores"] == cores for line in rattle_case(case)] + ["];"]
+def file_text(name, title, cases):
+    lines = [f"//! {title}: written by examples/seeded_cases.py, which knows nothing of the program.",
+             "use crate::seeded::{Seeded, TWO_CORES};", "use interleaving_core::Config;", "use run_ends::End;",
+             "use schedule_cases::{Case, Made, On};", ""]
+    lines += block(f"pub(crate) const {name.upper()}: &[Seeded] = &[", chain(*map(case_lines, cases)), "];")
     return "\n".join(lines) + "\n"
 
 
 def main():
     test_generator()
-    folder = Path(sys.argv[1]) if sys.argv[1:] else Path(__file__).resolve().parent.parent / "tests"
-    folder.mkdir(exist_ok=True)
-    cases = [told(case) for case in CASES]
-    (folder / "seeded-cases.json").write_text(json_text(cases), encoding="ascii")
-    (folder / "seeded_cases.rt").write_text(rattle_text(cases), encoding="ascii")
-    for case in cases:
-        events = sum(len(turn["events"]) for turn in case["turns"])
-        print(f"{events} events, {len(case['turns'])} turns, seed {case['seed']}: {case['shows']}")
+    folder = Path(sys.argv[1]) if sys.argv[1:] else Path(__file__).resolve().parent.parent / "crates/test_seeds/src"
+    for name, (title, cases) in FILES.items():
+        (folder / f"{name}.rt").write_text(file_text(name, title, cases), encoding="ascii")
 
 
 if __name__ == "__main__":

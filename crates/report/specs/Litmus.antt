@@ -9,7 +9,7 @@ use Rattle.litmus_reader.specs.Grammar.{IsTest}
 use Rattle.litmus_reader.specs.Litmus.{Litmus}
 use Rattle.litmus_reader.specs.ReadingTest.{read_at}
 use Rattle.machine_table.specs.SetUp.{is_good}
-use Rattle.report_parts.specs.SetUp.{config_of, limit_of}
+use Rattle.report_parts.specs.SetUp.{config_of, limit_of, policy_of}
 use Rattle.report_text.specs.Ends.{ends_as}
 use Rattle.report_text.specs.Text.{litmus_text}
 use Rattle.run_ends.specs.declared.ends.End.TheVariants.{AllDone}
@@ -19,11 +19,12 @@ use Rattle.run_results.specs.declared.results.RunError.{RunError}
 use Rattle.run_results.specs.declared.results.RunError.TheVariants.{Read, Write, NoMemory, Litmus as Refused}
 use Rattle.run_results.specs.declared.results.RunError.TheVariants.{Trace, BadConfig}
 use Rattle.sequential_machine.specs.SequentialMachine.{IsOutcome}
-use Rattle.report.specs.Runs.{IsRun}
+use Rattle.report.specs.Runs.{AreFrom}
 
--- the most rounds of a run
-abbrev pub rounds : LitmusOptions → ℕ
-rounds options = limit_of options.run
+-- the most turns of a run
+abbrev pub turns : LitmusOptions → ℕ
+turns options = limit_of options.run
+
 
 -- the end state of a run that has one is an outcome of the sequential machine
 abbrev pub HasOutcome : Litmus → RunEnd → Type 0
@@ -34,7 +35,7 @@ pub record AreRuns (options : LitmusOptions) (bytes : List ℕ) (test : Litmus) 
   pub is_test : IsTest bytes test
   pub good : is_good (config_of options.run.machine test.threads) ≡ true
   pub count : length runs ≡ options.runs
-  pub each : AllByRecursion (IsRun test (config_of options.run.machine test.threads) (rounds options)) runs
+  pub each : AreFrom test (config_of options.run.machine test.threads) (policy_of options.run) (turns options) 0 runs
   pub outcomes : AllByRecursion (HasOutcome test) runs
 
 -- the text reports on such runs, and says whether all of them ended all done

@@ -15,9 +15,9 @@ use Rattle.run_ends.specs.declared.ends.End.{End}
 use Rattle.run_ends.specs.declared.ends.End.TheVariants.{AllDone}
 use Rattle.run_ends.specs.declared.ends.RunEnd.{RunEnd}
 use Rattle.worker_driver.specs.Acts.{Acts, as_step}
-use Rattle.worker_driver.specs.RoundSchedule.{no_round, rounds}
-use Rattle.worker_driver.specs.Runs.{plan_of}
-use Rattle.worker_driver.specs.RunEvents.{Ended, initial}
+use Rattle.worker_driver.specs.declared.policy.Policy.{Policy}
+use Rattle.worker_driver.specs.Policies.{EndedBy}
+use Rattle.worker_driver.specs.Batches.{policy_of_run}
 
 -- what the threads of a test do
 abbrev pub thread_acts : Acts Thread
@@ -41,16 +41,21 @@ abbrev pub state_at : Litmus → End → List Thread → Machine → Option (Lis
 state_at test AllDone threads m = Some (map (end_value threads (values_from m 0 (length test.locations))) test.seen)
 state_at test end threads m = None
 
--- events by the schedule of rounds lead from the machine and the threads that the test opens to the run's end; its
+-- events by the policy's schedule lead from the machine and the threads that the test opens to the run's end; its
 -- numbers are those of the machine then
-pub record IsRun (test : Litmus) (config : Config) (limit : ℕ) (run : RunEnd) : Type 0 where
+pub record IsRun (test : Litmus) (config : Config) (policy : Policy) (limit : ℕ) (run : RunEnd) : Type 0 where
   pub events : List Event
   pub machine : Machine
   pub threads : List Thread
-  pub ended : Ended (plan_of thread_acts (rounds thread_acts) limit)
-      (initial (at_start config (words_opened test.items empty)) (threads_from test 0 test.threads)
-      (no_round config.cores)) events machine threads run.end
+  pub ended : EndedBy thread_acts policy limit (at_start config (words_opened test.items empty))
+      (threads_from test 0 test.threads) events machine threads run.end
   pub state : run.state ≡ state_at test run.end threads machine
   pub completed : run.completed ≡ length machine.records
   pub stale : run.stale ≡ stale_count machine.records
   pub counts : run.counts ≡ machine.mail.counts
+
+-- runs of a batch from its run i on, where its first run follows this policy
+abbrev pub AreFrom : Litmus → Config → Policy → ℕ → ℕ → List RunEnd → Type 0
+AreFrom test config first limit i [] = Unit {0}
+AreFrom test config first limit i (run ∷ runs) =
+    IsRun test config (policy_of_run first i) limit run × AreFrom test config first limit (i + 1) runs

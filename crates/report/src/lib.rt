@@ -1,12 +1,15 @@
 //! Runs a litmus test from its text to the text of its report.
 #![tactic(auto)]
 
+mod batch;
 pub mod laws;
 mod litmus;
 mod one_run;
 mod sources;
 
+pub use batch::batch;
 pub use litmus::run_litmus;
+pub use one_run::run_once;
 pub use report_text::litmus_text;
 pub use run_ends::{End, RunEnd};
 pub use run_options::{LitmusOptions, MachineOptions, RunOptions, Schedule};

@@ -1,21 +1,16 @@
 //! From a source with a litmus text to a sink for its report.
-ghost use Rattle.std.specs.Prelude.{◌≡◌, ◌≢◌, IfErr, IfOk, IsErrOf, List, false, true, length, ℕ};
-ghost use Rattle.std.specs.List.{AllByRecursion, list_all};
-ghost use Rattle.litmus_reader.specs.Grammar.{IsTest};
-ghost use Rattle.litmus_reader.specs.TestViews.{test_of};
-ghost use Rattle.machine_table.specs.SetUp.{is_good};
+ghost use Rattle.std.specs.Prelude.{◌≡◌, ◌≢◌, IfErr, IfOk, IsErrOf};
+ghost use Rattle.std.specs.List.{list_all};
 ghost use Rattle.report_parts.specs.Answers.{AreCounted, IsCutOff, IsReported};
 ghost use Rattle.report_text.specs.Ends.{ends_as};
 ghost use Rattle.report.specs.Bytes.{OfBytes};
-ghost use Rattle.report.specs.Litmus.{HasNoReport, HasOutcome, IsLitmusReport, refusal, rounds};
-ghost use Rattle.report.specs.Runs.{IsRun};
+ghost use Rattle.report.specs.Litmus.{HasNoReport, IsLitmusReport, refusal};
 
-use crate::one_run::run_once;
+use crate::batch::batch;
 use crate::sources::bytes_of;
 use byte_streams::{Sink, Source};
-use interleaving_core::Config;
-use litmus_reader::{Kind, LitmusError, Test, read};
-use report_parts::{config_of, limit_of, put_out};
+use litmus_reader::{Kind, LitmusError, read};
+use report_parts::{config_of, limit_of, policy_of, put_out};
 use report_text::litmus_text;
 use run_ends::{End, RunEnd};
 use run_options::LitmusOptions;
@@ -76,7 +71,8 @@ fn report_of(alloc: Global, bytes: &[u8], options: &LitmusOptions) -> Result<Rep
     let Some(config) = config_of(&options.run.machine, test.threads() as u32) else {
         return Err(RunError::BadConfig);
     };
-    let Ok(runs) = run_often(alloc, &test, config, options) else {
+    let (first, limit) = (policy_of(&options.run), limit_of(&options.run));
+    let Ok(runs) = batch(alloc, &test, config, first, options.runs, limit) else {
         return Err(RunError::NoMemory);
     };
     match litmus_text(alloc, &test, &runs) {
@@ -97,29 +93,6 @@ fn refusal(error: LitmusError) -> RunError
     } else {
         RunError::Litmus(error)
     }
-}
-
-// The runs that the options ask for.
-fn run_often(
-    alloc: Global,
-    test: &Test,
-    config: Config,
-    options: &LitmusOptions,
-) -> Result<Vec<RunEnd>, AllocError>
-    requires good { is_good config ≡ true }
-    requires cores { config.cores ≡ (test_of test.now).threads }
-    ensures count { IfOk result (λ runs. length runs.items ≡ options.now.runs) }
-    ensures each { IfOk result (λ runs.
-        AllByRecursion (IsRun (test_of test.now) config (rounds options.now)) runs.items) }
-    ensures outcomes { IfOk result (λ runs. (text : List ℕ) → IsTest text (test_of test.now) →
-        AllByRecursion (HasOutcome (test_of test.now)) runs.items) }
-{
-    let limit = limit_of(&options.run);
-    let mut runs = Vec::new(alloc);
-    for _ in 0..options.runs {
-        runs.push(run_once(alloc, test, config, limit)?)?;
-    }
-    Ok(runs)
 }
 
 // Whether every run ended all done.

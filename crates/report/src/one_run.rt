@@ -13,19 +13,20 @@ use physiological_order::{WordAddr, stale_hits};
 use run_ends::{End, RunEnd};
 use sequential_machine::laws::performed_histories_are_sequential;
 use std::alloc::{AllocError, Global};
-use worker_driver::drive_round;
+use worker_driver::{Policy, run_to_end};
 
-/// A run of the test on a machine with a core for each thread, by the schedule of rounds, with at most so many
-/// rounds. The end state of a run that is all done is an outcome of the sequential machine.
-pub(crate) fn run_once(
+/// A run of the test on a machine with a core for each thread, by this policy, with at most so many turns. The end
+/// state of a run that is all done is an outcome of the sequential machine.
+pub fn run_once(
     alloc: Global,
     test: &Test,
     config: Config,
+    policy: Policy,
     limit: u32,
 ) -> Result<RunEnd, AllocError>
     requires good { is_good config ≡ true }
     requires cores { config.cores ≡ (test_of test.now).threads }
-    ensures run { IfOk result (IsRun (test_of test.now) config limit) }
+    ensures run { IfOk result (IsRun (test_of test.now) config policy limit) }
     ensures outcome { IfOk result (λ run.
         (text : List ℕ) → IsTest text (test_of test.now) → HasOutcome (test_of test.now) run) }
 {
@@ -37,11 +38,11 @@ pub(crate) fn run_once(
     };
     let mut started = start_threads(alloc, test)?;
     let threads = started.as_mut_slice();
-    let driven = drive_round(alloc, &mut system, threads, limit);
+    let end = run_to_end(alloc, &mut system, threads, policy, limit);
     let stale = stale_hits(alloc, system.records())?;
-    let state = end_state(alloc, test, driven.end, threads, &system)?;
+    let state = end_state(alloc, test, end, threads, &system)?;
     Ok(RunEnd {
-        end: driven.end,
+        end,
         state,
         completed: system.records().len() as u64,
         stale,

@@ -1,7 +1,11 @@
--- The machine that options ask for, and how far a run of it goes.
+-- The machine that options ask for, which schedule a run of it follows, and how far it goes.
 use Rattle.std.specs.Prelude.{ℕ, min, nat_le, Bool, ◌&&◌}
 use Rattle.run_options.specs.declared.options.MachineOptions.{MachineOptions}
 use Rattle.run_options.specs.declared.options.RunOptions.{RunOptions}
+use Rattle.run_options.specs.declared.options.Schedule.{Schedule}
+use Rattle.run_options.specs.declared.options.Schedule.TheVariants.{Round, Seed as ScheduledBySeed}
+use Rattle.worker_driver.specs.declared.policy.Policy.{Policy}
+use Rattle.worker_driver.specs.declared.policy.Policy.TheVariants.{Rounds, Seed}
 use Rattle.machine_table.specs.declared.config.Config.{Config}
 
 -- so many cores
@@ -27,6 +31,14 @@ fits options =
     && nat_le options.bank_sets 65536
     && nat_le options.bank_ways 65536 && nat_le options.line_words 65536 && nat_le options.messages 65536
 
--- the most rounds of a run
+-- the most turns of a run
 abbrev pub limit_of : RunOptions → ℕ
 limit_of options = min options.limit 4294967295
+
+-- which schedule the first run follows
+abbrev pub policy_by : Schedule → ℕ → Policy
+policy_by Round seed = Rounds
+policy_by ScheduledBySeed seed = Seed seed
+
+abbrev pub policy_of : RunOptions → Policy
+policy_of options = policy_by options.schedule options.seed

@@ -1,4 +1,4 @@
-//! What the reports of litmus tests and of traces share: the machine that options ask for, how far a run goes, and a
+//! What the reports of litmus tests and of traces share: the machine that options ask for, which schedule a run follows and how far, and a
 //! whole text to a sink.
 #![tactic(auto)]
 
@@ -6,4 +6,4 @@ mod outputs;
 mod set_up;
 
 pub use outputs::put_out;
-pub use set_up::{config_of, limit_of};
+pub use set_up::{config_of, limit_of, policy_of};

@@ -1,10 +1,11 @@
 //! The machine that options ask for, and how far a run of it goes.
 ghost use Rattle.std.specs.Prelude.{◌≡◌, ◌<◌, ◌^◌, false, true, IfSome, None};
 ghost use Rattle.machine_table.specs.SetUp.{is_good};
-ghost use Rattle.report_parts.specs.SetUp.{config_of, fits, limit_of};
+ghost use Rattle.report_parts.specs.SetUp.{config_of, fits, limit_of, policy_of};
 
 use machine_table::Config;
-use run_options::{MachineOptions, RunOptions};
+use run_options::{MachineOptions, RunOptions, Schedule};
+use worker_driver::Policy;
 
 /// The configuration with these numbers, where no value is out of its range.
 pub fn config_of(options: &MachineOptions, cores: u32) -> Option<Config>
@@ -44,9 +45,19 @@ fn fits(options: &MachineOptions) -> bool
         && options.messages <= 65_536
 }
 
-/// The most rounds of a run: as many as its options allow, and at most 4,294,967,295.
+/// The most turns of a run: as many as its options allow, and at most 4,294,967,295.
 pub fn limit_of(options: &RunOptions) -> u32
     ensures { result ≡ limit_of options.now }
 {
     options.limit.min(u64::from(u32::MAX)) as u32
+}
+
+/// Which schedule the first run follows: rounds, or the seed of the options.
+pub fn policy_of(options: &RunOptions) -> Policy
+    ensures { result ≡ policy_of options.now }
+{
+    match options.schedule {
+        Schedule::Round => Policy::Rounds,
+        Schedule::Seed => Policy::Seed(options.seed),
+    }
 }

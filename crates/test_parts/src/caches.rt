@@ -136,6 +136,23 @@ fn has(cache: &Cache, line: u64, wanted: Option<Kept>) -> bool {
     }
 }
 
+// The first line of a copy that may leave while a line is pinned.
+fn first_free(cache: &Cache, pinned: u64) -> Result<Option<LineNo>, AllocError> {
+    let pinned = Some(LineNo(pinned));
+    if cache.free_copies(pinned) == 0 {
+        return Ok(None);
+    }
+    Ok(Some(cache.free_copy(pinned, 0)?))
+}
+
+// Whether a cache has copies of two lines, this one and a greater one.
+fn has_two(cache: &Cache, first: u64, second: u64) -> Result<bool, AllocError> {
+    if cache.free_copies(None) != 2 || first_free(cache, first)? != Some(LineNo(second)) {
+        return Ok(false);
+    }
+    Ok(cache.lines()?.as_slice() == [LineNo(first), LineNo(second)].as_slice())
+}
+
 // Whether a step goes as it says.
 fn goes(cache: &mut Cache, step: Step) -> Result<bool, AllocError> {
     match step {
@@ -152,9 +169,7 @@ fn goes(cache: &mut Cache, step: Step) -> Result<bool, AllocError> {
         Step::Victim(line, wanted) => Ok(
             cache.victim(LineNo(line)).map(|victim| victim.0) == wanted,
         ),
-        Step::Lines(first, second) => {
-            Ok(cache.lines()?.as_slice() == [LineNo(first), LineNo(second)].as_slice())
-        }
+        Step::Lines(first, second) => has_two(cache, first, second),
     }
 }
 

@@ -1,5 +1,5 @@
 //! Messages in flight, by their numbers.
-ghost use Rattle.std.specs.Prelude.{◌≡◌, IsTrue};
+ghost use Rattle.std.specs.Prelude.{◌≡◌, IfOk, IsTrue};
 ghost use Rattle.network.specs.Routes.{has_endpoints};
 
 use network::{Body, InFlight, LineNo, Message, MsgNo, Node, PartError, SendError, Words};
@@ -47,20 +47,20 @@ fn send(flight: &mut InFlight, message: Message) -> Result<MsgNo, (SendError, Me
 }
 
 // Three places, all taken.
-fn three_sent(alloc: Global) -> InFlight
-    ensures cores { result.cores ≡ 2 }
-    ensures banks { result.banks ≡ 1 }
+fn three_sent(alloc: Global) -> Result<InFlight, AllocError>
+    ensures cores { IfOk result (λ flight. flight.cores ≡ 2) }
+    ensures banks { IfOk result (λ flight. flight.banks ≡ 1) }
 {
-    let mut flight = InFlight::new(alloc, 2, 1, 3);
+    let mut flight = InFlight::new(alloc, 2, 1, 3)?;
     let _first = send(&mut flight, request());
     let _second = send(&mut flight, grant());
     let _third = send(&mut flight, store());
-    flight
+    Ok(flight)
 }
 
 #[test]
-fn sends_until_no_place_is_left(rt: HostRuntime) {
-    let mut flight = InFlight::new(rt.alloc(), 2, 1, 3);
+fn sends_until_no_place_is_left(rt: HostRuntime) -> Result<(), Fail> {
+    let mut flight = InFlight::new(rt.alloc(), 2, 1, 3)?;
     assert!(rt; flight.reserve().is_ok());
     assert_eq!(rt; send(&mut flight, request()), Ok(MsgNo(0)));
     assert_eq!(rt; send(&mut flight, grant()), Ok(MsgNo(1)));
@@ -68,6 +68,7 @@ fn sends_until_no_place_is_left(rt: HostRuntime) {
     assert!(rt; flight.has_number() && !flight.has_capacity());
     let full = Err((SendError::Full, request()));
     assert_eq!(rt; send(&mut flight, request()), full);
+    Ok(())
 }
 
 // What the answer to a look has.
@@ -76,17 +77,18 @@ fn is_found(found: Option<&Message>, wanted: Option<Message>) -> bool {
 }
 
 #[test]
-fn finds_messages_by_what_they_carry(rt: HostRuntime) {
-    let flight = three_sent(rt.alloc());
+fn finds_messages_by_what_they_carry(rt: HostRuntime) -> Result<(), Fail> {
+    let flight = three_sent(rt.alloc())?;
     assert_eq!(rt; flight.owners(LineNo(7)), 1);
     assert!(rt; is_found(flight.ownership_of(LineNo(7)), Some(grant())));
     assert!(rt; is_found(flight.store_of(LineNo(7)), Some(store())));
+    Ok(())
 }
 
 // One is taken, and another one sent.
 #[test]
 fn keeps_messages_by_number(rt: HostRuntime) -> Result<(), Fail> {
-    let mut flight = three_sent(rt.alloc());
+    let mut flight = three_sent(rt.alloc())?;
     assert_eq!(rt; flight.take(MsgNo(1)), Some(grant()));
     assert_eq!(rt; flight.take(MsgNo(1)), None);
     assert!(rt; is_found(flight.look(MsgNo(1)), None));
@@ -125,8 +127,8 @@ fn slots_after_another(flight: &mut InFlight) -> usize
 // The first message stays in flight, six others come and go. A slot is kept for the first one and for up to two that
 // were taken; with the third these three are given back.
 #[test]
-fn gives_slots_back(rt: HostRuntime) {
-    let mut flight = InFlight::new(rt.alloc(), 2, 1, 3);
+fn gives_slots_back(rt: HostRuntime) -> Result<(), Fail> {
+    let mut flight = InFlight::new(rt.alloc(), 2, 1, 3)?;
     let first = message(Node::Core(0), Node::Bank(0), Body::ExReq { version: None });
     assert_eq!(rt; flight.slots(), 0);
     assert_eq!(rt; flight.send(first), Ok(MsgNo(0)));
@@ -138,6 +140,7 @@ fn gives_slots_back(rt: HostRuntime) {
     assert_eq!(rt; slots_after_another(&mut flight), 1);
     let again = message(Node::Core(0), Node::Bank(0), Body::ExReq { version: None });
     assert_eq!(rt; flight.send(again), Ok(MsgNo(7)));
+    Ok(())
 }
 
 #[test]

@@ -115,7 +115,9 @@ fn goes(table: &mut LineSets<Mark>, step: &Step) -> Result<bool, AllocError> {
         Step::FirstAbove(set, number, line) => Ok(
             *set < table.sets() && table.first_where(*set, &Above(*number)) == *line,
         ),
-        Step::Lines(lines) => Ok(table.lines()?.as_slice() == lines.as_slice()),
+        Step::Lines(lines) => Ok(
+            table.lines()?.as_slice() == lines.as_slice() && table.listed() == lines.len(),
+        ),
     }
 }
 

@@ -1,38 +1,16 @@
 //! Runs by hand: store buffering by two lists of operations, and the ends.
-ghost use Rattle.std.specs.Prelude.{◌≡◌, ◌≤◌, IfOk, length};
+ghost use Rattle.std.specs.Prelude.{◌≤◌, length};
 
+use crate::driver::drive;
 use interleaving_core::{Config, System};
-use physiological_order::{Memory, Op, Record, WordAddr};
+use physiological_order::{Op, Record, WordAddr};
 use run_ends::End;
+use schedule_cases::{USUAL, machine};
 use std::alloc::{AllocError, Global};
 use std::test::Fail;
-use worker_driver::{Driven, OpProgram, drive_round};
+use worker_driver::{Driven, OpProgram};
 
-// Two cores and one bank, with one-word lines.
-fn machine(alloc: Global, messages: u32) -> Result<System, AllocError>
-    ensures cores { IfOk result (λ system. system.config.cores ≡ 2) }
-    ensures words { IfOk result (λ system. system.config.line_words ≡ 1) }
-{
-    let config = Config {
-        cores: 2,
-        banks: 1,
-        sets: 64,
-        ways: 4,
-        bank_sets: 256,
-        bank_ways: 8,
-        line_words: 1,
-        lease: 10,
-        messages,
-        opening_time: 0,
-        private_write: false,
-    };
-    match System::new(alloc, config, Memory::new(alloc)) {
-        Ok(system) => Ok(system),
-        Err(_) => Err(AllocError),
-    }
-}
-
-// Drives two lists of operations.
+// Drives two lists of operations, on two cores.
 fn run(
     alloc: Global,
     messages: u32,
@@ -43,12 +21,17 @@ fn run(
     requires first { length first.now ≤ 4294967295 }
     requires second { length second.now ≤ 4294967295 }
 {
-    let mut system = machine(alloc, messages)?;
+    let config = Config {
+        cores: 2,
+        messages,
+        ..USUAL
+    };
+    let mut system = machine(alloc, config)?;
     let mut programs = [
         OpProgram::new(Vec::from_slice(alloc, first)?),
         OpProgram::new(Vec::from_slice(alloc, second)?),
     ];
-    let driven = drive_round(alloc, &mut system, &mut programs, limit);
+    let driven = drive(alloc, &mut system, &mut programs, limit)?;
     Ok((driven, system))
 }
 

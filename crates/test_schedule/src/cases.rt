@@ -2,55 +2,11 @@
 //! docs/SCHEDULES.md and docs/PROTOCOL.md, but for the last one.
 use interleaving_core::Config;
 use run_ends::End;
-
-/// A run: what it shows, the machine, a program a core, the most rounds; its end and its events.
-#[derive(Clone, Copy)]
-pub(crate) struct Case {
-    pub(crate) shows: &'static str,
-    pub(crate) config: Config,
-    pub(crate) programs: [&'static [On]; 3],
-    pub(crate) limit: u32,
-    pub(crate) end: End,
-    pub(crate) made: &'static [Made],
-}
-
-/// A step: an operation on the word of a number, or an advance.
-#[derive(Clone, Copy, Debug)]
-pub(crate) enum On {
-    Load(u64),
-    Store(u64, u64),
-    Advance,
-}
-
-/// An event.
-#[derive(Clone, Copy, Debug)]
-pub(crate) enum Made {
-    Issue(u32, On),
-    Attempt(u32),
-    Deliver(u64),
-    EvictCache(u32, u64),
-    EvictBank(u32, u64),
-    Advance(u32),
-}
+use schedule_cases::{Case, Made, On, USUAL};
 
 const X: u64 = 0;
 
 const Y: u64 = 1;
-
-/// Three cores and one bank, with a lease of 10, from time 0 on, and lines of one word.
-pub(crate) const USUAL: Config = Config {
-    cores: 3,
-    banks: 1,
-    sets: 64,
-    ways: 4,
-    bank_sets: 256,
-    bank_ways: 8,
-    line_words: 1,
-    lease: 10,
-    messages: 4096,
-    opening_time: 0,
-    private_write: false,
-};
 
 const ONE_COPY: Config = Config {
     sets: 1,
@@ -84,7 +40,7 @@ pub(crate) const CASES: &[Case] = &[
     Case {
         shows: "an advance is the step of a core's turn, and no attempt follows it in that round",
         config: USUAL,
-        programs: [
+        programs: &[
             &[On::Advance, On::Load(X), On::Advance, On::Load(X)],
             &[],
             &[On::Advance],
@@ -125,7 +81,7 @@ pub(crate) const CASES: &[Case] = &[
     Case {
         shows: "an advance that is left is a next step",
         config: USUAL,
-        programs: [&[On::Advance, On::Advance], &[], &[]],
+        programs: &[&[On::Advance, On::Advance], &[], &[]],
         limit: 1,
         end: End::TurnsUsed,
         made: &[Made::Advance(0)],
@@ -133,7 +89,7 @@ pub(crate) const CASES: &[Case] = &[
     Case {
         shows: "all is done once the last advance was made",
         config: USUAL,
-        programs: [&[On::Advance, On::Advance], &[], &[]],
+        programs: &[&[On::Advance, On::Advance], &[], &[]],
         limit: 2,
         end: End::AllDone,
         made: &[Made::Advance(0), Made::Advance(0)],
@@ -141,7 +97,7 @@ pub(crate) const CASES: &[Case] = &[
     Case {
         shows: "an advance past the last time ends the run",
         config: LATE,
-        programs: [&[On::Advance, On::Advance], &[On::Advance], &[]],
+        programs: &[&[On::Advance, On::Advance], &[On::Advance], &[]],
         limit: 100,
         end: End::Exhausted,
         made: &[Made::Advance(0), Made::Advance(1), Made::Advance(0)],
@@ -149,7 +105,7 @@ pub(crate) const CASES: &[Case] = &[
     Case {
         shows: "a core attempts its operation in each round, and what deliveries send waits for the next round",
         config: USUAL,
-        programs: [&[On::Load(X), On::Load(X)], &[], &[]],
+        programs: &[&[On::Load(X), On::Load(X)], &[], &[]],
         limit: 7,
         end: End::AllDone,
         made: &[
@@ -181,7 +137,7 @@ pub(crate) const CASES: &[Case] = &[
     Case {
         shows: "the turns are used before a core that has a next operation gets it",
         config: USUAL,
-        programs: [&[On::Load(X), On::Load(X)], &[], &[]],
+        programs: &[&[On::Load(X), On::Load(X)], &[], &[]],
         limit: 6,
         end: End::TurnsUsed,
         made: &[
@@ -210,7 +166,7 @@ pub(crate) const CASES: &[Case] = &[
     Case {
         shows: "an operation that is open when the turns are used isn't attempted again",
         config: USUAL,
-        programs: [&[On::Load(X)], &[], &[]],
+        programs: &[&[On::Load(X)], &[], &[]],
         limit: 5,
         end: End::TurnsUsed,
         made: &[
@@ -237,7 +193,7 @@ pub(crate) const CASES: &[Case] = &[
     Case {
         shows: "cores have their turns in rising order before any message, and messages go in rising order",
         config: USUAL,
-        programs: [&[On::Load(X)], &[On::Load(Y)], &[]],
+        programs: &[&[On::Load(X)], &[On::Load(Y)], &[]],
         limit: 100,
         end: End::AllDone,
         made: &[
@@ -280,7 +236,7 @@ pub(crate) const CASES: &[Case] = &[
     Case {
         shows: "a core without an operation has no turn",
         config: USUAL,
-        programs: [&[], &[], &[On::Load(X)]],
+        programs: &[&[], &[], &[On::Load(X)]],
         limit: 1,
         end: End::TurnsUsed,
         made: &[
@@ -293,7 +249,7 @@ pub(crate) const CASES: &[Case] = &[
     Case {
         shows: "after NoRoom the victim leaves, and the attempt is made once more in the same turn",
         config: ONE_COPY,
-        programs: [&[On::Load(X), On::Load(Y)], &[], &[]],
+        programs: &[&[On::Load(X), On::Load(Y)], &[], &[]],
         limit: 100,
         end: End::AllDone,
         made: &[
@@ -344,7 +300,7 @@ pub(crate) const CASES: &[Case] = &[
     Case {
         shows: "after Held a line of the bank leaves, and the message is delivered again in the next round",
         config: ONE_LINE,
-        programs: [&[On::Load(X), On::Load(Y)], &[], &[]],
+        programs: &[&[On::Load(X), On::Load(Y)], &[], &[]],
         limit: 100,
         end: End::AllDone,
         made: &[
@@ -397,7 +353,7 @@ pub(crate) const CASES: &[Case] = &[
     Case {
         shows: "a round of refusals and waiting is the last one, also if no round may follow",
         config: ONE_MESSAGE,
-        programs: [&[On::Load(X)], &[], &[]],
+        programs: &[&[On::Load(X)], &[], &[]],
         limit: 2,
         end: End::Stalled,
         made: &[
@@ -413,7 +369,7 @@ pub(crate) const CASES: &[Case] = &[
     Case {
         shows: "the same round isn't made after the turns are used",
         config: ONE_MESSAGE,
-        programs: [&[On::Load(X)], &[], &[]],
+        programs: &[&[On::Load(X)], &[], &[]],
         limit: 1,
         end: End::TurnsUsed,
         made: &[
@@ -426,7 +382,7 @@ pub(crate) const CASES: &[Case] = &[
     Case {
         shows: "without rounds nothing is made",
         config: USUAL,
-        programs: [&[On::Load(X)], &[], &[]],
+        programs: &[&[On::Load(X)], &[], &[]],
         limit: 0,
         end: End::TurnsUsed,
         made: &[],
@@ -434,7 +390,7 @@ pub(crate) const CASES: &[Case] = &[
     Case {
         shows: "without operations a run is all done before the first round",
         config: USUAL,
-        programs: [&[], &[], &[]],
+        programs: &[&[], &[], &[]],
         limit: 0,
         end: End::AllDone,
         made: &[],
@@ -442,7 +398,7 @@ pub(crate) const CASES: &[Case] = &[
     Case {
         shows: "a delivery that is Exhausted ends the run at once",
         config: LATE,
-        programs: [&[On::Load(X)], &[On::Load(Y)], &[]],
+        programs: &[&[On::Load(X)], &[On::Load(Y)], &[]],
         limit: 100,
         end: End::Exhausted,
         made: &[
@@ -476,7 +432,7 @@ pub(crate) const CASES: &[Case] = &[
     Case {
         shows: "an attempt that is Exhausted ends the run at once",
         config: LATE,
-        programs: [
+        programs: &[
             &[On::Store(X, 1), On::Store(X, 2)],
             &[On::Store(Y, 1), On::Store(Y, 2)],
             &[],
@@ -527,7 +483,7 @@ pub(crate) const CASES: &[Case] = &[
     Case {
         shows: "the attempt is made again also after a refused eviction, and a second NoRoom is left as it is",
         config: FOUR_MESSAGES,
-        programs: [
+        programs: &[
             &[
                 On::Store(0, 1),
                 On::Load(0),

@@ -1,5 +1,5 @@
 //! The options of an example.
-use report::LitmusOptions;
+use report::{LitmusOptions, Schedule};
 
 /// An option that an example has.
 #[derive(Clone, Copy, Debug)]
@@ -16,6 +16,8 @@ pub(crate) enum Given {
     LineWords(u64),
     Messages(u64),
     PrivateWrite,
+    BySeed,
+    Seed(u64),
 }
 
 /// These options, the others as they are by default.
@@ -35,6 +37,8 @@ pub(crate) fn options(given: &[Given]) -> LitmusOptions {
             Given::LineWords(words) => options.run.machine.line_words = *words,
             Given::Messages(messages) => options.run.machine.messages = *messages,
             Given::PrivateWrite => options.run.machine.private_write = true,
+            Given::BySeed => options.run.schedule = Schedule::Seed,
+            Given::Seed(seed) => options.run.seed = *seed,
         }
     }
     options

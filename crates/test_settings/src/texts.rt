@@ -1,7 +1,7 @@
 //! The tests of examples/settings with their options and the wanted reports: written by examples/embed.py.
 use crate::settings::Given;
 
-const COUNT: usize = 20;
+const COUNT: usize = 25;
 
 /// Each text with its options and its report, by name.
 pub(crate) static EXAMPLES: [(&[u8], &[Given], &[u8]); COUNT] = [
@@ -89,6 +89,46 @@ pub(crate) static EXAMPLES: [(&[u8], &[Given], &[u8]); COUNT] = [
         b"RISCV RUNS\n\"three runs are three times one: each sum, and the count of the end state\"\noptions=--runs 3 --lease 1\n{ x=7; 0:x5=1; 0:x6=x; 0:x8=y; 0:x9=z;\n  1:x5=2; 1:x6=x; 1:x8=y; 1:x9=z;\n  2:x5=3; 2:x6=x; 2:x8=y; 2:x9=z; }\n P0                    | P1           | P2                    ;\n lw x10,0(x8)          | sw x5,0(x8)  | lw x10,0(x9)          ;\n sw x5,0(x8)           | lw x11,0(x8) | sw x5,0(x9)           ;\n amoswap.w x12,x5,(x8) | lw x12,0(x8) | lw x12,0(x8)          ;\n lw x13,0(x8)          | lw x13,0(x9) | lw x13,0(x9)          ;\n amoswap.w x14,x5,(x8) | lw x14,0(x8) | amoswap.w x14,x5,(x9) ;\n lw x15,0(x6)          | lw x15,0(x8) | lw x15,0(x8)          ;\n sw x5,0(x9)           | lw x16,0(x6) | sw x5,0(x8)           ;\nexists (1:x16=7 /\\ y=3)\n",
         &[Given::Runs(3), Given::Lease(1)],
         b"test RUNS\nthreads 3\nruns 3\nall-done 3\nstalled 0\nlimit 0\nexhausted 0\nmemory 0\nstates 1\n3 1:x16=7 y=3\ncondition exists\nheld 3\nverdict yes\ncompleted 63\nrenewals 3\nupgrades 15\nflushes 6\nwrite-backs 12\nstale-hits 9\n",
+    ),
+    (
+        b"RISCV SEED-GREATEST\n\"the greatest seed alone\"\noptions=--schedule seed --seed 18446744073709551615\n{ 0:x5=1; 0:x6=x; 0:x8=y; 1:x5=1; 1:x6=y; 1:x8=x; }\n P0          | P1          ;\n sw x5,0(x6) | sw x5,0(x6) ;\n lw x7,0(x8) | lw x7,0(x8) ;\nexists (0:x7=0 /\\ 1:x7=0)\n",
+        &[Given::BySeed, Given::Seed(18446744073709551615)],
+        b"test SEED-GREATEST\nthreads 2\nruns 1\nall-done 1\nstalled 0\nlimit 0\nexhausted 0\nmemory 0\nstates 1\n1 0:x7=1 1:x7=1\ncondition exists\nheld 0\nverdict no\ncompleted 4\nrenewals 0\nupgrades 0\nflushes 2\nwrite-backs 0\nstale-hits 0\n",
+    ),
+    (
+        b"RISCV SEED-LIMIT-ONE\n\"one turn is never enough: no end state, and exists is no\"\noptions=--schedule seed --seed 3 --runs 10 --limit 1\n{ 0:x5=1; 0:x6=x; 0:x8=y; 1:x6=x; 1:x8=y; }\n P0          | P1          ;\n sw x5,0(x6) | lw x5,0(x8) ;\n sw x5,0(x8) | lw x7,0(x6) ;\nexists (1:x5=1 /\\ 1:x7=0)\n",
+        &[
+            Given::BySeed,
+            Given::Seed(3),
+            Given::Runs(10),
+            Given::Limit(1),
+        ],
+        b"test SEED-LIMIT-ONE\nthreads 2\nruns 10\nall-done 0\nstalled 0\nlimit 10\nexhausted 0\nmemory 0\nstates 0\ncondition exists\nheld 0\nverdict no\ncompleted 0\nrenewals 0\nupgrades 0\nflushes 0\nwrite-backs 0\nstale-hits 0\n",
+    ),
+    (
+        b"RISCV SEED-ONE-MESSAGE\n\"one place for messages: nothing is loaded, but no seeded run is stalled\"\noptions=--schedule seed --seed 24 --runs 5 --messages 1 --limit 500\n{ 0:x5=1; 0:x6=x; 0:x8=y; 1:x5=1; 1:x6=y; 1:x8=x; }\n P0          | P1          ;\n sw x5,0(x6) | sw x5,0(x6) ;\n lw x7,0(x8) | lw x7,0(x8) ;\nexists (0:x7=0 /\\ 1:x7=0)\n",
+        &[
+            Given::BySeed,
+            Given::Seed(24),
+            Given::Runs(5),
+            Given::Messages(1),
+            Given::Limit(500),
+        ],
+        b"test SEED-ONE-MESSAGE\nthreads 2\nruns 5\nall-done 0\nstalled 0\nlimit 5\nexhausted 0\nmemory 0\nstates 0\ncondition exists\nheld 0\nverdict no\ncompleted 0\nrenewals 0\nupgrades 0\nflushes 0\nwrite-backs 0\nstale-hits 0\n",
+    ),
+    (
+        b"RISCV SEED-SIXTEEN\n\"sixteen threads swap one word: many end states, in the order in which they were first met\"\noptions=--schedule seed --seed 4000 --runs 20\n{ 0:x6=x; 1:x6=x; 2:x6=x; 3:x6=x; 4:x6=x; 5:x6=x; 6:x6=x; 7:x6=x;\n  8:x6=x; 9:x6=x; 10:x6=x; 11:x6=x; 12:x6=x; 13:x6=x; 14:x6=x; 15:x6=x;\n  0:x5=1; 1:x5=2; 2:x5=3; 3:x5=4; 4:x5=5; 5:x5=6; 6:x5=7; 7:x5=8;\n  8:x5=9; 9:x5=10; 10:x5=11; 11:x5=12; 12:x5=13; 13:x5=14; 14:x5=15; 15:x5=16; }\n P0 | P1 | P2 | P3 | P4 | P5 | P6 | P7 | P8 | P9 | P10 | P11 | P12 | P13 | P14 | P15 ;\n amoswap.d x7,x5,(x6) | amoswap.d x7,x5,(x6) | amoswap.d x7,x5,(x6) | amoswap.d x7,x5,(x6) | amoswap.d x7,x5,(x6) | amoswap.d x7,x5,(x6) | amoswap.d x7,x5,(x6) | amoswap.d x7,x5,(x6) | amoswap.d x7,x5,(x6) | amoswap.d x7,x5,(x6) | amoswap.d x7,x5,(x6) | amoswap.d x7,x5,(x6) | amoswap.d x7,x5,(x6) | amoswap.d x7,x5,(x6) | amoswap.d x7,x5,(x6) | amoswap.d x7,x5,(x6) ;\nexists (0:x7=16 \\/ 15:x7=1 /\\ x=16)\n",
+        &[Given::BySeed, Given::Seed(4000), Given::Runs(20)],
+        b"test SEED-SIXTEEN\nthreads 16\nruns 20\nall-done 20\nstalled 0\nlimit 0\nexhausted 0\nmemory 0\nstates 20\n1 0:x7=16 15:x7=15 x=3\n1 0:x7=4 15:x7=11 x=12\n1 0:x7=12 15:x7=0 x=15\n1 0:x7=5 15:x7=3 x=10\n1 0:x7=11 15:x7=6 x=9\n1 0:x7=0 15:x7=15 x=7\n1 0:x7=8 15:x7=11 x=1\n1 0:x7=7 15:x7=12 x=8\n1 0:x7=2 15:x7=9 x=5\n1 0:x7=11 15:x7=5 x=4\n1 0:x7=13 15:x7=11 x=14\n1 0:x7=11 15:x7=6 x=5\n1 0:x7=16 15:x7=2 x=14\n1 0:x7=5 15:x7=6 x=14\n1 0:x7=15 15:x7=7 x=11\n1 0:x7=7 15:x7=9 x=16\n1 0:x7=0 15:x7=3 x=9\n1 0:x7=15 15:x7=4 x=13\n1 0:x7=14 15:x7=0 x=4\n1 0:x7=6 15:x7=13 x=10\ncondition exists\nheld 2\nverdict yes\ncompleted 320\nrenewals 0\nupgrades 0\nflushes 300\nwrite-backs 0\nstale-hits 0\n",
+    ),
+    (
+        b"RISCV SEED-WRAPS\n\"twenty seeds, from the sixth last on: seed 0 follows the greatest one\"\noptions=--schedule seed --seed 18446744073709551610 --runs 20\n{ 0:x5=1; 0:x6=x; 0:x8=y; 1:x5=1; 1:x6=y; 1:x8=x; }\n P0          | P1          ;\n sw x5,0(x6) | sw x5,0(x6) ;\n lw x7,0(x8) | lw x7,0(x8) ;\nexists (0:x7=0 /\\ 1:x7=0)\n",
+        &[
+            Given::BySeed,
+            Given::Seed(18446744073709551610),
+            Given::Runs(20),
+        ],
+        b"test SEED-WRAPS\nthreads 2\nruns 20\nall-done 20\nstalled 0\nlimit 0\nexhausted 0\nmemory 0\nstates 3\n2 0:x7=0 1:x7=1\n17 0:x7=1 1:x7=1\n1 0:x7=1 1:x7=0\ncondition exists\nheld 0\nverdict no\ncompleted 80\nrenewals 0\nupgrades 0\nflushes 28\nwrite-backs 12\nstale-hits 0\n",
     ),
     (
         b"RISCV STALLED-NOT-EXISTS\n\"one place for messages: nothing can be loaded, and ~exists is yes\"\noptions=--messages 1\n{ 0:x5=1; 0:x6=x; 0:x8=y; 1:x5=1; 1:x6=y; 1:x8=x; }\n P0          | P1          ;\n sw x5,0(x6) | sw x5,0(x6) ;\n lw x7,0(x8) | lw x7,0(x8) ;\n~exists (x=0)\n",

@@ -13,27 +13,16 @@ use Rattle.physiological_order.specs.declared.operation.Record.{Record}
 use Rattle.physiological_order.specs.Order.{address, flat, Legal, Arrangement, replay_end}
 use Rattle.physiological_order.specs.StaleHits.{RisesByNumber, stale_count}
 use Rattle.record_text.specs.Text.{records_text}
-use Rattle.report_parts.specs.SetUp.{limit_of}
+use Rattle.report_parts.specs.SetUp.{limit_of, policy_of}
 use Rattle.run_ends.specs.declared.ends.End.{End}
 use Rattle.run_ends.specs.declared.ends.End.TheVariants.{AllDone, Stalled, TurnsUsed, Exhausted, NoMemory}
 use Rattle.run_options.specs.declared.options.RunOptions.{RunOptions}
-use Rattle.run_options.specs.declared.options.Schedule.{Schedule}
-use Rattle.run_options.specs.declared.options.Schedule.TheVariants.{Round}
 use Rattle.trace_lines.specs.declared.steps.Step.{Step}
 use Rattle.trace_reader.specs.Steps.{lane, ops_of}
 use Rattle.trace_report_text.specs.declared.text.TraceEnd.{TraceEnd}
 use Rattle.trace_report_text.specs.Text.{trace_text}
 use Rattle.worker_driver.specs.Acts.{Acts, first_step, behind_first}
-use Rattle.worker_driver.specs.RoundSchedule.{no_round, rounds}
-use Rattle.worker_driver.specs.RunEvents.{Ended, initial}
-use Rattle.worker_driver.specs.Runs.{plan_of}
-
--- a machine and its programs were driven by a schedule: these events lead to this machine, these programs and this end
-abbrev pub DrivenBy : {P : Type 0} → Acts P → RunOptions → Schedule → Machine → List P → List Event → Machine → List P →
-    End → Type 0
-DrivenBy acts options Round m programs events after programs' end =
-    Ended (plan_of acts (rounds acts) (limit_of options)) (initial m programs (no_round m.config.cores)) events after
-    programs' end
+use Rattle.worker_driver.specs.Policies.{EndedBy}
 
 -- the steps of a core are its program
 abbrev pub step_acts : Acts (List Step)
@@ -54,7 +43,7 @@ pub record IsRun (options : RunOptions) (config : Config) (lanes : List (List St
     (machine : Machine) : Type 0 where
   pub events : List Event
   pub programs : List (List Step)
-  pub driven : DrivenBy step_acts options options.schedule (at_start config empty)
+  pub ended : EndedBy step_acts (policy_of options) (limit_of options) (at_start config empty)
       (programs_below lanes (core_count lanes)) events machine programs end
   pub legal : Legal (flat empty) (λ core. slice_index_or machine.issued core []) machine.records
   pub rising : RisesByNumber machine.records

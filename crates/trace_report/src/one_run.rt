@@ -4,17 +4,19 @@ ghost use Rattle.machine_table.specs.SetUp.{is_good};
 ghost use Rattle.physiological_order.specs.StaleHits.{RisesByNumber};
 ghost use Rattle.trace_report.specs.Runs.{IsRun, core_count, end_of, run_text};
 
-use crate::programs::{drive, programs_of};
+use crate::programs::programs_of;
 use crate::words::{issued_below, values_of};
 use interleaving_core::{Config, System};
 use machine_theorem::laws::every_history_is_legal;
 use physiological_order::{Memory, stale_hits};
 use record_text::records_text;
+use report_parts::{limit_of, policy_of};
 use run_ends::End;
 use run_options::{RunOptions, TraceOptions};
 use std::alloc::{AllocError, Global};
 use trace_reader::Trace;
 use trace_report_text::{TraceEnd, trace_text};
+use worker_driver::run_to_end;
 
 /// The machine on which a trace was run, and how the run ended.
 #[derive(Drop)]
@@ -39,12 +41,16 @@ pub(crate) fn run_once(
         return Err(AllocError);
     };
     let mut programs = programs_of(alloc, trace)?;
-    let driven = drive(alloc, &mut system, programs.as_mut_slice(), options);
+    let policy = policy_of(options);
+    let end = run_to_end(
+        alloc,
+        &mut system,
+        programs.as_mut_slice(),
+        policy,
+        limit_of(options),
+    );
     let _rising = system.records();
-    Ok(Ran {
-        system,
-        end: driven.end,
-    })
+    Ok(Ran { system, end })
 }
 
 // What the report says of a run beside its records and its words.

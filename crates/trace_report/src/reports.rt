@@ -17,9 +17,10 @@ use run_results::{Done, RunError};
 use std::alloc::{AllocError, Global};
 use trace_reader::Trace;
 
-/// Reads a trace to the end of the source, runs it over a memory of zeros as the options say, and writes the report of
-/// the run, or its records alone. What goes out is told of a legal history, whatever the end of the run. Read goes
-/// before Trace, that before BadConfig, and Write comes last; by an error but Write the sink is unchanged.
+/// Reads a trace from the source, to its end if it is accepted, runs it over a memory of zeros as the options say, and
+/// writes the report of the run, or its records alone. What goes out is told of a legal history, whatever the end of
+/// the run. Read goes before Trace, that before BadConfig, and Write comes last; by an error but Write the sink is
+/// unchanged.
 pub fn run_trace<S: Source, K: Sink>(
     alloc: Global,
     source: &mut S,

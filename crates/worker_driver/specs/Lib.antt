@@ -6,6 +6,7 @@ pub mod RoundViews
 pub mod SeedSchedule
 pub mod SeedViews
 pub mod Policies
+pub mod Batches
 pub mod RunEvents
 pub mod Notes
 pub mod Turns

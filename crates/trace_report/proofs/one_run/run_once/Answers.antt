@@ -11,12 +11,15 @@ use Rattle.machine_table.specs.Runs.{after_all}
 use Rattle.machine_theorem.specs.Coherence.{coherent}
 use Rattle.machine_theorem.specs.Consistency.{IsConsistent}
 use Rattle.trace_lines.specs.declared.steps.Step.{Step}
-use Rattle.trace_report.specs.Runs.{DrivenBy, core_count, step_acts}
+use Rattle.report_parts.specs.SetUp.{limit_of, policy_of}
+use Rattle.worker_driver.specs.declared.policy.Policy.{Policy}
+use Rattle.worker_driver.specs.Policies.{EndedBy}
+use Rattle.trace_report.specs.Runs.{core_count, step_acts}
 use Rattle.trace_report.proofs.CoreCounts.{programs_count}
 use Rattle.trace_report.proofs.one_run.run_once.Goals as goal
 
-pub drive-driven-requires : goal.drive-driven-requires
-drive-driven-requires c = record {
+pub run_to_end-end-requires : goal.run_to_end-end-requires
+run_to_end-end-requires c = record {
   one_each = ap length (c.as_mut_slice.ensures.value ∙ c.in_ok-programs.ensures)
       ∙ programs_count c.args.trace.now (core_count c.args.trace.now)
       ∙ sym c.requires.cores ∙ sym (ap (λ (m : Machine). m.config.cores) c.in-Ok.ensures.opened);
@@ -25,14 +28,14 @@ drive-driven-requires c = record {
 pub returns : goal.returns
 returns c =
     let config = c.args.config in
-    let m : Machine = c.drive-driven.new.system in
-    let last = c.drive-driven.new.programs in
-    let events = c.drive-driven.result.events.items in
-    let end = c.drive-driven.result.end in
+    let m : Machine = c.run_to_end-end.new.system in
+    let last = c.run_to_end-end.new.programs in
+    let events = c.run_to_end-end.ensures.ended.0 in
+    let end = c.run_to_end-end.result in
     let options = c.args.options.now in
     let first = c.in-Ok.ensures.opened ∙ ap (at_start config) c.new.ensures in
     let after : m ≡ after_all (at_start config empty) events =
-    c.drive-driven.ensures.machine ∙ ap (λ (k : Machine). after_all k events) first in
+    c.run_to_end-end.ensures.ended.2 ∙ ap (λ (k : Machine). after_all k events) first in
     let consistent = subst IsConsistent (sym after)
     (c.every_history_is_legal.ensures.consistent config empty events c.requires.good) in
     let opened : m.opening ≡ empty = ap (λ (k : Machine). k.opening) after
@@ -40,10 +43,14 @@ returns c =
     record {
       events = events;
       programs = last;
-      driven = subst (λ (ts : List (List Step)). DrivenBy step_acts options options.schedule (at_start config empty) ts
-          events m last end) (c.as_mut_slice.ensures.value ∙ c.in_ok-programs.ensures)
-          (subst (λ (k : Machine). DrivenBy step_acts options options.schedule k c.as_mut_slice.result.now events m
-          last end) first c.drive-driven.ensures.driven);
+      ended = subst (λ (ts : List (List Step)). EndedBy step_acts (policy_of options) (limit_of options)
+          (at_start config empty) ts events m last end) (c.as_mut_slice.ensures.value ∙ c.in_ok-programs.ensures)
+          (subst (λ (k : Machine). EndedBy step_acts (policy_of options) (limit_of options) k
+          c.as_mut_slice.result.now events m last end) first
+          (subst (λ n. EndedBy step_acts (policy_of options) n c.in-Ok.system c.as_mut_slice.result.now events m last
+          end) c.limit_of.ensures
+          (subst (λ (p : Policy). EndedBy step_acts p c.limit_of.result c.in-Ok.system c.as_mut_slice.result.now events m
+          last end) c.policy_of-policy.ensures c.run_to_end-end.ensures.ended.1)));
       legal = subst (λ (ws : FinMap nat_cmp ℕ). Legal (flat ws) (λ core. slice_index_or m.issued core []) m.records)
           opened consistent.legal;
       rising = subst RisesByNumber c.records-rising.ensures.records c.records-rising.ensures.rising;

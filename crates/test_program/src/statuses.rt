@@ -101,13 +101,22 @@ fn each_option_reaches_the_machine(rt: HostRuntime) {
 
 #[test]
 fn refused_words(rt: HostRuntime) {
-    let told = told(rt.alloc(), &["tardis", "litmus", "--limit", "0", NAME]);
-    assert_eq!(rt; told.status, 3);
-    assert_eq!(rt; told.out.len(), 0);
-    assert!(rt;
-        told.errors.as_slice()
-            == b"error: invalid value '0' for '--limit <limit>': 0 is not in 1..=4294967295\n\nFor more information, try '--help'.\n".as_slice()
-    );
+    let cases: [(&[&str], &[u8]); 2] = [
+        (
+            &["tardis", "litmus", "--limit", "0", NAME],
+            b"error: invalid value '0' for '--limit <limit>': 0 is not in 1..=4294967295\n\nFor more information, try '--help'.\n",
+        ),
+        (
+            &["tardis", "litmus", "--schedule=seed", "--workers=2", NAME],
+            b"error: schedule seed has one worker: '--workers' must be 1\n\nFor more information, try '--help'.\n",
+        ),
+    ];
+    for (words, errors) in cases {
+        let told = told(rt.alloc(), words);
+        assert_eq!(rt; told.status, 3);
+        assert_eq!(rt; told.out.len(), 0);
+        assert!(rt; told.errors.as_slice() == errors, "{words:?}");
+    }
 }
 
 #[test]

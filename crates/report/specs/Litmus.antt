@@ -25,7 +25,6 @@ use Rattle.report.specs.Runs.{AreFrom}
 abbrev pub turns : LitmusOptions → ℕ
 turns options = limit_of options.run
 
-
 -- the end state of a run that has one is an outcome of the sequential machine
 abbrev pub HasOutcome : Litmus → RunEnd → Type 0
 HasOutcome test run = IfSome run.state (IsOutcome test)

@@ -56,6 +56,9 @@ fn program(alloc: Global, core: u32, load: &Load) -> Result<OpProgram> {
     for _ in 0..load.operations {
         ops.push(operation(&mut generator, load.words))?;
     }
+    if ops.len() > 4_294_967_295 {
+        bail!("a core is issued at most 4,294,967,295 operations");
+    }
     Ok(OpProgram::new(ops))
 }
 

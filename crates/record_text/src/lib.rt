@@ -2,6 +2,7 @@
 #![tactic(auto)]
 
 mod fields;
+pub mod laws;
 mod texts;
 
 pub use texts::records_text;

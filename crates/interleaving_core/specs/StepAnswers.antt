@@ -1,6 +1,7 @@
 -- How a machine in memory follows the table: each event is answered as the table says, or, where it takes memory, it is
 -- refused for want of that and leaves the machine as it was.
-use Rattle.std.specs.Prelude.{◌≡◌, ◌⊎◌, ◌<◌, ℕ, Bool, true, false, List, [], ◌∷◌, Option, Some, None, slice_get}
+use Rattle.std.specs.Prelude.{◌≡◌, ◌⊎◌, ◌<◌, ℕ, Bool, true, false, List, [], ◌∷◌, IsTrue, Option, Some, None}
+use Rattle.std.specs.Prelude.{slice_get}
 use Rattle.std.specs.FinMap.{FinMap}
 use Rattle.std.specs.Ordering.{nat_cmp}
 use Rattle.network.specs.declared.message.Message.{Message}
@@ -40,10 +41,10 @@ asks_memory m (Issue core op) = true
 asks_memory m (Deliver number) = delivery_asks m (at_number number m.mail.messages)
 asks_memory m _ = false
 
--- one event
+-- one event; memory is refused only to one that asks for it, where the table takes some
 abbrev pub Stepped : Machine → Event → Answer → Machine → Type 0
 Stepped m event answer after = ((answer, after) ≡ transition m event) ⊎ ((answer ≡ Refused NoMemory) × (after ≡ m) ×
-    TakesMemory m (transition m event))
+    TakesMemory m (transition m event) × IsTrue (asks_memory m event))
 
 -- a list of events, one answer each, from the one machine to the other
 abbrev pub Ran : Machine → List Event → List Answer → Machine → Type 0

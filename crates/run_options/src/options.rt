@@ -13,23 +13,23 @@ pub enum Schedule {
 /// How the machine is built.
 #[derive(Clone, Copy, Debug, PartialEq, Eq)]
 pub struct MachineOptions {
-    /// How far a lease goes past the times that it covers.
+    /// How many ticks a lease goes past the times that it covers. A machine takes 1 to 4294967296.
     pub lease: u64,
-    /// The time of every core and bank before the first event.
+    /// The time of every core and bank before the first event, in ticks.
     pub time: u64,
-    /// How many banks there are.
+    /// How many banks there are. A machine takes 1 to 8.
     pub banks: u64,
-    /// How many sets a private cache has.
+    /// How many sets a private cache has. A machine takes 1 to 1024.
     pub sets: u64,
-    /// How many lines a private set holds.
+    /// How many lines a private set holds. A machine takes 1 to 16.
     pub ways: u64,
-    /// How many sets a bank has.
+    /// How many sets a bank has. A machine takes 1 to 1024.
     pub bank_sets: u64,
-    /// How many lines a bank's set holds.
+    /// How many lines a bank's set holds. A machine takes 1 to 16.
     pub bank_ways: u64,
-    /// How many words a line has.
+    /// How many words a line has. A machine takes 1 or 8.
     pub line_words: u64,
-    /// How many messages can be in flight.
+    /// How many messages can be in flight. A machine takes 1 to 65536.
     pub messages: u64,
     /// Whether a core that wrote a line stores to it again without a later time.
     pub private_write: bool,
@@ -59,9 +59,10 @@ pub struct RunOptions {
     /// What opens the generator of schedule seed, in the first of several runs: run i, counted from 0, has this number
     /// plus i, modulo 2^64. Schedule round draws nothing.
     pub seed: u64,
-    /// How many threads share the work, 1 to 16. Schedule round uses one, whatever is said here.
+    /// How many threads share the work, 1 to 16. Schedule round uses one, whatever is said here; for schedule seed the
+    /// command line takes 1 alone.
     pub workers: u64,
-    /// How many rounds a run has at most, 1 to 4294967295.
+    /// How many rounds a run has at most, or turns by schedule seed: 1 to 4294967295.
     pub limit: u64,
     pub machine: MachineOptions,
 }

@@ -1,16 +1,23 @@
 //! What a case's constants stand for, and events compared with them.
+ghost use Rattle.std.specs.Prelude.{◌≡◌, ◌%◌};
+ghost use Rattle.schedule_cases.specs.Cases.{event_of, op_of, step_event, step_of};
+
 use crate::cases::{Made, On};
 use interleaving_core::Event;
 use network::{LineNo, MsgNo};
 use physiological_order::{Op, WordAddr};
 use worker_driver::Step;
 
-fn word(number: u64) -> WordAddr {
+fn word(number: u64) -> WordAddr
+    ensures { result ≡ number % 64 }
+{
     WordAddr::at(number % 64)
 }
 
 /// The operation, or `None` for an advance.
-pub fn op(on: &On) -> Option<Op> {
+pub fn op(on: &On) -> Option<Op>
+    ensures { result ≡ op_of on.now }
+{
     match on {
         On::Load(at) => Some(Op::Load(word(*at))),
         On::Store(at, value) => Some(Op::Store(word(*at), *value)),
@@ -20,21 +27,27 @@ pub fn op(on: &On) -> Option<Op> {
 }
 
 /// The step.
-pub fn step(on: &On) -> Step {
+pub fn step(on: &On) -> Step
+    ensures { result ≡ step_of on.now }
+{
     match op(on) {
         Some(op) => Step::Op(op),
         None => Step::Advance,
     }
 }
 
-fn issue(core: u32, on: &On) -> Event {
+fn issue(core: u32, on: &On) -> Event
+    ensures { result ≡ step_event core (step_of on.now) }
+{
     match step(on) {
         Step::Op(op) => Event::Issue(core, op),
         Step::Advance => Event::Advance(core),
     }
 }
 
-fn event(made: &Made) -> Event {
+fn event(made: &Made) -> Event
+    ensures { result ≡ event_of made.now }
+{
     match made {
         Made::Issue(core, on) => issue(*core, on),
         Made::Advance(core) => Event::Advance(*core),

@@ -1,6 +1,6 @@
 //! Drives lists of steps and of operations by rounds, and compares the events and the end with a case's.
 use crate::cases::CASES;
-use interleaving_core::System;
+use interleaving_core::{Event, System};
 use physiological_order::{Op, WordAddr};
 use run_ends::End;
 use schedule_cases::{Case, USUAL, are_events, machine, programs, steps_of};
@@ -39,6 +39,37 @@ fn each_run_makes_the_events_of_the_schedule(rt: HostRuntime) -> Result<(), Fail
         let shows = case.shows;
         assert_eq!(rt; driven.end, case.end, "{shows}");
         assert!(rt; are_events(&driven.events, case.made), "{shows}");
+    }
+    Ok(())
+}
+
+// Whether lists that lack the last event, or have another one in its place, or have one more are other lists.
+fn are_told_apart(events: &mut Vec<Event>, case: &Case) -> Result<bool, AllocError> {
+    let _inside: Option<Op> = None;
+    if events.pop().is_none() {
+        return Ok(true);
+    }
+    if are_events(events, case.made) {
+        return Ok(false);
+    }
+    events.push(Event::Advance(63))?;
+    Ok(!are_events(events, case.made))
+}
+
+// A list with an event more than a case's is another list.
+fn is_longer(events: &mut Vec<Event>, case: &Case) -> Result<bool, AllocError> {
+    let _inside: Option<Op> = None;
+    events.push(Event::Advance(0))?;
+    Ok(!are_events(events, case.made))
+}
+
+#[test]
+fn other_lists_are_told_apart(rt: HostRuntime) -> Result<(), Fail> {
+    for case in CASES {
+        let mut events = run(rt.alloc(), case)?.events;
+        assert!(rt; is_longer(&mut events, case)?, "{}", case.shows);
+        let mut events = run(rt.alloc(), case)?.events;
+        assert!(rt; are_told_apart(&mut events, case)?, "{}", case.shows);
     }
     Ok(())
 }

@@ -1,7 +1,6 @@
 -- What a schedule has next gives a core only what its program does.
-use Rattle.std.proofs.Common.{◌≡◌, ◌<◌, ℕ, zero, suc, List, [], ◌∷◌, ◌++◌, map, get_or, None, Some, subst}
+use Rattle.std.proofs.Common.{◌≡◌, ℕ, zero, suc, List, [], ◌∷◌, ◌++◌, map, get_or, None, Some, subst}
 use Rattle.std.specs.List.{flat_map}
-use Rattle.physiological_order.specs.declared.operation.Op.{Op}
 use Rattle.trace_lines.specs.declared.steps.Step.TheVariants as step
 use Rattle.machine_table.specs.declared.event.Event.TheVariants as event
 use Rattle.machine_table.specs.Machine.{Machine}

@@ -15,3 +15,4 @@ mod TableSteps
 mod ServiceSteps
 mod RunLaws
 mod Served
+mod SameRuns

@@ -10,12 +10,12 @@ use Rattle.machine_table.specs.Runs.{after_all}
 use Rattle.interleaving_core.specs.LookUps.{open_op, make_room}
 use Rattle.run_ends.specs.declared.ends.End.{End}
 use Rattle.run_ends.specs.declared.ends.End.TheVariants.{AllDone, Stalled, TurnsUsed, Exhausted, NoMemory}
-use Rattle.worker_driver.specs.Acts.{Acts, next_in}
+use Rattle.worker_driver.specs.Acts.{next_in}
 use Rattle.worker_driver.specs.Schedules.{Choice, Does, Tries, Delivers, Advances, Goes, Over}
 use Rattle.worker_driver.specs.Runs.{Plan, Stage, Before, Within, Evicting, MakingRoom, OutOfTimes, Position, Next}
-use Rattle.worker_driver.specs.Runs.{Makes, Moves, Ends, next, next_at, begin, finish, chosen, evict, evict_bank}
-use Rattle.worker_driver.specs.Runs.{does, tries, delivers, advances, evicts, onward, told, at_stage, answered, victim_for}
-use Rattle.worker_driver.specs.Runs.{is_progress, is_exhausted, is_no_room, is_over, are_over}
+use Rattle.worker_driver.specs.Runs.{Makes, Moves, Ends, next, next_at, begin, chosen, evict, evict_bank}
+use Rattle.worker_driver.specs.Runs.{does, tries, delivers, advances, evicts, onward, at_stage, answered, victim_for}
+use Rattle.worker_driver.specs.Runs.{is_progress, is_exhausted, is_no_room, are_over}
 use Rattle.worker_driver.specs.RunEvents.{Follows, stays, moves, makes, Ended}
 use Rattle.worker_driver.proofs.Over.{each_over}
 

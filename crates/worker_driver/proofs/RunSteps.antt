@@ -15,7 +15,7 @@ use Rattle.worker_driver.specs.Schedules.{Schedule}
 use Rattle.worker_driver.specs.Runs.{Plan, Stage, OutOfTimes, Position, Makes, Moves, Ends, next, answered}
 use Rattle.worker_driver.specs.Runs.{is_exhausted}
 use Rattle.worker_driver.specs.Runs.{plan_of}
-use Rattle.worker_driver.specs.RunEvents.{Follows, stays, makes, moves, Known, Arrives, Finishes, Ended}
+use Rattle.worker_driver.specs.RunEvents.{Follows, stays, makes, moves, Arrives, Finishes, Ended}
 use Rattle.worker_driver.specs.Notes.{Log, IsNoted, Noted, KeepsAs, Point, at, position, Leads, Stops, Led}
 
 module _ {P S : Type 0} (plan : Plan P S) (start : Position P S) where

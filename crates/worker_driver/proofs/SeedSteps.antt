@@ -1,5 +1,5 @@
 -- A seeded schedule issues and advances a core as its program says.
-use Rattle.std.proofs.Common.{◌≡◌, ◌%◌, ℕ, zero, suc, Bool, true, false, List, [], ◌∷◌, length, Option, Some, None, refl}
+use Rattle.std.proofs.Common.{◌≡◌, ◌%◌, ℕ, zero, suc, Bool, true, false, List, length, Option, Some, None, refl}
 use Rattle.std.specs.List.{range_with_len}
 use Rattle.physiological_order.specs.declared.operation.Op.{Op}
 use Rattle.trace_lines.specs.declared.steps.Step.{Step}

@@ -1,5 +1,5 @@
 -- Whatever the end of a run, each core was issued what its program gave, and the program was told of each record.
-use Rattle.std.proofs.Common.{◌≡◌, ℕ, ◌+◌, ◌<◌, ◌==◌, Bool, true, false, ◌||◌, ◌&&◌, not, List, [], ◌∷◌, ◌++◌, length}
+use Rattle.std.proofs.Common.{◌≡◌, ℕ, ◌+◌, ◌<◌, ◌==◌, Bool, true, false, ◌||◌, ◌&&◌, not, List, [], ◌++◌, length}
 use Rattle.std.proofs.Common.{map, get_or, Option, Some, None, IfSome, refl, sym, ap, ◌∙◌, subst, ⊎_elim, arith}
 use Rattle.std.proofs.Common.{append-nil, append_assoc}
 use Rattle.std.specs.Prelude.{slice_get, option_map}
@@ -24,21 +24,21 @@ use Rattle.machine_theorem.proofs.Lemmas.{after_all_same}
 use Rattle.interleaving_core.specs.LookUps.{open_op, open_op_of, make_room}
 use Rattle.run_ends.specs.declared.ends.End.{End}
 use Rattle.run_ends.specs.declared.ends.End.TheVariants.{Stalled, TurnsUsed}
-use Rattle.worker_driver.specs.Acts.{Acts, next_in, done_in}
+use Rattle.worker_driver.specs.Acts.{Acts, done_in}
 use Rattle.worker_driver.specs.Schedules.{Choice, Does, Tries, Delivers, Advances, Goes, Over}
 use Rattle.worker_driver.specs.Runs.{Plan, Stage, Before, Within, Evicting, MakingRoom, OutOfTimes, Position, Next}
 use Rattle.worker_driver.specs.Runs.{Makes, Moves, Ends, next, next_at, begin, chosen, evict, evict_bank}
-use Rattle.worker_driver.specs.Runs.{does, tries, delivers, advances, evicts, onward, told, told_advance, at_stage}
+use Rattle.worker_driver.specs.Runs.{does, tries, delivers, advances, evicts, onward, told, at_stage}
 use Rattle.worker_driver.specs.Runs.{answered, victim_for, is_progress, is_exhausted, is_advanced, is_no_room, are_over}
 use Rattle.worker_driver.specs.RunEvents.{Follows, stays, moves, makes, Ended}
 use Rattle.worker_driver.specs.Service.{still_open, AreServed, GivesSteps}
 use Rattle.worker_driver.proofs.InProgram.{behind}
-use Rattle.worker_driver.proofs.TableSteps.{op_of, op_at, IsQuiet, Opens, IsDone, Tries as TriesTo, is_completion}
+use Rattle.worker_driver.proofs.TableSteps.{op_of, op_at, IsQuiet, Opens, IsDone, is_completion}
 use Rattle.worker_driver.proofs.TableSteps.{not_completed, issue_does, attempt_does, advance_stays, delivery_stays}
 use Rattle.worker_driver.proofs.TableSteps.{cache_eviction_stays, bank_eviction_stays}
 use Rattle.worker_driver.proofs.ServiceSteps.{Serving, served_none, served_quiet, served_issue, served_done}
 use Rattle.worker_driver.proofs.ServiceSteps.{served_advance}
-use Rattle.worker_driver.proofs.RunLaws.{moves_keeps, made_by, run_makes}
+use Rattle.worker_driver.proofs.RunLaws.{moves_keeps, made_by}
 
 -- a core that isn't there has no open operation
 has_core : (cores : List CoreState) (c : ℕ) (o : Option CoreState) (op : Op) → slice_get cores c ≡ o →

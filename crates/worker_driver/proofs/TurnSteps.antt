@@ -1,5 +1,5 @@
 -- What comes next within a turn, and where it leads.
-use Rattle.std.proofs.Common.{◌≡◌, ◌≢◌, inr, ℕ, Bool, true, false, List, Option, Some, None, Result, Ok, Err, refl, ap}
+use Rattle.std.proofs.Common.{◌≡◌, ◌≢◌, inr, ℕ, Bool, true, false, List, Some, None, Result, Ok, Err, refl, ap}
 use Rattle.machine_table.specs.declared.event.Event.{Event}
 use Rattle.machine_table.specs.declared.event.Event.TheVariants.{Attempt, Advance, EvictCache, EvictBank, Deliver}
 use Rattle.machine_table.specs.declared.event.Answer.{Answer}
@@ -9,7 +9,7 @@ use Rattle.run_ends.specs.declared.ends.End.{End}
 use Rattle.run_ends.specs.declared.ends.End.TheVariants.{NoMemory}
 use Rattle.worker_driver.specs.Acts.{Acts}
 use Rattle.worker_driver.specs.Schedules.{Schedule, Choice, Does, Tries, Delivers, Advances, Goes, Over}
-use Rattle.worker_driver.specs.Runs.{Stage, Within, Evicting, MakingRoom, Position, chosen, does, tries, delivers}
+use Rattle.worker_driver.specs.Runs.{Within, Evicting, MakingRoom, chosen, does, tries, delivers}
 use Rattle.worker_driver.specs.Runs.{advances}
 use Rattle.worker_driver.specs.Runs.{evict, evict_bank, evicts, victim_for, told, told_advance, is_held, is_no_room}
 use Rattle.worker_driver.specs.Runs.{plan_of, Ends}

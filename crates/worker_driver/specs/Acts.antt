@@ -1,5 +1,5 @@
 -- What programs do, seen as values, and the programs of a machine's cores, one a core.
-use Rattle.std.specs.Prelude.{ℕ, List, [], ◌∷◌, Option, Some, None, option_map, slice_get, slice_set}
+use Rattle.std.specs.Prelude.{ℕ, List, [], ◌∷◌, Option, Some, None, slice_get, slice_set}
 use Rattle.physiological_order.specs.declared.operation.Op.{Op}
 use Rattle.trace_lines.specs.declared.steps.Step.{Step}
 use Rattle.trace_lines.specs.declared.steps.Step.TheVariants as step

@@ -7,12 +7,11 @@ use Rattle.physiological_order.specs.declared.operation.Op.{Op}
 use Rattle.physiological_order.specs.declared.operation.Record.{Record}
 use Rattle.physiological_order.specs.Order.{Follows, of_core}
 use Rattle.trace_lines.specs.declared.steps.Step.TheVariants as step
-use Rattle.machine_table.specs.declared.event.Event.{Event}
 use Rattle.machine_table.specs.declared.event.Event.TheVariants as event
 use Rattle.machine_table.specs.Machine.{Machine}
 use Rattle.interleaving_core.specs.LookUps.{open_op}
 use Rattle.worker_driver.specs.Acts.{Acts, next_in}
-use Rattle.worker_driver.specs.Schedules.{Schedule, Choice, Does, Advances}
+use Rattle.worker_driver.specs.Schedules.{Schedule, Does, Advances}
 
 -- a program gave these records' operations, one after the other, and was told what each received; in between it
 -- advanced, any number of times; it is now this one

@@ -1,6 +1,5 @@
 -- A schedule as code: how what it answers stands for what comes next.
-use Rattle.std.specs.Prelude.{◌≡◌, ◌≢◌, ◌<◌, ℕ, Bool, true, false, List, Result, Ok, Err}
-use Rattle.machine_table.specs.Machine.{Machine}
+use Rattle.std.specs.Prelude.{◌≡◌, ◌≢◌, ◌<◌, ℕ, Bool, true, false, Result, Ok, Err}
 use Rattle.run_ends.specs.declared.ends.End.{End}
 use Rattle.worker_driver.specs.declared.schedule.Choice.{Choice as Chosen}
 use Rattle.worker_driver.specs.declared.schedule.Choice.TheVariants as chosen

@@ -1,4 +1,4 @@
-use Rattle.std.proofs.Common.{◌≡◌, List, Option, Some, subst, sym, ap}
+use Rattle.std.proofs.Common.{◌≡◌, List, Option, subst}
 use Rattle.machine_table.specs.declared.event.Event.{Event}
 use Rattle.machine_table.specs.Runs.{after_all}
 use Rattle.worker_driver.specs.Runs.{plan_of}

@@ -1,4 +1,4 @@
-use Rattle.std.proofs.Common.{◌∙◌, refl, sym, ap, arith}
+use Rattle.std.proofs.Common.{ap, arith}
 use Rattle.std.specs.Prelude.{is_some}
 use Rattle.worker_driver.proofs.SeedEntries.{one_core_more, no_core_more, step_found}
 use Rattle.worker_driver.proofs.seed.step_at.Goals.{in-Some+else-at-eq0, in_default}

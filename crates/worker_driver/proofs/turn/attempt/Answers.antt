@@ -1,4 +1,4 @@
-use Rattle.std.proofs.Common.{rules, false, true}
+use Rattle.std.proofs.Common.{rules, true}
 use Rattle.std.proofs.lemmas.Result.{err_from_is_err_and}
 use Rattle.worker_driver.specs.Runs.{Within, Evicting}
 use Rattle.worker_driver.specs.Notes.{at}

@@ -1,5 +1,5 @@
-use Rattle.std.proofs.Common.{◌≡◌, List, drop, ap, sym, subst, ◌∙◌}
-use Rattle.worker_driver.specs.RoundSchedule.{Round, RoundStage, Delivering, round_pass}
+use Rattle.std.proofs.Common.{drop, ap, sym, subst}
+use Rattle.worker_driver.specs.RoundSchedule.{Delivering}
 use Rattle.worker_driver.specs.RoundViews.{IsUnderWay, UnderWay, stage_of}
 use Rattle.worker_driver.proofs.Deliveries.{one_delivered}
 use Rattle.worker_driver.proofs.round.RoundsSchedule.pass.Goals as goal

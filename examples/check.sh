@@ -4,7 +4,7 @@
 # are those of examples/oracle.py, which knows nothing of the program; the tables and error lines are by hand.
 #
 # The parts that are run, each a function below; PARTS names others.
-parts=${PARTS:-litmus settings refusals seeds traces seeded_traces verdicts trace_refusals}
+parts=${PARTS:-litmus catalogue settings refusals seeds traces seeded_traces verdicts trace_refusals}
 
 top=$(CDPATH='' cd -- "$(dirname -- "$0")/.." && pwd) || exit 1
 tardis=${1:-$top/tardis}
@@ -56,9 +56,13 @@ full() {
     fi
 }
 
-# The options of an example's text: words, parted by spaces.
+# The options of an example's text: words, parted by spaces; and those with which a test of the catalogue is run again.
 options_of() {
     sed -n 's/^\(# \)\{0,1\}options=//p' "$1"
+}
+
+other_options_of() {
+    sed -n 's/^also=//p' "$1"
 }
 
 is_seeded() {
@@ -68,6 +72,19 @@ is_seeded() {
 litmus() {
     for text in "$examples"/litmus/*.litmus; do
         told "${text##*/}" 0 "${text%.litmus}.report" /dev/null litmus "$text"
+    done
+}
+
+# Each test of the catalogue on a thousand seeds, and with other options if it names some.
+catalogue() {
+    for text in "$examples"/litmus/*.litmus; do
+        seeds="--schedule seed --runs 1000"
+        # shellcheck disable=SC2086
+        told "${text##*/} $seeds" 0 "${text%.litmus}.seeds" /dev/null litmus $seeds "$text"
+        also=$(other_options_of "$text")
+        [ -n "$also" ] || continue
+        # shellcheck disable=SC2086
+        told "${text##*/} $also" 0 "${text%.litmus}.also" /dev/null litmus $also "$text"
     done
 }
 

@@ -1,7 +1,8 @@
 #!/usr/bin/env python3
 """Writes the gate's tests of examples/ anew: crates/test_reports/src/texts.rt, the texts of examples/litmus and the
 reports that are wanted of them, and crates/test_settings/src/texts.rt, the same of examples/settings with options. Of
-texts with seeds those of at most MOST_RUNS runs are taken."""
+texts with seeds those of at most MOST_RUNS runs are taken, and of examples/litmus those of PROVED: the others are run by
+check.sh alone, since each text in a test costs the gate time."""
 import re
 from pathlib import Path
 
@@ -10,6 +11,7 @@ OPTIONS = {"limit": "Limit", "runs": "Runs", "lease": "Lease", "time": "Time", "
            "ways": "Ways", "bank-sets": "BankSets", "bank-ways": "BankWays", "line-words": "LineWords",
            "messages": "Messages", "seed": "Seed"}
 MOST_RUNS = 20
+PROVED = ("2+2W CoRR CoWW IRIW ISA2 LB LOCK MP R READERS RENEW RWC S SB+fences SB+forall SB SWAP WRC").split()
 
 
 def literal(path):
@@ -53,7 +55,8 @@ def write(crate, lines):
     path.write_text("\n".join(lines) + "\n", encoding="ascii")
 
 
-names, settings = examples("litmus"), examples("settings")
+names = [path for path in examples("litmus") if path.stem in PROVED]
+settings = examples("settings")
 write("test_reports", [
     "//! The tests of examples/litmus and the reports that are wanted of them: written by examples/embed.py.",
     "",

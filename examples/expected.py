@@ -1,11 +1,14 @@
 #!/usr/bin/env python3
 """Writes what is wanted of the examples by examples/oracle.py, or says what differs from it.
 
-    examples/expected.py            writes the .report of each litmus test and trace, and the .records of each trace
+    examples/expected.py            writes the .report of each litmus test and trace, the .seeds and the .also of each
+                                    test of the catalogue (litmus/), and the .records of each trace
     examples/expected.py --check    says which of these files differ, and fails if one does
 
 The options of an example stand in its text: in a litmus test in the header line `options=..`, in a trace in the comment
-line `# options= ..`. Each trace's records must be legal. The tables (bad/traces.table, bad/records.table,
+line `# options= ..`. A .seeds is the report on the seeds 0 to 999. A .also is there for a test with a header line
+`also=..`: it is the report with these options. Every end state of the catalogue must be one that plain enumeration
+finds (sequential.py). Each trace's records must be legal. The tables (bad/traces.table, bad/records.table,
 verdicts.table) are written by hand: a row that the oracle answers otherwise is told, too.
 """
 import re
@@ -13,14 +16,17 @@ import sys
 from pathlib import Path
 
 import oracle
+import sequential
+from reference.litmus import Test
 from reference.order import check
 from reference.traces import Fault, Trace, read_records
 
 FOLDER = Path(__file__).resolve().parent
+SEEDS = ["--schedule", "seed", "--runs", "1000"]
 
 
-def options_of(path):
-    found = re.search(rb"^(?:# )?options=(.*)$", path.read_bytes(), re.M)
+def options_of(path, name=b"options"):
+    found = re.search(rb"^(?:# )?" + name + rb"=(.*)$", path.read_bytes(), re.M)
     return found[1].decode("ascii").split() if found else []
 
 
@@ -31,6 +37,10 @@ def wanted():
 
     for path in sorted([*FOLDER.glob("litmus/*.litmus"), *FOLDER.glob("settings/*.litmus")]):
         yield path.with_suffix(".report"), text("litmus", *options_of(path), path)
+    for path in sorted(FOLDER.glob("litmus/*.litmus")):
+        yield path.with_suffix(".seeds"), text("litmus", *SEEDS, path)
+        if options_of(path, b"also"):
+            yield path.with_suffix(".also"), text("litmus", *options_of(path, b"also"), path)
     for path in sorted(FOLDER.glob("traces/*.trace")):
         yield path.with_suffix(".report"), text("trace", *options_of(path), path)
         yield path.with_suffix(".records"), text("trace", "--records", *options_of(path), path)
@@ -59,6 +69,23 @@ def said_of(reader, *texts):
         return str(fault)
 
 
+def states_in(report):
+    """The lines of a report's end states, without how often each was met."""
+    lines = report.read_text(encoding="ascii").splitlines()
+    start = next(place for place, line in enumerate(lines) if line.startswith("states "))
+    return [line.split(" ", 1)[1] for line in lines[start + 1:start + 1 + int(lines[start].split()[1])]]
+
+
+def impossible_states():
+    """The end states of the catalogue's reports that no interleaving has."""
+    for path in sorted(FOLDER.glob("litmus/*.litmus")):
+        ends = {sequential.text_of(end) for end in sequential.ends_of(Test(path.read_text(encoding="ascii")))}
+        for report in filter(Path.exists, map(path.with_suffix, (".report", ".seeds", ".also"))):
+            for state in states_in(report):
+                if state not in ends:
+                    yield f"{report.relative_to(FOLDER)}: no interleaving ends with {state}"
+
+
 def differing_rows():
     def verdict(trace, records):
         return check({}, Trace(trace).issued(), read_records(records))
@@ -84,7 +111,7 @@ def differing_files(write):
 
 def main(write):
     files = list(differing_files(write))
-    tables = list(differing_rows())
+    tables = [*differing_rows(), *impossible_states()]
     print("\n".join(files + tables) or "nothing differs")
     return int(bool(tables or files and not write))
 

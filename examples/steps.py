@@ -1,0 +1,96 @@
+#!/usr/bin/env python3
+"""Tells how the copies of one line go through the run of a trace, step by step, by the second program (oracle.py).
+
+    examples/steps.py ADDRESS [options of a trace] TRACE
+
+A row for each event of the line of ADDRESS and for each advance: the round or turn, the event, and what there is after
+it. A core has its time and its copy, a bank its entry: S is Shared and E is Exclusive, then come the version and the end
+of the lease (wts..rts), then the word's value.
+"""
+import sys
+
+import oracle
+from reference.reports import drive
+from reference.schedules import Run
+
+# Answers of events that change nothing a reader looks for.
+NOTHING = ("Waiting", "Held", "Idle", "NoRoom", "Issued")
+CARRIED = {"ShReq": ("pts", "version"), "ExReq": ("version",)}
+
+
+def line_of(machine, event):
+    """The line that an event is about, or None if it is an advance."""
+    name, *of = event
+    if name == "Deliver":
+        return machine.flight[of[0]].line
+    if name in ("EvictCache", "EvictBank"):
+        return of[1]
+    return machine.line_at(of[0]) if name == "Attempt" else None
+
+
+def told(machine, event):
+    """An event in words, as it stands before it is made."""
+    name, *of = event
+    if name == "Deliver":
+        message = machine.flight[of[0]]
+        keys = CARRIED.get(message.kind, ("wts", "rts"))
+        carried = [f"{key} {getattr(message, key)}" for key in keys if getattr(message, key, None) is not None]
+        about = [message.kind] + ([f"core {message.core}"] if message.core is not None else [])
+        return ", ".join(about + carried)
+    if name == "Attempt":
+        return f"core {of[0]}: {machine.cores[of[0]].op[0]}"
+    return f"core {of[0]}: {name}" if name in ("Advance", "EvictCache") else f"bank {of[0]}: {name}"
+
+
+def held(place, index):
+    """A copy or an entry: its state, times and word."""
+    if place is None:
+        return "-"
+    if place.state not in ("Shared", "Exclusive"):
+        return place.state
+    if not hasattr(place, "written") and place.state == "Exclusive":
+        return f"E of core {place.owner}"
+    return f"{place.state[0]} {place.wts}..{place.rts} {place.words[index]}"
+
+
+class Steps(Run):
+    """A run that notes a row for each event of one line."""
+    word, rows = None, None
+
+    def state(self):
+        machine, line, index = self.machine, self.machine.line(self.word), self.word % self.machine.o.line_words
+        for number, core in enumerate(machine.cores):
+            yield f"{core.pts}: {held(machine.find(line, machine.cache_set(number, line))[0], index)}"
+        yield held(machine.find(line, machine.bank_set(line))[0], index)
+
+    def make(self, *event):
+        name, line, about = event[0], line_of(self.machine, event), told(self.machine, event)
+        answer = super().make(*event)
+        if answer not in NOTHING and (name == "Advance" or line == self.machine.line(self.word)):
+            if answer == "Completed" and self.machine.records[-1].received is not None:
+                about += f" receives {self.machine.records[-1].received}"
+            elif answer in ("Requested", "Started", "Dropped", "Exhausted", "NetworkFull"):
+                about += f": {answer}"
+            self.rows.append([str(self.turns), about, *self.state()])
+        return answer
+
+
+def table(rows):
+    wide = [max(len(row[place]) for row in rows) for place in range(len(rows[0]))]
+    return "".join("  ".join(cell.ljust(size) for cell, size in zip(row, wide)).rstrip() + "\n" for row in rows)
+
+
+def main(given):
+    if len(given) < 2:
+        return __doc__
+    options = oracle.words().parse_args(["trace", *given[1:]])
+    trace = oracle.read_trace(options.FILE)
+    Steps.word, Steps.rows = int(given[0], 16) // 8, []
+    drive(options, trace.programs(), {}, options.seed, None, Steps)
+    head = ["turn", "event", *(f"core {number}" for number in range(trace.cores)), "bank"]
+    sys.stdout.write(table([head, *Steps.rows]))
+    return 0
+
+
+if __name__ == "__main__":
+    sys.exit(main(sys.argv[1:]))

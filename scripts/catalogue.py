@@ -1,0 +1,96 @@
+#!/usr/bin/env python3
+"""Writes the tables of docs/TESTS.md anew from examples/litmus, or tests them.
+
+    scripts/catalogue.py            writes the tables
+    scripts/catalogue.py --check    says what differs, and fails if something does
+
+What a test asks stands in its text. What sequential consistency says of it comes from examples/sequential.py, and what
+runs report from the .report, .seeds and .also beside it, which examples/expected.py wrote. Each test is in one table.
+"""
+import re
+import sys
+from pathlib import Path
+
+TOP = Path(__file__).resolve().parent.parent
+PAGE = TOP / "docs/TESTS.md"
+TESTS = TOP / "examples/litmus"
+sys.path.insert(0, str(TOP / "examples"))
+
+import sequential  # noqa: E402
+from reference.litmus import Test  # noqa: E402
+
+TABLES = {
+    "two threads": "SB MP LB S R 2+2W",
+    "one location": "CoRR CoRW CoWR CoWW CoRR2",
+    "more threads": "WRC RWC ISA2 WRW+2W W+RWC Z6.0 Z6.1 Z6.2 Z6.3 Z6.4 Z6.5 3.SB 3.LB 3.2W IRIW",
+    "swaps and fences": "SWAP SB+swaps MP+swaps 2+2W+swaps SB+fence SB+fences MP+fences",
+    "locks": "LOCK LOCK+release SEQLOCK",
+    "yes": "MP+yes SB+yes SWAP+yes SB+forall",
+    "protocol": "STALE READERS RENEW LEASE PRIVATE FALSE",
+}
+HEAD = ["| Test | Question | One memory | Rounds | 1,000 seeds | Ends met | Stale hits |", "|---|---|---|---|---|---|---|"]
+
+
+class Report:
+    """The lines of a report by their names, and its end states."""
+
+    def __init__(self, name, ending):
+        lines = (TESTS / (name + ending)).read_text(encoding="ascii").splitlines()
+        self.said = dict(line.split(" ", 1) for line in lines)
+        start = lines.index(f"states {self.said['states']}") + 1
+        self.states = [line.split(" ", 1)[1] for line in lines[start:start + int(self.said["states"])]]
+
+    def text(self):
+        """A report of one run: its verdict and its end."""
+        return f"{self.said['verdict']}: `{self.states[0]}`"
+
+
+def row(name):
+    text = (TESTS / (name + ".litmus")).read_text(encoding="ascii")
+    test, rounds, seeds = Test(text), Report(name, ".report"), Report(name, ".seeds")
+    ends = sequential.ends_of(test)
+    question = re.search(r'^"(.*)"$', text, re.M)[1]
+    cells = [f"[{name}](../examples/litmus/{name}.litmus)", f"{test.kind}: {question}", sequential.answer(test, ends),
+             rounds.text(), f"{seeds.said['verdict']}, held {seeds.said['held']}",
+             f"{len(seeds.states)} of {len(ends)}", seeds.said["stale-hits"]]
+    return "| " + " | ".join(cells) + " |"
+
+
+def other_options():
+    """The tests that are run again with other options, with what changes in the report by rounds."""
+    yield from ("| Test | Options | End | Verdict | Renewals | Flushes | Write-backs | Stale hits |",
+                "|---|---|---|---|---|---|---|---|")
+    for path in sorted(TESTS.glob("*.also")):
+        options = re.search(r"^also=(.*)$", path.with_suffix(".litmus").read_text(encoding="ascii"), re.M)[1]
+        for ending, used in ((".report", "those by default"), (".also", f"`{options}`")):
+            report = Report(path.stem, ending)
+            cells = [path.stem, used, f"`{report.states[0]}`", *(report.said[name] for name in (
+                "verdict", "renewals", "flushes", "write-backs", "stale-hits"))]
+            yield "| " + " | ".join(cells) + " |"
+
+
+def with_table(text, name, rows):
+    pattern = re.compile(rf"(<!-- table {re.escape(name)} -->\n).*?(<!-- end -->)", re.S)
+    if not pattern.search(text):
+        raise SystemExit(f"catalogue.py: docs/TESTS.md has no table {name}")
+    return pattern.sub(lambda m: m[1] + "\n".join(rows) + "\n" + m[2], text)
+
+
+def main(check):
+    listed = [name for names in TABLES.values() for name in names.split()]
+    if sorted(listed) != sorted(path.stem for path in TESTS.glob("*.litmus")):
+        return "catalogue.py: the tables don't name each test of examples/litmus once"
+    old = new = PAGE.read_text(encoding="utf-8")
+    for name, names in TABLES.items():
+        new = with_table(new, name, HEAD + [row(test) for test in names.split()])
+    new = with_table(new, "other options", other_options())
+    if check and old != new:
+        return "catalogue.py: the tables of docs/TESTS.md aren't those of examples/litmus (scripts/catalogue.py writes them)"
+    if old != new:
+        PAGE.write_text(new, encoding="utf-8")
+    print(f"{len(listed)} tests stand in docs/TESTS.md as their reports have them")
+    return 0
+
+
+if __name__ == "__main__":
+    sys.exit(main(sys.argv[1:] == ["--check"]))

@@ -1,6 +1,8 @@
 mod Powers
 mod FlightLaws
-mod SlotInvariants
 mod RisingLists
 mod SlotChanges
+mod StoredMessages
+mod LinkLaws
+mod StoredChanges
 pub mod Lemmas

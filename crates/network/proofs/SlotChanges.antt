@@ -11,7 +11,7 @@ use Rattle.network.specs.Routes.{has_endpoints, AllHaveEndpoints}
 use Rattle.network.proofs.RisingLists.{at_number-below, number_at-within, number_at-slice_get}
 
 module _ {X : Type 0} where
-  given-append : (n : ℕ) (o : Option X) (xs ys : List (ℕ × X)) → given n o (xs ++ ys) ≡ given n o xs ++ ys
+  pub given-append : (n : ℕ) (o : Option X) (xs ys : List (ℕ × X)) → given n o (xs ++ ys) ≡ given n o xs ++ ys
   given-append n None xs ys = refl
   given-append n (Some x) xs ys = refl
 

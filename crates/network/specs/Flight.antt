@@ -1,10 +1,8 @@
 -- What contracts see of the messages in flight.
-use Rattle.std.specs.Prelude.{ℕ, ◌≡◌, ◌+◌, ◌*◌, ◌≤◌, ◌<◌, ◌^◌, List, length, Option}
+use Rattle.std.specs.Prelude.{ℕ, ◌≡◌, ◌-◌, ◌<◌, ◌^◌}
 use Rattle.network.specs.declared.counts.Counts.{Counts}
-use Rattle.network.specs.declared.message.Message.{Message}
 use Rattle.network.specs.Mail.{Mail, AreCounts}
-use Rattle.network.specs.NumberedMessages.{IsRising, still_there}
-use Rattle.network.specs.Routes.{AllHaveEndpoints}
+use Rattle.network.specs.Stored.{Linked}
 
 -- the messages in flight between so many cores and banks, how many there may be, how many slots are kept for them, the
 -- empty ones of taken messages included, and how many more can be sent before memory is asked for
@@ -16,15 +14,22 @@ pub record Flight : Type 0 where
   pub reserved : ℕ
   pub mail : Mail
 
--- what is true of the slots in which the messages are kept: the numbers rise and are below the next one, so many slots
--- have their message, no more than may be, at most one slot more than these is empty, each message has the endpoints of
--- its kind, and the counts are below the next number
-pub record IsKept (cores banks capacity next count : ℕ) (counts : Counts) (slots : List (ℕ × Option Message)) : Type
-    0 where
-  pub rising : IsRising 0 slots next
-  pub numbered : next < 2 ^ 64
-  pub counted : count ≡ length (still_there slots)
-  pub bounded : count ≤ capacity
-  pub few : length slots ≤ 2 * count + 1
-  pub endpoints : AllHaveEndpoints cores banks (still_there slots)
-  pub counts_below : AreCounts counts next
+-- what contracts see, where at most so many messages may be in flight and so many of the counted kinds were sent
+abbrev pub flight_of : ℕ → Counts → Linked → Flight
+flight_of capacity counts linked =
+    record {
+      cores = linked.cores;
+      banks = linked.banks;
+      capacity = capacity;
+      slots = linked.slots;
+      reserved = linked.room - linked.slots;
+      mail =
+          record { messages = linked.messages; next = linked.next; counts = counts };
+    }
+
+-- what is true of all that is kept: there is room for as many messages as may be in flight, the numbers are below 2 ^ 64,
+-- and the counts are not above the next number
+pub record IsKept (capacity : ℕ) (counts : Counts) (linked : Linked) : Type 0 where
+  pub fits : capacity ≡ linked.capacity
+  pub numbered : linked.next < 2 ^ 64
+  pub counts_below : AreCounts counts linked.next

@@ -1,6 +1,6 @@
 //! The messages that are looked for among those in flight.
 ghost use Rattle.std.specs.Prelude.{◌≡◌};
-ghost use Rattle.network.specs.Search.{is_between, is_ownership_of, is_same_node, is_store_of, carries_ownership};
+ghost use Rattle.network.specs.Search.{is_ownership_of, is_same_node, is_store_of, carries_ownership};
 ghost use Rattle.network.specs.Requests.{is_wanted};
 
 use crate::message::{Body, Message, Node};
@@ -9,8 +9,6 @@ use crate::numbers::LineNo;
 /// What is looked for.
 #[derive(Clone, Copy)]
 pub(crate) enum Wanted {
-    /// A message from the one node to the other.
-    Between(Node, Node),
     /// A message that carries the line's ownership.
     OwnershipOf(LineNo),
     /// A store of the line's words in DRAM.
@@ -49,7 +47,6 @@ impl Wanted {
         ensures { result ≡ is_wanted self.now message.now }
     {
         match *self {
-            Wanted::Between(from, to) => message.from.is_same(from) && message.to.is_same(to),
             Wanted::OwnershipOf(line) => message.line.0 == line.0
                 && message.body.carries_ownership(),
             Wanted::StoreOf(line) => message.line.0 == line.0

@@ -11,12 +11,9 @@ ghost use Rattle.network.specs.Mail.{has_capacity, has_number, no_mail, sent, ta
 
 use crate::counts::Counts;
 use crate::criteria::Wanted;
+use crate::linked::LinkedMessages;
 use crate::message::{Message, Node};
 use crate::numbers::{LineNo, MsgNo};
-use crate::slots::{
-    Slot, count_wanted, drop_empty, first_wanted, message_of, nth_number, numbers_of, take_message,
-    with_room,
-};
 use std::alloc::{AllocError, Global};
 use std::marker::Model;
 
@@ -46,28 +43,20 @@ impl SendError {
 /// many messages can be sent before memory is asked for.
 #[derive(Drop)]
 pub struct InFlight {
-    cores: u32,
-    banks: u32,
     capacity: u32,
-    next: u64,
-    // how many slots still have their message
-    count: u32,
     // how many of the counted kinds were sent
     counts: Counts,
-    slots: Vec<Slot>,
+    linked: LinkedMessages,
 }
 
 impl Model for InFlight {
-    ghost use Rattle.std.specs.Prelude.{◌+◌, ◌-◌, ◌*◌, ◌≤◌, length, vec_capacity, vec_len};
-    ghost use Rattle.network.specs.Flight.{Flight, IsKept};
-    ghost use Rattle.network.specs.NumberedMessages.{still_there};
+    ghost use Rattle.network.specs.Flight.{Flight, IsKept, flight_of};
 
     ghost Value = { Flight };
 
-    ghost view = { λ a. record { cores = a.cores; banks = a.banks; capacity = a.capacity; slots = length a.slots.items; reserved = vec_capacity a.slots - vec_len a.slots; mail = record { messages = still_there a.slots.items; next = a.next; counts = a.counts } } };
+    ghost view = { λ a. flight_of a.capacity a.counts a.linked };
 
-    // There is memory for every slot that may be kept, and for one more.
-    ghost invariant = { λ a. IsKept a.cores a.banks a.capacity a.next a.count a.counts a.slots.items × (2 * a.capacity + 2 ≤ vec_capacity a.slots) };
+    ghost invariant = { λ a. IsKept a.capacity a.counts a.linked };
 }
 
 impl InFlight {
@@ -85,15 +74,11 @@ impl InFlight {
           mail = no_mail;
         }) }
     {
-        let slots = with_room(alloc, capacity)?;
+        let linked = LinkedMessages::new(alloc, cores, banks, capacity)?;
         Ok(InFlight {
-            cores,
-            banks,
             capacity,
-            next: 0,
-            count: 0,
             counts: Counts::zeros(),
-            slots,
+            linked,
         })
     }
 
@@ -101,7 +86,7 @@ impl InFlight {
     pub fn has_number(&self) -> bool
         ensures { result ≡ has_number self.now.mail }
     {
-        self.next < u64::MAX
+        self.linked.next() < u64::MAX
     }
 
     /// Whether one more message can be sent. Never are more in flight than may be.
@@ -109,7 +94,7 @@ impl InFlight {
         ensures value { result ≡ has_capacity self.now.capacity self.now.mail }
         ensures bound { length self.now.mail.messages ≤ self.now.capacity }
     {
-        self.count < self.capacity && self.next < u64::MAX
+        self.linked.count() < self.capacity && self.linked.next() < u64::MAX
     }
 
     /// The message with this number, if it is in flight.
@@ -118,7 +103,7 @@ impl InFlight {
         ensures endpoints { IfSome result
             (λ message. IsTrue (has_endpoints self.now.cores self.now.banks message.now)) }
     {
-        message_of(&self.slots, number.0)
+        self.linked.look(number.0)
     }
 
     /// Reserves memory for one more message: `new` took it, so there always is some.
@@ -127,7 +112,7 @@ impl InFlight {
         ensures ok { 0 < self.new.reserved }
         ensures sure { IsOk result }
     {
-        let _slots = &self.slots;
+        let _slots = self.linked.slots();
         Ok(())
     }
 
@@ -151,17 +136,14 @@ impl InFlight {
             has_capacity self.old.capacity self.old.mail ≡ false) }
         ensures sure { IfErr result (λ refusal. refusal.0 ≡ SendError.Full) }
     {
-        if self.count >= self.capacity {
+        if self.linked.count() >= self.capacity {
             return Err((SendError::Full, message));
         }
-        if self.next == u64::MAX {
+        if self.linked.next() == u64::MAX {
             return Err((SendError::Full, message));
         }
-        let number = self.next;
         let counts = self.counts.with(&message.body);
-        self.slots.push_reserved((number, Some(message)));
-        self.next = number + 1;
-        self.count += 1;
+        let number = self.linked.push(message);
         self.counts = counts;
         Ok(MsgNo(number))
     }
@@ -179,10 +161,7 @@ impl InFlight {
         ensures endpoints { IfSome result
             (λ message. IsTrue (has_endpoints self.old.cores self.old.banks message)) }
     {
-        let message = take_message(&mut self.slots, number.0)?;
-        self.count -= 1;
-        drop_empty(&mut self.slots, self.count as usize);
-        Some(message)
+        self.linked.take(number.0)
     }
 
     /// How many slots are kept: one for each message in flight, and those of taken messages that weren't given back
@@ -191,7 +170,7 @@ impl InFlight {
         ensures slots { result ≡ self.now.slots }
         ensures bound { result ≤ 2 * length self.now.mail.messages + 1 }
     {
-        self.slots.len()
+        self.linked.slots()
     }
 
     /// How many of the counted kinds were sent.
@@ -206,8 +185,7 @@ impl InFlight {
         ensures { result ≡ option_map (λ x. x.0) (first_message (is_between from to)
             self.now.mail.messages) }
     {
-        let (number, _) = first_wanted(&self.slots, &Wanted::Between(from, to))?;
-        Some(MsgNo(number))
+        self.linked.oldest(from, to)
     }
 
     /// The numbers of the messages in flight, rising.
@@ -216,28 +194,28 @@ impl InFlight {
             self.now.mail.messages) }
         ensures rising { IsRising 0 self.now.mail.messages self.now.mail.next }
     {
-        numbers_of(*self.slots.allocator(), &self.slots)
+        self.linked.numbers()
     }
 
     /// How many messages are in flight.
     pub fn count(&self) -> u32
         ensures { result ≡ length self.now.mail.messages }
     {
-        self.count
+        self.linked.count()
     }
 
     /// The number of the message in flight before which so many were sent that still are; none past the last one.
     pub fn nth(&self, at: u32) -> Option<MsgNo>
         ensures { result ≡ slice_get (map (λ x. x.0) self.now.mail.messages) at }
     {
-        nth_number(&self.slots, at)
+        self.linked.nth(at)
     }
 
     /// How many messages carry the line's ownership.
     pub fn owners(&self, line: LineNo) -> usize
         ensures { result ≡ count_messages (is_ownership_of line) self.now.mail.messages }
     {
-        count_wanted(&self.slots, &Wanted::OwnershipOf(line))
+        self.linked.count_of(&Wanted::OwnershipOf(line))
     }
 
     /// The first message, in the order of sending, that carries the line's ownership.
@@ -245,8 +223,7 @@ impl InFlight {
         ensures { option_copied result ≡ option_map (λ x. x.1)
             (first_message (is_ownership_of line) self.now.mail.messages) }
     {
-        let (_, message) = first_wanted(&self.slots, &Wanted::OwnershipOf(line))?;
-        Some(message)
+        self.linked.first(&Wanted::OwnershipOf(line))
     }
 
     /// The first message, in the order of sending, that stores the line's words in DRAM.
@@ -254,7 +231,6 @@ impl InFlight {
         ensures { option_copied result ≡ option_map (λ x. x.1) (first_message (is_store_of line)
             self.now.mail.messages) }
     {
-        let (_, message) = first_wanted(&self.slots, &Wanted::StoreOf(line))?;
-        Some(message)
+        self.linked.first(&Wanted::StoreOf(line))
     }
 }

@@ -8,6 +8,8 @@ pub mod division;
 pub mod endpoints;
 pub mod in_flight;
 pub mod laws;
+mod linked;
+mod links;
 pub mod message;
 pub mod numbers;
 pub mod part;

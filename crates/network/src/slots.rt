@@ -1,18 +1,14 @@
-//! Slots of numbered messages in the order of sending, some of which are empty.
+//! Slots of numbers in the order of sending, each with the cell where its message lies, if it is still there.
 ghost use Rattle.std.specs.Prelude.{◌≡◌, ◌+◌, ◌*◌, ◌<◌, ◌≤◌, ◌^◌, [], ℕ, None, Some, IfSome, IfNone, IfOk};
-ghost use Rattle.std.specs.Prelude.{option_copied, option_map, length, map, slice_get, vec_capacity};
+ghost use Rattle.std.specs.Prelude.{length, map, slice_get, vec_capacity};
 ghost use Rattle.std.specs.Prelude.{vec_len};
-ghost use Rattle.network.specs.Requests.{is_wanted};
-ghost use Rattle.network.specs.Search.{first_message, count_messages, kept_if, with_message};
 ghost use Rattle.network.specs.NumberedMessages.{IsRising, at_number, number_at, still_there, without_number};
 
-use crate::criteria::Wanted;
-use crate::message::Message;
 use crate::numbers::MsgNo;
 use std::alloc::{AllocError, Global};
 
-/// The number of a message, and the message until it is taken.
-pub(crate) type Slot = (u64, Option<Message>);
+/// The number of a message, and the cell where it lies until it is taken.
+pub(crate) type Slot = (u64, Option<u32>);
 
 /// No slots yet, and memory for all that may be kept where so many messages may be in flight, and for one more.
 pub(crate) fn with_room(alloc: Global, capacity: u32) -> Result<Vec<Slot>, AllocError>
@@ -60,55 +56,17 @@ pub(crate) fn slot_of(slots: &[Slot], number: u64) -> Option<usize>
     Some(at)
 }
 
-/// The message with the number, or `None` where there is none.
-pub(crate) fn message_of(slots: &[Slot], number: u64) -> Option<&Message>
+/// The cell of the number, or `None` where there is none.
+pub(crate) fn cell_of(slots: &[Slot], number: u64) -> Option<u32>
     requires { IsRising 0 slots.now (2 ^ 64) }
-    ensures { option_copied result ≡ at_number number (still_there slots.now) }
+    ensures { result ≡ at_number number (still_there slots.now) }
 {
     let at = slot_of(slots, number)?;
-    slots[at].1.as_ref()
+    slots[at].1
 }
 
-/// The slot's message, if it is still there and is one that is looked for.
-fn wanted_in<'a>(slot: &'a Slot, wanted: &Wanted) -> Option<&'a Message>
-    ensures { option_copied result ≡ kept_if (is_wanted wanted.now) slot.now.1 }
-{
-    let message = slot.1.as_ref()?;
-    if wanted.fits(message) {
-        Some(message)
-    } else {
-        None
-    }
-}
-
-/// The first message that is looked for, with its number, or `None` where there is none.
-pub(crate) fn first_wanted<'a>(slots: &'a [Slot], wanted: &Wanted) -> Option<(u64, &'a Message)>
-    ensures { option_map with_message result ≡ first_message (is_wanted wanted.now)
-        (still_there slots.now) }
-{
-    for slot in slots {
-        if let Some(message) = wanted_in(slot, wanted) {
-            return Some((slot.0, message));
-        }
-    }
-    None
-}
-
-/// How many messages are looked for.
-pub(crate) fn count_wanted(slots: &[Slot], wanted: &Wanted) -> usize
-    ensures { result ≡ count_messages (is_wanted wanted.now) (still_there slots.now) }
-{
-    let mut count = 0;
-    for slot in slots {
-        if wanted_in(slot, wanted).is_some() {
-            count += 1;
-        }
-    }
-    count
-}
-
-/// Takes the message out of the slot at an index, which stays empty.
-pub(crate) fn empty_slot(slots: &mut Vec<Slot>, at: usize, number: u64) -> Option<Message>
+/// Takes the cell out of the slot at an index, which stays empty.
+fn empty_slot(slots: &mut Vec<Slot>, at: usize, number: u64) -> Option<u32>
     requires rising { IsRising 0 slots.old.items (2 ^ 64) }
     requires here { slice_get slots.old.items at ≡ Some
         (number, at_number number (still_there slots.old.items)) }
@@ -121,12 +79,12 @@ pub(crate) fn empty_slot(slots: &mut Vec<Slot>, at: usize, number: u64) -> Optio
     ensures long { length slots.new.items ≡ length slots.old.items }
     ensures capacity { vec_capacity slots.new ≡ vec_capacity slots.old }
 {
-    let message = slots[at].1;
+    let cell = slots[at].1;
     slots[at] = (number, None);
-    message
+    cell
 }
 
-/// Drops the empty slots where they are more than the others by two or more. So many slots have their message.
+/// Drops the empty slots where they are more than the others by two or more. So many slots have a cell.
 pub(crate) fn drop_empty(slots: &mut Vec<Slot>, count: usize)
     requires { count ≡ length (still_there slots.old.items) }
     ensures few { length slots.new.items ≤ 2 * count + 1 }
@@ -141,8 +99,8 @@ pub(crate) fn drop_empty(slots: &mut Vec<Slot>, count: usize)
     }
 }
 
-/// Takes the message with the number, if it is there.
-pub(crate) fn take_message(slots: &mut Vec<Slot>, number: u64) -> Option<Message>
+/// Takes the cell of the number, if it is there. Its slot stays empty.
+pub(crate) fn take_cell(slots: &mut Vec<Slot>, number: u64) -> Option<u32>
     requires { IsRising 0 slots.old.items (2 ^ 64) }
     ensures value { result ≡ at_number number (still_there slots.old.items) }
     ensures after { still_there slots.new.items ≡ without_number number
@@ -157,7 +115,7 @@ pub(crate) fn take_message(slots: &mut Vec<Slot>, number: u64) -> Option<Message
     empty_slot(slots, at, number)
 }
 
-/// The numbers of the slots that have their message, in their order.
+/// The numbers of the slots that have a cell, in their order.
 pub(crate) fn numbers_of(alloc: Global, slots: &[Slot]) -> Result<Vec<MsgNo>, AllocError>
     ensures { IfOk result (λ numbers. numbers.items ≡ map (λ x. x.0) (still_there slots.now)) }
 {
@@ -170,7 +128,7 @@ pub(crate) fn numbers_of(alloc: Global, slots: &[Slot]) -> Result<Vec<MsgNo>, Al
     Ok(numbers)
 }
 
-/// The number of the slot that has its message and comes after so many others that have theirs; none past the last.
+/// The number of the slot that has a cell and comes after so many others that have one; none past the last.
 pub(crate) fn nth_number(slots: &[Slot], at: u32) -> Option<MsgNo>
     ensures { result ≡ slice_get (map (λ x. x.0) (still_there slots.now)) at }
 {

@@ -6,7 +6,7 @@ pub loop-low-preserved-then-slots-middle : goal.loop-low-preserved-then-slots-mi
 loop-low-preserved-then-slots-middle c = record {
   order = omega arith;
   within = c.loop-low.invariant.within;
-  before = passes_middle c.args.slots.now _ _ _ c.args.number c.index-slots-middle.result c.requires (omega arith)
+  before = passes_middle c.args.slots.now _ _ _ c.args.number _ c.requires (omega arith)
       c.if-slots-middle.true;
   after = c.loop-low.invariant.after;
 }
@@ -16,6 +16,6 @@ loop-low-preserved c = record {
   order = omega arith;
   within = omega arith;
   before = c.loop-low.invariant.before;
-  after = stops_middle c.args.slots.now _ _ _ c.args.number c.index-slots-middle.result c.requires (omega arith)
+  after = stops_middle c.args.slots.now _ _ _ c.args.number _ c.requires (omega arith)
       c.if-slots-middle.false;
 }

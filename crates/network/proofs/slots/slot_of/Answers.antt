@@ -4,7 +4,7 @@ use Rattle.network.proofs.slots.slot_of.Goals as goal
 
 pub returns-clause-found : goal.returns-clause-found
 returns-clause-found c = slice_get-at_number c.args.number 0 (2 ^ 64) c.first_from-at.result c.args.slots.now
-    c.requires (omega arith) (sym (number_at-get_or c.args.slots.now c.first_from-at.result c.index-slots-at.result
+    c.requires (omega arith) (sym (number_at-get_or c.args.slots.now c.first_from-at.result _
     (omega arith)) ∙ c.if-slots-at.false)
 
 pub returns-then-at-slots-clause-absent : goal.returns-then-at-slots-clause-absent
@@ -16,4 +16,4 @@ pub returns-then-slots-at-clause-absent : goal.returns-then-slots-at-clause-abse
 returns-then-slots-at-clause-absent c = at_number-absent c.args.number (2 ^ 64) c.first_from-at.result
     c.args.slots.now c.requires c.first_from-at.ensures.before c.first_from-at.ensures.after
     (λ within same. c.if-slots-at.true (number_at-get_or c.args.slots.now c.first_from-at.result
-    c.index-slots-at.result within ∙ same))
+    _ within ∙ same))

@@ -1,0 +1,127 @@
+-- What is stored after a message is sent or taken, or empty slots are dropped.
+use Rattle.std.proofs.Common.{◌≡◌, ℕ, ◌+◌, ◌-◌, ◌*◌, ◌<◌, ◌≤◌, ◌^◌, ◌++◌, List, [], ◌∷◌, length, length-append}
+use Rattle.std.proofs.Common.{Option, Some, None, Result, Ok, Err, IsOk, IsErr, IfOk, IsTrue, refl, sym, ◌∙◌, arith}
+use Rattle.line_arena.specs.Arenas.{Lists, pushed, unlinked, free_cells, IsOnce}
+use Rattle.line_arena.specs.CellLists.{look_up}
+use Rattle.line_arena.specs.ListLaws.{LookUpLaws, AppendLaws, WithoutLaws}
+use Rattle.network.specs.declared.message.Message.{Message}
+use Rattle.network.specs.LinkNumbers.{link_of}
+use Rattle.network.specs.NumberedMessages.{IsRising, at_number, without_number, still_there}
+use Rattle.network.specs.Routes.{has_endpoints}
+use Rattle.network.specs.Stored.{IsStored, messages_of}
+use Rattle.network.proofs.LinkLaws.{link-low}
+use Rattle.network.proofs.SlotChanges.{still_there-append, IsRising-append, IsRising-still_there}
+use Rattle.network.proofs.SlotChanges.{length-without_number, without_number-none}
+use Rattle.network.proofs.StoredMessages.{messages-length, linked-sent, linked-cut}
+
+pub is-ok : {A B : Type 0} (r : Result A B) → (IsErr r → ⊥) → IsOk r
+is-ok (Ok x) never = refl
+is-ok (Err x) never = absurd (never refl)
+
+pub if-ok : {A B : Type 0} (P : A → Type 0) (r : Result A B) (x : A) → IfOk r P → r ≡ Ok x → P x
+if-ok P r x h e = rw e at h
+
+-- how many messages there are
+pub stored-count : (cores banks next count places : ℕ) (slots : List (ℕ × Option ℕ)) (arena : Lists (ℕ × Message)) →
+    IsStored cores banks next count places slots arena →
+    count ≡ length (messages_of arena.lists (still_there slots))
+stored-count cores banks next count places slots arena stored =
+    stored.counted ∙ sym (messages-length arena.lists (still_there slots) stored.linked.placed)
+
+-- where there are fewer than there is room for, a cell is free
+pub stored-free : (cores banks next count places : ℕ) (slots : List (ℕ × Option ℕ)) (arena : Lists (ℕ × Message)) →
+    IsStored cores banks next count places slots arena →
+    length (messages_of arena.lists (still_there slots)) < arena.cells → free_cells arena ≡ 0 → ⊥
+stored-free cores banks next count places slots arena stored room none =
+    let many = messages-length arena.lists (still_there slots) stored.linked.placed in
+    omega (arith, many, room, none, stored.linked.total)
+
+-- a message is sent
+pub record Sends (cores banks next count places : ℕ) (m : Message) (slots : List (ℕ × Option ℕ))
+    (arena : Lists (ℕ × Message)) (messages : List (ℕ × Message)) : Type 0 where
+  pub stored : IsStored cores banks (next + 1) (count + 1) places slots arena
+  pub are : messages_of arena.lists (still_there slots) ≡ messages ++ (next, m) ∷ []
+
+pub stored-sent : (cores banks next count places l c : ℕ) (m : Message) (slots : List (ℕ × Option ℕ))
+    (arena : Lists (ℕ × Message)) → IsStored cores banks next count places slots arena → AppendLaws (ℕ × Message) →
+    IsTrue (has_endpoints cores banks m) → next < 2 ^ 64 - 1 →
+    length (messages_of arena.lists (still_there slots)) < arena.cells → look_up c arena.lists ≡ None →
+    link_of cores banks m.from m.to ≡ Some l →
+    Sends cores banks next count places m (slots ++ (next, Some c) ∷ []) (pushed l (c, (next, m)) arena)
+    (messages_of arena.lists (still_there slots))
+stored-sent cores banks next count places l c m slots arena stored laws here number room fresh link =
+    let xs : List (ℕ × ℕ) = still_there slots in
+    let there : still_there (slots ++ (next, Some c) ∷ []) ≡ xs ++ (next, c) ∷ [] = still_there-append next c slots in
+    let low = link-low cores banks m.from m.to l link in
+    let after = linked-sent cores banks l c next m arena.lists xs stored.linked laws fresh link
+    (omega (arith, low, stored.linked.many)) here in
+    let many = stored-count cores banks next count places slots arena stored in
+    record {
+      stored = record {
+        most_cores = stored.most_cores;
+        most_banks = stored.most_banks;
+        most_cells = stored.most_cells;
+        rising = IsRising-append 0 next (Some c) slots stored.rising;
+        numbered = omega (arith, number);
+        counted = rw there (omega (arith, stored.counted, length-append xs ((next, c) ∷ [])));
+        bounded = omega (arith, many, room);
+        few = omega (arith, stored.few, length-append slots ((next, Some c) ∷ []));
+        room = stored.room;
+        linked = rw there after.linked;
+      };
+      are = rw there after.are;
+    }
+
+-- nothing is there to be taken
+pub stored-none : (cores banks next count places n : ℕ) (slots new : List (ℕ × Option ℕ)) (arena : Lists (ℕ × Message)) →
+    IsStored cores banks next count places slots arena → at_number n (still_there slots) ≡ None →
+    still_there new ≡ without_number n (still_there slots) → IsRising 0 new next → length new ≡ length slots →
+    (still_there new ≡ still_there slots) × IsStored cores banks next count places new arena
+stored-none cores banks next count places n slots new arena stored none after rising long =
+    let same : still_there new ≡ still_there slots = after ∙ without_number-none n (still_there slots) none in (
+      same,
+      record {
+        most_cores = stored.most_cores;
+        most_banks = stored.most_banks;
+        most_cells = stored.most_cells;
+        rising = rising;
+        numbered = stored.numbered;
+        counted = rw same stored.counted;
+        bounded = stored.bounded;
+        few = omega (arith, stored.few, long);
+        room = stored.room;
+        linked = rw same stored.linked;
+      },
+    )
+
+-- a message is taken
+pub record Takes (cores banks next count places n : ℕ) (slots : List (ℕ × Option ℕ)) (arena : Lists (ℕ × Message))
+    (messages : List (ℕ × Message)) : Type 0 where
+  pub stored : IsStored cores banks next (count - 1) places slots arena
+  pub are : messages_of arena.lists (still_there slots) ≡ without_number n messages
+
+pub stored-taken : (cores banks next count places n c : ℕ) (m : Message) (slots new : List (ℕ × Option ℕ))
+    (arena : Lists (ℕ × Message)) → IsStored cores banks next count places slots arena → LookUpLaws (ℕ × Message) →
+    WithoutLaws (ℕ × Message) → IsOnce arena.lists → at_number n (still_there slots) ≡ Some c →
+    look_up c arena.lists ≡ Some (n, m) → still_there new ≡ without_number n (still_there slots) →
+    IsRising 0 new next → length new ≤ 2 * (count - 1) + 1 →
+    Takes cores banks next count places n new (unlinked c arena) (messages_of arena.lists (still_there slots))
+stored-taken cores banks next count places n c m slots new arena stored finds laws once e is after rising few =
+    let cut = linked-cut cores banks n c next m arena.lists (still_there slots) stored.linked
+    (IsRising-still_there 0 next slots stored.rising) e is finds laws once in
+    let less = length-without_number n c (still_there slots) e in
+    record {
+      stored = record {
+        most_cores = stored.most_cores;
+        most_banks = stored.most_banks;
+        most_cells = stored.most_cells;
+        rising = rising;
+        numbered = stored.numbered;
+        counted = rw after (omega (arith, stored.counted, less));
+        bounded = omega (arith, stored.bounded);
+        few = few;
+        room = stored.room;
+        linked = rw after cut.linked;
+      };
+      are = rw after cut.are;
+    }

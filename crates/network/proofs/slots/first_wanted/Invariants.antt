@@ -1,9 +1,0 @@
-use Rattle.std.proofs.Common.{◌≡◌, drop}
-use Rattle.network.specs.Requests.{is_wanted}
-use Rattle.network.specs.NumberedMessages.{still_there}
-use Rattle.network.specs.Search.{first_message}
-use Rattle.network.proofs.slots.first_wanted.Given as goal
-
-abbrev pub invariant-loop-slot : goal.invariant-loop-slot
-invariant-loop-slot l = first_message (is_wanted l.wanted) (still_there (drop l.slot-index l.slots)) ≡ first_message
-    (is_wanted l.wanted) (still_there l.slots)

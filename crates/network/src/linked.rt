@@ -1,0 +1,258 @@
+//! The messages in flight as they lie in memory: each with its number on the list of its link.
+ghost use Rattle.std.specs.Prelude.{◌≡◌, ◌+◌, ◌-◌, ◌*◌, ◌<◌, ◌≤◌, ◌^◌, ◌++◌, ◌∷◌, [], IsTrue, IfOk, IfSome};
+ghost use Rattle.std.specs.Prelude.{length, map, option_copied, option_map, slice_get};
+ghost use Rattle.network.specs.SetUp.{IsInRange};
+ghost use Rattle.network.specs.NumberedMessages.{IsRising, at_number, given, still_there, without_number};
+ghost use Rattle.network.specs.Requests.{is_wanted};
+ghost use Rattle.network.specs.Routes.{has_endpoints};
+ghost use Rattle.network.specs.Search.{count_messages, first_message, is_between, kept_if, with_message};
+ghost use Rattle.network.specs.Stored.{ArePlaced, messages_of, at_cell};
+
+use crate::criteria::Wanted;
+use crate::links::{count_links, link_of};
+use crate::message::{Body, Message, Node};
+use crate::numbers::MsgNo;
+use crate::slots::{Slot, cell_of, drop_empty, nth_number, numbers_of, take_cell, with_room};
+use line_arena::laws::{appended, looked_up, taken_off};
+use line_arena::{Arena, ArenaError, Cell};
+use std::alloc::{AllocError, Global};
+use std::marker::Model;
+
+/// Messages with their numbers, for so many cores and banks. Each lies in a cell of an arena, on the list of its link,
+/// and a slot has its number and its cell until it is taken. Contracts see the messages by rising number, the number
+/// that the next one gets, for how many there is room, how many slots are kept, and for how many there is room.
+#[derive(Drop)]
+pub struct LinkedMessages {
+    cores: u32,
+    banks: u32,
+    next: u64,
+    // how many slots still have a cell
+    count: u32,
+    slots: Vec<Slot>,
+    // each link's messages with their numbers, in the order of sending
+    arena: Arena<(u64, Message)>,
+}
+
+impl Model for LinkedMessages {
+    ghost use Rattle.std.specs.Prelude.{length, vec_capacity};
+    ghost use Rattle.network.specs.NumberedMessages.{still_there};
+    ghost use Rattle.network.specs.Stored.{IsStored, Linked, messages_of};
+
+    ghost Value = { Linked };
+
+    ghost view = { λ a. record { cores = a.cores; banks = a.banks; capacity = a.arena.cells; slots = length a.slots.items; room = vec_capacity a.slots; next = a.next; messages = messages_of a.arena.lists (still_there a.slots.items) } };
+
+    ghost invariant = { λ a. IsStored a.cores a.banks a.next a.count (vec_capacity a.slots) a.slots.items a.arena };
+}
+
+/// The message that a slot's cell has, if it has a cell and the message is one that is looked for.
+fn wanted_in<'a>(
+    arena: &'a Arena<(u64, Message)>,
+    slot: &Slot,
+    wanted: &Wanted,
+) -> Option<&'a Message>
+    requires { ArePlaced arena.now.lists (given slot.now.0 slot.now.1 []) }
+    ensures { option_copied result ≡ kept_if (is_wanted wanted.now) (at_cell arena.now.lists
+        slot.now.1) }
+{
+    let cell = slot.1?;
+    let message = &arena.get(Cell(cell)).1;
+    if wanted.fits(message) {
+        Some(message)
+    } else {
+        None
+    }
+}
+
+/// The first message that is looked for, with its number, or `None` where there is none.
+fn first_wanted<'a>(
+    arena: &'a Arena<(u64, Message)>,
+    slots: &[Slot],
+    wanted: &Wanted,
+) -> Option<(u64, &'a Message)>
+    requires { ArePlaced arena.now.lists (still_there slots.now) }
+    ensures { option_map with_message result ≡ first_message (is_wanted wanted.now)
+        (messages_of arena.now.lists (still_there slots.now)) }
+{
+    for slot in slots {
+        if let Some(message) = wanted_in(arena, slot, wanted) {
+            return Some((slot.0, message));
+        }
+    }
+    None
+}
+
+/// How many messages are looked for.
+fn count_wanted(arena: &Arena<(u64, Message)>, slots: &[Slot], wanted: &Wanted) -> usize
+    requires { ArePlaced arena.now.lists (still_there slots.now) }
+    ensures { result ≡ count_messages (is_wanted wanted.now) (messages_of arena.now.lists
+        (still_there slots.now)) }
+{
+    let mut count = 0;
+    for slot in slots {
+        if wanted_in(arena, slot, wanted).is_some() {
+            count += 1;
+        }
+    }
+    count
+}
+
+impl LinkedMessages {
+    /// No message, and room for so many. All memory is taken here, and none of it is written but the heads of the lists.
+    pub(crate) fn new(
+        alloc: Global,
+        cores: u32,
+        banks: u32,
+        capacity: u32,
+    ) -> Result<LinkedMessages, AllocError>
+        requires { IsInRange cores banks capacity }
+        ensures { IfOk result (λ stored. stored ≡ record {
+          cores = cores;
+          banks = banks;
+          capacity = capacity;
+          slots =
+              0;
+          room = stored.room;
+          next = 0;
+          messages = [];
+        }) }
+    {
+        let slots = with_room(alloc, capacity)?;
+        match Arena::new(alloc, capacity, count_links(cores, banks)) {
+            Ok(arena) => Ok(LinkedMessages {
+                cores,
+                banks,
+                next: 0,
+                count: 0,
+                slots,
+                arena,
+            }),
+            Err(ArenaError::NoMemory) => Err(AllocError),
+            Err(ArenaError::TooLarge) => unreachable!(),
+        }
+    }
+
+    /// The number that the next message gets.
+    pub(crate) fn next(&self) -> u64
+        ensures { result ≡ self.now.next }
+    {
+        self.next
+    }
+
+    /// How many messages there are. Never are there more than there is room for.
+    pub(crate) fn count(&self) -> u32
+        ensures value { result ≡ length self.now.messages }
+        ensures bound { result ≤ self.now.capacity }
+    {
+        self.count
+    }
+
+    /// How many slots are kept: one for each message, and at most one more that is empty than has a cell. There is room
+    /// for one more.
+    pub(crate) fn slots(&self) -> usize
+        ensures slots { result ≡ self.now.slots }
+        ensures bound { result ≤ 2 * length self.now.messages + 1 }
+        ensures room { result < self.now.room }
+    {
+        self.slots.len()
+    }
+
+    /// The message with a number, if it is there.
+    pub(crate) fn look(&self, number: u64) -> Option<&Message>
+        ensures value { option_copied result ≡ at_number number self.now.messages }
+        ensures endpoints { IfSome result
+            (λ message. IsTrue (has_endpoints self.now.cores self.now.banks message.now)) }
+    {
+        let cell = cell_of(&self.slots, number)?;
+        Some(&self.arena.get(Cell(cell)).1)
+    }
+
+    /// Puts a message at the end of the list of its link, and gives it the next number.
+    pub(crate) fn push(&mut self, message: Message) -> u64
+        requires endpoints { IsTrue (has_endpoints self.old.cores self.old.banks message) }
+        requires number { self.old.next < 2 ^ 64 - 1 }
+        requires room { length self.old.messages < self.old.capacity }
+        ensures number { result ≡ self.old.next }
+        ensures after { self.new ≡ record self.old {
+          slots = self.old.slots + 1;
+          next = self.old.next + 1;
+          messages =
+              self.old.messages ++ (self.old.next, message) ∷ [];
+        } }
+        ensures slot { self.old.slots < self.old.room }
+    {
+        appended::<(u64, Message)>();
+        let _body: Body = message.body;
+        let number = self.next;
+        let link = link_of(self.cores, self.banks, message.from, message.to);
+        let pushed = self.arena.push_back(link.unwrap(), (number, message));
+        let cell = pushed.unwrap();
+        self.slots.push_reserved((number, Some(cell.0)));
+        self.next = number + 1;
+        self.count += 1;
+        number
+    }
+
+    /// Takes the message with a number off its list, if it is there.
+    pub(crate) fn take(&mut self, number: u64) -> Option<Message>
+        ensures value { result ≡ at_number number self.old.messages }
+        ensures after { self.new ≡ record self.old {
+          slots = self.new.slots;
+          messages = without_number number self.old.messages;
+        } }
+        ensures slots { self.new.slots ≤ self.old.slots }
+        ensures endpoints { IfSome result
+            (λ message. IsTrue (has_endpoints self.old.cores self.old.banks message)) }
+    {
+        looked_up::<(u64, Message)>();
+        taken_off::<(u64, Message)>();
+        let _lists = self.arena.lists();
+        let cell = take_cell(&mut self.slots, number)?;
+        let (_, message) = self.arena.unlink(Cell(cell));
+        self.count -= 1;
+        drop_empty(&mut self.slots, self.count as usize);
+        Some(message)
+    }
+
+    /// The number of the first message from the one node to the other.
+    pub(crate) fn oldest(&self, from: Node, to: Node) -> Option<MsgNo>
+        ensures { result ≡ option_map (λ x. x.0) (first_message (is_between from to)
+            self.now.messages) }
+    {
+        let link = link_of(self.cores, self.banks, from, to)?;
+        let cell = self.arena.front(link)?;
+        Some(MsgNo(self.arena.get(cell).0))
+    }
+
+    /// The first message that is looked for.
+    pub(crate) fn first(&self, wanted: &Wanted) -> Option<&Message>
+        ensures { option_copied result ≡ option_map (λ x. x.1)
+            (first_message (is_wanted wanted.now) self.now.messages) }
+    {
+        let (_, message) = first_wanted(&self.arena, &self.slots, wanted)?;
+        Some(message)
+    }
+
+    /// How many messages are looked for.
+    pub(crate) fn count_of(&self, wanted: &Wanted) -> usize
+        ensures { result ≡ count_messages (is_wanted wanted.now) self.now.messages }
+    {
+        count_wanted(&self.arena, &self.slots, wanted)
+    }
+
+    /// The numbers of the messages, rising.
+    pub(crate) fn numbers(&self) -> Result<Vec<MsgNo>, AllocError>
+        ensures numbers { IfOk result (λ numbers. numbers.items ≡ map (λ x. x.0)
+            self.now.messages) }
+        ensures rising { IsRising 0 self.now.messages self.now.next }
+    {
+        numbers_of(*self.slots.allocator(), &self.slots)
+    }
+
+    /// The number of the message before which so many were sent that are still there; none past the last one.
+    pub(crate) fn nth(&self, at: u32) -> Option<MsgNo>
+        ensures { result ≡ slice_get (map (λ x. x.0) self.now.messages) at }
+    {
+        nth_number(&self.slots, at)
+    }
+}

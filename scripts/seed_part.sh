@@ -11,7 +11,10 @@ shift 6
 
 from=$((runs * part / parts))
 to=$((runs * (part + 1) / parts))
-[ "$part" -lt "$parts" ] && [ "$to" -gt "$from" ] || { echo "seed_part.sh: no seeds in part $part of $parts" >&2; exit 3; }
+if [ "$part" -ge "$parts" ] || [ "$to" -le "$from" ]; then
+    echo "seed_part.sh: no seeds in part $part of $parts" >&2
+    exit 3
+fi
 
 mkdir -p "$folder" || exit 4
 report=$folder/$(printf '%06d' "$part").report

@@ -5,7 +5,8 @@
     scripts/catalogue.py --check    says what differs, and fails if something does
 
 What a test asks stands in its text. What sequential consistency says of it comes from examples/sequential.py, and what
-runs report from the .report, .seeds and .also beside it, which examples/expected.py wrote. Each test is in one table.
+runs report from the .report, .seeds and .also beside it, which examples/expected.py wrote. Each test is in one table, and
+each end that a report has is one that some interleaving has.
 """
 import re
 import sys
@@ -17,6 +18,7 @@ TESTS = TOP / "examples/litmus"
 sys.path.insert(0, str(TOP / "examples"))
 
 import sequential  # noqa: E402
+from expected import impossible_states  # noqa: E402
 from reference.litmus import Test  # noqa: E402
 
 TABLES = {
@@ -80,6 +82,8 @@ def main(check):
     listed = [name for names in TABLES.values() for name in names.split()]
     if sorted(listed) != sorted(path.stem for path in TESTS.glob("*.litmus")):
         return "catalogue.py: the tables don't name each test of examples/litmus once"
+    for fault in impossible_states():
+        return f"catalogue.py: {fault}"
     old = new = PAGE.read_text(encoding="utf-8")
     for name, names in TABLES.items():
         new = with_table(new, name, HEAD + [row(test) for test in names.split()])

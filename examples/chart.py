@@ -3,8 +3,8 @@
 
     examples/chart.py [options of a trace] TRACE > chart.svg
 
-Time goes down, an event a row. Each core, each bank and each DRAM has a lane. An arrow is a message, from the event that
-sends it to its first delivery. A message that waits at its end is dotted there until it is taken. Operations stand
+Time goes down, an event a row. Each core, each bank and each DRAM has a lane. An arrow is a message, from the event
+that sends it to its first delivery. A message that waits at its end is dotted there until it is taken. Operations stand
 beside their core.
 """
 import sys

@@ -5,8 +5,8 @@
     scripts/catalogue.py --check    says what differs, and fails if something does
 
 What a test asks stands in its text. What sequential consistency says of it comes from examples/sequential.py, and what
-runs report from the .report, .seeds and .also beside it, which examples/expected.py wrote. Each test is in one table, and
-each end that a report has is one that some interleaving has.
+runs report from the .report, .seeds and .also beside it, which examples/expected.py wrote. Each test is in one table,
+and each end that a report has is one that some interleaving has.
 """
 import re
 import sys
@@ -30,7 +30,8 @@ TABLES = {
     "yes": "MP+yes SB+yes SWAP+yes SB+forall",
     "protocol": "STALE READERS RENEW LEASE PRIVATE FALSE",
 }
-HEAD = ["| Test | Question | One memory | Rounds | 1,000 seeds | Ends met | Stale hits |", "|---|---|---|---|---|---|---|"]
+HEAD = ["| Test | Question | One memory | Rounds | 1,000 seeds | Ends met | Stale hits |",
+        "|---|---|---|---|---|---|---|"]
 
 
 class Report:
@@ -89,7 +90,7 @@ def main(check):
         new = with_table(new, name, HEAD + [row(test) for test in names.split()])
     new = with_table(new, "other options", other_options())
     if check and old != new:
-        return "catalogue.py: the tables of docs/TESTS.md aren't those of examples/litmus (scripts/catalogue.py writes them)"
+        return "catalogue.py: docs/TESTS.md has other tables than examples/litmus (scripts/catalogue.py writes them)"
     if old != new:
         PAGE.write_text(new, encoding="utf-8")
     print(f"{len(listed)} tests stand in docs/TESTS.md as their reports have them")

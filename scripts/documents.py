@@ -4,9 +4,9 @@
     scripts/documents.py            writes both tables
     scripts/documents.py --check    says what differs, and fails if something does
 
-A table stands between the lines `<!-- table NAME -->` and `<!-- end -->`. The script also tests that each path of a file
-that a document names or links to is there, and that of a crate's proofs only proofs/Lemmas.antt is open to the crates
-above.
+A table stands between the lines `<!-- table NAME -->` and `<!-- end -->`. The script also tests that each path of a
+file that a document names or links to is there, and that of a crate's proofs only proofs/Lemmas.antt is open to the
+crates above.
 """
 import re
 import sys

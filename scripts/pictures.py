@@ -93,7 +93,8 @@ def over(start, end, label):
     """An arrow that goes over the boxes between two of one row."""
     (x, y), (to_x, _) = PLACES[start], PLACES[end]
     top = y - HIGH / 2
-    return (f'<path d="M{x} {top:g} C{x} 10 {to_x} 10 {to_x} {top:g}" stroke="#245" fill="none" marker-end="url(#end)"/>'
+    return (f'<path d="M{x} {top:g} C{x} 10 {to_x} 10 {to_x} {top:g}" stroke="#245" fill="none" '
+            'marker-end="url(#end)"/>'
             f'<text x="{(x + to_x) / 2:g}" y="22" text-anchor="middle">{label}</text>')
 
 
@@ -108,7 +109,7 @@ def line_life():
 
 
 def levels():
-    """The crates by their level: one more than the highest crate that each stands on. Tests and measurements are left."""
+    """The crates by their level: one more than the highest that each stands on. Tests and measurements are left out."""
     level = {}
     for line in (TOP / "crates.txt").read_text(encoding="utf-8").splitlines():
         name, _, below = line.partition(":")
@@ -122,7 +123,8 @@ def layers():
     most, lines = max(level.values()), []
     for number in range(1, most + 1):
         row = [name for name, at in level.items() if at == number]
-        lines += [box(90 + place * WIDE, 30 + (most - number) * STEP, name, WIDE - 12) for place, name in enumerate(row)]
+        down = 30 + (most - number) * STEP
+        lines += [box(90 + place * WIDE, down, name, WIDE - 12) for place, name in enumerate(row)]
     widest = max(list(level.values()).count(number) for number in range(1, most + 1))
     return svg(30 + widest * WIDE, 20 + most * STEP, lines)
 

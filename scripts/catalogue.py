@@ -53,7 +53,8 @@ def row(name):
     test, rounds, seeds = Test(text), Report(name, ".report"), Report(name, ".seeds")
     ends = sequential.ends_of(test)
     question = re.search(r'^"(.*)"$', text, re.M)[1]
-    cells = [f"[{name}](../examples/litmus/{name}.litmus)", f"{test.kind}: {question}", sequential.answer(test, ends),
+    condition = " ".join(re.search(r"^~?(?:exists|forall)\b.*", text, re.M | re.S)[0].split())
+    cells = [f"[{name}](../examples/litmus/{name}.litmus)", f"{question}: `{condition}`", sequential.answer(test, ends),
              rounds.text(), f"{seeds.said['verdict']}, held {seeds.said['held']}",
              f"{len(seeds.states)} of {len(ends)}", seeds.said["stale-hits"]]
     return "| " + " | ".join(cells) + " |"

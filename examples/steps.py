@@ -4,8 +4,8 @@
     examples/steps.py ADDRESS [options of a trace] TRACE
 
 A row for each event of the line of ADDRESS and for each advance: the round or turn, the event, and what there is after
-it. A core has its time and its copy, a bank its entry: S is Shared and E is Exclusive, then come the version and the end
-of the lease (wts..rts), then the word's value.
+it. A core has its time and its copy, a bank its entry: S is Shared and E is Exclusive, then come the version and the
+end of the lease (wts..rts), then the word's value.
 """
 import sys
 

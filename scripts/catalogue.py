@@ -5,7 +5,8 @@
     scripts/catalogue.py --check    says what differs, and fails if something does
 
 What a test asks stands in its text. What sequential consistency says of it comes from examples/sequential.py, and what
-runs report from the .report, .seeds and .also beside it, which examples/expected.py wrote. Each test is in one table.
+runs report from the .report, .seeds and .also beside it, which examples/expected.py wrote. Each test is in one table,
+and each end that a report has is one that some interleaving has.
 """
 import re
 import sys
@@ -17,6 +18,7 @@ TESTS = TOP / "examples/litmus"
 sys.path.insert(0, str(TOP / "examples"))
 
 import sequential  # noqa: E402
+from expected import impossible_states  # noqa: E402
 from reference.litmus import Test  # noqa: E402
 
 TABLES = {
@@ -28,7 +30,8 @@ TABLES = {
     "yes": "MP+yes SB+yes SWAP+yes SB+forall",
     "protocol": "STALE READERS RENEW LEASE PRIVATE FALSE",
 }
-HEAD = ["| Test | Question | One memory | Rounds | 1,000 seeds | Ends met | Stale hits |", "|---|---|---|---|---|---|---|"]
+HEAD = ["| Test | Question | One memory | Rounds | 1,000 seeds | Ends met | Stale hits |",
+        "|---|---|---|---|---|---|---|"]
 
 
 class Report:
@@ -50,7 +53,8 @@ def row(name):
     test, rounds, seeds = Test(text), Report(name, ".report"), Report(name, ".seeds")
     ends = sequential.ends_of(test)
     question = re.search(r'^"(.*)"$', text, re.M)[1]
-    cells = [f"[{name}](../examples/litmus/{name}.litmus)", f"{test.kind}: {question}", sequential.answer(test, ends),
+    condition = " ".join(re.search(r"^~?(?:exists|forall)\b.*", text, re.M | re.S)[0].split())
+    cells = [f"[{name}](../examples/litmus/{name}.litmus)", f"{question}: `{condition}`", sequential.answer(test, ends),
              rounds.text(), f"{seeds.said['verdict']}, held {seeds.said['held']}",
              f"{len(seeds.states)} of {len(ends)}", seeds.said["stale-hits"]]
     return "| " + " | ".join(cells) + " |"
@@ -80,12 +84,14 @@ def main(check):
     listed = [name for names in TABLES.values() for name in names.split()]
     if sorted(listed) != sorted(path.stem for path in TESTS.glob("*.litmus")):
         return "catalogue.py: the tables don't name each test of examples/litmus once"
+    for fault in impossible_states():
+        return f"catalogue.py: {fault}"
     old = new = PAGE.read_text(encoding="utf-8")
     for name, names in TABLES.items():
         new = with_table(new, name, HEAD + [row(test) for test in names.split()])
     new = with_table(new, "other options", other_options())
     if check and old != new:
-        return "catalogue.py: the tables of docs/TESTS.md aren't those of examples/litmus (scripts/catalogue.py writes them)"
+        return "catalogue.py: docs/TESTS.md has other tables than examples/litmus (scripts/catalogue.py writes them)"
     if old != new:
         PAGE.write_text(new, encoding="utf-8")
     print(f"{len(listed)} tests stand in docs/TESTS.md as their reports have them")

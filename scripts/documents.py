@@ -4,8 +4,9 @@
     scripts/documents.py            writes both tables
     scripts/documents.py --check    says what differs, and fails if something does
 
-A table stands between the lines `<!-- table NAME -->` and `<!-- end -->`. The script also tests that each path of a file
-that a document names is there, and that of a crate's proofs only proofs/Lemmas.antt is open to the crates above.
+A table stands between the lines `<!-- table NAME -->` and `<!-- end -->`. The script also tests that each path of a
+file that a document names or links to is there, and that of a crate's proofs only proofs/Lemmas.antt is open to the
+crates above.
 """
 import re
 import sys
@@ -242,6 +243,14 @@ def missing_paths(document):
             yield "%s names %s, which isn't there" % (document.name, path)
 
 
+def missing_links(document):
+    """The files of the repository that a document links to and that are not there."""
+    text = document.read_text(encoding="utf-8")
+    for link in re.findall(r"\]\(([^)#:]+)\)", text):
+        if not (document.parent / link).exists():
+            yield "%s links to %s, which isn't there" % (document.name, link)
+
+
 def open_proofs():
     """The files of proofs, other than Lemmas, that a crate opens to the crates above."""
     for lib in sorted(CRATES.glob("*/proofs/Lib.antt")):
@@ -261,8 +270,8 @@ def main():
             faults.append("docs/%s: its table isn't that of the tree (scripts/documents.py writes it)" % file)
         elif old != new:
             path.write_text(new, encoding="utf-8")
-    for document in [TOP / "README.md"] + sorted((TOP / "docs").glob("*.md")):
-        faults += missing_paths(document)
+    for document in sorted(TOP.glob("*.md")) + sorted((TOP / "docs").glob("*.md")) + [TOP / "examples/README.md"]:
+        faults += list(missing_paths(document)) + list(missing_links(document))
     faults += open_proofs()
     for fault in faults:
         print("documents.py: " + fault)

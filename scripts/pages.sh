@@ -1,6 +1,6 @@
 #!/bin/sh
-# Runs the commands that README.md, the other pages at the top and docs/*.md show, and compares what they print with what
-# the page shows: scripts/pages.sh [PROGRAM [PAGE ..]]
+# Runs the commands that README.md, the other pages at the top and docs/*.md show, and compares what they print with
+# what the page shows: scripts/pages.sh [PROGRAM [PAGE ..]]
 # PROGRAM is a program that is built; without it the program at the top is built where it isn't, and run.
 #
 # In a page a command stands in a fenced block `console`: a line `$ command`, and then all that it prints, standard
@@ -19,7 +19,7 @@ trap 'exit 1' HUP INT TERM
 passed=0
 failed=0
 
-# parts PAGE: its commands as the files N.command, N.wanted and N.line of $work/parts, from 1, and its faults as `faults`.
+# parts PAGE: its commands as the files N.command, N.wanted and N.line of $work/parts, from 1, and `faults`, its faults.
 parts() {
     rm -rf "$work/parts"
     mkdir "$work/parts"

@@ -1,9 +1,9 @@
 #!/bin/sh
 # Runs a litmus test on one part of a range of seeds: scripts/seed_part.sh FOLDER FIRST RUNS PARTS PART TEST [options]
-# The range has RUNS seeds from FIRST on. It is cut into PARTS parts of nearly equal length, and this is part PART, from 0.
-# Its report becomes FOLDER/PART.report, with zeros in front, so that names are in the order of the seeds. The program is
-# ./tardis, or what TARDIS names. The status is 0 if the report is there, also if a run wasn't all done; else it is the
-# program's, and there is no report.
+# The range has RUNS seeds from FIRST on. It is cut into PARTS parts of nearly equal length; this is part PART, from 0.
+# Its report becomes FOLDER/PART.report, with zeros in front, so that names are in the order of the seeds. The program
+# is ./tardis, or what TARDIS names. The status is 0 if the report is there, also if a run wasn't all done; else it is
+# the program's, and there is no report.
 [ $# -ge 6 ] || { sed -n '2,6s/^# //p' "$0" >&2; exit 3; }
 folder=$1 first=$2 runs=$3 parts=$4 part=$5 file=$6
 shift 6
@@ -11,7 +11,10 @@ shift 6
 
 from=$((runs * part / parts))
 to=$((runs * (part + 1) / parts))
-[ "$part" -lt "$parts" ] && [ "$to" -gt "$from" ] || { echo "seed_part.sh: no seeds in part $part of $parts" >&2; exit 3; }
+if [ "$part" -ge "$parts" ] || [ "$to" -le "$from" ]; then
+    echo "seed_part.sh: no seeds in part $part of $parts" >&2
+    exit 3
+fi
 
 mkdir -p "$folder" || exit 4
 report=$folder/$(printf '%06d' "$part").report

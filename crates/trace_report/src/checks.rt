@@ -1,5 +1,5 @@
 //! From two sources, with the texts of a trace and of records, to a sink for the line of the verdict.
-ghost use Rattle.std.specs.Prelude.{◌≡◌, ◌≢◌, ◌⊎◌, IfErr, IfOk, IsErrOf, List};
+ghost use Rattle.std.specs.Prelude.{◌≡◌, ◌≢◌, ◌<◌, ◌⊎◌, IfErr, IfOk, IsErrOf, List};
 ghost use Rattle.report_parts.specs.Answers.{IsCutOff, IsReported};
 ghost use Rattle.trace_lines.specs.declared.steps.Step.{Step};
 ghost use Rattle.trace_report.specs.Refusals.{IsRead};
@@ -36,9 +36,10 @@ pub fn run_check<S: Source, R: Source, K: Sink>(
         (IsCheckReport (S.remaining trace.old) (R.remaining records.old) legal)
         (K.contents sink.old) (K.contents sink.new) }
 
-    // Records are read only behind a trace that was accepted.
+    // Records are read only behind a trace that was accepted, and not at all where a call failed before its end.
     ensures later { (records.new ≡ records.old)
         ⊎ ((lanes : List (List Step)) × IsRead (S.remaining trace.old) lanes) }
+    ensures untouched { S.failures trace.old < S.failures trace.new → records.new ≡ records.old }
 
     // Failures are told, and nothing else is written.
     ensures reads { ReadsCounted result
@@ -69,6 +70,7 @@ fn verdict_on<S: Source, R: Source>(
         HasNoVerdict (S.remaining trace.old) (R.remaining records.old) e) }
     ensures later { (records.new ≡ records.old)
         ⊎ ((lanes : List (List Step)) × IsRead (S.remaining trace.old) lanes) }
+    ensures untouched { S.failures trace.old < S.failures trace.new → records.new ≡ records.old }
     ensures reads { ReadsCounted result
         (S.failures trace.old) (S.failures trace.new)
         (R.failures records.old) (R.failures records.new) }

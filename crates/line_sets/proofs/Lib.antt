@@ -1,8 +1,11 @@
 mod LineNumbers
 mod ListedCounts
+mod ListedSums
+mod ListedTallies
 mod Indices
 mod OrderLaws
 mod RisenLists
+mod RisingEdits
 mod RowLaws
 mod ShiftedPairs
 mod StoredSets

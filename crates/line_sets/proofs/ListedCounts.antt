@@ -1,115 +1,50 @@
 -- How many lines are listed, before and after each change of a table.
-use Rattle.std.proofs.Common.{◌≡◌, ℕ, zero, suc, ◌+◌, ◌-◌, ◌*◌, ◌<◌, ◌≤◌, Bool, true, false, cond, List, []}
-use Rattle.std.proofs.Common.{◌∷◌, ◌++◌, length, map, filter, set, get_or, replicate, inl, inr, Some, None, refl, sym, ap}
+use Rattle.std.proofs.Common.{◌≡◌, ℕ, zero, suc, ◌+◌, ◌-◌, ◌*◌, ◌<◌, ◌≤◌, Bool, true, List, []}
+use Rattle.std.proofs.Common.{◌∷◌, length, get_or, replicate, inl, inr, Option, Some, None, refl, sym, ap}
 use Rattle.std.proofs.Common.{◌∙◌, arith}
-use Rattle.std.specs.Option.{is_some}
-use Rattle.std.proofs.lemmas.Bool.{cases_eq, cases_lt, cond_both, cond-false, eq-eqb, ne_eqb}
+use Rattle.std.proofs.lemmas.Bool.{cases_lt, cond_both}
 use Rattle.std.proofs.lemmas.List.{get_or_past, length-append, length-map}
 use Rattle.line_arena.specs.Arenas.{Lists, IsOnce}
 use Rattle.line_arena.specs.CellLists.{look_up}
 use Rattle.line_arena.specs.ListLaws.{LookUpLaws}
-use Rattle.line_sets.specs.Order.{find, is_there, listed, put_in_place, put_last, without, IsDistinct}
+use Rattle.line_sets.specs.Order.{find, is_there, listed, IsDistinct}
 use Rattle.line_sets.specs.SetTable.{all_listed, count_of, drop_line, look, put, put_within, set_at}
 use Rattle.line_sets.specs.Stored.{entries_of, sets_of, tags_of, IsStored}
-use Rattle.line_sets.proofs.Indices.{missing-without}
+use Rattle.line_sets.proofs.ListedSums.{listed-more, sum-drop_line, sum-put, sum-put_within, weigh}
 use Rattle.line_sets.proofs.StoredSets.{entries-at, is-found, length-sets, second-of, IsFound}
 use Rattle.line_sets.proofs.TaggedCells.{entry-there}
 
+-- the same of how many there are
+counted-as : {X : Type 0} (passes : X → Bool) (line : ℕ) (o : Option X) →
+    weigh passes (λ _. 1) line o ≡ count_of passes o
+counted-as passes line None = refl
+counted-as passes line (Some x) = refl
+
 module _ {X : Type 0} (passes : X → Bool) where
-  -- one set
-  listed-more : (p : ℕ × X) (ps : List (ℕ × X)) →
-      length (listed passes (p ∷ ps)) ≡ count_of passes (Some p.1) + length (listed passes ps)
-  listed-more p ps = go (passes p.1)
-    where
-      go : (b : Bool) → length (map (λ (q : ℕ × X). q.0) (cond b (p ∷ filter (λ q. passes q.1) ps)
-          (filter (λ q. passes q.1) ps))) ≡ cond b 1 0 + length (listed passes ps)
-      go true = omega arith
-      go false = omega arith
-
-  count-without : (ps : List (ℕ × X)) (line : ℕ) → IsDistinct ps →
-      length (listed passes (without ps line)) + count_of passes (find ps line) ≡ length (listed passes ps)
-  count-without [] line once = refl
-  count-without (p ∷ ps) line once = elim (cases_eq p.0 line) [
-    | inl e ↦
-        let gone : is_there ps line ≡ false = ap (λ j. is_there ps j) (sym e) ∙ once.0 in
-        ap (λ b. length (listed passes (cond b (without ps line) (p ∷ without ps line)))
-        + count_of passes (cond b (Some p.1) (find ps line))) (eq-eqb p.0 line e)
-        ∙ (let same : length (listed passes (without ps line)) ≡ length (listed passes ps) =
-        ap (λ us. length (listed passes us)) (missing-without ps line gone) in
-        let more = listed-more p ps in omega (arith, same, more))
-    | inr ne ↦
-        ap (λ b. length (listed passes (cond b (without ps line) (p ∷ without ps line)))
-        + count_of passes (cond b (Some p.1) (find ps line))) (ne_eqb p.0 line ne)
-        ∙ (let more = listed-more p (without ps line) in let before = listed-more p ps in
-        let later = count-without ps line once.1 in omega (arith, more, before, later))
-  ]
-
-  count-push : (ps : List (ℕ × X)) (line : ℕ) (x : X) →
-      length (listed passes (ps ++ (line, x) ∷ [])) ≡ length (listed passes ps) + count_of passes (Some x)
-  count-push [] line x = let one = listed-more (line, x) [] in omega (arith, one)
-  count-push (p ∷ ps) line x =
-      let more = listed-more p (ps ++ (line, x) ∷ []) in let before = listed-more p ps in
-      let later = count-push ps line x in omega (arith, more, before, later)
-
-  count-put_last : (ps : List (ℕ × X)) (line : ℕ) (x : X) → IsDistinct ps →
-      length (listed passes (put_last ps line x)) + count_of passes (find ps line)
-      ≡ length (listed passes ps) + count_of passes (Some x)
-  count-put_last ps line x once =
-      let cut = count-without ps line once in let more = count-push (without ps line) line x in
-      omega (arith, cut, more)
-
-  count-put_in_place : (ps : List (ℕ × X)) (line : ℕ) (x : X) → is_there ps line ≡ true →
-      length (listed passes (put_in_place ps line x)) + count_of passes (find ps line)
-      ≡ length (listed passes ps) + count_of passes (Some x)
-  count-put_in_place [] line x there = cc
-  count-put_in_place (p ∷ ps) line x there = elim (cases_eq p.0 line) [
-    | inl e ↦
-        ap (λ b. length (listed passes (cond b ((line, x) ∷ ps) (p ∷ put_in_place ps line x)))
-        + count_of passes (cond b (Some p.1) (find ps line))) (eq-eqb p.0 line e)
-        ∙ (let more = listed-more (line, x) ps in let before = listed-more p ps in omega (arith, more, before))
-    | inr ne ↦
-        ap (λ b. length (listed passes (cond b ((line, x) ∷ ps) (p ∷ put_in_place ps line x)))
-        + count_of passes (cond b (Some p.1) (find ps line))) (ne_eqb p.0 line ne)
-        ∙ (let more = listed-more p (put_in_place ps line x) in let before = listed-more p ps in
-        let later = count-put_in_place ps line x
-        (sym (ap is_some (cond-false _ (Some p.1) (find ps line) (ne_eqb p.0 line ne))) ∙ there) in
-        omega (arith, more, before, later))
-  ]
-
-  -- one set is another now
-  count-set : (sets : List (List (ℕ × X))) (i : ℕ) (ps : List (ℕ × X)) → i < length sets →
-      length (all_listed passes (set sets i ps)) + length (listed passes (set_at sets i))
-      ≡ length (all_listed passes sets) + length (listed passes ps)
-  count-set [] i ps h = absurd (omega (arith, h))
-  count-set (qs ∷ sets) zero ps h =
-      let after = length-append (listed passes ps) (all_listed passes sets) in
-      let before = length-append (listed passes qs) (all_listed passes sets) in omega (arith, after, before)
-  count-set (qs ∷ sets) (suc i) ps h =
-      let after = length-append (listed passes qs) (all_listed passes (set sets i ps)) in
-      let before = length-append (listed passes qs) (all_listed passes sets) in
-      let later = count-set sets i ps (omega (arith, h)) in omega (arith, after, before, later)
+  length-more : (x : ℕ) (xs : List ℕ) → length (x ∷ xs) ≡ 1 + length xs
+  length-more x xs = omega arith
 
   pub count-put : (sets : List (List (ℕ × X))) (i line : ℕ) (x : X) → i < length sets → IsDistinct (set_at sets i) →
       length (all_listed passes (put sets i line x)) + count_of passes (look sets i line)
       ≡ length (all_listed passes sets) + count_of passes (Some x)
   count-put sets i line x h once =
-      let one = count-put_last (set_at sets i) line x once in
-      let all = count-set sets i (put_last (set_at sets i) line x) h in omega (arith, one, all)
+      let all = sum-put passes length (λ _. 1) refl length-more sets i line x h once in
+      let was = counted-as passes line (look sets i line) in omega (arith, all, was)
 
   pub count-put_within : (sets : List (List (ℕ × X))) (i line : ℕ) (x : X) → i < length sets →
       is_there (set_at sets i) line ≡ true →
       length (all_listed passes (put_within sets i line x)) + count_of passes (look sets i line)
       ≡ length (all_listed passes sets) + count_of passes (Some x)
   count-put_within sets i line x h there =
-      let one = count-put_in_place (set_at sets i) line x there in
-      let all = count-set sets i (put_in_place (set_at sets i) line x) h in omega (arith, one, all)
+      let all = sum-put_within passes length (λ _. 1) refl length-more sets i line x h there in
+      let was = counted-as passes line (look sets i line) in omega (arith, all, was)
 
   pub count-drop_line : (sets : List (List (ℕ × X))) (i line : ℕ) → i < length sets → IsDistinct (set_at sets i) →
       length (all_listed passes (drop_line sets i line)) + count_of passes (look sets i line)
       ≡ length (all_listed passes sets)
   count-drop_line sets i line h once =
-      let one = count-without (set_at sets i) line once in
-      let all = count-set sets i (without (set_at sets i) line) h in omega (arith, one, all)
+      let all = sum-drop_line passes length (λ _. 1) refl length-more sets i line h once in
+      let was = counted-as passes line (look sets i line) in omega (arith, all, was)
 
   -- no more than 16 lines in each of 1,024 sets
   one-at-most : (x : X) → count_of passes (Some x) ≤ 1
@@ -118,7 +53,7 @@ module _ {X : Type 0} (passes : X → Bool) where
   listed-few : (ps : List (ℕ × X)) → length (listed passes ps) ≤ length ps
   listed-few [] = omega arith
   listed-few (p ∷ ps) =
-      let more = listed-more p ps in let later = listed-few ps in
+      let more = listed-more passes length (λ _. 1) refl length-more p ps in let later = listed-few ps in
       let one = one-at-most p.1 in omega (arith, more, later, one)
 
   all-few : (sets : List (List (ℕ × X))) → ((i : ℕ) → i < length sets → length (set_at sets i) ≤ 16) →

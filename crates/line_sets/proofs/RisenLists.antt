@@ -9,26 +9,12 @@ use Rattle.std.proofs.lemmas.Bool.{cases_lt, cond_both, eq-eqb, ltb-false, ltb-t
 use Rattle.std.proofs.lemmas.List.Sorted.{sum_by-IsPermutation, IsNonDecreasingBy-from_sort}
 use Rattle.std.proofs.lemmas.List.Sums.{sum_by-cons}
 use Rattle.std.proofs.lemmas.Map.Keys.{ge_from_not_lt}
-use Rattle.line_sets.specs.Rising.{all_but, put_in, risen}
+use Rattle.line_sets.specs.Rising.{all_but, put_in, risen, tally, AllFrom, Rises}
 
--- how often a number is there
-abbrev tally : ℕ → List ℕ → ℕ
-tally c [] = 0
-tally c (y ∷ ys) = cond (eqb y c) 1 0 + tally c ys
-
--- no number is below x, and none is above it
-abbrev pub AllFrom : ℕ → List ℕ → Type 0
-AllFrom x [] = Unit {0}
-AllFrom x (y ∷ ys) = (x ≤ y) × AllFrom x ys
-
+-- no number is above x
 abbrev pub AllTo : ℕ → List ℕ → Type 0
 AllTo x [] = Unit {0}
 AllTo x (y ∷ ys) = (y ≤ x) × AllTo x ys
-
--- each number is at most those after it
-abbrev pub Rises : List ℕ → Type 0
-Rises [] = Unit {0}
-Rises (x ∷ xs) = AllFrom x xs × Rises xs
 
 -- permutations keep tallies
 tally-sum : (c : ℕ) (xs : List ℕ) → tally c xs ≡ sum_by (λ y. cond (eqb y c) 1 0) xs
@@ -41,14 +27,14 @@ tally-permuted c xs ys p =
     tally-sum c ys ∙ sum_by-IsPermutation (λ y. cond (eqb y c) 1 0) xs ys p ∙ sym (tally-sum c xs)
 
 -- a number put in is counted once more
-tally-put_in : (c x : ℕ) (ys : List ℕ) → tally c (put_in x ys) ≡ cond (eqb x c) 1 0 + tally c ys
+pub tally-put_in : (c x : ℕ) (ys : List ℕ) → tally c (put_in x ys) ≡ cond (eqb x c) 1 0 + tally c ys
 tally-put_in c x [] = refl
 tally-put_in c x (y ∷ ys) = cond_both (ltb y x) (y ∷ put_in x ys) (x ∷ y ∷ ys)
     (λ zs. tally c zs ≡ cond (eqb x c) 1 0 + (cond (eqb y c) 1 0 + tally c ys))
     (λ e. (let later = tally-put_in c x ys in omega (arith, later)))
     (λ e. refl)
 
-tally-risen : (c : ℕ) (xs : List ℕ) → tally c (risen xs) ≡ tally c xs
+pub tally-risen : (c : ℕ) (xs : List ℕ) → tally c (risen xs) ≡ tally c xs
 tally-risen c [] = refl
 tally-risen c (x ∷ xs) = tally-put_in c x (risen xs) ∙ ap (λ n. cond (eqb x c) 1 0 + n) (tally-risen c xs)
 
@@ -57,7 +43,7 @@ tally-append c [] ys = omega arith
 tally-append c (x ∷ xs) ys = let later = tally-append c xs ys in omega (arith, later)
 
 -- bounds
-from-weaker : (a b : ℕ) (xs : List ℕ) → a ≤ b → AllFrom b xs → AllFrom a xs
+pub from-weaker : (a b : ℕ) (xs : List ℕ) → a ≤ b → AllFrom b xs → AllFrom a xs
 from-weaker a b [] le h = tt
 from-weaker a b (x ∷ xs) le h = (let first = h.0 in omega (arith, le, first), from-weaker a b xs le h.1)
 
@@ -82,18 +68,18 @@ to-risen b [] h = tt
 to-risen b (x ∷ xs) h = to-put_in b x (risen xs) h.0 (to-risen b xs h.1)
 
 -- what is risen rises
-rises-put_in : (x : ℕ) (ys : List ℕ) → Rises ys → Rises (put_in x ys)
+pub rises-put_in : (x : ℕ) (ys : List ℕ) → Rises ys → Rises (put_in x ys)
 rises-put_in x [] h = (tt, tt)
 rises-put_in x (y ∷ ys) h = cond_both (ltb y x) (y ∷ put_in x ys) (x ∷ y ∷ ys) Rises
     (λ e. (let lt : y < x = ltb-true y x e in from-put_in y x ys (omega (arith, lt)) h.0, rises-put_in x ys h.1))
     (λ e. (let le : x ≤ y = ltb-false y x e in ((le, from-weaker x y ys le h.0), h)))
 
-rises-risen : (xs : List ℕ) → Rises (risen xs)
+pub rises-risen : (xs : List ℕ) → Rises (risen xs)
 rises-risen [] = tt
 rises-risen (x ∷ xs) = rises-put_in x (risen xs) (rises-risen xs)
 
 -- a number below all isn't there
-tally-none : (c : ℕ) (xs : List ℕ) (b : ℕ) → c < b → AllFrom b xs → tally c xs ≡ 0
+pub tally-none : (c : ℕ) (xs : List ℕ) (b : ℕ) → c < b → AllFrom b xs → tally c xs ≡ 0
 tally-none c [] b lt h = refl
 tally-none c (x ∷ xs) b lt h =
     let ne : x ≢ c = λ e. absurd (let first = h.0 in omega (arith, e, first, lt)) in
@@ -148,8 +134,11 @@ rises-ordered (y ∷ ys) h = (
   rises-ordered ys (λ i j d le lt. h (suc i) (suc j) d (omega (arith, le)) (omega (arith, lt))),
 )
 
+pub rises-sorted : (ys : List ℕ) → IsSorted nat_cmp ys → Rises ys
+rises-sorted ys s = rises-ordered ys (IsNonDecreasingBy-from_sort (λ y. y) ys s)
+
 pub sorted-risen : (xs ys : List ℕ) → IsPermutation xs ys → IsSorted nat_cmp ys → ys ≡ risen xs
-sorted-risen xs ys p s = sym (risen-by xs ys p (rises-ordered ys (IsNonDecreasingBy-from_sort (λ y. y) ys s)))
+sorted-risen xs ys p s = sym (risen-by xs ys p (rises-sorted ys s))
 
 -- a list that is split around a number rises once its parts do
 rises-joined : (x : ℕ) (fs bs : List ℕ) → Rises fs → AllTo x fs → AllFrom x bs → Rises bs → Rises (fs ++ x ∷ bs)

@@ -4,6 +4,7 @@
 mod entries;
 pub mod laws;
 pub mod listed;
+mod rising_lines;
 mod rows;
 mod selection;
 pub mod sets;

@@ -1,5 +1,5 @@
 //! Which lines of a table are listed, and which are looked for.
-ghost use Rattle.std.specs.Prelude.{◌≡◌, Bool, IfOk, Some};
+ghost use Rattle.std.specs.Prelude.{◌≡◌, ◌≤◌, Bool, IfOk, Some};
 ghost use Rattle.line_sets.specs.SetTable.{count_of};
 
 use network::LineNo;
@@ -25,7 +25,8 @@ pub trait LineTest<V> {
 
 /// How many values this is of those that are listed: one or none.
 pub(crate) fn count_of<V: Listed>(value: &V) -> usize
-    ensures { result ≡ count_of V.is_listed (Some value.now) }
+    ensures count { result ≡ count_of V.is_listed (Some value.now) }
+    ensures one { result ≤ 1 }
 {
     if value.is_listed() { 1 } else { 0 }
 }

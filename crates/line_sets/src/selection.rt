@@ -5,8 +5,8 @@ ghost use Rattle.line_sets.specs.Rising.{all_but, risen};
 use network::LineNo;
 
 /// Takes one number out of a list, wherever it is, and keeps the order of the others.
-pub(crate) fn leave_out(numbers: &mut Vec<u64>, but: Option<LineNo>)
-    ensures { numbers.new.items ≡ all_but but numbers.old.items }
+pub(crate) fn leave_out(numbers: &mut Vec<u64>, but: &Option<LineNo>)
+    ensures { numbers.new.items ≡ all_but but.now numbers.old.items }
 {
     let Some(but) = but else {
         return;

@@ -9,7 +9,9 @@ ghost use Rattle.line_sets.specs.Rising.{all_but, risen};
 ghost use Rattle.line_sets.specs.SetTable.{all_listed, drop_line, empty_sets, has_place, has_room, look, put};
 ghost use Rattle.line_sets.specs.SetTable.{put_within, set_at};
 
+use crate::laws::sorted_is_risen;
 use crate::listed::{LineTest, Listed, count_of, line_numbers};
+use crate::rising_lines::RisingLines;
 use crate::rows::Rows;
 use crate::selection::{leave_out, number_at};
 use line_arena::laws::{looked_up, taken_off};
@@ -30,18 +32,22 @@ pub struct LineSets<V: Listed> {
     arena: Arena<(u64, V)>,
     // Each set's lines and their cells of the arena.
     rows: Rows,
+    // The listed lines in rising order, if they are kept so.
+    order: RisingLines,
 }
 
 impl<V: Listed> Model for LineSets<V> {
     ghost use Rattle.std.specs.Prelude.{◌≡◌, length};
     ghost use Rattle.line_sets.specs.SetTable.{Sets, all_listed};
+    ghost use Rattle.line_sets.specs.Rising.{IsOrderOf};
     ghost use Rattle.line_sets.specs.Stored.{sets_of, IsStored};
 
     ghost Value = { Sets V };
 
     ghost view = { λ table. record { ways = table.ways; sets = sets_of table.arena.lists } };
 
-    ghost invariant = { λ table. IsStored table.ways table.arena table.rows × (table.listed ≡ length (all_listed V.is_listed (sets_of table.arena.lists))) };
+    // The count and the order, if it is kept, are those of the listed lines.
+    ghost invariant = { λ table. IsStored table.ways table.arena table.rows × (table.listed ≡ length (all_listed V.is_listed (sets_of table.arena.lists))) × IsOrderOf table.order (all_listed V.is_listed (sets_of table.arena.lists)) };
 }
 
 impl<V: Copy + Listed> LineSets<V> {
@@ -57,6 +63,7 @@ impl<V: Copy + Listed> LineSets<V> {
                 listed: 0,
                 arena,
                 rows,
+                order: RisingLines::none(),
             }),
             Err(ArenaError::NoMemory) => Err(AllocError),
             Err(ArenaError::TooLarge) => unreachable!(),
@@ -147,11 +154,15 @@ impl<V: Copy + Listed> LineSets<V> {
             let pushed = self.arena.push_back(set as u32, (line, value));
             let cell = pushed.unwrap();
             self.rows.push(set, line, cell.0);
-            self.listed += count_of(&value);
+            let after = count_of(&value);
+            self.listed += after;
+            self.order.change(line, 0, after);
             return;
         };
         let before = count_of(&self.arena.get(Cell(cell)).1);
-        self.listed = self.listed - before + count_of(&value);
+        let after = count_of(&value);
+        self.listed = self.listed - before + after;
+        self.order.change(line, before, after);
         *self.arena.get_mut(Cell(cell)) = (line, value);
         if self.arena.next(Cell(cell)).is_none() {
             return;
@@ -169,7 +180,9 @@ impl<V: Copy + Listed> LineSets<V> {
         let _lists = self.arena.lists();
         if let Some(cell) = self.rows.find(set, line) {
             let before = count_of(&self.arena.get(Cell(cell)).1);
-            self.listed = self.listed - before + count_of(&value);
+            let after = count_of(&value);
+            self.listed = self.listed - before + after;
+            self.order.change(line, before, after);
             *self.arena.get_mut(Cell(cell)) = (line, value);
         }
     }
@@ -187,7 +200,9 @@ impl<V: Copy + Listed> LineSets<V> {
             return None;
         };
         let (_line, value) = self.arena.unlink(Cell(cell));
-        self.listed -= count_of(&value);
+        let before = count_of(&value);
+        self.listed -= before;
+        self.order.change(line, before, 0);
         Some(value)
     }
 
@@ -206,9 +221,35 @@ impl<V: Copy + Listed> LineSets<V> {
         ensures { IfOk result (λ line. slice_get (risen (all_but but
             (all_listed V.is_listed self.now.sets))) at ≡ Some line) }
     {
+        if let Some(line) = self.order.nth(&but, at) {
+            return Ok(LineNo(line));
+        }
         let mut numbers = self.gathered()?;
-        leave_out(&mut numbers, but);
+        leave_out(&mut numbers, &but);
         Ok(LineNo(number_at(&mut numbers, at)))
+    }
+
+    /// Keeps the listed lines in rising order from now on, so that `nth_listed` finds a line by a binary search and takes
+    /// no memory. That takes 8 bytes for each line that there may be, and moves at most as many bytes each time a line
+    /// comes to the listed ones or leaves them. Where the memory is refused nothing is kept, and the answers are the same.
+    pub fn keep_order(&mut self)
+        ensures { self.new ≡ self.old }
+    {
+        sorted_is_risen();
+        let Ok(mut numbers) = self.numbers() else {
+            return;
+        };
+        let cells = self.sets() * self.ways;
+        if numbers.reserve(cells).is_ok() {
+            self.order = RisingLines::of(numbers);
+        }
+    }
+
+    /// Keeps the listed lines in rising order no longer, and gives the memory for that back.
+    pub fn forget_order(&mut self)
+        ensures { self.new ≡ self.old }
+    {
+        self.order = RisingLines::none();
     }
 
     /// The lines of all sets whose values are listed, rising.

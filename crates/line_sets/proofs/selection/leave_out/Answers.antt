@@ -10,6 +10,6 @@ returns-in_default c =
 
 pub returns : goal.returns
 returns c =
-    let kept : c.retain.new.self.items ≡ filter (λ x. not (is_but c.args.but x)) c.args.numbers.now.items =
+    let kept : c.retain.new.self.items ≡ filter (λ x. not (is_but c.args.but.now x)) c.args.numbers.now.items =
     filter_same _ _ _ (λ x b f' k. search rules) _ _ c.retain.ensures.filtered in
     kept

@@ -1,6 +1,8 @@
 use Rattle.std.proofs.Common.{arith, sym, ap, ◌∙◌, not}
 use Rattle.std.specs.Option.{is_some}
 use Rattle.line_sets.proofs.ListedCounts.{counted-new, counted-put, in-count, next-fits, was-counted}
+use Rattle.line_sets.specs.SetTable.{count_of}
+use Rattle.line_sets.proofs.ListedTallies.{tallied-put}
 use Rattle.line_sets.proofs.StoredSets.{table_of, below, has-room, is-free, is-found, is-missing, is-ok, if-ok}
 use Rattle.line_sets.proofs.StoredSets.{if-some, put-new}
 use Rattle.line_sets.proofs.StoredSets.{row-room, used, written-there}
@@ -37,8 +39,12 @@ invariant_of-self g c =
     c.self.invariant.0 h none room (rw (← c.cell.view_is) at after) in (
       rw c.push.ensures new.stored,
       counted-new g.V.Listed.is_listed w a rs c.args.set c.args.line c.self.inside.listed c.self.invariant.0 h
-          c.self.invariant.1 c.args.value c.count_of.result _
-          (is-missing w a rs c.args.set c.args.line c.self.invariant.0 h none) c.count_of.ensures new.are,
+          c.self.invariant.1 c.args.value c.count_of-after.result _
+          (is-missing w a rs c.args.set c.args.line c.self.invariant.0 h none) c.count_of-after.ensures.count new.are,
+      c.change.ensures _ _ c.self.invariant.2 (tallied-put g.V.Listed.is_listed w a rs c.args.set c.args.line
+          c.self.invariant.0 h c.args.value 0 c.count_of-after.result _
+          (sym (ap (count_of g.V.Listed.is_listed) (is-missing w a rs c.args.set c.args.line c.self.invariant.0 h none)))
+          c.count_of-after.ensures.count new.are),
     )
 
 pub returns-in_default : goal.returns-in_default
@@ -80,11 +86,14 @@ invariant_of-self-2 g c =
     c.lists-lists.ensures.once c.looked_up.ensures c.taken_off.ensures h here after in
     let was = was-counted g.V.Listed.is_listed w a rs c.args.set c.args.line c.in-Some.cell c.count_of-before.result
     c.get.result.now c.self.invariant.0 c.lists-lists.ensures.once c.looked_up.ensures h
-    (sym c.find.ensures ∙ c.in-Some.is) c.get.ensures c.count_of-before.ensures in (
+    (sym c.find.ensures ∙ c.in-Some.is) c.get.ensures c.count_of-before.ensures.count in (
       new.stored,
       counted-put g.V.Listed.is_listed w a rs c.args.set c.args.line c.self.inside.listed c.self.invariant.0 h
-          c.self.invariant.1 c.args.value c.count_of-before.result c.count_of-2.result _ was
-          c.count_of-2.ensures new.are,
+          c.self.invariant.1 c.args.value c.count_of-before.result c.count_of-after-2.result _ was
+          c.count_of-after-2.ensures.count new.are,
+      c.change-2.ensures _ _ c.self.invariant.2 (tallied-put g.V.Listed.is_listed w a rs c.args.set c.args.line
+          c.self.invariant.0 h c.args.value c.count_of-before.result c.count_of-after-2.result _ was
+          c.count_of-after-2.ensures.count new.are),
     )
 
 pub returns : goal.returns
@@ -115,11 +124,14 @@ invariant_of-self-then-is_none g c =
     c.lists-lists.ensures.once c.looked_up.ensures c.taken_off.ensures h (sym c.find.ensures ∙ c.in-Some.is) last in
     let was = was-counted g.V.Listed.is_listed w a rs c.args.set c.args.line c.in-Some.cell c.count_of-before.result
     c.get.result.now c.self.invariant.0 c.lists-lists.ensures.once c.looked_up.ensures h
-    (sym c.find.ensures ∙ c.in-Some.is) c.get.ensures c.count_of-before.ensures in (
+    (sym c.find.ensures ∙ c.in-Some.is) c.get.ensures c.count_of-before.ensures.count in (
       new.stored,
       counted-put g.V.Listed.is_listed w a rs c.args.set c.args.line c.self.inside.listed c.self.invariant.0 h
-          c.self.invariant.1 c.args.value c.count_of-before.result c.count_of-2.result _ was
-          c.count_of-2.ensures new.are,
+          c.self.invariant.1 c.args.value c.count_of-before.result c.count_of-after-2.result _ was
+          c.count_of-after-2.ensures.count new.are,
+      c.change-2.ensures _ _ c.self.invariant.2 (tallied-put g.V.Listed.is_listed w a rs c.args.set c.args.line
+          c.self.invariant.0 h c.args.value c.count_of-before.result c.count_of-after-2.result _ was
+          c.count_of-after-2.ensures.count new.are),
     )
 
 pub returns-then-is_none : goal.returns-then-is_none
@@ -136,7 +148,7 @@ overflow_add-self g c =
     let a = c.self.inside.arena in let rs = c.self.inside.rows in let w = c.self.inside.ways in
     let h = below a.lists c.args.set (rw (← c.self.view_is) at c.requires.in_table) in
     let fits = next-fits g.V.Listed.is_listed w a rs c.args.set c.args.line c.self.inside.listed c.self.invariant.0 h
-    c.self.invariant.1 c.args.value c.count_of.result c.count_of.ensures in
+    c.self.invariant.1 c.args.value c.count_of-after.result c.count_of-after.ensures.count in
     omega (arith, fits)
 
 pub get-requires : goal.get-requires
@@ -153,7 +165,7 @@ overflow_sub-self g c =
     let h = below a.lists c.args.set (rw (← c.self.view_is) at c.requires.in_table) in
     let was = was-counted g.V.Listed.is_listed w a rs c.args.set c.args.line c.in-Some.cell c.count_of-before.result
     c.get.result.now c.self.invariant.0 c.lists-lists.ensures.once c.looked_up.ensures h
-    (sym c.find.ensures ∙ c.in-Some.is) c.get.ensures c.count_of-before.ensures in
+    (sym c.find.ensures ∙ c.in-Some.is) c.get.ensures c.count_of-before.ensures.count in
     in-count g.V.Listed.is_listed w a rs c.args.set c.args.line c.self.inside.listed c.self.invariant.0 h
     c.self.invariant.1 c.count_of-before.result was
 
@@ -162,5 +174,5 @@ overflow_add-self-2 g c =
     let a = c.self.inside.arena in let rs = c.self.inside.rows in let w = c.self.inside.ways in
     let h = below a.lists c.args.set (rw (← c.self.view_is) at c.requires.in_table) in
     let fits = next-fits g.V.Listed.is_listed w a rs c.args.set c.args.line c.self.inside.listed c.self.invariant.0 h
-    c.self.invariant.1 c.args.value c.count_of-2.result c.count_of-2.ensures in
+    c.self.invariant.1 c.args.value c.count_of-after-2.result c.count_of-after-2.ensures.count in
     omega (arith, fits)

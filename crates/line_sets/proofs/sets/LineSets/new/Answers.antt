@@ -16,4 +16,5 @@ invariant_of-result g c = (
   sym (ap (λ sets. length (all_listed g.V.Listed.is_listed sets))
       (ap (λ a. sets_of a.lists) c.in-Ok.ensures.made ∙ sets-empty c.args.sets)
       ∙ ap length (none-listed g.V.Listed.is_listed c.args.sets)),
+  rw c.none.ensures tt,
 )

@@ -1,6 +1,7 @@
 use Rattle.std.proofs.Common.{sym, ap, ◌∙◌}
 use Rattle.std.specs.Option.{is_some}
 use Rattle.line_sets.proofs.ListedCounts.{counted-drop_line, in-count, was-counted}
+use Rattle.line_sets.proofs.ListedTallies.{tallied-drop_line}
 use Rattle.line_sets.proofs.StoredSets.{table_of, below, is-found, is-missing, nothing-cut, cut-off, second-of}
 use Rattle.line_sets.proofs.sets.LineSets.remove.Goals as goal
 
@@ -11,6 +12,7 @@ invariant_of-self g c =
       (nothing-cut w a rs c.take.new.self c.args.set c.args.line c.self.invariant.0 h
           (sym c.take.ensures.value ∙ c.in_default.is) c.take.ensures.after).stored,
       c.self.invariant.1,
+      c.self.invariant.2,
     )
 
 pub returns-in_default-clause-value : goal.returns-in_default-clause-value
@@ -42,13 +44,15 @@ invariant_of-self-2 g c =
     let new = cut-off w a c.unlink-line.new.self rs c.args.set c.args.line c.in-Some.cell
     c.self.invariant.0 c.lists-lists.ensures.once c.looked_up.ensures c.taken_off.ensures h
     (sym c.take.ensures.value ∙ c.in-Some.is) c.unlink-line.ensures.after in
-    let was = was-counted g.V.Listed.is_listed w a rs c.args.set c.args.line c.in-Some.cell c.count_of.result
+    let was = was-counted g.V.Listed.is_listed w a rs c.args.set c.args.line c.in-Some.cell c.count_of-before.result
     c.unlink-line.result c.self.invariant.0 c.lists-lists.ensures.once c.looked_up.ensures h
-    (sym c.take.ensures.value ∙ c.in-Some.is) c.unlink-line.ensures.value c.count_of.ensures in (
+    (sym c.take.ensures.value ∙ c.in-Some.is) c.unlink-line.ensures.value c.count_of-before.ensures.count in (
       rw c.take.ensures.after new.stored,
       counted-drop_line g.V.Listed.is_listed w a rs c.args.set c.args.line c.self.inside.listed c.self.invariant.0 h
-          c.self.invariant.1 c.count_of.result _ was
+          c.self.invariant.1 c.count_of-before.result _ was
           new.are,
+      c.change.ensures _ _ c.self.invariant.2 (tallied-drop_line g.V.Listed.is_listed w a rs c.args.set c.args.line
+          c.self.invariant.0 h c.count_of-before.result _ was new.are),
     )
 
 pub returns-clause-value : goal.returns-clause-value
@@ -72,8 +76,8 @@ pub overflow_sub-self : goal.overflow_sub-self
 overflow_sub-self g c =
     let a = c.self.inside.arena in let rs = c.self.inside.rows in let w = c.self.inside.ways in
     let h = below a.lists c.args.set (rw (← c.self.view_is) at c.requires) in
-    let was = was-counted g.V.Listed.is_listed w a rs c.args.set c.args.line c.in-Some.cell c.count_of.result
+    let was = was-counted g.V.Listed.is_listed w a rs c.args.set c.args.line c.in-Some.cell c.count_of-before.result
     c.unlink-line.result c.self.invariant.0 c.lists-lists.ensures.once c.looked_up.ensures h
-    (sym c.take.ensures.value ∙ c.in-Some.is) c.unlink-line.ensures.value c.count_of.ensures in
+    (sym c.take.ensures.value ∙ c.in-Some.is) c.unlink-line.ensures.value c.count_of-before.ensures.count in
     in-count g.V.Listed.is_listed w a rs c.args.set c.args.line c.self.inside.listed c.self.invariant.0 h
-    c.self.invariant.1 c.count_of.result was
+    c.self.invariant.1 c.count_of-before.result was

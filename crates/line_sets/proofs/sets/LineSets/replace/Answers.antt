@@ -1,6 +1,7 @@
 use Rattle.std.proofs.Common.{arith, refl, sym, ap, ◌∙◌, true≢false}
 use Rattle.std.specs.Option.{is_some}
 use Rattle.line_sets.proofs.ListedCounts.{counted-put_within, in-count, next-fits, was-counted}
+use Rattle.line_sets.proofs.ListedTallies.{tallied-put_within}
 use Rattle.line_sets.proofs.StoredSets.{table_of, below, is-found, is-missing, written, written-in}
 use Rattle.line_sets.proofs.sets.LineSets.replace.Goals as goal
 
@@ -26,7 +27,7 @@ overflow_sub-self g c =
     let h = below a.lists c.args.set (rw (← c.self.view_is) at c.requires.in_table) in
     let was = was-counted g.V.Listed.is_listed w a rs c.args.set c.args.line c.in-Some.cell c.count_of-before.result
     c.get.result.now c.self.invariant.0 c.lists-lists.ensures.once c.looked_up.ensures h
-    (sym c.find.ensures ∙ c.in-Some.is) c.get.ensures c.count_of-before.ensures in
+    (sym c.find.ensures ∙ c.in-Some.is) c.get.ensures c.count_of-before.ensures.count in
     in-count g.V.Listed.is_listed w a rs c.args.set c.args.line c.self.inside.listed c.self.invariant.0 h
     c.self.invariant.1 c.count_of-before.result was
 
@@ -35,7 +36,7 @@ overflow_add-self g c =
     let a = c.self.inside.arena in let rs = c.self.inside.rows in let w = c.self.inside.ways in
     let h = below a.lists c.args.set (rw (← c.self.view_is) at c.requires.in_table) in
     let fits = next-fits g.V.Listed.is_listed w a rs c.args.set c.args.line c.self.inside.listed c.self.invariant.0 h
-    c.self.invariant.1 c.args.value c.count_of.result c.count_of.ensures in
+    c.self.invariant.1 c.args.value c.count_of-after.result c.count_of-after.ensures.count in
     omega (arith, fits)
 
 pub invariant_of-self : goal.invariant_of-self
@@ -47,12 +48,15 @@ invariant_of-self g c =
     (sym c.find.ensures ∙ c.in-Some.is) refl in
     let was = was-counted g.V.Listed.is_listed w a rs c.args.set c.args.line c.in-Some.cell c.count_of-before.result
     c.get.result.now c.self.invariant.0 c.lists-lists.ensures.once c.looked_up.ensures h
-    (sym c.find.ensures ∙ c.in-Some.is) c.get.ensures c.count_of-before.ensures in (
+    (sym c.find.ensures ∙ c.in-Some.is) c.get.ensures c.count_of-before.ensures.count in (
       after.stored,
       counted-put_within g.V.Listed.is_listed w a rs c.args.set c.args.line c.self.inside.listed c.self.invariant.0 h
-          c.self.invariant.1 c.args.value c.count_of-before.result c.count_of.result _
+          c.self.invariant.1 c.args.value c.count_of-before.result c.count_of-after.result _
           (rw (← c.self.view_is) at c.requires.there) was
-          c.count_of.ensures after.are,
+          c.count_of-after.ensures.count after.are,
+      c.change.ensures _ _ c.self.invariant.2 (tallied-put_within g.V.Listed.is_listed w a rs c.args.set c.args.line
+          c.self.invariant.0 h c.args.value c.count_of-before.result c.count_of-after.result _
+          (rw (← c.self.view_is) at c.requires.there) was c.count_of-after.ensures.count after.are),
     )
 
 pub returns-in-Some : goal.returns-in-Some

@@ -1,0 +1,12 @@
+pub mod BankChanges
+pub mod Calls
+pub mod Cases
+pub mod Changes
+pub mod Closing
+pub mod CoreChanges
+pub mod Counts
+pub mod Frames
+pub mod Holds
+pub mod LastState
+pub mod OpenKept
+pub mod Slots

@@ -1,0 +1,5 @@
+pub mod Ended
+pub mod Plays
+pub mod Rule
+pub mod Serving
+pub mod StateLaws

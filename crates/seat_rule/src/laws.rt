@@ -1,0 +1,142 @@
+//! Each step of a seat keeps the rule, and a machine whose seats are joined is one reached state.
+ghost use Rattle.std.specs.Prelude.{◌≡◌, ℕ, ◌+◌, ◌%◌, ◌^◌, ◌<◌, ◌≤◌, true, false, List, [], ◌∷◌, replicate};
+ghost use Rattle.std.specs.Prelude.{Option, Some, None, slice_get};
+ghost use mathlib.Core.Option.{none, some};
+ghost use lib.ListN.{get_elem?};
+ghost use Rattle.atomic_table.specs.Table.{step, rest, Allows, Splits, Joins, opening, Final, Seen};
+ghost use Rattle.physiological_order.specs.declared.operation.Op.{Op};
+ghost use Rattle.physiological_order.specs.declared.operation.Record.{Record};
+ghost use Rattle.network.specs.declared.message.Message.{Message};
+ghost use Rattle.core_pts.specs.declared.attempt.Attempt.TheVariants.{Completed};
+ghost use Rattle.core_pts.specs.CoreTable as core_table;
+ghost use Rattle.core_pts.specs.CoreTable.{CoreState};
+ghost use Rattle.machine_table.specs.SetUp.{is_good};
+ghost use Rattle.seating.specs.declared.views.View.{View};
+ghost use Rattle.seating.specs.Seated.{over, first_view, seat_view, one_more, knows, spent_view};
+ghost use Rattle.seating.specs.Seated.{with_hold};
+ghost use Rattle.seat_rule.specs.declared.views.SetUp.{SetUp};
+ghost use Rattle.seat_rule.specs.declared.views.Stage.TheVariants.{Idle, Writing, Reading};
+ghost use Rattle.seat_rule.specs.declared.views.Hold.{Hold};
+ghost use Rattle.seat_rule.specs.StateLaws.{StateLaws};
+ghost use Rattle.seat_rule.specs.Rule.{Holds, Phase, Changes, seat_count, slot_count};
+ghost use Rattle.seat_rule.specs.Rule.{from_of, to_of, node_of, opening_hold, no_hold};
+ghost use Rattle.seat_rule.specs.Plays.{SeatState, saw_out, saw_in, gave, Serves, stood, finished};
+ghost use Rattle.seat_rule.specs.Plays.{put_hold, take_hold};
+ghost use Rattle.seat_rule.specs.Ended.{Whole, Closes, on_link};
+
+use machine_moves::laws::{
+    initial_states_are_reached, messages_find_their_parts, places_count_records,
+    reached_parts_have_their_shape, reached_states_are_consistent, records_are_in_order,
+};
+
+/// What is known of every reached state, in one record.
+pub(crate) fn laws_of_states()
+    ensures { StateLaws }
+{
+    initial_states_are_reached();
+    reached_states_are_consistent();
+    messages_find_their_parts();
+    reached_parts_have_their_shape();
+    places_count_records();
+    records_are_in_order();
+}
+
+/// A machine that is well set up has 2 to 72 seats.
+pub fn seats_are_few()
+    ensures { (z : SetUp) → is_good z.config ≡ true →
+        (1 < seat_count z) × (seat_count z ≤ 72) }
+{}
+
+/// A machine as it opens keeps the rule: all words are 0, all slots are at home and empty, and there is the first seat.
+pub fn opened_machines_keep_the_rule()
+    ensures { (z : SetUp) → is_good z.config ≡ true →
+        Holds z (opening (replicate (slot_count z + 1) 0) (replicate (slot_count z) None)
+        (first_view (opening_hold z 0))) }
+{
+    laws_of_states();
+}
+
+/// An idle seat may look at a slot of a link at whose source it is, and at one of a link at whose target it is.
+pub fn looks_keep_the_rule()
+    ensures outgoing { (z : SetUp) (slots id k : ℕ) (me : SeatState) → slots ≡ slot_count z →
+        k < slot_count z → from_of z k ≡ me.0.number → me.0.spent ≡ false →
+        me.0.mine.stage ≡ Idle →
+        Allows (Holds z) slots id me k (λ x. x) (saw_out (step slots k 0 0 none) me) }
+    ensures incoming { (z : SetUp) (slots id k : ℕ) (me : SeatState) → slots ≡ slot_count z →
+        k < slot_count z → to_of z k ≡ me.0.number → me.0.spent ≡ false →
+        me.0.mine.stage ≡ Idle →
+        Allows (Holds z) slots id me k (λ x. x) (saw_in z (step slots k 0 0 none) me) }
+{}
+
+/// A seat that writes a slot may put a message of its outbox there, if it goes to the node at the link's target; one
+/// that reads a slot, with an empty hand, may take its message. What it holds afterwards is told.
+pub fn puts_and_takes_keep_the_rule()
+    ensures put { (z : SetUp) (slots id k index : ℕ) (m : Message) (me : SeatState)
+        (to : View Hold) → slots ≡ slot_count z → me.1 ≡ (k, Some m) ∷ rest me.1 →
+        to ≡ with_hold me.0 (put_hold me.0.mine k m index) → me.0.spent ≡ false →
+        me.0.mine.stage ≡ Writing k → slice_get me.0.mine.outbox index ≡ Some m →
+        m.to ≡ node_of z (to_of z k) →
+        Allows (Holds z) slots id me k (λ _. 1) (λ _. gave z (seat_count z) to me) }
+    ensures take { (z : SetUp) (slots id k : ℕ) (m : Message) (me : SeatState) (to : View Hold) →
+        slots ≡ slot_count z → me.1 ≡ (k, None) ∷ rest me.1 →
+        to ≡ with_hold me.0 (take_hold me.0.mine k m) → me.0.spent ≡ false →
+        me.0.mine.stage ≡ Reading k m → me.0.mine.hand ≡ None →
+        Allows (Holds z) slots id me k (λ _. 0) (λ _. gave z (seat_count z) to me) }
+{}
+
+/// A seat may come to hold something else, if that is a change of the state: 0 is added to the last word.
+pub fn changes_keep_the_rule()
+    ensures { (z : SetUp) (slots word id : ℕ) (me : SeatState) (h : Hold) (to : View Hold) →
+        slots ≡ slot_count z → word ≡ slot_count z → to ≡ with_hold me.0 h →
+        me.0.spent ≡ false → Serves me.0.mine h →
+        Changes z (seat_count z) me.0.number me.0.mine h →
+        Allows (Holds z) slots id me word (λ x. (x + 0) % 2 ^ 64)
+        (λ _. stood z (seat_count z) to me) }
+{}
+
+/// A core's seat may complete its open operation as its core's table says: 1 is added to the last word, and what it was
+/// is the record's number.
+pub fn completions_keep_the_rule()
+    ensures { (z : SetUp) (slots word id : ℕ) (me : SeatState) (op : Op) (received : Option ℕ)
+        (ts : ℕ) (core : CoreState) → slots ≡ slot_count z → word ≡ slot_count z →
+        is_good z.config ≡ true → me.0.number < z.config.cores → me.0.spent ≡ false →
+        me.0.mine.core.open_op ≡ Some op →
+        core_table.attempt me.0.mine.core ≡ (Some (Completed received ts), core) →
+        me.0.mine.core.issued < 2 ^ 32 →
+        Allows (Holds z) slots id me word (λ x. (x + 1) % 2 ^ 64)
+        (finished z (seat_count z) core op received ts me) }
+{
+    laws_of_states();
+}
+
+/// The first seat may make another until all seats of the machine are made, which holds what a seat of its number opens
+/// with; and a seat may be joined to another.
+pub fn made_and_joined_seats_keep_the_rule()
+    ensures made { (z : SetUp) (id : ℕ) (v : View Hold) → v.spent ≡ false → 0 < v.made →
+        v.made < seat_count z →
+        Splits (Holds z) id v (one_more v) (seat_view v.made (opening_hold z v.made)) }
+    ensures joined { (z : SetUp) (id : ℕ) (v : View Hold) (other : ℕ) (u : View Hold) →
+        v.spent ≡ false → u.spent ≡ false →
+        Joins (Holds z) id v other u (knows v u) (spent_view no_hold) }
+{}
+
+/// The table of a machine, closed with one of its seats, tells of one reached state, of which all that this seat held
+/// and knew are parts; if all seats are known and idle, each slot has its message or none.
+pub fn closed_machines_are_one_state()
+    ensures { (z : SetUp) (id : ℕ) (w : View Hold) (words : List ℕ)
+        (slots : List (Option Message)) (count : ℕ) → is_good z.config ≡ true →
+        w.spent ≡ false → Final (Seen (Holds z) id w) words slots →
+        get_elem? words (slot_count z) ≡ some count →
+        Closes z ((w.number, w.mine) ∷ w.known) count slots }
+{
+    laws_of_states();
+}
+
+/// At the end, on each link, no more messages were taken than put, and at most four more were put than taken.
+pub fn links_keep_at_most_four()
+    ensures { (z : SetUp) (seats : ℕ → Hold) (phases : ℕ → Phase) (log : List Record) →
+        Whole z seats phases log → (link : ℕ) →
+        let taken = over (seat_count z) (λ j. on_link link (seats j).taken) in
+        let put = over (seat_count z) (λ j. on_link link (seats j).put) in
+        (taken ≤ put) × (put ≤ taken + 4) }
+{}

@@ -56,55 +56,58 @@ pub fn opened_machines_keep_the_rule()
     laws_of_states();
 }
 
-/// An idle seat may look at a slot of a link at whose source it is, and at one of a link at whose target it is.
+/// An idle seat may look at a slot of a link at whose source it is, and at one of a link at whose target it is. What a
+/// step tells names the machine's set-up by a variable of its own, `aim`, here and below.
 pub fn looks_keep_the_rule()
     ensures outgoing { (z : SetUp) (slots id k : ℕ) (me : SeatState) → slots ≡ slot_count z →
         k < slot_count z → from_of z k ≡ me.0.number → me.0.spent ≡ false →
         me.0.mine.stage ≡ Idle →
         Allows (Holds z) slots id me k (λ x. x) (saw_out (step slots k 0 0 none) me) }
-    ensures incoming { (z : SetUp) (slots id k : ℕ) (me : SeatState) → slots ≡ slot_count z →
-        k < slot_count z → to_of z k ≡ me.0.number → me.0.spent ≡ false →
-        me.0.mine.stage ≡ Idle →
-        Allows (Holds z) slots id me k (λ x. x) (saw_in z (step slots k 0 0 none) me) }
+    ensures incoming { (z : SetUp) (slots id k : ℕ) (me : SeatState) (aim : SetUp) →
+        slots ≡ slot_count z → aim ≡ z → k < slot_count z → to_of z k ≡ me.0.number →
+        me.0.spent ≡ false → me.0.mine.stage ≡ Idle →
+        Allows (Holds z) slots id me k (λ x. x) (saw_in aim (step slots k 0 0 none) me) }
 {}
 
-/// A seat that writes a slot may put a message of its outbox there, if it goes to the node at the link's target; one
-/// that reads a slot, with an empty hand, may take its message. What it holds afterwards is told.
+/// A seat that writes a slot, and has written a message of its outbox there that goes to the node at the link's target,
+/// may give the slot back full; one that reads a slot, with an empty hand, and has moved the message out, may give it back
+/// empty. What it holds afterwards is told.
 pub fn puts_and_takes_keep_the_rule()
-    ensures put { (z : SetUp) (slots id k index : ℕ) (m : Message) (me : SeatState)
-        (to : View Hold) → slots ≡ slot_count z → me.1 ≡ (k, Some m) ∷ rest me.1 →
-        to ≡ with_hold me.0 (put_hold me.0.mine k m index) → me.0.spent ≡ false →
-        me.0.mine.stage ≡ Writing k → slice_get me.0.mine.outbox index ≡ Some m →
-        m.to ≡ node_of z (to_of z k) →
-        Allows (Holds z) slots id me k (λ _. 1) (λ _. gave z (seat_count z) to me) }
-    ensures take { (z : SetUp) (slots id k : ℕ) (m : Message) (me : SeatState) (to : View Hold) →
-        slots ≡ slot_count z → me.1 ≡ (k, None) ∷ rest me.1 →
-        to ≡ with_hold me.0 (take_hold me.0.mine k m) → me.0.spent ≡ false →
+    ensures put { (z : SetUp) (slots id : ℕ) (before me : SeatState) (k : ℕ) (m : Message)
+        (index : ℕ) (aim : SetUp) (to : View Hold) → slots ≡ slot_count z →
+        me ≡ (before.0, (k, Some m) ∷ rest before.1) →
+        to ≡ with_hold before.0 (put_hold before.0.mine k m index) → aim ≡ z →
+        before.0.spent ≡ false → before.0.mine.stage ≡ Writing k →
+        slice_get before.0.mine.outbox index ≡ Some m → m.to ≡ node_of z (to_of z k) →
+        Allows (Holds z) slots id me k (λ _. 1) (λ _. gave aim (seat_count aim) to me) }
+    ensures take { (z : SetUp) (slots id : ℕ) (me : SeatState) (k : ℕ) (m : Message)
+        (aim : SetUp) (to : View Hold) → slots ≡ slot_count z → me.1 ≡ (k, None) ∷ [] →
+        to ≡ with_hold me.0 (take_hold me.0.mine k m) → aim ≡ z → me.0.spent ≡ false →
         me.0.mine.stage ≡ Reading k m → me.0.mine.hand ≡ None →
-        Allows (Holds z) slots id me k (λ _. 0) (λ _. gave z (seat_count z) to me) }
+        Allows (Holds z) slots id me k (λ _. 0) (λ _. gave aim (seat_count aim) to me) }
 {}
 
 /// A seat may come to hold something else, if that is a change of the state: 0 is added to the last word.
 pub fn changes_keep_the_rule()
-    ensures { (z : SetUp) (slots word id : ℕ) (me : SeatState) (h : Hold) (to : View Hold) →
-        slots ≡ slot_count z → word ≡ slot_count z → to ≡ with_hold me.0 h →
-        me.0.spent ≡ false → Serves me.0.mine h →
-        Changes z (seat_count z) me.0.number me.0.mine h →
+    ensures { (z : SetUp) (slots word id : ℕ) (me : SeatState) (aim : SetUp) (to : View Hold)
+        (h : Hold) → slots ≡ slot_count z → word ≡ slot_count z → aim ≡ z →
+        me.0.spent ≡ false → to ≡ with_hold me.0 h → Serves me.0.mine h →
+        Changes aim (seat_count aim) me.0.number me.0.mine h →
         Allows (Holds z) slots id me word (λ x. (x + 0) % 2 ^ 64)
-        (λ _. stood z (seat_count z) to me) }
+        (λ _. stood aim (seat_count aim) to me) }
 {}
 
 /// A core's seat may complete its open operation as its core's table says: 1 is added to the last word, and what it was
 /// is the record's number.
 pub fn completions_keep_the_rule()
     ensures { (z : SetUp) (slots word id : ℕ) (me : SeatState) (op : Op) (received : Option ℕ)
-        (ts : ℕ) (core : CoreState) → slots ≡ slot_count z → word ≡ slot_count z →
-        is_good z.config ≡ true → me.0.number < z.config.cores → me.0.spent ≡ false →
+        (ts : ℕ) (core : CoreState) (aim : SetUp) → slots ≡ slot_count z →
+        word ≡ slot_count z → aim ≡ z → is_good z.config ≡ true → me.0.number < z.config.cores → me.0.spent ≡ false →
         me.0.mine.core.open_op ≡ Some op →
         core_table.attempt me.0.mine.core ≡ (Some (Completed received ts), core) →
         me.0.mine.core.issued < 2 ^ 32 →
         Allows (Holds z) slots id me word (λ x. (x + 1) % 2 ^ 64)
-        (finished z (seat_count z) core op received ts me) }
+        (finished aim (seat_count aim) core op received ts me) }
 {
     laws_of_states();
 }
@@ -112,16 +115,17 @@ pub fn completions_keep_the_rule()
 /// The first seat may make another until all seats of the machine are made, which holds what a seat of its number opens
 /// with; and a seat may be joined to another.
 pub fn made_and_joined_seats_keep_the_rule()
-    ensures made { (z : SetUp) (id : ℕ) (v : View Hold) → v.spent ≡ false → 0 < v.made →
-        v.made < seat_count z →
-        Splits (Holds z) id v (one_more v) (seat_view v.made (opening_hold z v.made)) }
+    ensures made { (z : SetUp) (id : ℕ) (v : View Hold) (aim : SetUp) → aim ≡ z →
+        v.spent ≡ false → 0 < v.made → v.made < seat_count z →
+        Splits (Holds z) id v (one_more v) (seat_view v.made (opening_hold aim v.made)) }
     ensures joined { (z : SetUp) (id : ℕ) (v : View Hold) (other : ℕ) (u : View Hold) →
         v.spent ≡ false → u.spent ≡ false →
         Joins (Holds z) id v other u (knows v u) (spent_view no_hold) }
 {}
 
 /// The table of a machine, closed with one of its seats, tells of one reached state, of which all that this seat held
-/// and knew are parts; if all seats are known and idle, each slot has its message or none.
+/// and knew are parts. The last word counts its records, and if all seats are known and idle, each slot has its message
+/// or none.
 pub fn closed_machines_are_one_state()
     ensures { (z : SetUp) (id : ℕ) (w : View Hold) (words : List ℕ)
         (slots : List (Option Message)) (count : ℕ) → is_good z.config ≡ true →

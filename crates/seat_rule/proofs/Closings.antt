@@ -17,8 +17,8 @@ use Rattle.seat_rule.specs.declared.views.SetUp.{SetUp}
 use Rattle.seat_rule.specs.declared.views.Stage.TheVariants.{Idle}
 use Rattle.seat_rule.specs.declared.views.Hold.{Hold}
 use Rattle.seat_rule.specs.StateLaws.{StateLaws}
-use Rattle.seat_rule.specs.Rule.{Phase, free, writing, full, reading, content, InPhase, Busy, Kept, Holds, from_of, to_of}
-use Rattle.seat_rule.specs.Rule.{seat_count, slot_count, state_of, in_flight}
+use Rattle.seat_rule.specs.Rule.{Phase, free, writing, full, reading, content, InPhase, Busy, Kept, Holds, from_of}
+use Rattle.seat_rule.specs.Rule.{to_of, seat_count, slot_count, state_of, in_flight}
 use Rattle.seat_rule.specs.Ended.{Whole, on_link, lies, Agrees, Closes}
 use Rattle.seat_rule.proofs.Phases.{idle_writing, idle_reading}
 

@@ -253,4 +253,5 @@ module _ (z : SetUp) (n : ℕ) (from to : ℕ → ℕ) (slots : ℕ) where
   pub joining : (id : ℕ) (v : View Hold) (other : ℕ) (u : View Hold) → v.spent ≡ false → u.spent ≡ false →
       Joins K id v other u (knows v u) (spent_view no_hold)
   joining id v other u live lives s r at two there =
-      reshown s r (shown_join Hold (opening_hold z) no_hold n s.views r.seats id v other u r.shown at live two there lives)
+      reshown s r
+      (shown_join Hold (opening_hold z) no_hold n s.views r.seats id v other u r.shown at live two there lives)

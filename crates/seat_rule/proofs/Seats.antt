@@ -71,8 +71,8 @@ module _ (laws : StateLaws) (z : SetUp) (good : is_good z.config ≡ true) (n id
     unfolding Standing
     finds m rest bag =
         let state : moves.State = state_of z n s.0 (bag_of a ++ s.1) s.2 in
-        let all = laws.found z.config z.memory state good s.4 (m ∷ (rest ++ s.1)) (beside (bag_of a) (m ∷ []) rest s.1 bag)
-        in
+        let all = laws.found z.config z.memory state good s.4 (m ∷ (rest ++ s.1))
+        (beside (bag_of a) (m ∷ []) rest s.1 bag) in
         record {
           endpoints = all.0.endpoints;
           core = λ to.

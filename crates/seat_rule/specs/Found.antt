@@ -9,8 +9,8 @@ use Rattle.dram_mts.specs.Table.{dram_has_case}
 use Rattle.seat_rule.specs.declared.views.SetUp.{SetUp}
 use Rattle.seat_rule.specs.declared.views.Hold.{Hold}
 
--- It goes between nodes of its kind. If it goes to the seat's own core or bank, or to the DRAM behind its bank, the part
--- is there and has a case for it
+-- It goes between nodes of its kind. If it goes to the seat's own core or bank, or to the DRAM behind its bank, this
+-- part is there and has a case for it.
 pub record FindsHere (z : SetUp) (id : ℕ) (a : Hold) (m : Message) : Type 0 where
   pub endpoints : has_endpoints z.config.cores z.config.banks m ≡ true
   pub core : m.to ≡ Core id → (id < z.config.cores) × (core_has_case a.core m ≡ true)

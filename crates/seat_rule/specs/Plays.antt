@@ -108,8 +108,8 @@ abbrev pub drawn : SeatState → Op → Option ℕ → ℕ → ℕ → Record
 drawn m op received ts r = record_of m.0.number r m.0.mine.core op received ts
 
 -- What is known of a completion that found r, and of its record:
-pub record finished (z : SetUp) (n : ℕ) (core : CoreState) (op : Op) (received : Option ℕ) (ts : ℕ) (m : SeatState) (r : ℕ)
-    (m' : SeatState) : Type 0 where
+pub record finished (z : SetUp) (n : ℕ) (core : CoreState) (op : Op) (received : Option ℕ) (ts : ℕ) (m : SeatState)
+    (r : ℕ) (m' : SeatState) : Type 0 where
   -- its number counts all records before it, which begin with what the seat had seen
   pub log : List Record
   pub number : length log ≡ r
@@ -121,7 +121,8 @@ pub record finished (z : SetUp) (n : ℕ) (core : CoreState) (op : Op) (received
   -- own core
   pub legal : (issued : ℕ → List Op) × (issued m.0.number ≡ m.0.mine.issued) ×
       Legal (flat z.memory) issued (log ++ drawn m op received ts r ∷ [])
-  pub own : of_core m.0.number (log ++ drawn m op received ts r ∷ []) ≡ m.0.mine.records ++ drawn m op received ts r ∷ []
+  pub own :
+      of_core m.0.number (log ++ drawn m op received ts r ∷ []) ≡ m.0.mine.records ++ drawn m op received ts r ∷ []
   -- the seat now holds it, and has seen all records up to it
   pub view : m'.0 ≡ with_hold m.0 (complete_hold m.0.mine core log (drawn m op received ts r))
   pub carried : m'.1 ≡ m.1

@@ -33,9 +33,9 @@ use Rattle.seat_rule.specs.declared.views.Hold.{Hold}
 abbrev pub seat_count : SetUp → ℕ
 seat_count z = z.config.cores + z.config.banks
 
--- A link goes from a core to a bank, or from a bank to a core: first come those from cores. A link has four slots, and
--- the slots of link l are 4 * l to 4 * l + 3. The word of slot k is k: 0 if it is empty, 1 if it is full. One more word,
--- the last, counts completions.
+-- A link goes from a core to a bank, or from a bank to a core: first come those from cores. A link has four slots,
+-- those of link l are 4 * l to 4 * l + 3, and each has a word of its own number: 0 if it is empty, 1 if it is full. One
+-- more word, the last, counts completions.
 abbrev pub slot_count : SetUp → ℕ
 slot_count z = 8 * z.config.cores * z.config.banks
 
@@ -88,7 +88,7 @@ InPhase word homes k writing = word ≡ 0
 InPhase word homes k (full m) = (word ≡ 1) × (get_elem? homes k ≡ some (some (Some m)))
 InPhase word homes k (reading m) = word ≡ 1
 
--- a seat that is out is out with a slot, at whose end it is: it writes at the source of a link, and reads at the target
+-- a seat that is out is out with a slot of a link at whose end it is: it writes at the source, and reads at the target
 abbrev pub At : (ℕ → ℕ) → (ℕ → ℕ) → ℕ → (ℕ → Phase) → ℕ → Stage → Type 0
 At from to slots phases j Idle = Unit {0}
 At from to slots phases j (Writing k) = (k < slots) × (from k ≡ j) × (phases k ≡ writing)

@@ -39,7 +39,7 @@ pub record Sends (a b : Hold) (rest : List Message) (sent : Option Message) : Ty
 abbrev pub request_of : Hold → Op → Body → Message
 request_of a op body = core_table.to_bank a.core (core_table.line_of a.core op) body
 
--- The seat id holds a, and then b. A core's seat has the core of its number; the seat of bank b has the number cores + b.
+-- The seat id holds a, and then b. A core's seat has the number of its core, the seat of bank i the number cores + i.
 pub data SeatMove (z : SetUp) (id : ℕ) (a b : Hold) : Type 0 where
   -- messages change their places within the seat
   sorts : SameCore a b → SameBank a b → Sends a b (bag_of a) None → SeatMove z id a b

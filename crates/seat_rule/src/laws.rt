@@ -1,6 +1,6 @@
 //! Each step of a seat keeps the rule, and a machine whose seats are joined is one reached state.
-ghost use Rattle.std.specs.Prelude.{◌≡◌, ℕ, ◌+◌, ◌%◌, ◌^◌, ◌<◌, ◌≤◌, true, false, List, [], ◌∷◌, replicate};
-ghost use Rattle.std.specs.Prelude.{Option, Some, None, slice_get};
+ghost use Rattle.std.specs.Prelude.{◌≡◌, ℕ, ◌+◌, ◌%◌, ◌^◌, ◌<◌, ◌≤◌, true, false, List, []};
+ghost use Rattle.std.specs.Prelude.{◌∷◌, replicate, Option, Some, None, slice_get};
 ghost use mathlib.Core.Option.{none, some};
 ghost use lib.ListN.{get_elem?};
 ghost use Rattle.atomic_table.specs.Table.{step, rest, Allows, Splits, Joins, opening, Final, Seen};
@@ -47,7 +47,7 @@ pub fn seats_are_few()
         (1 < seat_count z) × (seat_count z ≤ 72) }
 {}
 
-/// A machine as it opens keeps the rule: all words are 0, all slots are at home and empty, and there is the first seat.
+/// A machine as it opens keeps the rule: all words are 0, all slots are at home and empty, and there is one seat.
 pub fn opened_machines_keep_the_rule()
     ensures { (z : SetUp) → is_good z.config ≡ true →
         Holds z (opening (replicate (slot_count z + 1) 0) (replicate (slot_count z) None)
@@ -69,9 +69,9 @@ pub fn looks_keep_the_rule()
         Allows (Holds z) slots id me k (λ x. x) (saw_in aim (step slots k 0 0 none) me) }
 {}
 
-/// A seat that writes a slot, and has written a message of its outbox there that goes to the node at the link's target,
-/// may give the slot back full; one that reads a slot, with an empty hand, and has moved the message out, may give it back
-/// empty. What it holds afterwards is told.
+/// A seat that writes a slot, and has written a message of its outbox there that goes to the node at the link's
+/// target, may give the slot back full; one that reads a slot, with an empty hand, and has moved the message out, may
+/// give it back empty. What it holds afterwards is told.
 pub fn puts_and_takes_keep_the_rule()
     ensures put { (z : SetUp) (slots id : ℕ) (before me : SeatState) (k : ℕ) (m : Message)
         (index : ℕ) (aim : SetUp) (to : View Hold) → slots ≡ slot_count z →
@@ -97,13 +97,13 @@ pub fn changes_keep_the_rule()
         (λ _. stood aim (seat_count aim) to me) }
 {}
 
-/// A core's seat may complete its open operation as its core's table says: 1 is added to the last word, and what it was
-/// is the record's number.
+/// A core's seat may complete its open operation as its core's table says: 1 is added to the last word, and what that
+/// word was is the record's number.
 pub fn completions_keep_the_rule()
     ensures { (z : SetUp) (slots word id : ℕ) (me : SeatState) (op : Op) (received : Option ℕ)
         (ts : ℕ) (core : CoreState) (aim : SetUp) → slots ≡ slot_count z →
-        word ≡ slot_count z → aim ≡ z → is_good z.config ≡ true → me.0.number < z.config.cores → me.0.spent ≡ false →
-        me.0.mine.core.open_op ≡ Some op →
+        word ≡ slot_count z → aim ≡ z → is_good z.config ≡ true →
+        me.0.number < z.config.cores → me.0.spent ≡ false → me.0.mine.core.open_op ≡ Some op →
         core_table.attempt me.0.mine.core ≡ (Some (Completed received ts), core) →
         me.0.mine.core.issued < 2 ^ 32 →
         Allows (Holds z) slots id me word (λ x. (x + 1) % 2 ^ 64)
@@ -112,8 +112,8 @@ pub fn completions_keep_the_rule()
     laws_of_states();
 }
 
-/// The first seat may make another until all seats of the machine are made, which holds what a seat of its number opens
-/// with; and a seat may be joined to another.
+/// The first seat may make another until all seats of the machine are made, which holds what a seat of its number
+/// opens with; and a seat may be joined to another.
 pub fn made_and_joined_seats_keep_the_rule()
     ensures made { (z : SetUp) (id : ℕ) (v : View Hold) (aim : SetUp) → aim ≡ z →
         v.spent ≡ false → 0 < v.made → v.made < seat_count z →
@@ -124,8 +124,8 @@ pub fn made_and_joined_seats_keep_the_rule()
 {}
 
 /// The table of a machine, closed with one of its seats, tells of one reached state, of which all that this seat held
-/// and knew are parts. The last word counts its records, and if all seats are known and idle, each slot has its message
-/// or none.
+/// and knew are parts. The last word counts its records, and if all seats are known and idle, each slot has its
+/// message or none.
 pub fn closed_machines_are_one_state()
     ensures { (z : SetUp) (id : ℕ) (w : View Hold) (words : List ℕ)
         (slots : List (Option Message)) (count : ℕ) → is_good z.config ≡ true →

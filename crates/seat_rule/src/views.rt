@@ -1,4 +1,4 @@
-//! What the proofs know of a seat. No value of `Hold` is made.
+//! How a machine is set up, and what a seat of it holds. Proofs speak of stages and holds; no value of them is made.
 use core_pts::Core;
 use dram_mts::Dram;
 use llc_bank::Bank;
@@ -21,8 +21,8 @@ pub enum Stage {
     Reading(u64, Message),
 }
 
-/// What a seat holds, and what it has done. A core's seat has a core, and a bank's seat a bank and its DRAM; what a seat
-/// doesn't have stays as it opens.
+/// What a seat holds, and what it has done. A core's seat has a core, and a bank's seat a bank and its DRAM; what a
+/// seat doesn't have stays as it opens.
 pub struct Hold {
     pub core: Core,
     pub bank: Bank,

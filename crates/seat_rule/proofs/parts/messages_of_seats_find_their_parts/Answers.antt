@@ -2,7 +2,8 @@ use Rattle.seat_rule.proofs.Seats.{finds, of_outbox, of_hand, of_held}
 use Rattle.seat_rule.proofs.parts.messages_of_seats_find_their_parts.Goals as goal
 
 pub returns-clause-any : goal.returns-clause-any
-returns-clause-any c = λ z n id a good stands m others bag. finds c.laws_of_states.ensures z good n id a stands m others bag
+returns-clause-any c =
+    λ z n id a good stands m others bag. finds c.laws_of_states.ensures z good n id a stands m others bag
 
 pub returns-clause-outbox : goal.returns-clause-outbox
 returns-clause-outbox c =

@@ -1,0 +1,11 @@
+pub mod Closings
+pub mod CountSums
+pub mod CountSteps
+pub mod Frames
+pub mod Openings
+pub mod Phases
+pub mod SeatMoves
+pub mod Seats
+pub mod SetUps
+pub mod SlotSteps
+pub mod Weights

@@ -1,0 +1,61 @@
+-- What is known of a closed machine: of its seats, its slots and all records.
+use Rattle.std.specs.Prelude.{◌≡◌, ℕ, ◌+◌, ◌/◌, ◌==◌, ◌<◌, List, length, Option, Some, None, if◌then◌else◌}
+use mathlib.Core.Option.{some}
+use lib.ListN.{get_elem?}
+use Rattle.physiological_order.specs.declared.operation.Record.{Record}
+use Rattle.physiological_order.specs.Order.{of_core}
+use Rattle.network.specs.declared.message.Message.{Message}
+use Rattle.machine_theorem.specs.Bags.{weigh}
+use Rattle.machine_moves.specs.Consistent.{Consistent}
+use Rattle.seating.specs.Seated.{over}
+use Rattle.seat_rule.specs.declared.views.SetUp.{SetUp}
+use Rattle.seat_rule.specs.declared.views.Stage.TheVariants.{Idle}
+use Rattle.seat_rule.specs.declared.views.Hold.{Hold}
+use Rattle.seat_rule.specs.Rule.{Phase, free, writing, full, reading, content, seat_count, slot_count, state_of}
+use Rattle.seat_rule.specs.Rule.{in_flight, Reaches, IsPrefix, weigh_links}
+
+-- One reached state, which is consistent: each seat has the records of its core, these are all, and they begin with
+-- what any seat has seen. On each link, the messages put are those taken and those in its slots.
+pub record Whole (z : SetUp) (seats : ℕ → Hold) (phases : ℕ → Phase) (log : List Record) : Type 0 where
+  pub reached : Reaches z (seat_count z) seats (in_flight (seat_count z) (slot_count z) seats phases) log
+  pub consistent : Consistent z.config z.memory
+      (state_of z (seat_count z) seats (in_flight (seat_count z) (slot_count z) seats phases) log)
+  pub own : (j : ℕ) → of_core j log ≡ (seats j).records
+  pub seen : (j : ℕ) → IsPrefix (seats j).seen log
+  pub total : length log ≡ over (seat_count z) (λ j. length (seats j).records)
+  pub links : (h : ℕ → Message → ℕ) →
+      over (seat_count z) (λ j. weigh_links h (seats j).put) ≡
+      over (seat_count z) (λ j. weigh_links h (seats j).taken)
+      + over (slot_count z) (λ k. weigh (h (k / 4)) (content (phases k)))
+
+-- how many messages of a list of slots and messages are of a link
+abbrev pub on_link : ℕ → List (ℕ × Message) → ℕ
+on_link link = weigh_links (λ l m. if l == link then 1 else 0)
+
+-- what lies in a slot that no seat has taken out
+abbrev pub lies : Phase → Option Message
+lies free = None
+lies writing = None
+lies (full m) = Some m
+lies (reading m) = None
+
+-- each hold that is known is that of the seat of its number
+abbrev pub Agrees : (ℕ → Hold) → List (ℕ × Hold) → Type 0
+Agrees seats known = (i : ℕ) (p : ℕ × Hold) → get_elem? known i ≡ some p → seats p.0 ≡ p.1
+
+-- all seats are known, and none is out with a slot
+abbrev pub AllIdle : SetUp → List (ℕ × Hold) → Type 0
+AllIdle z known =
+    (j : ℕ) → j < seat_count z →
+    (i : ℕ) × (h : Hold) × (get_elem? known i ≡ some (j, h)) × (h.stage ≡ Idle)
+
+-- There is one reached state of which every hold that is known is a part. It has as many records as were counted, and
+-- if all seats are known and idle, each slot has its message or none.
+pub record Closes (z : SetUp) (known : List (ℕ × Hold)) (count : ℕ) (slots : List (Option Message)) : Type 0 where
+  pub seats : ℕ → Hold
+  pub phases : ℕ → Phase
+  pub log : List Record
+  pub whole : Whole z seats phases log
+  pub counted : length log ≡ count
+  pub agrees : Agrees seats known
+  pub lying : AllIdle z known → (k : ℕ) → k < slot_count z → get_elem? slots k ≡ some (lies (phases k))

@@ -1,0 +1,7 @@
+pub mod Ended
+pub mod Found
+pub mod Plays
+pub mod Rule
+pub mod SeatMoves
+pub mod Serving
+pub mod StateLaws

@@ -1,0 +1,8 @@
+//! The shared machine: seats that threads drive without a lock.
+#![tactic(auto)]
+
+mod ends;
+mod laws;
+mod links;
+mod machine;
+mod steps;

@@ -1,7 +1,6 @@
 -- Where a seat is among the others: at which table, at which links, and which slots come in to it.
 use Rattle.std.specs.Prelude.{◌≡◌, ℕ, zero, suc, ◌+◌, ◌-◌, ◌*◌, ◌/◌, ◌%◌, ◌&&◌, Bool, true, false, cond, ltb, nat_lt, nat_le}
-use Rattle.std.specs.Prelude.{List, [], ◌∷◌, ◌++◌, Option}
-use Rattle.std.specs.List.{AllByRecursion}
+use Rattle.std.specs.Prelude.{List, [], ◌∷◌, ◌++◌, Option, Some, slice_get}
 use Rattle.atomic_table.specs.Seated.{TableId}
 use Rattle.network.specs.declared.message.Node.{Node}
 use Rattle.network.specs.declared.message.Node.TheVariants.{Core, Bank, Dram}
@@ -28,7 +27,8 @@ link_to cores banks number (Dram d) = 0
 
 -- there is a link from the seat to where each of these messages goes
 abbrev pub AllLinked : ℕ → ℕ → ℕ → List Message → Type 0
-AllLinked cores banks number = AllByRecursion (λ m. has_link cores banks number m.to ≡ true)
+AllLinked cores banks number ms =
+    (i : ℕ) (m : Message) → slice_get ms i ≡ Some m → has_link cores banks number m.to ≡ true
 
 -- how many slots come in to a seat: four on each link, one from each bank to a core, and one from each core to a bank
 abbrev pub incoming_count : ℕ → ℕ → ℕ → ℕ

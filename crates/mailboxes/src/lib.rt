@@ -5,4 +5,6 @@ mod ends;
 mod laws;
 mod links;
 mod machine;
+mod mailbox;
+mod putting;
 mod steps;

@@ -1,2 +1,3 @@
 pub mod LinkEnds
 pub mod Outboxes
+pub mod Sweeps

@@ -7,6 +7,9 @@ use Rattle.seat_rule.specs.Rule.{node_of}
 use Rattle.seat_rule.specs.Plays.{SamePart, ones}
 use Rattle.mailboxes.specs.declared.machine.Machine.{Machine}
 use Rattle.mailboxes.specs.declared.mailbox.Mailbox.{Mailbox}
+use Rattle.seat_rule.specs.declared.views.SetUp.{SetUp}
+use Rattle.mailboxes.specs.declared.taken.Take.{Take}
+use Rattle.mailboxes.specs.declared.taken.Take.TheVariants.{Taken, Nothing, HandFull}
 use Rattle.mailboxes.specs.Places.{link_to, incoming, incoming_count, found_full, found_empty}
 
 -- what the proofs know of the seat
@@ -67,3 +70,35 @@ Puts true p q =
     (i : ℕ) × (s : ℕ) × (m : Message) × PutInto (link_to p.cores p.banks p.number m.to)
     (found_full p.cores p.banks p.number (take i p.outbox.items)) i s m p q
 Puts false p q = PutNothing (found_full p.cores p.banks p.number p.outbox.items) p q
+
+-- the message m of this slot is in the hand: the slot was found full. Before, these looks were made
+abbrev pub TakenFrom : SetUp → List (ℕ × ℕ) → ℕ → Message → Mailbox → Mailbox → Type 0
+TakenFrom z looks k m p q =
+    (q.hand ≡ Some m) × (m.to ≡ node_of z p.number) × ((hold q).taken ≡ (hold p).taken ++ (k, m) ∷ [])
+    × ((hold q).looks ≡ (hold p).looks ++ (looks ++ (k, 1) ∷ [])) × SameOutgoing p q
+
+-- nothing was taken, after these looks
+abbrev pub TakenNothing : List (ℕ × ℕ) → Mailbox → Mailbox → Type 0
+TakenNothing looks p q =
+    ((hold q).looks ≡ (hold p).looks ++ looks) × (q.hand ≡ p.hand) × ((hold q).taken ≡ (hold p).taken)
+    × (q.cursor ≡ p.cursor) × SameOutgoing p q
+
+-- the message of the slot was taken, or the slot was found empty
+abbrev pub TakesAt : SetUp → ℕ → Bool → Mailbox → Mailbox → Type 0
+TakesAt z k true p q = (m : Message) × TakenFrom z [] k m p q × (q.cursor ≡ p.cursor)
+TakesAt z k false p q = TakenNothing ((k, 0) ∷ []) p q
+
+-- with an empty hand, the first slot that comes in and was found full was emptied into the hand, from the cursor on and
+-- going round; the cursor is now behind it. Or all slots that come in were found empty. A full hand stays, and nothing
+-- was looked at
+abbrev pub Takes : SetUp → Take → Mailbox → Mailbox → Type 0
+Takes z Taken p q =
+    let count = incoming_count p.cores p.banks p.number in
+    (p.hand ≡ None) × ((n : ℕ) × (m : Message) × (n < count)
+    × TakenFrom z (found_empty p.cores p.banks p.number p.cursor n)
+    (incoming p.cores p.banks p.number ((p.cursor + n) % count)) m p q
+    × (q.cursor ≡ ((p.cursor + n) % count + 1) % count))
+Takes z Nothing p q =
+    (p.hand ≡ None)
+    × TakenNothing (found_empty p.cores p.banks p.number p.cursor (incoming_count p.cores p.banks p.number)) p q
+Takes z HandFull p q = ((m : Message) × (p.hand ≡ Some m)) × (hold q ≡ hold p) × (q.cursor ≡ p.cursor)

@@ -1,17 +1,25 @@
 -- Where a seat is among the others: at which table, at which links, and which slots come in to it.
-use Rattle.std.specs.Prelude.{◌≡◌, ℕ, zero, suc, ◌+◌, ◌-◌, ◌*◌, ◌/◌, ◌%◌, ◌&&◌, Bool, true, false, cond, ltb, nat_lt, nat_le}
-use Rattle.std.specs.Prelude.{List, [], ◌∷◌, ◌++◌, Option, Some, slice_get}
+use Rattle.std.specs.Prelude.{◌≡◌, ℕ, zero, suc, ◌+◌, ◌-◌, ◌*◌, ◌/◌, ◌%◌, ◌<◌, ◌≤◌, ◌&&◌, Bool, true}
+use Rattle.std.specs.Prelude.{false, cond, nat_lt, nat_le, List, [], ◌∷◌, ◌++◌, Option, Some, slice_get}
 use Rattle.atomic_table.specs.Seated.{TableId}
 use Rattle.network.specs.declared.message.Node.{Node}
 use Rattle.network.specs.declared.message.Node.TheVariants.{Core, Bank, Dram}
 use Rattle.network.specs.declared.message.Message.{Message}
 use Rattle.seat_rule.specs.declared.views.SetUp.{SetUp}
-use Rattle.seat_rule.specs.Rule.{slot_count}
+use Rattle.seat_rule.specs.Rule.{slot_count, source, to_of}
 use Rattle.seat_rule.specs.Plays.{ones}
 
 -- the seat is of the table, which has a word for each slot, and one that counts completions
 abbrev pub Belongs : TableId → TableId → SetUp → Type 0
 Belongs seat table z = (seat ≡ table) × (table.words ≡ slot_count z + 1) × (table.slots ≡ slot_count z)
+
+-- the link is one of the machine, which has few, and starts at the seat
+abbrev pub StartsAt : SetUp → ℕ → ℕ → Type 0
+StartsAt z link number = (4 * link + 4 ≤ slot_count z) × (slot_count z ≤ 4096) × (source z link ≡ number)
+
+-- the slot is one of the machine, and comes in to the seat
+abbrev pub EndsAt : SetUp → ℕ → ℕ → Type 0
+EndsAt z slot number = (slot < slot_count z) × (to_of z slot ≡ number)
 
 -- whether there is a link from the seat of a number to a node: cores have links to banks, and banks to cores
 abbrev pub has_link : ℕ → ℕ → ℕ → Node → Bool

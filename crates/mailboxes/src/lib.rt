@@ -8,3 +8,5 @@ mod machine;
 mod mailbox;
 mod putting;
 mod steps;
+mod taken;
+mod taking;

@@ -23,7 +23,7 @@ use std::marker::Model;
 use timestamp_manager::Exhausted;
 
 /// A core: its time, the copies of lines in its private cache, and at most one open operation with at most one request
-/// out. It takes no memory after `new`. Contracts see it as data.
+/// out. It takes no memory after `new`, but for `keep_order`. Contracts see it as data.
 #[derive(Drop)]
 pub struct Core {
     config: CoreConfig,
@@ -141,6 +141,22 @@ impl Core {
         ensures { IfOk result (λ line. slice_get (risen (free_copies self.now)) at ≡ Some line) }
     {
         self.cache.free_copy(self.pinned_line(), at)
+    }
+
+    /// Keeps the lines of all copies in rising order from now on, so that `free_copy` finds a line by a binary search and
+    /// takes no memory. That takes 8 bytes for each copy that there may be, and moves at most as many bytes each time a
+    /// copy comes or goes. Where the memory is refused nothing is kept, and the answers are the same.
+    pub fn keep_order(&mut self)
+        ensures { self.new ≡ self.old }
+    {
+        self.cache.keep_order();
+    }
+
+    /// Keeps the lines in rising order no longer, and gives the memory for that back.
+    pub fn forget_order(&mut self)
+        ensures { self.new ≡ self.old }
+    {
+        self.cache.forget_order();
     }
 
     /// The line of an operation's word.

@@ -1,3 +1,4 @@
+mod CoreBound
 mod ChangedParts
 mod ClosedOps
 mod Coherence

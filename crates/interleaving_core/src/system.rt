@@ -134,9 +134,10 @@ impl System {
         Ok(answers)
     }
 
-    /// How many cores there are: the machine has that many.
+    /// How many cores there are: the machine has that many, and never more than 64.
     pub fn cores(&self) -> u32
         ensures cores { result ≡ self.now.config.cores }
+        ensures most { result ≤ 64 }
         ensures count { length self.now.cores ≡ result }
     {
         self.state.config.cores
@@ -287,6 +288,23 @@ impl System {
         ensures { IfOk result (λ line. slice_get (risen (entries self.now bank)) at ≡ Some line) }
     {
         self.state.entry(bank, at)
+    }
+
+    /// Each core and each bank keeps its lines in rising order from now on, so that `free_copy` and `entry` find a line
+    /// by a binary search and take no memory. That takes 8 bytes for each copy and each entry that there may be, and
+    /// moves at most as many bytes of a core or a bank each time a line comes to it or leaves it. A core or bank that is
+    /// refused the memory goes on without, and all answers are the same.
+    pub fn keep_order(&mut self)
+        ensures { self.new ≡ self.old }
+    {
+        self.state.keep_order();
+    }
+
+    /// The cores and banks keep their lines in rising order no longer, and give the memory for that back.
+    pub fn forget_order(&mut self)
+        ensures { self.new ≡ self.old }
+    {
+        self.state.forget_order();
     }
 
     /// How many messages are in flight.

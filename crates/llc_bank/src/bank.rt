@@ -257,6 +257,23 @@ impl Bank {
     {
         self.table.nth_listed(None, at)
     }
+
+    /// Keeps the lines that are Shared or Exclusive in rising order from now on, so that `settled_line` finds a line by
+    /// its index and takes no memory. That takes 8 bytes for each entry that there may be, and moves at most as many
+    /// bytes each time a line becomes Shared or Exclusive or is it no longer. Where the memory is refused nothing is
+    /// kept, and the answers are the same.
+    pub fn keep_order(&mut self)
+        ensures { self.new ≡ self.old }
+    {
+        self.table.keep_order();
+    }
+
+    /// Keeps the lines in rising order no longer, and gives the memory for that back.
+    pub fn forget_order(&mut self)
+        ensures { self.new ≡ self.old }
+    {
+        self.table.forget_order();
+    }
 }
 
 // The core that a node is, 0 if it is none.

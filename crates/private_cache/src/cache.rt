@@ -253,4 +253,20 @@ impl Cache {
     {
         self.table.nth_listed(pinned, at)
     }
+
+    /// Keeps the lines of all copies in rising order from now on, so that `free_copy` finds a line by a binary search and
+    /// takes no memory. That takes 8 bytes for each copy that there may be, and moves at most as many bytes each time a
+    /// copy comes or goes. Where the memory is refused nothing is kept, and the answers are the same.
+    pub fn keep_order(&mut self)
+        ensures { self.new ≡ self.old }
+    {
+        self.table.keep_order();
+    }
+
+    /// Keeps the lines in rising order no longer, and gives the memory for that back.
+    pub fn forget_order(&mut self)
+        ensures { self.new ≡ self.old }
+    {
+        self.table.forget_order();
+    }
 }

@@ -42,7 +42,10 @@ pub fn run_to_end<P: Program>(
         }
         Policy::Seed(seed) => {
             let mut schedule = Seeds::new(seed);
-            finish(&mut schedule, system, programs, &mut log, limit)
+            system.keep_order();
+            let end = finish(&mut schedule, system, programs, &mut log, limit);
+            system.forget_order();
+            end
         }
     }
 }

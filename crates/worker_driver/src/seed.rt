@@ -5,7 +5,7 @@ ghost use Rattle.interleaving_core.specs.LookUps.{entries, free_copies, open_op}
 ghost use Rattle.line_sets.specs.Rising.{risen};
 ghost use Rattle.worker_driver.specs.Acts.{next_in};
 ghost use Rattle.worker_driver.specs.SeedSchedule.{advances, core_step, core_steps, entry, line_events, of_seed, steps};
-ghost use Rattle.worker_driver.specs.SeedViews.{Picks, PicksAny, PicksOne};
+ghost use Rattle.worker_driver.specs.SeedViews.{AreReady, Picks, PicksAny, PicksOne};
 
 use crate::look_ups::next_in;
 use crate::program::Program;
@@ -198,37 +198,49 @@ fn core_step<P: Program>(system: &System, programs: &mut [P], core: u32) -> Opti
     }
 }
 
-// How many cores do something next.
-fn step_count<P: Program>(system: &System, programs: &mut [P]) -> u32
-    ensures count { result ≡ length (core_steps P.acts system.now programs.old system.now.config.cores) }
+// The cores that do something next: so many, in rising order.
+#[derive(Clone, Copy)]
+struct Ready {
+    count: u32,
+    cores: [u32; 64],
+}
+
+// The cores that do something next. A machine has at most 64.
+fn ready_cores<P: Program>(system: &System, programs: &mut [P]) -> Ready
+    ensures count { result.count ≡ length (core_steps P.acts system.now programs.old
+        system.now.config.cores) }
+    ensures bound { result.count ≤ 64 }
+    ensures ready { AreReady P.acts system.now programs.old system.now.config.cores result.cores
+        result.count }
     ensures same { programs.new ≡ programs.old }
 {
+    let mut cores = [0; 64];
     let mut count = 0;
     for core in 0..system.cores() {
         if core_step(system, programs, core).is_some() {
+            cores[count as usize] = core;
             count += 1;
         }
     }
-    count
+    Ready { count, cores }
 }
 
 // What the core at a place among those does.
-fn step_at<P: Program>(system: &System, programs: &mut [P], place: u32) -> Choice
-    requires { place < length (core_steps P.acts system.now programs.old system.now.config.cores) }
+fn step_at<P: Program>(system: &System, programs: &mut [P], ready: &Ready, place: u32) -> Choice
+    requires inside { place < ready.now.count }
+    requires bound { ready.now.count ≤ 64 }
+    requires count { ready.now.count ≡ length (core_steps P.acts system.now programs.old
+        system.now.config.cores) }
+    requires ready { AreReady P.acts system.now programs.old system.now.config.cores
+        ready.now.cores ready.now.count }
     ensures step { (next : _) × (slice_get (core_steps P.acts system.now programs.old
         system.now.config.cores) place ≡ Some next) × Picks next result }
     ensures same { programs.new ≡ programs.old }
 {
-    let mut at = place;
-    for core in 0..system.cores() {
-        if let Some(choice) = core_step(system, programs, core) {
-            if at == 0 {
-                return choice;
-            }
-            at -= 1;
-        }
+    match core_step(system, programs, ready.cores[place as usize]) {
+        Some(choice) => choice,
+        None => unreachable!(),
     }
-    unreachable!()
 }
 
 // A step of a core, or the delivery of a message.
@@ -236,16 +248,16 @@ fn step<P: Program>(system: &System, programs: &mut [P], b: u32) -> Choice
     ensures step { Picks (entry (steps P.acts system.now programs.old) b) result }
     ensures same { programs.new ≡ programs.old }
 {
-    let count = step_count(system, programs);
-    let total = u64::from(count) + u64::from(system.messages());
+    let ready = ready_cores(system, programs);
+    let total = u64::from(ready.count) + u64::from(system.messages());
     if total == 0 {
         return Choice::Over;
     }
     let at = (u64::from(b) % total) as u32;
-    if at < count {
-        return step_at(system, programs, at);
+    if at < ready.count {
+        return step_at(system, programs, &ready, at);
     }
-    match system.message(at - count) {
+    match system.message(at - ready.count) {
         Some(number) => Choice::Delivers(number),
         None => unreachable!(),
     }

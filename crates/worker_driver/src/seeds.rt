@@ -38,5 +38,8 @@ pub fn drive_seed<P: Program>(
     ensures served { AreServed P.acts system.old system.new programs.old programs.new }
 {
     let mut schedule = Seeds::new(seed);
-    drive(alloc, system, programs, &mut schedule, limit)
+    system.keep_order();
+    let driven = drive(alloc, system, programs, &mut schedule, limit);
+    system.forget_order();
+    driven
 }

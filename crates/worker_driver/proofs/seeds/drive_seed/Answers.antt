@@ -1,5 +1,5 @@
 use Rattle.worker_driver.proofs.SeedSteps.{seeds_give_steps}
 use Rattle.worker_driver.proofs.seeds.drive_seed.Goals as goal
 
-pub drive-requires : goal.drive-requires
-drive-requires g c = seeds_give_steps g.P.Program.acts
+pub drive-driven-requires : goal.drive-driven-requires
+drive-driven-requires g c = seeds_give_steps g.P.Program.acts

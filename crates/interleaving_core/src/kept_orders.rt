@@ -1,0 +1,60 @@
+//! Whether the parts of a machine keep their lines in rising order. No contract sees it.
+ghost use Rattle.std.specs.Prelude.{◌≡◌};
+
+use crate::machine_state::MachineState;
+use core_pts::Core;
+use llc_bank::Bank;
+
+// All cores keep the lines of their copies in order.
+fn keep_in_cores(cores: &mut [Core])
+    ensures { cores.new ≡ cores.old }
+{
+    for at in 0..cores.len() {
+        cores[at].keep_order();
+    }
+}
+
+// No core keeps them so.
+fn forget_in_cores(cores: &mut [Core])
+    ensures { cores.new ≡ cores.old }
+{
+    for at in 0..cores.len() {
+        cores[at].forget_order();
+    }
+}
+
+// All banks keep the lines that nothing is under way for in order.
+fn keep_in_banks(banks: &mut [Bank])
+    ensures { banks.new ≡ banks.old }
+{
+    for at in 0..banks.len() {
+        banks[at].keep_order();
+    }
+}
+
+// No bank keeps them so.
+fn forget_in_banks(banks: &mut [Bank])
+    ensures { banks.new ≡ banks.old }
+{
+    for at in 0..banks.len() {
+        banks[at].forget_order();
+    }
+}
+
+impl MachineState {
+    // All parts keep their lines in rising order, as far as there is memory.
+    pub(crate) fn keep_order(&mut self)
+        ensures { self.new ≡ self.old }
+    {
+        keep_in_cores(&mut self.cores);
+        keep_in_banks(&mut self.banks);
+    }
+
+    // No part keeps them so.
+    pub(crate) fn forget_order(&mut self)
+        ensures { self.new ≡ self.old }
+    {
+        forget_in_cores(&mut self.cores);
+        forget_in_banks(&mut self.banks);
+    }
+}

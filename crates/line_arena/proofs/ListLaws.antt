@@ -1,14 +1,18 @@
 -- Laws of lists of pairs: what a look-up finds, and what a list is, after each change.
 use Rattle.std.proofs.Common.{◌≡◌, ◌≢◌, ℕ, zero, suc, ◌+◌, ◌<◌, inl, inr, ◌⊎◌, true, true≢false, List, [], ◌∷◌, ◌++◌}
-use Rattle.std.proofs.Common.{map, length, get_or, nat_eq, if◌then◌else◌, Some, None, is_some, refl, sym, ap, ◌∙◌}
+use Rattle.std.proofs.Common.{drop, Option, map, length, get_or, nat_eq, if◌then◌else◌, Some, None, is_some, refl, sym, ap, ◌∙◌}
 use Rattle.std.proofs.Common.{arith, eq-eqb, ne_eqb, length-set, get_or-set_same, get_or-set_other}
 use Rattle.std.proofs.lemmas.Bool.{cases_eq, cases_lt}
-use Rattle.std.proofs.lemmas.List.{get_or-map, get_or_past, length-map}
+use Rattle.std.proofs.lemmas.List.{drop-drop, get_or-map, get_or_past, length-map}
 use Rattle.line_arena.specs.CellLists.{find_cell, or_else, look_up, first_cell, next_in, next_cell, append_to}
 use Rattle.line_arena.specs.CellLists.{without, rewritten}
 use Rattle.line_arena.specs.Arenas.{cell_in, IsOnce}
-use Rattle.line_arena.specs.ListLaws.{LookUpLaws, AppendLaws, WithoutLaws, RewriteLaws}
+use Rattle.line_arena.specs.ListLaws.{IsMet, LookUpLaws, AppendLaws, WithoutLaws, RewriteLaws}
 use Rattle.line_arena.proofs.Seen.{some_of, same_some, look_in}
+
+or_none : (o : Option ℕ) → or_else o None ≡ o
+or_none None = refl
+or_none (Some x) = refl
 
 module _ {A : Type 0} where
   -- one pair, whose cell is looked for or not
@@ -228,6 +232,84 @@ module _ {A : Type 0} where
         let q = place_of x (get_or ls m []) also in absurd (ne (sym (once.once l m p.0 q.0 x p.1 q.1).0))
   ])
 
+  -- a cell that isn't on a list has none after it there
+  next_none : (x : ℕ) (xs : List (ℕ × A)) → find_cell x xs ≡ None → next_in x xs ≡ None
+  next_none x [] h = refl
+  next_none x (a ∷ xs) h = elim (cases_eq a.0 x) [
+    | inl e ↦ let two : Some a.1 ≡ None = sym (here x a xs e) ∙ h in cc
+    | inr ne ↦ ap (λ b. if b then first_cell xs else next_in x xs) (ne_eqb a.0 x ne)
+        ∙ next_none x xs (sym (past x a xs ne) ∙ h)
+  ]
+
+  next_nowhere : (x : ℕ) (ls : List (List (ℕ × A))) → ((m : ℕ) → find_cell x (get_or ls m []) ≡ None) →
+      next_cell x ls ≡ None
+  next_nowhere x [] h = refl
+  next_nowhere x (xs ∷ ls) h =
+      ap (λ o. or_else o (next_cell x ls)) (next_none x xs (h 0)) ∙ next_nowhere x ls (λ m. h (suc m))
+
+  next_on : (x : ℕ) (ls : List (List (ℕ × A))) (l : ℕ) →
+      ((m : ℕ) → m ≢ l → find_cell x (get_or ls m []) ≡ None) → next_cell x ls ≡ next_in x (get_or ls l [])
+  next_on x [] l h = refl
+  next_on x (xs ∷ ls) zero h =
+      ap (λ o. or_else (next_in x xs) o) (next_nowhere x ls (λ m. h (suc m) (λ e. absurd (omega (arith, e)))))
+      ∙ or_none (next_in x xs)
+  next_on x (xs ∷ ls) (suc l) h =
+      ap (λ o. or_else o (next_cell x ls)) (next_none x xs (h 0 (λ e. absurd (omega (arith, e)))))
+      ∙ next_on x ls l (λ m ne. h (suc m) (λ e. ne (omega (arith, e))))
+
+  -- the cell in a place is the first one of what is left from there on
+  cell_at : (xs : List (ℕ × A)) (k c : ℕ) (v : A) (zs : List (ℕ × A)) → drop k xs ≡ (c, v) ∷ zs →
+      cell_in xs k ≡ Some c
+  cell_at [] zero c v zs e = cc
+  cell_at [] (suc k) c v zs e = cc
+  cell_at (b ∷ xs) zero c v zs e = let is : b ≡ (c, v) = cc in ap (λ (p : ℕ × A). Some p.0) is
+  cell_at (b ∷ xs) (suc k) c v zs e = cell_at xs k c v zs e
+
+  at_place : (xs : List (ℕ × A)) (k c : ℕ) (v : A) (zs : List (ℕ × A)) →
+      ((i j : ℕ) → cell_in xs i ≡ Some c → cell_in xs j ≡ Some c → i ≡ j) → drop k xs ≡ (c, v) ∷ zs →
+      (find_cell c xs ≡ Some v) × (next_in c xs ≡ first_cell zs)
+  at_place [] zero c v zs once e = cc
+  at_place [] (suc k) c v zs once e = cc
+  at_place (b ∷ xs) zero c v zs once e =
+      let is : b ≡ (c, v) = cc in let rest : xs ≡ zs = cc in
+      let same : b.0 ≡ c = ap (λ (p : ℕ × A). p.0) is in (
+        here c b xs same ∙ ap (λ (p : ℕ × A). Some p.1) is,
+        ap (λ t. if t then first_cell xs else next_in c xs) (eq-eqb b.0 c same) ∙ ap first_cell rest,
+      )
+  at_place (b ∷ xs) (suc k) c v zs once e =
+      let ne : b.0 ≢ c = λ same. (let two = once 0 (suc k) (ap Some same) (cell_at xs k c v zs e) in
+      absurd (omega (arith, two))) in
+      let rest = at_place xs k c v zs (λ i j p q. (let two = once (suc i) (suc j) p q in omega (arith, two))) e in (
+        past c b xs ne ∙ rest.0,
+        ap (λ t. if t then first_cell xs else next_in c xs) (ne_eqb b.0 c ne) ∙ rest.1,
+      )
+
+  next_here : (ls : List (List (ℕ × A))) (l x : ℕ) → IsOnce ls → is_some (find_cell x (get_or ls l [])) ≡ true →
+      next_cell x ls ≡ next_in x (get_or ls l [])
+  next_here ls l x once some = next_on x ls l (λ m ne. elim (none_or_some x (get_or ls m [])) [
+    | inl none ↦ none
+    | inr also ↦ absurd (ne (one_list ls m l x once also some))
+  ])
+
+  first_left : (ys : List (ℕ × A)) (c : ℕ) → first_cell ys ≡ Some c → (v : A) × (zs : List (ℕ × A))
+      × (ys ≡ (c, v) ∷ zs)
+  first_left [] c e = cc
+  first_left (a ∷ ys) c e = let same : a.0 ≡ c = same_some a.0 c e in (a.1, ys, ap (λ x. (x, a.1) ∷ ys) same)
+
+  is_met : (ls : List (List (ℕ × A))) (l k c : ℕ) → IsOnce ls → first_cell (drop k (get_or ls l [])) ≡ Some c →
+      IsMet ls l k c
+  is_met ls l k c once e =
+      let xs : List (ℕ × A) = get_or ls l [] in
+      let first = first_left (drop k xs) c e in
+      let left : drop (k + 1) xs ≡ first.1 = sym (drop-drop 1 k xs) ∙ ap (drop 1) first.2 in
+      let place = at_place xs k c first.0 first.1 (λ i j p q. (once.once l l i j c p q).1) first.2 in
+      record {
+        value = first.0;
+        is = first.2 ∙ ap (λ us. (c, first.0) ∷ us) (sym left);
+        cell = here_held ls l c first.0 once place.0;
+        next = next_here ls l c once (ap is_some place.0) ∙ place.1 ∙ ap first_cell (sym left);
+      }
+
 pub looked_up : (A : Type 0) → LookUpLaws A
 looked_up A = record {
   front = λ ls l x e. look_some ls l x (first_found x (get_or ls l []) e);
@@ -235,6 +317,8 @@ looked_up A = record {
   on = λ ls x v e. look_in x v ls e;
   here = λ ls l x v once e. here_held ls l x v once e;
   one = λ ls l m x once some also. one_list ls l m x once some also;
+  after = λ ls l x once some. next_here ls l x once some;
+  met = λ ls l k c once e. is_met ls l k c once e;
 }
 
 pub appended : (A : Type 0) → AppendLaws A

@@ -1,8 +1,16 @@
 -- Laws of lists of pairs, each of a cell and what it has, for callers of the arena: what a look-up finds, and what a
 -- list is, after each change.
-use Rattle.std.specs.Prelude.{◌≡◌, ◌≢◌, ℕ, ◌+◌, ◌<◌, List, [], ◌∷◌, ◌++◌, map, length, get_or, IsSome, Some, None}
-use Rattle.line_arena.specs.CellLists.{find_cell, look_up, first_cell, next_cell, append_to, without, rewritten}
+use Rattle.std.specs.Prelude.{◌≡◌, ◌≢◌, ℕ, ◌+◌, ◌<◌, List, [], ◌∷◌, ◌++◌, drop, map, length, get_or, IsSome, Some, None}
+use Rattle.line_arena.specs.CellLists.{find_cell, look_up, first_cell, next_in, next_cell, append_to, without, rewritten}
 use Rattle.line_arena.specs.Arenas.{IsOnce}
+
+module _ {A : Type 0} where
+  -- A cell that a walk of the list l comes to after k others: its value, and the cell that it comes to next.
+  pub record IsMet (ls : List (List (ℕ × A))) (l k c : ℕ) : Type 0 where
+    pub value : A
+    pub is : drop k (get_or ls l []) ≡ (c, value) ∷ drop (k + 1) (get_or ls l [])
+    pub cell : look_up c ls ≡ Some value
+    pub next : next_cell c ls ≡ first_cell (drop (k + 1) (get_or ls l []))
 
 -- What a look-up finds.
 pub record LookUpLaws (A : Type 0) : Type 0 where
@@ -16,6 +24,11 @@ pub record LookUpLaws (A : Type 0) : Type 0 where
       → find_cell x (get_or ls l []) ≡ Some v → look_up x ls ≡ Some v
   pub one : (ls : List (List (ℕ × A))) (l m x : ℕ) → IsOnce ls → IsSome (find_cell x (get_or ls l []))
       → IsSome (find_cell x (get_or ls m [])) → l ≡ m
+  -- If no cell occurs twice, the cell after one on a list is on that list, and a walk of a list comes to all of it.
+  pub after : (ls : List (List (ℕ × A))) (l x : ℕ) → IsOnce ls → IsSome (find_cell x (get_or ls l []))
+      → next_cell x ls ≡ next_in x (get_or ls l [])
+  pub met : (ls : List (List (ℕ × A))) (l k c : ℕ) → IsOnce ls → first_cell (drop k (get_or ls l [])) ≡ Some c
+      → IsMet ls l k c
 
 -- A pair was put at the end of the list l.
 pub record AppendLaws (A : Type 0) : Type 0 where

@@ -4,5 +4,6 @@ mod RisingLists
 mod SlotChanges
 mod StoredMessages
 mod LinkLaws
+mod FirstMessages
 mod StoredChanges
 pub mod Lemmas

@@ -8,9 +8,9 @@ use Rattle.std.proofs.Math.Nat.{mul-le-mul_right}
 use Rattle.network.specs.declared.message.Node.{Node}
 use Rattle.network.specs.declared.message.Node.TheVariants.{Core, Bank, Dram}
 use Rattle.network.specs.declared.message.Message.{Message}
-use Rattle.network.specs.LinkNumbers.{count_links, link_of, has_link, is_on}
+use Rattle.network.specs.LinkNumbers.{count_links, link_of, has_link, has_link_below, is_on, is_below}
 use Rattle.network.specs.Routes.{AllHaveEndpoints, has_endpoints, has_route, is_core_to_bank, is_bank_to_dram}
-use Rattle.network.specs.Search.{first_message, is_between, is_same_node}
+use Rattle.network.specs.Search.{first_message, is_between, is_dram_store, is_same_node, is_store_of}
 use Rattle.network.specs.declared.message.Body.{Body}
 use Rattle.network.specs.declared.message.Body.TheVariants.{ShReq, ExReq, ShRep, ExRep, RenewRep, UpgradeRep}
 use Rattle.network.specs.declared.message.Body.TheVariants.{FlushReq, WbReq, FlushRep, WbRep, DramLd, DramLdRep}
@@ -245,3 +245,14 @@ none-between cores banks from to [] none all = refl
 none-between cores banks from to (x ∷ xs) none all =
     ap (λ b. if b then Some x else first_message (is_between from to) xs)
     (off-link cores banks from to x.1 none all.0) ∙ none-between cores banks from to xs none all.1
+
+-- a message that stores words in DRAM goes over one of the first links
+stored : (cores banks : ℕ) (f t : Node) (body : Body) → has_route cores banks f t body ≡ true →
+    is_dram_store body ≡ true → has_link_below banks (link_of cores banks f t) ≡ true
+stored cores banks f t (DramSt words) h e =
+    let l = out cores banks f t h in ap (has_link_below banks) l.1 ∙ is-less l.0 banks l.2
+stored cores banks f t _ h e = cc
+
+pub store-below : (cores banks line : ℕ) (m : Message) → IsTrue (has_endpoints cores banks m) →
+    is_store_of line m ≡ true → is_below cores banks banks m ≡ true
+store-below cores banks line m here store = stored cores banks m.from m.to m.body here (both _ _ store).1

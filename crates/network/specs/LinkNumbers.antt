@@ -1,5 +1,5 @@
--- The links, by number: those from banks to DRAM come first, then those from DRAM to banks, from cores to banks, and from
--- banks to cores.
+-- The links, by number: those from banks to DRAM come first, then those from DRAM to banks, from cores to banks, and
+-- from banks to cores.
 use Rattle.std.specs.Prelude.{ℕ, ◌+◌, ◌*◌, Bool, false, ◌&&◌, ◌==◌, nat_lt, Option, Some, None, if◌then◌else◌}
 use Rattle.network.specs.declared.message.Node.{Node}
 use Rattle.network.specs.declared.message.Node.TheVariants.{Core, Bank, Dram}
@@ -27,3 +27,12 @@ has_link l (Some k) = k == l
 -- whether a message goes over the link of a number
 abbrev pub is_on : ℕ → ℕ → ℕ → Message → Bool
 is_on cores banks l m = has_link l (link_of cores banks m.from m.to)
+
+-- whether a link has a number below n
+abbrev pub has_link_below : ℕ → Option ℕ → Bool
+has_link_below n None = false
+has_link_below n (Some k) = nat_lt k n
+
+-- whether a message goes over one of the first n links
+abbrev pub is_below : ℕ → ℕ → ℕ → Message → Bool
+is_below cores banks n m = has_link_below n (link_of cores banks m.from m.to)

@@ -1,5 +1,5 @@
 -- Which messages in flight are looked for.
-use Rattle.std.specs.Prelude.{ℕ, ◌+◌, Bool, true, false, ◌&&◌, ◌==◌, List, [], ◌∷◌, Option, Some, None, if◌then◌else◌}
+use Rattle.std.specs.Prelude.{ℕ, ◌+◌, Bool, true, false, ◌&&◌, ◌==◌, nat_lt, List, [], ◌∷◌, Option, Some, None, if◌then◌else◌}
 use Rattle.std.specs.Borrow.{Bor}
 use Rattle.network.specs.declared.message.Node.{Node}
 use Rattle.network.specs.declared.message.Node.TheVariants.{Core, Bank, Dram}
@@ -55,3 +55,9 @@ first_message test (x ∷ xs) = if test x.1 then Some x else first_message test 
 abbrev pub count_messages : (Message → Bool) → List (ℕ × Message) → ℕ
 count_messages test [] = 0
 count_messages test (x ∷ xs) = (if test x.1 then 1 else 0) + count_messages test xs
+
+-- of two messages the one with the lower number, or the one that there is
+abbrev pub earlier : Option (ℕ × Message) → Option (ℕ × Message) → Option (ℕ × Message)
+earlier None o = o
+earlier (Some x) None = Some x
+earlier (Some x) (Some y) = if nat_lt y.0 x.0 then Some y else Some x

@@ -39,6 +39,19 @@ abbrev pub ArePlaced : List (List (ℕ × (ℕ × Message))) → List (ℕ × �
 ArePlaced lists [] = Unit {0}
 ArePlaced lists (x ∷ xs) = ((m : Message) × (look_up x.1 lists ≡ Some (x.0, m))) × ArePlaced lists xs
 
+-- what contracts see of what is stored
+abbrev pub linked_of : ℕ → ℕ → ℕ → ℕ → List (ℕ × Option ℕ) → Lists (ℕ × Message) → Linked
+linked_of cores banks next places slots arena =
+    record {
+      cores = cores;
+      banks = banks;
+      capacity = arena.cells;
+      slots = length slots;
+      room = places;
+      next = next;
+      messages = messages_of arena.lists (still_there slots);
+    }
+
 -- what is true of the lists and of the numbers with their cells: in each cell lies its number with a message, each list
 -- has, in order, the messages of its link, and nothing else is on a list
 pub record AreLinked (cores banks : ℕ) (lists : List (List (ℕ × (ℕ × Message)))) (cells : List (ℕ × ℕ)) : Type 0 where

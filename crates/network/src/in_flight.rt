@@ -231,6 +231,6 @@ impl InFlight {
         ensures { option_copied result ≡ option_map (λ x. x.1) (first_message (is_store_of line)
             self.now.mail.messages) }
     {
-        self.linked.first(&Wanted::StoreOf(line))
+        self.linked.store_of(line)
     }
 }

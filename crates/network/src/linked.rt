@@ -1,17 +1,18 @@
 //! The messages in flight as they lie in memory: each with its number on the list of its link.
 ghost use Rattle.std.specs.Prelude.{◌≡◌, ◌+◌, ◌-◌, ◌*◌, ◌<◌, ◌≤◌, ◌^◌, ◌++◌, ◌∷◌, [], IsTrue, IfOk, IfSome};
-ghost use Rattle.std.specs.Prelude.{length, map, option_copied, option_map, slice_get};
+ghost use Rattle.std.specs.Prelude.{get_or, length, map, option_copied, option_map, slice_get};
 ghost use Rattle.network.specs.SetUp.{IsInRange};
 ghost use Rattle.network.specs.NumberedMessages.{IsRising, at_number, given, still_there, without_number};
 ghost use Rattle.network.specs.Requests.{is_wanted};
 ghost use Rattle.network.specs.Routes.{has_endpoints};
-ghost use Rattle.network.specs.Search.{count_messages, first_message, is_between, kept_if, with_message};
+ghost use Rattle.network.specs.Search.{count_messages, earlier, first_message, is_between, is_store_of};
+ghost use Rattle.network.specs.Search.{kept_if, with_message};
 ghost use Rattle.network.specs.Stored.{ArePlaced, messages_of, at_cell};
 
 use crate::criteria::Wanted;
 use crate::links::{count_links, link_of};
 use crate::message::{Body, Message, Node};
-use crate::numbers::MsgNo;
+use crate::numbers::{LineNo, MsgNo};
 use crate::slots::{Slot, cell_of, drop_empty, nth_number, numbers_of, take_cell, with_room};
 use line_arena::laws::{appended, looked_up, taken_off};
 use line_arena::{Arena, ArenaError, Cell};
@@ -34,13 +35,12 @@ pub struct LinkedMessages {
 }
 
 impl Model for LinkedMessages {
-    ghost use Rattle.std.specs.Prelude.{length, vec_capacity};
-    ghost use Rattle.network.specs.NumberedMessages.{still_there};
-    ghost use Rattle.network.specs.Stored.{IsStored, Linked, messages_of};
+    ghost use Rattle.std.specs.Prelude.{vec_capacity};
+    ghost use Rattle.network.specs.Stored.{IsStored, Linked, linked_of};
 
     ghost Value = { Linked };
 
-    ghost view = { λ a. record { cores = a.cores; banks = a.banks; capacity = a.arena.cells; slots = length a.slots.items; room = vec_capacity a.slots; next = a.next; messages = messages_of a.arena.lists (still_there a.slots.items) } };
+    ghost view = { λ a. linked_of a.cores a.banks a.next (vec_capacity a.slots) a.slots.items a.arena };
 
     ghost invariant = { λ a. IsStored a.cores a.banks a.next a.count (vec_capacity a.slots) a.slots.items a.arena };
 }
@@ -95,6 +95,48 @@ fn count_wanted(arena: &Arena<(u64, Message)>, slots: &[Slot], wanted: &Wanted) 
         }
     }
     count
+}
+
+/// The first message of a list that is looked for, with its number, or `None` where there is none.
+fn first_on<'a>(
+    arena: &'a Arena<(u64, Message)>,
+    list: u32,
+    wanted: &Wanted,
+) -> Option<(u64, &'a Message)>
+    requires { list < length arena.now.lists }
+    ensures { option_map with_message result ≡ first_message (is_wanted wanted.now)
+        (map (λ a. a.1) (get_or arena.now.lists list [])) }
+{
+    looked_up::<(u64, Message)>();
+    let _lists = arena.lists();
+    let count = arena.len(list);
+    let mut next = arena.front(list);
+    for _ in 0..count {
+        let Some(cell) = next else {
+            return None;
+        };
+        let entry = arena.get(cell);
+        if wanted.fits(&entry.1) {
+            return Some((entry.0, &entry.1));
+        }
+        next = arena.next(cell);
+    }
+    None
+}
+
+/// Of two messages the one with the lower number, or the one that there is.
+fn earlier<'a>(
+    one: Option<(u64, &'a Message)>,
+    other: Option<(u64, &'a Message)>,
+) -> Option<(u64, &'a Message)>
+    ensures { option_map with_message result ≡ earlier (option_map with_message one.entry)
+        (option_map with_message other.entry) }
+{
+    match (one, other) {
+        (None, _) => other,
+        (Some(_), None) => one,
+        (Some(first), Some(second)) => if second.0 < first.0 { other } else { one },
+    }
 }
 
 impl LinkedMessages {
@@ -230,6 +272,19 @@ impl LinkedMessages {
             (first_message (is_wanted wanted.now) self.now.messages) }
     {
         let (_, message) = first_wanted(&self.arena, &self.slots, wanted)?;
+        Some(message)
+    }
+
+    /// The first message that stores a line's words in DRAM. Only the links to DRAM are looked at, which are the first.
+    pub(crate) fn store_of(&self, line: LineNo) -> Option<&Message>
+        ensures { option_copied result ≡ option_map (λ x. x.1)
+            (first_message (is_store_of line) self.now.messages) }
+    {
+        let mut found = None;
+        for bank in 0..self.banks {
+            found = earlier(found, first_on(&self.arena, bank, &Wanted::StoreOf(line)));
+        }
+        let (_, message) = found?;
         Some(message)
     }
 

@@ -1,13 +1,13 @@
 use Rattle.std.proofs.Common.{[], drop, get_or, sym, ap, ◌∙◌, ◌+◌}
 use Rattle.std.specs.Option.{is_some}
-use Rattle.line_sets.proofs.Walks.{is-met, line-of, added, not-added}
+use Rattle.line_sets.proofs.Walks.{line-of, added, not-added}
 use Rattle.line_sets.proofs.sets.LineSets.push_listed.Goals.{then-is_listed+in_ok-push, else-is_listed}
 use Rattle.line_sets.proofs.sets.LineSets.push_listed.Goals as goal
 
 pub get-entry-requires : goal.get-entry-requires
 get-entry-requires g c =
     let ls = c.self.inside.arena.lists in
-    let met = is-met ls c.args.set c.loop.counter c.in-Some.cell c.lists-lists.ensures.once c.looked_up.ensures
+    let met = c.looked_up.ensures.met ls c.args.set c.loop.counter c.in-Some.cell c.lists-lists.ensures.once
     (sym c.loop.invariant.0 ∙ c.in-Some.is) in
     ap is_some met.cell
 
@@ -15,7 +15,7 @@ pub loop-preserved : goal.loop-preserved
 loop-preserved g c =
     let ls = c.self.inside.arena.lists in
     let xs = get_or ls c.args.set [] in
-    let met = is-met ls c.args.set c.loop.counter c.in-Some.cell c.lists-lists.ensures.once c.looked_up.ensures
+    let met = c.looked_up.ensures.met ls c.args.set c.loop.counter c.in-Some.cell c.lists-lists.ensures.once
     (sym c.loop.invariant.0 ∙ c.in-Some.is) in
     let e = line-of (drop c.loop.counter xs) c.in-Some.cell c.get-entry.result.now met.value
     (drop (c.loop.counter + 1) xs) met.is (sym c.get-entry.ensures ∙ met.cell) in (

@@ -1,0 +1,3 @@
+pub mod LinkEnds
+pub mod Outboxes
+pub mod Sweeps

@@ -1,0 +1,104 @@
+-- What the calls of a mailbox change.
+use Rattle.std.specs.Prelude.{◌≡◌, ℕ, ◌+◌, ◌*◌, ◌%◌, ◌<◌, Bool, true, false, List, [], ◌∷◌, ◌++◌, length, take}
+use Rattle.std.specs.Prelude.{Option, Some, None, slice_get, remove}
+use Rattle.network.specs.declared.message.Message.{Message}
+use Rattle.seat_rule.specs.declared.views.Hold.{Hold}
+use Rattle.seat_rule.specs.Rule.{node_of}
+use Rattle.seat_rule.specs.Plays.{SamePart, ones}
+use Rattle.mailboxes.specs.declared.machine.Machine.{Machine}
+use Rattle.mailboxes.specs.declared.mailbox.Mailbox.{Mailbox}
+use Rattle.seat_rule.specs.declared.views.SetUp.{SetUp}
+use Rattle.mailboxes.specs.declared.taken.Take.{Take}
+use Rattle.mailboxes.specs.declared.taken.Take.TheVariants.{Taken, Nothing, HandFull}
+use Rattle.mailboxes.specs.Places.{link_to, incoming, incoming_count, found_full, found_empty}
+
+-- what the proofs know of the seat
+abbrev pub hold : Mailbox → Hold
+hold p = p.seat.me.0.mine
+
+-- the seat is one of the machine's
+abbrev pub IsAt : Machine → Mailbox → Type 0
+IsAt m p =
+    (p.seat.table_id ≡ m.table.shared.table_id) × (p.number < m.set_up.config.cores + m.set_up.config.banks)
+    × (p.cores ≡ m.set_up.config.cores) × (p.banks ≡ m.set_up.config.banks)
+
+-- the seat stays that of its number and machine, and its part, operations, records and counts stay
+pub record Stays (p q : Mailbox) : Type 0 where
+  pub table : q.seat.table_id ≡ p.seat.table_id
+  pub number : q.number ≡ p.number
+  pub cores : q.cores ≡ p.cores
+  pub banks : q.banks ≡ p.banks
+  pub part : SamePart (hold p) (hold q)
+
+-- what comes in stays: the hand, the held list, the messages that were taken, and the cursor
+pub record SameIncoming (p q : Mailbox) : Type 0 where
+  pub hand : q.hand ≡ p.hand
+  pub held : q.held.items ≡ p.held.items
+  pub taken : (hold q).taken ≡ (hold p).taken
+  pub cursor : q.cursor ≡ p.cursor
+
+-- what goes out stays: the outbox and the messages that were put; and so do the held list
+pub record SameOutgoing (p q : Mailbox) : Type 0 where
+  pub outbox : q.outbox.items ≡ p.outbox.items
+  pub held : q.held.items ≡ p.held.items
+  pub put : (hold q).put ≡ (hold p).put
+
+-- the message m at i of the outbox was put into the s-th slot of this link, once and unchanged: the slots before were
+-- found full, and this one empty. Before, these looks were made
+abbrev pub PutInto : ℕ → List (ℕ × ℕ) → ℕ → ℕ → Message → Mailbox → Mailbox → Type 0
+PutInto link looks i s m p q =
+    (s < 4) × (slice_get p.outbox.items i ≡ Some m) × (q.outbox.items ≡ remove p.outbox.items i)
+    × ((hold q).put ≡ (hold p).put ++ (4 * link + s, m) ∷ [])
+    × ((hold q).looks ≡ (hold p).looks ++ (looks ++ (ones link s ++ (4 * link + s, 0) ∷ [])))
+    × SameIncoming p q
+
+-- nothing was put, after these looks
+abbrev pub PutNothing : List (ℕ × ℕ) → Mailbox → Mailbox → Type 0
+PutNothing looks p q =
+    ((hold q).looks ≡ (hold p).looks ++ looks) × (q.outbox.items ≡ p.outbox.items) × ((hold q).put ≡ (hold p).put)
+    × SameIncoming p q
+
+-- the message at i was put into a slot of the link, or all four were found full
+abbrev pub PutAt : ℕ → ℕ → Bool → Mailbox → Mailbox → Type 0
+PutAt link i true p q = (s : ℕ) × (m : Message) × PutInto link [] i s m p q
+PutAt link i false p q = PutNothing (ones link 4) p q
+
+-- the oldest message of the outbox whose link has a free slot was put there: the slots of the links of all older ones
+-- were found full. Or nothing was put, and the slots of the links of all messages were found full
+abbrev pub Puts : Bool → Mailbox → Mailbox → Type 0
+Puts true p q =
+    (i : ℕ) × (s : ℕ) × (m : Message) × PutInto (link_to p.cores p.banks p.number m.to)
+    (found_full p.cores p.banks p.number (take i p.outbox.items)) i s m p q
+Puts false p q = PutNothing (found_full p.cores p.banks p.number p.outbox.items) p q
+
+-- the message m of this slot is in the hand: the slot was found full. Before, these looks were made
+abbrev pub TakenFrom : SetUp → List (ℕ × ℕ) → ℕ → Message → Mailbox → Mailbox → Type 0
+TakenFrom z looks k m p q =
+    (q.hand ≡ Some m) × (m.to ≡ node_of z p.number) × ((hold q).taken ≡ (hold p).taken ++ (k, m) ∷ [])
+    × ((hold q).looks ≡ (hold p).looks ++ (looks ++ (k, 1) ∷ [])) × SameOutgoing p q
+
+-- nothing was taken, after these looks
+abbrev pub TakenNothing : List (ℕ × ℕ) → Mailbox → Mailbox → Type 0
+TakenNothing looks p q =
+    ((hold q).looks ≡ (hold p).looks ++ looks) × (q.hand ≡ p.hand) × ((hold q).taken ≡ (hold p).taken)
+    × (q.cursor ≡ p.cursor) × SameOutgoing p q
+
+-- the message of the slot was taken, or the slot was found empty
+abbrev pub TakesAt : SetUp → ℕ → Bool → Mailbox → Mailbox → Type 0
+TakesAt z k true p q = (m : Message) × TakenFrom z [] k m p q × (q.cursor ≡ p.cursor)
+TakesAt z k false p q = TakenNothing ((k, 0) ∷ []) p q
+
+-- with an empty hand, the first slot that comes in and was found full was emptied into the hand, from the cursor on and
+-- going round; the cursor is now behind it. Or all slots that come in were found empty. A full hand stays, and nothing
+-- was looked at
+abbrev pub Takes : SetUp → Take → Mailbox → Mailbox → Type 0
+Takes z Taken p q =
+    let count = incoming_count p.cores p.banks p.number in
+    (p.hand ≡ None) × ((n : ℕ) × (m : Message) × (n < count)
+    × TakenFrom z (found_empty p.cores p.banks p.number p.cursor n)
+    (incoming p.cores p.banks p.number ((p.cursor + n) % count)) m p q
+    × (q.cursor ≡ ((p.cursor + n) % count + 1) % count))
+Takes z Nothing p q =
+    (p.hand ≡ None)
+    × TakenNothing (found_empty p.cores p.banks p.number p.cursor (incoming_count p.cores p.banks p.number)) p q
+Takes z HandFull p q = ((m : Message) × (p.hand ≡ Some m)) × (hold q ≡ hold p) × (q.cursor ≡ p.cursor)

@@ -1,0 +1,3 @@
+pub mod BoxMoves
+pub mod Places
+pub mod Ties

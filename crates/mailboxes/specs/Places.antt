@@ -1,0 +1,65 @@
+-- Where a seat is among the others: at which table, at which links, and which slots come in to it.
+use Rattle.std.specs.Prelude.{◌≡◌, ℕ, zero, suc, ◌+◌, ◌-◌, ◌*◌, ◌/◌, ◌%◌, ◌<◌, ◌≤◌, ◌&&◌, Bool, true}
+use Rattle.std.specs.Prelude.{false, cond, nat_lt, nat_le, List, [], ◌∷◌, ◌++◌, Option, Some, slice_get}
+use Rattle.atomic_table.specs.Seated.{TableId}
+use Rattle.network.specs.declared.message.Node.{Node}
+use Rattle.network.specs.declared.message.Node.TheVariants.{Core, Bank, Dram}
+use Rattle.network.specs.declared.message.Message.{Message}
+use Rattle.seat_rule.specs.declared.views.SetUp.{SetUp}
+use Rattle.seat_rule.specs.Rule.{slot_count, source, to_of}
+use Rattle.seat_rule.specs.Plays.{ones}
+
+-- the seat is of the table, which has a word for each slot, and one that counts completions
+abbrev pub Belongs : TableId → TableId → SetUp → Type 0
+Belongs seat table z = (seat ≡ table) × (table.words ≡ slot_count z + 1) × (table.slots ≡ slot_count z)
+
+-- the link is one of the machine, which has few, and starts at the seat
+abbrev pub StartsAt : SetUp → ℕ → ℕ → Type 0
+StartsAt z link number = (4 * link + 4 ≤ slot_count z) × (slot_count z ≤ 4096) × (source z link ≡ number)
+
+-- the slot is one of the machine, and comes in to the seat
+abbrev pub EndsAt : SetUp → ℕ → ℕ → Type 0
+EndsAt z slot number = (slot < slot_count z) × (to_of z slot ≡ number)
+
+-- whether there is a link from the seat of a number to a node: cores have links to banks, and banks to cores
+abbrev pub has_link : ℕ → ℕ → ℕ → Node → Bool
+has_link cores banks number (Core c) = nat_le cores number && nat_lt c cores
+has_link cores banks number (Bank b) = nat_lt number cores && nat_lt b banks
+has_link cores banks number (Dram d) = false
+
+-- its number: first come the links from core to bank, by core, and then those from bank to core, by bank
+abbrev pub link_to : ℕ → ℕ → ℕ → Node → ℕ
+link_to cores banks number (Core c) = cores * banks + ((number - cores) * cores + c)
+link_to cores banks number (Bank b) = number * banks + b
+link_to cores banks number (Dram d) = 0
+
+-- there is a link from the seat to where each of these messages goes
+abbrev pub AllLinked : ℕ → ℕ → ℕ → List Message → Type 0
+AllLinked cores banks number ms =
+    (i : ℕ) (m : Message) → slice_get ms i ≡ Some m → has_link cores banks number m.to ≡ true
+
+-- how many slots come in to a seat: four on each link, one from each bank to a core, and one from each core to a bank
+abbrev pub incoming_count : ℕ → ℕ → ℕ → ℕ
+incoming_count cores banks number = 4 * cond (nat_lt number cores) banks cores
+
+-- the link to a seat from the core or bank of this number
+abbrev pub incoming_link : ℕ → ℕ → ℕ → ℕ → ℕ
+incoming_link cores banks number i =
+    cond (nat_lt number cores) (cores * banks + (i * cores + number)) (i * banks + (number - cores))
+
+-- the slots that come in to a seat, in their order
+abbrev pub incoming : ℕ → ℕ → ℕ → ℕ → ℕ
+incoming cores banks number i = 4 * incoming_link cores banks number (i / 4) + i % 4
+
+-- all four slots of the link of each message were found full, one message after the other
+abbrev pub found_full : ℕ → ℕ → ℕ → List Message → List (ℕ × ℕ)
+found_full cores banks number [] = []
+found_full cores banks number (m ∷ ms) =
+    ones (link_to cores banks number m.to) 4 ++ found_full cores banks number ms
+
+-- n incoming slots from this one on, going round, were found empty
+abbrev pub found_empty : ℕ → ℕ → ℕ → ℕ → ℕ → List (ℕ × ℕ)
+found_empty cores banks number start zero = []
+found_empty cores banks number start (suc n) =
+    found_empty cores banks number start n
+    ++ (incoming cores banks number ((start + n) % incoming_count cores banks number), 0) ∷ []

@@ -1,0 +1,79 @@
+//! The links of a seat: which one goes to a node, and which slots come in.
+ghost use Rattle.std.specs.Prelude.{◌≡◌, ◌+◌, ◌*◌, ◌≤◌, ◌<◌, true};
+ghost use Rattle.machine_table.specs.SetUp.{is_good};
+ghost use Rattle.seat_rule.specs.declared.views.SetUp.{SetUp};
+ghost use Rattle.seat_rule.specs.Rule.{slot_count, source, target, node_of, to_of};
+ghost use Rattle.mailboxes.specs.Places.{has_link, link_to, incoming, incoming_count, incoming_link};
+
+use machine_table::Config;
+use network::Node;
+
+/// The number of the link from a seat to a node.
+pub fn link_to(config: &Config, number: u32, to: &Node) -> usize
+    requires good { is_good config.now ≡ true }
+    requires number { number < config.now.cores + config.now.banks }
+    requires link { has_link config.now.cores config.now.banks number to.now ≡ true }
+    ensures link { result ≡ link_to config.now.cores config.now.banks number to.now }
+    ensures within { 4 * result + 4 ≤ 8 * config.now.cores * config.now.banks }
+    ensures ends { (z : SetUp) → z.config ≡ config.now →
+        (source z result ≡ number) × (to.now ≡ node_of z (target z result)) }
+{
+    let cores = config.cores as usize;
+    let banks = config.banks as usize;
+    match to {
+        Node::Core(core) => cores * banks + ((number as usize - cores) * cores + *core as usize),
+        Node::Bank(bank) => number as usize * banks + *bank as usize,
+        Node::Dram(_) => unreachable!(),
+    }
+}
+
+/// A machine that is well set up has at most 4,096 slots.
+pub fn slots_are_few(config: &Config)
+    requires { is_good config.now ≡ true }
+    ensures { 8 * config.now.cores * config.now.banks ≤ 4096 }
+{}
+
+/// How many slots come in to a seat.
+pub fn incoming_count(config: &Config, number: u32) -> usize
+    requires { is_good config.now ≡ true }
+    ensures count { result ≡ incoming_count config.now.cores config.now.banks number }
+    ensures within { (4 ≤ result) × (result ≤ 256) }
+{
+    let ends = if number < config.cores {
+        config.banks
+    } else {
+        config.cores
+    };
+    4 * ends as usize
+}
+
+// The link to a seat from the core or bank of this number.
+fn incoming_link(config: &Config, number: u32, from: usize) -> usize
+    requires good { is_good config.now ≡ true }
+    requires number { number < config.now.cores + config.now.banks }
+    requires from { 4 * from < incoming_count config.now.cores config.now.banks number }
+    ensures link { result ≡ incoming_link config.now.cores config.now.banks number from }
+    ensures within { 4 * result + 4 ≤ 8 * config.now.cores * config.now.banks }
+    ensures end { (z : SetUp) → z.config ≡ config.now → target z result ≡ number }
+{
+    let cores = config.cores as usize;
+    let banks = config.banks as usize;
+    let at = number as usize;
+    if number < config.cores {
+        cores * banks + (from * cores + at)
+    } else {
+        from * banks + (at - cores)
+    }
+}
+
+/// A slot that comes in to a seat, by its place among them.
+pub fn incoming(config: &Config, number: u32, place: usize) -> usize
+    requires good { is_good config.now ≡ true }
+    requires number { number < config.now.cores + config.now.banks }
+    requires place { place < incoming_count config.now.cores config.now.banks number }
+    ensures slot { result ≡ incoming config.now.cores config.now.banks number place }
+    ensures within { result < 8 * config.now.cores * config.now.banks }
+    ensures end { (z : SetUp) → z.config ≡ config.now → to_of z result ≡ number }
+{
+    4 * incoming_link(config, number, place / 4) + place % 4
+}

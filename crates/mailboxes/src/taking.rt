@@ -1,0 +1,71 @@
+//! A seat takes messages out of slots.
+ghost use Rattle.std.specs.Prelude.{◌≡◌, ◌<◌, ◌≤◌, None};
+ghost use Rattle.mailboxes.specs.Places.{EndsAt, incoming, incoming_count};
+ghost use Rattle.mailboxes.specs.BoxMoves.{IsAt, Stays, TakesAt, Takes};
+
+use crate::ends::{incoming, incoming_count};
+use crate::machine::Machine;
+use crate::mailbox::Mailbox;
+use crate::steps::{look_in, receive};
+use crate::taken::Take;
+use network::Body;
+
+impl Mailbox {
+    /// Takes the message of the first slot that comes in and is found full into the hand, from the cursor on and going
+    /// round.
+    pub fn take(&mut self, machine: &Machine) -> Take
+        requires { IsAt machine.now self.old }
+        ensures seat { IsAt machine.now self.new × Stays self.old self.new }
+        ensures taken { Takes machine.now.set_up result self.old self.new }
+    {
+        if self.hand.is_some() {
+            return Take::HandFull;
+        }
+        let count = self.slots_in(machine);
+        for n in 0..count {
+            let place = (self.cursor + n) % count;
+            let slot = self.slot_at(machine, place);
+            if self.take_at(machine, slot) {
+                self.cursor = (place + 1) % count;
+                return Take::Taken;
+            }
+        }
+        Take::Nothing
+    }
+
+    // How many slots come in.
+    fn slots_in(&self, machine: &Machine) -> usize
+        requires { IsAt machine.now self.now }
+        ensures count { result ≡ incoming_count self.now.cores self.now.banks self.now.number }
+        ensures within { (4 ≤ result) × (result ≤ 256) }
+    {
+        incoming_count(&machine.set_up.config, self.number)
+    }
+
+    // The slot of a place among those that come in.
+    fn slot_at(&self, machine: &Machine, place: usize) -> usize
+        requires seat { IsAt machine.now self.now }
+        requires place { place < incoming_count self.now.cores self.now.banks self.now.number }
+        ensures slot { result ≡ incoming self.now.cores self.now.banks self.now.number place }
+        ensures end { EndsAt machine.now.set_up result self.now.number }
+    {
+        incoming(&machine.set_up.config, self.number, place)
+    }
+
+    // Takes the message of a slot into the empty hand.
+    fn take_at(&mut self, machine: &Machine, slot: usize) -> bool
+        requires seat { IsAt machine.now self.old }
+        requires slot { EndsAt machine.now.set_up slot self.old.number }
+        requires hand { self.old.hand ≡ None }
+        ensures seat { IsAt machine.now self.new × Stays self.old self.new }
+        ensures taken { TakesAt machine.now.set_up slot result self.old self.new }
+    {
+        if look_in(&machine.table.shared, &mut self.seat, slot) == 0 {
+            return false;
+        }
+        let message = receive(&machine.table.shared, &mut self.seat, slot);
+        let _body: Body = message.body;
+        self.hand = Some(message);
+        true
+    }
+}

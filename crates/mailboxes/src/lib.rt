@@ -2,7 +2,6 @@
 #![tactic(auto)]
 
 mod ends;
-mod laws;
 mod links;
 mod machine;
 mod mailbox;

@@ -10,3 +10,4 @@ mod ReachedStates
 mod Ownership
 mod InitialStates
 mod ReachedParts
+mod StayingParts

@@ -1,5 +1,6 @@
 //! What moves are and reach: events and histories of machines, and states that are consistent.
-ghost use Rattle.std.specs.Prelude.{◌≡◌, ℕ, ◌+◌, ◌-◌, ◌^◌, ◌<◌, true, List, length, Option, Some, slice_get};
+ghost use Rattle.std.specs.Prelude.{◌≡◌, ◌≢◌, ℕ, ◌+◌, ◌-◌, ◌^◌, ◌<◌, true, List, length, Option, Some};
+ghost use Rattle.std.specs.Prelude.{slice_get};
 ghost use Rattle.std.specs.List.{AllByRecursion};
 ghost use Rattle.std.specs.Ordering.{nat_cmp};
 ghost use Rattle.std.specs.FinMap.{FinMap};
@@ -7,6 +8,10 @@ ghost use Rattle.physiological_order.specs.declared.operation.Op.{Op};
 ghost use Rattle.physiological_order.specs.declared.operation.Record.{Record};
 ghost use Rattle.physiological_order.specs.Order.{of_core};
 ghost use Rattle.network.specs.declared.message.Message.{Message};
+ghost use Rattle.network.specs.declared.part.Reaction.TheVariants.{Done, Dropped, Held, HeldAfter};
+ghost use Rattle.core_pts.specs.CoreTable.{CoreState, core_table};
+ghost use Rattle.llc_bank.specs.BankTable.{BankState, bank_table, bank_has_case};
+ghost use Rattle.dram_mts.specs.Table.{dram_table, dram_has_case};
 ghost use Rattle.protocol.specs.Issued.{IsIssued, listed};
 ghost use Rattle.machine_table.specs.declared.config.Config.{Config};
 ghost use Rattle.machine_table.specs.declared.event.Event.{Event};
@@ -164,3 +169,26 @@ pub fn reached_parts_have_their_shape()
 {
     laws_of_machines();
 }
+
+/// A core that holds or drops a message stays as it is, and it starts nothing on behalf of one.
+pub fn waiting_cores_stay()
+    ensures held { (core after : CoreState) (message : Message) →
+        core_table core message ≡ Some (Held, after) → after ≡ core }
+    ensures dropped { (core after : CoreState) (message : Message) →
+        core_table core message ≡ Some (Dropped, after) → after ≡ core }
+    ensures started { (core after : CoreState) (message started : Message) →
+        core_table core message ≢ Some (HeldAfter started, after) }
+{}
+
+/// A bank that holds a message stays as it is, and it drops none that it has a case for; a DRAM answers each that it has
+/// a case for.
+pub fn waiting_banks_stay()
+    ensures held { (bank after : BankState) (message : Message) →
+        bank_table bank message ≡ Some (Held, after) → after ≡ bank }
+    ensures dropped { (bank after : BankState) (message : Message) →
+        bank_has_case bank message ≡ true → bank_table bank message ≢ Some (Dropped, after) }
+    ensures answered { (lines : FinMap nat_cmp (List ℕ)) (message : Message) →
+        dram_has_case lines message ≡ true →
+        (answer : Message) × (after : FinMap nat_cmp (List ℕ)) ×
+        (dram_table lines message ≡ Some (Done (Some answer), after)) }
+{}

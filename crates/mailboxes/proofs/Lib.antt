@@ -1,3 +1,4 @@
+pub mod DramWords
 pub mod LinkEnds
 pub mod Outboxes
 pub mod Sweeps

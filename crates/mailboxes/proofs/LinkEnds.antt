@@ -42,8 +42,7 @@ unfolding source target
 down_link z c b lc lb =
     let cores : ℕ = z.config.cores in
     let banks : ℕ = z.config.banks in
-    let t = lt-ltb (c * banks + b) (cores * banks) (down_below cores banks c b lc lb) in
-    (
+    let t = lt-ltb (c * banks + b) (cores * banks) (down_below cores banks c b lc lb) in (
       rw t (div-mul-add c banks b lb),
       rw t (ap (λ k. cores + k) (mul-add-mod_self_right c banks b ∙ mod-eq_of_lt lb)),
     )
@@ -58,8 +57,7 @@ up_link z b c lb lc =
     let p : ℕ = cores * z.config.banks in
     let k : ℕ = b * cores + c in
     let t = le-ltb (p + k) p (omega arith) in
-    let back : (p + k) - p ≡ k = omega arith in
-    (
+    let back : (p + k) - p ≡ k = omega arith in (
       rw (t, back) (ap (λ q. cores + q) (div-mul-add b cores c lc)),
       rw (t, back) (mul-add-mod_self_right b cores c ∙ mod-eq_of_lt lc),
     )
@@ -114,7 +112,7 @@ few_ends : (cores banks number from : ℕ) (is_core : Bool) → ltb number cores
     4 * from < incoming_count cores banks number → from < cond is_core banks cores
 few_ends cores banks number from is_core t few =
     let f : 4 * from < 4 * cond is_core banks cores =
-        subst (λ b. 4 * from < 4 * cond b banks cores) t few in
+    subst (λ b. 4 * from < 4 * cond b banks cores) t few in
     omega arith
 
 pub core_in : (cores banks number from : ℕ) → number < cores → 4 * from < incoming_count cores banks number →

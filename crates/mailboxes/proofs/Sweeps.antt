@@ -65,13 +65,12 @@ swept_more p q r i link m here is n t =
     let ms : List Message = p.outbox.items in
     let before : List Message = take i ms in
     let one : take (i + 1) ms ≡ before ++ m ∷ [] =
-        take_more ms i m (slice_get_within ms i m here)
-        ∙ ap (λ x. before ++ x ∷ []) (get_or_from_slice_get ms i m m here) in
+    take_more ms i m (slice_get_within ms i m here)
+    ∙ ap (λ x. before ++ x ∷ []) (get_or_from_slice_get ms i m m here) in
     let more : found_full p.cores p.banks p.number (take (i + 1) ms) ≡
-        found_full p.cores p.banks p.number before ++ ones link 4 =
-        ap (found_full p.cores p.banks p.number) one ∙ full_more p.cores p.banks p.number before m
-        ∙ ap (λ l. found_full p.cores p.banks p.number before ++ ones l 4) (sym is) in
-    (
+    found_full p.cores p.banks p.number before ++ ones link 4 =
+    ap (found_full p.cores p.banks p.number) one ∙ full_more p.cores p.banks p.number before m
+    ∙ ap (λ l. found_full p.cores p.banks p.number before ++ ones l 4) (sym is) in (
       t.0 ∙ ap (λ xs. xs ++ ones link 4) n.0
           ∙ append_assoc (hold p).looks (found_full p.cores p.banks p.number before) (ones link 4)
           ∙ ap (λ xs. (hold p).looks ++ xs) (sym more),
@@ -84,8 +83,7 @@ swept_more p q r i link m here is n t =
 pub put_more : (p q r : Mailbox) (looks : List (ℕ × ℕ)) (i s link own : ℕ) (m : Message) → link ≡ own →
     PutNothing looks p q → PutInto link [] i s m q r → PutInto own looks i s m p r
 put_more p q r looks i s link own m is n t =
-    subst (λ l. PutInto l looks i s m p r) is
-    (
+    subst (λ l. PutInto l looks i s m p r) is (
       t.0,
       ap (λ xs. slice_get xs i) (sym n.1) ∙ t.1,
       t.2 ∙ ap (λ xs. remove xs i) n.1,

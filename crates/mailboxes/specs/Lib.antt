@@ -1,3 +1,4 @@
 pub mod BoxMoves
 pub mod Places
+pub mod Seats
 pub mod Ties

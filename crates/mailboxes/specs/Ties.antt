@@ -18,14 +18,14 @@ Chair = Seat (Option Message) (View Hold)
 
 -- no slot is out with the seat, and the number and the messages that are stored are what the view has
 pub record BoxTied (chair : Chair) (n : ℕ) (out : List Message) (h : Option Message) (waiting : List Message) : Type 0
-    where
-  pub number : chair.me.0.number ≡ n
-  pub live : chair.me.0.spent ≡ false
-  pub none_out : chair.me.1 ≡ []
-  pub idle : chair.me.0.mine.stage ≡ Idle
-  pub outbox : chair.me.0.mine.outbox ≡ out
-  pub hand : chair.me.0.mine.hand ≡ h
-  pub held : chair.me.0.mine.held ≡ waiting
+  where
+    pub number : chair.me.0.number ≡ n
+    pub live : chair.me.0.spent ≡ false
+    pub none_out : chair.me.1 ≡ []
+    pub idle : chair.me.0.mine.stage ≡ Idle
+    pub outbox : chair.me.0.mine.outbox ≡ out
+    pub hand : chair.me.0.mine.hand ≡ h
+    pub held : chair.me.0.mine.held ≡ waiting
 
 -- the core, its operations, its records and the counts that are stored are what the view has
 pub record CoreTied (a : Hold) (p : CoreState) (ops : List Op) (rs : List Record) (cs : Counts) : Type 0 where

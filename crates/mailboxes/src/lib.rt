@@ -1,12 +1,21 @@
 //! The shared machine: seats that threads drive without a lock.
 #![tactic(auto)]
 
+mod bank_seat;
+mod core_seat;
 mod ends;
-mod laws;
 mod links;
 mod machine;
 mod mailbox;
+mod opened_dram;
 mod putting;
+mod seat_calls;
 mod steps;
 mod taken;
 mod taking;
+
+pub use bank_seat::BankSeat;
+pub use core_seat::CoreSeat;
+pub use machine::Machine;
+pub use mailbox::Mailbox;
+pub use taken::Take;

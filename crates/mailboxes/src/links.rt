@@ -18,11 +18,12 @@ pub fn find_free(desk: &Desk, seat: &mut Chair, link: usize) -> Option<usize>
     ensures desk { (seat.new.table_id ≡ seat.old.table_id) × (seat.new.id ≡ seat.old.id) }
     ensures found { MatchOption result
         (seat.new.me ≡
-          (with_hold seat.old.me.0 (looking seat.old.me.0.mine (ones link 4) Idle), []))
-        (λ k. (s : ℕ) × (s < 4) × (k ≡ 4 * link + s) × (seat.new.me ≡
-          (with_hold seat.old.me.0
-            (looking seat.old.me.0.mine (ones link s ++ (k, 0) ∷ []) (Writing k)),
-          (k, None) ∷ []))) }
+        (with_hold seat.old.me.0 (looking seat.old.me.0.mine (ones link 4) Idle), []))
+        (λ k. (s : ℕ) × (s < 4) × (k ≡ 4 * link + s) × (seat.new.me ≡ (
+          with_hold seat.old.me.0
+              (looking seat.old.me.0.mine (ones link s ++ (k, 0) ∷ []) (Writing k)),
+          (k, None) ∷ [],
+        ))) }
 {
     for s in 0..4 {
         let slot = 4 * link + s;

@@ -13,9 +13,11 @@ ghost use Rattle.seat_rule.specs.Rule.{opening_hold, no_hold, no_set_up};
 ghost use Rattle.seat_rule.specs.Plays.{saw_out, saw_in, gave, put_hold, take_hold, Standing};
 ghost use Rattle.mailboxes.specs.Places.{Belongs};
 
-use crate::laws::laws_of_states;
 use atomic_table::{Join, Play, Seat, Shared, Split, TableRule};
 use network::{Body, Message};
+use seat_rule::laws::{
+    looks_keep_the_rule, made_and_joined_seats_keep_the_rule, puts_and_takes_keep_the_rule,
+};
 use seat_rule::{Hold, SetUp};
 use seating::View;
 use std::marker::{Brand, PhantomData};
@@ -104,6 +106,7 @@ pub fn look_out(desk: &Desk, seat: &mut Chair, slot: usize) -> u64
     ensures desk { (seat.new.table_id ≡ seat.old.table_id) × (seat.new.id ≡ seat.old.id) }
     ensures saw { saw_out (step 0 slot 0 0 none) seat.old.me result seat.new.me }
 {
+    looks_keep_the_rule();
     desk.load::<LookOut>(seat, slot)
 }
 
@@ -129,6 +132,7 @@ fn looked_in<C: Aim>(desk: &Desk, seat: &mut Chair, slot: usize) -> u64
     ensures desk { (seat.new.table_id ≡ seat.old.table_id) × (seat.new.id ≡ seat.old.id) }
     ensures saw { saw_in C.set_up (step 0 slot 0 0 none) seat.old.me result seat.new.me }
 {
+    looks_keep_the_rule();
     desk.load::<LookIn<C>>(seat, slot)
 }
 
@@ -175,6 +179,7 @@ fn sent<C: Aim>(desk: &Desk, seat: &mut Chair, slot: usize, message: Message, in
     ensures sent { (seat.new.me ≡ (C.to, [])) ×
         Standing C.set_up (seat_count C.set_up) C.to.number C.to.mine }
 {
+    puts_and_takes_keep_the_rule();
     match desk.exchange(seat, slot, Some(message)) {
         None => {}
         Some(_) => unreachable!(),
@@ -213,6 +218,7 @@ fn received<C: Aim>(desk: &Desk, seat: &mut Chair, slot: usize, message: Message
     ensures taken { (seat.new.me ≡ (C.to, [])) ×
         Standing C.set_up (seat_count C.set_up) C.to.number C.to.mine }
 {
+    puts_and_takes_keep_the_rule();
     give::<C>(desk, seat, slot, 0);
     message
 }
@@ -240,7 +246,7 @@ fn make_as<C: Aim>(desk: &Desk, first: &mut Chair) -> Chair
     ensures made { (first.new.me ≡ (one_more first.old.me.0, first.old.me.1)) × (result.me ≡
         (seat_view first.old.me.0.made (opening_hold C.set_up first.old.me.0.made), [])) }
 {
-    laws_of_states();
+    made_and_joined_seats_keep_the_rule();
     desk.split_seat::<Maker<C>>(first)
 }
 
@@ -253,6 +259,6 @@ pub fn meet(desk: &Desk, seat: &mut Chair, other: Chair)
     ensures desk { (seat.new.table_id ≡ seat.old.table_id) × (seat.new.id ≡ seat.old.id) }
     ensures met { seat.new.me ≡ (knows seat.old.me.0 other.me.0, seat.old.me.1) }
 {
-    laws_of_states();
+    made_and_joined_seats_keep_the_rule();
     desk.join_seat::<Meeting>(seat, other);
 }

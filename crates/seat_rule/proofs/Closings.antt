@@ -120,16 +120,15 @@ of_link false writing = refl
 of_link false (full m) = refl
 of_link false (reading m) = refl
 
--- on a link, no more messages were taken than put, and at most four more were put
-pub link_balance : (z : SetUp) (seats : ℕ → Hold) (phases : ℕ → Phase) (log : List Record) →
+-- on a link, at most four more messages were put than taken
+pub at_most_four_lie : (z : SetUp) (seats : ℕ → Hold) (phases : ℕ → Phase) (log : List Record) →
     Whole z seats phases log → (link : ℕ) →
-    let taken = over (seat_count z) (λ j. on_link link (seats j).taken) in
-    let put = over (seat_count z) (λ j. on_link link (seats j).put) in
-    (taken ≤ put) × (put ≤ taken + 4)
-link_balance z seats phases log whole link =
+    over (seat_count z) (λ j. on_link link (seats j).put) ≤
+    over (seat_count z) (λ j. on_link link (seats j).taken) + 4
+at_most_four_lie z seats phases log whole link =
     let a = whole.links (λ l m. cond (eqb l link) 1 0) in
     let w : ℕ → ℕ = λ k. weigh (λ (m : Message). 1) (content (phases k)) in
     let e = over_same (slot_count z) (λ k. weigh (λ (m : Message). cond (eqb (k / 4) link) 1 0) (content (phases k)))
     (λ k. cond (eqb (k / 4) link) (w k) 0) (λ k l. of_link (eqb (k / 4) link) (phases k)) in
     let b = (at_most_four link (slot_count z) w (λ k. at_most_one (phases k))).1 in
-    (omega arith, omega arith)
+    omega arith

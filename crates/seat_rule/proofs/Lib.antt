@@ -1,11 +1,11 @@
-pub mod Closings
-pub mod CountSums
-pub mod CountSteps
-pub mod Frames
-pub mod Openings
-pub mod Phases
-pub mod SeatMoves
-pub mod Seats
-pub mod SetUps
-pub mod SlotSteps
-pub mod Weights
+mod Closings
+mod CountSums
+mod CountSteps
+mod Frames
+mod Openings
+mod Phases
+mod SeatMoves
+mod Seats
+mod SetUps
+mod SlotSteps
+mod Weights

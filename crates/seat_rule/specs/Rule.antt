@@ -114,6 +114,7 @@ Addressed goes k (reading m) = m.to ≡ goes k
 abbrev pub bag_of : Hold → List Message
 bag_of h = h.outbox ++ (option_to_list h.hand ++ h.held)
 
+-- nothing was counted
 abbrev pub no_counts : Counts
 no_counts = no_mail.counts
 
@@ -136,7 +137,7 @@ opening_hold z j = record {
   stage = Idle;
 }
 
--- what is left of a seat that was joined to another: any constant
+-- a set-up, and with it what is left of a seat that was joined to another: any constants
 abbrev pub no_set_up : SetUp
 no_set_up = record {
   config = record {
@@ -194,6 +195,7 @@ Reaches z n seats bag log = Reached z.config z.memory (state_of z n seats bag lo
 abbrev pub in_flight : ℕ → ℕ → (ℕ → Hold) → (ℕ → Phase) → List Message
 in_flight n slots seats phases = gather n (λ j. bag_of (seats j)) ++ gather slots (λ k. content (phases k))
 
+-- the one list is a beginning of the other
 abbrev pub IsPrefix : List Record → List Record → Type 0
 IsPrefix xs ys = (rest : List Record) × (ys ≡ xs ++ rest)
 

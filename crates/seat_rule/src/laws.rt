@@ -20,6 +20,7 @@ ghost use Rattle.seat_rule.specs.declared.views.Hold.{Hold};
 ghost use Rattle.seat_rule.specs.StateLaws.{StateLaws};
 ghost use Rattle.seat_rule.specs.Rule.{Holds, Phase, Changes, seat_count, slot_count};
 ghost use Rattle.seat_rule.specs.Rule.{from_of, to_of, node_of, opening_hold, no_hold};
+ghost use Rattle.seat_rule.specs.Rule.{weigh_links};
 ghost use Rattle.seat_rule.specs.Plays.{SeatState, saw_out, saw_in, gave, Serves, stood, finished};
 ghost use Rattle.seat_rule.specs.Plays.{put_hold, take_hold};
 ghost use Rattle.seat_rule.specs.Ended.{Whole, Closes, on_link};
@@ -136,11 +137,15 @@ pub fn closed_machines_are_one_state()
     laws_of_states();
 }
 
-/// At the end, on each link, no more messages were taken than put, and at most four more were put than taken.
-pub fn links_keep_at_most_four()
-    ensures { (z : SetUp) (seats : ℕ → Hold) (phases : ℕ → Phase) (log : List Record) →
+/// At the end, on each link: no message was taken more often than it was put, whatever each message weighs; and at most
+/// four more messages were put than taken.
+pub fn links_lose_and_double_nothing()
+    ensures taken { (z : SetUp) (seats : ℕ → Hold) (phases : ℕ → Phase) (log : List Record) →
+        Whole z seats phases log → (weight : ℕ → Message → ℕ) →
+        over (seat_count z) (λ j. weigh_links weight (seats j).taken) ≤
+        over (seat_count z) (λ j. weigh_links weight (seats j).put) }
+    ensures lying { (z : SetUp) (seats : ℕ → Hold) (phases : ℕ → Phase) (log : List Record) →
         Whole z seats phases log → (link : ℕ) →
-        let taken = over (seat_count z) (λ j. on_link link (seats j).taken) in
-        let put = over (seat_count z) (λ j. on_link link (seats j).put) in
-        (taken ≤ put) × (put ≤ taken + 4) }
+        over (seat_count z) (λ j. on_link link (seats j).put) ≤
+        over (seat_count z) (λ j. on_link link (seats j).taken) + 4 }
 {}

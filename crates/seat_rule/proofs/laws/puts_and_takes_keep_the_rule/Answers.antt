@@ -1,4 +1,4 @@
-use Rattle.std.proofs.Common.{ℕ, ◌∷◌, Option, Some, None, sym, refl, ap, ◌∙◌, subst}
+use Rattle.std.proofs.Common.{ℕ, ◌∷◌, Some, None, sym, refl, ap, ◌∙◌, subst}
 use Rattle.atomic_table.specs.Table.{rest, Allows}
 use Rattle.seating.specs.declared.views.View.{View}
 use Rattle.seat_rule.specs.declared.views.SetUp.{SetUp}

@@ -12,8 +12,7 @@ returns-then-put_at-clause-put c =
     let i = c.loop-index.invariant in
     let m = c.link_at-link.ensures.message in
     let t = c.if-put_at.ensures.put in
-    let same : t.1 ≡ m.0 = some_is (sym t.2.1 ∙ m.1) in
-    (
+    let same : t.1 ≡ m.0 = some_is (sym t.2.1 ∙ m.1) in (
       c.loop-index.index,
       t.0,
       t.1,
@@ -30,8 +29,7 @@ loop-index-preserved c =
     let p = c.args.self.now in
     let i = c.loop-index.invariant in
     let m = c.link_at-link.ensures.message in
-    let seat = c.put_at.ensures.seat in
-    (
+    let seat = c.put_at.ensures.seat in (
       seat.0,
       stays_on p c.loop-index.self c.put_at.new.self i.1 seat.1,
       swept_more p c.loop-index.self c.put_at.new.self c.loop-index.index c.link_at-link.result m.0

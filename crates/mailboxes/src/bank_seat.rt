@@ -1,0 +1,80 @@
+//! A bank's seat with what it stores.
+ghost use Rattle.std.specs.Prelude.{◌≡◌, ◌+◌, ◌-◌, ◌<◌, ◌≤◌, true, false, [], IfOk};
+ghost use Rattle.std.specs.FinMap.{entries};
+ghost use Rattle.machine_table.specs.SetUp.{is_good};
+ghost use Rattle.machine_table.specs.Opening.{dram_of};
+ghost use Rattle.seat_rule.specs.Rule.{opening_hold};
+ghost use Rattle.mailboxes.specs.Ties.{BankTied};
+
+use crate::machine::Machine;
+use crate::mailbox::{Mailbox, PLACES};
+use crate::steps::Chair;
+use dram_mts::Dram;
+use llc_bank::{Bank, BankConfig};
+use machine_table::Counts;
+use std::alloc::{AllocError, Global};
+
+/// A bank's seat: its messages, the bank, the DRAM behind it, and the counts of the messages that it sent.
+#[derive(Drop)]
+pub struct BankSeat {
+    pub mail: Mailbox,
+    pub bank: Bank,
+    pub dram: Dram,
+    pub counts: Counts,
+    pub ghost tied: { BankTied mail.seat.me.0.mine bank dram counts },
+}
+
+impl BankSeat {
+    /// A bank's seat as it opens. All memory is taken here, but that of the DRAM's lines.
+    pub(crate) fn new(
+        alloc: Global,
+        machine: &Machine,
+        seat: Chair,
+        number: u32,
+        dram: Dram,
+    ) -> Result<BankSeat, AllocError>
+        requires number { (machine.now.set_up.config.cores ≤ number) ×
+            (number < machine.now.set_up.config.cores + machine.now.set_up.config.banks) }
+        requires dram { dram ≡ dram_of machine.now.set_up.config
+            (number - machine.now.set_up.config.cores) (entries machine.now.set_up.memory) }
+        requires view { (seat.me.0.number ≡ number) × (seat.me.0.spent ≡ false) ×
+            (seat.me.0.mine ≡ opening_hold machine.now.set_up number) × (seat.me.1 ≡ []) }
+        ensures { IfOk result (λ p. (p.mail.seat ≡ seat) × (p.mail.number ≡ number) ×
+            (p.mail.cores ≡ machine.now.set_up.config.cores) ×
+            (p.mail.banks ≡ machine.now.set_up.config.banks)) }
+    {
+        let config = machine.set_up.config;
+        let bank = BankConfig {
+            number: number - config.cores,
+            banks: config.banks,
+            sets: config.bank_sets,
+            ways: config.bank_ways,
+            lease: config.lease,
+            opening_time: config.opening_time,
+        };
+        let bank = Bank::new(alloc, bank)?;
+        let outbox = Vec::with_capacity(alloc, PLACES)?;
+        let held = Vec::with_capacity(alloc, PLACES)?;
+        let mail = Mailbox {
+            seat,
+            number,
+            cores: config.cores,
+            banks: config.banks,
+            outbox,
+            hand: None,
+            held,
+            cursor: 0,
+        };
+        Ok(BankSeat {
+            mail,
+            bank,
+            dram,
+            counts: Counts {
+                renewals: 0,
+                upgrades: 0,
+                flushes: 0,
+                write_backs: 0,
+            },
+        })
+    }
+}

@@ -1,0 +1,82 @@
+//! A core's seat with what it stores.
+ghost use Rattle.std.specs.Prelude.{◌≡◌, ◌<◌, true, false, [], IfOk};
+ghost use Rattle.machine_table.specs.SetUp.{is_good};
+ghost use Rattle.seat_rule.specs.Rule.{opening_hold};
+ghost use Rattle.mailboxes.specs.Ties.{CoreTied};
+
+use crate::machine::Machine;
+use crate::mailbox::{Mailbox, PLACES};
+use crate::steps::Chair;
+use core_pts::{Core, CoreConfig};
+use machine_table::Counts;
+use physiological_order::{Op, Record};
+use private_cache::Geometry;
+use std::alloc::{AllocError, Global};
+
+/// A core's seat: its messages, the core, the operations that it was issued, its records, and the counts of the
+/// messages that it sent.
+#[derive(Drop)]
+pub struct CoreSeat {
+    pub mail: Mailbox,
+    pub core: Core,
+    pub issued: Vec<Op>,
+    pub records: Vec<Record>,
+    pub counts: Counts,
+    pub ghost tied: { CoreTied mail.seat.me.0.mine core issued.items records.items counts },
+}
+
+impl CoreSeat {
+    /// A core's seat as it opens. All memory is taken here, but that of operations and records.
+    pub(crate) fn new(
+        alloc: Global,
+        machine: &Machine,
+        seat: Chair,
+        number: u32,
+    ) -> Result<CoreSeat, AllocError>
+        requires number { number < machine.now.set_up.config.cores }
+        requires view { (seat.me.0.number ≡ number) × (seat.me.0.spent ≡ false) ×
+            (seat.me.0.mine ≡ opening_hold machine.now.set_up number) × (seat.me.1 ≡ []) }
+        ensures { IfOk result (λ p. (p.mail.seat ≡ seat) × (p.mail.number ≡ number) ×
+            (p.mail.cores ≡ machine.now.set_up.config.cores) ×
+            (p.mail.banks ≡ machine.now.set_up.config.banks)) }
+    {
+        let config = machine.set_up.config;
+        let core = CoreConfig {
+            number,
+            banks: config.banks,
+            line_words: config.line_words,
+            lease: config.lease,
+            private_write: config.private_write,
+            opening_time: config.opening_time,
+        };
+        let geometry = Geometry {
+            sets: config.sets,
+            ways: config.ways,
+        };
+        let core = Core::new(alloc, core, geometry)?;
+        let outbox = Vec::with_capacity(alloc, PLACES)?;
+        let held = Vec::with_capacity(alloc, PLACES)?;
+        let mail = Mailbox {
+            seat,
+            number,
+            cores: config.cores,
+            banks: config.banks,
+            outbox,
+            hand: None,
+            held,
+            cursor: 0,
+        };
+        Ok(CoreSeat {
+            mail,
+            core,
+            issued: Vec::new(alloc),
+            records: Vec::new(alloc),
+            counts: Counts {
+                renewals: 0,
+                upgrades: 0,
+                flushes: 0,
+                write_backs: 0,
+            },
+        })
+    }
+}

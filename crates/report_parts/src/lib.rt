@@ -1,5 +1,5 @@
-//! What the reports of litmus tests and of traces share: the machine that options ask for, which schedule a run follows and how far, and a
-//! whole text to a sink.
+//! What the reports of litmus tests and of traces share: the machine that options ask for, which schedule a run follows
+//! and how far, and a whole text to a sink.
 #![tactic(auto)]
 
 mod outputs;

@@ -6,6 +6,8 @@ mod driver;
 #[cfg(test)]
 mod evictions;
 #[cfg(test)]
+mod long_run;
+#[cfg(test)]
 mod seeded;
 #[cfg(test)]
 mod turns;

@@ -1,4 +1,4 @@
-pub mod DramWords
-pub mod LinkEnds
-pub mod Outboxes
-pub mod Sweeps
+mod DramWords
+mod LinkEnds
+mod Outboxes
+mod Sweeps

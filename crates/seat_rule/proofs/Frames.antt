@@ -11,8 +11,8 @@ use Rattle.machine_theorem.specs.Bags.{weigh, SameBag}
 use Rattle.machine_moves.specs.Moves.{same}
 use Rattle.seating.specs.declared.views.View.{View}
 use Rattle.seating.specs.Seated.{over, put, with_hold}
-use Rattle.seating.proofs.Sums.{at_put, over_put, over_put_by}
-use Rattle.seating.proofs.Seatings.{within, shown_set}
+use Rattle.seating.proofs.Lemmas.{at_put, over_put, over_put_by}
+use Rattle.seating.proofs.Lemmas.{within, shown_set}
 use Rattle.seat_rule.specs.declared.views.SetUp.{SetUp}
 use Rattle.seat_rule.specs.declared.views.Stage.{Stage}
 use Rattle.seat_rule.specs.declared.views.Hold.{Hold}

@@ -1,7 +1,7 @@
 use Rattle.std.proofs.Common.{◌≡◌, ℕ, sym, ap, ◌∙◌, take}
 use Rattle.std.specs.Prelude.{slice_get}
 use Rattle.network.specs.declared.message.Message.{Message}
-use Rattle.seating.proofs.Sums.{some_is}
+use Rattle.seating.proofs.Lemmas.{some_is}
 use Rattle.mailboxes.specs.Places.{link_to, found_full}
 use Rattle.mailboxes.proofs.Sweeps.{stays_on, link_on, swept_more, put_more}
 use Rattle.mailboxes.proofs.mailbox.Mailbox.put.Goals as goal

@@ -1,4 +1,5 @@
 mod DramWords
 mod LinkEnds
+mod NewSeats
 mod Outboxes
 mod Sweeps

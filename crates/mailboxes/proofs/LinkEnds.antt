@@ -1,5 +1,5 @@
 -- The ends of a link, from its number.
-use Rattle.std.proofs.Common.{◌≡◌, ℕ, ◌+◌, ◌-◌, ◌*◌, ◌/◌, ◌%◌, ◌<◌, ◌≤◌, Bool, true, cond, ltb, leb}
+use Rattle.std.proofs.Common.{◌≡◌, ℕ, ◌+◌, ◌-◌, ◌*◌, ◌%◌, ◌<◌, ◌≤◌, Bool, true, cond, ltb, leb}
 use Rattle.std.proofs.Common.{sym, refl, ap, ◌∙◌, subst, arith, mod-eq_of_lt, mul_comm, mul_assoc, lt-ltb, le-ltb}
 use Rattle.std.proofs.Math.Nat.{mul-add-mod_self_right}
 use Rattle.std.proofs.lemmas.Nat.{div-mul-add, mul-add-lt, mul-le}
@@ -9,7 +9,7 @@ use Rattle.network.specs.declared.message.Node.TheVariants.{Core, Bank, Dram}
 use Rattle.machine_table.specs.declared.config.Config.{Config}
 use Rattle.seat_rule.specs.declared.views.SetUp.{SetUp}
 use Rattle.seat_rule.specs.Rule.{source, target, node_of, to_of}
-use Rattle.mailboxes.specs.Places.{has_link, link_to, incoming_link, incoming_count}
+use Rattle.mailboxes.specs.Places.{has_link, link_to, incoming_count}
 
 -- so many cores and banks have few slots
 pub few_slots : (cores banks : ℕ) → cores ≤ 64 → banks ≤ 8 → 8 * cores * banks ≤ 4096

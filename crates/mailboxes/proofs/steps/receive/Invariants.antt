@@ -1,4 +1,3 @@
-use Rattle.seat_rule.specs.Rule.{seat_count}
 use Rattle.seating.specs.Seated.{with_hold}
 use Rattle.seat_rule.specs.Plays.{take_hold}
 use Rattle.mailboxes.proofs.steps.receive.Given as goal

@@ -10,7 +10,7 @@ use Rattle.mailboxes.specs.declared.bank_seat.BankSeat.{BankSeat}
 use Rattle.mailboxes.specs.Ties.{Chair}
 use Rattle.mailboxes.specs.Seats.{IsNewCore, IsNewBank, AllNewCores, AllNewBanks}
 
-none_some : {A B : Type 0} {y : A} → None ≡ Some y → B
+pub none_some : {A B : Type 0} {y : A} → None ≡ Some y → B
 none_some e = cc
 
 pub get_snoc : {A : Type 0} → (xs : List A) (x y : A) (i : ℕ) → slice_get (xs ++ x ∷ []) i ≡ Some y →

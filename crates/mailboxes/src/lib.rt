@@ -2,6 +2,8 @@
 #![tactic(auto)]
 
 mod bank_seat;
+mod closed_machine;
+mod closing;
 mod core_seat;
 mod ends;
 mod links;
@@ -14,8 +16,10 @@ mod seat_calls;
 mod steps;
 mod taken;
 mod taking;
+mod whole;
 
 pub use bank_seat::BankSeat;
+pub use closed_machine::{BankPart, ClosedMachine, CorePart};
 pub use core_seat::CoreSeat;
 pub use machine::Machine;
 pub use mailbox::Mailbox;

@@ -2,7 +2,8 @@
 use Rattle.std.proofs.Common.{◌≡◌, ◌≢◌, ℕ, zero, suc, ◌+◌, ◌<◌, ◌≤◌, Bool, false, List, [], ◌∷◌, ◌++◌, length}
 use Rattle.std.proofs.Common.{length-append, append_assoc, take, get_or, Option, Some, option_to_list}
 use Rattle.std.proofs.Common.{sym, refl, ap, ◌∙◌, subst, arith}
-use Rattle.std.proofs.lemmas.List.{take_more, get_or-set_same, get_or-set_other}
+use Rattle.std.specs.Prelude.{map, reverse}
+use Rattle.std.proofs.lemmas.List.{reverse-append, take_more, get_or-set_same, get_or-set_other}
 use Rattle.std.proofs.lemmas.Option.{slice_get_within}
 use Rattle.std.specs.Prelude.{slice_get, slice_set}
 use Rattle.std.specs.Mem.Slots.Ownership.{Filled}
@@ -84,6 +85,11 @@ module _ {A B : Type 0} (f : A → B) where
       at_more (backwards f ys) (f y ∷ []) 0 (f x) (ap (λ z. some (f z)) (some_is e))
   backwards_has (y ∷ ys) (suc i) x e =
       let r = backwards_has ys i x e in (r.0, at_less (backwards f ys) (f y ∷ []) r.0 (f x) r.1)
+
+  -- read forwards again
+  pub reversed : (xs : List A) → reverse (backwards f xs) ≡ map f xs
+  reversed [] = refl
+  reversed (y ∷ ys) = reverse-append (backwards f ys) (f y ∷ []) ∙ ap (λ z. f y ∷ z) (reversed ys)
 
   backwards_length : (xs : List A) → length (backwards f xs) ≡ length xs
   backwards_length [] = refl

@@ -20,7 +20,8 @@ few_slots cores banks c b =
 
 -- a link from a core to a bank, and one from a bank to a core, are among the links
 down_below : (cores banks c b : ℕ) → c < cores → b < banks → c * banks + b < cores * banks
-down_below cores banks c b lc lb = subst (λ k. c * banks + b < k) (mul_comm banks cores) (mul-add-lt c banks b cores lc lb)
+down_below cores banks c b lc lb =
+    subst (λ k. c * banks + b < k) (mul_comm banks cores) (mul-add-lt c banks b cores lc lb)
 
 pub down_within : (cores banks c b : ℕ) → c < cores → b < banks → 4 * (c * banks + b) + 4 ≤ 8 * cores * banks
 down_within cores banks c b lc lb =

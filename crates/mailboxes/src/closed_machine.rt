@@ -49,7 +49,7 @@ pub struct BankPart {
 pub struct ClosedMachine {
     /// How the machine was set up, and the memory that it opened with.
     pub set_up: SetUp,
-    /// The parts of the cores' seats, in reverse of the order in which the seats were given.
+    /// The parts of the cores' seats, as the seats were given.
     pub cores: Vec<CorePart>,
     /// The parts of the banks' seats, likewise.
     pub banks: Vec<BankPart>,

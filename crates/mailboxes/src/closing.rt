@@ -1,5 +1,5 @@
 //! The end: all seats are joined, and leave what they stored.
-ghost use Rattle.std.specs.Prelude.{◌≡◌, ℕ, ◌+◌, ◌<◌, ◌≤◌, false, [], ◌∷◌, ◌++◌, length, IfOk, vec_capacity};
+ghost use Rattle.std.specs.Prelude.{◌≡◌, ℕ, ◌+◌, ◌<◌, ◌≤◌, false, [], ◌∷◌, ◌++◌, length, map, IfOk, vec_capacity};
 ghost use Rattle.std.specs.Mem.Slots.{IsFull, slots_items, slots_len};
 ghost use Rattle.machine_table.specs.SetUp.{is_good};
 ghost use Rattle.mailboxes.specs.Places.{Belongs};
@@ -31,8 +31,8 @@ impl Machine {
         requires banks { AllBankSeats self banks.items }
         requires whole { AreAll self cores.items banks.items }
         ensures set_up { IfOk result (λ r. r.set_up ≡ self.set_up) }
-        ensures cores { IfOk result (λ r. r.cores.items ≡ backwards core_part cores.items) }
-        ensures banks { IfOk result (λ r. r.banks.items ≡ backwards bank_part banks.items) }
+        ensures cores { IfOk result (λ r. r.cores.items ≡ map core_part cores.items) }
+        ensures banks { IfOk result (λ r. r.banks.items ≡ map bank_part banks.items) }
         ensures state { IfOk result (λ r. OneState self.set_up cores.items banks.items r.count
             r.slots.items) }
     {
@@ -45,6 +45,8 @@ impl Machine {
         let mut seat = leave_core(first.unwrap(), &mut core_parts);
         join_cores(&table.shared, &mut seat, cores, &mut core_parts);
         join_banks(&table.shared, &mut seat, banks, &mut bank_parts);
+        core_parts.reverse();
+        bank_parts.reverse();
         let last = table.slot_count();
         let closed = table.close_with(seat);
         let count = closed.word(last);

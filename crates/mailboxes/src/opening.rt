@@ -24,7 +24,8 @@ pub fn open(
     config: Config,
     memory: Memory,
 ) -> Result<(Machine, Vec<CoreSeat>, Vec<BankSeat>), OpenError>
-    ensures set_up { IfOk result (λ r. (r.0.set_up.config ≡ config) × (r.0.set_up.memory ≡ memory)) }
+    ensures set_up { IfOk result (λ r. (r.0.set_up.config ≡ config) ×
+        (r.0.set_up.memory ≡ memory)) }
     ensures cores { IfOk result (λ r. (length r.1.items ≡ config.cores) ×
         AllNewCores r.0 0 r.1.items) }
     ensures banks { IfOk result (λ r. (length r.2.items ≡ config.banks) ×
@@ -81,7 +82,8 @@ fn open_cores(
     first: &mut Chair,
 ) -> Result<Vec<CoreSeat>, AllocError>
     requires { HasMade machine.now 1 first.old }
-    ensures cores { IfOk result (λ cores. (length cores.items + 1 ≡ machine.now.set_up.config.cores) ×
+    ensures cores { IfOk result (λ cores.
+        (length cores.items + 1 ≡ machine.now.set_up.config.cores) ×
         AllNewCores machine.now 1 cores.items) }
     ensures first { IfOk result (λ cores. HasMade machine.now machine.now.set_up.config.cores
         first.new) }

@@ -1,6 +1,6 @@
 -- The last of a list, and those before it.
-use Rattle.std.proofs.Common.{◌≡◌, ℕ, zero, suc, List, [], ◌∷◌, ◌++◌, length, Option, Some, None, option_to_list, refl, ap}
-use Rattle.std.proofs.Common.{◌∙◌}
+use Rattle.std.proofs.Common.{◌≡◌, ℕ, zero, suc, List, [], ◌∷◌, ◌++◌, length, Option, Some, None}
+use Rattle.std.proofs.Common.{option_to_list, refl, ap, ◌∙◌}
 use Rattle.std.specs.Prelude.{slice_get}
 
 none_some : {A B : Type 0} {y : A} → None ≡ Some y → B

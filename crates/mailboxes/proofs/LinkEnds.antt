@@ -1,5 +1,5 @@
 -- The ends of a link, from its number.
-use Rattle.std.proofs.Common.{◌≡◌, ℕ, ◌+◌, ◌-◌, ◌*◌, ◌/◌, ◌%◌, ◌<◌, ◌≤◌, Bool, true, cond, ltb, leb}
+use Rattle.std.proofs.Common.{◌≡◌, ℕ, ◌+◌, ◌-◌, ◌*◌, ◌%◌, ◌<◌, ◌≤◌, Bool, true, cond, ltb, leb}
 use Rattle.std.proofs.Common.{sym, refl, ap, ◌∙◌, subst, arith, mod-eq_of_lt, mul_comm, mul_assoc, lt-ltb, le-ltb}
 use Rattle.std.proofs.Math.Nat.{mul-add-mod_self_right}
 use Rattle.std.proofs.lemmas.Nat.{div-mul-add, mul-add-lt, mul-le}
@@ -9,7 +9,7 @@ use Rattle.network.specs.declared.message.Node.TheVariants.{Core, Bank, Dram}
 use Rattle.machine_table.specs.declared.config.Config.{Config}
 use Rattle.seat_rule.specs.declared.views.SetUp.{SetUp}
 use Rattle.seat_rule.specs.Rule.{source, target, node_of, to_of}
-use Rattle.mailboxes.specs.Places.{has_link, link_to, incoming_link, incoming_count}
+use Rattle.mailboxes.specs.Places.{has_link, link_to, incoming_count}
 
 -- so many cores and banks have few slots
 pub few_slots : (cores banks : ℕ) → cores ≤ 64 → banks ≤ 8 → 8 * cores * banks ≤ 4096
@@ -20,7 +20,8 @@ few_slots cores banks c b =
 
 -- a link from a core to a bank, and one from a bank to a core, are among the links
 down_below : (cores banks c b : ℕ) → c < cores → b < banks → c * banks + b < cores * banks
-down_below cores banks c b lc lb = subst (λ k. c * banks + b < k) (mul_comm banks cores) (mul-add-lt c banks b cores lc lb)
+down_below cores banks c b lc lb =
+    subst (λ k. c * banks + b < k) (mul_comm banks cores) (mul-add-lt c banks b cores lc lb)
 
 pub down_within : (cores banks c b : ℕ) → c < cores → b < banks → 4 * (c * banks + b) + 4 ≤ 8 * cores * banks
 down_within cores banks c b lc lb =

@@ -1,4 +1,5 @@
 pub mod BoxMoves
 pub mod Places
+pub mod Remains
 pub mod Seats
 pub mod Ties

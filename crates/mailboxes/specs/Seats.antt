@@ -1,7 +1,6 @@
 -- Seats of a machine, as they open and as they stay.
-use Rattle.std.specs.Prelude.{◌≡◌, ℕ, zero, suc, ◌+◌, ◌<◌, ◌≤◌, ◌⊎◌, List, [], ◌∷◌, ◌++◌, Some, slice_get}
+use Rattle.std.specs.Prelude.{◌≡◌, ℕ, ◌+◌, ◌<◌, ◌≤◌, List, [], Some, slice_get}
 use Rattle.seating.specs.Seated.{first_view}
-use Rattle.seat_rule.specs.declared.views.Hold.{Hold}
 use Rattle.seat_rule.specs.Rule.{opening_hold}
 use Rattle.mailboxes.specs.declared.machine.Machine.{Machine}
 use Rattle.mailboxes.specs.declared.core_seat.CoreSeat.{CoreSeat}
@@ -44,3 +43,29 @@ abbrev pub HasMade : Machine → ℕ → Chair → Type 0
 HasMade m n chair =
     (chair.table_id ≡ m.table.shared.table_id)
     × (chair.me ≡ (record (first_view (opening_hold m.set_up 0)) { made = n }, []))
+
+-- all seats of a list are of this machine
+abbrev pub AllCoreSeats : Machine → List CoreSeat → Type 0
+AllCoreSeats m ps = (i : ℕ) (p : CoreSeat) → slice_get ps i ≡ Some p → IsCoreSeat m p
+
+abbrev pub AllBankSeats : Machine → List BankSeat → Type 0
+AllBankSeats m ps = (i : ℕ) (p : BankSeat) → slice_get ps i ≡ Some p → IsBankSeat m p
+
+-- a seat of this number is in the list
+abbrev pub HasCore : List CoreSeat → ℕ → Type 0
+HasCore ps j = (i : ℕ) × (p : CoreSeat) × (slice_get ps i ≡ Some p) × (p.mail.number ≡ j)
+
+abbrev pub HasBank : List BankSeat → ℕ → Type 0
+HasBank ps j = (i : ℕ) × (p : BankSeat) × (slice_get ps i ≡ Some p) × (p.mail.number ≡ j)
+
+-- the seats of this many cores, and of banks, by number, are in the list
+pub record HasCores (ps : List CoreSeat) (count : ℕ) : Type 0 where
+  pub there : (j : ℕ) → j < count → HasCore ps j
+
+pub record HasBanks (ps : List BankSeat) (first count : ℕ) : Type 0 where
+  pub there : (j : ℕ) → j < count → HasBank ps (first + j)
+
+-- every seat of the machine is in one of the lists
+pub record AreAll (m : Machine) (cores : List CoreSeat) (banks : List BankSeat) : Type 0 where
+  pub cores_there : HasCores cores m.set_up.config.cores
+  pub banks_there : HasBanks banks m.set_up.config.cores m.set_up.config.banks

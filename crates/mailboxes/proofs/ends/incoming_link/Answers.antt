@@ -1,4 +1,4 @@
-use Rattle.std.proofs.Common.{ℕ, ◌-◌, ◌+◌, ◌<◌, arith}
+use Rattle.std.proofs.Common.{◌-◌, arith}
 use Rattle.mailboxes.proofs.LinkEnds.{core_in, bank_in, core_end, bank_end, up_within, down_within}
 use Rattle.mailboxes.proofs.ends.incoming_link.Goals as goal
 

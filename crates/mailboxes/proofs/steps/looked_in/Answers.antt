@@ -1,4 +1,4 @@
-use Rattle.std.proofs.Common.{ℕ, ◌+◌, arith, rules}
+use Rattle.std.proofs.Common.{arith, rules}
 use Rattle.mailboxes.proofs.steps.looked_in.Goals as goal
 
 pub load-requires : goal.load-requires

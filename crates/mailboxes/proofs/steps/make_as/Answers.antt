@@ -1,4 +1,4 @@
-use Rattle.std.proofs.Common.{ℕ, ◌+◌, arith}
+use Rattle.std.proofs.Common.{arith}
 use Rattle.mailboxes.proofs.steps.make_as.Goals as goal
 
 pub split_seat-requires : goal.split_seat-requires

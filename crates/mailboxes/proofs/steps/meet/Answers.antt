@@ -1,4 +1,4 @@
-use Rattle.std.proofs.Common.{ℕ, ◌+◌, arith}
+use Rattle.std.proofs.Common.{arith}
 use Rattle.mailboxes.proofs.steps.meet.Goals as goal
 
 pub join_seat-requires : goal.join_seat-requires

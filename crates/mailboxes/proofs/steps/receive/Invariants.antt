@@ -1,7 +1,10 @@
-use Rattle.seat_rule.specs.Rule.{seat_count}
 use Rattle.seating.specs.Seated.{with_hold}
 use Rattle.seat_rule.specs.Plays.{take_hold}
 use Rattle.mailboxes.proofs.steps.receive.Given as goal
 
 abbrev pub ghosts-received : goal.ghosts-received
-ghosts-received a = record { set_up = a.desk.now.key; to = with_hold a.seat.now.me.0 (take_hold a.seat.now.me.0.mine a.slot a.message) }
+ghosts-received a =
+    record {
+      set_up = a.desk.now.key;
+      to = with_hold a.seat.now.me.0 (take_hold a.seat.now.me.0.mine a.slot a.message);
+    }

@@ -1,7 +1,10 @@
-use Rattle.seat_rule.specs.Rule.{seat_count}
 use Rattle.seating.specs.Seated.{with_hold}
 use Rattle.seat_rule.specs.Plays.{put_hold}
 use Rattle.mailboxes.proofs.steps.send.Given as goal
 
 abbrev pub ghosts-sent : goal.ghosts-sent
-ghosts-sent a = record { set_up = a.desk.now.key; to = with_hold a.seat.now.me.0 (put_hold a.seat.now.me.0.mine a.slot a.message a.index) }
+ghosts-sent a =
+    record {
+      set_up = a.desk.now.key;
+      to = with_hold a.seat.now.me.0 (put_hold a.seat.now.me.0.mine a.slot a.message a.index);
+    }

@@ -1,4 +1,4 @@
-use Rattle.std.proofs.Common.{◌≡◌, ℕ, sym, ap, ◌∙◌, take}
+use Rattle.std.proofs.Common.{◌≡◌, sym, ap, ◌∙◌, take}
 use Rattle.std.specs.Prelude.{slice_get}
 use Rattle.network.specs.declared.message.Message.{Message}
 use Rattle.seating.proofs.Lemmas.{some_is}

@@ -1,4 +1,4 @@
-use Rattle.std.proofs.Common.{◌≡◌, ap, sym, ◌∙◌}
+use Rattle.std.proofs.Common.{ap, sym, ◌∙◌}
 use Rattle.std.specs.Prelude.{slice_get}
 use Rattle.mailboxes.proofs.Outboxes.{left_was}
 use Rattle.mailboxes.proofs.mailbox.Mailbox.put_at.Goals as goal

@@ -1,0 +1,124 @@
+-- What a list has read backwards, what is known of seats that were joined, and slots that are emptied one by one.
+use Rattle.std.proofs.Common.{◌≡◌, ◌≢◌, ℕ, zero, suc, ◌+◌, ◌<◌, ◌≤◌, Bool, false, List, [], ◌∷◌, ◌++◌, length}
+use Rattle.std.proofs.Common.{length-append, append_assoc, take, get_or, Option, Some, option_to_list}
+use Rattle.std.proofs.Common.{sym, refl, ap, ◌∙◌, subst, arith}
+use Rattle.std.specs.Prelude.{map, reverse}
+use Rattle.std.proofs.lemmas.List.{reverse-append, take_more, get_or-set_same, get_or-set_other}
+use Rattle.std.proofs.lemmas.Option.{slice_get_within}
+use Rattle.std.specs.Prelude.{slice_get, slice_set}
+use Rattle.std.specs.Mem.Slots.Ownership.{Filled}
+use mathlib.Core.Option.{some, some-injective, some-ne-none}
+use mathlib.Core.Logic.{dite}
+use native.Mathlib.Decide.{ℕ_discrete}
+use lib.ListN.{get_elem?}
+use Rattle.seating.proofs.Lemmas.{some_is}
+use Rattle.mailboxes.specs.Remains.{backwards}
+use Rattle.mailboxes.proofs.NewSeats.{none_some}
+
+-- what holds of all numbers below n, and of n
+pub one_further : (P : ℕ → Type 0) (n : ℕ) → ((j : ℕ) → j < n → P j) → P n → (j : ℕ) → j < n + 1 → P j
+one_further P n before here j lt =
+    dite (ℕ_discrete j n) (λ (e : j ≡ n). subst P (sym e) here) (λ (ne : j ≢ n). before j (omega arith))
+
+module _ {A : Type 0} where
+  pub get_middle : (xs : List A) (x : A) (ys : List A) → slice_get (xs ++ x ∷ ys) (length xs) ≡ Some x
+  get_middle [] x ys = refl
+  get_middle (z ∷ xs) x ys = get_middle xs x ys
+
+  pub get_front : (xs ys : List A) (i : ℕ) (x : A) → slice_get xs i ≡ Some x → slice_get (xs ++ ys) i ≡ Some x
+  get_front [] ys i x e = none_some e
+  get_front (y ∷ xs) ys zero x e = e
+  get_front (y ∷ xs) ys (suc i) x e = get_front xs ys i x e
+
+  pub at_more : (xs ys : List A) (i : ℕ) (a : A) → get_elem? ys i ≡ some a → (j : ℕ) × (get_elem? (xs ++ ys) j ≡ some a)
+  at_more [] ys i a e = (i, e)
+  at_more (x ∷ xs) ys i a e = let r = at_more xs ys i a e in (suc r.0, r.1)
+
+  pub at_less : (xs ys : List A) (i : ℕ) (a : A) → get_elem? xs i ≡ some a → get_elem? (xs ++ ys) i ≡ some a
+  at_less [] ys i a e = absurd (some-ne-none a (sym e))
+  at_less (x ∷ xs) ys zero a e = e
+  at_less (x ∷ xs) ys (suc i) a e = at_less xs ys i a e
+
+  pub sliced : (xs : List A) (i : ℕ) (a : A) → get_elem? xs i ≡ some a → slice_get xs i ≡ Some a
+  sliced [] i a e = absurd (some-ne-none a (sym e))
+  sliced (x ∷ xs) zero a e = ap Some (some-injective x a e)
+  sliced (x ∷ xs) (suc i) a e = sliced xs i a e
+
+  read_at : (xs : List A) (i : ℕ) (a d : A) → get_elem? xs i ≡ some a → get_or xs i d ≡ a
+  read_at [] i a d e = absurd (some-ne-none a (sym e))
+  read_at (x ∷ xs) zero a d e = some-injective x a e
+  read_at (x ∷ xs) (suc i) a d e = read_at xs i a d e
+
+  -- the last of a list is behind the others
+  pub joined : (all old new done : List A) (o : Option A) (p : A) → all ≡ old ++ done → old ≡ new ++ option_to_list o →
+      o ≡ Some p → all ≡ new ++ p ∷ done
+  joined all old new done o p a b e =
+      a ∙ ap (λ z. z ++ done) (b ∙ ap (λ z. new ++ option_to_list z) e) ∙ append_assoc new (p ∷ []) done
+
+  -- no value so far has the number
+  pub not_so_far : (number : A → ℕ) (xs : List A) (i : ℕ) (x : A) (n : ℕ) → slice_get xs i ≡ Some x → number x ≢ n →
+      ((j : ℕ) (y : A) → j < i → slice_get xs j ≡ Some y → number y ≢ n) →
+      (j : ℕ) (y : A) → j < i + 1 → slice_get xs j ≡ Some y → number y ≢ n
+  not_so_far number xs i x n here not before j y lt e =
+      dite (ℕ_discrete j i)
+      (λ (same : j ≡ i). λ is.
+      not (ap number (some_is (sym here ∙ ap (slice_get xs) (sym same) ∙ e)) ∙ is))
+      (λ (ne : j ≢ i). before j y (omega arith) e)
+
+  -- the contents of one more slot
+  pub one_more_taken : (xs : List A) (i : ℕ) (x : A) (old new : List A) → get_elem? xs i ≡ some x →
+      old ≡ take i xs → new ≡ old ++ x ∷ [] → new ≡ take (i + 1) xs
+  one_more_taken xs i x old new e was is =
+      is ∙ ap (λ z. z ++ x ∷ []) was
+      ∙ sym (take_more xs i x (slice_get_within xs i x (sliced xs i x e))
+      ∙ ap (λ y. take i xs ++ y ∷ []) (read_at xs i x x e))
+
+module _ {A B : Type 0} (f : A → B) where
+  pub backwards_snoc : (xs : List A) (x : A) → backwards f (xs ++ x ∷ []) ≡ f x ∷ backwards f xs
+  backwards_snoc [] x = refl
+  backwards_snoc (y ∷ ys) x = ap (λ z. z ++ f y ∷ []) (backwards_snoc ys x)
+
+  pub backwards_has : (xs : List A) (i : ℕ) (x : A) → slice_get xs i ≡ Some x →
+      (q : ℕ) × (get_elem? (backwards f xs) q ≡ some (f x))
+  backwards_has [] i x e = none_some e
+  backwards_has (y ∷ ys) zero x e =
+      at_more (backwards f ys) (f y ∷ []) 0 (f x) (ap (λ z. some (f z)) (some_is e))
+  backwards_has (y ∷ ys) (suc i) x e =
+      let r = backwards_has ys i x e in (r.0, at_less (backwards f ys) (f y ∷ []) r.0 (f x) r.1)
+
+  -- read forwards again
+  pub reversed : (xs : List A) → reverse (backwards f xs) ≡ map f xs
+  reversed [] = refl
+  reversed (y ∷ ys) = reverse-append (backwards f ys) (f y ∷ []) ∙ ap (λ z. f y ∷ z) (reversed ys)
+
+  backwards_length : (xs : List A) → length (backwards f xs) ≡ length xs
+  backwards_length [] = refl
+  backwards_length (y ∷ ys) =
+      length-append (backwards f ys) (f y ∷ []) ∙ ap (λ n. n + 1) (backwards_length ys) ∙ omega arith
+
+  -- there is room for the part of the last of a list
+  pub room_left : (all new done : List A) (p : A) (old now : List B) {room left : ℕ} → all ≡ new ++ p ∷ done →
+      now ≡ old ++ backwards f done → length old + length all ≤ room → left ≡ room → length now < left
+  room_left all new done p old now a is fits same =
+      let parts = ap length is ∙ length-append old (backwards f done) in
+      let long = backwards_length done in
+      let whole = ap length a ∙ length-append new (p ∷ done) in
+      omega arith
+
+-- slots that are emptied from the first to the last
+module _ (old new : List Bool) (i : ℕ) where
+  pub still_filled : (long longer : ℕ) → new ≡ slice_set old i false → longer ≡ long → Filled old i long →
+      Filled new (i + 1) longer
+  still_filled long longer is same full k le lt =
+      ap (λ fs. get_or fs k false) is
+      ∙ get_or-set_other old i k false false (λ e. absurd (omega arith))
+      ∙ full k (omega arith) (omega arith)
+
+  pub emptied : i < length old → new ≡ slice_set old i false →
+      ((k : ℕ) → k < i → get_or old k false ≡ false) → (k : ℕ) → k < i + 1 → get_or new k false ≡ false
+  emptied within is before k lt =
+      ap (λ fs. get_or fs k false) is
+      ∙ dite (ℕ_discrete k i)
+      (λ (e : k ≡ i).
+      ap (λ j. get_or (slice_set old i false) j false) e ∙ get_or-set_same old i false false within)
+      (λ (ne : k ≢ i). get_or-set_other old i k false false ne ∙ before k (omega arith))

@@ -1,0 +1,81 @@
+-- What is left of a machine when all its seats are given up.
+use Rattle.std.specs.Prelude.{◌≡◌, ℕ, ◌<◌, List, [], ◌∷◌, ◌++◌, length, Option, Some, slice_get}
+use Rattle.atomic_table.specs.Seated.{TableId}
+use Rattle.physiological_order.specs.declared.operation.Record.{Record}
+use Rattle.network.specs.declared.message.Message.{Message}
+use Rattle.seating.specs.declared.views.View.{View}
+use Rattle.seat_rule.specs.declared.views.SetUp.{SetUp}
+use Rattle.seat_rule.specs.declared.views.Hold.{Hold}
+use Rattle.seat_rule.specs.Rule.{Phase, slot_count}
+use Rattle.seat_rule.specs.Ended.{Whole, lies}
+use Rattle.mailboxes.specs.declared.mailbox.Mailbox.{Mailbox}
+use Rattle.mailboxes.specs.declared.core_seat.CoreSeat.{CoreSeat}
+use Rattle.mailboxes.specs.declared.bank_seat.BankSeat.{BankSeat}
+use Rattle.mailboxes.specs.declared.closed_machine.CorePart.{CorePart}
+use Rattle.mailboxes.specs.declared.closed_machine.BankPart.{BankPart}
+use Rattle.mailboxes.specs.BoxMoves.{hold}
+
+-- the values of a list, from the last to the first
+abbrev pub backwards : {A B : Type 0} → (A → B) → List A → List B
+backwards f [] = []
+backwards f (x ∷ xs) = backwards f xs ++ f x ∷ []
+
+-- what a core's seat stored, and what a bank's did
+abbrev pub core_part : CoreSeat → CorePart
+core_part p =
+    record {
+      number = p.mail.number;
+      core = p.core;
+      issued = p.issued;
+      records = p.records;
+      counts = p.counts;
+      outbox = p.mail.outbox;
+      hand = p.mail.hand;
+      held = p.mail.held;
+    }
+
+abbrev pub bank_part : BankSeat → BankPart
+bank_part p =
+    record {
+      number = p.mail.number;
+      bank = p.bank;
+      dram = p.dram;
+      counts = p.counts;
+      outbox = p.mail.outbox;
+      hand = p.mail.hand;
+      held = p.mail.held;
+    }
+
+-- what is learned of a seat that is joined: its number and what it holds
+abbrev pub entry : Mailbox → ℕ × Hold
+entry p = (p.seat.me.0.number, p.seat.me.0.mine)
+
+abbrev pub core_entry : CoreSeat → ℕ × Hold
+core_entry p = entry p.mail
+
+abbrev pub bank_entry : BankSeat → ℕ × Hold
+bank_entry p = entry p.mail
+
+-- a view that knows these seats too
+abbrev pub knows_all : View Hold → List (ℕ × Hold) → View Hold
+knows_all v known = record v { known = v.known ++ known }
+
+-- all seats of a list are of this table
+abbrev pub CoresAt : TableId → List CoreSeat → Type 0
+CoresAt t ps = (i : ℕ) (p : CoreSeat) → slice_get ps i ≡ Some p → p.mail.seat.table_id ≡ t
+
+abbrev pub BanksAt : TableId → List BankSeat → Type 0
+BanksAt t ps = (i : ℕ) (p : BankSeat) → slice_get ps i ≡ Some p → p.mail.seat.table_id ≡ t
+
+-- There is one reached and consistent state, with this many records, of which what each given seat holds is the part,
+-- and the messages in these slots are those in flight.
+pub record OneState (z : SetUp) (cores : List CoreSeat) (banks : List BankSeat) (count : ℕ)
+    (slots : List (Option Message)) : Type 0 where
+  pub seats : ℕ → Hold
+  pub phases : ℕ → Phase
+  pub log : List Record
+  pub whole : Whole z seats phases log
+  pub counted : length log ≡ count
+  pub of_cores : (i : ℕ) (p : CoreSeat) → slice_get cores i ≡ Some p → seats p.mail.number ≡ hold p.mail
+  pub of_banks : (i : ℕ) (p : BankSeat) → slice_get banks i ≡ Some p → seats p.mail.number ≡ hold p.mail
+  pub lying : (k : ℕ) → k < slot_count z → slice_get slots k ≡ Some (lies (phases k))

@@ -1,0 +1,60 @@
+//! What is left of a machine when all its seats are given up.
+use core_pts::Core;
+use dram_mts::Dram;
+use llc_bank::Bank;
+use machine_table::Counts;
+use network::Message;
+use physiological_order::{Op, Record};
+use seat_rule::SetUp;
+
+/// What a core's seat leaves: all that it stored.
+#[derive(Drop)]
+pub struct CorePart {
+    /// The number of the seat, which is that of the core.
+    pub number: u32,
+    pub core: Core,
+    /// The operations that the core was issued, in their order.
+    pub issued: Vec<Op>,
+    /// The records of the core, in their order.
+    pub records: Vec<Record>,
+    /// How many of the counted kinds of message the seat sent.
+    pub counts: Counts,
+    /// The messages that were not put, the oldest first.
+    pub outbox: Vec<Message>,
+    /// The message that was taken and not served.
+    pub hand: Option<Message>,
+    /// The messages that waited for the core, the oldest first.
+    pub held: Vec<Message>,
+}
+
+/// What a bank's seat leaves: all that it stored.
+#[derive(Drop)]
+pub struct BankPart {
+    /// The number of the seat: that of the bank, after those of all cores.
+    pub number: u32,
+    pub bank: Bank,
+    pub dram: Dram,
+    /// How many of the counted kinds of message the seat sent.
+    pub counts: Counts,
+    /// The messages that were not put, the oldest first.
+    pub outbox: Vec<Message>,
+    /// The message that was taken and not served.
+    pub hand: Option<Message>,
+    /// The messages that waited for the bank or its DRAM, the oldest first.
+    pub held: Vec<Message>,
+}
+
+/// A machine that no thread shares any more: the parts that its seats left, and what lay in the slots of its links.
+#[derive(Drop)]
+pub struct ClosedMachine {
+    /// How the machine was set up, and the memory that it opened with.
+    pub set_up: SetUp,
+    /// The parts of the cores' seats, as the seats were given.
+    pub cores: Vec<CorePart>,
+    /// The parts of the banks' seats, likewise.
+    pub banks: Vec<BankPart>,
+    /// What lay in each slot, by number.
+    pub slots: Vec<Option<Message>>,
+    /// How many operations were completed.
+    pub count: u64,
+}

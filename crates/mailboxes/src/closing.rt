@@ -1,0 +1,177 @@
+//! The end: all seats are joined, and leave what they stored.
+ghost use Rattle.std.specs.Prelude.{◌≡◌, ℕ, ◌+◌, ◌<◌, ◌≤◌, false, [], ◌∷◌, ◌++◌, length, map, IfOk, vec_capacity};
+ghost use Rattle.std.specs.Mem.Slots.{IsFull, slots_items, slots_len};
+ghost use Rattle.machine_table.specs.SetUp.{is_good};
+ghost use Rattle.mailboxes.specs.Places.{Belongs};
+ghost use Rattle.mailboxes.specs.Seats.{AllCoreSeats, AllBankSeats, AreAll};
+ghost use Rattle.mailboxes.specs.Remains.{backwards, core_part, bank_part, knows_all, core_entry};
+ghost use Rattle.mailboxes.specs.Remains.{bank_entry, CoresAt, BanksAt, OneState};
+
+use crate::bank_seat::BankSeat;
+use crate::closed_machine::{BankPart, ClosedMachine, CorePart};
+use crate::core_seat::CoreSeat;
+use crate::machine::Machine;
+use crate::mailbox::Mailbox;
+use crate::steps::{Chair, Desk, meet};
+use atomic_table::Closed;
+use network::{Body, Message};
+use seat_rule::laws::closed_machines_are_one_state;
+use std::alloc::{AllocError, Global};
+
+impl Machine {
+    /// Gives up the machine and all its seats, and answers what they leave. That is one state that moves reach from the
+    /// opening, and it is consistent. AllocError where there is no memory for what is left; then all is given up.
+    pub fn close(
+        self,
+        alloc: Global,
+        mut cores: Vec<CoreSeat>,
+        banks: Vec<BankSeat>,
+    ) -> Result<ClosedMachine, AllocError>
+        requires cores { AllCoreSeats self cores.items }
+        requires banks { AllBankSeats self banks.items }
+        requires whole { AreAll self cores.items banks.items }
+        ensures set_up { IfOk result (λ r. r.set_up ≡ self.set_up) }
+        ensures cores { IfOk result (λ r. r.cores.items ≡ map core_part cores.items) }
+        ensures banks { IfOk result (λ r. r.banks.items ≡ map bank_part banks.items) }
+        ensures state { IfOk result (λ r. OneState self.set_up cores.items banks.items r.count
+            r.slots.items) }
+    {
+        closed_machines_are_one_state();
+        let mut core_parts = Vec::with_capacity(alloc, cores.len())?;
+        let mut bank_parts = Vec::with_capacity(alloc, banks.len())?;
+        let mut slots = Vec::with_capacity(alloc, self.table.slot_count())?;
+        let Machine { table, set_up } = self;
+        let first = cores.pop();
+        let mut seat = leave_core(first.unwrap(), &mut core_parts);
+        join_cores(&table.shared, &mut seat, cores, &mut core_parts);
+        join_banks(&table.shared, &mut seat, banks, &mut bank_parts);
+        core_parts.reverse();
+        bank_parts.reverse();
+        let last = table.slot_count();
+        let closed = table.close_with(seat);
+        let count = closed.word(last);
+        empty(closed, &mut slots);
+        Ok(ClosedMachine {
+            set_up,
+            cores: core_parts,
+            banks: bank_parts,
+            slots,
+            count,
+        })
+    }
+}
+
+// Joins seats of cores from the last to the first.
+fn join_cores(desk: &Desk, seat: &mut Chair, mut cores: Vec<CoreSeat>, parts: &mut Vec<CorePart>)
+    requires desk { Belongs seat.old.table_id desk.now.table_id desk.now.key }
+    requires cores { CoresAt desk.now.table_id cores.items }
+    requires live { seat.old.me.0.spent ≡ false }
+    requires room { length parts.old.items + length cores.items ≤ vec_capacity parts.old }
+    ensures desk { (seat.new.table_id ≡ seat.old.table_id) × (seat.new.id ≡ seat.old.id) }
+    ensures met { seat.new.me ≡
+        (knows_all seat.old.me.0 (backwards core_entry cores.items), seat.old.me.1) }
+    ensures parts { parts.new.items ≡ parts.old.items ++ backwards core_part cores.items }
+{
+    while let Some(port) = cores.pop() {
+        let other = leave_core(port, parts);
+        meet(desk, seat, other);
+    }
+}
+
+// Joins seats of banks from the last to the first.
+fn join_banks(desk: &Desk, seat: &mut Chair, mut banks: Vec<BankSeat>, parts: &mut Vec<BankPart>)
+    requires desk { Belongs seat.old.table_id desk.now.table_id desk.now.key }
+    requires banks { BanksAt desk.now.table_id banks.items }
+    requires live { seat.old.me.0.spent ≡ false }
+    requires room { length parts.old.items + length banks.items ≤ vec_capacity parts.old }
+    ensures desk { (seat.new.table_id ≡ seat.old.table_id) × (seat.new.id ≡ seat.old.id) }
+    ensures met { seat.new.me ≡
+        (knows_all seat.old.me.0 (backwards bank_entry banks.items), seat.old.me.1) }
+    ensures parts { parts.new.items ≡ parts.old.items ++ backwards bank_part banks.items }
+{
+    while let Some(port) = banks.pop() {
+        let other = leave_bank(port, parts);
+        meet(desk, seat, other);
+    }
+}
+
+// Puts what a core's seat stores at the end of a list, and gives its seat at the table.
+fn leave_core(port: CoreSeat, parts: &mut Vec<CorePart>) -> Chair
+    requires { length parts.old.items < vec_capacity parts.old }
+    ensures chair { result ≡ port.mail.seat }
+    ensures part { parts.new.items ≡ parts.old.items ++ core_part port ∷ [] }
+    ensures room { vec_capacity parts.new ≡ vec_capacity parts.old }
+{
+    let CoreSeat {
+        mail,
+        core,
+        issued,
+        records,
+        counts,
+    } = port;
+    let Mailbox {
+        seat,
+        number,
+        outbox,
+        hand,
+        held,
+        ..
+    } = mail;
+    parts.push_reserved(CorePart {
+        number,
+        core,
+        issued,
+        records,
+        counts,
+        outbox,
+        hand,
+        held,
+    });
+    seat
+}
+
+// Puts what a bank's seat stores at the end of a list, and gives its seat at the table.
+fn leave_bank(port: BankSeat, parts: &mut Vec<BankPart>) -> Chair
+    requires { length parts.old.items < vec_capacity parts.old }
+    ensures chair { result ≡ port.mail.seat }
+    ensures part { parts.new.items ≡ parts.old.items ++ bank_part port ∷ [] }
+    ensures room { vec_capacity parts.new ≡ vec_capacity parts.old }
+{
+    let BankSeat {
+        mail,
+        bank,
+        dram,
+        counts,
+    } = port;
+    let Mailbox {
+        seat,
+        number,
+        outbox,
+        hand,
+        held,
+        ..
+    } = mail;
+    parts.push_reserved(BankPart {
+        number,
+        bank,
+        dram,
+        counts,
+        outbox,
+        hand,
+        held,
+    });
+    seat
+}
+
+// Takes out what the slots have, and frees their memory.
+fn empty(mut closed: Closed<Option<Message>, Global>, slots: &mut Vec<Option<Message>>)
+    requires full { IsFull closed.slots }
+    requires room { (slots.old.items ≡ []) × (slots_len closed.slots ≤ vec_capacity slots.old) }
+    ensures { slots.new.items ≡ slots_items closed.slots }
+{
+    let _body: Option<Body> = None;
+    for i in 0..closed.slot_count() {
+        slots.push_reserved(closed.take(i));
+    }
+    closed.free();
+}

@@ -18,7 +18,8 @@ sys.path.insert(0, str(TOP / "examples"))
 
 import oracle  # noqa: E402
 from catalogue import with_table  # noqa: E402
-from reference.traces import read_records  # noqa: E402
+from reference.reports import trace_report  # noqa: E402
+from reference.traces import read_records, record_line  # noqa: E402
 
 # Each list of options, with what is said of it in the tables.
 WAYS = {
@@ -33,22 +34,27 @@ WAYS = {
 # The messages that are counted, each with its colour in the picture.
 COUNTED = {"renewals": "#3b7dd8", "upgrades": "#8d6bc7", "flushes": "#d8663b", "write-backs": "#e0b13c"}
 HEAD = ["| Options | Renewals | Upgrades | Flushes | Write-backs | Stale hits | Last time |", "|---|---|---|---|---|---|---|"]
-LEFT, WIDTH, BAR, STEP, PANEL = 170, 420, 14, 20, 560
+# Where bars begin and how wide the longest is, how high each is and how far apart, and how wide a panel is.
+LEFT, WIDTH, BAR, STEP, PANEL = 170, 300, 14, 20, 570
+
+
+def by_oracle(trace, options):
+    """The report and the text of the records that the oracle gives."""
+    kept = []
+    report, _ = trace_report(oracle.read_trace(trace), oracle.words().parse_args(["trace", *options, str(trace)]),
+                             after=lambda run, *_: kept.extend(run.machine.records))
+    return report, "".join(record_line(record) + "\n" for record in kept)
 
 
 class Run:
     """What the program says of a trace that is run with some options, and whether the oracle says the same."""
 
     def __init__(self, program, trace, options):
-        reports = [self.texts(program, trace, [*options, *records]) for records in ([], ["--records"])]
-        self.agrees = all(own == other for own, other in reports)
-        self.said = dict(line.split(" ", 1) for line in reports[0][0].splitlines())
-        self.last = max(record.time for record in read_records(reports[1][0].encode("ascii")))
-
-    @staticmethod
-    def texts(program, trace, options):
-        own = subprocess.run([program, "trace", *options, trace], capture_output=True, text=True, check=True).stdout
-        return own, oracle.run(oracle.words().parse_args(["trace", *options, str(trace)]))[0]
+        report, records = (subprocess.run([program, "trace", *options, *more, trace], capture_output=True, text=True,
+                                          check=True).stdout for more in ([], ["--records"]))
+        self.agrees = (report, records) == by_oracle(trace, options)
+        self.said = dict(line.split(" ", 1) for line in report.splitlines())
+        self.last = max(record.time for record in read_records(records.encode("ascii")))
 
     def number(self, name):
         return int(self.said[name])
@@ -74,7 +80,7 @@ def bars(runs, left, top, most):
         x, y = left + LEFT, top + place * STEP
         yield words(x - 8, y + BAR - 3, way, ' text-anchor="end"')
         for name, colour in COUNTED.items():
-            wide = run.number(name) * (WIDTH - LEFT + 60) / most
+            wide = run.number(name) * WIDTH / most
             yield f'<rect x="{x:.1f}" y="{y}" width="{wide:.1f}" height="{BAR}" fill="{colour}"/>'
             x += wide
         yield words(x + 6, y + BAR - 3, f"{run.said['stale-hits']} stale hits", ' fill="#666"')

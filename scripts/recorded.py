@@ -33,7 +33,8 @@ WAYS = {
 }
 # The messages that are counted, each with its colour in the picture.
 COUNTED = {"renewals": "#3b7dd8", "upgrades": "#8d6bc7", "flushes": "#d8663b", "write-backs": "#e0b13c"}
-HEAD = ["| Options | Renewals | Upgrades | Flushes | Write-backs | Stale hits | Last time |", "|---|---|---|---|---|---|---|"]
+HEAD = ["| Options | Renewals | Upgrades | Flushes | Write-backs | Stale hits | Last time |",
+        "|---|---|---|---|---|---|---|"]
 # Where bars begin and how wide the longest is, how high each is and how far apart, and how wide a panel is.
 LEFT, WIDTH, BAR, STEP, PANEL = 170, 300, 14, 20, 570
 
@@ -116,8 +117,8 @@ def main(given):
             faults.append(f"{path.relative_to(TOP)} differs (scripts/recorded.py writes it)")
         elif not check:
             path.write_text(text, encoding="utf-8")
-    print("\n".join(faults) or f"{len(traces)} traces, each run in {len(WAYS)} ways: the program and examples/oracle.py "
-          "say the same")
+    said = f"{len(traces)} traces, each run in {len(WAYS)} ways: the program and examples/oracle.py say the same"
+    print("\n".join(faults) or said)
     return int(bool(faults))
 
 

@@ -1,6 +1,6 @@
 #!/bin/sh
-# Records the four programs anew into examples/traces: examples.sh. A recording is one run, so the traces are others each
-# time; examples/expected.py and scripts/recorded.py then write what is wanted of them.
+# Records the four programs anew into examples/traces: examples.sh. A recording is one run, so the traces are others
+# each time; examples/expected.py and scripts/recorded.py then write what is wanted of them.
 here=$(CDPATH='' cd -- "$(dirname -- "$0")" && pwd) || exit 1
 work=$(mktemp) || exit 1
 trap 'rm -f "$work"' EXIT

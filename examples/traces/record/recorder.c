@@ -1,8 +1,8 @@
 // Records a program that is compiled with -fsanitize=thread: each load, store and swap of each thread, as a trace.
 //
 // The compiler then calls a function named __tsan_.. at each access that another thread could see. Here are functions
-// of these names; no sanitizer is linked. When the program ends, the trace is written to the file that the variable TRACE
-// of the environment names. docs/REAL-TRACES.md says how to use it and what a trace leaves out.
+// of these names; no sanitizer is linked. When the program ends, the trace is written to the file that the variable
+// TRACE of the environment names. docs/REAL-TRACES.md says how to use it and what a trace leaves out.
 //
 // Threads take turns at each access, so that the lines stand in one order that keeps each thread's own. An atomic
 // operation is made within its turn. Another access is made behind it: so the value of a store is looked up when its

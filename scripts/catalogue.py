@@ -76,7 +76,7 @@ def other_options():
 def with_table(text, name, rows):
     pattern = re.compile(rf"(<!-- table {re.escape(name)} -->\n).*?(<!-- end -->)", re.S)
     if not pattern.search(text):
-        raise SystemExit(f"catalogue.py: docs/TESTS.md has no table {name}")
+        raise SystemExit(f"the page has no table {name}")
     return pattern.sub(lambda m: m[1] + "\n".join(rows) + "\n" + m[2], text)
 
 

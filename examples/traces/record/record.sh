@@ -1,0 +1,26 @@
+#!/bin/sh
+# Compiles a program of one or more C files, runs it, and writes its trace: record.sh TRACE FILE.c .. [compiler options]
+# CC names the compiler: gcc, or clang where there is no gcc, if it isn't set. What the program prints goes to standard
+# error. The status is that of the compiler if it refuses the files, else that of the program.
+here=$(CDPATH='' cd -- "$(dirname -- "$0")" && pwd) || exit 1
+[ $# -ge 2 ] || { sed -n '2,4s/^# //p' "$0" >&2; exit 3; }
+trace=$1
+shift
+cc=${CC:-$(command -v gcc || command -v clang)} || { echo "record.sh: there is no C compiler" >&2; exit 1; }
+work=$(mktemp -d) || exit 1
+trap 'rm -rf "$work"' EXIT
+trap 'exit 1' HUP INT TERM
+
+files='' options=''
+for word in "$@"; do
+    case $word in *.c) files="$files $word" ;; *) options="$options $word" ;; esac
+done
+number=0
+# shellcheck disable=SC2086
+for file in $files; do
+    number=$((number + 1))
+    "$cc" -std=gnu11 -O1 $options -fsanitize=thread -c "$file" -o "$work/$number.o" || exit
+done
+"$cc" -std=gnu11 -O2 -Wall -Wextra -c "$here/recorder.c" -o "$work/recorder.o" &&
+    "$cc" "$work"/*.o -pthread -o "$work/program" || exit
+TRACE=$trace "$work/program" >&2

@@ -42,6 +42,9 @@ GROUPS = [
 # How many lines of definitions are read in a minute.
 LINES_A_MINUTE = 10
 
+# How many definitions of a file the table of docs/TRUST.md names, where it means a part of the file.
+NAMED_AT_MOST = 10
+
 
 def lines_of_crates():
     for line in (TOP / "crates.txt").read_text(encoding="utf-8").splitlines():
@@ -220,8 +223,19 @@ def trust():
         for module, name in mine:
             lines[module] = lines.get(module, 0) + len(definitions(module).blocks[name])
         rows.append("| **%s** | **%d** | **%d** |" % (title, sum(lines.values()), minutes(sum(lines.values()))))
-        rows += ["| `%s` | %d | %d |" % (module, count, minutes(count)) for module, count in lines.items()]
+        rows += ["| `%s`%s | %d | %d |" % (module, part_of(module, {n for m, n in mine if m == module}), count, minutes(count))
+                 for module, count in lines.items()]
     return rows
+
+
+def part_of(module, names):
+    """Which definitions of a file are meant, if these aren't all: they or the others by name, if they are few."""
+    here = [n for n in definitions(module).blocks if n in names]
+    others = [n for n in definitions(module).blocks if n not in names]
+    words, short = (": ", here) if len(here) <= len(others) else (", but for ", others)
+    if not others or len(short) > NAMED_AT_MOST:
+        return ""
+    return words + ", ".join("`%s`" % n for n in short)
 
 
 def minutes(lines):

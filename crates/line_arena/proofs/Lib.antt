@@ -2,6 +2,7 @@ mod Absent
 mod Counts
 mod Edits
 mod EmptiedCells
+mod EmptiedLists
 mod Finds
 mod Lent
 mod Links

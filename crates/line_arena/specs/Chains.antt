@@ -9,10 +9,14 @@ use Rattle.line_arena.specs.Rings.{no_head, Tied, rings}
 abbrev pub total : List Head → ℕ
 total heads = sum_by (λ h. h.count) heads
 
+-- the head of an empty list whose end has this number
+abbrev pub empty_head : ℕ → Head
+empty_head end = record { first = end; last = end; count = 0 }
+
 -- the heads of count empty lists, of which the first one's end has the number end
 pub record AreEmpty (end count : ℕ) (heads : List Head) : Type 0 where
   pub many : length heads ≡ count
-  pub each : (l : ℕ) → l < count → get_or heads l no_head ≡ record { first = end + l; last = end + l; count = 0 }
+  pub each : (l : ℕ) → l < count → get_or heads l no_head ≡ empty_head (end + l)
 
 module _ {X : Type 0} where
   abbrev pub rings_of : Chains X → List (List (ℕ × Option X))

@@ -126,6 +126,16 @@ impl<T> Arena<T> {
         self.chains.relink(self.lists, list, cell.0);
     }
 
+    /// Takes all cells off their lists and drops their values, so that all lists are empty and all cells free. The time
+    /// grows with the most cells that were on lists at once since the arena was made or cleared.
+    pub fn clear(&mut self)
+    where
+        T: Drop,
+        ensures { self.new ≡ lists_of (replicate (length self.old.lists) []) self.old.cells }
+    {
+        self.chains.empty_lists(self.lists);
+    }
+
     /// The first cell of a list, if it has one.
     pub fn front(&self, list: u32) -> Option<Cell>
         requires { list < length self.now.lists }

@@ -10,7 +10,7 @@ ghost use Rattle.line_arena.specs.declared.node.Node.{Node};
 ghost use Rattle.line_arena.specs.Filled.{IsFilled};
 ghost use Rattle.line_arena.specs.Rings.{no_head, node, at, edit, with_next, with_prev};
 ghost use Rattle.line_arena.specs.CellLists.{look_up, without, append_to};
-ghost use Rattle.line_arena.specs.Chains.{AreEmpty, total, rings_of, emptied, IsTied, SameUse, SameSizes};
+ghost use Rattle.line_arena.specs.Chains.{AreEmpty, total, rings_of, emptied, empty_head, IsTied, SameUse, SameSizes};
 ghost use Rattle.line_arena.specs.Arenas.{IsArena, Lacks, Suits, shown, model, free_cells};
 
 use crate::block::Block;
@@ -124,6 +124,47 @@ impl<T> Chains<T> {
             at += 1;
         }
         block.release();
+    }
+
+    /// Takes a node out of the block, with what it holds, and empties its list.
+    fn empty_list(&mut self, cell: u32) -> Node<T>
+        requires cell { IsFilled self.old.block cell }
+        requires list { (at self.old.block cell).list < length self.old.heads.items }
+        requires small { self.old.capacity + length self.old.heads.items ≤ 2 ^ 31 }
+        ensures node { get_or self.old.block cell None ≡ Some result }
+        ensures block { self.new.block ≡ slice_set self.old.block cell None }
+        ensures heads { self.new.heads.items ≡ slice_set self.old.heads.items result.list
+            (empty_head (self.old.capacity + result.list)) }
+        ensures sizes { SameSizes self.old self.new }
+    {
+        let node = self.block.take(cell as usize);
+        let end = self.capacity + node.list;
+        self.heads[node.list as usize] = Head {
+            first: end,
+            last: end,
+            count: 0,
+        };
+        node
+    }
+
+    /// Takes all cells off their lists and drops what they hold. They count as never used then.
+    pub(crate) fn empty_lists(&mut self, spare: u32)
+    where
+        T: Drop,
+        requires { IsArena spare self.old }
+        ensures tied { IsTied self.new }
+        ensures fields { (self.new.capacity ≡ self.old.capacity) × (self.new.used ≡ 0)
+            × (self.new.block ≡ replicate self.old.capacity None)
+            × (length self.new.heads.items ≡ length self.old.heads.items) }
+        ensures empty { (rings_of self.new ≡ replicate (length self.old.heads.items) []) ×
+            (total self.new.heads.items ≡ 0) }
+    {
+        let mut at = 0;
+        while at < self.used {
+            drop(self.empty_list(at));
+            at += 1;
+        }
+        self.used = 0;
     }
 
     /// Takes a cell off its list. The node stays in the block, with what it holds.

@@ -114,6 +114,40 @@ fn thousands_of_cells(rt: HostRuntime) -> Result<(), Fail> {
 }
 
 #[test]
+fn cleared(rt: HostRuntime) -> Result<(), Fail> {
+    let mut arena: Arena<u32> = Arena::new(rt.alloc(), 2, 2).ok().expect(&rt, "memory");
+    assert!(rt; arena.push_back(0, 10).is_ok());
+    assert!(rt; arena.push_back(1, 11).is_ok());
+    arena.clear();
+    assert_eq!(rt; arena.lists(), 2);
+    assert_eq!(rt; arena.free(), 2);
+    assert_eq!(rt; arena.len(0), 0);
+    assert_eq!(rt; arena.front(1), None);
+    assert!(rt; !arena.holds(Cell(0)));
+    let last = arena.push_back(1, 12).ok().expect(&rt, "room");
+    assert_eq!(rt; value(&arena, Some(last)), Some(12));
+    assert_eq!(rt; arena.front(1), Some(last));
+    assert_eq!(rt; arena.free(), 1);
+    Ok(())
+}
+
+#[test]
+fn clearing_drops_each_value_once(rt: HostRuntime) -> Result<(), Fail> {
+    let counted = Rc::new(rt.alloc(), 0)?;
+    let mut arena: Arena<Rc<i32>> = Arena::new(rt.alloc(), 4, 2).ok().expect(&rt, "memory");
+    assert!(rt; arena.push_back(0, counted.clone()?).is_ok());
+    assert!(rt; arena.push_back(1, counted.clone()?).is_ok());
+    assert_eq!(rt; Rc::strong_count(&counted), 3);
+    arena.clear();
+    assert_eq!(rt; Rc::strong_count(&counted), 1);
+    assert!(rt; arena.push_back(1, counted.clone()?).is_ok());
+    assert_eq!(rt; Rc::strong_count(&counted), 2);
+    drop(arena);
+    assert_eq!(rt; Rc::strong_count(&counted), 1);
+    Ok(())
+}
+
+#[test]
 fn drops_each_value_once(rt: HostRuntime) -> Result<(), Fail> {
     let counted = Rc::new(rt.alloc(), 0)?;
     let mut arena: Arena<Rc<i32>> = Arena::new(rt.alloc(), 4, 1).ok().expect(&rt, "memory");

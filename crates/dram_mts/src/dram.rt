@@ -39,6 +39,13 @@ impl Dram {
         }
     }
 
+    /// Makes it a DRAM of zeros again. The memory stays.
+    pub fn clear(&mut self)
+        ensures { self.new ≡ map.empty }
+    {
+        self.lines.clear();
+    }
+
     /// The words of a line.
     pub fn load(&self, line: LineNo) -> Words
         ensures { result ≡ words_of self.now line }

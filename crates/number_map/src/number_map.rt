@@ -56,6 +56,13 @@ impl<V: Copy> NumberMap<V> {
         Ok(())
     }
 
+    /// Drops all entries and keeps the memory. The time grows with the memory.
+    pub fn clear(&mut self)
+        ensures { self.new ≡ finite.empty }
+    {
+        self.hash.clear();
+    }
+
     /// Another map with the same entries.
     pub fn try_clone(&self) -> Result<NumberMap<V>, AllocError>
         ensures { IfOk result (λ copy. copy ≡ self.now) }

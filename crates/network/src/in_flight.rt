@@ -82,6 +82,21 @@ impl InFlight {
         })
     }
 
+    /// Drops all messages, and counts and numbers from 0 again, as a new one does. No memory is taken or given back. The
+    /// time grows with the slots that are kept, and with the most messages that were in flight at once since the memory
+    /// was taken or this was called last.
+    pub fn clear(&mut self)
+        ensures { self.new ≡ record self.old {
+          slots = 0;
+          reserved =
+              self.new.reserved;
+          mail = no_mail;
+        } }
+    {
+        self.linked.clear();
+        self.counts = Counts::zeros();
+    }
+
     /// Whether the numbers are not used up: the last one, 2^64 - 1, is given to no message.
     pub fn has_number(&self) -> bool
         ensures { result ≡ has_number self.now.mail }

@@ -174,6 +174,20 @@ impl LinkedMessages {
         }
     }
 
+    /// Drops all messages and all slots; numbers start from 0 again. The memory stays.
+    pub(crate) fn clear(&mut self)
+        ensures { self.new ≡ record self.old {
+          slots = 0;
+          next = 0;
+          messages = [];
+        } }
+    {
+        self.slots.clear();
+        self.arena.clear();
+        self.next = 0;
+        self.count = 0;
+    }
+
     /// The number that the next message gets.
     pub(crate) fn next(&self) -> u64
         ensures { result ≡ self.now.next }

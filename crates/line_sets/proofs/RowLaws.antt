@@ -6,7 +6,7 @@ use Rattle.std.proofs.lemmas.List.{get_or-map, length-map, ext_get_or, length_pu
 use Rattle.std.proofs.lemmas.List.{get_or_append_left, get_or_read, length-replicate}
 use Rattle.std.proofs.lemmas.Bool.{cases_eq}
 use Rattle.line_sets.specs.SetTable.{set_at}
-use Rattle.line_sets.specs.RowPlaces.{row_at, rows_of, count_none, IsSpread}
+use Rattle.line_sets.specs.RowPlaces.{row_at, rows_of, count_none, HasRoom, IsSpread}
 
 same-some : {Y : Type 0} (x y : Y) → Some x ≡ Some y → x ≡ y
 same-some x y e = cc
@@ -39,10 +39,10 @@ seen-written rows k w (Some m) ne =
     get_or-set_other rows k m w [] (λ e. ne (ap Some e))
 
 pub rows-written :
-    (places : List (Option ℕ)) (rows : List (List (ℕ × ℕ))) (capacity i k : ℕ) (w : List (ℕ × ℕ)) →
-    IsSpread places rows capacity → i < length places → get_or places i None ≡ Some k →
+    (places : List (Option ℕ)) (sets : List ℕ) (rows : List (List (ℕ × ℕ))) (i k : ℕ) (w : List (ℕ × ℕ)) →
+    IsSpread places sets rows → i < length places → get_or places i None ≡ Some k →
     rows_of places (set rows k w) ≡ set (rows_of places rows) i w
-rows-written places rows capacity i k w spread h at =
+rows-written places sets rows i k w spread h at =
     let f : Option ℕ → List (ℕ × ℕ) = row_at rows in
     let g : Option ℕ → List (ℕ × ℕ) = row_at (set rows k w) in
     let long : length (rows_of places rows) ≡ length places = length-map places f in
@@ -58,7 +58,7 @@ rows-written places rows capacity i k w spread h at =
     ∙ sym (ap (λ m. get_or (set (map f places) i w) m []) e
     ∙ get_or-set_same (map f places) i w [] (omega (arith, long))))
     (λ (ne : j ≡ i → ⊥).
-    seen-written rows k w (get_or places j None) (λ e. ne (spread.own j i k e at))
+    seen-written rows k w (get_or places j None) (λ e. ne (sym (spread.own j k e) ∙ spread.own i k at))
     ∙ sym (get_or-map f places j None [] jl)
     ∙ sym (get_or-set_other (map f places) i j w [] ne))
     (cases_eq j i))
@@ -72,10 +72,10 @@ seen-new rows w (Some m) below =
     get_or_append_left rows (w ∷ []) [] m (below m refl)
 
 pub rows-more :
-    (places : List (Option ℕ)) (rows : List (List (ℕ × ℕ))) (capacity i n : ℕ) (w : List (ℕ × ℕ)) →
-    IsSpread places rows capacity → i < length places → n ≡ length rows →
+    (places : List (Option ℕ)) (sets : List ℕ) (rows : List (List (ℕ × ℕ))) (i n : ℕ) (w : List (ℕ × ℕ)) →
+    IsSpread places sets rows → i < length places → n ≡ length rows →
     rows_of (set places i (Some n)) (rows ++ w ∷ []) ≡ set (rows_of places rows) i w
-rows-more places rows capacity i n w spread h is =
+rows-more places sets rows i n w spread h is =
     let f : Option ℕ → List (ℕ × ℕ) = row_at rows in
     let g : Option ℕ → List (ℕ × ℕ) = row_at (rows ++ w ∷ []) in
     let more : List (Option ℕ) = set places i (Some n) in
@@ -110,18 +110,23 @@ count-fewer (None ∷ places) (suc i) n h e = omega (arith, count-fewer places i
 count-fewer (Some k ∷ places) (suc i) n h e = count-fewer places i n (omega arith) e
 
 pub room-for :
-    (places : List (Option ℕ)) (rows : List (List (ℕ × ℕ))) (capacity i : ℕ) →
-    IsSpread places rows capacity → i < length places → get_or places i None ≡ None → length rows < capacity
-room-for places rows capacity i spread h e =
-    let fewer = count-fewer places i 0 h e in let c = spread.counted in let r = spread.room in omega arith
+    (places : List (Option ℕ)) (sets : List ℕ) (rows : List (List (ℕ × ℕ))) (i : ℕ) → IsSpread places sets rows →
+    i < length places → get_or places i None ≡ None → length rows < length places
+room-for places sets rows i spread h e =
+    let fewer = count-fewer places i 0 h e in let c = spread.counted in omega arith
 
 pub spread-more :
-    (places : List (Option ℕ)) (rows : List (List (ℕ × ℕ))) (capacity i n : ℕ) (w : List (ℕ × ℕ)) →
-    IsSpread places rows capacity → i < length places → get_or places i None ≡ None → n ≡ length rows →
-    IsSpread (set places i (Some n)) (rows ++ w ∷ []) capacity
-spread-more places rows capacity i n w spread h none is =
+    (places : List (Option ℕ)) (sets : List ℕ) (rows : List (List (ℕ × ℕ))) (i n : ℕ) (w : List (ℕ × ℕ)) →
+    IsSpread places sets rows → i < length places → get_or places i None ≡ None → n ≡ length rows →
+    IsSpread (set places i (Some n)) (sets ++ i ∷ []) (rows ++ w ∷ [])
+spread-more places sets rows i n w spread h none is =
     let same : length (set places i (Some n)) ≡ length places = length-set places i (Some n) in
     let long : length (rows ++ w ∷ []) ≡ length rows + 1 = length_push rows w in
+    let long_sets : length (sets ++ i ∷ []) ≡ length sets + 1 = length_push sets i in
+    let equal = spread.long in
+    let last : get_or (sets ++ i ∷ []) n 0 ≡ i = get_or_push sets i 0 n (sym (is ∙ sym equal)) in
+    let kept : (k : ℕ) → k < length sets → get_or (sets ++ i ∷ []) k 0 ≡ get_or sets k 0 =
+    λ k low. get_or_append_left sets (i ∷ []) 0 k low in
     let here : get_or (set places i (Some n)) i None ≡ Some n = get_or-set_same places i (Some n) None h in
     let there : (j k : ℕ) → j ≢ i → get_or (set places i (Some n)) j None ≡ Some k → get_or places j None ≡ Some k =
     λ j k ne e. sym (get_or-set_other places i j (Some n) None ne) ∙ e in
@@ -132,21 +137,19 @@ spread-more places rows capacity i n w spread h none is =
           (λ (at : j ≡ i). (let k_is = new j k at e in omega (arith, long)))
           (λ (ne : j ≡ i → ⊥). (let b = spread.below j k (there j k ne e) in omega (arith, long)))
           (cases_eq j i);
-      own = λ j l k a b. ⊎_elim
-          (λ (at : j ≡ i). ⊎_elim
-          (λ (lt : l ≡ i). at ∙ sym lt)
-          (λ (ne : l ≡ i → ⊥). absurd (let k_is = new j k at a in
-          let low = spread.below l k (there l k ne b) in omega arith))
-          (cases_eq l i))
-          (λ (ne : j ≡ i → ⊥). ⊎_elim
-          (λ (lt : l ≡ i). absurd (let k_is = new l k lt b in
-          let low = spread.below j k (there j k ne a) in omega arith))
-          (λ (no : l ≡ i → ⊥). spread.own j l k (there j k ne a) (there l k no b))
-          (cases_eq l i))
+      own = λ j k e. ⊎_elim
+          (λ (at : j ≡ i). ap (λ m. get_or (sets ++ i ∷ []) m 0) (new j k at e) ∙ last ∙ sym at)
+          (λ (ne : j ≡ i → ⊥). (let b = spread.below j k (there j k ne e) in
+          kept k (omega (arith, b, equal)) ∙ spread.own j k (there j k ne e)))
           (cases_eq j i);
+      there = λ k low. ⊎_elim
+          (λ (at : k ≡ n). (let on : get_or (sets ++ i ∷ []) k 0 ≡ i = ap (λ m. get_or (sets ++ i ∷ []) m 0) at
+          ∙ last in omega (arith, on, same, h)))
+          (λ (ne : k ≡ n → ⊥). (let below : k < length sets = omega (arith, low, ne, long_sets, is, equal) in
+          let on = kept k below in let b = spread.there k below in omega (arith, on, b, same)))
+          (cases_eq k n);
+      long = omega (arith, long, long_sets, equal);
       counted = (let c = spread.counted in omega (arith, long, same, count-fewer places i n h none));
-      room = (let r = spread.room in omega (arith, same));
-      small = (let s = spread.small in omega (arith, same));
     }
 
 -- the place of a set, as the code reads it
@@ -193,16 +196,64 @@ all-none zero = refl
 all-none (suc n) = omega (arith, all-none n)
 
 pub spread-empty :
-    (n : ℕ) (places : List (Option ℕ)) (rows : List (List (ℕ × ℕ))) (capacity : ℕ) →
-    places ≡ replicate n None → rows ≡ [] → n ≤ capacity → n ≤ 1048576 → IsSpread places rows capacity
-spread-empty n places rows capacity e f room small =
+    (n : ℕ) (places : List (Option ℕ)) (sets : List ℕ) (rows : List (List (ℕ × ℕ))) →
+    places ≡ replicate n None → sets ≡ [] → rows ≡ [] → IsSpread places sets rows
+spread-empty n places sets rows e f g =
     let nowhere : (i k : ℕ) → get_or places i None ≡ Some k → ⊥ = λ i k h.
     (let two : None ≡ Some k = sym (ap (λ ps. get_or ps i None) e ∙ none-at n i) ∙ h in cc) in
     let long : length places ≡ n = ap length e ∙ length-replicate {A = Option ℕ} n None in
+    let no_sets : length sets ≡ 0 = ap length f in let no_rows : length rows ≡ 0 = ap length g in
     record {
       below = λ i k h. absurd (nowhere i k h);
-      own = λ i j k h g. absurd (nowhere i k h);
-      counted = (let a = ap length f in let b = ap count_none e ∙ all-none n in omega (arith, long));
-      room = omega (arith, long);
-      small = omega (arith, long);
+      own = λ i k h. absurd (nowhere i k h);
+      there = λ k h. absurd (omega (arith, h, no_sets));
+      long = omega (arith, no_sets, no_rows);
+      counted = (let b = ap count_none e ∙ all-none n in omega (arith, long, no_rows));
     }
+
+-- the rows of the first sets that have one were taken away: what is left was there before
+pub record IsHalfway (at : ℕ) (old new : List (Option ℕ)) : Type 0 where
+  pub many : length new ≡ length old
+  pub left : (i k : ℕ) → get_or new i None ≡ Some k → (at ≤ k) × (get_or old i None ≡ Some k)
+
+pub halfway-first : (places : List (Option ℕ)) → IsHalfway 0 places places
+halfway-first places = record { many = refl; left = λ i k e. (omega arith, e) }
+
+pub halfway-next :
+    (old new : List (Option ℕ)) (sets : List ℕ) (rows : List (List (ℕ × ℕ))) (at : ℕ) → IsSpread old sets rows →
+    IsHalfway at old new → at < length sets → IsHalfway (at + 1) old (set new (get_or sets at 0) None)
+halfway-next old new sets rows at spread half low =
+    let s = get_or sets at 0 in let below = spread.there at low in let many = half.many in
+    record {
+      many = length-set new s None ∙ half.many;
+      left = λ i k e. ⊎_elim
+          (λ (is : i ≡ s). absurd (let two : None ≡ Some k = sym (ap (λ m. get_or (set new s None) m None) is
+          ∙ get_or-set_same new s None None (omega (arith, below, many))) ∙ e in cc))
+          (λ (ne : i ≡ s → ⊥).
+          (let was = half.left i k (sym (get_or-set_other new s i None None ne) ∙ e) in (
+            ⊎_elim
+                (λ (is : k ≡ at). absurd (ne (sym (spread.own i k was.1) ∙ ap (λ m. get_or sets m 0) is)))
+                (λ (other : k ≡ at → ⊥). (let past = was.0 in omega (arith, past, other)))
+                (cases_eq k at),
+            was.1,
+          )))
+          (cases_eq i s);
+    }
+
+pub halfway-last :
+    (old new : List (Option ℕ)) (sets : List ℕ) (rows : List (List (ℕ × ℕ))) (at : ℕ) → IsSpread old sets rows →
+    IsHalfway at old new → length sets ≤ at → new ≡ replicate (length old) None
+halfway-last old new sets rows at spread half past =
+    ext_get_or None new (replicate (length old) None) (half.many ∙ sym (length-replicate {A = Option ℕ} (length old) None))
+    (λ i low. no-place (get_or new i None) (λ k e.
+    (let was = half.left i k e in let b = spread.below i k was.1 in let l = spread.long in let from = was.0 in
+    omega (arith, from, b, l, past)))
+    ∙ sym (none-at (length old) i))
+
+pub room-same : (old new : List (Option ℕ)) (sets rows : ℕ) → length new ≡ length old → HasRoom old sets rows →
+    HasRoom new sets rows
+room-same old new sets rows same room = record {
+  for_sets = (let r = room.for_sets in omega (arith, same));
+  for_rows = (let r = room.for_rows in omega (arith, same));
+  small = (let s = room.small in omega (arith, same));
+}

@@ -11,7 +11,6 @@ use Rattle.line_arena.specs.CellLists.{find_cell, look_up, append_to, rewritten}
 use Rattle.line_arena.specs.CellLists as cell
 use Rattle.line_arena.specs.Arenas.{Lists, lists_of, pushed, unlinked, free_cells, cell_in, IsOnce}
 use Rattle.line_arena.specs.ListLaws.{LookUpLaws, WithoutLaws}
-use Rattle.line_sets.specs.Geometry.{IsGeometry}
 use Rattle.line_sets.specs.Order.{find, is_there, put_last, put_in_place, without}
 use Rattle.line_sets.specs.SetTable.{Sets, set_at, look, has_place, put, put_within, drop_line}
 use Rattle.line_sets.specs.Stored.{entries_of, tags_of, sets_of, Fits, IsStored}
@@ -390,15 +389,15 @@ empty-at (suc n) zero = refl
 empty-at (suc n) (suc i) = empty-at n i
 
 pub stored-empty :
-    {X : Type 0} (ways sets : ℕ) (a : Lists (ℕ × X)) (rows : List (List (ℕ × ℕ))) → IsGeometry sets ways →
+    {X : Type 0} (ways sets : ℕ) (a : Lists (ℕ × X)) (rows : List (List (ℕ × ℕ))) → ways ≤ 16 → sets ≤ 1024 →
     a ≡ lists_of (replicate sets []) (sets * ways) → rows ≡ replicate sets [] → IsStored ways a rows
-stored-empty {X} ways sets a rows shape is empty =
+stored-empty {X} ways sets a rows narrow small is empty =
     let long : length (replicate {A = List (ℕ × (ℕ × X))} sets []) ≡ sets = length-replicate sets [] in
     let many : length (replicate {A = List (ℕ × ℕ)} sets []) ≡ sets = length-replicate sets [] in
     rw (is, empty) (record {
       cells = rw long refl;
-      narrow = shape.most_ways;
-      small = rw long shape.most_sets;
+      narrow = narrow;
+      small = rw long small;
       many = many ∙ sym long;
       fits = λ set h. rw (empty-at {X = ℕ × ℕ} sets set, empty-at {X = ℕ × (ℕ × X)} sets set) (record {
         within = omega arith;
@@ -408,3 +407,11 @@ stored-empty {X} ways sets a rows shape is empty =
         lines = tt;
       });
     })
+
+-- as many sets without lines as there were
+pub stored-cleared :
+    {X : Type 0} (ways : ℕ) (a b : Lists (ℕ × X)) (rows empty : List (List (ℕ × ℕ))) → IsStored ways a rows →
+    b ≡ lists_of (replicate (length a.lists) []) a.cells → empty ≡ replicate (length rows) [] → IsStored ways b empty
+stored-cleared ways a b rows empty stored is none =
+    stored-empty ways (length a.lists) b empty stored.narrow stored.small
+    (is ∙ ap (lists_of (replicate (length a.lists) [])) stored.cells) (none ∙ ap (λ n. replicate n []) stored.many)

@@ -16,10 +16,16 @@ count_none [] = 0
 count_none (None ∷ places) = suc (count_none places)
 count_none (Some k ∷ places) = count_none places
 
--- no two sets have one row, and there is room for the rows of the others
-pub record IsSpread (places : List (Option ℕ)) (rows : List (List (ℕ × ℕ))) (capacity : ℕ) : Type 0 where
+-- each row is that of one set, and each other set has none
+pub record IsSpread (places : List (Option ℕ)) (sets : List ℕ) (rows : List (List (ℕ × ℕ))) : Type 0 where
   pub below : (i k : ℕ) → get_or places i None ≡ Some k → k < length rows
-  pub own : (i j k : ℕ) → get_or places i None ≡ Some k → get_or places j None ≡ Some k → i ≡ j
+  pub own : (i k : ℕ) → get_or places i None ≡ Some k → get_or sets k 0 ≡ i
+  pub there : (k : ℕ) → k < length sets → get_or sets k 0 < length places
+  pub long : length sets ≡ length rows
   pub counted : length rows + count_none places ≡ length places
-  pub room : length places ≤ capacity
+
+-- there is room for the sets of as many rows as there are sets, and for the rows
+pub record HasRoom (places : List (Option ℕ)) (sets rows : ℕ) : Type 0 where
+  pub for_sets : length places ≤ sets
+  pub for_rows : length places ≤ rows
   pub small : length places ≤ 1048576

@@ -13,18 +13,20 @@ use std::marker::Model;
 pub struct Rows {
     // The number of the row of each set that had a line.
     places: Vec<Option<u32>>,
+    // The set of each row.
+    sets: Vec<u32>,
     rows: Vec<Row>,
 }
 
 impl Model for Rows {
     ghost use Rattle.std.specs.Prelude.{List, ℕ, vec_capacity};
-    ghost use Rattle.line_sets.specs.RowPlaces.{rows_of, IsSpread};
+    ghost use Rattle.line_sets.specs.RowPlaces.{rows_of, HasRoom, IsSpread};
 
     ghost Value = { List (List (ℕ × ℕ)) };
 
     ghost view = { λ r. rows_of r.places.items r.rows.items };
 
-    ghost invariant = { λ r. IsSpread r.places.items r.rows.items (vec_capacity r.rows) };
+    ghost invariant = { λ r. IsSpread r.places.items r.sets.items r.rows.items × HasRoom r.places.items (vec_capacity r.sets) (vec_capacity r.rows) };
 }
 
 impl Rows {
@@ -34,16 +36,33 @@ impl Rows {
         ensures { IfOk result (λ rows. rows ≡ replicate sets []) }
     {
         let rows = Vec::with_capacity(alloc, sets as usize)?;
+        let of_rows = Vec::with_capacity(alloc, sets as usize)?;
         let mut places = Vec::with_capacity(alloc, sets as usize)?;
         for _ in 0..sets {
             places.push_reserved(None);
         }
-        Ok(Rows { places, rows })
+        Ok(Rows {
+            places,
+            sets: of_rows,
+            rows,
+        })
     }
 
     /// The allocator.
     pub(crate) fn allocator(&self) -> Global {
         *self.rows.allocator()
+    }
+
+    /// Takes the rows of all sets away, as if no set had had a line. The time grows with how many sets have one.
+    pub(crate) fn clear(&mut self)
+        ensures { self.new ≡ replicate (length self.old) [] }
+    {
+        for at in 0..self.sets.len() {
+            let set = self.sets[at];
+            self.places[set as usize] = None;
+        }
+        self.sets.clear();
+        self.rows.clear();
     }
 
     /// The cell of a line in a set.
@@ -68,6 +87,7 @@ impl Rows {
             let mut row = Row::new();
             row.push(line, cell);
             self.rows.push_reserved(row);
+            self.sets.push_reserved(set as u32);
             self.places[set] = Some(place);
             return;
         };

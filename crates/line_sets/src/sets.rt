@@ -1,6 +1,6 @@
 //! A table of sets of lines in order of use, whose memory is all taken when it is made.
-ghost use Rattle.std.specs.Prelude.{◌≡◌, ◌<◌, ◌≤◌, IfOk, IsPermutation, IsSorted, IsTrue, length, OnOk, ◌++◌, ℕ};
-ghost use Rattle.std.specs.Prelude.{slice_get, Some};
+ghost use Rattle.std.specs.Prelude.{◌≡◌, ◌<◌, ◌≤◌, IfOk, IsOk, IsPermutation, IsSorted, IsTrue, length, OnErr, OnOk};
+ghost use Rattle.std.specs.Prelude.{slice_get, Some, ◌++◌, ℕ};
 ghost use Rattle.std.specs.Option.{option_copied};
 ghost use Rattle.line_sets.specs.Order.{first_where, is_there, listed, oldest, IsDistinct};
 ghost use Rattle.std.specs.Ordering.{nat_cmp};
@@ -68,6 +68,34 @@ impl<V: Copy + Listed> LineSets<V> {
             Err(ArenaError::NoMemory) => Err(AllocError),
             Err(ArenaError::TooLarge) => unreachable!(),
         }
+    }
+
+    /// Takes all lines out. No memory is taken, and only that for the rising order is given back. The time grows with how
+    /// many sets had a line since the table was made or cleared, and with the most lines that it had at once.
+    pub fn clear(&mut self)
+        ensures { self.new ≡ empty_sets (length self.old.sets) self.old.ways }
+    {
+        let _lists = self.arena.lists();
+        self.arena.clear();
+        self.rows.clear();
+        self.listed = 0;
+        self.order = RisingLines::none();
+    }
+
+    /// A table without lines again, with so many sets and ways. If it has that many, it is cleared, which takes no
+    /// memory; else it is made anew. Where memory for that is refused nothing changes.
+    pub fn reopen(&mut self, sets: u32, ways: u32) -> Result<(), AllocError>
+        requires { IsGeometry sets ways }
+        ensures opened { OnOk result (self.new ≡ empty_sets sets ways) }
+        ensures refused { OnErr result (self.new ≡ self.old) }
+        ensures kept { length self.old.sets ≡ sets → self.old.ways ≡ ways → IsOk result }
+    {
+        if self.sets() == sets as usize && self.ways == ways as usize {
+            self.clear();
+            return Ok(());
+        }
+        *self = LineSets::new(self.rows.allocator(), sets, ways)?;
+        Ok(())
     }
 
     /// The number of sets.

@@ -1,6 +1,6 @@
 //! A private cache, whose memory is all taken when it is made.
 ghost use Rattle.std.specs.Prelude.{◌≡◌, ◌≤◌, ◌<◌, length, IfOk, IfSome, IsPermutation, IsSorted, IsSome, IsTrue};
-ghost use Rattle.std.specs.Prelude.{is_some, not, slice_get, true, Some};
+ghost use Rattle.std.specs.Prelude.{is_some, not, slice_get, true, IsOk, OnErr, OnOk, Some};
 ghost use Rattle.std.specs.Ordering.{nat_cmp};
 ghost use Rattle.std.specs.Option.{option_copied};
 ghost use Rattle.line_sets.specs.Geometry.{IsGeometry};
@@ -83,6 +83,18 @@ impl Cache {
     {
         let table = LineSets::new(alloc, geometry.sets, geometry.ways)?;
         Ok(Cache { table })
+    }
+
+    /// A cache of this shape without copies again. If it has the shape, no memory is taken, and the time grows with the
+    /// copies that it had; else it is made anew. Where memory for that is refused nothing changes.
+    pub fn reopen(&mut self, geometry: Geometry) -> Result<(), AllocError>
+        requires { IsGeometry geometry.sets geometry.ways }
+        ensures opened { OnOk result (self.new ≡ empty_sets geometry.sets geometry.ways) }
+        ensures refused { OnErr result (self.new ≡ self.old) }
+        ensures kept { length self.old.sets ≡ geometry.sets → self.old.ways ≡ geometry.ways →
+            IsOk result }
+    {
+        self.table.reopen(geometry.sets, geometry.ways)
     }
 
     // The set that a line belongs to.

@@ -11,7 +11,8 @@ returns-in-Ok g c =
 
 pub invariant_of-result : goal.invariant_of-result
 invariant_of-result g c = (
-  stored-empty c.args.ways c.args.sets c.in-Ok.arena c.in_ok-rows.rows c.requires c.in-Ok.ensures.made
+  stored-empty c.args.ways c.args.sets c.in-Ok.arena c.in_ok-rows.rows c.requires.most_ways
+      c.requires.most_sets c.in-Ok.ensures.made
       c.in_ok-rows.ensures,
   sym (ap (λ sets. length (all_listed g.V.Listed.is_listed sets))
       (ap (λ a. sets_of a.lists) c.in-Ok.ensures.made ∙ sets-empty c.args.sets)

@@ -1,0 +1,24 @@
+use Rattle.std.proofs.Common.{[], length, replicate, sym, ap, ◌∙◌}
+use Rattle.line_sets.specs.SetTable.{all_listed}
+use Rattle.line_sets.specs.Stored.{sets_of}
+use Rattle.line_sets.proofs.ListedCounts.{none-listed}
+use Rattle.line_sets.proofs.StoredSets.{table_of, length-sets, sets-empty, stored-cleared}
+use Rattle.line_sets.proofs.sets.LineSets.clear.Goals as goal
+
+pub invariant_of-self : goal.invariant_of-self
+invariant_of-self g c =
+    let a = c.self.inside.arena in let n = length a.lists in (
+      stored-cleared c.self.inside.ways a c.clear.new.self c.self.inside.rows c.clear-2.new.self c.self.invariant.0
+          c.clear.ensures c.clear-2.ensures,
+      sym (ap (λ sets. length (all_listed g.V.Listed.is_listed sets))
+          (ap (λ b. sets_of b.lists) c.clear.ensures ∙ sets-empty n)
+          ∙ ap length (none-listed g.V.Listed.is_listed n)),
+      rw c.none.ensures tt,
+    )
+
+pub returns : goal.returns
+returns g c =
+    let a = c.self.inside.arena in let w = c.self.inside.ways in let n = length a.lists in
+    let long = sym (length-sets a.lists) ∙ ap (λ t. length t.sets) c.self.view_is in
+    ap (table_of w) (ap (λ b. sets_of b.lists) c.clear.ensures ∙ sets-empty n)
+    ∙ (λ i. table_of (ap (λ t. t.ways) c.self.view_is i) (replicate (long i) []))

@@ -1,6 +1,7 @@
 //! A core and what it does by itself: it takes an operation, attempts it, raises its time and evicts copies.
 ghost use Rattle.std.specs.Prelude.{◌≡◌, ◌≢◌, ◌⊎◌, ◌<◌, ◌≤◌, ◌%◌, ◌^◌, IfOk, IfSome, IsPermutation, IsSorted, IsSome};
 ghost use Rattle.std.specs.Prelude.{IsTrue, is_some, length, not, true, option_copied, option_map, slice_get, Some};
+ghost use Rattle.std.specs.Prelude.{IsOk, OnErr, OnOk};
 ghost use Rattle.std.specs.Ordering.{nat_cmp};
 ghost use Rattle.std.specs.Result.{result_ok};
 ghost use Rattle.line_sets.specs.Geometry.{IsGeometry};
@@ -73,6 +74,25 @@ impl Core {
             is_out: false,
             issued: 0,
         })
+    }
+
+    /// The core as `new` makes it, set up so. If its cache has that shape, no memory is taken, and the time grows with the
+    /// copies that the core had. Where memory is refused nothing changes.
+    pub fn reopen(&mut self, config: CoreConfig, geometry: Geometry) -> Result<(), AllocError>
+        requires config { IsInRange config }
+        requires geometry { IsGeometry geometry.sets geometry.ways }
+        ensures opened { OnOk result (self.new ≡ opened config geometry) }
+        ensures refused { OnErr result (self.new ≡ self.old) }
+        ensures kept { length self.old.cache.sets ≡ geometry.sets →
+            self.old.cache.ways ≡ geometry.ways → IsOk result }
+    {
+        self.cache.reopen(geometry)?;
+        self.config = config;
+        self.pts = config.opening_time;
+        self.open_op = None;
+        self.is_out = false;
+        self.issued = 0;
+        Ok(())
     }
 
     /// The core's time.

@@ -1,6 +1,6 @@
 //! A bank of the shared cache, whose memory is all taken when it is made.
 ghost use Rattle.std.specs.Prelude.{◌≡◌, ◌≢◌, ◌≤◌, ◌<◌, length, IfOk, IfSome, IsOk, IsPermutation, IsSorted, IsSome};
-ghost use Rattle.std.specs.Prelude.{IsTrue, false, is_some, slice_get, Err, None, OnErr, Some};
+ghost use Rattle.std.specs.Prelude.{IsTrue, false, is_some, slice_get, Err, None, OnErr, OnOk, Some};
 ghost use Rattle.std.specs.Ordering.{nat_cmp};
 ghost use Rattle.std.specs.Option.{option_copied};
 ghost use Rattle.line_sets.specs.Geometry.{IsGeometry};
@@ -69,6 +69,24 @@ impl Bank {
             mts: MemoryTime::new(config.opening_time),
             table,
         })
+    }
+
+    /// The bank as `new` makes it, set up so. If its table has that shape, no memory is taken, and the time grows with the
+    /// entries that the bank had. Where memory is refused nothing changes.
+    pub fn reopen(&mut self, config: BankConfig) -> Result<(), AllocError>
+        requires config { IsInRange config }
+        requires geometry { IsGeometry config.sets config.ways }
+        ensures opened { OnOk result (self.new ≡ empty_bank config) }
+        ensures refused { OnErr result (self.new ≡ self.old) }
+        ensures kept { length self.old.table.sets ≡ config.sets → self.old.table.ways ≡ config.ways →
+            IsOk result }
+    {
+        self.table.reopen(config.sets, config.ways)?;
+        self.number = config.number;
+        self.banks = config.banks;
+        self.lease = config.lease;
+        self.mts = MemoryTime::new(config.opening_time);
+        Ok(())
     }
 
     /// The bank's number.

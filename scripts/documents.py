@@ -1,12 +1,14 @@
 #!/usr/bin/env python3
-"""Writes the tables of docs/architecture.md and docs/TRUST.md anew from the tree, or tests them.
+"""Writes the tables of docs/architecture.md and docs/TRUST.md anew from the tree, and what pages quote of the sources;
+or tests them.
 
-    scripts/documents.py            writes both tables
+    scripts/documents.py            writes the tables and the quotations
     scripts/documents.py --check    says what differs, and fails if something does
 
-A table stands between the lines `<!-- table NAME -->` and `<!-- end -->`. The script also tests that each path of a
-file that a document names or links to is there, and that of a crate's proofs only proofs/Lemmas.antt is open to the
-crates above.
+A table stands between the lines `<!-- table NAME -->` and `<!-- end -->`. A quotation stands between the lines
+`<!-- source FILE ITEM .. -->` and `<!-- end -->`: a file of crates/ and the functions or types of it that are quoted,
+each with the comment above it. The script also tests that each path of a file that a document names or links to is
+there, and that of a crate's proofs only proofs/Lemmas.antt is open to the crates above.
 """
 import re
 import sys
@@ -62,7 +64,7 @@ def first_words(crate):
         if not line.startswith("//!"):
             break
         words.append(line[3:].strip())
-    return re.split(r"(?<=[.])\s", " ".join(words))[0].rstrip(".")
+    return re.split(r"(?<=[^.][.])\s", " ".join(words))[0].rstrip(".")
 
 
 def names_in(folder, ending):
@@ -249,6 +251,29 @@ def with_table(text, name, rows):
     return pattern.sub(lambda m: m.group(1) + "\n".join(rows) + "\n" + m.group(2), text)
 
 
+def item_of(path, name):
+    """An item of a source file, from the comment above it to its last line."""
+    lines = path.read_text(encoding="utf-8").splitlines()
+    for at, line in enumerate(lines):
+        if re.match(r"(pub )?(fn|struct|enum|const|impl) (?:.* for )?%s\b" % name, line):
+            first, last = at, at
+            while lines[first - 1].startswith(("//", "#[")) and not lines[first - 1].startswith("//!"):
+                first -= 1
+            while not re.match(r"\S.*;$|}", lines[last]):
+                last += 1
+            return lines[first:last + 1]
+    raise SystemExit("documents.py: %s has no %s" % (path.relative_to(CRATES), name))
+
+
+def with_quotations(text):
+    """The text of a page with what it quotes of the sources as it stands there."""
+    def quotation(found):
+        file, names = found.group(2), found.group(3).split()
+        items = ["\n".join(item_of(CRATES / file, name)) for name in names]
+        return "%s```rust\n%s\n```\n<!-- end -->" % (found.group(1), "\n\n".join(items))
+    return re.sub(r"(<!-- source (\S+)((?: \w+)+) -->\n).*?<!-- end -->", quotation, text, flags=re.S)
+
+
 def missing_paths(document):
     """The paths of crates' files that a document names and that are not there."""
     text = document.read_text(encoding="utf-8")
@@ -273,18 +298,24 @@ def open_proofs():
                 yield "%s opens %s: crates above use proofs/Lemmas.antt alone" % (lib.relative_to(CRATES), name)
 
 
+def written(page, renewed, check, faults):
+    """Writes what is renewed of a page, or says that it differs."""
+    old = page.read_text(encoding="utf-8")
+    new = renewed(old)
+    if old != new and check:
+        faults.append("%s isn't as the tree has it (scripts/documents.py writes it)" % page.relative_to(TOP))
+    elif old != new:
+        page.write_text(new, encoding="utf-8")
+
+
 def main():
     check = sys.argv[1:] == ["--check"]
     faults = []
     for file, name, rows in (("architecture.md", "crates", architecture()), ("TRUST.md", "definitions", trust())):
         path = TOP / "docs" / file
-        old = path.read_text(encoding="utf-8")
-        new = with_table(old, name, rows)
-        if old != new and check:
-            faults.append("docs/%s: its table isn't that of the tree (scripts/documents.py writes it)" % file)
-        elif old != new:
-            path.write_text(new, encoding="utf-8")
+        written(path, lambda old: with_table(old, name, rows), check, faults)
     for document in sorted(TOP.glob("*.md")) + sorted((TOP / "docs").glob("*.md")) + [TOP / "examples/README.md"]:
+        written(document, with_quotations, check, faults)
         faults += list(missing_paths(document)) + list(missing_links(document))
     faults += open_proofs()
     for fault in faults:

@@ -5,8 +5,8 @@
 #
 # In a page a command stands in a fenced block `console`: a line `$ command`, and then all that it prints, standard
 # output and standard error. A command whose line ends in a backslash goes on in the next line. The commands of a page
-# run in a folder of their own, one after the other; there ./tardis is the program, and examples, scripts, docs, crates
-# and bench are those of the repository. A fenced block `sh` shows commands that aren't run: they prove, or want other
+# run in a folder of their own, one after the other; there ./tardis is the program, and examples, scripts, tests, docs,
+# crates and bench are those of the repository. A fenced block `sh` shows commands that aren't run: they prove, or want other
 # machines. A command in any other block is a fault of the page.
 
 top=$(CDPATH='' cd -- "$(dirname -- "$0")/.." && pwd) || exit 1
@@ -67,7 +67,7 @@ page() {
     done <"$work/parts/faults"
     rm -rf "$work/here"
     mkdir "$work/here"
-    for name in examples scripts docs crates bench; do
+    for name in examples scripts tests docs crates bench; do
         ln -s "$top/$name" "$work/here/$name"
     done
     ln -s "$tardis" "$work/here/tardis"

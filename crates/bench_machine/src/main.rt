@@ -1,5 +1,6 @@
 //! A measurement of the machine: cores that load, store and swap words, so many events in all, on a machine with a core
-//! for each. docs/BENCHMARKS.md has the table.
+//! for each. A fourth number says how many machines are opened, the last of which is driven. docs/BENCHMARKS.md has the
+//! tables.
 #![tactic(auto)]
 
 use anyhow::{Context, Result, bail, ensure};
@@ -123,7 +124,7 @@ fn machine(alloc: Global, cores: u32) -> Result<System> {
 }
 
 fn number<R: AllocGlobal + std::rt::Env>(rt: &R, text: Option<String>) -> Result<u32> {
-    let text = text.context("three numbers are wanted: events, cores and words")?;
+    let text = text.context("numbers are wanted: events, cores, words, and perhaps machines")?;
     let number: u32 = text.as_str().parse().context("a number is wanted")?;
     ensure!(number > 0, "a number above 0 is wanted");
     Ok(number)
@@ -136,6 +137,13 @@ fn run<R: AllocGlobal + Print + std::rt::Env>(rt: &R) -> Result<()> {
     let events = number(rt, texts.next())?;
     let cores = number(rt, texts.next())?;
     let words = number(rt, texts.next())?;
+    let machines = match texts.next() {
+        None => 1,
+        text => number(rt, text)?,
+    };
+    for _opened in 1..machines {
+        let _machine = machine(alloc, cores)?;
+    }
     let mut system = machine(alloc, cores)?;
     let made = drive(&mut system, u64::from(events), u64::from(words))?;
     ensure!(made.events >= u64::from(events), "events are missing");

@@ -57,6 +57,14 @@ impl<W> ToWrite<W> {
         let failed = Tally::new();
         ToWrite { inner, failed }
     }
+
+    /// The writer, which holds what went to it.
+    pub fn into_inner(self) -> W
+        ensures { result ≡ writer_of self }
+    {
+        let ToWrite { inner, failed: _ } = self;
+        inner
+    }
 }
 
 impl<W: Write> Sink for ToWrite<W> {

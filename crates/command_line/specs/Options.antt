@@ -1,7 +1,10 @@
 -- What the options say of the matches.
-use Rattle.std.specs.Prelude.{◌≡◌, ℕ, ◌≤◌, Bool, true, false, List, Some, codes}
+use Rattle.std.specs.Prelude.{◌≡◌, ◌⊎◌, ℕ, ◌≤◌, Bool, true, false, List, [], Option, Some, None, codes, unwrap_or}
 use Rattle.std.specs.Str.Parse.{IsNumeral, digits_value, without_leading_plus}
 use Rattle.clap.specs.Words.{Row, Text, first_of, one_of}
+use Rattle.run_options.specs.declared.options.TheConstants.LitmusOptions.{DEFAULT as litmus_default}
+use Rattle.run_options.specs.declared.options.TheConstants.MachineOptions.{DEFAULT as machine_default}
+use Rattle.run_options.specs.declared.options.TheConstants.RunOptions.{DEFAULT as run_default}
 use Rattle.run_options.specs.declared.options.LitmusOptions.{LitmusOptions}
 use Rattle.run_options.specs.declared.options.MachineOptions.{MachineOptions}
 use Rattle.run_options.specs.declared.options.RunOptions.{RunOptions}
@@ -13,56 +16,64 @@ use Rattle.run_options.specs.declared.options.TraceOptions.{TraceOptions}
 abbrev pub Writes : Text → ℕ → Type 0
 Writes text n = IsNumeral 10 (without_leading_plus text) × (digits_value 10 (without_leading_plus text) ≡ n)
 
--- the option's value lies between these, and is the number that was written wherever that does
-abbrev pub IsNumber : List Row → Text → ℕ → ℕ → ℕ → Type 0
-IsNumber rows name least most value =
-    (least ≤ value) × (value ≤ most)
-    × ((text : Text) (n : ℕ) → one_of name rows ≡ Some text → Writes text n → least ≤ n → n ≤ most → value ≡ n)
+-- the text is such a number from least to most
+abbrev pub WritesWithin : Text → ℕ → ℕ → ℕ → Type 0
+WritesWithin text least most n = Writes text n × (least ≤ n) × (n ≤ most)
 
-abbrev pub IsAnyNumber : List Row → Text → ℕ → Type 0
-IsAnyNumber rows name value = IsNumber rows name 0 18446744073709551615 value
+-- the number that a text writes from least to most; or the other one, if there is no text or it writes no such number
+abbrev pub IsNumberOf : Option Text → ℕ → ℕ → ℕ → ℕ → Type 0
+IsNumberOf None least most other value = value ≡ other
+IsNumberOf (Some text) least most other value = WritesWithin text least most value
+    ⊎ (((n : ℕ) → WritesWithin text least most n → ⊥) × (value ≡ other))
 
--- the flag is there, or it isn't
+-- the option has the number that its text writes, which is its default's text where the words don't have the option
+abbrev pub IsNumber : List Row → Text → ℕ → ℕ → ℕ → ℕ → Type 0
+IsNumber rows name least most other value = IsNumberOf (one_of name rows) least most other value
+
+abbrev pub IsAnyNumber : List Row → Text → ℕ → ℕ → Type 0
+IsAnyNumber rows name other value = IsNumber rows name 0 18446744073709551615 other value
+
+-- the flag is there exactly if its text is true, as it is where the words have it
 abbrev pub IsFlag : List Row → Text → Bool → Type 0
-IsFlag rows name value =
-    (one_of name rows ≡ Some (codes "true") → value ≡ true) × (one_of name rows ≡ Some (codes "false") → value ≡ false)
+IsFlag rows name value = (one_of name rows ≡ Some (codes "true") → value ≡ true)
+    × ((one_of name rows ≡ Some (codes "true") → ⊥) → value ≡ false)
 
--- the text is the word that the argument has, as it was written
+-- the text is the word that the argument has, as it was written; empty where it has none
 abbrev pub HasWord : List Row → Text → Text → Type 0
-HasWord rows name text = (word : Text) → first_of name rows ≡ Some word → text ≡ word
+HasWord rows name text = text ≡ unwrap_or (first_of name rows) []
 
 -- how the machine is built
 abbrev pub TellsMachine : List Row → MachineOptions → Type 0
 TellsMachine rows options =
-    IsAnyNumber rows (codes "lease") options.lease
-    × IsAnyNumber rows (codes "time") options.time
-    × IsAnyNumber rows (codes "banks") options.banks
-    × IsAnyNumber rows (codes "sets") options.sets
-    × IsAnyNumber rows (codes "ways") options.ways
-    × IsAnyNumber rows (codes "bank-sets") options.bank_sets
-    × IsAnyNumber rows (codes "bank-ways") options.bank_ways
-    × IsAnyNumber rows (codes "line-words") options.line_words
-    × IsAnyNumber rows (codes "messages") options.messages
+    IsAnyNumber rows (codes "lease") machine_default.lease options.lease
+    × IsAnyNumber rows (codes "time") machine_default.time options.time
+    × IsAnyNumber rows (codes "banks") machine_default.banks options.banks
+    × IsAnyNumber rows (codes "sets") machine_default.sets options.sets
+    × IsAnyNumber rows (codes "ways") machine_default.ways options.ways
+    × IsAnyNumber rows (codes "bank-sets") machine_default.bank_sets options.bank_sets
+    × IsAnyNumber rows (codes "bank-ways") machine_default.bank_ways options.bank_ways
+    × IsAnyNumber rows (codes "line-words") machine_default.line_words options.line_words
+    × IsAnyNumber rows (codes "messages") machine_default.messages options.messages
     × IsFlag rows (codes "private-write") options.private_write
 
--- the schedule is the one that the word names
+-- the schedule is seed exactly if the word is seed; the rule of its option takes no other word but round
 abbrev pub IsSchedule : List Row → Text → Schedule → Type 0
-IsSchedule rows name schedule =
-    (first_of name rows ≡ Some (codes "round") → schedule ≡ Round)
-    × (first_of name rows ≡ Some (codes "seed") → schedule ≡ Seed)
+IsSchedule rows name schedule = (first_of name rows ≡ Some (codes "seed") → schedule ≡ Seed)
+    × ((first_of name rows ≡ Some (codes "seed") → ⊥) → schedule ≡ Round)
 
 -- how a run goes
 abbrev pub TellsRun : List Row → RunOptions → Type 0
 TellsRun rows options =
     IsSchedule rows (codes "schedule") options.schedule
-    × IsAnyNumber rows (codes "seed") options.seed
-    × IsNumber rows (codes "workers") 1 16 options.workers
-    × IsNumber rows (codes "limit") 1 4294967295 options.limit
+    × IsAnyNumber rows (codes "seed") run_default.seed options.seed
+    × IsNumber rows (codes "workers") 1 16 run_default.workers options.workers
+    × IsNumber rows (codes "limit") 1 4294967295 run_default.limit options.limit
     × TellsMachine rows options.machine
 
 -- how often the test is run, and how
 abbrev pub Tells : List Row → LitmusOptions → Type 0
-Tells rows options = IsNumber rows (codes "runs") 1 1000000 options.runs × TellsRun rows options.run
+Tells rows options =
+    IsNumber rows (codes "runs") 1 1000000 litmus_default.runs options.runs × TellsRun rows options.run
 
 -- whether the records of a trace are asked for, and how it is run
 abbrev pub TellsTrace : List Row → TraceOptions → Type 0

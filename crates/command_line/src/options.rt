@@ -1,17 +1,15 @@
 //! What the options of a run say.
 
-ghost use Rattle.std.specs.Prelude.{◌≡◌, ◌≤◌};
 ghost use Rattle.clap.specs.Words.{found_of, rows_of};
-ghost use Rattle.command_line.specs.Options.{HasWord, IsFlag, IsNumber, IsSchedule, Tells};
+ghost use Rattle.command_line.specs.Options.{HasWord, IsAnyNumber, IsFlag, IsNumber, IsSchedule, Tells};
 ghost use Rattle.command_line.specs.Options.{TellsMachine, TellsRun, TellsTrace};
 
 use clap::ArgMatches;
 use run_options::{LitmusOptions, MachineOptions, RunOptions, Schedule, TraceOptions};
 
-/// The number that an option has, from least to most, or this one where it has none.
+/// The number from least to most that an option's text writes, or this one where it writes none.
 fn number(matches: &ArgMatches<'_>, name: &str, least: u64, most: u64, other: u64) -> u64
-    requires { (least ≤ other) × (other ≤ most) }
-    ensures { IsNumber (rows_of (found_of matches.now)) name.now least most result }
+    ensures { IsNumber (rows_of (found_of matches.now)) name.now least most other result }
 {
     let number = matches.get_one::<u64>(name).unwrap_or(other);
     if number < least || most < number {
@@ -22,7 +20,7 @@ fn number(matches: &ArgMatches<'_>, name: &str, least: u64, most: u64, other: u6
 
 /// The number of 64 bits that an option has, or this one where it has none.
 fn any_number(matches: &ArgMatches<'_>, name: &str, other: u64) -> u64
-    ensures { IsNumber (rows_of (found_of matches.now)) name.now 0 18446744073709551615 result }
+    ensures { IsAnyNumber (rows_of (found_of matches.now)) name.now other result }
 {
     number(matches, name, 0, u64::MAX, other)
 }
@@ -31,7 +29,7 @@ fn any_number(matches: &ArgMatches<'_>, name: &str, other: u64) -> u64
 fn flag(matches: &ArgMatches<'_>, name: &str) -> bool
     ensures { IsFlag (rows_of (found_of matches.now)) name.now result }
 {
-    matches.get_flag(name)
+    matches.get_one::<bool>(name).unwrap_or(false)
 }
 
 /// The word that an argument has, as the path of a file, or nothing where it has none.

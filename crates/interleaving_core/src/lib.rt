@@ -12,6 +12,7 @@ mod opening;
 mod operations;
 mod reactions;
 mod records;
+mod reopening;
 mod steps;
 pub mod system;
 

@@ -39,6 +39,13 @@ impl OpList {
         Ok(())
     }
 
+    // Drops all operations. The memory stays.
+    pub(crate) fn clear(&mut self)
+        ensures { self.new ≡ [] }
+    {
+        self.ops.clear();
+    }
+
     /// The operations.
     pub fn as_slice(&self) -> &[Op]
         ensures { result.now ≡ self.now }

@@ -54,21 +54,34 @@ fn open_cores(alloc: Global, config: Config) -> Result<Vec<Core>, AllocError>
 {
     let mut cores = Vec::new(alloc);
     for number in 0..config.cores {
-        let core = CoreConfig {
-            number,
-            banks: config.banks,
-            line_words: config.line_words,
-            lease: config.lease,
-            private_write: config.private_write,
-            opening_time: config.opening_time,
-        };
-        let geometry = Geometry {
-            sets: config.sets,
-            ways: config.ways,
-        };
-        cores.push(Core::new(alloc, core, geometry)?)?;
+        let core = core_config(config, number);
+        cores.push(Core::new(alloc, core, geometry(config))?)?;
     }
     Ok(cores)
+}
+
+/// What the core of a number is set up with.
+pub(crate) fn core_config(config: Config, number: u32) -> CoreConfig
+    ensures { result ≡ core_config config number }
+{
+    CoreConfig {
+        number,
+        banks: config.banks,
+        line_words: config.line_words,
+        lease: config.lease,
+        private_write: config.private_write,
+        opening_time: config.opening_time,
+    }
+}
+
+/// The shape of each private cache.
+pub(crate) fn geometry(config: Config) -> Geometry
+    ensures { result ≡ geometry config }
+{
+    Geometry {
+        sets: config.sets,
+        ways: config.ways,
+    }
 }
 
 // The banks as they open.
@@ -78,17 +91,23 @@ fn open_banks(alloc: Global, config: Config) -> Result<Vec<Bank>, AllocError>
 {
     let mut banks = Vec::new(alloc);
     for number in 0..config.banks {
-        let bank = BankConfig {
-            number,
-            banks: config.banks,
-            sets: config.bank_sets,
-            ways: config.bank_ways,
-            lease: config.lease,
-            opening_time: config.opening_time,
-        };
-        banks.push(Bank::new(alloc, bank)?)?;
+        banks.push(Bank::new(alloc, bank_config(config, number))?)?;
     }
     Ok(banks)
+}
+
+/// What the bank of a number is set up with.
+pub(crate) fn bank_config(config: Config, number: u32) -> BankConfig
+    ensures { result ≡ bank_config config number }
+{
+    BankConfig {
+        number,
+        banks: config.banks,
+        sets: config.bank_sets,
+        ways: config.bank_ways,
+        lease: config.lease,
+        opening_time: config.opening_time,
+    }
 }
 
 // The DRAM of each bank, with the words of the opening memory.
@@ -98,11 +117,26 @@ fn open_drams(alloc: Global, config: Config, memory: &Memory) -> Result<Vec<Dram
         (entries memory.now) 0 config.banks) }
 {
     let mut drams = empty_drams(alloc, config.banks)?;
+    fill_drams(&mut drams, config, memory)?;
+    Ok(drams)
+}
+
+/// Sets the words of the opening memory in DRAMs of zeros.
+pub(crate) fn fill_drams(
+    drams: &mut Vec<Dram>,
+    config: Config,
+    memory: &Memory,
+) -> Result<(), AllocError>
+    requires good { is_good config ≡ true }
+    requires zeros { drams.old.items ≡ replicate config.banks empty }
+    ensures { OnOk result (drams.new.items ≡ drams_from config
+        (entries memory.now) 0 config.banks) }
+{
     let mut words = memory.words()?;
     while let Some(word) = words.pop() {
-        set_word(&mut drams, config, word.0, word.1)?;
+        set_word(drams, config, word.0, word.1)?;
     }
-    Ok(drams)
+    Ok(())
 }
 
 // DRAMs of zeros.

@@ -1,5 +1,5 @@
 //! What an answer leaves in the machine: the record of a completion, and the stop of exhausted times.
-ghost use Rattle.std.specs.Prelude.{◌≡◌, ◌+◌, ◌≤◌, ◌||◌, length, OnOk, vec_capacity};
+ghost use Rattle.std.specs.Prelude.{◌≡◌, ◌+◌, ◌≤◌, ◌||◌, [], length, OnOk, vec_capacity};
 ghost use Rattle.interleaving_core.specs.PartChanges.{stops, with_record};
 
 use machine_table::{Answer, Refusal};
@@ -31,6 +31,13 @@ pub(crate) fn keep(records: &mut Vec<Record>, answer: &Answer)
             number: done.number,
         });
     }
+}
+
+/// Drops all records. The memory stays.
+pub(crate) fn clear(records: &mut Vec<Record>)
+    ensures { records.new.items ≡ [] }
+{
+    records.clear();
 }
 
 /// Stops the machine where times are exhausted.

@@ -54,6 +54,8 @@ impl OpenError {
 #[derive(Drop)]
 pub struct System {
     state: MachineState,
+    // Whether its parts were told to keep their lines in rising order.
+    has_order: bool,
 }
 
 impl Model for System {
@@ -89,9 +91,25 @@ impl System {
             return Err(OpenError::BadConfig);
         }
         match MachineState::open(alloc, config, memory) {
-            Ok(state) => Ok(System { state }),
+            Ok(state) => Ok(System {
+                state,
+                has_order: false,
+            }),
             Err(AllocError) => Err(OpenError::NoMemory),
         }
+    }
+
+    /// The machine that `new` makes of its configuration and this memory. Its parts keep the memory that they have: more
+    /// is taken only for lines of DRAM beyond those that it had, and for the list of words. The time grows with what
+    /// was touched since the machine was made or opened again last. If memory is refused the machine is given up.
+    pub fn reopen(self, memory: Memory) -> Result<System, AllocError>
+        ensures { IfOk result (λ system. system ≡ at_start self.config memory) }
+    {
+        let state = self.state.reopen(memory)?;
+        Ok(System {
+            state,
+            has_order: false,
+        })
     }
 
     /// One event. The answer and the machine afterwards are those of the machine's table; or allocation failed, the
@@ -293,11 +311,22 @@ impl System {
     /// Each core and each bank keeps its lines in rising order from now on, so that `free_copy` and `entry` find a line
     /// by a binary search and take no memory. That takes 8 bytes for each copy and each entry that there may be, and
     /// moves at most as many bytes of a core or a bank each time a line comes to it or leaves it. A core or bank that is
-    /// refused the memory goes on without, and all answers are the same.
+    /// refused the memory goes on without, and all answers are the same. If the machine keeps them so already, this does
+    /// nothing.
     pub fn keep_order(&mut self)
         ensures { self.new ≡ self.old }
     {
+        if self.has_order {
+            return;
+        }
         self.state.keep_order();
+        self.has_order = true;
+    }
+
+    /// Whether lines are kept in rising order: `keep_order` was called, and neither `forget_order` nor `reopen` after
+    /// it. No contract sees that, since no other answer depends on it.
+    pub fn keeps_order(&self) -> bool {
+        self.has_order
     }
 
     /// The cores and banks keep their lines in rising order no longer, and give the memory for that back.
@@ -305,6 +334,7 @@ impl System {
         ensures { self.new ≡ self.old }
     {
         self.state.forget_order();
+        self.has_order = false;
     }
 
     /// How many messages are in flight.
@@ -328,6 +358,18 @@ impl System {
         ensures rising { IsRising 0 self.now.mail.messages self.now.mail.next }
     {
         self.state.flight.numbers()
+    }
+
+    /// Fills a list with the numbers of the messages in flight, rising. The list is emptied first and keeps the memory
+    /// that it has. More is taken only if that is too small for all numbers; if it is refused the list is empty.
+    pub fn list_in_flight(&self, into: &mut Vec<MsgNo>) -> Result<(), AllocError>
+        ensures numbers { OnOk result (into.new.items ≡ map (λ m. m.0) self.now.mail.messages) }
+        ensures refused { OnErr result (into.new.items ≡ []) }
+        ensures wanted { OnErr result (vec_capacity into.old < length self.now.mail.messages) }
+        ensures kept { vec_capacity into.old ≤ vec_capacity into.new }
+        ensures rising { IsRising 0 self.now.mail.messages self.now.mail.next }
+    {
+        self.state.flight.list_numbers(into)
     }
 }
 

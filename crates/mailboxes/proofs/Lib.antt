@@ -1,7 +1,12 @@
+mod ClosedParts
+mod ClosedCores
+mod CoreMoves
 mod DramWords
 mod JoinedSeats
 mod LinkEnds
+mod MergedRecords
 mod NewSeats
 mod OneStates
 mod Outboxes
 mod Sweeps
+mod RunStates

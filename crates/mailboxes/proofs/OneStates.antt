@@ -70,15 +70,13 @@ module _ (z : SetUp) (cores rest : List CoreSeat) (banks : List BankSeat) (first
       idle h.1.mail j (h.3 ∙ omega arith) (bank_known h.0 h.1 h.2))
 
   pub one_state : (count : ℕ) (slots : List (Option Message)) → HasCores cores z.config.cores →
-      HasBanks banks z.config.cores z.config.banks → Closes z known count slots →
-      OneState z cores banks count slots
+      HasBanks banks z.config.cores z.config.banks → (c : Closes z known count slots) →
+      OneState z cores banks c.log slots
   one_state count slots a b c =
       record {
         seats = c.seats;
         phases = c.phases;
-        log = c.log;
         whole = c.whole;
-        counted = c.counted;
         of_cores = λ i p e. held c.seats c.agrees p.mail (core_known i p e);
         of_banks = λ i p e. held c.seats c.agrees p.mail (bank_known i p e);
         lying = λ k l. sliced slots k (lies (c.phases k)) (c.lying (all_idle a b) k l);

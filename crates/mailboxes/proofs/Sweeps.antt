@@ -5,6 +5,7 @@ use Rattle.std.specs.Prelude.{slice_get, remove}
 use Rattle.std.proofs.lemmas.List.{take_more}
 use Rattle.std.proofs.lemmas.Option.{get_or_from_slice_get, slice_get_within}
 use Rattle.network.specs.declared.message.Message.{Message}
+use Rattle.serving.specs.Queues.{values_of}
 use Rattle.seat_rule.specs.declared.views.Hold.{Hold}
 use Rattle.seat_rule.specs.Plays.{SamePart, ones}
 use Rattle.mailboxes.specs.declared.mailbox.Mailbox.{Mailbox}
@@ -57,12 +58,12 @@ full_more cores banks number (x ∷ xs) m =
     ∙ sym (append_assoc first (found_full cores banks number xs) (ones (link_to cores banks number m.to) 4))
 
 -- the slots of one more link were found full
-pub swept_more : (p q r : Mailbox) (i link : ℕ) (m : Message) → slice_get p.outbox.items i ≡ Some m →
+pub swept_more : (p q r : Mailbox) (i link : ℕ) (m : Message) → slice_get (values_of p.outbox) i ≡ Some m →
     link ≡ link_to p.cores p.banks p.number m.to →
-    PutNothing (found_full p.cores p.banks p.number (take i p.outbox.items)) p q → PutNothing (ones link 4) q r →
-    PutNothing (found_full p.cores p.banks p.number (take (i + 1) p.outbox.items)) p r
+    PutNothing (found_full p.cores p.banks p.number (take i (values_of p.outbox))) p q → PutNothing (ones link 4) q r →
+    PutNothing (found_full p.cores p.banks p.number (take (i + 1) (values_of p.outbox))) p r
 swept_more p q r i link m here is n t =
-    let ms : List Message = p.outbox.items in
+    let ms : List Message = values_of p.outbox in
     let before : List Message = take i ms in
     let one : take (i + 1) ms ≡ before ++ m ∷ [] =
     take_more ms i m (slice_get_within ms i m here)

@@ -2,6 +2,7 @@
 use Rattle.std.specs.Prelude.{◌≡◌, ℕ, ◌+◌, ◌*◌, ◌%◌, ◌<◌, Bool, true, false, List, [], ◌∷◌, ◌++◌, take}
 use Rattle.std.specs.Prelude.{Some, None, slice_get, remove}
 use Rattle.network.specs.declared.message.Message.{Message}
+use Rattle.serving.specs.Queues.{values_of}
 use Rattle.seat_rule.specs.declared.views.Hold.{Hold}
 use Rattle.seat_rule.specs.Rule.{node_of}
 use Rattle.seat_rule.specs.Plays.{SamePart, ones}
@@ -32,22 +33,22 @@ pub record Stays (p q : Mailbox) : Type 0 where
 
 -- what comes in stays: the hand, the held list, the messages that were taken, and the cursor
 pub record SameIncoming (p q : Mailbox) : Type 0 where
-  pub hand : q.hand ≡ p.hand
-  pub held : q.held.items ≡ p.held.items
+  pub hand : q.inbox.hand ≡ p.inbox.hand
+  pub held : q.inbox.held ≡ p.inbox.held
   pub taken : (hold q).taken ≡ (hold p).taken
   pub cursor : q.cursor ≡ p.cursor
 
--- what goes out stays: the outbox and the messages that were put; and so do the held list
+-- what goes out stays: the outbox and the messages that were put; and so does the held list
 pub record SameOutgoing (p q : Mailbox) : Type 0 where
-  pub outbox : q.outbox.items ≡ p.outbox.items
-  pub held : q.held.items ≡ p.held.items
+  pub outbox : values_of q.outbox ≡ values_of p.outbox
+  pub held : q.inbox.held ≡ p.inbox.held
   pub put : (hold q).put ≡ (hold p).put
 
 -- the message m at i of the outbox was put into the s-th slot of this link, once and unchanged: the slots before were
 -- found full, and this one empty. Before, these looks were made
 abbrev pub PutInto : ℕ → List (ℕ × ℕ) → ℕ → ℕ → Message → Mailbox → Mailbox → Type 0
 PutInto link looks i s m p q =
-    (s < 4) × (slice_get p.outbox.items i ≡ Some m) × (q.outbox.items ≡ remove p.outbox.items i)
+    (s < 4) × (slice_get (values_of p.outbox) i ≡ Some m) × (values_of q.outbox ≡ remove (values_of p.outbox) i)
     × ((hold q).put ≡ (hold p).put ++ (4 * link + s, m) ∷ [])
     × ((hold q).looks ≡ (hold p).looks ++ (looks ++ (ones link s ++ (4 * link + s, 0) ∷ [])))
     × SameIncoming p q
@@ -55,8 +56,8 @@ PutInto link looks i s m p q =
 -- nothing was put, after these looks
 abbrev pub PutNothing : List (ℕ × ℕ) → Mailbox → Mailbox → Type 0
 PutNothing looks p q =
-    ((hold q).looks ≡ (hold p).looks ++ looks) × (q.outbox.items ≡ p.outbox.items) × ((hold q).put ≡ (hold p).put)
-    × SameIncoming p q
+    ((hold q).looks ≡ (hold p).looks ++ looks) × (values_of q.outbox ≡ values_of p.outbox)
+    × ((hold q).put ≡ (hold p).put) × SameIncoming p q
 
 -- the message at i was put into a slot of the link, or all four were found full
 abbrev pub PutAt : ℕ → ℕ → Bool → Mailbox → Mailbox → Type 0
@@ -68,19 +69,19 @@ PutAt link i false p q = PutNothing (ones link 4) p q
 abbrev pub Puts : Bool → Mailbox → Mailbox → Type 0
 Puts true p q =
     (i : ℕ) × (s : ℕ) × (m : Message) × PutInto (link_to p.cores p.banks p.number m.to)
-    (found_full p.cores p.banks p.number (take i p.outbox.items)) i s m p q
-Puts false p q = PutNothing (found_full p.cores p.banks p.number p.outbox.items) p q
+    (found_full p.cores p.banks p.number (take i (values_of p.outbox))) i s m p q
+Puts false p q = PutNothing (found_full p.cores p.banks p.number (values_of p.outbox)) p q
 
 -- the message m of this slot is in the hand: the slot was found full. Before, these looks were made
 abbrev pub TakenFrom : SetUp → List (ℕ × ℕ) → ℕ → Message → Mailbox → Mailbox → Type 0
 TakenFrom z looks k m p q =
-    (q.hand ≡ Some m) × (m.to ≡ node_of z p.number) × ((hold q).taken ≡ (hold p).taken ++ (k, m) ∷ [])
+    (q.inbox.hand ≡ Some m) × (m.to ≡ node_of z p.number) × ((hold q).taken ≡ (hold p).taken ++ (k, m) ∷ [])
     × ((hold q).looks ≡ (hold p).looks ++ (looks ++ (k, 1) ∷ [])) × SameOutgoing p q
 
 -- nothing was taken, after these looks
 abbrev pub TakenNothing : List (ℕ × ℕ) → Mailbox → Mailbox → Type 0
 TakenNothing looks p q =
-    ((hold q).looks ≡ (hold p).looks ++ looks) × (q.hand ≡ p.hand) × ((hold q).taken ≡ (hold p).taken)
+    ((hold q).looks ≡ (hold p).looks ++ looks) × (q.inbox.hand ≡ p.inbox.hand) × ((hold q).taken ≡ (hold p).taken)
     × (q.cursor ≡ p.cursor) × SameOutgoing p q
 
 -- the message of the slot was taken, or the slot was found empty
@@ -94,11 +95,11 @@ TakesAt z k false p q = TakenNothing ((k, 0) ∷ []) p q
 abbrev pub Takes : SetUp → Take → Mailbox → Mailbox → Type 0
 Takes z Taken p q =
     let count = incoming_count p.cores p.banks p.number in
-    (p.hand ≡ None) × ((n : ℕ) × (m : Message) × (n < count)
+    (p.inbox.hand ≡ None) × ((n : ℕ) × (m : Message) × (n < count)
     × TakenFrom z (found_empty p.cores p.banks p.number p.cursor n)
     (incoming p.cores p.banks p.number ((p.cursor + n) % count)) m p q
     × (q.cursor ≡ ((p.cursor + n) % count + 1) % count))
 Takes z Nothing p q =
-    (p.hand ≡ None)
+    (p.inbox.hand ≡ None)
     × TakenNothing (found_empty p.cores p.banks p.number p.cursor (incoming_count p.cores p.banks p.number)) p q
-Takes z HandFull p q = ((m : Message) × (p.hand ≡ Some m)) × (hold q ≡ hold p) × (q.cursor ≡ p.cursor)
+Takes z HandFull p q = ((m : Message) × (p.inbox.hand ≡ Some m)) × (hold q ≡ hold p) × (q.cursor ≡ p.cursor)

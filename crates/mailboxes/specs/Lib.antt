@@ -1,5 +1,9 @@
+pub mod Attempts
 pub mod BoxMoves
+pub mod PartsOfState
+pub mod CoreCalls
 pub mod Places
 pub mod Remains
+pub mod RunParts
 pub mod Seats
 pub mod Ties

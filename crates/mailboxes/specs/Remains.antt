@@ -1,5 +1,5 @@
 -- What is left of a machine when all its seats are given up.
-use Rattle.std.specs.Prelude.{◌≡◌, ℕ, ◌<◌, List, [], ◌∷◌, ◌++◌, length, Option, Some, slice_get}
+use Rattle.std.specs.Prelude.{◌≡◌, ℕ, ◌<◌, List, [], ◌∷◌, ◌++◌, Option, Some, slice_get}
 use Rattle.atomic_table.specs.Seated.{TableId}
 use Rattle.physiological_order.specs.declared.operation.Record.{Record}
 use Rattle.network.specs.declared.message.Message.{Message}
@@ -30,8 +30,7 @@ core_part p =
       records = p.records;
       counts = p.counts;
       outbox = p.mail.outbox;
-      hand = p.mail.hand;
-      held = p.mail.held;
+      inbox = p.mail.inbox;
     }
 
 abbrev pub bank_part : BankSeat → BankPart
@@ -42,8 +41,7 @@ bank_part p =
       dram = p.dram;
       counts = p.counts;
       outbox = p.mail.outbox;
-      hand = p.mail.hand;
-      held = p.mail.held;
+      inbox = p.mail.inbox;
     }
 
 -- what is learned of a seat that is joined: its number and what it holds
@@ -67,15 +65,13 @@ CoresAt t ps = (i : ℕ) (p : CoreSeat) → slice_get ps i ≡ Some p → p.mail
 abbrev pub BanksAt : TableId → List BankSeat → Type 0
 BanksAt t ps = (i : ℕ) (p : BankSeat) → slice_get ps i ≡ Some p → p.mail.seat.table_id ≡ t
 
--- There is one reached and consistent state, with this many records, of which what each given seat holds is the part,
--- and the messages in these slots are those in flight.
-pub record OneState (z : SetUp) (cores : List CoreSeat) (banks : List BankSeat) (count : ℕ)
+-- There is one reached and consistent state, with these records, of which what each given seat holds is the part, and
+-- the messages in these slots are those in flight.
+pub record OneState (z : SetUp) (cores : List CoreSeat) (banks : List BankSeat) (log : List Record)
     (slots : List (Option Message)) : Type 0 where
   pub seats : ℕ → Hold
   pub phases : ℕ → Phase
-  pub log : List Record
   pub whole : Whole z seats phases log
-  pub counted : length log ≡ count
   pub of_cores : (i : ℕ) (p : CoreSeat) → slice_get cores i ≡ Some p → seats p.mail.number ≡ hold p.mail
   pub of_banks : (i : ℕ) (p : BankSeat) → slice_get banks i ≡ Some p → seats p.mail.number ≡ hold p.mail
   pub lying : (k : ℕ) → k < slot_count z → slice_get slots k ≡ Some (lies (phases k))

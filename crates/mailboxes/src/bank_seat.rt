@@ -7,11 +7,12 @@ ghost use Rattle.seat_rule.specs.Rule.{opening_hold};
 ghost use Rattle.mailboxes.specs.Ties.{BankTied};
 
 use crate::machine::Machine;
-use crate::mailbox::{Mailbox, PLACES};
+use crate::mailbox::Mailbox;
 use crate::steps::Chair;
 use dram_mts::Dram;
 use llc_bank::{Bank, BankConfig};
 use machine_table::Counts;
+use serving::{Inbox, Queue};
 use std::alloc::{AllocError, Global};
 
 /// A bank's seat: its messages, the bank, the DRAM behind it, and the counts of the messages that it sent.
@@ -53,16 +54,15 @@ impl BankSeat {
             opening_time: config.opening_time,
         };
         let bank = Bank::new(alloc, bank)?;
-        let outbox = Vec::with_capacity(alloc, PLACES)?;
-        let held = Vec::with_capacity(alloc, PLACES)?;
+        let outbox = Queue::new(alloc)?;
+        let inbox = Inbox::new(alloc)?;
         let mail = Mailbox {
             seat,
             number,
             cores: config.cores,
             banks: config.banks,
             outbox,
-            hand: None,
-            held,
+            inbox,
             cursor: 0,
         };
         Ok(BankSeat {

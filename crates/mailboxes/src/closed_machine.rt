@@ -6,6 +6,7 @@ use machine_table::Counts;
 use network::Message;
 use physiological_order::{Op, Record};
 use seat_rule::SetUp;
+use serving::{Inbox, Queue};
 
 /// What a core's seat leaves: all that it stored.
 #[derive(Drop)]
@@ -20,11 +21,9 @@ pub struct CorePart {
     /// How many of the counted kinds of message the seat sent.
     pub counts: Counts,
     /// The messages that were not put, the oldest first.
-    pub outbox: Vec<Message>,
-    /// The message that was taken and not served.
-    pub hand: Option<Message>,
-    /// The messages that waited for the core, the oldest first.
-    pub held: Vec<Message>,
+    pub outbox: Queue<Message>,
+    /// The message that was taken and not served, and those that waited for the core.
+    pub inbox: Inbox<Message>,
 }
 
 /// What a bank's seat leaves: all that it stored.
@@ -37,16 +36,14 @@ pub struct BankPart {
     /// How many of the counted kinds of message the seat sent.
     pub counts: Counts,
     /// The messages that were not put, the oldest first.
-    pub outbox: Vec<Message>,
-    /// The message that was taken and not served.
-    pub hand: Option<Message>,
-    /// The messages that waited for the bank or its DRAM, the oldest first.
-    pub held: Vec<Message>,
+    pub outbox: Queue<Message>,
+    /// The message that was taken and not served, and those that waited for the bank or its DRAM.
+    pub inbox: Inbox<Message>,
 }
 
 /// A machine that no thread shares any more: the parts that its seats left, and what lay in the slots of its links.
 #[derive(Drop)]
-pub struct ClosedMachine {
+pub(crate) struct ClosedMachine {
     /// How the machine was set up, and the memory that it opened with.
     pub set_up: SetUp,
     /// The parts of the cores' seats, as the seats were given.

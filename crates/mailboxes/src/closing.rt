@@ -1,7 +1,9 @@
 //! The end: all seats are joined, and leave what they stored.
-ghost use Rattle.std.specs.Prelude.{◌≡◌, ℕ, ◌+◌, ◌<◌, ◌≤◌, false, [], ◌∷◌, ◌++◌, length, map, IfOk, vec_capacity};
+ghost use Rattle.std.specs.Prelude.{◌≡◌, ℕ, List, ◌+◌, ◌<◌, ◌≤◌, false, [], ◌∷◌, ◌++◌, length, map, IfOk, vec_capacity};
 ghost use Rattle.std.specs.Mem.Slots.{IsFull, slots_items, slots_len};
+ghost use Rattle.physiological_order.specs.declared.operation.Record.{Record};
 ghost use Rattle.machine_table.specs.SetUp.{is_good};
+ghost use Rattle.mailboxes.specs.PartsOfState.{PartsOfState};
 ghost use Rattle.mailboxes.specs.Places.{Belongs};
 ghost use Rattle.mailboxes.specs.Seats.{AllCoreSeats, AllBankSeats, AreAll};
 ghost use Rattle.mailboxes.specs.Remains.{backwards, core_part, bank_part, knows_all, core_entry};
@@ -12,6 +14,8 @@ use crate::closed_machine::{BankPart, ClosedMachine, CorePart};
 use crate::core_seat::CoreSeat;
 use crate::machine::Machine;
 use crate::mailbox::Mailbox;
+use crate::merging::merged;
+use crate::run::Run;
 use crate::steps::{Chair, Desk, meet};
 use atomic_table::Closed;
 use network::{Body, Message};
@@ -19,9 +23,46 @@ use seat_rule::laws::closed_machines_are_one_state;
 use std::alloc::{AllocError, Global};
 
 impl Machine {
-    /// Gives up the machine and all its seats, and answers what they leave. That is one state that moves reach from the
-    /// opening, and it is consistent. AllocError where there is no memory for what is left; then all is given up.
+    /// Gives up the machine and all its seats, and answers what they leave, with the records of all cores by number.
+    /// That is one state that moves reach from the opening, and it is consistent. AllocError where there is no memory
+    /// for what is left; then all is given up.
     pub fn close(
+        self,
+        alloc: Global,
+        cores: Vec<CoreSeat>,
+        banks: Vec<BankSeat>,
+    ) -> Result<Run, AllocError>
+        requires cores { AllCoreSeats self cores.items }
+        requires banks { AllBankSeats self banks.items }
+        requires whole { AreAll self cores.items banks.items }
+        ensures set_up { IfOk result (λ r. r.set_up ≡ self.set_up) }
+        ensures cores { IfOk result (λ r. r.cores.items ≡ map core_part cores.items) }
+        ensures banks { IfOk result (λ r. r.banks.items ≡ map bank_part banks.items) }
+        ensures state { IfOk result (λ r. OneState self.set_up cores.items banks.items
+            r.records.items r.slots.items) }
+        ensures parts { IfOk result (λ r. PartsOfState self.set_up r.cores.items r.banks.items
+            r.slots.items r.records.items) }
+    {
+        let left = self.leave(alloc, cores, banks)?;
+        let records = merged(alloc, &left)?;
+        let ClosedMachine {
+            set_up,
+            cores,
+            banks,
+            slots,
+            ..
+        } = left;
+        Ok(Run {
+            set_up,
+            cores,
+            banks,
+            slots,
+            records,
+        })
+    }
+
+    // What the machine and all its seats leave.
+    fn leave(
         self,
         alloc: Global,
         mut cores: Vec<CoreSeat>,
@@ -33,8 +74,8 @@ impl Machine {
         ensures set_up { IfOk result (λ r. r.set_up ≡ self.set_up) }
         ensures cores { IfOk result (λ r. r.cores.items ≡ map core_part cores.items) }
         ensures banks { IfOk result (λ r. r.banks.items ≡ map bank_part banks.items) }
-        ensures state { IfOk result (λ r. OneState self.set_up cores.items banks.items r.count
-            r.slots.items) }
+        ensures state { IfOk result (λ r. (log : List Record) × (length log ≡ r.count) ×
+            OneState self.set_up cores.items banks.items log r.slots.items) }
     {
         closed_machines_are_one_state();
         let mut core_parts = Vec::with_capacity(alloc, cores.len())?;
@@ -108,13 +149,13 @@ fn leave_core(port: CoreSeat, parts: &mut Vec<CorePart>) -> Chair
         issued,
         records,
         counts,
+        ..
     } = port;
     let Mailbox {
         seat,
         number,
         outbox,
-        hand,
-        held,
+        inbox,
         ..
     } = mail;
     parts.push_reserved(CorePart {
@@ -124,8 +165,7 @@ fn leave_core(port: CoreSeat, parts: &mut Vec<CorePart>) -> Chair
         records,
         counts,
         outbox,
-        hand,
-        held,
+        inbox,
     });
     seat
 }
@@ -147,8 +187,7 @@ fn leave_bank(port: BankSeat, parts: &mut Vec<BankPart>) -> Chair
         seat,
         number,
         outbox,
-        hand,
-        held,
+        inbox,
         ..
     } = mail;
     parts.push_reserved(BankPart {
@@ -157,8 +196,7 @@ fn leave_bank(port: BankSeat, parts: &mut Vec<BankPart>) -> Chair
         dram,
         counts,
         outbox,
-        hand,
-        held,
+        inbox,
     });
     seat
 }

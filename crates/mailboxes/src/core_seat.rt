@@ -1,16 +1,18 @@
 //! A core's seat with what it stores.
-ghost use Rattle.std.specs.Prelude.{◌≡◌, ◌<◌, true, false, [], IfOk};
+ghost use Rattle.std.specs.Prelude.{◌≡◌, ◌+◌, ◌<◌, ◌≤◌, true, false, [], IfOk, length, vec_capacity};
+ghost use Rattle.protocol.specs.Issued.{listed};
 ghost use Rattle.machine_table.specs.SetUp.{is_good};
 ghost use Rattle.seat_rule.specs.Rule.{opening_hold};
 ghost use Rattle.mailboxes.specs.Ties.{CoreTied};
 
 use crate::machine::Machine;
-use crate::mailbox::{Mailbox, PLACES};
+use crate::mailbox::Mailbox;
 use crate::steps::Chair;
 use core_pts::{Core, CoreConfig};
 use machine_table::Counts;
 use physiological_order::{Op, Record};
 use private_cache::Geometry;
+use serving::{Inbox, Queue};
 use std::alloc::{AllocError, Global};
 
 /// A core's seat: its messages, the core, the operations that it was issued, its records, and the counts of the
@@ -22,7 +24,10 @@ pub struct CoreSeat {
     pub issued: Vec<Op>,
     pub records: Vec<Record>,
     pub counts: Counts,
+    /// Whether a sum of times didn't fit: the seat's calls that can refuse are then refused.
+    pub is_stopped: bool,
     pub ghost tied: { CoreTied mail.seat.me.0.mine core issued.items records.items counts },
+    pub ghost room: { length records.items + length (listed core.open_op) ≤ vec_capacity records },
 }
 
 impl CoreSeat {
@@ -38,7 +43,7 @@ impl CoreSeat {
             (seat.me.0.mine ≡ opening_hold machine.now.set_up number) × (seat.me.1 ≡ []) }
         ensures { IfOk result (λ p. (p.mail.seat ≡ seat) × (p.mail.number ≡ number) ×
             (p.mail.cores ≡ machine.now.set_up.config.cores) ×
-            (p.mail.banks ≡ machine.now.set_up.config.banks)) }
+            (p.mail.banks ≡ machine.now.set_up.config.banks) × (p.is_stopped ≡ false)) }
     {
         let config = machine.set_up.config;
         let core = CoreConfig {
@@ -54,16 +59,15 @@ impl CoreSeat {
             ways: config.ways,
         };
         let core = Core::new(alloc, core, geometry)?;
-        let outbox = Vec::with_capacity(alloc, PLACES)?;
-        let held = Vec::with_capacity(alloc, PLACES)?;
+        let outbox = Queue::new(alloc)?;
+        let inbox = Inbox::new(alloc)?;
         let mail = Mailbox {
             seat,
             number,
             cores: config.cores,
             banks: config.banks,
             outbox,
-            hand: None,
-            held,
+            inbox,
             cursor: 0,
         };
         Ok(CoreSeat {
@@ -77,6 +81,7 @@ impl CoreSeat {
                 flushes: 0,
                 write_backs: 0,
             },
+            is_stopped: false,
         })
     }
 }

@@ -1,17 +1,24 @@
 //! The shared machine: seats that threads drive without a lock.
 #![tactic(auto)]
 
+mod attempting;
 mod bank_seat;
+mod changes;
 mod closed_machine;
 mod closing;
+mod completions;
+mod core_calls;
 mod core_seat;
 mod ends;
 mod links;
 mod machine;
 mod mailbox;
+mod merging;
 mod opened_dram;
 mod opening;
 mod putting;
+mod run;
+mod run_calls;
 mod seat_calls;
 mod steps;
 mod taken;
@@ -19,9 +26,10 @@ mod taking;
 mod whole;
 
 pub use bank_seat::BankSeat;
-pub use closed_machine::{BankPart, ClosedMachine, CorePart};
+pub use closed_machine::{BankPart, CorePart};
 pub use core_seat::CoreSeat;
 pub use machine::Machine;
 pub use mailbox::Mailbox;
 pub use opening::open;
+pub use run::Run;
 pub use taken::Take;

@@ -18,7 +18,7 @@ impl Mailbox {
         ensures seat { IsAt machine.now self.new × Stays self.old self.new }
         ensures taken { Takes machine.now.set_up result self.old self.new }
     {
-        if self.hand.is_some() {
+        if self.inbox.hand().is_some() {
             return Take::HandFull;
         }
         let count = self.slots_in(machine);
@@ -56,7 +56,7 @@ impl Mailbox {
     fn take_at(&mut self, machine: &Machine, slot: usize) -> bool
         requires seat { IsAt machine.now self.old }
         requires slot { EndsAt machine.now.set_up slot self.old.number }
-        requires hand { self.old.hand ≡ None }
+        requires hand { self.old.inbox.hand ≡ None }
         ensures seat { IsAt machine.now self.new × Stays self.old self.new }
         ensures taken { TakesAt machine.now.set_up slot result self.old self.new }
     {
@@ -65,7 +65,7 @@ impl Mailbox {
         }
         let message = receive(&machine.table.shared, &mut self.seat, slot);
         let _body: Body = message.body;
-        self.hand = Some(message);
+        self.inbox.fill_hand(message);
         true
     }
 }

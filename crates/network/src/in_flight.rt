@@ -1,7 +1,7 @@
 //! The messages in flight, by number.
 ghost use Rattle.std.specs.Prelude.{◌≡◌, ◌+◌, ◌*◌, ◌<◌, ◌≤◌, ◌^◌, ◌++◌, ◌∷◌, [], false, IsTrue, IfOk, IfErr, IfSome};
 ghost use Rattle.std.specs.Prelude.{OnOk, OnErr, IsOk, Option, None, Some, option_copied, option_map, length, map};
-ghost use Rattle.std.specs.Prelude.{slice_get};
+ghost use Rattle.std.specs.Prelude.{slice_get, vec_capacity};
 ghost use Rattle.network.specs.SetUp.{IsInRange};
 ghost use Rattle.network.specs.NumberedMessages.{IsRising, at_number};
 ghost use Rattle.network.specs.Routes.{has_endpoints};
@@ -210,6 +210,18 @@ impl InFlight {
         ensures rising { IsRising 0 self.now.mail.messages self.now.mail.next }
     {
         self.linked.numbers()
+    }
+
+    /// Fills a list with the numbers of the messages in flight, rising. The list is emptied first and keeps the memory
+    /// that it has. More is taken only if that is too small for all numbers; if it is refused the list is empty.
+    pub fn list_numbers(&self, into: &mut Vec<MsgNo>) -> Result<(), AllocError>
+        ensures numbers { OnOk result (into.new.items ≡ map (λ x. x.0) self.now.mail.messages) }
+        ensures refused { OnErr result (into.new.items ≡ []) }
+        ensures wanted { OnErr result (vec_capacity into.old < length self.now.mail.messages) }
+        ensures kept { vec_capacity into.old ≤ vec_capacity into.new }
+        ensures rising { IsRising 0 self.now.mail.messages self.now.mail.next }
+    {
+        self.linked.list_numbers(into)
     }
 
     /// How many messages are in flight.

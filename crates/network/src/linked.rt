@@ -1,6 +1,6 @@
 //! The messages in flight as they lie in memory: each with its number on the list of its link.
 ghost use Rattle.std.specs.Prelude.{◌≡◌, ◌+◌, ◌-◌, ◌*◌, ◌<◌, ◌≤◌, ◌^◌, ◌++◌, ◌∷◌, [], IsTrue, IfOk, IfSome};
-ghost use Rattle.std.specs.Prelude.{get_or, length, map, option_copied, option_map, slice_get};
+ghost use Rattle.std.specs.Prelude.{get_or, length, map, option_copied, option_map, slice_get, OnErr, OnOk, vec_capacity};
 ghost use Rattle.network.specs.SetUp.{IsInRange};
 ghost use Rattle.network.specs.NumberedMessages.{IsRising, at_number, given, still_there, without_number};
 ghost use Rattle.network.specs.Requests.{is_wanted};
@@ -13,7 +13,7 @@ use crate::criteria::Wanted;
 use crate::links::{count_links, link_of};
 use crate::message::{Body, Message, Node};
 use crate::numbers::{LineNo, MsgNo};
-use crate::slots::{Slot, cell_of, drop_empty, nth_number, numbers_of, take_cell, with_room};
+use crate::slots::{Slot, cell_of, drop_empty, list_numbers, nth_number, take_cell, with_room};
 use line_arena::laws::{appended, looked_up, taken_off};
 use line_arena::{Arena, ArenaError, Cell};
 use std::alloc::{AllocError, Global};
@@ -315,7 +315,21 @@ impl LinkedMessages {
             self.now.messages) }
         ensures rising { IsRising 0 self.now.messages self.now.next }
     {
-        numbers_of(*self.slots.allocator(), &self.slots)
+        let mut numbers = Vec::new(*self.slots.allocator());
+        self.list_numbers(&mut numbers)?;
+        Ok(numbers)
+    }
+
+    /// Fills a list, which is emptied first, with the numbers of the messages, rising. Memory is refused only if the
+    /// list's is too small for them; the list is then empty.
+    pub(crate) fn list_numbers(&self, into: &mut Vec<MsgNo>) -> Result<(), AllocError>
+        ensures numbers { OnOk result (into.new.items ≡ map (λ x. x.0) self.now.messages) }
+        ensures refused { OnErr result (into.new.items ≡ []) }
+        ensures wanted { OnErr result (vec_capacity into.old < length self.now.messages) }
+        ensures kept { vec_capacity into.old ≤ vec_capacity into.new }
+        ensures rising { IsRising 0 self.now.messages self.now.next }
+    {
+        list_numbers(&self.slots, self.count as usize, into)
     }
 
     /// The number of the message before which so many were sent that are still there; none past the last one.

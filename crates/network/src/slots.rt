@@ -1,5 +1,5 @@
 //! Slots of numbers in the order of sending, each with the cell where its message lies, if it is still there.
-ghost use Rattle.std.specs.Prelude.{◌≡◌, ◌+◌, ◌*◌, ◌<◌, ◌≤◌, ◌^◌, [], ℕ, None, Some, IfSome, IfNone, IfOk};
+ghost use Rattle.std.specs.Prelude.{◌≡◌, ◌+◌, ◌*◌, ◌<◌, ◌≤◌, ◌^◌, [], ℕ, None, Some, IfSome, IfNone, IfOk, OnErr, OnOk};
 ghost use Rattle.std.specs.Prelude.{length, map, slice_get, vec_capacity};
 ghost use Rattle.std.specs.Prelude.{vec_len};
 ghost use Rattle.network.specs.NumberedMessages.{IsRising, at_number, number_at, still_there, without_number};
@@ -115,17 +115,27 @@ pub(crate) fn take_cell(slots: &mut Vec<Slot>, number: u64) -> Option<u32>
     empty_slot(slots, at, number)
 }
 
-/// The numbers of the slots that have a cell, in their order.
-pub(crate) fn numbers_of(alloc: Global, slots: &[Slot]) -> Result<Vec<MsgNo>, AllocError>
-    ensures { IfOk result (λ numbers. numbers.items ≡ map (λ x. x.0) (still_there slots.now)) }
+/// Fills a list, which is emptied first, with the numbers of the slots that have a cell, in their order. So many slots
+/// have one. Memory is refused only if the list's is too small for them; the list is then empty.
+pub(crate) fn list_numbers(
+    slots: &[Slot],
+    count: usize,
+    into: &mut Vec<MsgNo>,
+) -> Result<(), AllocError>
+    requires { count ≡ length (still_there slots.now) }
+    ensures listed { OnOk result (into.new.items ≡ map (λ x. x.0) (still_there slots.now)) }
+    ensures refused { OnErr result (into.new.items ≡ []) }
+    ensures wanted { OnErr result (vec_capacity into.old < count) }
+    ensures kept { vec_capacity into.old ≤ vec_capacity into.new }
 {
-    let mut numbers = Vec::new(alloc);
+    into.clear();
+    into.reserve(count)?;
     for slot in slots {
         if slot.1.is_some() {
-            numbers.push(MsgNo(slot.0))?;
+            into.push_reserved(MsgNo(slot.0));
         }
     }
-    Ok(numbers)
+    Ok(())
 }
 
 /// The number of the slot that has a cell and comes after so many others that have one; none past the last.

@@ -1,6 +1,7 @@
 -- The text of records stands in the grammar for them.
 use Rattle.std.proofs.Common.{◌≡◌, ℕ, suc, ◌^◌, ◌<◌, ◌≤◌, List, [], ◌∷◌, ◌++◌, length, codes, decimal}
 use Rattle.std.proofs.Common.{Option, Some, None, refl, sym, ap, subst, ◌∙◌, arith, append_assoc}
+use Rattle.std.specs.Prelude.{IfSome}
 use Rattle.std.proofs.lemmas.List.{append-nil}
 use Rattle.std.proofs.lemmas.Fmt.{length-decimal-le}
 use Rattle.physiological_order.specs.declared.operation.Op.{Op}
@@ -13,6 +14,7 @@ use Rattle.trace_reader.specs.Grammar.{AreShort, TellRecords, AreRecords}
 use Rattle.trace_reader.specs.Lines.{lines_of, worded, with_fields}
 use Rattle.report_lines.specs.Hexadecimal.{address_text}
 use Rattle.record_text.specs.Text.{spaced, record_text, records_text}
+use Rattle.record_text.specs.Text.{AreComplete, AreRanged, HasItsValue, IsRangedOp}
 use Rattle.record_text.specs.Text.{IsAnswered, IsWritable, AreWritable}
 use Rattle.record_text.proofs.Numerals.{IsPlain, decimal-numeral, number-read, address-plain}
 use Rattle.record_text.proofs.SpacedFields.{tail, ArePlain, line-parted, line-fields}
@@ -156,6 +158,29 @@ stands (r ∷ records) h =
     subst (λ (w : List (List ℕ)). (length w ≡ length (r ∷ records)) × AreShort w × TellRecords (worded w) (r ∷
     records))
     (sym whole) (ap suc later.0, (short, later.1), told)
+
+-- what the grammar has is what is complete and in the ranges of its types
+answered : (op : Op) (received : Option ℕ) → HasItsValue op received → IsRangedOp op →
+    IfSome received (λ v. v < 2 ^ 64) → IsAnswered op received
+answered (Load word) (Some received) has op value = (op, value)
+answered (Store word value) None has op none = op
+answered (Swap word value) (Some received) has op v = (op.0, op.1, v)
+answered (Load word) None has op v = absurd has
+answered (Store word value) (Some received) has op v = absurd has
+answered (Swap word value) None has op v = absurd has
+
+pub writable : (records : List Record) → AreComplete records → AreRanged records → AreWritable records
+unfolding AreWritable
+writable [] c r = tt
+writable (x ∷ records) c r =
+    let k = c.0 in let q = r.0 in (
+      (k.0, q.0, q.2.1, q.2.2, answered x.op x.received k.1 q.1 q.2.0),
+      writable records c.1 r.1,
+    )
+
+pub line-each : (records : List Record) → AreWritable records →
+    length (lines_of (records_text records)) ≡ length records
+line-each records h = (stands records h).0
 
 pub text-stands : (records : List Record) → AreWritable records → length records ≤ MOST_LINES →
     AreRecords (records_text records) records

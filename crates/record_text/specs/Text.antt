@@ -1,6 +1,6 @@
 -- The text of records.
-use Rattle.std.specs.Prelude.{ℕ, ◌^◌, ◌<◌, List, [], ◌∷◌, ◌++◌, codes, decimal, Option, Some, None}
-use Rattle.std.specs.List.{flat_map}
+use Rattle.std.specs.Prelude.{ℕ, ◌^◌, ◌<◌, List, [], ◌∷◌, ◌++◌, codes, decimal, Option, Some, None, IfSome}
+use Rattle.std.specs.List.{flat_map, AllByRecursion}
 use Rattle.physiological_order.specs.declared.operation.Op.{Op}
 use Rattle.physiological_order.specs.declared.operation.Op.TheVariants.{Load, Store, Swap}
 use Rattle.physiological_order.specs.declared.operation.Record.{Record}
@@ -47,3 +47,33 @@ IsWritable r = (r.core < 64) × (r.place < 2 ^ 32) × (r.ts < 2 ^ 64) × (r.numb
 unfoldable pub AreWritable : List Record → Type 0
 AreWritable [] = Unit {0}
 AreWritable (r ∷ records) = IsWritable r × AreWritable records
+
+-- a load and a swap received a value, a store none
+abbrev pub HasItsValue : Op → Option ℕ → Type 0
+HasItsValue (Load word) (Some received) = Unit {0}
+HasItsValue (Store word value) None = Unit {0}
+HasItsValue (Swap word value) (Some received) = Unit {0}
+HasItsValue op received = ⊥
+
+-- what a record of a program needs to be one that the grammar has: the ranges of its types do the rest
+abbrev pub IsComplete : Record → Type 0
+IsComplete r = (r.core < 64) × HasItsValue r.op r.received
+
+abbrev pub AreComplete : List Record → Type 0
+AreComplete records = AllByRecursion IsComplete records
+
+-- the numbers of an operation are in the ranges of their types
+abbrev pub IsRangedOp : Op → Type 0
+IsRangedOp (Load word) = word < 2 ^ 61
+IsRangedOp (Store word value) = (word < 2 ^ 61) × (value < 2 ^ 64)
+IsRangedOp (Swap word value) = (word < 2 ^ 61) × (value < 2 ^ 64)
+
+-- what is received, the time and the number are
+abbrev pub IsRangedEnd : Record → Type 0
+IsRangedEnd r = IfSome r.received (λ v. v < 2 ^ 64) × (r.ts < 2 ^ 64) × (r.number < 2 ^ 64)
+
+abbrev pub IsRanged : Record → Type 0
+IsRanged r = (r.place < 2 ^ 32) × IsRangedOp r.op × IsRangedEnd r
+
+abbrev pub AreRanged : List Record → Type 0
+AreRanged records = AllByRecursion IsRanged records

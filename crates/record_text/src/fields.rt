@@ -1,7 +1,7 @@
 //! The fields of a record's line: each is put after the text so far. If allocation fails, part of it may stand there.
 
-ghost use Rattle.std.specs.Prelude.{◌≡◌, ◌++◌, decimal, OnOk};
-ghost use Rattle.record_text.specs.Text.{spaced, spaced_value, op_text};
+ghost use Rattle.std.specs.Prelude.{◌≡◌, ◌++◌, ◌<◌, ◌^◌, decimal, IfSome, OnOk};
+ghost use Rattle.record_text.specs.Text.{IsRangedOp, spaced, spaced_value, op_text};
 ghost use Rattle.report_lines.specs.Hexadecimal.{address_text};
 
 use itoa::Buffer;
@@ -11,8 +11,10 @@ use std::alloc::AllocError;
 
 /// An address behind a space.
 fn put_next_address(out: &mut Vec<u8>, word: WordAddr) -> Result<(), AllocError>
-    ensures { OnOk result (out.new.items ≡ out.old.items ++ spaced (address_text word)) }
+    ensures text { OnOk result (out.new.items ≡ out.old.items ++ spaced (address_text word)) }
+    ensures ranged { word < 2 ^ 61 }
 {
+    let _number = word.word();
     out.push(b' ')?;
     put_address(out, word)
 }
@@ -36,7 +38,8 @@ pub(crate) fn put_next(out: &mut Vec<u8>, number: u64) -> Result<(), AllocError>
 
 /// A value behind a space, if there is one.
 pub(crate) fn put_value(out: &mut Vec<u8>, value: Option<u64>) -> Result<(), AllocError>
-    ensures { OnOk result (out.new.items ≡ out.old.items ++ spaced_value value) }
+    ensures text { OnOk result (out.new.items ≡ out.old.items ++ spaced_value value) }
+    ensures ranged { IfSome value (λ v. v < 2 ^ 64) }
 {
     match value {
         Some(value) => put_next(out, value),
@@ -46,7 +49,8 @@ pub(crate) fn put_value(out: &mut Vec<u8>, value: Option<u64>) -> Result<(), All
 
 /// The letter and the address of an operation, and the value that it writes.
 pub(crate) fn put_op(out: &mut Vec<u8>, op: Op) -> Result<(), AllocError>
-    ensures { OnOk result (out.new.items ≡ out.old.items ++ op_text op) }
+    ensures text { OnOk result (out.new.items ≡ out.old.items ++ op_text op) }
+    ensures ranged { OnOk result (IsRangedOp op) }
 {
     match op {
         Op::Load(word) => {

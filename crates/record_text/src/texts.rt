@@ -1,9 +1,11 @@
 //! The text of a list of records.
 
 ghost use Rattle.std.specs.Prelude.{◌≡◌, ◌≤◌, ◌++◌, length, IfOk, OnOk};
-ghost use Rattle.record_text.specs.Text.{end_text, record_text, records_text, AreWritable};
+ghost use Rattle.record_text.specs.Text.{AreComplete, AreRanged, IsRanged, IsRangedEnd};
+ghost use Rattle.record_text.specs.Text.{end_text, record_text, records_text};
 ghost use Rattle.trace_reader.specs.declared.limits.TheConstants.{MOST_LINES};
 ghost use Rattle.trace_reader.specs.Grammar.{AreRecords};
+ghost use Rattle.trace_reader.specs.Lines.{lines_of};
 
 use crate::fields::{put_next, put_number, put_op, put_value};
 use physiological_order::Record;
@@ -11,7 +13,8 @@ use std::alloc::{AllocError, Global};
 
 /// What follows the operation.
 fn put_end(out: &mut Vec<u8>, told: &Record) -> Result<(), AllocError>
-    ensures { OnOk result (out.new.items ≡ out.old.items ++ end_text told.now) }
+    ensures text { OnOk result (out.new.items ≡ out.old.items ++ end_text told.now) }
+    ensures ranged { OnOk result (IsRangedEnd told.now) }
 {
     put_value(out, told.received)?;
     put_next(out, told.ts)?;
@@ -21,7 +24,8 @@ fn put_end(out: &mut Vec<u8>, told: &Record) -> Result<(), AllocError>
 }
 
 fn put_record(out: &mut Vec<u8>, told: &Record) -> Result<(), AllocError>
-    ensures { OnOk result (out.new.items ≡ out.old.items ++ record_text told.now) }
+    ensures text { OnOk result (out.new.items ≡ out.old.items ++ record_text told.now) }
+    ensures ranged { OnOk result (IsRanged told.now) }
 {
     put_number(out, u64::from(told.core))?;
     put_next(out, u64::from(told.place))?;
@@ -34,8 +38,11 @@ fn put_record(out: &mut Vec<u8>, told: &Record) -> Result<(), AllocError>
 /// (docs/TEXTS.md).
 pub fn records_text(alloc: Global, records: &[Record]) -> Result<Vec<u8>, AllocError>
     ensures text { IfOk result (λ text. text.items ≡ records_text records.now) }
-    // The text of records that the grammar has, no more than a text has lines, stands for them: read back, it is they.
-    ensures stands { IfOk result (λ text. AreWritable records.now →
+    // The text of records of cores below 64, with a received value exactly where there is one to receive, has a line
+    // for each. If these are no more than a text may have, it stands in the grammar for the records.
+    ensures lines { IfOk result (λ text. AreComplete records.now →
+        length (lines_of text.items) ≡ length records.now) }
+    ensures stands { IfOk result (λ text. AreComplete records.now →
         length records.now ≤ MOST_LINES → AreRecords text.items records.now) }
 {
     let mut text = Vec::new(alloc);

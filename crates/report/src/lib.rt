@@ -8,6 +8,7 @@ mod one_run;
 mod sources;
 
 pub use batches::batch;
+pub use byte_streams::{FromRead, Sink, Source, ToWrite};
 pub use litmus::run_litmus;
 pub use one_run::run_once;
 pub use report_text::litmus_text;

@@ -1,7 +1,10 @@
 //! One run of a litmus test.
-ghost use Rattle.std.specs.Prelude.{◌≡◌, ◌≤◌, ◌<◌, ℕ, true, length, IfOk, List};
+ghost use Rattle.std.specs.Prelude.{◌≡◌, ◌≤◌, ◌<◌, ℕ, true, length, IfOk, List, OnOk};
+ghost use Rattle.std.specs.FinMap.{empty};
 ghost use Rattle.litmus_reader.specs.Grammar.{IsTest};
+ghost use Rattle.litmus_reader.specs.OpeningMemory.{words_opened};
 ghost use Rattle.litmus_reader.specs.TestViews.{test_of};
+ghost use Rattle.machine_table.specs.Opening.{at_start};
 ghost use Rattle.machine_table.specs.SetUp.{is_good};
 ghost use Rattle.report.specs.Litmus.{HasOutcome};
 ghost use Rattle.report.specs.Runs.{IsRun, state_at, threads_from, values_from};
@@ -30,17 +33,48 @@ pub fn run_once(
     ensures outcome { IfOk result (λ run.
         (text : List ℕ) → IsTest text (test_of test.now) → HasOutcome (test_of test.now) run) }
 {
-    every_history_is_legal();
-    performed_histories_are_sequential();
+    let mut system = open(alloc, test, config)?;
+    run_on(alloc, test, &mut system, policy, limit)
+}
+
+/// A machine that is set up so and opens with the test's memory.
+pub(crate) fn open(alloc: Global, test: &Test, config: Config) -> Result<System, AllocError>
+    requires { is_good config ≡ true }
+    ensures { IfOk result (λ system. system ≡ at_start config
+        (words_opened (test_of test.now).items empty)) }
+{
     let memory = test.opening()?;
-    let Ok(mut system) = System::new(alloc, config, memory) else {
+    let Ok(system) = System::new(alloc, config, memory) else {
         return Err(AllocError);
     };
+    Ok(system)
+}
+
+/// A run of the test, as `run_once` makes it, on a machine that has just opened with the test's memory. The machine's
+/// configuration stays.
+pub(crate) fn run_on(
+    alloc: Global,
+    test: &Test,
+    system: &mut System,
+    policy: Policy,
+    limit: u32,
+) -> Result<RunEnd, AllocError>
+    requires good { is_good system.old.config ≡ true }
+    requires cores { system.old.config.cores ≡ (test_of test.now).threads }
+    requires opened { system.old ≡ at_start system.old.config
+        (words_opened (test_of test.now).items empty) }
+    ensures run { IfOk result (IsRun (test_of test.now) system.old.config policy limit) }
+    ensures outcome { IfOk result (λ run.
+        (text : List ℕ) → IsTest text (test_of test.now) → HasOutcome (test_of test.now) run) }
+    ensures config { OnOk result (system.new.config ≡ system.old.config) }
+{
+    every_history_is_legal();
+    performed_histories_are_sequential();
     let mut started = start_threads(alloc, test)?;
     let threads = started.as_mut_slice();
-    let end = run_to_end(alloc, &mut system, threads, policy, limit);
+    let end = run_to_end(alloc, system, threads, policy, limit);
     let stale = stale_hits(alloc, system.records())?;
-    let state = end_state(alloc, test, end, threads, &system)?;
+    let state = end_state(alloc, test, end, threads, system)?;
     Ok(RunEnd {
         end,
         state,

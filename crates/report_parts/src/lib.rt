@@ -1,4 +1,4 @@
-//! What the reports of litmus tests and of traces share: the machine that options ask for, which schedule a run follows
+//! What the reports of litmus tests and traces share: the machine that options ask for, which schedule a run follows
 //! and how far, and a whole text to a sink.
 #![tactic(auto)]
 

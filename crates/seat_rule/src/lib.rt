@@ -1,5 +1,5 @@
-//! The rule that the seats of a shared machine keep, and its laws: each step of a seat keeps it, and what all seats
-//! hold is together one state that moves reach.
+//! The rule that the seats of a shared machine keep, with its laws: each step keeps it, and what all seats hold is
+//! together one state that moves reach.
 #![tactic(auto)]
 
 pub mod laws;

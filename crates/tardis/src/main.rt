@@ -1,5 +1,5 @@
-//! The program: it gives its words, the host's files, standard output and standard error to the answer, which stands
-//! in the crate `program`, and ends with the exit status that comes back.
+//! The program: it gives its words, the host's files, standard output and standard error to the answer (crate
+//! `program`), and ends with the exit status that comes back.
 #![tactic(auto)]
 
 mod host;

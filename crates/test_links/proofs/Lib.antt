@@ -1,1 +1,1 @@
-mod LastSeats
+mod EachSeat

@@ -1,5 +1,5 @@
-//! Tests of a shared machine: what it has when it closes as soon as it opened, and what its links give then. The
-//! expected values were worked out by hand from docs/PROTOCOL.md.
+//! Tests of a shared machine: which set-ups it takes, what it has when it closes as soon as it opened, and what its
+//! links give then. The expected values were worked out by hand from docs/PROTOCOL.md.
 #![tactic(auto)]
 
 #[cfg(test)]
@@ -7,4 +7,8 @@ mod closings;
 #[cfg(test)]
 mod links;
 #[cfg(test)]
+mod looks;
+#[cfg(test)]
 mod machines;
+#[cfg(test)]
+mod set_ups;

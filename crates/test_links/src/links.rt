@@ -1,38 +1,65 @@
-//! The links of a machine that has just opened.
-use crate::machines::{SMALL, memory};
-use mailboxes::{Take, open};
+//! The links and the seats of machines that have just opened.
+ghost use Rattle.mailboxes.specs.Seats.{AllBankSeats, AllCoreSeats};
+
+use crate::looks::all_find_nothing;
+use crate::machines::{BANKS, CORES, opened};
+use mailboxes::{BankSeat, CoreSeat, Machine};
+use std::alloc::Global;
 use std::test::Fail;
 
 #[test]
-fn nothing_is_put_and_nothing_is_taken(rt: HostRuntime) -> Result<(), Fail> {
-    let memory = memory(rt.alloc())?;
-    match open(rt.alloc(), SMALL, memory) {
-        Err(_) => return Err(Fail::from("the machine opens")),
-        Ok((machine, mut cores, mut banks)) => {
-            if let Some(mut core) = cores.pop() {
-                assert!(rt; !core.put(&machine));
-                assert_eq!(rt; core.take(&machine), Take::Nothing);
-                assert_eq!(rt; core.take(&machine), Take::Nothing);
-            }
-            if let Some(mut bank) = banks.pop() {
-                assert!(rt; !bank.put(&machine));
-                assert_eq!(rt; bank.take(&machine), Take::Nothing);
-            }
-            Ok(())
-        }
+fn no_seat_puts_and_no_seat_takes(rt: HostRuntime) -> Result<(), Fail> {
+    let (machine, mut cores, mut banks) = opened(rt.alloc())?;
+    assert!(rt; all_find_nothing(&machine, &mut cores, &mut banks));
+    assert!(rt; all_find_nothing(&machine, &mut cores, &mut banks));
+    Ok(())
+}
+
+// Gives up a core's seat, if there is one at this place.
+fn leave_out_core(machine: &Machine, cores: &mut Vec<CoreSeat>, at: usize)
+    requires { AllCoreSeats machine.now cores.old.items }
+    ensures { AllCoreSeats machine.now cores.new.items }
+{
+    if at < cores.len() {
+        let _core = cores.remove(at);
     }
 }
 
-#[test]
-fn a_machine_is_not_whole_without_one_of_its_seats(rt: HostRuntime) -> Result<(), Fail> {
-    let memory = memory(rt.alloc())?;
-    match open(rt.alloc(), SMALL, memory) {
-        Err(_) => Err(Fail::from("the machine opens")),
-        Ok((machine, mut cores, banks)) => {
-            assert!(rt; machine.is_whole(cores.as_slice(), banks.as_slice()));
-            let _last = cores.pop();
-            assert!(rt; !machine.is_whole(cores.as_slice(), banks.as_slice()));
-            Ok(())
-        }
+// Gives up a bank's seat, if there is one at this place.
+fn leave_out_bank(machine: &Machine, banks: &mut Vec<BankSeat>, at: usize)
+    requires { AllBankSeats machine.now banks.old.items }
+    ensures { AllBankSeats machine.now banks.new.items }
+{
+    if at < banks.len() {
+        let _bank = banks.remove(at);
     }
+}
+
+// Whether a machine is whole without one of its cores' seats.
+fn is_whole_without_core(alloc: Global, missing: usize) -> Result<bool, Fail> {
+    let (machine, mut cores, banks) = opened(alloc)?;
+    leave_out_core(&machine, &mut cores, missing);
+    Ok(machine.is_whole(cores.as_slice(), banks.as_slice()))
+}
+
+// Whether a machine is whole without one of its banks' seats.
+fn is_whole_without_bank(alloc: Global, missing: usize) -> Result<bool, Fail> {
+    let (machine, cores, mut banks) = opened(alloc)?;
+    leave_out_bank(&machine, &mut banks, missing);
+    Ok(machine.is_whole(cores.as_slice(), banks.as_slice()))
+}
+
+#[test]
+fn a_machine_is_not_whole_without_any_of_its_seats(rt: HostRuntime) -> Result<(), Fail> {
+    let cores = CORES as usize;
+    let banks = BANKS as usize;
+    for missing in 0..cores {
+        assert!(rt; !is_whole_without_core(rt.alloc(), missing)?);
+    }
+    for missing in 0..banks {
+        assert!(rt; !is_whole_without_bank(rt.alloc(), missing)?);
+    }
+    assert!(rt; is_whole_without_core(rt.alloc(), cores)?);
+    assert!(rt; is_whole_without_bank(rt.alloc(), banks)?);
+    Ok(())
 }

@@ -1,7 +1,12 @@
 //! The machine of the tests, and what its memory has.
+ghost use Rattle.std.specs.Prelude.{IfOk};
+ghost use Rattle.mailboxes.specs.Seats.{AllBankSeats, AllCoreSeats};
+
 use machine_table::Config;
+use mailboxes::{BankSeat, CoreSeat, Machine, open};
 use physiological_order::{Memory, WordAddr};
 use std::alloc::{AllocError, Global};
+use std::test::Fail;
 
 pub(crate) const CORES: u32 = 3;
 
@@ -40,4 +45,15 @@ pub(crate) fn memory(alloc: Global) -> Result<Memory, AllocError> {
         }
     }
     Ok(memory)
+}
+
+/// The machine as it opens, and its seats.
+pub(crate) fn opened(alloc: Global) -> Result<(Machine, Vec<CoreSeat>, Vec<BankSeat>), Fail>
+    ensures cores { IfOk result (λ r. AllCoreSeats r.0 r.1.items) }
+    ensures banks { IfOk result (λ r. AllBankSeats r.0 r.2.items) }
+{
+    match open(alloc, SMALL, memory(alloc)?) {
+        Err(_) => Err(Fail::from("the machine opens")),
+        Ok(all) => Ok(all),
+    }
 }

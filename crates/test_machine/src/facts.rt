@@ -43,6 +43,17 @@ fn are_messages(messages: &[MsgNo], numbers: &[u64]) -> bool {
     left.is_empty()
 }
 
+// Whether a list that has a number already, and then one that has all memory that it needs, is filled with these.
+fn are_listed(alloc: Global, system: &System, numbers: &[u64]) -> Result<bool, AllocError> {
+    let mut list = Vec::new(alloc);
+    list.push(MsgNo(77))?;
+    system.list_in_flight(&mut list)?;
+    let capacity = list.capacity();
+    let are = are_messages(&list, numbers);
+    system.list_in_flight(&mut list)?;
+    Ok(are && are_messages(&list, numbers) && list.capacity() == capacity)
+}
+
 // Whether the copies that may be evicted, one by one, are those of these lines.
 fn are_free(system: &System, core: u32, numbers: &[u64]) -> Result<bool, AllocError> {
     if system.free_copies(core) != numbers.len() {
@@ -132,7 +143,9 @@ fn has_lists(alloc: Global, system: &System, step: &Step) -> Result<bool, AllocE
             are_lines(&system.entries(*bank)?, lines) && are_settled(system, *bank, lines)?,
         ),
         Step::InFlight(numbers) => Ok(
-            are_messages(&system.in_flight()?, numbers) && are_in_flight(system, numbers),
+            are_messages(&system.in_flight()?, numbers)
+                && are_listed(alloc, system, numbers)?
+                && are_in_flight(system, numbers),
         ),
         Step::Issues(core, ops) => Ok(are_issued(system.issued(*core), ops)),
         Step::Records(count, hits) => {

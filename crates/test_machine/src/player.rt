@@ -1,4 +1,4 @@
-//! Plays examples: each event by event, and again as one list.
+//! Plays examples: each event by event, the same on the machine opened again, and once more as one list.
 use crate::examples::{Example, Step};
 use crate::facts::is_so;
 use crate::happenings::{happening, word};
@@ -11,13 +11,18 @@ use std::test::Fail;
 /// No line of an example stands for more events.
 const MOST: u64 = 64;
 
-// A machine that opens on a memory with these words.
-fn opened(alloc: Global, config: Config, words: &[(u64, u64)]) -> Result<System, Fail> {
+// A memory with these words.
+fn memory_of(alloc: Global, words: &[(u64, u64)]) -> Result<Memory, AllocError> {
     let mut memory = Memory::new(alloc);
     for (at, value) in words {
         memory.set(word(*at), *value)?;
     }
-    match System::new(alloc, config, memory) {
+    Ok(memory)
+}
+
+/// A machine that opens on a memory with these words.
+pub(crate) fn opened(alloc: Global, config: Config, words: &[(u64, u64)]) -> Result<System, Fail> {
+    match System::new(alloc, config, memory_of(alloc, words)?) {
         Ok(system) => Ok(system),
         Err(_) => Err(Fail::from("the machine is not opened")),
     }
@@ -82,13 +87,33 @@ fn runs(alloc: Global, example: &Example) -> Result<bool, Fail> {
     Ok(system.run(&events)?.as_slice() == answers.as_slice())
 }
 
-/// Plays examples.
+// Words of a memory that no example opens with.
+const OTHER_WORDS: [(u64, u64); 2] = [(0, 30), (1, 31)];
+
+// Whether the machine has opened with the other memory.
+fn has_other_words(system: &System) -> bool {
+    system.records().is_empty()
+        && system.coherent(word(0)) == 30
+        && system.coherent(word(1)) == 31
+        && system.messages() == 0
+}
+
+/// Plays examples, each on a new machine, and on the same one opened again with another memory and with its own.
 pub(crate) fn play<R: Abort>(rt: &R, alloc: Global, examples: &[Example]) -> Result<(), Fail> {
     for example in examples {
         let shows = example.shows;
         let mut system = opened(alloc, example.config, example.words)?;
         for (number, step) in example.steps.iter().enumerate() {
             assert!(rt; goes(alloc, &mut system, step)?, "{shows}: step {number}");
+        }
+        let other = system.reopen(memory_of(alloc, &OTHER_WORDS)?)?;
+        assert!(rt; has_other_words(&other), "{shows}: another memory");
+        let mut again = other.reopen(memory_of(alloc, example.words)?)?;
+        for (number, step) in example.steps.iter().enumerate() {
+            assert!(rt;
+                goes(alloc, &mut again, step)?,
+                "{shows}: step {number}, opened again"
+            );
         }
         assert!(rt; runs(alloc, example)?, "{shows}, as one list");
     }

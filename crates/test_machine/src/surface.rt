@@ -1,7 +1,9 @@
 //! What a new machine says, every look-up, the set-ups that are refused, and the numbers of refusals.
 use crate::examples::{BUSY, Example, NO_SUCH, On, Says, Step, USUAL, X, Y};
-use crate::player::{is_bad, is_made, play};
+use crate::player::{is_bad, is_made, opened, play};
 use interleaving_core::{Config, OpenError, Refusal};
+use physiological_order::Memory;
+use std::alloc::Global;
 use std::test::Fail;
 
 // A place for one copy in each set, and for one line in the bank.
@@ -236,6 +238,36 @@ fn set_ups_at_the_ends_of_their_ranges(rt: HostRuntime) {
     for config in REFUSED {
         assert!(rt; is_bad(rt.alloc(), *config), "{config:?}");
     }
+}
+
+// Whether a machine keeps its lines in rising order: before it is told to, told once, told twice, told to forget it,
+// told again, and opened again.
+fn orders(alloc: Global) -> Result<[bool; 6], Fail> {
+    let mut system = opened(alloc, LEAST, &[])?;
+    let at_first = system.keeps_order();
+    system.keep_order();
+    let told = system.keeps_order();
+    system.keep_order();
+    let twice = system.keeps_order();
+    system.forget_order();
+    let forgotten = system.keeps_order();
+    system.keep_order();
+    let again = system.keeps_order();
+    let reopened = system.reopen(Memory::new(alloc))?;
+    Ok([
+        at_first,
+        told,
+        twice,
+        forgotten,
+        again,
+        reopened.keeps_order(),
+    ])
+}
+
+#[test]
+fn keeps_lines_in_order_until_told_otherwise(rt: HostRuntime) -> Result<(), Fail> {
+    assert!(rt; orders(rt.alloc())? == [false, true, true, false, true, false]);
+    Ok(())
 }
 
 const NUMBERS: &[(Refusal, u8)] = &[

@@ -441,22 +441,40 @@ fn first_wrong(bank: &mut Bank, steps: &[Step]) -> Result<Option<usize>, AllocEr
     Ok(None)
 }
 
-#[test]
-fn four_sets(rt: HostRuntime) -> Result<(), Fail> {
-    for (shows, steps) in &FOUR_SETS {
-        let mut bank = bank(rt.alloc(), 4, 2, 0)?;
-        assert_eq!(rt; first_wrong(&mut bank, steps)?, None, "{shows}");
+// The number of the first step that doesn't go as it says, on a new bank.
+fn wrong_step(alloc: Global, sets: u32, steps: &[Step]) -> Result<Option<usize>, AllocError>
+    requires some_sets { 1 ≤ sets }
+    requires most_sets { sets ≤ 1024 }
+{
+    let mut bank = bank(alloc, sets, 2, 0)?;
+    first_wrong(&mut bank, steps)
+}
+
+// What the first case that doesn't go as it says shows, and the number of its step.
+fn wrong_case(
+    alloc: Global,
+    sets: u32,
+    cases: &[(&'static str, &[Step])],
+) -> Result<Option<(&'static str, usize)>, AllocError>
+    requires some_sets { 1 ≤ sets }
+    requires most_sets { sets ≤ 1024 }
+{
+    for (shows, steps) in cases {
+        if let Some(number) = wrong_step(alloc, sets, steps)? {
+            return Ok(Some((*shows, number)));
+        }
     }
-    Ok(())
+    Ok(None)
 }
 
 #[test]
-fn one_set(rt: HostRuntime) -> Result<(), Fail> {
-    for (shows, steps) in &ONE_SET {
-        let mut bank = bank(rt.alloc(), 1, 2, 0)?;
-        assert_eq!(rt; first_wrong(&mut bank, steps)?, None, "{shows}");
-    }
-    Ok(())
+fn four_sets(rt: HostRuntime) {
+    assert_eq!(rt; wrong_case(rt.alloc(), 4, &FOUR_SETS), Ok(None));
+}
+
+#[test]
+fn one_set(rt: HostRuntime) {
+    assert_eq!(rt; wrong_case(rt.alloc(), 1, &ONE_SET), Ok(None));
 }
 
 // To what node bank 1 would send at a request to read a line, and whether the request would stay.
@@ -476,6 +494,15 @@ fn read_at_1(line: u64) -> Message {
     }
 }
 
+// Whether line 3 has a place beside line 1, and line 5 has none.
+fn shares_sets(bank: &mut Bank) -> bool {
+    let stays = Some((Node::Dram(1), true));
+    let first = would_send(bank, 1) == stays;
+    let _loads = delivered(bank, &read_at_1(1));
+    let others = would_send(bank, 3) == stays && would_send(bank, 5) == None;
+    first && others && delivered(bank, &read_at_1(5)) == Some(Ok(Reaction::Held))
+}
+
 // Bank 1 of two, with two sets of one way: it has the odd lines, and lines 1 and 5 share a set.
 #[test]
 fn lines_go_round_the_banks(rt: HostRuntime) -> Result<(), Fail> {
@@ -488,28 +515,27 @@ fn lines_go_round_the_banks(rt: HostRuntime) -> Result<(), Fail> {
         opening_time: 0,
     };
     let mut bank = Bank::new(rt.alloc(), config)?;
-    let stays = Some((Node::Dram(1), true));
-    assert_eq!(rt; would_send(&bank, 1), stays);
-    let _loads = delivered(&mut bank, &read_at_1(1));
-    assert_eq!(rt; would_send(&bank, 3), stays);
-    assert_eq!(rt; would_send(&bank, 5), None);
-    assert_eq!(rt;
-        delivered(&mut bank, &read_at_1(5)),
-        Some(Ok(Reaction::Held))
-    );
+    assert!(rt; shares_sets(&mut bank));
     Ok(())
 }
 
 #[test]
-fn laws(rt: HostRuntime) {
+fn laws() {
     grants_unowned_lines();
     loads_absent_lines();
     evictions_raise_time();
     fills_at_memory_time();
     readers_are_leased();
     words_go_to_other_versions();
-    assert_eq!(rt; EvictError::NotHere.number(), 1);
-    assert_eq!(rt; EvictError::Busy.number(), 2);
-    assert!(rt; !Entry::Storing.is_settled());
-    assert!(rt; !Entry::Loading.is_shared());
+}
+
+#[test]
+fn numbers_of_errors(rt: HostRuntime) {
+    let numbers = [EvictError::NotHere.number(), EvictError::Busy.number()];
+    assert_eq!(rt; numbers, [1, 2]);
+}
+
+#[test]
+fn entries_that_wait(rt: HostRuntime) {
+    assert!(rt; !Entry::Storing.is_settled() && !Entry::Loading.is_shared());
 }

@@ -1,8 +1,9 @@
 //! Private caches.
+ghost use Rattle.std.specs.Prelude.{◌≤◌};
+
 use network::{LineNo, TimedLine, Words};
 use private_cache::{Cache, CacheError, CopyState, Geometry, LineCopy};
-use std::alloc::AllocError;
-use std::test::Fail;
+use std::alloc::{AllocError, Global};
 
 // A copy of a line of zeros: its state, its two times, and whether it was written.
 #[derive(Clone, Copy)]
@@ -183,25 +184,48 @@ fn first_wrong(cache: &mut Cache, steps: &[Step]) -> Result<Option<usize>, Alloc
     Ok(None)
 }
 
-#[test]
-fn one_set(rt: HostRuntime) -> Result<(), Fail> {
-    for (shows, steps) in &ONE_SET {
-        let mut cache = Cache::new(rt.alloc(), Geometry { sets: 1, ways: 2 })?;
-        assert_eq!(rt; first_wrong(&mut cache, steps)?, None, "{shows}");
+// The number of the first step that doesn't go as it says, on a new cache.
+fn wrong_step(
+    alloc: Global,
+    sets: u32,
+    ways: u32,
+    steps: &[Step],
+) -> Result<Option<usize>, AllocError>
+    requires some_sets { 1 ≤ sets }
+    requires most_sets { sets ≤ 1024 }
+    requires some_ways { 1 ≤ ways }
+    requires most_ways { ways ≤ 16 }
+{
+    let mut cache = Cache::new(alloc, Geometry { sets, ways })?;
+    first_wrong(&mut cache, steps)
+}
+
+// What the first case that doesn't go as it says shows, and the number of its step, on one set of two ways.
+fn wrong_case(
+    alloc: Global,
+    cases: &[(&'static str, &[Step])],
+) -> Result<Option<(&'static str, usize)>, AllocError> {
+    for (shows, steps) in cases {
+        if let Some(number) = wrong_step(alloc, 1, 2, steps)? {
+            return Ok(Some((*shows, number)));
+        }
     }
-    Ok(())
+    Ok(None)
 }
 
 #[test]
-fn two_sets(rt: HostRuntime) -> Result<(), Fail> {
-    let mut cache = Cache::new(rt.alloc(), Geometry { sets: 2, ways: 1 })?;
-    assert_eq!(rt; first_wrong(&mut cache, &TWO_SETS)?, None);
-    Ok(())
+fn one_set(rt: HostRuntime) {
+    assert_eq!(rt; wrong_case(rt.alloc(), &ONE_SET), Ok(None));
+}
+
+#[test]
+fn two_sets(rt: HostRuntime) {
+    assert_eq!(rt; wrong_step(rt.alloc(), 2, 1, &TWO_SETS), Ok(None));
 }
 
 #[test]
 fn numbers_of_errors(rt: HostRuntime) {
-    assert_eq!(rt; CacheError::NoRoom.number(), 1);
-    assert_eq!(rt; CacheError::NotHere.number(), 2);
-    assert_eq!(rt; CacheError::Pinned.number(), 3);
+    let full = CacheError::NoRoom.number();
+    let evicted = [CacheError::NotHere.number(), CacheError::Pinned.number()];
+    assert_eq!(rt; (full, evicted), (1, [2, 3]));
 }

@@ -61,10 +61,18 @@ const PAST: [Config; 7] = [
     },
 ];
 
+// The number of the first of these that is good.
+fn first_good(configs: &[Config]) -> Option<usize> {
+    for number in 0..configs.len() {
+        if configs[number].is_good() {
+            return Some(number);
+        }
+    }
+    None
+}
+
 #[test]
 fn ranges_end_where_they_say(rt: HostRuntime) {
     assert!(rt; SMALLEST.is_good() && GREATEST.is_good());
-    for config in PAST {
-        assert!(rt; !config.is_good());
-    }
+    assert_eq!(rt; first_good(&PAST), None);
 }

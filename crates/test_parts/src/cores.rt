@@ -11,7 +11,6 @@ use network::{Body, LineNo, Message, Node, Part, PartError, Reaction, TimedLine,
 use physiological_order::{Op, WordAddr};
 use private_cache::{CacheError, CopyState, Geometry, LineCopy};
 use std::alloc::{AllocError, Global};
-use std::process::Abort;
 use std::test::Fail;
 use timestamp_manager::Exhausted;
 
@@ -23,14 +22,6 @@ fn word(number: u64) -> WordAddr {
     WordAddr::at(number % 64)
 }
 
-fn load_x() -> Op {
-    Op::Load(word(0))
-}
-
-fn store_x(value: u64) -> Op {
-    Op::Store(word(0), value)
-}
-
 // The words of a line whose first word is this one.
 fn words(first: u64) -> Words {
     let mut words = Words::zeros();
@@ -38,31 +29,8 @@ fn words(first: u64) -> Words {
     words
 }
 
-fn timed(wts: u64, rts: u64, first: u64) -> TimedLine {
-    TimedLine {
-        wts,
-        rts,
-        words: words(first),
-    }
-}
-
-fn copy(state: CopyState, wts: u64, rts: u64, first: u64, written: bool) -> LineCopy {
-    LineCopy {
-        state,
-        wts,
-        rts,
-        words: words(first),
-        written,
-    }
-}
-
 // Core 0, with one set of so many ways.
-fn core_of(
-    alloc: Global,
-    opening_time: u64,
-    private_write: bool,
-    ways: u32,
-) -> Result<Core, AllocError>
+fn core_of(alloc: Global, opening_time: u64, ways: u32) -> Result<Core, AllocError>
     requires some_ways { 1 ≤ ways }
     requires most_ways { ways ≤ 16 }
 {
@@ -71,7 +39,7 @@ fn core_of(
         banks: 1,
         line_words: 1,
         lease: 10,
-        private_write,
+        private_write: false,
         opening_time,
     };
     Core::new(alloc, config, Geometry { sets: 1, ways })
@@ -119,31 +87,11 @@ fn has_case(core: &Core, message: &Message) -> bool
 }
 
 // What core 0 would send at a message of bank 0, and what it does with it.
-#[derive(Clone, Copy, Debug, PartialEq, Eq)]
+#[derive(Clone, Copy, PartialEq, Eq)]
 struct Handed {
     sends: Option<(Node, bool)>,
     answer: Result<Reaction, PartError>,
 }
-
-const CONSUMED: Handed = Handed {
-    sends: None,
-    answer: Ok(Reaction::Done(None)),
-};
-
-const DROPPED: Handed = Handed {
-    sends: None,
-    answer: Ok(Reaction::Dropped),
-};
-
-const HELD: Handed = Handed {
-    sends: None,
-    answer: Ok(Reaction::Held),
-};
-
-const EXHAUSTED: Handed = Handed {
-    sends: None,
-    answer: Err(PartError::Exhausted),
-};
 
 // Core 0 sends this to bank 0, about line x.
 fn from_core(body: Body) -> Message {
@@ -155,215 +103,331 @@ fn from_core(body: Body) -> Message {
     }
 }
 
-// Line x goes back by this message.
-fn returned(body: Body) -> Handed {
-    Handed {
-        sends: Some((Node::Bank(0), false)),
-        answer: Ok(Reaction::Done(Some(from_core(body)))),
-    }
-}
-
-// Hands core 0 a message of bank 0, about line x.
-fn hand<R: Abort>(rt: &R, core: &mut Core, body: Body) -> Handed {
+// Hands core 0 a message of bank 0, about line x, if its table has a case for it.
+fn hand(core: &mut Core, body: Body) -> Option<Handed> {
     let message = Message {
         from: Node::Bank(0),
         to: Node::Core(0),
         line: X,
         body,
     };
-    assert!(rt; has_case(core, &message));
-    Handed {
-        sends: core.sends(&message),
-        answer: core.deliver(&message),
+    if !has_case(core, &message) {
+        return None;
     }
+    let sends = core.sends(&message);
+    let answer = core.deliver(&message);
+    Some(Handed { sends, answer })
+}
+
+// A line's two times and its word.
+#[derive(Clone, Copy)]
+struct At(u64, u64, u64);
+
+// An operation on word 0, but for the last.
+#[derive(Clone, Copy)]
+enum On {
+    Load,
+    Store(u64),
+    Swap(u64),
+    LoadY,
+}
+
+// A message of bank 0 about line x.
+#[derive(Clone, Copy)]
+enum Told {
+    Shared(At),
+    Owned(At),
+    Upgraded(u64),
+    Flush,
+    WriteBack(u64),
+}
+
+// What core 0 does with a message.
+#[derive(Clone, Copy)]
+enum Does {
+    Consumes,
+    Drops,
+    Holds,
+    IsExhausted,
+    // Line x goes back.
+    Flushes(At),
+}
+
+// What an eviction does.
+#[derive(Clone, Copy)]
+enum Evicted {
+    Dropped,
+    Flushed(At),
+    Refused(CacheError),
 }
 
 // What is done with core 0, and what it must answer.
 #[derive(Clone, Copy)]
 enum Step {
-    Issue(Op, Result<(), IssueError>),
-    Attempt(Result<Attempt, Exhausted>),
+    Issue(On, Result<(), IssueError>),
+    Attempt(Attempt),
+    // An attempt would complete past the last time.
+    TooLate,
     Requested,
     // A message about line x.
-    Hand(Body, Handed),
+    Hand(Told, Does),
     Advance(Result<(), Exhausted>),
-    Evict(LineNo, Result<Option<Message>, CacheError>),
-    OpenOp(Option<(Op, bool)>),
-    CopyOfX(Option<LineCopy>),
+    Evict(LineNo, Evicted),
+    OpenOp(Option<(On, bool)>),
+    // An owned copy that was written, or none.
+    CopyOfX(Option<At>),
+    // The core's time, and how many operations it was issued.
+    Now(u64, u32),
+    // The one line of the cache, and its victim for line y.
+    OneLine(LineNo),
 }
 
-fn make<R: Abort>(rt: &R, core: &mut Core, step: Step) {
+fn op(on: On) -> Op {
+    match on {
+        On::Load => Op::Load(word(0)),
+        On::Store(value) => Op::Store(word(0), value),
+        On::Swap(value) => Op::Swap(word(0), value),
+        On::LoadY => Op::Load(word(1)),
+    }
+}
+
+fn timed(at: At) -> TimedLine {
+    let At(wts, rts, first) = at;
+    TimedLine {
+        wts,
+        rts,
+        words: words(first),
+    }
+}
+
+fn body(told: Told) -> Body {
+    match told {
+        Told::Shared(at) => Body::ShRep(timed(at)),
+        Told::Owned(at) => Body::ExRep(timed(at)),
+        Told::Upgraded(rts) => Body::UpgradeRep { rts },
+        Told::Flush => Body::FlushReq,
+        Told::WriteBack(rts) => Body::WbReq { rts },
+    }
+}
+
+// What nothing is sent at, with this answer.
+fn silent(answer: Result<Reaction, PartError>) -> Handed {
+    Handed {
+        sends: None,
+        answer,
+    }
+}
+
+fn wanted_of(does: Does) -> Handed {
+    match does {
+        Does::Consumes => silent(Ok(Reaction::Done(None))),
+        Does::Drops => silent(Ok(Reaction::Dropped)),
+        Does::Holds => silent(Ok(Reaction::Held)),
+        Does::IsExhausted => silent(Err(PartError::Exhausted)),
+        Does::Flushes(at) => Handed {
+            sends: Some((Node::Bank(0), false)),
+            answer: Ok(Reaction::Done(Some(from_core(Body::FlushRep(timed(at)))))),
+        },
+    }
+}
+
+fn eviction(evicted: Evicted) -> Result<Option<Message>, CacheError> {
+    match evicted {
+        Evicted::Dropped => Ok(None),
+        Evicted::Flushed(at) => Ok(Some(from_core(Body::FlushRep(timed(at))))),
+        Evicted::Refused(e) => Err(e),
+    }
+}
+
+fn pending(wanted: Option<(On, bool)>) -> Option<(Op, bool)> {
+    let (on, is_out) = wanted?;
+    Some((op(on), is_out))
+}
+
+fn written_copy(wanted: Option<At>) -> Option<LineCopy> {
+    let At(wts, rts, first) = wanted?;
+    Some(LineCopy {
+        state: CopyState::Exclusive,
+        wts,
+        rts,
+        words: words(first),
+        written: true,
+    })
+}
+
+// Whether a line is the core's only one, and its victim for line y.
+fn has_one(core: &Core, line: LineNo) -> Result<bool, AllocError> {
+    Ok(core.lines()?.as_slice() == [line].as_slice() && core.victim(Y) == Some(line))
+}
+
+// Whether a step goes as it says.
+fn goes(core: &mut Core, step: Step) -> Result<bool, AllocError> {
     match step {
-        Step::Issue(op, wanted) => assert_eq!(rt; core.issue(op), wanted),
-        Step::Attempt(wanted) => assert_eq!(rt; core.attempt(), wanted),
-        Step::Requested => core.requested(),
-        Step::Hand(body, wanted) => assert_eq!(rt; hand(rt, core, body), wanted),
-        Step::Advance(wanted) => assert_eq!(rt; core.advance(), wanted),
-        Step::Evict(line, wanted) => assert_eq!(rt; core.evict(line), wanted),
-        Step::OpenOp(wanted) => assert_eq!(rt; core.open_op(), wanted),
-        Step::CopyOfX(wanted) => assert_eq!(rt; core.copy(X).copied(), wanted),
+        Step::Issue(on, wanted) => Ok(core.issue(op(on)) == wanted),
+        Step::Attempt(wanted) => Ok(core.attempt() == Ok(wanted)),
+        Step::TooLate => Ok(core.attempt() == Err(Exhausted)),
+        Step::Requested => {
+            core.requested();
+            Ok(true)
+        }
+        Step::Hand(told, does) => Ok(hand(core, body(told)) == Some(wanted_of(does))),
+        Step::Advance(wanted) => Ok(core.advance() == wanted),
+        Step::Evict(line, wanted) => Ok(core.evict(line) == eviction(wanted)),
+        Step::OpenOp(wanted) => Ok(core.open_op() == pending(wanted)),
+        Step::CopyOfX(wanted) => Ok(core.copy(X).copied() == written_copy(wanted)),
+        Step::Now(pts, issued) => Ok(core.pts() == pts && core.issued() == issued),
+        Step::OneLine(line) => has_one(core, line),
     }
 }
 
-fn make_all<R: Abort>(rt: &R, core: &mut Core, steps: &[Step]) {
-    for step in steps {
-        make(rt, core, *step);
+// The number of the first step that doesn't go as it says, on core 0 with one set of so many ways.
+fn wrong_step(
+    alloc: Global,
+    opening_time: u64,
+    ways: u32,
+    steps: &[Step],
+) -> Result<Option<usize>, AllocError>
+    requires some_ways { 1 ≤ ways }
+    requires most_ways { ways ≤ 16 }
+{
+    let mut core = core_of(alloc, opening_time, ways)?;
+    first_wrong(&mut core, steps)
+}
+
+fn first_wrong(core: &mut Core, steps: &[Step]) -> Result<Option<usize>, AllocError> {
+    for number in 0..steps.len() {
+        if !goes(core, steps[number])? {
+            return Ok(Some(number));
+        }
     }
+    Ok(None)
 }
 
-fn issued(op: Op) -> Step {
-    Step::Issue(op, Ok(()))
-}
+const LOAD_X: Step = Step::Issue(On::Load, Ok(()));
 
-fn answered(attempt: Attempt) -> Step {
-    Step::Attempt(Ok(attempt))
-}
-
-fn needs_read(pts: u64, version: Option<u64>) -> Step {
-    answered(Attempt::NeedShared(pts, version))
-}
-
-fn needs_owning(version: Option<u64>) -> Step {
-    answered(Attempt::NeedExclusive(version))
-}
-
-fn loaded(value: u64, ts: u64) -> Step {
-    answered(Attempt::Completed(Some(value), ts))
-}
-
-fn stored(ts: u64) -> Step {
-    answered(Attempt::Completed(None, ts))
-}
-
-fn consumed(body: Body) -> Step {
-    Step::Hand(body, CONSUMED)
-}
-
-// The core loads x, whose words come leased.
-fn load_shared<R: Abort>(rt: &R, core: &mut Core, wts: u64, rts: u64) {
-    let steps = [
-        issued(load_x()),
-        Step::Requested,
-        consumed(Body::ShRep(timed(wts, rts, 0))),
-        loaded(0, wts),
-    ];
-    make_all(rt, core, &steps);
-}
-
-// The core stores a value to x, whose words come owned.
-fn store_owned<R: Abort>(rt: &R, core: &mut Core, wts: u64, ts: u64, value: u64) {
-    let steps = [
-        issued(store_x(value)),
-        needs_owning(None),
-        Step::Requested,
-        consumed(Body::ExRep(timed(wts, wts, 0))),
-        stored(ts),
-    ];
-    make_all(rt, core, &steps);
-}
+const LOAD_THEN_STORE: [Step; 18] = [
+    Step::Attempt(Attempt::Idle),
+    Step::OpenOp(None),
+    LOAD_X,
+    Step::Issue(On::Load, Err(IssueError::Busy)),
+    Step::Attempt(Attempt::NeedShared(0, None)),
+    Step::OpenOp(Some((On::Load, false))),
+    Step::Requested,
+    Step::OpenOp(Some((On::Load, true))),
+    Step::Attempt(Attempt::Waiting),
+    Step::Hand(Told::Shared(At(0, 10, 0)), Does::Consumes),
+    Step::Attempt(Attempt::Completed(Some(0), 0)),
+    Step::Issue(On::Store(7), Ok(())),
+    Step::Attempt(Attempt::NeedExclusive(Some(0))),
+    Step::Requested,
+    Step::Hand(Told::Upgraded(10), Does::Consumes),
+    Step::Attempt(Attempt::Completed(None, 11)),
+    Step::CopyOfX(Some(At(11, 11, 7))),
+    Step::Now(11, 2),
+];
 
 #[test]
-fn a_load_then_a_store(rt: HostRuntime) -> Result<(), Fail> {
-    let mut core = core_of(rt.alloc(), 0, false, 4)?;
-    let steps = [
-        answered(Attempt::Idle),
-        Step::OpenOp(None),
-        issued(load_x()),
-        Step::Issue(load_x(), Err(IssueError::Busy)),
-        needs_read(0, None),
-        Step::OpenOp(Some((load_x(), false))),
-        Step::Requested,
-        Step::OpenOp(Some((load_x(), true))),
-        answered(Attempt::Waiting),
-        consumed(Body::ShRep(timed(0, 10, 0))),
-        loaded(0, 0),
-        issued(store_x(7)),
-        needs_owning(Some(0)),
-        Step::Requested,
-        consumed(Body::UpgradeRep { rts: 10 }),
-        stored(11),
-        Step::CopyOfX(Some(copy(CopyState::Exclusive, 11, 11, 7, true))),
-    ];
-    make_all(&rt, &mut core, &steps);
-    assert_eq!(rt; core.pts(), 11);
-    assert_eq!(rt; core.issued(), 2);
-    Ok(())
+fn a_load_then_a_store(rt: HostRuntime) {
+    assert_eq!(rt; wrong_step(rt.alloc(), 0, 4, &LOAD_THEN_STORE), Ok(None));
 }
 
-#[test]
-fn recalls(rt: HostRuntime) -> Result<(), Fail> {
-    let mut core = core_of(rt.alloc(), 10, false, 4)?;
-    store_owned(&rt, &mut core, 10, 11, 7);
-    let steps = [
-        issued(Op::Swap(word(0), 8)),
-        Step::Hand(Body::FlushReq, HELD),
-        Step::Hand(Body::WbReq { rts: 21 }, HELD),
-        loaded(7, 12),
-        Step::Hand(Body::FlushReq, returned(Body::FlushRep(timed(12, 12, 8)))),
-        Step::CopyOfX(None),
-        Step::Hand(Body::FlushReq, DROPPED),
-        Step::Hand(Body::WbReq { rts: 30 }, DROPPED),
-    ];
-    make_all(&rt, &mut core, &steps);
-    Ok(())
-}
+const RECALLS: [Step; 13] = [
+    Step::Issue(On::Store(7), Ok(())),
+    Step::Attempt(Attempt::NeedExclusive(None)),
+    Step::Requested,
+    Step::Hand(Told::Owned(At(10, 10, 0)), Does::Consumes),
+    Step::Attempt(Attempt::Completed(None, 11)),
+    Step::Issue(On::Swap(8), Ok(())),
+    Step::Hand(Told::Flush, Does::Holds),
+    Step::Hand(Told::WriteBack(21), Does::Holds),
+    Step::Attempt(Attempt::Completed(Some(7), 12)),
+    Step::Hand(Told::Flush, Does::Flushes(At(12, 12, 8))),
+    Step::CopyOfX(None),
+    Step::Hand(Told::Flush, Does::Drops),
+    Step::Hand(Told::WriteBack(30), Does::Drops),
+];
 
 #[test]
-fn a_full_set(rt: HostRuntime) -> Result<(), Fail> {
-    let mut core = core_of(rt.alloc(), 0, false, 1)?;
-    load_shared(&rt, &mut core, 0, 10);
-    assert_eq!(rt; core.lines()?.as_slice(), [X].as_slice());
-    assert_eq!(rt; core.victim(Y), Some(X));
-    let steps = [
-        issued(Op::Load(word(1))),
-        answered(Attempt::NoRoom),
-        Step::Evict(Y, Err(CacheError::NotHere)),
-        Step::Evict(X, Ok(None)),
-        needs_read(0, None),
-        Step::Requested,
-        answered(Attempt::Waiting),
-    ];
-    make_all(&rt, &mut core, &steps);
-    Ok(())
+fn recalls(rt: HostRuntime) {
+    assert_eq!(rt; wrong_step(rt.alloc(), 10, 4, &RECALLS), Ok(None));
 }
 
-#[test]
-fn an_eviction_of_an_owned_line(rt: HostRuntime) -> Result<(), Fail> {
-    let mut core = core_of(rt.alloc(), 0, false, 1)?;
-    store_owned(&rt, &mut core, 0, 1, 7);
-    let steps = [
-        issued(load_x()),
-        Step::Evict(X, Err(CacheError::Pinned)),
-        loaded(7, 1),
-        Step::Evict(X, Ok(Some(from_core(Body::FlushRep(timed(1, 1, 7)))))),
-        Step::CopyOfX(None),
-    ];
-    make_all(&rt, &mut core, &steps);
-    Ok(())
-}
+const FULL_SET: [Step; 12] = [
+    LOAD_X,
+    Step::Requested,
+    Step::Hand(Told::Shared(At(0, 10, 0)), Does::Consumes),
+    Step::Attempt(Attempt::Completed(Some(0), 0)),
+    Step::OneLine(X),
+    Step::Issue(On::LoadY, Ok(())),
+    Step::Attempt(Attempt::NoRoom),
+    Step::Evict(Y, Evicted::Refused(CacheError::NotHere)),
+    Step::Evict(X, Evicted::Dropped),
+    Step::Attempt(Attempt::NeedShared(0, None)),
+    Step::Requested,
+    Step::Attempt(Attempt::Waiting),
+];
 
 #[test]
-fn the_last_times(rt: HostRuntime) -> Result<(), Fail> {
-    let late = 18446744073709551605;
-    let mut core = core_of(rt.alloc(), late, false, 4)?;
-    load_shared(&rt, &mut core, late, u64::MAX);
-    let steps = [
-        issued(store_x(1)),
-        Step::Requested,
-        consumed(Body::UpgradeRep { rts: u64::MAX }),
-        Step::Attempt(Err(Exhausted)),
-        Step::OpenOp(Some((store_x(1), false))),
-    ];
-    make_all(&rt, &mut core, &steps);
-    let mut last = core_of(rt.alloc(), u64::MAX - 1, false, 4)?;
-    store_owned(&rt, &mut last, u64::MAX - 1, u64::MAX, 1);
-    make(
-        &rt,
-        &mut last,
-        Step::Hand(Body::WbReq { rts: 5 }, EXHAUSTED),
+fn a_full_set(rt: HostRuntime) {
+    assert_eq!(rt; wrong_step(rt.alloc(), 0, 1, &FULL_SET), Ok(None));
+}
+
+const OWNED_LINE: [Step; 10] = [
+    Step::Issue(On::Store(7), Ok(())),
+    Step::Attempt(Attempt::NeedExclusive(None)),
+    Step::Requested,
+    Step::Hand(Told::Owned(At(0, 0, 0)), Does::Consumes),
+    Step::Attempt(Attempt::Completed(None, 1)),
+    LOAD_X,
+    Step::Evict(X, Evicted::Refused(CacheError::Pinned)),
+    Step::Attempt(Attempt::Completed(Some(7), 1)),
+    Step::Evict(X, Evicted::Flushed(At(1, 1, 7))),
+    Step::CopyOfX(None),
+];
+
+#[test]
+fn an_eviction_of_an_owned_line(rt: HostRuntime) {
+    assert_eq!(rt; wrong_step(rt.alloc(), 0, 1, &OWNED_LINE), Ok(None));
+}
+
+// Ten before the last time.
+const LATE: u64 = 18446744073709551605;
+
+const LEASED_TO_THE_LAST: [Step; 9] = [
+    LOAD_X,
+    Step::Requested,
+    Step::Hand(Told::Shared(At(LATE, u64::MAX, 0)), Does::Consumes),
+    Step::Attempt(Attempt::Completed(Some(0), LATE)),
+    Step::Issue(On::Store(1), Ok(())),
+    Step::Requested,
+    Step::Hand(Told::Upgraded(u64::MAX), Does::Consumes),
+    Step::TooLate,
+    Step::OpenOp(Some((On::Store(1), false))),
+];
+
+// From the time before the last one on.
+const LAST: u64 = u64::MAX - 1;
+
+const STORED_AT_THE_LAST: [Step; 7] = [
+    Step::Issue(On::Store(1), Ok(())),
+    Step::Attempt(Attempt::NeedExclusive(None)),
+    Step::Requested,
+    Step::Hand(Told::Owned(At(LAST, LAST, 0)), Does::Consumes),
+    Step::Attempt(Attempt::Completed(None, u64::MAX)),
+    Step::Hand(Told::WriteBack(5), Does::IsExhausted),
+    Step::Advance(Err(Exhausted)),
+];
+
+#[test]
+fn the_last_times(rt: HostRuntime) {
+    assert_eq!(rt;
+        wrong_step(rt.alloc(), LATE, 4, &LEASED_TO_THE_LAST),
+        Ok(None)
     );
-    make(&rt, &mut last, Step::Advance(Err(Exhausted)));
-    Ok(())
+    assert_eq!(rt;
+        wrong_step(rt.alloc(), LAST, 4, &STORED_AT_THE_LAST),
+        Ok(None)
+    );
 }
 
 // Core 5 of a machine with two banks and lines of eight words.
@@ -389,24 +453,29 @@ fn owning_line_3() -> Message {
     }
 }
 
+// Whether core 5 has the word 31 in line 3, and asks each line's own bank.
+fn asks_by_line(core: &Core) -> bool {
+    let body = Body::ExReq { version: None };
+    core.line_of(Op::Load(word(31))) == LineNo(3)
+        && core.to_bank(LineNo(6), Body::FlushReq).to == Node::Bank(0)
+        && core.to_bank(LineNo(3), body) == owning_line_3()
+}
+
 #[test]
 fn long_lines(rt: HostRuntime) -> Result<(), Fail> {
     let core = fifth(rt.alloc())?;
-    assert_eq!(rt; core.line_of(Op::Load(word(31))), LineNo(3));
-    assert_eq!(rt; core.to_bank(LineNo(6), Body::FlushReq).to, Node::Bank(0));
-    let body = Body::ExReq { version: None };
-    assert_eq!(rt; core.to_bank(LineNo(3), body), owning_line_3());
+    assert!(rt; asks_by_line(&core));
     Ok(())
 }
 
 #[test]
 fn numbers_of_errors(rt: HostRuntime) {
-    assert_eq!(rt; IssueError::Busy.number(), 1);
-    assert_eq!(rt; IssueError::TooMany.number(), 2);
+    let numbers = [IssueError::Busy.number(), IssueError::TooMany.number()];
+    assert_eq!(rt; numbers, [1, 2]);
 }
 
 #[test]
-fn laws(rt: HostRuntime) {
+fn laws() {
     completed_on_a_copy();
     idle_core_issues();
     writes_come_after_reads();

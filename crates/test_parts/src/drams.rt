@@ -3,7 +3,6 @@ ghost use Rattle.std.specs.Prelude.{◌≡◌, IsTrue};
 
 use dram_mts::{Dram, MemoryTime};
 use network::{Body, LineNo, Message, Node, Part, PartError, Reaction, Words};
-use std::test::Fail;
 
 // What a part answers, through its table alone.
 fn delivered<P: Part>(part: &mut P, message: &Message) -> Result<Reaction, PartError>
@@ -55,27 +54,36 @@ fn loads(dram: &mut Dram, words: Words) -> bool {
     answers(dram.sends(&asked), delivered(dram, &asked), loaded)
 }
 
+// Whether word 2 of line 3 is set to 9.
+fn sets_a_word(dram: &mut Dram) -> bool {
+    dram.set_word(LineNo(3), 2, 9).is_ok()
+}
+
+// Whether a line is loaded with these words.
+fn has(dram: &Dram, line: u64, words: Words) -> bool {
+    dram.load(LineNo(line)) == words
+}
+
+// Whether a word that is set and a line that is stored stay, and other lines are zeros.
+fn keeps(dram: &mut Dram) -> bool {
+    let zeros = has(dram, 3, Words::zeros());
+    let set = sets_a_word(dram) && dram.load(LineNo(3)).get(2) == 9;
+    let stored = dram.store(LineNo(4), words_with_a_five()).is_ok();
+    zeros && set && stored && has(dram, 4, words_with_a_five()) && has(dram, 5, Words::zeros())
+}
+
 #[test]
-fn keeps_the_words_stored(rt: HostRuntime) -> Result<(), Fail> {
+fn keeps_the_words_stored(rt: HostRuntime) {
     let mut dram = Dram::new(rt.alloc());
-    assert_eq!(rt; dram.load(LineNo(3)), Words::zeros());
-    assert!(rt; dram.set_word(LineNo(3), 2, 9).is_ok());
-    assert_eq!(rt; dram.load(LineNo(3)).get(2), 9);
-    assert!(rt; dram.store(LineNo(4), words_with_a_five()).is_ok());
-    assert_eq!(rt; dram.load(LineNo(4)), words_with_a_five());
-    assert_eq!(rt; dram.load(LineNo(5)), Words::zeros());
-    Ok(())
+    assert!(rt; keeps(&mut dram));
 }
 
 // Stores a line over a word by a message, and loads it by another.
 #[test]
-fn answers_with_the_words_stored(rt: HostRuntime) -> Result<(), Fail> {
+fn answers_with_the_words_stored(rt: HostRuntime) {
     let mut dram = Dram::new(rt.alloc());
-    assert!(rt; dram.set_word(LineNo(3), 2, 9).is_ok());
     let words = words_with_a_five();
-    assert!(rt; stores(&mut dram, words));
-    assert!(rt; loads(&mut dram, words));
-    Ok(())
+    assert!(rt; sets_a_word(&mut dram) && stores(&mut dram, words) && loads(&mut dram, words));
 }
 
 #[test]

@@ -21,25 +21,43 @@ const DOWNGRADED: [(u64, u64, u64, u64, Result<u64, Exhausted>); 4] = [
     (u64::MAX, u64::MAX, 3, 1, Err(Exhausted)),
 ];
 
+// The number of the first lease for a reader that is not as wanted.
+fn wrong_shared() -> Option<usize> {
+    for number in 0..SHARED.len() {
+        let (wts, rts, pts, version, wanted) = SHARED[number];
+        if on_shared(wts, rts, pts, version, 10) != wanted {
+            return Some(number);
+        }
+    }
+    None
+}
+
 #[test]
 fn leases_for_readers(rt: HostRuntime) {
-    for (wts, rts, pts, version, wanted) in SHARED {
-        assert_eq!(rt; on_shared(wts, rts, pts, version, 10), wanted);
-    }
+    assert_eq!(rt; wrong_shared(), None);
     shared_leases_cover();
+}
+
+// The number of the first lease that an owner gives back and that is not as wanted.
+fn wrong_downgraded() -> Option<usize> {
+    for number in 0..DOWNGRADED.len() {
+        let (wts, rts, recall, lease, wanted) = DOWNGRADED[number];
+        if downgrade(wts, rts, recall, lease) != wanted {
+            return Some(number);
+        }
+    }
+    None
 }
 
 #[test]
 fn leases_that_owners_give_back(rt: HostRuntime) {
-    for (wts, rts, recall, lease, wanted) in DOWNGRADED {
-        assert_eq!(rt; downgrade(wts, rts, recall, lease), wanted);
-    }
+    assert_eq!(rt; wrong_downgraded(), None);
     returned_leases_reach();
 }
 
 #[test]
 fn grants_and_recalls(rt: HostRuntime) {
     assert!(rt; on_exclusive(4, Some(4)) && !on_exclusive(0, None));
-    assert_eq!(rt; recall_until(7, 10), Ok(17));
-    assert_eq!(rt; recall_until(u64::MAX, 1), Err(Exhausted));
+    let recalls = [recall_until(7, 10), recall_until(u64::MAX, 1)];
+    assert_eq!(rt; recalls, [Ok(17), Err(Exhausted)]);
 }

@@ -23,6 +23,12 @@ fn request() -> Message
     message(Node::Core(1), Node::Bank(0), Body::ExReq { version: None })
 }
 
+fn other_request() -> Message
+    ensures { IsTrue (has_endpoints 2 1 result) }
+{
+    message(Node::Core(0), Node::Bank(0), Body::ExReq { version: None })
+}
+
 fn grant() -> Message
     ensures { IsTrue (has_endpoints 2 1 result) }
 {
@@ -35,15 +41,40 @@ fn store() -> Message
     message(Node::Bank(0), Node::Dram(0), Body::DramSt(Words::zeros()))
 }
 
-// Sends a message of two cores and a bank.
-fn send(flight: &mut InFlight, message: Message) -> Result<MsgNo, (SendError, Message)>
+// Whether a message of two cores and a bank is sent, under this number.
+fn sends(flight: &mut InFlight, message: Message, number: u64) -> bool
     requires cores { flight.old.cores ≡ 2 }
     requires banks { flight.old.banks ≡ 1 }
     requires endpoints { IsTrue (has_endpoints 2 1 message) }
     ensures cores { flight.new.cores ≡ 2 }
     ensures banks { flight.new.banks ≡ 1 }
 {
-    flight.send(message)
+    match flight.send(message) {
+        Ok(MsgNo(given)) => given == number,
+        Err(_) => false,
+    }
+}
+
+// Whether three messages are sent, under their numbers.
+fn sends_three(flight: &mut InFlight) -> bool
+    requires cores { flight.old.cores ≡ 2 }
+    requires banks { flight.old.banks ≡ 1 }
+    ensures cores { flight.new.cores ≡ 2 }
+    ensures banks { flight.new.banks ≡ 1 }
+{
+    let first = sends(flight, request(), 0);
+    let second = sends(flight, grant(), 1);
+    let third = sends(flight, store(), 2);
+    first && second && third
+}
+
+// Whether no place is left, and a message to be sent comes back.
+fn is_full(flight: &mut InFlight) -> bool
+    requires cores { flight.old.cores ≡ 2 }
+    requires banks { flight.old.banks ≡ 1 }
+{
+    let no_place = flight.has_number() && !flight.has_capacity();
+    no_place && flight.send(request()) == Err((SendError::Full, request()))
 }
 
 // Three places, all taken.
@@ -52,22 +83,16 @@ fn three_sent(alloc: Global) -> Result<InFlight, AllocError>
     ensures banks { IfOk result (λ flight. flight.banks ≡ 1) }
 {
     let mut flight = InFlight::new(alloc, 2, 1, 3)?;
-    let _first = send(&mut flight, request());
-    let _second = send(&mut flight, grant());
-    let _third = send(&mut flight, store());
+    let _sent = sends_three(&mut flight);
     Ok(flight)
 }
 
 #[test]
 fn sends_until_no_place_is_left(rt: HostRuntime) -> Result<(), Fail> {
     let mut flight = InFlight::new(rt.alloc(), 2, 1, 3)?;
-    assert!(rt; flight.reserve().is_ok());
-    assert_eq!(rt; send(&mut flight, request()), Ok(MsgNo(0)));
-    assert_eq!(rt; send(&mut flight, grant()), Ok(MsgNo(1)));
-    assert_eq!(rt; send(&mut flight, store()), Ok(MsgNo(2)));
-    assert!(rt; flight.has_number() && !flight.has_capacity());
-    let full = Err((SendError::Full, request()));
-    assert_eq!(rt; send(&mut flight, request()), full);
+    let reserved = flight.reserve().is_ok();
+    let sent = sends_three(&mut flight);
+    assert!(rt; reserved && sent && is_full(&mut flight));
     Ok(())
 }
 
@@ -76,25 +101,40 @@ fn is_found(found: Option<&Message>, wanted: Option<Message>) -> bool {
     found.copied() == wanted
 }
 
+// Whether the grant and the store of three messages are found.
+fn finds(flight: &InFlight) -> bool {
+    let line = LineNo(7);
+    flight.owners(line) == 1
+        && is_found(flight.ownership_of(line), Some(grant()))
+        && is_found(flight.store_of(line), Some(store()))
+}
+
 #[test]
 fn finds_messages_by_what_they_carry(rt: HostRuntime) -> Result<(), Fail> {
-    let flight = three_sent(rt.alloc())?;
-    assert_eq!(rt; flight.owners(LineNo(7)), 1);
-    assert!(rt; is_found(flight.ownership_of(LineNo(7)), Some(grant())));
-    assert!(rt; is_found(flight.store_of(LineNo(7)), Some(store())));
+    assert!(rt; finds(&three_sent(rt.alloc())?));
     Ok(())
+}
+
+// Whether the second of three messages is taken once, and the third one stays.
+fn takes_once(flight: &mut InFlight) -> bool
+    requires cores { flight.old.cores ≡ 2 }
+    requires banks { flight.old.banks ≡ 1 }
+    ensures cores { flight.new.cores ≡ 2 }
+    ensures banks { flight.new.banks ≡ 1 }
+{
+    let taken = flight.take(MsgNo(1)) == Some(grant());
+    let again = flight.take(MsgNo(1)) == None;
+    let gone = is_found(flight.look(MsgNo(1)), None);
+    taken && again && gone && is_found(flight.look(MsgNo(2)), Some(store()))
 }
 
 // One is taken, and another one sent.
 #[test]
 fn keeps_messages_by_number(rt: HostRuntime) -> Result<(), Fail> {
     let mut flight = three_sent(rt.alloc())?;
-    assert_eq!(rt; flight.take(MsgNo(1)), Some(grant()));
-    assert_eq!(rt; flight.take(MsgNo(1)), None);
-    assert!(rt; is_found(flight.look(MsgNo(1)), None));
-    assert!(rt; is_found(flight.look(MsgNo(2)), Some(store())));
-    assert_eq!(rt; send(&mut flight, request()), Ok(MsgNo(3)));
-    assert!(rt; has_three(&flight)?);
+    let taken = takes_once(&mut flight);
+    let sent = sends(&mut flight, request(), 3);
+    assert!(rt; taken && sent && has_three(&flight)?);
     Ok(())
 }
 
@@ -117,11 +157,26 @@ fn slots_after_another(flight: &mut InFlight) -> usize
     ensures cores { flight.new.cores ≡ 2 }
     ensures banks { flight.new.banks ≡ 1 }
 {
-    let request = message(Node::Core(1), Node::Bank(0), Body::ExReq { version: None });
-    if let Ok(number) = flight.send(request) {
+    if let Ok(number) = flight.send(request()) {
         let _taken = flight.take(number);
     }
     flight.slots()
+}
+
+// How many slots are kept after each of three more messages, and after each of another three.
+fn slots_after_six(flight: &mut InFlight) -> [usize; 6]
+    requires cores { flight.old.cores ≡ 2 }
+    requires banks { flight.old.banks ≡ 1 }
+    ensures cores { flight.new.cores ≡ 2 }
+    ensures banks { flight.new.banks ≡ 1 }
+{
+    let first = slots_after_another(flight);
+    let second = slots_after_another(flight);
+    let third = slots_after_another(flight);
+    let fourth = slots_after_another(flight);
+    let fifth = slots_after_another(flight);
+    let sixth = slots_after_another(flight);
+    [first, second, third, fourth, fifth, sixth]
 }
 
 // The first message stays in flight, six others come and go. A slot is kept for the first one and for up to two that
@@ -129,24 +184,18 @@ fn slots_after_another(flight: &mut InFlight) -> usize
 #[test]
 fn gives_slots_back(rt: HostRuntime) -> Result<(), Fail> {
     let mut flight = InFlight::new(rt.alloc(), 2, 1, 3)?;
-    let first = message(Node::Core(0), Node::Bank(0), Body::ExReq { version: None });
-    assert_eq!(rt; flight.slots(), 0);
-    assert_eq!(rt; flight.send(first), Ok(MsgNo(0)));
-    assert_eq!(rt; slots_after_another(&mut flight), 2);
-    assert_eq!(rt; slots_after_another(&mut flight), 3);
-    assert_eq!(rt; slots_after_another(&mut flight), 1);
-    assert_eq!(rt; slots_after_another(&mut flight), 2);
-    assert_eq!(rt; slots_after_another(&mut flight), 3);
-    assert_eq!(rt; slots_after_another(&mut flight), 1);
-    let again = message(Node::Core(0), Node::Bank(0), Body::ExReq { version: None });
-    assert_eq!(rt; flight.send(again), Ok(MsgNo(7)));
+    let no_slots = flight.slots() == 0;
+    let first = sends(&mut flight, other_request(), 0);
+    let slots = slots_after_six(&mut flight);
+    let eighth = sends(&mut flight, other_request(), 7);
+    assert!(rt; no_slots && first && eighth);
+    assert_eq!(rt; slots, [2, 3, 1, 2, 3, 1]);
     Ok(())
 }
 
 #[test]
 fn numbers_of_errors(rt: HostRuntime) {
-    assert_eq!(rt; SendError::Full.number(), 1);
-    assert_eq!(rt; SendError::NoMemory.number(), 2);
-    assert_eq!(rt; PartError::Exhausted.number(), 1);
-    assert_eq!(rt; PartError::NoMemory.number(), 2);
+    let send = [SendError::Full.number(), SendError::NoMemory.number()];
+    let part = [PartError::Exhausted.number(), PartError::NoMemory.number()];
+    assert_eq!(rt; [send, part], [[1, 2], [1, 2]]);
 }

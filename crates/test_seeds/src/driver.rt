@@ -8,7 +8,7 @@ use run_ends::End;
 use schedule_cases::{Case, are_events, machine, op, programs, steps_of};
 use std::alloc::{AllocError, Global};
 use std::test::Fail;
-use worker_driver::{Driven, Program, drive_seed};
+use worker_driver::{Driven, Policy, Program, drive_seed, run_to_end};
 
 // So many seeds are tried for each case's programs.
 const SEEDS: u64 = 100;
@@ -27,13 +27,66 @@ fn drive<P: Program>(
     Ok(drive_seed(alloc, system, programs, seed, limit))
 }
 
-// Drives the programs of a case by a seed, on a fresh machine.
-fn run(alloc: Global, case: &Case, seed: u64) -> Result<(Driven, System), AllocError> {
-    let mut system = machine(alloc, case.config)?;
+// Drives the programs of a case by a seed, on a machine.
+fn run_on(
+    alloc: Global,
+    system: &mut System,
+    case: &Case,
+    seed: u64,
+) -> Result<Driven, AllocError> {
     let steps = steps_of(alloc, case.programs)?;
     let mut given = programs(alloc, steps.as_slice())?;
-    let driven = drive(alloc, &mut system, given.as_mut_slice(), seed, case.limit)?;
+    drive(alloc, system, given.as_mut_slice(), seed, case.limit)
+}
+
+// The same, on a fresh machine.
+fn run(alloc: Global, case: &Case, seed: u64) -> Result<(Driven, System), AllocError> {
+    let mut system = machine(alloc, case.config)?;
+    let driven = run_on(alloc, &mut system, case, seed)?;
     Ok((driven, system))
+}
+
+// How such a run ends on a machine, where its events aren't kept.
+fn end_on(alloc: Global, system: &mut System, case: &Case, seed: u64) -> Result<End, AllocError> {
+    let steps = steps_of(alloc, case.programs)?;
+    let mut given = programs(alloc, steps.as_slice())?;
+    if given.len() as u64 != u64::from(system.cores()) {
+        return Err(AllocError);
+    }
+    let policy = Policy::Seed(seed);
+    Ok(run_to_end(alloc, system, given.as_mut_slice(), policy, case.limit))
+}
+
+// A fresh machine that keeps its lines in rising order, or doesn't.
+fn ordered(alloc: Global, case: &Case, has_order: bool) -> Result<System, AllocError> {
+    let mut system = machine(alloc, case.config)?;
+    if has_order {
+        system.keep_order();
+    }
+    Ok(system)
+}
+
+// Whether a machine keeps its lines in rising order after a run exactly if it did before, and the run is the same.
+fn order_stays(alloc: Global, case: &Seeded, has_order: bool) -> Result<bool, AllocError> {
+    let mut system = ordered(alloc, &case.run, has_order)?;
+    let driven = run_on(alloc, &mut system, &case.run, case.seed)?;
+    let mut other = ordered(alloc, &case.run, has_order)?;
+    let end = end_on(alloc, &mut other, &case.run, case.seed)?;
+    Ok(
+        system.keeps_order() == has_order
+            && other.keeps_order() == has_order
+            && end == case.run.end
+            && are_events(&driven.events, case.run.made),
+    )
+}
+
+#[test]
+fn the_order_of_lines_stays_kept(rt: HostRuntime) -> Result<(), Fail> {
+    for case in EVICTIONS {
+        assert!(rt; order_stays(rt.alloc(), case, true)?, "{}", case.run.shows);
+        assert!(rt; order_stays(rt.alloc(), case, false)?, "{}", case.run.shows);
+    }
+    Ok(())
 }
 
 fn is_record(record: &Record, told: &Told) -> bool {

@@ -422,54 +422,72 @@ fn holds(
     Ok(Some(test.state_holds(&state)))
 }
 
+// Whether a text is refused for this fault.
+fn is_refused(alloc: Global, text: &[u8], line: usize, kind: Kind) -> bool {
+    read(alloc, text).err() == Some(LitmusError { line, kind })
+}
+
+// The number of the first text that isn't refused for its fault.
+fn first_not_refused(alloc: Global, cases: &[(&[u8], usize, Kind)]) -> Option<usize> {
+    for number in 0..cases.len() {
+        let (text, line, kind) = cases[number];
+        if !is_refused(alloc, text, line, kind) {
+            return Some(number);
+        }
+    }
+    None
+}
+
+// The number of the first text that isn't read.
+fn first_not_read(alloc: Global) -> Option<usize> {
+    for number in 0..ACCEPTED.len() {
+        if read(alloc, ACCEPTED[number]).is_err() {
+            return Some(number);
+        }
+    }
+    None
+}
+
 #[test]
 fn texts_that_are_refused(rt: HostRuntime) {
-    for (text, line, kind) in &REFUSED {
-        let fault = LitmusError {
-            line: *line,
-            kind: *kind,
-        };
-        assert_eq!(rt; read(rt.alloc(), text).err(), Some(fault));
-    }
+    assert_eq!(rt; first_not_refused(rt.alloc(), &REFUSED), None);
 }
 
 #[test]
 fn cells_with_more_than_one_fault(rt: HostRuntime) {
-    for (text, line, kind) in &CELLS_WITH_MORE_THAN_ONE_FAULT {
-        let fault = LitmusError {
-            line: *line,
-            kind: *kind,
-        };
-        assert_eq!(rt; read(rt.alloc(), text).err(), Some(fault));
-    }
+    assert_eq!(rt;
+        first_not_refused(rt.alloc(), &CELLS_WITH_MORE_THAN_ONE_FAULT),
+        None
+    );
 }
 
 #[test]
 fn texts_that_are_accepted(rt: HostRuntime) {
-    for text in &ACCEPTED {
-        assert!(rt; read(rt.alloc(), text).is_ok());
-    }
+    assert_eq!(rt; first_not_read(rt.alloc()), None);
 }
 
 #[test]
 fn a_text_that_is_too_long(rt: HostRuntime) -> Result<(), Fail> {
     let text = vec![in rt.alloc(); b' '; 65537]?;
-    let line = 1;
-    let kind = Kind::TooLarge;
-    assert_eq!(rt;
-        read(rt.alloc(), &text).err(),
-        Some(LitmusError { line, kind })
-    );
+    assert!(rt; is_refused(rt.alloc(), &text, 1, Kind::TooLarge));
     Ok(())
+}
+
+// Where a text is cut so that it is read, though it lacks more than the last byte, or the other way round.
+fn first_wrong_cut(alloc: Global) -> Option<usize> {
+    for cut in 0..LOAD.len() {
+        let (front, rest) = LOAD.split_at(cut);
+        if read(alloc, front).is_ok() != (rest.len() == 1) {
+            return Some(cut);
+        }
+    }
+    None
 }
 
 /// Each cut of a text is refused, but for the one that lacks the last line feed alone.
 #[test]
 fn cut_texts(rt: HostRuntime) {
-    for cut in 0..LOAD.len() {
-        let (front, rest) = LOAD.split_at(cut);
-        assert_eq!(rt; read(rt.alloc(), front).is_ok(), rest.len() == 1);
-    }
+    assert_eq!(rt; first_wrong_cut(rt.alloc()), None);
 }
 
 // Whether a test has the name, the condition and the sizes of the store buffering.
@@ -488,12 +506,17 @@ fn has_names(test: &Test) -> bool {
         && test.seen().first() == Some(&Name::Register(0, 7))
 }
 
+// Whether a text is read as the test of the store buffering.
+fn is_store_buffering(alloc: Global, text: &[u8]) -> bool {
+    let Some(test) = read(alloc, text).ok() else {
+        return false;
+    };
+    has_sizes(&test) && has_names(&test)
+}
+
 #[test]
-fn what_store_buffering_says(rt: HostRuntime) -> Result<(), Fail> {
-    let test = read(rt.alloc(), STORE_BUFFERING).ok().ok_or("it is read")?;
-    assert!(rt; has_sizes(&test));
-    assert!(rt; has_names(&test));
-    Ok(())
+fn what_store_buffering_says(rt: HostRuntime) {
+    assert!(rt; is_store_buffering(rt.alloc(), STORE_BUFFERING));
 }
 
 // A text, what its threads do, a memory at the end, the values of the end state, and whether the condition holds.
@@ -522,25 +545,40 @@ fn holds_after(
     holds(test, &states, memory, values)
 }
 
-#[test]
-fn ends_of_threads(rt: HostRuntime) -> Result<(), Fail> {
-    for (text, threads, memory, values, wanted) in &ENDS {
-        let test = read(rt.alloc(), text).ok().ok_or("it is read")?;
-        assert_eq!(rt;
-            holds_after(rt.alloc(), &test, threads, memory, values)?,
-            Some(*wanted)
-        );
+// The number of the first row whose text isn't read, or whose condition doesn't hold or fail as wanted.
+fn first_wrong_end(alloc: Global) -> Result<Option<usize>, AllocError> {
+    for number in 0..ENDS.len() {
+        let (text, threads, memory, values, wanted) = ENDS[number];
+        let Some(test) = read(alloc, text).ok() else {
+            return Ok(Some(number));
+        };
+        if holds_after(alloc, &test, threads, memory, values)? != Some(wanted) {
+            return Ok(Some(number));
+        }
     }
-    Ok(())
+    Ok(None)
+}
+
+#[test]
+fn ends_of_threads(rt: HostRuntime) {
+    assert_eq!(rt; first_wrong_end(rt.alloc()), Ok(None));
+}
+
+// What the word opens as, and what a swap alone leaves in its register, if it receives that.
+fn swapped(alloc: Global) -> Result<Option<(u64, u64)>, AllocError> {
+    let Some(test) = read(alloc, SWAPS).ok() else {
+        return Ok(None);
+    };
+    let opening = test.opening()?.get(word(0));
+    let mut thread = test.start(0);
+    if !goes(&mut thread, &[(Next::Swap(0, 4), Some(9))]) {
+        return Ok(None);
+    }
+    Ok(Some((opening, thread.register(7))))
 }
 
 // The swap alone: it receives what the word opens as, into its register.
 #[test]
-fn a_swap_fills_its_register(rt: HostRuntime) -> Result<(), Fail> {
-    let test = read(rt.alloc(), SWAPS).ok().ok_or("it is read")?;
-    assert_eq!(rt; test.opening()?.get(word(0)), 9);
-    let mut thread = test.start(0);
-    assert!(rt; goes(&mut thread, &[(Next::Swap(0, 4), Some(9))]));
-    assert_eq!(rt; thread.register(7), 9);
-    Ok(())
+fn a_swap_fills_its_register(rt: HostRuntime) {
+    assert_eq!(rt; swapped(rt.alloc()), Ok(Some((9, 9))));
 }

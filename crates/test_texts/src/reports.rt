@@ -3,8 +3,7 @@ use litmus_reader::{EndState, Test, read};
 use machine_table::Counts;
 use report_text::litmus_text;
 use run_ends::{End, RunEnd};
-use std::alloc::Global;
-use std::test::Fail;
+use std::alloc::{AllocError, Global};
 
 const STORE_BUFFERING: &[u8] =
     b"RISCV SB\n{ 0:x5=1; 0:x6=x; 0:x8=y; 1:x5=1; 1:x6=y; 1:x8=x; }\n P0          | P1          ;\n sw x5,0(x6) | sw x5,0(x6) ;\n lw x7,0(x8) | lw x7,0(x8) ;\nexists (0:x7=0 /\\ 1:x7=0)\n";
@@ -26,7 +25,7 @@ const NONE_SENT: Counts = Counts {
 };
 
 /// The end state of two threads of a store and a load, which receive these values.
-fn received(alloc: Global, test: &Test, first: u64, second: u64) -> Result<EndState, Fail> {
+fn received(alloc: Global, test: &Test, first: u64, second: u64) -> Result<EndState, AllocError> {
     let mut threads = Vec::new(alloc);
     for (thread, value) in [(0, first), (1, second)] {
         let mut state = test.start(thread);
@@ -34,7 +33,7 @@ fn received(alloc: Global, test: &Test, first: u64, second: u64) -> Result<EndSt
         state.done(Some(value));
         threads.push(state)?;
     }
-    Ok(test.end(&threads, &[1, 1])?)
+    test.end(&threads, &[1, 1])
 }
 
 fn all_done(state: EndState) -> RunEnd {
@@ -57,28 +56,38 @@ fn ended(end: End, completed: u64) -> RunEnd {
     }
 }
 
-#[test]
-fn store_buffering(rt: HostRuntime) -> Result<(), Fail> {
-    let test = read(rt.alloc(), STORE_BUFFERING).ok().ok_or("it is read")?;
-    let state = received(rt.alloc(), &test, 1, 1)?;
-    let run = RunEnd {
-        end: End::AllDone,
-        state: Some(state),
-        completed: 4,
-        stale: 0,
-        counts: Counts {
-            renewals: 0,
-            upgrades: 0,
-            flushes: 0,
-            write_backs: 2,
-        },
+// Whether the report on runs of a test is this text.
+fn is_report(
+    alloc: Global,
+    test: &Test,
+    runs: &[RunEnd],
+    wanted: &[u8],
+) -> Result<bool, AllocError> {
+    Ok(litmus_text(alloc, test, runs)?.as_slice() == wanted)
+}
+
+const STORE_BUFFERING_REPORT: &[u8] =
+    b"test SB\nthreads 2\nruns 1\nall-done 1\nstalled 0\nlimit 0\nexhausted 0\nmemory 0\nstates 1\n1 0:x7=1 1:x7=1\ncondition exists\nheld 0\nverdict no\ncompleted 4\nrenewals 0\nupgrades 0\nflushes 0\nwrite-backs 2\nstale-hits 0\n";
+
+// A run of the store buffering in which both loads received 1, and two lines were written back.
+fn both_received(alloc: Global, test: &Test) -> Result<RunEnd, AllocError> {
+    let mut run = all_done(received(alloc, test, 1, 1)?);
+    run.stale = 0;
+    run.counts.write_backs = 2;
+    Ok(run)
+}
+
+fn reports_store_buffering(alloc: Global) -> Result<bool, AllocError> {
+    let Some(test) = read(alloc, STORE_BUFFERING).ok() else {
+        return Ok(false);
     };
-    let text = litmus_text(rt.alloc(), &test, &[run])?;
-    assert!(rt;
-        text.as_slice()
-            == b"test SB\nthreads 2\nruns 1\nall-done 1\nstalled 0\nlimit 0\nexhausted 0\nmemory 0\nstates 1\n1 0:x7=1 1:x7=1\ncondition exists\nheld 0\nverdict no\ncompleted 4\nrenewals 0\nupgrades 0\nflushes 0\nwrite-backs 2\nstale-hits 0\n".as_slice()
-    );
-    Ok(())
+    let run = both_received(alloc, &test)?;
+    is_report(alloc, &test, &[run], STORE_BUFFERING_REPORT)
+}
+
+#[test]
+fn store_buffering(rt: HostRuntime) {
+    assert_eq!(rt; reports_store_buffering(rt.alloc()), Ok(true));
 }
 
 // How a run ended.
@@ -115,14 +124,14 @@ const REPORTS: [(&[u8], &[Outcome], &[u8]); 2] = [
     ),
 ];
 
-fn run_of(alloc: Global, test: &Test, run: Outcome) -> Result<RunEnd, Fail> {
+fn run_of(alloc: Global, test: &Test, run: Outcome) -> Result<RunEnd, AllocError> {
     match run {
         Outcome::Received(first, second) => Ok(all_done(received(alloc, test, first, second)?)),
         Outcome::Other(end, completed) => Ok(ended(end, completed)),
     }
 }
 
-fn runs_of(alloc: Global, test: &Test, runs: &[Outcome]) -> Result<Vec<RunEnd>, Fail> {
+fn runs_of(alloc: Global, test: &Test, runs: &[Outcome]) -> Result<Vec<RunEnd>, AllocError> {
     let mut made = Vec::new(alloc);
     for run in runs {
         made.push(run_of(alloc, test, *run)?)?;
@@ -130,22 +139,41 @@ fn runs_of(alloc: Global, test: &Test, runs: &[Outcome]) -> Result<Vec<RunEnd>, 
     Ok(made)
 }
 
-#[test]
-fn reports_of_runs(rt: HostRuntime) -> Result<(), Fail> {
-    for (litmus, runs, report) in &REPORTS {
-        let test = read(rt.alloc(), litmus).ok().ok_or("it is read")?;
-        let runs = runs_of(rt.alloc(), &test, runs)?;
-        let text = litmus_text(rt.alloc(), &test, &runs)?;
-        assert!(rt; text.as_slice() == *report);
+// Whether a text is read, and runs of its test that end so are reported so.
+fn reports(
+    alloc: Global,
+    litmus: &[u8],
+    runs: &[Outcome],
+    wanted: &[u8],
+) -> Result<bool, AllocError> {
+    let Some(test) = read(alloc, litmus).ok() else {
+        return Ok(false);
+    };
+    let runs = runs_of(alloc, &test, runs)?;
+    is_report(alloc, &test, &runs, wanted)
+}
+
+// The number of the first report that isn't as wanted.
+fn first_wrong(alloc: Global) -> Result<Option<usize>, AllocError> {
+    for number in 0..REPORTS.len() {
+        let (litmus, runs, wanted) = REPORTS[number];
+        if !reports(alloc, litmus, runs, wanted)? {
+            return Ok(Some(number));
+        }
     }
-    Ok(())
+    Ok(None)
+}
+
+#[test]
+fn reports_of_runs(rt: HostRuntime) {
+    assert_eq!(rt; first_wrong(rt.alloc()), Ok(None));
 }
 
 const GREAT_SUMS: &[u8] =
     b"test L\nthreads 2\nruns 3\nall-done 2\nstalled 0\nlimit 1\nexhausted 0\nmemory 0\nstates 2\n1 flag_1=0 data=1 1:x7=0\n1 flag_1=18446744073709551615 data=1 1:x7=0\ncondition forall\nheld 1\nverdict no\ncompleted 36893488147419103234\nrenewals 340282366920938463463374607431768211455\nupgrades 8\nflushes 0\nwrite-backs 0\nstale-hits 18446744073709551617\n";
 
 // A run of the test with names of locations that ended with these values of them.
-fn at_locations(alloc: Global, test: &Test, memory: &[u64]) -> Result<RunEnd, Fail> {
+fn at_locations(alloc: Global, test: &Test, memory: &[u64]) -> Result<RunEnd, AllocError> {
     let mut threads = Vec::new(alloc);
     for (thread, value) in [(0, None), (1, Some(0))] {
         let mut state = test.start(thread);
@@ -156,7 +184,7 @@ fn at_locations(alloc: Global, test: &Test, memory: &[u64]) -> Result<RunEnd, Fa
 }
 
 // The condition doesn't hold, and there were very many renewals and operations.
-fn with_many_operations(alloc: Global, test: &Test) -> Result<RunEnd, Fail> {
+fn with_many_operations(alloc: Global, test: &Test) -> Result<RunEnd, AllocError> {
     let mut run = at_locations(alloc, test, &[1, 18446744073709551615])?;
     run.counts.renewals = 340282366920938463463374607431768211455;
     run.completed = 18446744073709551615;
@@ -172,27 +200,40 @@ fn with_many_stale_hits() -> RunEnd {
     run
 }
 
-#[test]
-fn names_of_locations_and_great_sums(rt: HostRuntime) -> Result<(), Fail> {
-    let test = read(rt.alloc(), LOCATIONS).ok().ok_or("it is read")?;
-    let held = at_locations(rt.alloc(), &test, &[1, 0])?;
-    let not_held = with_many_operations(rt.alloc(), &test)?;
+fn reports_great_sums(alloc: Global) -> Result<bool, AllocError> {
+    let Some(test) = read(alloc, LOCATIONS).ok() else {
+        return Ok(false);
+    };
+    let held = at_locations(alloc, &test, &[1, 0])?;
+    let not_held = with_many_operations(alloc, &test)?;
     let runs = [held, not_held, with_many_stale_hits()];
-    let text = litmus_text(rt.alloc(), &test, &runs)?;
-    assert!(rt; text.as_slice() == GREAT_SUMS);
-    Ok(())
+    is_report(alloc, &test, &runs, GREAT_SUMS)
 }
 
 #[test]
-fn and_binds_closer_than_or(rt: HostRuntime) -> Result<(), Fail> {
-    let test = read(rt.alloc(), MIXED).ok().ok_or("it is read")?;
-    let mut threads = Vec::new(rt.alloc());
+fn names_of_locations_and_great_sums(rt: HostRuntime) {
+    assert_eq!(rt; reports_great_sums(rt.alloc()), Ok(true));
+}
+
+const MIXED_REPORT: &[u8] =
+    b"test M\nthreads 1\nruns 1\nall-done 1\nstalled 0\nlimit 0\nexhausted 0\nmemory 0\nstates 1\n1 x=1 y=0\ncondition exists\nheld 1\nverdict yes\ncompleted 4\nrenewals 0\nupgrades 0\nflushes 0\nwrite-backs 0\nstale-hits 1\n";
+
+// A run of the one thread, which does nothing.
+fn nothing_done(alloc: Global, test: &Test) -> Result<RunEnd, AllocError> {
+    let mut threads = Vec::new(alloc);
     threads.push(test.start(0))?;
-    let run = all_done(test.end(&threads, &[1, 0])?);
-    let text = litmus_text(rt.alloc(), &test, &[run])?;
-    assert!(rt;
-        text.as_slice()
-            == b"test M\nthreads 1\nruns 1\nall-done 1\nstalled 0\nlimit 0\nexhausted 0\nmemory 0\nstates 1\n1 x=1 y=0\ncondition exists\nheld 1\nverdict yes\ncompleted 4\nrenewals 0\nupgrades 0\nflushes 0\nwrite-backs 0\nstale-hits 1\n".as_slice()
-    );
-    Ok(())
+    Ok(all_done(test.end(&threads, &[1, 0])?))
+}
+
+fn reports_mixed(alloc: Global) -> Result<bool, AllocError> {
+    let Some(test) = read(alloc, MIXED).ok() else {
+        return Ok(false);
+    };
+    let run = nothing_done(alloc, &test)?;
+    is_report(alloc, &test, &[run], MIXED_REPORT)
+}
+
+#[test]
+fn and_binds_closer_than_or(rt: HostRuntime) {
+    assert_eq!(rt; reports_mixed(rt.alloc()), Ok(true));
 }

@@ -42,10 +42,19 @@ const TRACES: [(Form, &[u8], u32, Meaning); 16] = [
 ];
 
 // Lines of records, with core, place, operation, value received, time and number.
-const RECORDS: [(&[u8], u32, u32, Meaning, Option<u64>, u64, u64); 4] = [
+const RECORDS: [(&[u8], u32, u32, Meaning, Option<u64>, u64, u64); 5] = [
     (b"0 0 R 0x8 5 1 0", 0, 0, Meaning::Load(8), Some(5), 1, 0),
     (
         b"63 4294967295 W 0x10 7 2 1",
+        63,
+        4294967295,
+        Meaning::Store(16, 7),
+        None,
+        2,
+        1,
+    ),
+    (
+        b"63 00000000004294967295 W 0x10 7 2 1",
         63,
         4294967295,
         Meaning::Store(16, 7),

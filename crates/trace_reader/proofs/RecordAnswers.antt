@@ -20,6 +20,13 @@ record-found (Err e) a h = tt
 same-told : (x y : List Record) (r : Result (List Record) TraceError) → r ≡ Ok x → r ≡ Ok y → x ≡ y
 same-told x y r e f = cc
 
+-- a text tells one list of records
+pub records-unique : (bytes : List ℕ) (one other : List Record) → AreRecords bytes one → AreRecords bytes other →
+    one ≡ other
+records-unique bytes one other s t =
+    same-told one other (records_at bytes) (records-only (lines_of bytes) one s.0 s.1)
+    (records-only (lines_of bytes) other t.0 t.1)
+
 pub record-only : {Z : Type 0} (r : Result (Vec Record Z) TraceError) (a : Option (List ℕ)) (old new : ℕ) →
     IfOk r (λ records. IfSome a (λ bytes. records_at bytes ≡ Ok records.items)) →
     IfErr r (Refused records_at old new a) →

@@ -27,6 +27,14 @@ trace-found (Err e) a h = tt
 same-told : (x y : List (ℕ × Step)) (r : Result (List (ℕ × Step)) TraceError) → r ≡ Ok x → r ≡ Ok y → x ≡ y
 same-told x y r e f = cc
 
+-- a text tells one trace
+pub trace-unique : (bytes : List ℕ) (one other : List (List Step)) → IsTrace bytes one → IsTrace bytes other →
+    one ≡ other
+trace-unique bytes one other s t =
+    let same = same-told s.1.0 t.1.0 (read_at bytes) (steps-only (lines_of bytes) s.1.0 s.0 s.1.1)
+    (steps-only (lines_of bytes) t.1.0 t.0 t.1.1) in
+    bycore-unique t.1.0 one other (subst (λ (w : List (ℕ × Step)). IsByCore w one) same s.1.2) t.1.2
+
 pub trace-only : (r : Result (List (List Step)) TraceError) (a : Option (List ℕ)) (old new : ℕ) → IfOk r (IsRead a) →
     IfErr r (Refused read_at old new a) →
     IfSome a (λ bytes. (lanes : List (List Step)) → IsTrace bytes lanes → Gives lanes r)

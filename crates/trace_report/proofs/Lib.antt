@@ -1,2 +1,4 @@
 mod Unread
 mod CoreCounts
+mod InTrace
+mod FewRecords

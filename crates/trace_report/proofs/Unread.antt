@@ -7,7 +7,7 @@ use Rattle.trace_lines.specs.declared.errors.Kind.TheVariants.{Read, NoMemory, T
 use Rattle.trace_lines.specs.declared.errors.Kind.TheVariants.{BadAddress, BadValue, ExtraWords, BadForm}
 use Rattle.trace_lines.specs.declared.errors.TraceError.{TraceError}
 use Rattle.trace_reader.specs.Outcomes.{IsCaused, IsOfLine, Refused, whole}
-use Rattle.trace_report.specs.Refusals.{IsFault, IsUnread, refusal, refusal_of}
+use Rattle.trace_report.specs.Refusals.{IsFault, IsUnread, WantsMemory, refusal, refusal_of}
 
 fault_told : (kind : Kind) (e : TraceError) → kind ≢ Read → kind ≢ NoMemory → refusal_of kind e ≡ Trace e
 fault_told Read e read memory = absurd (read refl)
@@ -42,13 +42,14 @@ module _ {X Y : Type 0} (Says : List ℕ → X → Type 0) (Cause : List ℕ →
   pub unread : (before after : ℕ) (known : Option (List ℕ)) → Refused read before after known e →
       IsCaused Cause known e
       → IfSome known (λ bytes. (x : X) → Says bytes x → (e ≡ whole Read) ⊎ (e ≡ whole NoMemory)) →
-      IsUnread (IsFault Says Cause read known) before after (refusal e)
+      IsUnread (IsFault Says Cause read known) (WantsMemory read known) before after (refusal e)
   unread before after known (inl failed) caused only =
-      subst (IsUnread (IsFault Says Cause read known) before after) (sym (ap refusal failed.0))
+      subst (IsUnread (IsFault Says Cause read known) (WantsMemory read known) before after) (sym (ap refusal failed.0))
       (let more : before < after = omega (arith, failed.1) in more)
   unread before after known (inr (same, inl memory)) caused only =
-      subst (IsUnread (IsFault Says Cause read known) before after) (sym (ap refusal memory.0)) same
+      subst (IsUnread (IsFault Says Cause read known) (WantsMemory read known) before after)
+      (sym (ap refusal memory.0)) (same, memory.1)
   unread before after known (inr (same, inr line)) caused only =
-      subst (IsUnread (IsFault Says Cause read known) before after)
+      subst (IsUnread (IsFault Says Cause read known) (WantsMemory read known) before after)
       (sym (fault_told e.kind e line.0.1 line.0.2))
       (same, fault_in known line.0 line.1 (of_line line.0 caused).1 only)

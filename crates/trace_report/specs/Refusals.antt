@@ -1,5 +1,5 @@
 -- Why a text of a trace or of records is refused.
-use Rattle.std.specs.Prelude.{◌≡◌, ◌<◌, ℕ, List, Option, Result, Err, IfSome}
+use Rattle.std.specs.Prelude.{◌≡◌, ◌≢◌, ◌<◌, ℕ, List, [], Option, Result, Ok, Err, IfSome}
 use Rattle.run_results.specs.declared.results.RunError.{RunError}
 use Rattle.run_results.specs.declared.results.RunError.TheVariants.{Read, Write, NoMemory, Litmus, Trace, BadConfig}
 use Rattle.trace_lines.specs.declared.errors.Kind.{Kind}
@@ -30,11 +30,15 @@ refusal_of kind e = Trace e
 abbrev pub refusal : TraceError → RunError
 refusal e = refusal_of e.kind e
 
+-- reading the text wants memory: there is a step or a record to keep, or a fault
+abbrev pub WantsMemory : {Y : Type 0} → (read : List ℕ → Result (List Y) TraceError) → Option (List ℕ) → Type 0
+WantsMemory read known = IfSome known (λ bytes. read bytes ≢ Ok [])
+
 -- how reading a text fails: a failure is counted exactly where it is told
-abbrev pub IsUnread : (IsFaultOf : TraceError → Type 0) → (before after : ℕ) → RunError → Type 0
-IsUnread IsFaultOf before after Read = before < after
-IsUnread IsFaultOf before after NoMemory = after ≡ before
-IsUnread IsFaultOf before after (Trace e) = (after ≡ before) × IsFaultOf e
-IsUnread IsFaultOf before after Write = ⊥
-IsUnread IsFaultOf before after (Litmus e) = ⊥
-IsUnread IsFaultOf before after BadConfig = ⊥
+abbrev pub IsUnread : (IsFaultOf : TraceError → Type 0) → (Wants : Type 0) → (before after : ℕ) → RunError → Type 0
+IsUnread IsFaultOf Wants before after Read = before < after
+IsUnread IsFaultOf Wants before after NoMemory = (after ≡ before) × Wants
+IsUnread IsFaultOf Wants before after (Trace e) = (after ≡ before) × IsFaultOf e
+IsUnread IsFaultOf Wants before after Write = ⊥
+IsUnread IsFaultOf Wants before after (Litmus e) = ⊥
+IsUnread IsFaultOf Wants before after BadConfig = ⊥

@@ -12,7 +12,7 @@ use Rattle.physiological_order.specs.declared.operation.Op.{Op}
 use Rattle.physiological_order.specs.declared.operation.Record.{Record}
 use Rattle.physiological_order.specs.Order.{address, flat, Legal, Arrangement, replay_end}
 use Rattle.physiological_order.specs.StaleHits.{RisesByNumber, stale_count}
-use Rattle.record_text.specs.Text.{records_text}
+use Rattle.record_text.specs.Text.{AreComplete, records_text}
 use Rattle.report_parts.specs.SetUp.{limit_of, policy_of}
 use Rattle.run_ends.specs.declared.ends.End.{End}
 use Rattle.run_ends.specs.declared.ends.End.TheVariants.{AllDone, Stalled, TurnsUsed, Exhausted, NoMemory}
@@ -37,8 +37,13 @@ abbrev pub programs_below : List (List Step) → ℕ → List (List Step)
 programs_below lanes zero = []
 programs_below lanes (suc core) = programs_below lanes core ++ lane lanes core ∷ []
 
--- a run of a trace over a memory of zeros: its records are a legal history, by rising number, and the words have the
--- values that the records leave, one after the other in the order of their times
+-- the operations of each core of a trace; a core that it hasn't has none
+abbrev pub issued_in : List (List Step) → ℕ → List Op
+issued_in lanes core = slice_index_or (map ops_of lanes) core []
+
+-- a run of a trace over a memory of zeros: its records are a legal history of what the cores were issued, and so of the
+-- operations of the trace; they stand by rising number, and are such as a text of records can tell; and the words have
+-- the values that the records leave, one after the other in the order of their times
 pub record IsRun (options : RunOptions) (config : Config) (lanes : List (List Step)) (end : End)
     (machine : Machine) : Type 0 where
   pub events : List Event
@@ -46,7 +51,9 @@ pub record IsRun (options : RunOptions) (config : Config) (lanes : List (List St
   pub ended : EndedBy step_acts (policy_of options) (limit_of options) (at_start config empty)
       (programs_below lanes (core_count lanes)) events machine programs end
   pub legal : Legal (flat empty) (λ core. slice_index_or machine.issued core []) machine.records
+  pub legal_in_trace : Legal (flat empty) (issued_in lanes) machine.records
   pub rising : RisesByNumber machine.records
+  pub complete : AreComplete machine.records
   pub left : (arranged : List Record) → Arrangement machine.records arranged → (word : ℕ) →
       coherent machine word ≡ replay_end (flat empty) (map (λ r. r.op) arranged) word
 

@@ -1,8 +1,6 @@
 -- The verdict on a trace and records, and why there is none.
-use Rattle.std.specs.Prelude.{◌≡◌, ◌⊎◌, ◌<◌, ℕ, Bool, true, false, List, [], Option, Result, Err, IfSome, map}
-use Rattle.std.specs.Prelude.{slice_index_or}
+use Rattle.std.specs.Prelude.{◌≡◌, ◌⊎◌, ◌<◌, ℕ, Bool, true, false, List, Option, Result, Err, IfSome}
 use Rattle.std.specs.FinMap.{empty}
-use Rattle.physiological_order.specs.declared.operation.Op.{Op}
 use Rattle.physiological_order.specs.declared.operation.Record.{Record}
 use Rattle.physiological_order.specs.declared.verdict.Verdict.{Verdict}
 use Rattle.physiological_order.specs.declared.verdict.Verdict.TheVariants.{Legal, BadNumber, OutOfProgramOrder}
@@ -16,15 +14,11 @@ use Rattle.trace_lines.specs.declared.errors.TraceError.{TraceError}
 use Rattle.trace_lines.specs.declared.steps.Step.{Step}
 use Rattle.trace_reader.specs.Causes.{RecordFault}
 use Rattle.trace_reader.specs.Grammar.{AreRecords}
-use Rattle.trace_reader.specs.Reading.{records_at}
-use Rattle.trace_reader.specs.Steps.{ops_of}
-use Rattle.trace_report.specs.Refusals.{IsFault, IsRead}
+use Rattle.trace_reader.specs.Reading.{read_at, records_at}
+use Rattle.trace_report.specs.Refusals.{IsFault, IsRead, WantsMemory}
 use Rattle.trace_report.specs.Reports.{IsTraceFault}
+use Rattle.trace_report.specs.Runs.{issued_in}
 use Rattle.trace_report_text.specs.Verdicts.{check_text}
-
--- the operations of each core of a trace; a core that it hasn't has none
-abbrev pub issued_in : List (List Step) → ℕ → List Op
-issued_in lanes core = slice_index_or (map ops_of lanes) core []
 
 -- the records that were read: their text is all that the source had, where that is known
 abbrev pub AreRead : Option (List ℕ) → List Record → Type 0
@@ -53,11 +47,13 @@ abbrev pub IsCheckReport : (trace records : Option (List ℕ)) → Bool → List
 IsCheckReport trace records legal text = (lanes : List (List Step)) × (told : List Record)
     × IsRead trace lanes × AreRead records told × IsVerdictLine lanes told legal text
 
--- why there is no verdict: the trace is refused, or it was read and the records are refused
+-- why there is no verdict: the trace is refused, or it was read and the records are refused; memory is wanted to read
+-- the trace, behind it to read the records, and behind both for the line
 abbrev pub HasNoVerdict : (trace records : Option (List ℕ)) → RunError → Type 0
 HasNoVerdict trace records (Trace e) =
     IsTraceFault trace e ⊎ (((lanes : List (List Step)) × IsRead trace lanes) × IsRecordsFault records e)
-HasNoVerdict trace records NoMemory = Unit {0}
+HasNoVerdict trace records NoMemory = WantsMemory read_at trace ⊎ (((lanes : List (List Step)) × IsRead trace lanes) ×
+    (WantsMemory records_at records ⊎ ((told : List Record) × AreRead records told)))
 HasNoVerdict trace records Read = ⊥
 HasNoVerdict trace records Write = ⊥
 HasNoVerdict trace records (Litmus e) = ⊥

@@ -3,6 +3,7 @@
 #![tactic(auto)]
 
 mod checks;
+pub mod laws;
 mod one_run;
 mod programs;
 mod reports;

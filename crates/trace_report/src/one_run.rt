@@ -2,7 +2,8 @@
 ghost use Rattle.std.specs.Prelude.{◌≡◌, true, IfOk};
 ghost use Rattle.machine_table.specs.SetUp.{is_good};
 ghost use Rattle.physiological_order.specs.StaleHits.{RisesByNumber};
-ghost use Rattle.record_text.specs.Text.{records_text};
+ghost use Rattle.record_text.specs.Text.{AreComplete, records_text};
+ghost use Rattle.trace_report.specs.Reports.{Stands};
 ghost use Rattle.trace_report.specs.Runs.{IsRun, core_count, end_of, run_text};
 
 use crate::programs::programs_of;
@@ -38,6 +39,7 @@ pub(crate) fn run_once(
     ensures { IfOk result (λ ran. IsRun options.now config trace.now ran.end ran.system) }
 {
     every_history_is_legal();
+    let _few = trace.cores();
     let Ok(mut system) = System::new(alloc, config, Memory::new(alloc)) else {
         return Err(AllocError);
     };
@@ -70,7 +72,9 @@ fn end_of(alloc: Global, trace: &Trace, ran: &Ran) -> Result<TraceEnd, AllocErro
 
 // The text of the records of a run, by rising number.
 fn records_of(alloc: Global, ran: &Ran) -> Result<Vec<u8>, AllocError>
-    ensures { IfOk result (λ text. text.items ≡ records_text ran.now.system.records) }
+    requires { AreComplete ran.now.system.records }
+    ensures text { IfOk result (λ text. text.items ≡ records_text ran.now.system.records) }
+    ensures stands { IfOk result (λ text. Stands text.items ran.now.system.records) }
 {
     records_text(alloc, ran.system.records())
 }
@@ -82,8 +86,11 @@ pub(crate) fn text_of(
     ran: &Ran,
     records: bool,
 ) -> Result<Vec<u8>, AllocError>
-    ensures { IfOk result (λ text. text.items ≡
+    requires { AreComplete ran.now.system.records }
+    ensures text { IfOk result (λ text. text.items ≡
         run_text records trace.now ran.now.end ran.now.system) }
+    ensures stands { IfOk result (λ text. records ≡ true →
+        Stands text.items ran.now.system.records) }
 {
     if records {
         return records_of(alloc, ran);

@@ -1,6 +1,7 @@
 //! The texts of traces and of records from their sources.
 ghost use Rattle.std.specs.Prelude.{◌≡◌, IfOk, IfErr, OnOk};
-ghost use Rattle.trace_report.specs.Refusals.{IsRead, IsUnread, refusal};
+ghost use Rattle.trace_reader.specs.Reading.{read_at, records_at};
+ghost use Rattle.trace_report.specs.Refusals.{IsRead, IsUnread, WantsMemory, refusal};
 ghost use Rattle.trace_report.specs.Reports.{IsTraceFault};
 ghost use Rattle.trace_report.specs.Verdicts.{AreRead, IsRecordsFault};
 
@@ -27,6 +28,7 @@ pub(crate) fn trace_of<S: Source>(alloc: Global, source: &mut S) -> Result<Trace
     ensures read { IfOk result (IsRead (S.remaining source.old)) }
     ensures none_failed { OnOk result (S.failures source.new ≡ S.failures source.old) }
     ensures refused { IfErr result (IsUnread (IsTraceFault (S.remaining source.old))
+        (WantsMemory read_at (S.remaining source.old))
         (S.failures source.old) (S.failures source.new)) }
 {
     match read(alloc, source) {
@@ -40,6 +42,7 @@ pub(crate) fn records_of<S: Source>(alloc: Global, source: &mut S) -> Result<Vec
     ensures read { IfOk result (λ records. AreRead (S.remaining source.old) records.items) }
     ensures none_failed { OnOk result (S.failures source.new ≡ S.failures source.old) }
     ensures refused { IfErr result (IsUnread (IsRecordsFault (S.remaining source.old))
+        (WantsMemory records_at (S.remaining source.old))
         (S.failures source.old) (S.failures source.new)) }
 {
     match read_records(alloc, source) {

@@ -182,7 +182,7 @@ module _ {P S : Type 0} (plan : Plan P S) where
   other same = true≢false (ap is_all same)
 
   module _ (start : Position P S) (events : List Event) (m : Machine) (programs : List P) (e : End)
-      (ended : Ended plan start events m programs e) where
+      {keeps : Bool} (ended : Ended keeps plan start events m programs e) where
     pub run_makes : m ≡ after_all start.machine events
     run_makes = sym ended.machine_is ∙ made_by start ended.last events ended.follows
 

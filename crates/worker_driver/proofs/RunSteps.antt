@@ -38,7 +38,7 @@ module _ {P S : Type 0} (plan : Plan P S) (start : Position P S) where
 
   pub finished : (kept : Option (List Event)) (d : Position P S) (m : Machine) (programs : List P) (end : End) →
       Arrives plan start kept d →
-      ((events : List Event) → Follows plan start events d → Ended plan start events m programs end) →
+      ((events : List Event) → Follows plan start events d → Ended (is_some kept) plan start events m programs end) →
       Finishes plan start kept m programs end
   finished None d m programs end before ends = (before.0, ends before.0 before.1)
   finished (Some events) d m programs end before ends = ends events before
@@ -101,6 +101,7 @@ module _ {P S : Type 0} (plan : Plan P S) (start : Position P S) (p : Point P S)
           refl,
           λ other ends. let bad : Makes event (answered (position p turns) leads) ≡ Ends other = sym is_next ∙ ends in
               absurd cc,
+          inl (event, answered (position p turns) leads, is_next, rw (noted.1.events) (noted.2)),
         );
       })
   stopped end.AllDone m log noted = absurd noted

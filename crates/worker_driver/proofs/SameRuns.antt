@@ -1,6 +1,6 @@
 -- A plan leaves no choice: two runs that it ends are one run.
-use Rattle.std.proofs.Common.{◌≡◌, ◌≢◌, ◌∙◌, ◌⊎◌, ℕ, zero, suc, ◌+◌, List, [], ◌∷◌, ◌++◌, ap, refl, sym, subst, ⊎_elim}
-use Rattle.std.proofs.Common.{arith}
+use Rattle.std.proofs.Common.{◌≡◌, ◌≢◌, ◌∙◌, ◌⊎◌, ℕ, zero, suc, ◌+◌, false, List, [], ◌∷◌, ◌++◌, ap, refl, sym, subst}
+use Rattle.std.proofs.Common.{arith, ⊎_elim}
 use Rattle.machine_table.specs.declared.event.Event.{Event}
 use Rattle.machine_table.specs.Machine.{Machine}
 use Rattle.machine_table.specs.Transition.{transition}
@@ -13,7 +13,7 @@ use Rattle.worker_driver.specs.Policies.{EndedBy}
 use Rattle.worker_driver.specs.RoundSchedule.{no_round, rounds}
 use Rattle.worker_driver.specs.SeedSchedule.{of_seed, seeded}
 use Rattle.worker_driver.specs.Runs.{Next, Plan, Position, Makes, Moves, Ends, next, plan_of}
-use Rattle.worker_driver.specs.RunEvents.{Follows, stays, moves, makes, Ended, initial}
+use Rattle.worker_driver.specs.RunEvents.{Follows, stays, moves, makes, Ended, WantsMemory, initial}
 
 module _ {P S : Type 0} (plan : Plan P S) (start : Position P S) where
   -- the events so far and the position, after what comes next
@@ -74,11 +74,12 @@ module _ {P S : Type 0} (plan : Plan P S) (start : Position P S) where
   end_of (Moves d) = NoMemory
 
   end_in : (d : Position P S) (end : End) → (next plan d ≡ Ends end) ⊎
-      ((end ≡ NoMemory) × ((other : End) → next plan d ≢ Ends other)) → end ≢ NoMemory → next plan d ≡ Ends end
+      ((end ≡ NoMemory) × ((other : End) → next plan d ≢ Ends other) × WantsMemory false plan d) → end ≢ NoMemory →
+      next plan d ≡ Ends end
   end_in d end ends not = ⊎_elim (λ is. is) (λ refused. absurd (not refused.0)) ends
 
   same_run : (events more : List Event) (m n : Machine) (programs others : List P) (end last : End) →
-      Ended plan start events m programs end → Ended plan start more n others last →
+      Ended false plan start events m programs end → Ended false plan start more n others last →
       end ≢ NoMemory → last ≢ NoMemory → (events ≡ more) × (m ≡ n) × (programs ≡ others) × (end ≡ last)
   unfolding end_of
   same_run events more m n programs others end last first second had too =

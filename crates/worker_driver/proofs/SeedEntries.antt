@@ -1,15 +1,13 @@
 -- The entry of a seeded turn's list that is made.
-use Rattle.std.proofs.Common.{◌≡◌, ◌+◌, ◌%◌, ◌<◌, ◌≤◌, ℕ, zero, suc, nat_lt, Bool, true, false, List, [], ◌∷◌, ◌++◌}
+use Rattle.std.proofs.Common.{◌≡◌, ◌+◌, ◌%◌, ◌<◌, ℕ, suc, nat_lt, Bool, true, false, List, [], ◌∷◌, ◌++◌}
 use Rattle.std.proofs.Common.{length, map, get_or, Option, Some, None, refl, sym, ap, ◌∙◌, arith}
 use Rattle.std.proofs.Common.{◌≢◌, inl, inr, set, get_or-set_same, get_or-set_other}
 use Rattle.std.specs.Prelude.{slice_get, is_some}
-use Rattle.std.specs.List.{range_with_len}
 use Rattle.std.proofs.Math.Nat.{mod-lt}
 use Rattle.std.proofs.lemmas.Bool.{cases_eq, cond_both, false≢true}
 use Rattle.std.proofs.lemmas.List.{length-map, length-append, get_or_append_left, get_or-append-add, get_or-map, get_or_past}
 use Rattle.std.proofs.lemmas.List.FromFn.{get_or-map-range_with_len, length-map-range_with_len}
 use Rattle.std.proofs.lemmas.Option.{get_or_from_slice_get, slice_get_within, slice_get-get_or}
-use Rattle.physiological_order.specs.declared.operation.Op.{Op}
 use Rattle.interleaving_core.specs.LookUps.{open_op}
 use Rattle.worker_driver.specs.declared.schedule.Choice.{Choice as Chosen}
 use Rattle.machine_table.specs.declared.event.Event.{Event}
@@ -17,10 +15,10 @@ use Rattle.machine_table.specs.declared.event.Event.TheVariants as event
 use Rattle.machine_table.specs.Machine.{Machine}
 use Rattle.line_sets.specs.Rising.{put_in, risen}
 use Rattle.worker_driver.specs.Acts.{Acts, next_in}
-use Rattle.worker_driver.specs.Schedules.{Choice, Does, Tries, Delivers, Advances, Goes, Over}
+use Rattle.worker_driver.specs.Schedules.{Choice, Does, Delivers, Over}
 use Rattle.worker_driver.specs.SeedSchedule.{Seeded, advances, core_step, core_steps, entry, line_events}
 use Rattle.worker_driver.specs.SeedViews.{AreReady, Picks, PicksAny}
-use Rattle.worker_driver.proofs.Pieces.{at_piece, length_more, pieces}
+use Rattle.worker_driver.proofs.Pieces.{at_piece, length_more}
 
 is_end : Choice Seeded → Bool
 is_end Over = true

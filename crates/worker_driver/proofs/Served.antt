@@ -325,8 +325,8 @@ module _ {P S : Type 0} (plan : Plan P S) (gives : GivesSteps plan.acts plan.sch
       (ap (λ (m : Machine). length m.cores) made ∙ same.cores ∙ count) event leads is
 
   pub all_served : length start.machine.cores ≡ start.machine.config.cores → Issues start.machine →
-      (events : List Event) (m : Machine) (programs : List P) (e : End) → Issues m →
-      Ended plan start events m programs e →
+      (events : List Event) (m : Machine) (programs : List P) (e : End) → Issues m → {keeps : Bool} →
+      Ended keeps plan start events m programs e →
       AreServed plan.acts start.machine m start.programs programs
   all_served count issued events m programs e issued_after ended =
       let kept : Kept m programs =

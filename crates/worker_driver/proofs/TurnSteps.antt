@@ -1,5 +1,5 @@
 -- What comes next within a turn, and where it leads.
-use Rattle.std.proofs.Common.{◌≡◌, ◌≢◌, inr, ℕ, Bool, true, false, List, Some, None, Result, Ok, Err, refl, ap}
+use Rattle.std.proofs.Common.{◌≡◌, ◌≢◌, inr, ℕ, IsTrue, Bool, true, false, List, Some, None, Result, Ok, Err, refl, ap}
 use Rattle.machine_table.specs.declared.event.Event.{Event}
 use Rattle.machine_table.specs.declared.event.Event.TheVariants.{Attempt, Advance, EvictCache, EvictBank, Deliver}
 use Rattle.machine_table.specs.declared.event.Answer.{Answer}
@@ -173,8 +173,9 @@ module _ {P S : Type 0} (acts : Acts P) (schedule : Schedule P S) (m : Machine) 
   still_in limit turns end Over ends = refl
 
   -- memory was refused before the turn was over
-  pub refused : schedule.next m programs own ≢ Over → Stops acts schedule Here m programs log NoMemory
-  refused more = (
+  pub refused : schedule.next m programs own ≢ Over → IsTrue (schedule.lists own) →
+      Stops acts schedule Here m programs log NoMemory
+  refused more lists = (
     refl,
     λ limit start turns before.
         finished (plan_of acts schedule limit) start log.events (position Here turns) m programs NoMemory before
@@ -183,6 +184,10 @@ module _ {P S : Type 0} (acts : Acts P) (schedule : Schedule P S) (m : Machine) 
           follows = follows;
           machine_is = refl;
           programs_are = refl;
-          ends = inr (refl, λ other ends. more (still_in limit turns other (schedule.next m programs own) ends));
+          ends = inr (
+            refl,
+            λ other ends. more (still_in limit turns other (schedule.next m programs own) ends),
+            inr (refl, lists),
+          );
         }),
   )

@@ -1,5 +1,5 @@
 -- How a run notes the events that it makes.
-use Rattle.std.specs.Prelude.{◌≡◌, ℕ, Bool, true, false, ◌||◌, List, [], ◌∷◌, ◌++◌, Option, is_some, option_map}
+use Rattle.std.specs.Prelude.{◌≡◌, ℕ, Bool, true, false, ◌||◌, List, [], ◌∷◌, ◌++◌, Option, is_some, option_map, IsTrue}
 use Rattle.std.specs.Prelude.{Result, Ok, Err}
 use Rattle.machine_table.specs.declared.event.Event.{Event}
 use Rattle.machine_table.specs.declared.event.Answer.{Answer}
@@ -7,6 +7,7 @@ use Rattle.machine_table.specs.declared.event.Answer.TheVariants.{Refused}
 use Rattle.machine_table.specs.declared.event.Refusal.TheVariants.{Exhausted as TimesEnd, NoMemory as NoMemoryAnswer}
 use Rattle.machine_table.specs.Machine.{Machine}
 use Rattle.machine_table.specs.Transition.{transition}
+use Rattle.interleaving_core.specs.StepAnswers.{asks_memory}
 use Rattle.run_ends.specs.declared.ends.End.{End}
 use Rattle.run_ends.specs.declared.ends.End.TheVariants.{AllDone, Stalled, TurnsUsed, Exhausted, NoMemory}
 use Rattle.worker_driver.specs.Acts.{Acts}
@@ -36,13 +37,14 @@ is_no_memory (Refused NoMemoryAnswer) = true
 is_no_memory _ = false
 
 -- an event is answered by the table and noted; where that says that times are exhausted the run is to end; and where
--- memory was refused nothing changed
+-- memory was refused nothing changed, and the event asks for some or is to be kept
 abbrev pub Noted : Machine → Log → Event → Result Answer End → Machine → Log → Type 0
 Noted m log event (Ok answer) after after_log =
     ((answer, after) ≡ transition m event) × (is_exhausted answer ≡ false) × IsNoted log event answer after_log
 Noted m log event (Err Exhausted) after after_log =
     ((Refused TimesEnd, after) ≡ transition m event) × IsNoted log event (Refused TimesEnd) after_log
-Noted m log event (Err NoMemory) after after_log = (after ≡ m) × IsSame log after_log
+Noted m log event (Err NoMemory) after after_log =
+    (after ≡ m) × IsSame log after_log × IsTrue (is_some log.events || asks_memory m event)
 Noted m log event (Err AllDone) after after_log = ⊥
 Noted m log event (Err Stalled) after after_log = ⊥
 Noted m log event (Err TurnsUsed) after after_log = ⊥

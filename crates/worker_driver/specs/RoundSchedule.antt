@@ -1,6 +1,6 @@
 -- The schedule of rounds: the cores have their turns in rising order, and then the messages that are in flight, each
 -- once.
-use Rattle.std.specs.Prelude.{ℕ, ◌+◌, nat_lt, Bool, true, List, [], ◌∷◌, map, Option, Some, None}
+use Rattle.std.specs.Prelude.{ℕ, ◌+◌, nat_lt, Bool, true, false, not, List, [], ◌∷◌, map, Option, Some, None}
 use Rattle.std.specs.Prelude.{if◌then◌else◌}
 use Rattle.physiological_order.specs.declared.operation.Op.{Op}
 use Rattle.trace_lines.specs.declared.steps.Step.{Step}
@@ -66,11 +66,17 @@ round_behind full (Delivering (number ∷ left)) = Delivering left
 abbrev pub round_pass : Bool → Round → Round
 round_pass full round = record round { stage = round_behind full round.stage }
 
+-- behind the last core the messages in flight are listed
+abbrev pub round_lists : Round → RoundStage → Bool
+round_lists round (Stepping core) = not (nat_lt core round.cores)
+round_lists round _ = false
+
 abbrev pub rounds : {P : Type 0} → Acts P → Schedule P Round
 rounds acts = record {
   first = λ round. record round { stage = Stepping 0 };
   next = λ m programs round. round_next acts m programs round round.stage;
   behind = round_pass;
+  lists = λ round. round_lists round round.stage;
   stalls = true;
 }
 

@@ -26,5 +26,7 @@ pub record Schedule (P S : Type 0) : Type 0 where
   pub next : Machine → List P → S → Choice S
   -- the stage after an answered event; and whether there was no place for an operation's line
   pub behind : Bool → S → S
+  -- whether what there is has to be listed before it is known what comes next: that alone takes memory here
+  pub lists : S → Bool
   -- whether a turn without progress is the last
   pub stalls : Bool

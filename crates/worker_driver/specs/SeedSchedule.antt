@@ -1,6 +1,6 @@
 -- The seeded schedule: a turn is one event, drawn from a list of events by two words of a generator.
-use Rattle.std.specs.Prelude.{ℕ, zero, suc, ◌%◌, Bool, false, List, [], ◌∷◌, ◌++◌, length, map, get_or, Option, Some}
-use Rattle.std.specs.Prelude.{None, if◌then◌else◌}
+use Rattle.std.specs.Prelude.{ℕ, zero, suc, ◌%◌, ◌==◌, ◌||◌, Bool, false, List, [], ◌∷◌, ◌++◌, length, map, get_or}
+use Rattle.std.specs.Prelude.{Option, Some, None, if◌then◌else◌}
 use Rattle.std.specs.List.{flat_map, range_with_len}
 use Rattle.rand_core.specs.Pcg32Seed.{pcg32_seed}
 use Rattle.rand_pcg.specs.Lcg.{Lcg}
@@ -69,6 +69,11 @@ abbrev pub seeded_next : {P : Type 0} → Acts P → Machine → List P → Opti
 seeded_next acts m programs None = Over
 seeded_next acts m programs (Some words) = entry (drawn_list acts m programs (words.0 % 16)) words.1
 
+-- the line of an eviction is found in a list of lines
+abbrev pub draws_eviction : Option (ℕ × ℕ) → Bool
+draws_eviction None = false
+draws_eviction (Some words) = words.0 % 16 == 1 || words.0 % 16 == 2
+
 -- two words are drawn when a turn begins
 abbrev pub draw : Seeded → Seeded
 draw own =
@@ -83,6 +88,7 @@ seeded acts = record {
   first = draw;
   next = λ m programs own. seeded_next acts m programs own.drawn;
   behind = passed;
+  lists = λ own. draws_eviction own.drawn;
   stalls = false;
 }
 

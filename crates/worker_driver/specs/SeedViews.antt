@@ -1,5 +1,5 @@
 -- How many steps are left in a seeded turn, and how an entry that is picked stands for what the schedule has next.
-use Rattle.std.specs.Prelude.{◌≡◌, ◌≢◌, ◌⊎◌, ◌<◌, ℕ, Bool, List, [], ◌∷◌, length, get_or, Option, Some, None, IsSome}
+use Rattle.std.specs.Prelude.{◌≡◌, ◌≢◌, ◌<◌, ℕ, List, [], ◌∷◌, length, get_or, Option, Some, None, IsSome}
 use Rattle.std.specs.Prelude.{Result, Ok, Err}
 use Rattle.machine_table.specs.Machine.{Machine}
 use Rattle.interleaving_core.specs.LookUps.{open_op}

@@ -1,5 +1,5 @@
 -- A schedule as code: how what it answers stands for what comes next.
-use Rattle.std.specs.Prelude.{◌≡◌, ◌≢◌, ◌<◌, ℕ, Bool, true, false, Result, Ok, Err}
+use Rattle.std.specs.Prelude.{◌≡◌, ◌≢◌, ◌<◌, ℕ, Bool, true, false, IsTrue, Result, Ok, Err}
 use Rattle.run_ends.specs.declared.ends.End.{End}
 use Rattle.worker_driver.specs.declared.schedule.Choice.{Choice as Chosen}
 use Rattle.worker_driver.specs.declared.schedule.Choice.TheVariants as chosen
@@ -16,10 +16,10 @@ IsChoice next old (chosen.Advances core) new = (next ≡ Advances core) × (new 
 IsChoice next old chosen.Goes new = next ≡ Goes new
 IsChoice next old chosen.Over new = (next ≡ Over) × (new ≡ old)
 
--- what it answers; memory is refused only where the turn isn't over
-abbrev pub IsChosen : {S E : Type 0} → Choice S → S → Result Chosen E → S → Type 0
-IsChosen next old (Ok choice) new = IsChoice next old choice new
-IsChosen next old (Err e) new = next ≢ Over
+-- what it answers; memory is refused only where the turn isn't over and the schedule lists what there is
+abbrev pub IsChosen : {S E : Type 0} → Choice S → Bool → S → Result Chosen E → S → Type 0
+IsChosen next lists old (Ok choice) new = IsChoice next old choice new
+IsChosen next lists old (Err e) new = (next ≢ Over) × IsTrue lists
 
 -- after its choice fewer steps are left in the turn, and an event may be answered
 abbrev pub Fewer : {S : Type 0} → (S → ℕ) → (S → Type 0) → (Bool → S → S) → S → Chosen → S → Type 0

@@ -1,5 +1,5 @@
 //! Turns of any schedule from the first one, and what they came to.
-ghost use Rattle.std.specs.Prelude.{◌≡◌, ◌<◌, [], false, None, IfSome, ℕ};
+ghost use Rattle.std.specs.Prelude.{◌≡◌, ◌<◌, [], false, true, is_some, None, IfSome, ℕ};
 ghost use Rattle.machine_table.specs.Runs.{after_all};
 ghost use Rattle.interleaving_core.specs.LookUps.{open_op};
 ghost use Rattle.worker_driver.specs.Acts.{next_in};
@@ -35,8 +35,8 @@ pub(crate) fn finish<P: Program, S: Schedule<P>>(
     requires nothing_yet { IfSome log.old.events (λ events. events ≡ []) }
     requires no_progress_yet { log.old.has_progressed ≡ false }
     ensures ended { Known log.new.events (λ events.
-        Ended (plan_of P.acts S.rule limit) (initial system.old programs.old schedule.old) events
-        system.new programs.new result
+        Ended (is_some log.new.events) (plan_of P.acts S.rule limit)
+        (initial system.old programs.old schedule.old) events system.new programs.new result
         × (system.new ≡ after_all system.old events)) }
     ensures kept { KeepsAs log.old log.new }
     ensures all_done { result ≡ End.AllDone → (core : ℕ) → core < system.old.config.cores →
@@ -59,7 +59,7 @@ pub(crate) fn drive<P: Program, S: Schedule<P>>(
     limit: u32,
 ) -> Driven
     requires { GivesSteps P.acts S.rule }
-    ensures schedule { Ended (plan_of P.acts S.rule limit)
+    ensures schedule { Ended true (plan_of P.acts S.rule limit)
         (initial system.old programs.old schedule.old)
         result.events.items system.new programs.new result.end }
     ensures machine { system.new ≡ after_all system.old result.events.items }

@@ -1,6 +1,6 @@
 //! The events that a run made, each noted as it is answered.
 ghost use Rattle.std.specs.Prelude.{◌≡◌, ◌<◌, ◌++◌, ◌∷◌, [], false, ◌||◌, IsSome, None, OnErr, OnOk, Some};
-ghost use Rattle.std.specs.Prelude.{option_map};
+ghost use Rattle.std.specs.Prelude.{is_some, option_map, true};
 ghost use Rattle.worker_driver.specs.Notes.{Noted, is_no_memory};
 ghost use Rattle.worker_driver.specs.Runs.{is_advanced, is_exhausted, is_held, is_progress, is_no_room};
 
@@ -117,6 +117,7 @@ impl Log {
         ensures events { self.new.events ≡ self.old.events }
         ensures progressed { self.new.has_progressed ≡ self.old.has_progressed }
         ensures ok { OnOk result (0 < self.new.reserved) }
+        ensures refused { OnErr result (is_some self.old.events ≡ true) }
     {
         if !self.keeps {
             return Ok(());
@@ -150,8 +151,8 @@ impl Log {
     }
 }
 
-// Gives the machine an event and notes it. An error ends the run: NoMemory, where nothing changed and the event is not
-// noted, or Exhausted, where it is.
+// Gives the machine an event and notes it. An error ends the run: Exhausted, where the event is noted, or NoMemory,
+// where nothing changed and it isn't. That comes only if the event asks for memory, or is to be kept.
 pub(crate) fn step(log: &mut Log, system: &mut System, event: &Event) -> Result<Answer, End>
     ensures { Noted system.old log.old event.now result system.new log.new }
 {

@@ -29,7 +29,8 @@ pub(crate) enum RoundStage {
     Delivering,
 }
 
-// Where a round stands: how many cores have turns, the stage, and the messages to deliver, of which so many were.
+// Where a round stands: how many cores have turns, the stage, and the messages to deliver, of which so many were. Their
+// list keeps its memory from round to round.
 #[derive(Drop)]
 pub(crate) struct Rounds {
     cores: u32,
@@ -121,7 +122,7 @@ impl<P: Program> Schedule<P> for Rounds {
                 if core < self.cores {
                     Ok(self.begin_core(core, system, programs))
                 } else {
-                    self.numbers = system.in_flight()?;
+                    system.list_in_flight(&mut self.numbers)?;
                     self.delivered = 0;
                     self.stage = RoundStage::Delivering;
                     Ok(Choice::Goes)

@@ -1,5 +1,5 @@
 //! The schedule of rounds, until a run ends.
-ghost use Rattle.std.specs.Prelude.{◌≡◌, ◌<◌, None, length, ℕ};
+ghost use Rattle.std.specs.Prelude.{◌≡◌, ◌<◌, true, None, length, ℕ};
 ghost use Rattle.machine_table.specs.Runs.{after_all};
 ghost use Rattle.interleaving_core.specs.LookUps.{open_op};
 ghost use Rattle.worker_driver.specs.Acts.{next_in};
@@ -18,7 +18,8 @@ use std::alloc::Global;
 /// Drives the machine by the schedule of rounds (docs/SCHEDULES.md), one program a core, until every program is done,
 /// a round went by without progress, `limit` rounds were made, times are exhausted or allocation failed. The events
 /// are those that the schedule has, each by the machine and the programs as they then are, and so is the end, unless it
-/// is NoMemory. What was given to the machine is in the list, and nothing else. Whatever the end, each core that had no
+/// is NoMemory. That comes before an event alone, or where the messages in flight are listed, behind the last core of a
+/// round. What was given to the machine is in the list, and nothing else. Whatever the end, each core that had no
 /// open operation before was issued what its program gave, in order, and the program was told what each completed
 /// operation received, in order.
 pub fn drive_round<P: Program>(
@@ -28,7 +29,7 @@ pub fn drive_round<P: Program>(
     limit: u32,
 ) -> Driven
     requires one_each { length programs.old ≡ system.old.config.cores }
-    ensures schedule { Ended (plan_of P.acts (rounds P.acts) limit)
+    ensures schedule { Ended true (plan_of P.acts (rounds P.acts) limit)
         (initial system.old programs.old (no_round system.old.config.cores))
         result.events.items system.new programs.new result.end }
     ensures machine { system.new ≡ after_all system.old result.events.items }

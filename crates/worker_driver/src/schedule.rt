@@ -41,10 +41,12 @@ pub(crate) trait Schedule<P: Program> {
     fn begin(&mut self)
         ensures { self.new ≡ rule.first self.old };
 
-    // What comes next. An error, where memory was refused, comes only where the turn isn't over.
+    // What comes next. An error, where memory was refused, comes only where the turn isn't over and what there is has
+    // to be listed.
     fn choose(&mut self, system: &System, programs: &mut [P]) -> Result<Choice, AllocError>
         ensures same { programs.new ≡ programs.old }
-        ensures chosen { IsChosen (rule.next system.now programs.old self.old) self.old result self.new }
+        ensures chosen { IsChosen (rule.next system.now programs.old self.old) (rule.lists self.old)
+            self.old result self.new }
         ensures fewer { IfOk result (λ choice.
             Fewer left ready rule.behind self.old choice self.new) };
 

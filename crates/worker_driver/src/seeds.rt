@@ -1,5 +1,5 @@
 //! The seeded schedule, until a run ends.
-ghost use Rattle.std.specs.Prelude.{◌≡◌, ◌<◌, None, length, ℕ};
+ghost use Rattle.std.specs.Prelude.{◌≡◌, ◌<◌, true, None, length, ℕ};
 ghost use Rattle.machine_table.specs.Runs.{after_all};
 ghost use Rattle.interleaving_core.specs.LookUps.{open_op};
 ghost use Rattle.worker_driver.specs.Acts.{next_in};
@@ -15,12 +15,23 @@ use interleaving_core::System;
 use run_ends::End;
 use std::alloc::Global;
 
+// After a run the machine keeps its lines in rising order exactly if it did before.
+pub(crate) fn order_as_before(system: &mut System, had_order: bool)
+    ensures { system.new ≡ system.old }
+{
+    if !had_order {
+        system.forget_order();
+    }
+}
+
 /// Drives the machine by the seeded schedule (docs/SCHEDULES.md), one program a core, until every program is done,
 /// `limit` turns were made, times are exhausted or allocation failed. A seed is any number of 64 bits; one seed gives
 /// one list of events. The events are those that the schedule has, each by the machine and the programs as they then
-/// are, and so is the end, unless it is NoMemory; it is never Stalled. What was given to the machine is in the list,
+/// are, and so is the end, unless it is NoMemory; it is never Stalled. NoMemory comes before an event alone, or where
+/// an eviction was drawn, whose line is found in a list. What was given to the machine is in the list,
 /// and nothing else. Whatever the end, each core that had no open operation before was issued what its program gave, in
-/// order, and the program was told what each completed operation received, in order.
+/// order, and the program was told what each completed operation received, in order. While the run goes on the machine
+/// keeps its lines in rising order (`System::keep_order`); afterwards it does so exactly if it did before.
 pub fn drive_seed<P: Program>(
     alloc: Global,
     system: &mut System,
@@ -29,7 +40,7 @@ pub fn drive_seed<P: Program>(
     limit: u32,
 ) -> Driven
     requires one_each { length programs.old ≡ system.old.config.cores }
-    ensures schedule { Ended (plan_of P.acts (seeded P.acts) limit)
+    ensures schedule { Ended true (plan_of P.acts (seeded P.acts) limit)
         (initial system.old programs.old (of_seed seed))
         result.events.items system.new programs.new result.end }
     ensures machine { system.new ≡ after_all system.old result.events.items }
@@ -38,8 +49,9 @@ pub fn drive_seed<P: Program>(
     ensures served { AreServed P.acts system.old system.new programs.old programs.new }
 {
     let mut schedule = Seeds::new(seed);
+    let had_order = system.keeps_order();
     system.keep_order();
     let driven = drive(alloc, system, programs, &mut schedule, limit);
-    system.forget_order();
+    order_as_before(system, had_order);
     driven
 }

@@ -1,37 +1,25 @@
-use Rattle.std.proofs.Common.{◌≡◌, ◌<◌, ◌^◌, ◌∙◌, arith}
+use Rattle.std.proofs.Common.{arith, inl, inr}
 use Rattle.std.specs.Str.Parse.{ParsesUnsigned, ExplainsUnsignedError, HasUnsignedDigitsIfOk}
 use Rattle.clap.specs.Words.{found_of}
-use Rattle.command_line.proofs.Numbers.{is_read, held}
+use Rattle.command_line.proofs.Numbers.{number_in, number_out}
 use Rattle.command_line.proofs.options.number.Goals as goal
 use Rattle.command_line.proofs.options.number.Goals.{then-number-least-via-then-number-least}
 use Rattle.command_line.proofs.options.number.Goals.{then-number-least-via-else-number-least+then-most-number}
 
 pub returns-then-number-least : goal.returns-then-number-least
-returns-then-number-least c = (
-  c.requires.0,
-  c.requires.1,
-  λ text n e w low high.
-      let few : n < 2 ^ 64 = omega (arith, high, c.ranges.most.fits) in
-      let read = is_read (λ bs r. ParsesUnsigned 64 10 bs r × ExplainsUnsignedError 10 bs r × HasUnsignedDigitsIfOk bs
-      r) (λ bs r g. g.0) (found_of c.args.matches.now) c.args.name.now text n c.get_one.result
-      c.get_one.ensures.value e w few in
-      let is : c.unwrap_or-number.result ≡ n =
-      c.unwrap_or-number.ensures ∙ held c.get_one.result c.args.other n read in
-      elim c.then-number-least.branch [
-        | then-number-least-via-then-number-least b ↦ absurd (omega (arith, is, low, b.if-number-least.true))
-        | then-number-least-via-else-number-least+then-most-number b ↦ absurd
-            (omega (arith, is, high, b.if-most-number.true))
-      ],
-)
+returns-then-number-least c =
+    number_out (λ bs r. ParsesUnsigned 64 10 bs r × ExplainsUnsignedError 10 bs r × HasUnsignedDigitsIfOk bs r)
+    (λ bs r g. g.0) c.args.least c.args.most c.args.other (omega (arith, c.ranges.most.fits))
+    (found_of c.args.matches.now) c.args.name.now c.get_one.result c.get_one.ensures.none c.get_one.ensures.value
+    c.unwrap_or-number.result c.unwrap_or-number.ensures (elim c.then-number-least.branch [
+      | then-number-least-via-then-number-least b ↦ inl (omega (arith, b.if-number-least.true))
+      | then-number-least-via-else-number-least+then-most-number b ↦ inr (omega (arith, b.if-most-number.true))
+    ])
 
 pub returns : goal.returns
-returns c = (
-  omega arith,
-  omega arith,
-  λ text n e w low high.
-      let few : n < 2 ^ 64 = omega (arith, high, c.ranges.most.fits) in
-      let read = is_read (λ bs r. ParsesUnsigned 64 10 bs r × ExplainsUnsignedError 10 bs r × HasUnsignedDigitsIfOk bs
-      r) (λ bs r g. g.0) (found_of c.args.matches.now) c.args.name.now text n c.get_one.result
-      c.get_one.ensures.value e w few in
-      c.unwrap_or-number.ensures ∙ held c.get_one.result c.args.other n read,
-)
+returns c =
+    number_in (λ bs r. ParsesUnsigned 64 10 bs r × ExplainsUnsignedError 10 bs r × HasUnsignedDigitsIfOk bs r)
+    (λ bs r g. g.0) c.args.least c.args.most c.args.other (omega (arith, c.ranges.most.fits))
+    (found_of c.args.matches.now) c.args.name.now c.get_one.result c.get_one.ensures.none c.get_one.ensures.value
+    c.unwrap_or-number.result c.unwrap_or-number.ensures (omega (arith, c.if-number-least.false))
+    (omega (arith, c.if-most-number.false))

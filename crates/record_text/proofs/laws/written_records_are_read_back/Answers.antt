@@ -1,9 +1,8 @@
-use Rattle.std.proofs.Common.{◌≡◌, ℕ, List, Option, Some, subst}
+use Rattle.std.proofs.Common.{ℕ, List, Option, subst}
 use Rattle.std.specs.Prelude.{IfSome}
 use Rattle.physiological_order.specs.declared.operation.Record.{Record}
 use Rattle.trace_reader.specs.Grammar.{AreRecords}
 use Rattle.trace_reader.specs.Outcomes.{GivesList}
-use Rattle.record_text.specs.Text.{records_text}
 use Rattle.record_text.proofs.ReadBack.{text-stands}
 use Rattle.record_text.proofs.laws.written_records_are_read_back.Goals as goal
 

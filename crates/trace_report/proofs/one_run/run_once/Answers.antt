@@ -1,4 +1,4 @@
-use Rattle.std.proofs.Common.{◌≡◌, ℕ, List, [], map, ap, sym, subst, length, ◌∙◌}
+use Rattle.std.proofs.Common.{◌≡◌, ℕ, List, [], map, ap, sym, subst, length, ◌∙◌, arith}
 use Rattle.std.specs.Prelude.{slice_index_or}
 use Rattle.std.specs.FinMap.{FinMap, empty}
 use Rattle.std.specs.Ordering.{nat_cmp}
@@ -15,7 +15,9 @@ use Rattle.report_parts.specs.SetUp.{limit_of, policy_of}
 use Rattle.worker_driver.specs.declared.policy.Policy.{Policy}
 use Rattle.worker_driver.specs.Policies.{EndedBy}
 use Rattle.trace_report.specs.Runs.{core_count, step_acts}
+use Rattle.worker_driver.specs.Service.{AreServed}
 use Rattle.trace_report.proofs.CoreCounts.{programs_count}
+use Rattle.trace_report.proofs.InTrace.{complete, legal_in_trace}
 use Rattle.trace_report.proofs.one_run.run_once.Goals as goal
 
 pub run_to_end-end-requires : goal.run_to_end-end-requires
@@ -40,6 +42,13 @@ returns c =
     (c.every_history_is_legal.ensures.consistent config empty events c.requires.good) in
     let opened : m.opening ≡ empty = ap (λ (k : Machine). k.opening) after
     ∙ c.every_history_is_legal.ensures.opening config empty events in
+    let lanes = c.args.trace.now in
+    let legal = subst (λ (ws : FinMap nat_cmp ℕ). Legal (flat ws) (λ core. slice_index_or m.issued core []) m.records)
+    opened consistent.legal in
+    let served = subst (λ (ts : List (List Step)). AreServed step_acts (at_start config empty) m ts last)
+    (c.as_mut_slice.ensures.value ∙ c.in_ok-programs.ensures)
+    (subst (λ (k : Machine). AreServed step_acts k m c.as_mut_slice.result.now last) first
+    c.run_to_end-end.ensures.served) in
     record {
       events = events;
       programs = last;
@@ -51,9 +60,12 @@ returns c =
           end) c.limit_of.ensures
           (subst (λ (p : Policy). EndedBy step_acts p c.limit_of.result c.in-Ok.system c.as_mut_slice.result.now events m
           last end) c.policy_of-policy.ensures c.run_to_end-end.ensures.ended.1)));
-      legal = subst (λ (ws : FinMap nat_cmp ℕ). Legal (flat ws) (λ core. slice_index_or m.issued core []) m.records)
-          opened consistent.legal;
+      legal = legal;
+      legal_in_trace = legal_in_trace lanes config m last c.requires.cores served legal;
       rising = subst RisesByNumber c.records-rising.ensures.records c.records-rising.ensures.rising;
+      complete = complete lanes config m last c.requires.cores served legal
+          (let few = c.cores-few.ensures.few in let same = c.cores-few.ensures.cores in let cores = c.requires.cores in
+          omega (arith, few, same, cores));
       left = subst (λ (ws : FinMap nat_cmp ℕ). (arranged : List Record) → Arrangement m.records arranged → (word : ℕ) →
           coherent m word ≡ replay_end (flat ws) (map (λ r. r.op) arranged) word) opened consistent.coherent;
     }

@@ -11,6 +11,7 @@ returns c = record {
   machine = c.in_ok-ran.ran.system;
   run = subst (λ (config : Config). IsRun c.args.options.now.run config c.args.trace.now c.in_ok-ran.ran.end
       c.in_ok-ran.ran.system) c.requires.config c.in_ok-ran.ensures;
-  text_is = c.in_ok-text.ensures;
+  text_is = c.in_ok-text.ensures.text;
+  read_back = c.in_ok-text.ensures.stands;
   done = c.is_all_done.ensures;
 }

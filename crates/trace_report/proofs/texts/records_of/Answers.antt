@@ -2,7 +2,7 @@ use Rattle.std.proofs.Common.{sym, subst}
 use Rattle.trace_reader.specs.Causes.{RecordFault}
 use Rattle.trace_reader.specs.Grammar.{AreRecords}
 use Rattle.trace_reader.specs.Reading.{records_at}
-use Rattle.trace_report.specs.Refusals.{IsUnread}
+use Rattle.trace_report.specs.Refusals.{IsUnread, WantsMemory}
 use Rattle.trace_report.specs.Verdicts.{IsRecordsFault}
 use Rattle.trace_report.proofs.Unread.{unread}
 use Rattle.trace_report.proofs.texts.records_of.Goals as goal
@@ -10,6 +10,6 @@ use Rattle.trace_report.proofs.texts.records_of.Goals as goal
 pub returns-in-Err-clause-refused : goal.returns-in-Err-clause-refused
 returns-in-Err-clause-refused g c =
     let known = g.S.Source.remaining c.args.source.now in
-    subst (IsUnread (IsRecordsFault known) _ _) (sym c.refusal.ensures)
+    subst (IsUnread (IsRecordsFault known) (WantsMemory records_at known) _ _) (sym c.refusal.ensures)
     (unread AreRecords RecordFault records_at c.in-Err.error _ _ known c.in-Err.ensures.refused c.in-Err.ensures.fault
     c.in-Err.ensures.only)

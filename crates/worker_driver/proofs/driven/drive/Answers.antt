@@ -1,4 +1,5 @@
 use Rattle.std.proofs.Common.{◌≡◌, List, Option, subst}
+use Rattle.std.specs.Prelude.{is_some}
 use Rattle.machine_table.specs.declared.event.Event.{Event}
 use Rattle.machine_table.specs.Runs.{after_all}
 use Rattle.worker_driver.specs.Runs.{plan_of}
@@ -12,7 +13,8 @@ returns-clause-schedule g c =
     let plan = plan_of g.P.Program.acts g.S.Schedule.rule a.limit in
     let start = initial a.system.now a.programs.now a.schedule.now in
     (subst (λ (kept : Option (List Event)). Known kept (λ events.
-    Ended plan start events n.system n.programs c.finish-end.result × (n.system ≡ after_all a.system.now events)))
+    Ended (is_some kept) plan start events n.system n.programs c.finish-end.result
+    × (n.system ≡ after_all a.system.now events)))
     c.into_events.ensures c.finish-end.ensures.ended).0
 
 pub returns-clause-machine : goal.returns-clause-machine
@@ -22,5 +24,6 @@ returns-clause-machine g c =
     let plan = plan_of g.P.Program.acts g.S.Schedule.rule a.limit in
     let start = initial a.system.now a.programs.now a.schedule.now in
     (subst (λ (kept : Option (List Event)). Known kept (λ events.
-    Ended plan start events n.system n.programs c.finish-end.result × (n.system ≡ after_all a.system.now events)))
+    Ended (is_some kept) plan start events n.system n.programs c.finish-end.result
+    × (n.system ≡ after_all a.system.now events)))
     c.into_events.ensures c.finish-end.ensures.ended).1

@@ -1,4 +1,5 @@
 use Rattle.std.proofs.Common.{◌≡◌, ◌<◌, ◌∙◌, None, ap, subst, sym}
+use Rattle.std.specs.Prelude.{is_some}
 use Rattle.machine_table.specs.declared.config.Config.{Config}
 use Rattle.machine_table.specs.Machine.{Machine}
 use Rattle.machine_table.specs.Runs.{after_all}
@@ -19,8 +20,9 @@ returns-clause-ended g c =
     let n = c.run-end.new in
     let plan = plan_of g.P.Program.acts g.S.Schedule.rule a.limit in
     let start = initial a.system.now a.programs.now a.schedule.now in
-    known_too n.log.events (λ events. Ended plan start events n.system n.programs c.run-end.result)
-    (λ events. Ended plan start events n.system n.programs c.run-end.result
+    known_too n.log.events (λ events.
+    Ended (is_some n.log.events) plan start events n.system n.programs c.run-end.result)
+    (λ events. Ended (is_some n.log.events) plan start events n.system n.programs c.run-end.result
     × (n.system ≡ after_all a.system.now events)) c.run-end.ensures.ended
     (λ events ended. (ended, run_makes plan start events n.system n.programs c.run-end.result ended))
 
@@ -31,7 +33,8 @@ returns-clause-all_done g c done core below =
     let plan = plan_of g.P.Program.acts g.S.Schedule.rule a.limit in
     let start = initial a.system.now a.programs.now a.schedule.now in
     known_so ((open_op n.system core ≡ None) × (next_in g.P.Program.acts n.programs core ≡ None)) n.log.events
-    (λ events. Ended plan start events n.system n.programs c.run-end.result) c.run-end.ensures.ended
+    (λ events.
+    Ended (is_some n.log.events) plan start events n.system n.programs c.run-end.result) c.run-end.ensures.ended
     (λ events ended.
     let made = run_makes plan start events n.system n.programs c.run-end.result ended in
     let same : n.system.config ≡ a.system.now.config =
@@ -46,7 +49,8 @@ returns-clause-served g c =
     let plan = plan_of g.P.Program.acts g.S.Schedule.rule a.limit in
     let start = initial a.system.now a.programs.now a.schedule.now in
     known_so (AreServed g.P.Program.acts a.system.now n.system a.programs.now n.programs) n.log.events
-    (λ events. Ended plan start events n.system n.programs c.run-end.result) c.run-end.ensures.ended
+    (λ events.
+    Ended (is_some n.log.events) plan start events n.system n.programs c.run-end.result) c.run-end.ensures.ended
     (λ events ended.
     all_served plan c.requires.gives start (c.cores-cores.ensures.count ∙ c.cores-cores.ensures.cores)
     c.records-before.ensures.issued events n.system n.programs c.run-end.result c.records-after.ensures.issued ended)

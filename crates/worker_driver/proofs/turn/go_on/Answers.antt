@@ -7,7 +7,7 @@ pub returns-in_default : goal.returns-in_default
 returns-in_default g c =
     let a = c.args in
     rw c.choose.ensures.same (refused g.P.Program.acts g.S.Schedule.rule a.system.now a.programs.now a.log.now
-    a.schedule.now c.in_default.ensures.chosen)
+    a.schedule.now c.in_default.ensures.chosen.0 c.in_default.ensures.chosen.1)
 
 pub returns-in-Goes : goal.returns-in-Goes
 returns-in-Goes g c =

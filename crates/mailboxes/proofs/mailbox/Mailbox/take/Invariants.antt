@@ -7,5 +7,5 @@ use Rattle.mailboxes.proofs.mailbox.Mailbox.take.Given as goal
 abbrev pub invariant-loop-n : goal.invariant-loop-n
 invariant-loop-n l =
     let p = l.initial.self in
-    IsAt l.machine l.self × Stays p l.self × (l.self.hand ≡ None)
+    IsAt l.machine l.self × Stays p l.self × (l.self.inbox.hand ≡ None)
     × TakenNothing (found_empty p.cores p.banks p.number p.cursor l.n) p l.self

@@ -1,0 +1,4 @@
+mod LeftValues
+mod Places
+mod Records
+mod Removed

@@ -1,0 +1,3 @@
+pub mod LastWrites
+pub mod Merged
+pub mod Numbers

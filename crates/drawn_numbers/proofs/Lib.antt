@@ -1,0 +1,4 @@
+mod Lists
+mod Draws
+mod DrawerLists
+mod Endings

@@ -1,0 +1,55 @@
+use Rattle.std.proofs.Common.{◌<◌, [], ◌∷◌, List, length, slice_set, append_assoc, sym, ap, subst, ◌∙◌}
+use Rattle.std.specs.Prelude.{slice_get}
+use Rattle.seating.specs.Seated.{knows}
+use Rattle.drawn_numbers.specs.declared.drawer.Drawer.{Drawer}
+use Rattle.drawn_numbers.specs.Ties.{Chair}
+use Rattle.drawn_numbers.specs.Dealt.{entry, entries, knows_all}
+use Rattle.drawn_numbers.proofs.DrawerLists.{joined, get_middle}
+use Rattle.drawn_numbers.proofs.Endings.{filled_length}
+use Rattle.drawn_numbers.proofs.closing.join_all.Goals as goal
+
+pub leave-other-requires : goal.leave-other-requires
+leave-other-requires c =
+    let i = c.loop-drawer.invariant in
+    let d : Drawer = c.in-Some.drawer in
+    let new : List Drawer = c.pop.new.self.items in
+    let all = joined c.args.drawers.items c.loop-drawer.drawers.items new i.2.0 c.pop.result d i.2.1
+    c.pop.ensures.items c.in-Some.is in
+    let long = ap length i.2.3 ∙ filled_length i.2.0 c.args.lists.now.items in
+    subst (λ k. d.number < k) (sym long)
+    (c.requires.drawers (length new) d (ap (λ z. slice_get z (length new)) all ∙ get_middle new d i.2.0)).1
+
+pub meet-requires-clause-desk : goal.meet-requires-clause-desk
+meet-requires-clause-desk c =
+    let i = c.loop-drawer.invariant in
+    let desk = c.requires.desk in
+    let new : List Drawer = c.pop.new.self.items in
+    let all = joined c.args.drawers.items c.loop-drawer.drawers.items new i.2.0 c.pop.result c.in-Some.drawer i.2.1
+    c.pop.ensures.items c.in-Some.is in (
+      (i.0 ∙ desk.0, desk.1, desk.2, desk.3),
+      ap (λ (y : Chair). y.table_id) c.leave-other.ensures.chair
+          ∙ (c.requires.drawers (length new) c.in-Some.drawer
+          (ap (λ z. slice_get z (length new)) all ∙ get_middle new c.in-Some.drawer i.2.0)).0,
+    )
+
+pub loop-drawer-preserved : goal.loop-drawer-preserved
+loop-drawer-preserved c =
+    let i = c.loop-drawer.invariant in
+    let m = c.meet.ensures in
+    let left = c.leave-other.ensures in
+    let v = c.args.seat.now.me.0 in
+    let own = c.args.seat.now.me.1 in
+    let d : Drawer = c.in-Some.drawer in
+    let done : List Drawer = i.2.0 in (
+      m.desk.0 ∙ i.0,
+      m.desk.1 ∙ i.1,
+      (
+        d ∷ done,
+        joined c.args.drawers.items c.loop-drawer.drawers.items c.pop.new.self.items done c.pop.result d i.2.1
+            c.pop.ensures.items c.in-Some.is,
+        m.met ∙ ap (λ y. (knows y.0 c.leave-other.result.me.0, y.1)) i.2.2
+            ∙ ap (λ (y : Chair). (knows (knows_all v done) y.me.0, own)) left.chair
+            ∙ ap (λ z. (record v { known = z }, own)) (append_assoc v.known (entries done) (entry d ∷ [])),
+        left.list ∙ ap (λ z. slice_set z d.number d.drawn) i.2.3,
+      ),
+    )

@@ -1,0 +1,4 @@
+pub mod Drawn
+pub mod Ties
+pub mod Drawers
+pub mod Dealt

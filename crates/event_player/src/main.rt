@@ -1,0 +1,50 @@
+//! Plays events on machines, and tells each answer and what can be seen of the machine then. tests/events.py gives the
+//! events, and compares what is told with the second program's machine; docs/HOSTILE.md has the lines.
+#![tactic(auto)]
+
+mod lines;
+mod views;
+
+use anyhow::{Result, bail};
+use interleaving_core::System;
+use lines::{Line, line_of};
+use physiological_order::Memory;
+use std::alloc::Global;
+use std::io;
+use std::io::{BufRead, BufReader, BufWriter, Write};
+use views::{Seen, tell};
+
+/// A machine with what is to be seen of it, once the first one was opened.
+type Played = Option<(System, Seen)>;
+
+/// What a line asks for: another machine, or an event on the one that there is, which is then told.
+fn play<W: Write + Drop>(alloc: Global, played: Played, text: &str, out: &mut W) -> Result<Played> {
+    match (line_of(text)?, played) {
+        (Line::Machine(config, seen), _) => match System::new(alloc, config, Memory::new(alloc)) {
+            Ok(system) => Ok(Some((system, seen))),
+            Err(_) => bail!("a configuration is refused"),
+        },
+        (Line::Event(event), Some((mut system, seen))) => {
+            let answer = system.step(event);
+            tell(&system, &seen, &answer, out)?;
+            Ok(Some((system, seen)))
+        }
+        (Line::Event(_), None) => bail!("a machine is wanted before its events"),
+    }
+}
+
+fn run<R: AllocGlobal + Input + Print>(rt: &R) -> Result<()> {
+    let alloc = rt.alloc();
+    let mut out = BufWriter::new(alloc, io::writer(rt))?;
+    let mut played = None;
+    for text in BufReader::new(alloc, rt.reader())?.lines(alloc) {
+        let text = text?;
+        played = play(alloc, played, text.as_str(), &mut out)?;
+    }
+    out.flush()?;
+    Ok(())
+}
+
+fn main(rt: HostRuntime) -> Result<()> {
+    run(&rt)
+}

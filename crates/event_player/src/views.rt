@@ -1,0 +1,130 @@
+//! What can be seen of a machine, in one line behind the answer.
+
+use anyhow::Result;
+use interleaving_core::{Answer, System};
+use network::{LineNo, MsgNo};
+use physiological_order::{Op, Record, WordAddr};
+use std::io::Write;
+
+/// How many words and lines are looked at, from 0.
+#[derive(Clone, Copy)]
+pub(crate) struct Seen {
+    pub words: u32,
+    pub lines: u64,
+}
+
+/// The answer by its name, a refusal by its number, a completion with its record.
+fn tell_answer<W: Write + Drop>(answer: &Answer, out: &mut W) -> Result<()> {
+    match answer {
+        Answer::Completed(record) => return tell_record(record, out),
+        Answer::Refused(refusal) => write!(out, "refused {}", refusal.number())?,
+        Answer::Issued => write!(out, "issued")?,
+        Answer::Requested => write!(out, "requested")?,
+        Answer::Waiting => write!(out, "waiting")?,
+        Answer::Idle => write!(out, "idle")?,
+        Answer::Delivered => write!(out, "delivered")?,
+        Answer::Dropped => write!(out, "dropped")?,
+        Answer::Held => write!(out, "held")?,
+        Answer::Started => write!(out, "started")?,
+        Answer::Evicted => write!(out, "evicted")?,
+        Answer::Recalled => write!(out, "recalled")?,
+        Answer::Advanced => write!(out, "advanced")?,
+    }
+    Ok(())
+}
+
+fn tell_record<W: Write + Drop>(record: &Record, out: &mut W) -> Result<()> {
+    write!(out, "completed {} {} ", record.core, record.place)?;
+    tell_op(&record.op, out)?;
+    if let Some(received) = record.received {
+        write!(out, " received {received}")?;
+    }
+    write!(out, " at {} number {}", record.ts, record.number)?;
+    Ok(())
+}
+
+fn tell_op<W: Write + Drop>(op: &Op, out: &mut W) -> Result<()> {
+    match op {
+        Op::Load(word) => write!(out, "R {}", word.word())?,
+        Op::Store(word, value) => write!(out, "W {} {value}", word.word())?,
+        Op::Swap(word, value) => write!(out, "S {} {value}", word.word())?,
+    }
+    Ok(())
+}
+
+/// A core: its open operation, with a mark if a request is out; the lines of its copies; the line that would go for each.
+fn tell_core<W: Write + Drop>(system: &System, core: u32, lines: u64, out: &mut W) -> Result<()> {
+    write!(out, "|")?;
+    if let Some((op, is_out)) = system.open_op(core) {
+        tell_op(&op, out)?;
+        write!(out, "{}", if is_out { "!" } else { "" })?;
+    }
+    write!(out, ":")?;
+    for line in &system.copies(core)? {
+        write!(out, " {}", line.0)?;
+    }
+    write!(out, ":")?;
+    for line in 0..lines {
+        if let Some(victim) = system.victim(core, LineNo(line)) {
+            write!(out, " {line}>{}", victim.0)?;
+        }
+    }
+    Ok(())
+}
+
+/// A message in flight, and the line that would make room for it.
+fn tell_message<W: Write + Drop>(system: &System, message: MsgNo, out: &mut W) -> Result<()> {
+    write!(out, " {}", message.0)?;
+    if let Some((bank, line)) = system.make_room(message) {
+        write!(out, ">{bank},{}", line.0)?;
+    }
+    Ok(())
+}
+
+/// The banks' lines, and the messages in flight.
+fn tell_banks<W: Write + Drop>(system: &System, out: &mut W) -> Result<()> {
+    for bank in 0..system.banks() {
+        write!(out, "|")?;
+        for line in &system.entries(bank)? {
+            write!(out, " {}", line.0)?;
+        }
+    }
+    write!(out, "|")?;
+    for message in &system.in_flight()? {
+        tell_message(system, *message, out)?;
+    }
+    Ok(())
+}
+
+/// The counts, the words' values, and how many caches own each line.
+fn tell_values<W: Write + Drop>(system: &System, seen: &Seen, out: &mut W) -> Result<()> {
+    let counts = system.counts();
+    write!(out, "|{} {} ", counts.renewals, counts.upgrades)?;
+    write!(out, "{} {}|", counts.flushes, counts.write_backs)?;
+    for word in 0..seen.words {
+        let value = system.coherent(WordAddr::at(u64::from(word)));
+        write!(out, " {value}")?;
+    }
+    write!(out, "|")?;
+    for line in 0..seen.lines {
+        write!(out, " {}", system.owners(LineNo(line)))?;
+    }
+    Ok(())
+}
+
+/// An answer, and the machine after it, in one line.
+pub(crate) fn tell<W: Write + Drop>(
+    system: &System,
+    seen: &Seen,
+    answer: &Answer,
+    out: &mut W,
+) -> Result<()> {
+    tell_answer(answer, out)?;
+    for core in 0..system.cores() {
+        tell_core(system, core, seen.lines, out)?;
+    }
+    tell_banks(system, out)?;
+    tell_values(system, seen, out)?;
+    writeln!(out)?;
+    Ok(())
+}

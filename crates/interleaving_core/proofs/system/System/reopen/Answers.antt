@@ -1,0 +1,14 @@
+use Rattle.std.proofs.Common.{◌≡◌, true, sym, subst}
+use Rattle.machine_table.specs.Machine.{Machine}
+use Rattle.machine_table.specs.SetUp.{is_good}
+use Rattle.machine_theorem.specs.Kept.{Invariant}
+use Rattle.machine_theorem.proofs.Lemmas.{at_start_invariant, fair}
+use Rattle.interleaving_core.specs.RecordOrder.{AreNumbered}
+use Rattle.interleaving_core.proofs.system.System.reopen.Goals as goal
+
+pub invariant_of-result : goal.invariant_of-result
+invariant_of-result c = (
+  subst (λ (m : Machine). is_good m.config ≡ true) (sym c.in_ok-state.ensures) c.self.invariant.0,
+  subst Invariant (sym c.in_ok-state.ensures) (at_start_invariant _ c.args.memory (fair _ c.self.invariant.0)),
+  subst (λ (m : Machine). AreNumbered 0 m.records) (sym c.in_ok-state.ensures) tt,
+)

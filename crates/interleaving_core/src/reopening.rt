@@ -1,0 +1,96 @@
+//! A machine that is opened again, with the memory that its parts have.
+ghost use Rattle.std.specs.Prelude.{◌≡◌, [], IfOk, OnOk, length, replicate, true};
+ghost use Rattle.std.specs.FinMap.{empty, entries};
+ghost use Rattle.machine_table.specs.SetUp.{is_good};
+ghost use Rattle.machine_table.specs.Opening.{at_start, banks_from, cores_from, drams_from};
+
+use crate::machine_state::MachineState;
+use crate::op_list::OpList;
+use crate::opening::{bank_config, core_config, fill_drams, geometry};
+use crate::records::clear;
+use core_pts::Core;
+use dram_mts::Dram;
+use llc_bank::Bank;
+use machine_table::Config;
+use physiological_order::Memory;
+use std::alloc::AllocError;
+
+impl MachineState {
+    /// The machine as it opens with this memory, set up as it is. Its parts keep their memory.
+    pub(crate) fn reopen(self, memory: Memory) -> Result<MachineState, AllocError>
+        requires good { is_good self.config ≡ true }
+        requires cores { length self.cores ≡ self.config.cores }
+        requires banks { length self.banks ≡ self.config.banks }
+        requires drams { length self.drams ≡ self.config.banks }
+        requires issued { length self.issued ≡ self.config.cores }
+        ensures { IfOk result (λ machine. machine ≡ at_start self.config memory) }
+    {
+        let config = self.config;
+        let mut cores = self.cores;
+        reopen_cores(&mut cores, config)?;
+        let mut banks = self.banks;
+        reopen_banks(&mut banks, config)?;
+        let mut drams = self.drams;
+        clear_drams(&mut drams);
+        fill_drams(&mut drams, config, &memory)?;
+        let mut flight = self.flight;
+        flight.clear();
+        let mut issued = self.issued;
+        clear_operations(&mut issued);
+        let mut records = self.records;
+        clear(&mut records);
+        Ok(MachineState {
+            config,
+            opening: memory,
+            cores,
+            banks,
+            drams,
+            flight,
+            issued,
+            records,
+            is_stopped: false,
+        })
+    }
+}
+
+// All cores as they open.
+fn reopen_cores(cores: &mut Vec<Core>, config: Config) -> Result<(), AllocError>
+    requires good { is_good config ≡ true }
+    requires count { length cores.old.items ≡ config.cores }
+    ensures { OnOk result (cores.new.items ≡ cores_from config 0 config.cores) }
+{
+    for at in 0..cores.len() {
+        cores[at].reopen(core_config(config, at as u32), geometry(config))?;
+    }
+    Ok(())
+}
+
+// All banks as they open.
+fn reopen_banks(banks: &mut Vec<Bank>, config: Config) -> Result<(), AllocError>
+    requires good { is_good config ≡ true }
+    requires count { length banks.old.items ≡ config.banks }
+    ensures { OnOk result (banks.new.items ≡ banks_from config 0 config.banks) }
+{
+    for at in 0..banks.len() {
+        banks[at].reopen(bank_config(config, at as u32))?;
+    }
+    Ok(())
+}
+
+// All DRAMs without lines.
+fn clear_drams(drams: &mut Vec<Dram>)
+    ensures { drams.new.items ≡ replicate (length drams.old.items) empty }
+{
+    for at in 0..drams.len() {
+        drams[at].clear();
+    }
+}
+
+// No operations of any core.
+fn clear_operations(issued: &mut Vec<OpList>)
+    ensures { issued.new.items ≡ replicate (length issued.old.items) [] }
+{
+    for at in 0..issued.len() {
+        issued[at].clear();
+    }
+}

@@ -1,0 +1,6 @@
+mod LinkSlots
+mod NewPorts
+mod Openings
+mod Phases
+mod PortMoves
+mod SlotSteps

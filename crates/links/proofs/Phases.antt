@@ -1,0 +1,87 @@
+-- Slots and ports that are out: what stays so when one slot or one port changes.
+use Rattle.std.proofs.Common.{◌≡◌, ◌≢◌, ℕ, ◌+◌, ◌++◌, List, [], ◌∷◌, sym, refl, ap, ◌∙◌, subst, arith}
+use lib.ListN.{get_elem?}
+use Rattle.seating.specs.Seated.{put}
+use Rattle.seating.proofs.Lemmas.{put_else, at_put}
+use Rattle.links.specs.declared.views.Stage.{Stage}
+use Rattle.links.specs.declared.views.Stage.TheVariants.{Idle, Writing, Reading}
+use Rattle.links.specs.declared.views.Hold.{Hold}
+use Rattle.links.specs.Rule.{Phase, free, writing, full, reading, Homes, InPhase, At, Busy, weigh_links}
+
+put_same : {A : Type 0} → (f : ℕ → A) (i j : ℕ) → put f i (f i) j ≡ f j
+put_same f i j = at_put f i (f i) (λ q x. x ≡ f q) j refl (λ _. refl)
+
+module _ {T : Type 0} where
+  -- the port isn't out with slot k
+  abbrev pub Elsewhere : ℕ → Stage T → Type 0
+  Elsewhere k Idle = Unit {0}
+  Elsewhere k (Writing i) = i ≢ k
+  Elsewhere k (Reading i m) = i ≢ k
+
+  -- the port is out with no slot but k
+  abbrev pub Only : ℕ → Stage T → Type 0
+  Only k Idle = Unit {0}
+  Only k (Writing i) = i ≡ k
+  Only k (Reading i m) = i ≡ k
+
+  module _ (from to : ℕ → ℕ) where
+    module _ (slots : ℕ) (phases : ℕ → Phase T) (j k : ℕ) where
+      pub at_elsewhere : (phase : Phase T) (stage : Stage T) → Elsewhere k stage → At from to slots phases j stage →
+          At from to slots (put phases k phase) j stage
+      at_elsewhere phase Idle e a = tt
+      at_elsewhere phase (Writing i) e a = (a.0, a.1, put_else phases k phase i e ∙ a.2)
+      at_elsewhere phase (Reading i m) e a = (a.0, a.1, put_else phases k phase i e ∙ a.2)
+
+      pub at_same : (stage : Stage T) → At from to slots phases j stage →
+          At from to slots (put phases k (phases k)) j stage
+      at_same Idle a = tt
+      at_same (Writing i) a = (a.0, a.1, put_same phases k i ∙ a.2)
+      at_same (Reading i m) a = (a.0, a.1, put_same phases k i ∙ a.2)
+
+    -- a slot other than the one that a port is out with stays out with its own port
+    module _ (ports : ℕ → Hold T) (id k : ℕ) (h : Hold T) (i : ℕ) (only : Only k (ports id).stage) (ne : i ≢ k)
+      where
+        stays_out : (j : ℕ) (stage : Stage T) → (Only k stage → i ≡ k) → (ports j).stage ≡ stage →
+            (put ports id h j).stage ≡ stage
+        stays_out j stage here is =
+            let other : j ≢ id = λ e. ne (here (subst (Only k) (ap (λ q. (ports q).stage) (sym e) ∙ is) only)) in
+            ap (λ (g : Hold T). g.stage) (put_else ports id h j other) ∙ is
+
+        pub busy_moves : (phase : Phase T) → Busy from to (λ j. (ports j).stage) i phase →
+            Busy from to (λ j. (put ports id h j).stage) i phase
+        busy_moves free b = tt
+        busy_moves writing b = stays_out (from i) (Writing i) (λ o. o) b
+        busy_moves (full m) b = tt
+        busy_moves (reading m) b = stays_out (to i) (Reading i m) (λ o. o) b
+
+  -- a slot whose word and value stay, stays in its phase
+  pub phase_moves : (word word' : ℕ) (homes homes' : Homes T) (k : ℕ) (phase : Phase T) → word' ≡ word →
+      get_elem? homes' k ≡ get_elem? homes k → InPhase word homes k phase → InPhase word' homes' k phase
+  phase_moves word word' homes homes' k free e f p = (e ∙ p.0, f ∙ p.1)
+  phase_moves word word' homes homes' k writing e f p = e ∙ p
+  phase_moves word word' homes homes' k (full m) e f p = (e ∙ p.0, f ∙ p.1)
+  phase_moves word word' homes homes' k (reading m) e f p = e ∙ p
+
+  pub weigh_links-append : (f : ℕ → T → ℕ) (xs ys : List (ℕ × T)) →
+      weigh_links f (xs ++ ys) ≡ weigh_links f xs + weigh_links f ys
+  weigh_links-append f [] ys = omega arith
+  weigh_links-append f (x ∷ xs) ys = let a = weigh_links-append f xs ys in omega arith
+
+  -- Phases and stages differ
+  pub idle_writing : {A : Type 0} {k : ℕ} → ◌≡◌ {A = Stage T} Idle (Writing k) → A
+  idle_writing e = cc
+
+  pub idle_reading : {A : Type 0} {k : ℕ} {m : T} → ◌≡◌ {A = Stage T} Idle (Reading k m) → A
+  idle_reading e = cc
+
+  pub free_reading : {A : Type 0} {m : T} → free ≡ reading m → A
+  free_reading e = cc
+
+  pub full_writing : {A : Type 0} {m : T} → full m ≡ writing → A
+  full_writing e = cc
+
+  pub writing_reading : {A : Type 0} {m : T} → writing ≡ reading m → A
+  writing_reading e = cc
+
+  pub reading_writing : {A : Type 0} {m : T} → reading m ≡ writing → A
+  reading_writing e = cc

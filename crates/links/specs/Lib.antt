@@ -1,0 +1,5 @@
+pub mod Places
+pub mod Plays
+pub mod PortMoves
+pub mod Rule
+pub mod Ties

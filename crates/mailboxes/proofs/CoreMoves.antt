@@ -1,0 +1,18 @@
+-- What a core's seat does with its core alone is a move of the seat.
+use Rattle.std.proofs.Common.{◌≡◌, ◌<◌, ℕ, List, [], ◌∷◌, ◌++◌, Ok, refl, sym, ap, ◌∙◌, subst}
+use Rattle.physiological_order.specs.declared.operation.Op.{Op}
+use Rattle.core_pts.specs.CoreTable as core_table
+use Rattle.core_pts.specs.CoreTable.{CoreState}
+use Rattle.seat_rule.specs.declared.views.SetUp.{SetUp}
+use Rattle.seat_rule.specs.declared.views.Hold.{Hold}
+use Rattle.seat_rule.specs.SeatMoves.{SeatMove, issues}
+use Rattle.mailboxes.specs.CoreCalls.{core_hold}
+
+-- the core is given its next operation
+pub issue-moves : (z y : SetUp) (id number : ℕ) (a : Hold) (p q : CoreState) (op : Op) (ops later : List Op) →
+    z ≡ y → id ≡ number → number < y.config.cores → a.core ≡ p → a.issued ≡ ops →
+    core_table.issue p op ≡ (Ok tt, q) → later ≡ ops ++ op ∷ [] → SeatMove z id a (core_hold a q later)
+issue-moves z y id number a p q op ops later same named below core issued done more =
+    issues op (subst (λ (n : ℕ). n < z.config.cores) (sym named) (subst (λ (x : SetUp). number < x.config.cores) (sym same) below))
+    (ap (λ c. core_table.issue c op) core ∙ done) (more ∙ ap (λ xs. xs ++ op ∷ []) (sym issued))
+    (record { bank = refl; dram = refl }) (record { bag = λ h. refl; counts = refl })

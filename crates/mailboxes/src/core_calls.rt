@@ -1,0 +1,105 @@
+//! What a core's seat does with its core alone: it takes an operation, its time goes on, and it is looked at.
+ghost use Rattle.std.specs.Prelude.{◌≡◌, ◌||◌, ◌<◌, ◌≤◌, ◌++◌, ◌∷◌, [], true, is_none, length, option_map};
+ghost use Rattle.std.specs.Prelude.{OnOk, OnErr, vec_capacity};
+ghost use Rattle.private_cache.specs.CopyTable.{victim_for};
+ghost use Rattle.core_pts.specs.CoreTable as core_table;
+ghost use Rattle.mailboxes.specs.BoxMoves.{hold};
+ghost use Rattle.mailboxes.specs.CoreCalls.{IssueAnswers, SamePlace, advance_answer, core_hold};
+ghost use Rattle.mailboxes.specs.Seats.{IsCoreSeat};
+
+use crate::changes::change_core;
+use crate::core_seat::CoreSeat;
+use crate::machine::Machine;
+use machine_table::Refusal;
+use network::LineNo;
+use physiological_order::Op;
+
+// Makes room for one more in a list; false if allocation failed.
+fn has_room<T>(list: &mut Vec<T>) -> bool
+    ensures items { list.new.items ≡ list.old.items }
+    ensures room { result ≡ true → length list.new.items < vec_capacity list.new }
+    ensures kept { vec_capacity list.old ≤ vec_capacity list.new }
+{
+    list.reserve(1).is_ok()
+}
+
+impl CoreSeat {
+    /// The open operation, and whether its request is out.
+    pub fn open_op(&self) -> Option<(Op, bool)>
+        ensures { result ≡ option_map (λ op. (op, self.now.core.is_out)) self.now.core.open_op }
+    {
+        self.core.open_op()
+    }
+
+    /// The copy to evict to make room for a line: the least recently used one of its set, exactly if there is no place
+    /// for the line.
+    pub fn victim(&self, line: LineNo) -> Option<LineNo>
+        ensures { result ≡ victim_for self.now.core.cache line }
+    {
+        self.core.victim(line)
+    }
+
+    /// Gives the core its next operation, which is open then. Stopped exactly if the seat is stopped; else Busy exactly
+    /// if an operation is open; else TooMany exactly if the core was issued 4,294,967,295 operations; else NoMemory only
+    /// if allocation failed. A refusal changes nothing.
+    pub fn issue(&mut self, machine: &Machine, op: Op) -> Result<(), Refusal>
+        requires { IsCoreSeat machine.now self.old }
+        ensures seat { IsCoreSeat machine.now self.new × SamePlace self.old self.new }
+        ensures answer { IssueAnswers self.old.is_stopped (core_table.issue self.old.core op).0 result }
+        ensures done { OnOk result (hold self.new.mail ≡ core_hold (hold self.old.mail)
+            (core_table.issue self.old.core op).1 (self.old.issued.items ++ op ∷ [])) }
+        ensures refused { OnErr result (hold self.new.mail ≡ hold self.old.mail) }
+        ensures stopped { self.new.is_stopped ≡ self.old.is_stopped }
+    {
+        if self.is_stopped {
+            return Err(Refusal::Stopped);
+        }
+        if self.core.open_op().is_some() {
+            return Err(Refusal::Busy);
+        }
+        if self.core.issued() == u32::MAX {
+            return Err(Refusal::TooMany);
+        }
+        if !has_room(&mut self.issued) || !has_room(&mut self.records) {
+            return Err(Refusal::NoMemory);
+        }
+        let given = &op;
+        let issued = self.core.issue(*given);
+        issued.unwrap();
+        self.issued.push_reserved(*given);
+        let word = machine.table.slot_count();
+        let desk = &machine.table.shared;
+        change_core(desk, &mut self.mail.seat, word, &self.core, &self.issued);
+        Ok(())
+    }
+
+    /// The core's time goes on by 1. Exhausted exactly if that doesn't fit 64 bits: the seat is then stopped, and
+    /// nothing else changes. Stopped exactly if it was stopped before.
+    pub fn advance(&mut self, machine: &Machine) -> Result<(), Refusal>
+        requires { IsCoreSeat machine.now self.old }
+        ensures seat { IsCoreSeat machine.now self.new × SamePlace self.old self.new }
+        ensures answer { result ≡
+            advance_answer self.old.is_stopped (core_table.advance self.old.core).0 }
+        ensures done { OnOk result (hold self.new.mail ≡ core_hold (hold self.old.mail)
+            (core_table.advance self.old.core).1 self.old.issued.items) }
+        ensures refused { OnErr result (hold self.new.mail ≡ hold self.old.mail) }
+        ensures stopped { self.new.is_stopped ≡
+            (self.old.is_stopped || is_none (core_table.advance self.old.core).0) }
+    {
+        if self.is_stopped {
+            return Err(Refusal::Stopped);
+        }
+        match self.core.advance() {
+            Err(_) => {
+                self.is_stopped = true;
+                Err(Refusal::Exhausted)
+            }
+            Ok(()) => {
+                let word = machine.table.slot_count();
+                let desk = &machine.table.shared;
+                change_core(desk, &mut self.mail.seat, word, &self.core, &self.issued);
+                Ok(())
+            }
+        }
+    }
+}

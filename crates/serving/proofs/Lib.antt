@@ -1,0 +1,2 @@
+mod HeldLists
+mod Walks

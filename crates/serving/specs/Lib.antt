@@ -1,0 +1,4 @@
+pub mod Inboxes
+pub mod Queues
+pub mod Serving
+pub mod Walks

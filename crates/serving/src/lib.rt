@@ -1,0 +1,13 @@
+//! The messages that came in at a seat, and the order in which they are served. It knows no message and no part.
+#![tactic(auto)]
+
+mod answer;
+mod inbox;
+mod queue;
+mod receiver;
+mod serve;
+
+pub use answer::{Answer, Refusal, Served};
+pub use inbox::Inbox;
+pub use queue::Queue;
+pub use receiver::Receiver;

@@ -1,0 +1,60 @@
+//! What is done.
+ghost use Rattle.std.specs.Prelude.{ℕ, IfOk, IfSome};
+
+use crate::gate::Gate;
+use std::alloc::AllocError;
+
+/// Jobs by number, from 0 on, each with a result. Any thread may run any of them, in whatever order (docs/NUMBERS.md).
+/// A worker keeps a state from one job to the next.
+pub trait Jobs<X, S> {
+    /// The result that a job of this number may have.
+    ghost gives: { Self → ℕ → X → Type 0 };
+
+    /// What is so of a worker's state before each job.
+    ghost ready: { Self → S → Type 0 };
+
+    /// A worker's state before its first job. AllocError where there is no memory for it.
+    fn open(&self) -> Result<S, AllocError>
+        ensures { IfOk result (ready self.now) };
+
+    /// Runs the job of this number, and gives the state back for the next one. AllocError where memory is refused.
+    fn run(&self, state: S, number: u64) -> Result<(X, S), AllocError>
+        requires { ready self.now state }
+        ensures given { IfOk result (λ done. gives self.now number done.0) }
+        ensures ready { IfOk result (λ done. ready self.now done.1) };
+}
+
+/// Runs the job of this number between the calls of the gate.
+pub fn run_one<X: Drop, S: Drop, J: Jobs<X, S>, G: Gate>(
+    jobs: &J,
+    gate: &G,
+    state: S,
+    number: u64,
+) -> Result<(X, S), AllocError>
+    requires { J.ready jobs.now state }
+    ensures given { IfOk result (λ done. J.gives jobs.now number done.0) }
+    ensures ready { IfOk result (λ done. J.ready jobs.now done.1) }
+{
+    gate.before(number, 0);
+    let done = jobs.run(state, number);
+    gate.after(number, 0);
+    done
+}
+
+/// Runs the job of this number by the state that there is, or by one that is opened.
+pub fn run_left<X: Drop, S: Drop, J: Jobs<X, S>, G: Gate>(
+    jobs: &J,
+    gate: &G,
+    state: Option<S>,
+    number: u64,
+) -> Result<(X, S), AllocError>
+    requires { IfSome state (J.ready jobs.now) }
+    ensures given { IfOk result (λ done. J.gives jobs.now number done.0) }
+    ensures ready { IfOk result (λ done. J.ready jobs.now done.1) }
+{
+    let state = match state {
+        Some(state) => state,
+        None => jobs.open()?,
+    };
+    run_one(jobs, gate, state, number)
+}

@@ -1,0 +1,108 @@
+//! Batches of jobs: the same list for every number of workers, and two workers that do jobs at the same time.
+ghost use Rattle.std.specs.Prelude.{ℕ};
+
+use shared_jobs::{Free, Gate, Jobs, run_jobs};
+use std::alloc::AllocError;
+use std::sync::atomic::{AtomicU64, Ordering};
+use std::test::Fail;
+use std::thread;
+
+// Job n gives the square of n.
+struct Squares;
+
+impl Jobs<u64, ()> for Squares {
+    ghost gives = { λ jobs number result. Unit {0} };
+
+    ghost ready = { λ jobs state. Unit {0} };
+
+    fn open(&self) -> Result<(), AllocError> {
+        Ok(())
+    }
+
+    fn run(&self, _state: (), number: u64) -> Result<(u64, ()), AllocError> {
+        Ok((number.saturating_mul(number), ()))
+    }
+}
+
+#[test]
+fn every_number_of_workers_gives_the_same_list(rt: HostRuntime) -> Result<(), Fail> {
+    for workers in [1, 2, 3, 16] {
+        let list = run_jobs(&rt, rt.alloc(), &Squares, 100, workers, &Free)?;
+        assert_eq!(rt; list.len(), 100);
+        for i in 0..list.len() {
+            assert_eq!(rt; list[i], (i as u64).saturating_mul(i as u64));
+        }
+    }
+    Ok(())
+}
+
+#[test]
+fn a_batch_may_have_no_job_or_fewer_than_workers(rt: HostRuntime) -> Result<(), Fail> {
+    let none = run_jobs(&rt, rt.alloc(), &Squares, 0, 4, &Free)?;
+    assert!(rt; none.is_empty());
+    let few = run_jobs(&rt, rt.alloc(), &Squares, 3, 16, &Free)?;
+    assert_eq!(rt; few.as_slice(), [0, 1, 4].as_slice());
+    Ok(())
+}
+
+// A gate at which jobs 0 and 1 wait for each other, each for so many looks; it counts those that saw the other.
+#[derive(Drop)]
+struct Meeting {
+    flags: [AtomicU64; 2],
+    met: AtomicU64,
+    ended: AtomicU64,
+    looks: u32,
+}
+
+impl Meeting {
+    fn new(looks: u32) -> Meeting {
+        Meeting {
+            flags: [AtomicU64::new(0), AtomicU64::new(0)],
+            met: AtomicU64::new(0),
+            ended: AtomicU64::new(0),
+            looks,
+        }
+    }
+}
+
+impl Gate for Meeting {
+    fn before(&self, seat: u64, _turn: u64) {
+        if seat > 1 {
+            return;
+        }
+        let mine = seat as usize;
+        self.flags[mine].store(1, Ordering::SeqCst);
+        for _ in 0..self.looks {
+            if self.flags[1 - mine].load(Ordering::SeqCst) == 1 {
+                self.met.fetch_add(1, Ordering::SeqCst);
+                return;
+            }
+            thread::yield_now();
+        }
+    }
+
+    fn after(&self, _seat: u64, _turn: u64) {
+        self.ended.fetch_add(1, Ordering::SeqCst);
+    }
+}
+
+#[test]
+fn two_workers_do_jobs_at_the_same_time(rt: HostRuntime) -> Result<(), Fail> {
+    let gate = Meeting::new(10_000_000);
+    let list = run_jobs(&rt, rt.alloc(), &Squares, 2, 2, &gate)?;
+    assert_eq!(rt; list.as_slice(), [0, 1].as_slice());
+    assert_eq!(rt; gate.met.load(Ordering::SeqCst), 2);
+    assert_eq!(rt; gate.ended.load(Ordering::SeqCst), 2);
+    Ok(())
+}
+
+// Job 0 ends before job 1 begins, so job 0 looks for the other in vain.
+#[test]
+fn one_worker_does_one_job_after_the_other(rt: HostRuntime) -> Result<(), Fail> {
+    let gate = Meeting::new(100);
+    let list = run_jobs(&rt, rt.alloc(), &Squares, 2, 1, &gate)?;
+    assert_eq!(rt; list.as_slice(), [0, 1].as_slice());
+    assert_eq!(rt; gate.met.load(Ordering::SeqCst), 1);
+    assert_eq!(rt; gate.ended.load(Ordering::SeqCst), 2);
+    Ok(())
+}

@@ -1,0 +1,3 @@
+mod Message
+mod Opened
+mod Passed

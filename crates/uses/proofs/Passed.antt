@@ -1,0 +1,41 @@
+-- A thread that ended received its message in a legal history.
+use Rattle.std.proofs.Common.{◌≡◌, ℕ, zero, suc, List, [], ◌∷◌, subst, sym, refl, arith, Option, Some, None, IfSome, ◌∙◌}
+use Rattle.std.specs.Prelude.{slice_get, slice_index_or}
+use Rattle.std.specs.FinMap.{empty}
+use Rattle.physiological_order.specs.declared.operation.Record.{Record}
+use Rattle.physiological_order.specs.Order.{flat, Legal, of_core}
+use Rattle.machine_table.specs.Machine.{Machine}
+use Rattle.machine_table.specs.Opening.{at_start}
+use Rattle.worker_driver.specs.Service.{AreServed, Performs}
+use Rattle.uses.specs.declared.drive.TheConstants.{TWO_CORES}
+use Rattle.uses.specs.declared.program.Thread.{Thread}
+use Rattle.uses.specs.declared.program.Thread.TheVariants.{StoreMessage, LoadFlag, Over}
+use Rattle.uses.specs.Passing.{thread_acts, IsPassed}
+
+-- an element that is there is found, whatever stands in for a missing one
+found : (threads : List Thread) (k : ℕ) (thread other : Thread) → slice_get threads k ≡ Some thread →
+    slice_index_or threads k other ≡ thread
+found [] k thread other there = absurd cc
+found (t ∷ threads) zero thread other there = cc
+found (t ∷ threads) (suc k) thread other there = found threads k thread other there
+
+pub passed : (m : Machine) (threads : List Thread) (message : Option ℕ) (other : Thread) →
+    AreServed thread_acts (at_start TWO_CORES empty) m (StoreMessage ∷ LoadFlag ∷ []) threads →
+    slice_index_or threads 1 other ≡ Over message →
+    Legal (flat empty) (λ core. slice_index_or m.issued core []) m.records → IfSome message IsPassed
+passed m threads None other served ended legal = tt
+passed m threads (Some message) other served ended legal =
+    let first = (served.each 0 (omega arith) refl).told StoreMessage refl in
+    let second = (served.each 1 (omega arith) refl).told LoadFlag refl in
+    let is : second.0 ≡ Over (Some message) = sym (found threads 1 second.0 other second.1) ∙ ended in
+    record {
+      issued = λ core. slice_index_or m.issued core [];
+      records = m.records;
+      legal = legal;
+      writer = first.0;
+      written = subst (λ (rs : List Record). Performs thread_acts (of_core 0 rs) StoreMessage first.0)
+          (sym served.records) first.2;
+      received = subst (λ (rs : List Record). Performs thread_acts (of_core 1 rs) LoadFlag (Over (Some message)))
+          (sym served.records)
+          (subst (λ (q : Thread). Performs thread_acts (of_core 1 served.added) LoadFlag q) is second.2);
+    }

@@ -1,0 +1,122 @@
+#!/usr/bin/env python3
+"""Tells each sentence of the pages (README.md and the others at the top, docs/*.md) that has more than 30 words.
+
+    scripts/sentences.py            tells them, each with its page and line
+    scripts/sentences.py --check    does so, and fails if there is one
+    scripts/sentences.py PAGE ..    tells those of these pages
+
+A sentence ends at a full stop, a question mark or an exclamation mark, and at the end of its paragraph, list item or
+table cell; a colon or semicolon ends none. Code in backquotes is one word, and a link is the words of its text. Fenced
+blocks, indented blocks and comments are left out.
+"""
+import re
+import sys
+from os.path import relpath
+from pathlib import Path
+
+TOP = Path(__file__).resolve().parent.parent
+PAGES = [TOP / name for name in ("README.md", "CONTRIBUTING.md", "GLOSSARY.md")]
+MOST_WORDS = 30
+ABBREVIATIONS = {"e.g.", "i.e.", "cf.", "vs."}
+
+FENCE = re.compile(r"\s*(`{3,}|~{3,})")
+LIST_ITEM = re.compile(r"^\s*([-*+]|\d+[.)])\s+")
+HEADING = re.compile(r"^#+\s+")
+
+
+def prose_lines(text):
+    """The lines of a page with their numbers; those of fenced blocks and of comments are blank."""
+    text = re.sub(r"<!--.*?-->", lambda m: "\n" * m.group().count("\n"), text, flags=re.S)
+    fence = None
+    for number, line in enumerate(text.splitlines(), 1):
+        found = FENCE.match(line)
+        mark = found.group(1) if found else ""
+        if fence is None and mark:
+            fence = mark
+            yield number, ""
+        elif fence is not None:
+            if mark.startswith(fence) and not line.strip(" `~"):
+                fence = None
+            yield number, ""
+        else:
+            yield number, line
+
+
+def starts_item(line, in_list):
+    """If a line after another one begins a list item. A number does so in a list, and otherwise only if it is 1."""
+    found = LIST_ITEM.match(line)
+    return bool(found) and (in_list or not found.group(1)[0].isdigit() or found.group(1)[:-1] == "1")
+
+
+def passages(text):
+    """The paragraphs, headings, list items and table rows of a page: the number of the first line, and the lines."""
+    taken, first, in_list = [], 0, False
+    for number, line in prose_lines(text):
+        indented = line.startswith("    ") and not taken and not in_list
+        alone = line.lstrip().startswith("|") or HEADING.match(line)
+        if taken and (not line.strip() or alone or starts_item(line, in_list)):
+            yield first, "\n".join(taken)
+            taken = []
+        if line.strip() and not line.startswith(" "):
+            in_list = False
+        if alone:
+            yield number, HEADING.sub("", line)
+        elif line.strip() and not indented:
+            in_list = in_list or bool(LIST_ITEM.match(line))
+            first = first if taken else number
+            taken.append(line if taken else LIST_ITEM.sub("", line))
+    if taken:
+        yield first, "\n".join(taken)
+
+
+def plain(passage):
+    """A passage with a word for each code, and with the text alone of each link; each word stays on its line."""
+    passage = re.sub(r"(`+)(.+?)\1", lambda m: "\n" * m.group().count("\n") + "code", passage, flags=re.S)
+    return re.sub(r"!?\[([^]]*)\]\([^)]*\)", r"\1", passage)
+
+
+def cells(passage):
+    """The cells of a table row, or the passage itself if it is none."""
+    return re.split(r"(?<!\\)\|", passage) if passage.lstrip().startswith("|") else [passage]
+
+
+def ends_sentence(word):
+    """If a word is the last of its sentence. Two full stops stand for what is left out, and end none."""
+    return bool(re.search(r"(^|[^.])[.?!][)\"'*_]*$", word)) and word.lstrip("(\"'*_") not in ABBREVIATIONS
+
+
+def sentences(cell):
+    """The sentences of a cell or a passage: how many lines lie before each, and its words."""
+    words, before = [], 0
+    for found in re.finditer(r"\S+", cell):
+        if not words:
+            before = cell.count("\n", 0, found.start())
+        words.append(found.group())
+        if ends_sentence(found.group()):
+            yield before, words
+            words = []
+    if words:
+        yield before, words
+
+
+def long_sentences(text):
+    """The sentences of a page with too many words: the line, how many words, and the first of them."""
+    for first, passage in passages(text):
+        for cell in cells(plain(passage)):
+            for before, words in sentences(cell):
+                count = sum(1 for word in words if re.search(r"\w", word))
+                if count > MOST_WORDS:
+                    yield first + before, count, " ".join(words[:8])
+
+
+def main():
+    named = [Path(word).resolve() for word in sys.argv[1:] if word != "--check"]
+    faults = 0
+    for page in named or PAGES + sorted((TOP / "docs").glob("*.md")):
+        for line, count, begin in long_sentences(page.read_text(encoding="utf-8")):
+            print("sentences.py: %s:%d: %d words: %s .." % (relpath(page), line, count, begin))
+            faults += 1
+    raise SystemExit(1 if faults and "--check" in sys.argv[1:] else 0)
+
+
+main()

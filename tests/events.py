@@ -1,0 +1,198 @@
+#!/usr/bin/env python3
+"""Plays random events on random machines, and compares each answer and what can be seen of the machine with the second
+program's: tests/events.py PROGRAM [--machines N] [--events N] [--seed N], or tests/events.py --print STDIN STDOUT ..
+
+PROGRAM is the built crate event_player. The machines have few words, and every limit of theirs is small or at its end:
+sets, ways, messages, leases, times. With --print the files are written that the gate plays.
+"""
+import argparse
+import random
+import subprocess
+import sys
+from collections import Counter
+from pathlib import Path
+from types import SimpleNamespace
+
+TOP = Path(__file__).resolve().parent.parent
+sys.path.insert(0, str(TOP / "examples"))
+from reference.machine import Machine  # noqa: E402
+from reference.order import end_memory  # noqa: E402
+
+REFUSALS = {name: number for number, name in enumerate(
+    "Busy TooMany NoSuch NoRoom Pinned NetworkFull NoMemory Exhausted Stopped".split(), 1)}
+LETTERS = {"load": "R", "store": "W", "swap": "S"}
+CARRIERS = ("ExRep", "UpgradeRep", "FlushRep", "WbRep")
+LAST = 2 ** 64 - 1
+FIELDS = "cores banks sets ways bank_sets bank_ways line_words lease messages time private_write".split()
+
+
+def options_of(generator):
+    """A machine's options: few of everything, and now and then a limit's end."""
+    def few(*usual, seldom=None):
+        return seldom if seldom is not None and generator.random() < 0.03 else generator.choice(usual)
+
+    return SimpleNamespace(cores=few(1, 2, 2, 3, 4, seldom=64), banks=few(1, 1, 2, 3, seldom=8), sets=few(1, 1, 2, 3),
+                           ways=few(1, 2, seldom=16), bank_sets=few(1, 1, 2), bank_ways=few(1, 2, 3),
+                           line_words=few(1, 1, 8), lease=few(1, 2, 10, seldom=2 ** 32),
+                           messages=few(2, 3, 4, 65536, 65536, seldom=1), private_write=few(0, 1),
+                           time=few(0, 0, 0, 0, 5, LAST - 100, seldom=LAST))
+
+
+class Player:
+    """A machine of the second program, and what the line behind each answer must be."""
+
+    def __init__(self, generator):
+        self.random, self.o = generator, options_of(generator)
+        self.machine = Machine(self.o, self.o.cores, {})
+        self.words = generator.choice([1, 2, 3, 9]) * (4 if self.o.line_words == 8 else 1)
+        self.lines = (self.words - 1) // self.o.line_words + 1
+        self.memory = {}  # the values that the replay leaves; (time, number) of the write that left each
+
+    def opening(self):
+        return " ".join(map(str, ["machine", *(getattr(self.o, name) for name in FIELDS), self.words, self.lines]))
+
+    def event(self):
+        """An event and its text: mostly one that can do something, now and then one that can't."""
+        pick, core = self.random.random(), self.random.randrange(min(self.o.cores, 4))
+        flight, of = list(self.machine.flight), self.machine.cores[core]
+        if pick < 0.02:
+            return self.odd()
+        if flight and (pick < 0.35 or of.out and pick < 0.75):
+            return "Deliver", self.random.choice(flight)
+        if pick < 0.80:
+            return ("Attempt", core) if of.op else ("Issue", core, self.operation())
+        if pick < 0.90:
+            copies = self.machine.copies(core)
+            return ("EvictCache", core, self.random.choice(copies)) if copies else ("Attempt", core)
+        bank = self.random.randrange(self.o.banks)
+        lines = [e.line for entries in self.machine.bank_sets[bank].values() for e in entries]
+        return ("EvictBank", bank, self.random.choice(lines)) if pick < 0.97 and lines else ("Advance", core)
+
+    def odd(self):
+        """An event on what isn't there, or may not be."""
+        core, bank = self.random.choice([0, self.o.cores - 1]), self.random.choice([0, self.o.banks - 1])
+        line = self.random.choice([0, 1, self.lines, LAST])
+        return self.random.choice([("EvictCache", core, line), ("EvictBank", bank, line), ("Attempt", core),
+                                   ("Deliver", self.random.choice([self.machine.sent, LAST])), ("Advance", core),
+                                   ("Issue", core, self.operation())])
+
+    def operation(self):
+        kind = self.random.choice(["load", "load", "store", "swap"])
+        word = self.random.randrange(self.words)
+        return kind, word, None if kind == "load" else self.random.choice([1, 2, 3, LAST, 0])
+
+    def step(self):
+        """A line that is given, and the line that is wanted."""
+        event = self.event()
+        answer = self.machine.step(event)
+        if answer == "Completed":
+            self.write(self.machine.records[-1])
+        return text_of(event), self.told(answer)
+
+    def write(self, record):
+        """The word's value, if no write of a later time left another."""
+        if record.kind != "load":
+            last = self.memory.get(record.word, (-1, -1, 0))
+            self.memory[record.word] = max(last, (record.time, record.number, record.value))
+
+    def told(self, answer):
+        machine = self.machine
+        parts = [answer_text(machine, answer), *map(self.core, range(self.o.cores))]
+        parts += ["".join(f" {line}" for line in machine.entries(bank)) for bank in range(self.o.banks)]
+        parts.append("".join(map(self.message, sorted(machine.flight))))
+        totals = machine.totals()
+        parts.append(" ".join(str(totals[name]) for name in ("renewals", "upgrades", "flushes", "write-backs")))
+        parts.append("".join(f" {self.memory.get(word, (0, 0, 0))[2]}" for word in range(self.words)))
+        return "|".join([*parts, "".join(f" {self.owners(line)}" for line in range(self.lines))])
+
+    def core(self, number):
+        core, text = self.machine.cores[number], ""
+        if core.op:
+            text = operation_text(core.op) + "!" * core.out
+        lines = "".join(f" {line}" for line in self.machine.copies(number))
+        victims = [(line, self.machine.victim(number, line)) for line in range(self.lines)]
+        return f"{text}:{lines}:" + "".join(f" {line}>{out}" for line, out in victims if out is not None)
+
+    def message(self, number):
+        room = self.machine.room_for(number)
+        return f" {number}" + ("" if room is None else f">{room % self.o.banks},{room}")
+
+    def owners(self, line):
+        """The line's Exclusive copies, and the messages that carry its ownership."""
+        copies = [copy for core in self.machine.cores for copies in core.sets.values() for copy in copies]
+        owned = [copy.line for copy in copies if copy.state == "Exclusive"]
+        return (owned + [m.line for m in self.machine.flight.values() if m.kind in CARRIERS]).count(line)
+
+
+def operation_text(op):
+    kind, word, value = op
+    return f"{LETTERS[kind]} {word}" + ("" if value is None else f" {value}")
+
+
+def answer_text(machine, answer):
+    if answer in REFUSALS:
+        # NoRoom answers an attempt; Busy, an issue or an eviction: all are told by their numbers.
+        return f"refused {REFUSALS[answer]}"
+    if answer != "Completed":
+        return answer.lower()
+    it = machine.records[-1]
+    op = operation_text((it.kind, it.word, it.value))
+    received = "" if it.received is None else f" received {it.received}"
+    return f"completed {it.core} {it.place} {op}{received} at {it.time} number {it.number}"
+
+
+def text_of(event):
+    names = {"Issue": "issue", "Attempt": "attempt", "Deliver": "deliver", "EvictCache": "cache", "EvictBank": "bank",
+             "Advance": "advance"}
+    name, *of = event
+    return " ".join([names[name], *(operation_text(one) if isinstance(one, tuple) else str(one) for one in of)])
+
+
+def played(generator, events):
+    """A machine's lines, and those that are wanted. Its values at the end are those of the replay of its records.
+
+    A machine that has stopped is given three more events.
+    """
+    player, steps, stopped = Player(generator), [], 0
+    while len(steps) < events and stopped < 3:
+        stopped += player.machine.stopped
+        steps.append(player.step())
+    left = end_memory({}, player.machine.records)
+    assert all(left.get(word, 0) == player.memory.get(word, (0, 0, 0))[2] for word in range(player.words))
+    return [player.opening(), *(given for given, _ in steps)], [wanted for _, wanted in steps]
+
+
+def main():
+    parser = argparse.ArgumentParser()
+    parser.add_argument("--machines", type=int, default=400)
+    parser.add_argument("--events", type=int, default=250)
+    parser.add_argument("--seed", type=int, default=1)
+    parser.add_argument("--print", action="store_true")
+    parser.add_argument("FILES", nargs="+")
+    words = parser.parse_args()
+    generator = random.Random(words.seed)
+    if words.print:
+        both = [played(generator, words.events) for _ in range(words.machines)]
+        for file, index in zip(words.FILES, (0, 1)):
+            Path(file).write_text("".join(line + "\n" for machine in both for line in machine[index]))
+        return 0
+    tried, answers = 0, Counter()
+    for machine in range(words.machines):
+        given, wanted = played(generator, words.events)
+        ran = subprocess.run([*words.FILES], input="\n".join(given) + "\n", capture_output=True, text=True)
+        got = ran.stdout.splitlines()
+        if ran.returncode or got != wanted:
+            both = enumerate(zip(wanted, got))
+            at = next((at for at, (one, other) in both if one != other), min(len(wanted), len(got)))
+            print(f"machine {machine} ({given[0]}), status {ran.returncode}, event {at} ({given[1:][at:at + 1]}):")
+            print(f"wanted {wanted[at:at + 1]}\ngot    {got[at:at + 1]}\n{ran.stderr}")
+            return 1
+        tried += len(wanted)
+        answers.update(" ".join(line.split("|")[0].split()[:2 if line.startswith("refused") else 1]) for line in wanted)
+    print(", ".join(f"{answer}: {number}" for answer, number in answers.most_common()))
+    print(f"{tried} events on {words.machines} machines, no difference")
+    return 0
+
+
+if __name__ == "__main__":
+    sys.exit(main())

@@ -1,0 +1,16 @@
+#!/bin/sh
+# Refuses the program memory, reads and writes, each in turn: tests/refusals.sh [PROGRAM [PART..]]. PROGRAM is a program
+# that is built; without it the program at the top is built where it isn't. It wants a C compiler and the GNU C library.
+top=$(CDPATH='' cd -- "$(dirname -- "$0")/.." && pwd) || exit 1
+if [ $# -gt 0 ]; then
+    program=$1
+    shift
+else
+    "$top/tardis" litmus "$top/examples/litmus/SB.litmus" >/dev/null || exit 1
+    program=$top/crates/tardis/out/tardis
+fi
+work=$(mktemp -d) || exit 1
+trap 'rm -rf "$work"' EXIT
+trap 'exit 1' HUP INT TERM
+"${CC:-cc}" -O2 -shared -fPIC -o "$work/refuse.so" "$top/tests/refuse.c" -ldl || exit 1
+python3 "$top/tests/refusals.py" "$program" "$work/refuse.so" "$@"

@@ -1,0 +1,102 @@
+/* Loaded in front of a program (LD_PRELOAD), it refuses what the environment says:
+     REFUSE_GROWTH=N    the Nth growth of memory (malloc, calloc, realloc); N+ also each later one
+     REFUSE_READ=N:HOW  the Nth read        REFUSE_WRITE=N:HOW  the Nth write to standard output
+   HOW is error (EIO), interrupted (EINTR), short (one byte is moved, of the Nth and each later call), or, for a write,
+   nothing (no byte is taken). When something is refused for the first time, one byte goes to descriptor REFUSE_TOLD. */
+#define _GNU_SOURCE
+#include <dlfcn.h>
+#include <errno.h>
+#include <stdlib.h>
+#include <string.h>
+#include <sys/uio.h>
+#include <unistd.h>
+
+extern void *__libc_malloc(size_t);
+extern void *__libc_calloc(size_t, size_t);
+extern void *__libc_realloc(void *, size_t);
+
+enum how { NEVER, ERROR, INTERRUPTED, SHORT, NOTHING };
+
+struct refusal {
+    unsigned long at, made;
+    int and_later;
+    enum how how;
+};
+
+static struct refusal growth, reading, writing;
+static int told = -1;
+static ssize_t (*next_read)(int, void *, size_t);
+static ssize_t (*next_write)(int, const void *, size_t);
+
+static enum how how_of(const char *word) {
+    if (!strcmp(word, "error")) return ERROR;
+    if (!strcmp(word, "interrupted")) return INTERRUPTED;
+    if (!strcmp(word, "short")) return SHORT;
+    if (!strcmp(word, "nothing")) return NOTHING;
+    abort();
+}
+
+static void open_refusal(struct refusal *it, const char *name) {
+    char *rest, *text = getenv(name);
+    if (!text) return;
+    it->at = strtoul(text, &rest, 10);
+    it->and_later = *rest == '+';
+    it->how = *rest == ':' ? how_of(rest + 1) : ERROR;
+    if (it->how == SHORT) it->and_later = 1;
+}
+
+__attribute__((constructor)) static void begin(void) {
+    char *text = getenv("REFUSE_TOLD");
+    next_read = (ssize_t (*)(int, void *, size_t))dlsym(RTLD_NEXT, "read");
+    next_write = (ssize_t (*)(int, const void *, size_t))dlsym(RTLD_NEXT, "write");
+    if (text) told = atoi(text);
+    open_refusal(&reading, "REFUSE_READ");
+    open_refusal(&writing, "REFUSE_WRITE");
+    open_refusal(&growth, "REFUSE_GROWTH");
+}
+
+static enum how answer_of(struct refusal *it) {
+    unsigned long number;
+    if (!it->at) return NEVER;
+    number = __atomic_add_fetch(&it->made, 1, __ATOMIC_SEQ_CST);
+    if (number < it->at || (number > it->at && !it->and_later)) return NEVER;
+    if (number == it->at && told >= 0) next_write(told, "!", 1);
+    return it->how;
+}
+
+void *malloc(size_t size) {
+    if (answer_of(&growth) == NEVER) return __libc_malloc(size);
+    errno = ENOMEM;
+    return NULL;
+}
+
+void *calloc(size_t count, size_t size) {
+    if (answer_of(&growth) == NEVER) return __libc_calloc(count, size);
+    errno = ENOMEM;
+    return NULL;
+}
+
+void *realloc(void *old, size_t size) {
+    if (answer_of(&growth) == NEVER) return __libc_realloc(old, size);
+    errno = ENOMEM;
+    return NULL;
+}
+
+static int fails(enum how how) {
+    if (how == ERROR) errno = EIO;
+    if (how == INTERRUPTED) errno = EINTR;
+    return how == ERROR || how == INTERRUPTED;
+}
+
+ssize_t read(int file, void *to, size_t size) {
+    enum how how = answer_of(&reading);
+    if (fails(how)) return -1;
+    return next_read(file, to, how == SHORT && size > 1 ? 1 : size);
+}
+
+ssize_t write(int file, const void *from, size_t size) {
+    enum how how = file == STDOUT_FILENO ? answer_of(&writing) : NEVER;
+    if (fails(how)) return -1;
+    if (how == NOTHING) return 0;
+    return next_write(file, from, how == SHORT && size > 1 ? 1 : size);
+}

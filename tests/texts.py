@@ -1,0 +1,226 @@
+#!/usr/bin/env python3
+"""Gives the program cut, faulty, huge and changed texts: tests/texts.py PROGRAM [PART..].
+
+What it must say of each was worked out by hand from docs/TEXTS.md, or is said by the second program, which was written
+from the same page (examples/reference). The last line is `N tried, M wrong`.
+"""
+import os
+import random
+import subprocess
+import sys
+import tempfile
+from pathlib import Path
+
+TOP = Path(__file__).resolve().parent.parent
+sys.path.insert(0, str(TOP / "examples"))
+from reference.order import check  # noqa: E402
+from reference.traces import Fault, Trace, read_records  # noqa: E402
+
+KINDS = ("NoMemory TooLarge BadByte BadHeader BadInitial DoubleInitial BadTable BadInstruction ValueRange MixedWidth "
+         "AddressAsValue ValueAsAddress BadCondition CutShort").split()
+BAD_HEADER, BAD_INITIAL, BAD_TABLE, BAD_CONDITION, CUT_SHORT, ACCEPTED = 4, 5, 7, 13, 14, 0
+
+# The text of store buffering in pieces: if the text ends behind any byte of a piece, its fault has that kind.
+ITEM = [("x", BAD_INITIAL)]
+STORE_BUFFERING = [
+    [("RISCV ", BAD_HEADER), ("SB\n", CUT_SHORT)],
+    [("{ 0:", CUT_SHORT), *ITEM, ("5=1; 0:", CUT_SHORT), *ITEM, ("6=x; 0:", CUT_SHORT), *ITEM, ("8=y; 1:", CUT_SHORT),
+     *ITEM, ("5=1; 1:", CUT_SHORT), *ITEM, ("6=y; 1:", CUT_SHORT), *ITEM, ("8=x; }\n", CUT_SHORT)],
+    [(" ", CUT_SHORT), ("P0          | P1          ", BAD_TABLE), (";\n", CUT_SHORT)],
+    [(" ", CUT_SHORT), ("sw x5,0(x6) | sw x5,0(x6) ", BAD_TABLE), (";\n", CUT_SHORT)],
+    [(" ", CUT_SHORT), ("lw x7,0(x8) | lw x7,0(x8) ", BAD_TABLE), (";\n", CUT_SHORT)],
+    [("exist", BAD_TABLE), ("s (0:", CUT_SHORT), ("x", BAD_CONDITION), ("7=0 ", CUT_SHORT), ("/", BAD_CONDITION),
+     ("\\ 1:", CUT_SHORT), ("x", BAD_CONDITION), ("7=0", CUT_SHORT), (")\n", ACCEPTED)],
+]
+
+
+class Tester:
+    def __init__(self, program):
+        self.program, self.tried, self.wrong = program, 0, 0
+
+    def run(self, *words, text=None):
+        """The status, standard output and standard error; with a text, given through a pipe."""
+        ran = subprocess.run([self.program, *words], input=text, capture_output=True, timeout=120,
+                             stdin=None if text is not None else subprocess.DEVNULL)
+        return ran.returncode, ran.stdout.decode(), ran.stderr.decode(errors="replace")
+
+    def expect(self, good, what):
+        self.tried += 1
+        if not good:
+            self.wrong += 1
+            print(f"wrong: {what}")
+
+    def refuses(self, fault, text, *words):
+        """The text, from standard input, is refused with this fault; or accepted, if there is none."""
+        words = words or ("litmus", "/dev/stdin")
+        status, out, error = self.run(*words, text=text)
+        good = (status, out, error) == (2, "", f"tardis: {fault}\n") if fault else (status, error) == (0, "")
+        self.expect(good, f"{text[-80:]!r} of {len(text)} bytes: wanted {fault}, got {status} {error!r}")
+
+
+def told(line, kind):
+    return f"line {line}: {kind} {KINDS[kind - 1]}" if kind else None
+
+
+def cuts(tester):
+    """Store buffering, cut behind each byte."""
+    text = b""
+    tester.refuses(told(1, CUT_SHORT), text)
+    for line, pieces in enumerate(STORE_BUFFERING, 1):
+        for piece, kind in pieces:
+            for byte in piece.encode():
+                text += bytes([byte])
+                tester.refuses(told(line, kind), text)
+    tester.expect(text == (TOP / "crates/tardis/data/SB.litmus").read_bytes(), "the pieces are the text")
+
+
+def rows(table):
+    for line in table.read_text().splitlines():
+        if not line.startswith("#"):
+            fault, text = line.split("|", 1)
+            yield fault, text
+
+
+def faults(tester):
+    """Each kind of fault of litmus texts in the first line where it may stand, between, and in the last."""
+    for fault, text in rows(TOP / "tests/litmus_faults.table"):
+        tester.refuses(fault, text.encode().decode("unicode_escape").encode("latin-1"))
+
+
+def of_printf(text):
+    """What the shell's printf %b makes of the text: octal as \\0NNN."""
+    return subprocess.run(["printf", "%b", text], capture_output=True, check=True).stdout
+
+
+def moved(fault, lines):
+    """The fault's line in a text that has so many lines in front."""
+    line, rest = fault.removeprefix("line ").split(":", 1)
+    return f"line {int(line) + lines}:{rest}"
+
+
+def one_line_faults(table):
+    for fault, text in rows(TOP / "examples/bad" / table):
+        text = of_printf(text).removesuffix(b"\n")
+        if b"\n" not in text and fault.startswith("line 1:"):
+            yield fault, text
+
+
+def places(tester):
+    """Each faulty line of a trace and of records, as the first line, between others, and as the last."""
+    with tempfile.NamedTemporaryFile(suffix=".trace") as some:
+        commands = {"traces.table": ("trace", "/dev/stdin"), "records.table": ("check", some.name, "/dev/stdin")}
+        good = {"traces.table": b"0 R 0x0\n", "records.table": b"0 0 R 0x0 0 0 0\n"}
+        for table, words in commands.items():
+            long_line = ("line 1: 3 TooLong", b"#" * 257)
+            for fault, text in [*one_line_faults(table), long_line]:
+                tester.refuses(fault, text + b"\n" + good[table] * 3, *words)
+                tester.refuses(moved(fault, 3), b"#\n \n\t# x\n" + text + b"\n" + good[table], *words)
+                tester.refuses(moved(fault, 2), b"\n\n" + text, *words)
+
+
+def sizes(tester):
+    """Texts at their limits, and of one sign, name or number throughout."""
+    front = b"RISCV A\n{ }\n P0 ;\n"
+    tester.refuses("line 1: 2 TooLarge", b" " * 65537)
+    tester.refuses("line 1: 4 BadHeader", b"(" * 65536)
+    tester.refuses("line 1: 4 BadHeader", b"\n" * 65536)
+    tester.refuses("line 1: 4 BadHeader", b"a" * 65536)
+    tester.refuses("line 1: 4 BadHeader", b"RISCV " + b"a" * 60000)
+    tester.refuses("line 65529: 14 CutShort", b"RISCV A\n" + b"\n" * 65528)
+    tester.refuses("line 2: 9 ValueRange", b"RISCV A\n{ x=" + b"9" * 60000 + b"; }\n P0 ;\nexists (x=0)\n")
+    tester.refuses(None, b"RISCV A\n{ x=" + b"0" * 60000 + b"1; }\n P0 ;\nexists (x=1)\n")
+    tester.refuses("line 2: 5 BadInitial", b"RISCV A\n{ " + b"0" * 60000 + b":x5=1; }\n P0 ;\nexists (x=0)\n")
+    tester.refuses("line 2: 5 BadInitial", b"RISCV A\n{ " + b"a" * 60000 + b"=1; }\n P0 ;\nexists (x=0)\n")
+    tester.refuses("line 4: 9 ValueRange", front + b" li x5," + b"1" * 60000 + b" ;\nexists (x=0)\n")
+    tester.refuses("line 4: 2 TooLarge", front + b"exists " + b"(" * (65536 - len(front) - 7))
+    tester.refuses("line 4: 2 TooLarge", front + b"exists " + b"(" * 65)
+    tester.refuses("line 4: 14 CutShort", front + b"exists " + b"(" * 64)
+    tester.refuses("line 1: 3 TooLong", b"0 W 0x0 " + b"1" * 60000 + b"\n", "trace", "/dev/stdin")
+    tester.refuses("line 1: 3 TooLong", b"(" * 65536, "trace", "/dev/stdin")
+    tester.refuses("line 16777217: 3 TooLong", b"\n" * 16777216 + b"0", "trace", "/dev/stdin")
+
+
+PIECES = [b"0", b" ", b"\n", b"#", b"18446744073709551616", b"64", b"trace 2\n", b"x8"]
+
+
+def changed(text, generator):
+    """The text after up to three changes of a byte, a field or a line."""
+    text = bytearray(text)
+    for _ in range(generator.randrange(1, 4)):
+        at = generator.randrange(len(text) + 1)
+        choice = generator.randrange(5)
+        if choice == 0:
+            text[at:at + 1] = bytes([generator.choice(b"0123456789afAFxRWSAtrace2 \t\r\n\x0b\x0c\xa0#\0\xff")])
+        elif choice == 1:
+            text[at:at] = generator.choice(PIECES)
+        elif choice == 2:
+            del text[at:at + generator.randrange(1, 9)]
+        elif choice == 3:
+            lines = bytes(text).split(b"\n")
+            lines.insert(generator.randrange(len(lines)), generator.choice(lines))
+            text = bytearray(b"\n".join(lines))
+        else:
+            del text[at:]
+    return bytes(text)
+
+
+def verdict_of(trace, records):
+    """What `check` must say, and its status, by the second program."""
+    try:
+        issued = Trace(trace).issued()
+        verdict = check({}, issued, read_records(records))
+    except Fault as fault:
+        return 2, "", f"tardis: {fault}\n"
+    return 0 if verdict == "legal" else 1, verdict + "\n", ""
+
+
+def changes(tester, number=600):
+    """Traces and records that are changed at random: the answer of `check` is the second program's."""
+    generator = random.Random(1)
+    examples = sorted((TOP / "examples/traces").glob("*.trace"), key=lambda path: path.stat().st_size)[:40]
+    with tempfile.TemporaryDirectory() as folder:
+        files = Path(folder, "trace"), Path(folder, "records")
+        for _ in range(number):
+            example = generator.choice(examples)
+            texts = [example.read_bytes(), example.with_suffix(".records").read_bytes()]
+            which = generator.randrange(2)
+            texts[which] = changed(texts[which], generator)
+            for file, text in zip(files, texts):
+                file.write_bytes(text)
+            got, wanted = tester.run("check", *map(str, files)), verdict_of(*texts)
+            tester.expect(got == wanted, f"{example.name}, {texts[which]!r}: {got}, wanted {wanted}")
+
+
+def unlike(tester, number=400):
+    """Litmus texts that are changed at random: each has a report, or one line with a line and a kind that there are."""
+    generator = random.Random(2)
+    examples = sorted((TOP / "examples/litmus").glob("*.litmus"))
+    wanted = {f"{number} {name}" for number, name in enumerate(KINDS, 1) if number > 1}
+    for _ in range(number):
+        text = changed(generator.choice(examples).read_bytes(), generator)
+        status, out, error = tester.run("litmus", "--limit", "1000", "/dev/stdin", text=text)
+        if status == 2:
+            line, kind = error.removeprefix("tardis: line ").removesuffix("\n").split(": ", 1)
+            lines = max(1, text.count(b"\n") + (not text.endswith(b"\n")))
+            good = out == "" and kind in wanted and 1 <= int(line) <= lines
+        else:
+            good = status in (0, 1) and error == "" and out.startswith("test ")
+        tester.expect(good, f"{text!r}: {status} {error!r}")
+
+
+PARTS = {"cuts": cuts, "faults": faults, "places": places, "sizes": sizes, "changes": changes, "unlike": unlike}
+
+
+def main():
+    program, *parts = sys.argv[1:]
+    tester = Tester(os.path.abspath(program))
+    for name in parts or PARTS:
+        before = tester.tried
+        PARTS[name](tester)
+        print(f"{name}: {tester.tried - before} texts")
+    print(f"{tester.tried} tried, {tester.wrong} wrong")
+    return tester.wrong != 0
+
+
+if __name__ == "__main__":
+    sys.exit(main())

@@ -2,8 +2,8 @@
 """Prints what `tardis litmus|trace|check [options] FILE..` must print, without the program.
 
 Written from docs/ alone: PROTOCOL.md, SCHEDULES.md, TEXTS.md, ORDER.md. The parts are in examples/reference. Litmus
-tests must be good texts; faults of traces and of records are told as the program must tell them. The status is 0 where
-every run was all done or the records are legal, 2 where a text is refused, else 1.
+tests must be good texts, and options in their ranges; faults of traces and of records are told as the program must
+tell them. The status is 0 where every run was all done or the records are legal, 2 where a text is refused, else 1.
 
     examples/oracle.py litmus [--schedule seed --seed N] [--runs N] [--lease N] .. [--private-write] FILE
     examples/oracle.py trace [--records] [--schedule seed --seed N] [--lease N] .. FILE

@@ -27,6 +27,17 @@ fn opened_and_closed(alloc: Global) -> Result<Option<Run>, Fail>
     Ok(Some(machine.close(alloc, cores, banks)?))
 }
 
+// The machine is opened and closed at once; none if a seat is missing.
+fn closed_at_once(alloc: Global) -> Result<Option<Run>, Fail>
+    ensures { IfOk result (λ run. IfSome run (λ r. Parts r)) }
+{
+    let (machine, cores, banks) = opened(alloc)?;
+    if !machine.is_whole(cores.as_slice(), banks.as_slice()) {
+        return Ok(None);
+    }
+    Ok(Some(machine.close(alloc, cores, banks)?))
+}
+
 // Whether a core's seat accepts an operation.
 fn accepts(machine: &Machine, cores: &mut Vec<CoreSeat>, at: usize, op: Op) -> bool
     requires { AllCoreSeats machine.now cores.old.items }
@@ -115,6 +126,17 @@ fn has_opening_values(closed: &Run) -> bool {
 #[test]
 fn values_are_those_of_the_opening(rt: HostRuntime) -> Result<(), Fail> {
     let closed = opened_and_closed(rt.alloc())?.ok_or("no seat has a message, and all are there")?;
+    assert!(rt; has_opening_values(&closed));
+    for core in 0..4 {
+        assert!(rt; closed.issued(core).is_empty());
+    }
+    Ok(())
+}
+
+#[test]
+fn nothing_comes_of_a_machine_that_is_closed_at_once(rt: HostRuntime) -> Result<(), Fail> {
+    let closed = closed_at_once(rt.alloc())?.ok_or("all seats are there")?;
+    assert!(rt; closed.records().is_empty());
     assert!(rt; has_opening_values(&closed));
     for core in 0..4 {
         assert!(rt; closed.issued(core).is_empty());

@@ -1,10 +1,11 @@
 //! Which set-ups are opened, with which seats, and which are refused.
-use crate::machines::{SMALL, memory};
+use crate::machines::{SMALL, memory, opened};
 use interleaving_core::OpenError;
 use machine_table::Config;
 use mailboxes::open;
 use physiological_order::Memory;
 use std::alloc::Global;
+use std::marker::{Send, Sync};
 use std::test::Fail;
 
 /// Every value at its least, and the most seats.
@@ -132,5 +133,19 @@ fn set_ups_with_a_value_out_of_its_range_are_refused(rt: HostRuntime) -> Result<
         let memory = memory(rt.alloc())?;
         assert!(rt; is_bad(rt.alloc(), *config, memory), "{config:?}");
     }
+    Ok(())
+}
+
+fn is_send<T: Send>(_value: &T) {}
+
+fn is_sync<T: Sync>(_value: &T) {}
+
+/// Seats may go to other threads, which share the machine.
+#[test]
+fn threads_may_have_the_seats(rt: HostRuntime) -> Result<(), Fail> {
+    let (machine, cores, banks) = opened(rt.alloc())?;
+    is_sync(&machine);
+    is_send(&cores);
+    is_send(&banks);
     Ok(())
 }

@@ -163,14 +163,17 @@ def growths(tester):
 
 def without_runs(folder):
     """Commands that end without a run, each with its answer: the status, standard output and standard error."""
-    cut, late, wrong = folder / "cut", folder / "late", folder / "wrong"
+    cut, late, wrong, loads, falling = (folder / name for name in ("cut", "late", "wrong", "loads", "falling"))
     cut.write_text("RISCV A\n{ x=1;\n")
     late.write_text("0 R 0x0\n" * 40 + "0 R 0x4\n")
     trace = TRACES / "ADVANCES.trace"
     records = trace.with_suffix(".records")
     wrong.write_text("0 0 W 0x0 1 1 0\n")
+    loads.write_text("0 R 0x0\n" * 40)
+    falling.write_text("".join(f"0 {number} R 0x0 0 {40 - number} {number}\n" for number in range(40)))
     yield "records, checked", ["check", trace, records], (0, "legal\n", "")
     yield "other records, checked", ["check", trace, wrong], (1, "out of program order 0\n", "")
+    yield "records whose times fall", ["check", loads, falling], (1, "out of program order 39\n", "")
     yield "a test that is cut", ["litmus", cut], (2, "", "tardis: line 2: 14 CutShort\n")
     yield "a trace with a fault", ["trace", late], (2, "", "tardis: line 41: 6 BadAddress\n")
     yield "records with a fault", ["check", trace, late], (2, "", "tardis: line 1: 7 BadValue\n")

@@ -54,7 +54,12 @@ def tell(turn, about, answer):
 
 
 def read_litmus(path):
-    return Test(Path(path).read_bytes().decode("ascii"))
+    """The test; a text that is none isn't judged here, but most of them can't be read."""
+    text = Path(path).read_bytes()
+    try:
+        return Test(text.decode("ascii"))
+    except (AttributeError, IndexError, KeyError, SyntaxError, ValueError) as error:
+        raise SystemExit(f"oracle.py: {path} can't be read as a good test: ./tardis says why") from error
 
 
 def read_trace(path):

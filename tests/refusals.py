@@ -2,26 +2,28 @@
 """Refuses the program memory, reads and writes, each in turn: tests/refusals.py PROGRAM SHIM [PART..].
 
 PROGRAM is the built program, SHIM the shared object made of tests/refuse.c; tests/refusals.sh makes both. What a whole
-run must print comes from the examples, whose reports the second program made; what a refused one may print follows from
-docs/TEXTS.md, and is said above each check. Each part prints what it tried; the last line is `N tried, M wrong`.
+run must print comes from the examples, whose reports the second program made. What may be told of a run that ended for
+want of memory is by the second program, too (ended_runs.py); all else follows from docs/TEXTS.md. Each part prints what
+it tried; the last line is `N tried, M wrong`. The part `steps` wants the player, crates/event_player, as PROGRAM.
 """
 import os
+import random
 import shutil
 import subprocess
 import sys
 import tempfile
+from collections import Counter
 from pathlib import Path
 
 TOP = Path(__file__).resolve().parent.parent
 sys.path.insert(0, str(TOP / "examples"))
-from reference.order import end_memory, stale_hits  # noqa: E402
-from reference.traces import read_records  # noqa: E402
+import events  # noqa: E402
+import oracle  # noqa: E402
+from ended_runs import told_of  # noqa: E402
 
 LITMUS = TOP / "examples" / "litmus"
-SETTINGS = TOP / "examples" / "settings"
 TRACES = TOP / "examples" / "traces"
 NO_MEMORY = (1, "", "tardis: no memory\n")
-COUNTED = ("completed", "renewals", "upgrades", "flushes", "write-backs", "stale-hits")
 
 LOADS = 20000
 # One core loads one word, again and again: a hit each time but the first, at time 0.
@@ -57,12 +59,13 @@ class Tester:
         self.program, self.shim = program, shim
         self.tried = self.wrong = 0
 
-    def run(self, words, **refusals):
+    def run(self, words, lines=(), **refusals):
+        """The program with these words, and with these lines on standard input."""
         reader, writer = os.pipe()
         environment = {"LD_PRELOAD": self.shim, "REFUSE_TOLD": str(writer)}
-        environment |= {f"REFUSE_{name.upper()}": value for name, value in refusals.items()}
+        environment |= {f"REFUSE_{name.upper()}": str(value) for name, value in refusals.items()}
         ran = subprocess.run([self.program, *map(str, words)], env=environment, pass_fds=[writer], timeout=60,
-                             stdin=subprocess.DEVNULL, capture_output=True)
+                             input=text_of(lines).encode(), capture_output=True)
         os.close(writer)
         with open(reader, "rb") as told:
             refused = told.read() != b""
@@ -104,70 +107,43 @@ def options_of(text):
     return []
 
 
-def lines_of(report):
-    return dict(line.rsplit(" ", 1) for line in report.splitlines())
+class Told:
+    """Whether a refused run is told as it must be: there is no memory; or a run, or some, ended for want of it.
 
-
-def told_of_a_batch(usual):
-    """A refused batch says that there is no memory; or it counts the refused runs under `memory`.
-
-    The end states are some of the usual ones, each no more often; and no sum is greater than over the whole runs.
+    What may be told then is by the second program. A refusal that comes later ends a single run no earlier.
     """
-    whole = lines_of(usual)
 
-    def states(report):
-        first = report.index("\nstates ") + 1
-        return {line.split(" ", 1)[1]: int(line.split(" ", 1)[0])
-                for line in report[first:report.index("\ncondition ")].splitlines()[1:]}
+    def __init__(self, words):
+        self.texts, self.is_single, self.at = told_of(words), "--runs" not in words, 0
 
-    def is_told(ran):
+    def __call__(self, ran):
         if ran.answer() == NO_MEMORY:
             return True
-        got = lines_of(ran.out)
-        refused, found, there = int(got["memory"]), states(ran.out), states(usual)
-        same = all(got[name] == whole[name] for name in ("threads", "runs", "stalled", "limit", "exhausted"))
-        return (same and ran.status == 1 and ran.error == "" and refused > 0
-                and int(got["all-done"]) == int(whole["all-done"]) - refused
-                and sum(found.values()) == int(got["all-done"]) and int(got["states"]) == len(found)
-                and all(number <= there.get(state, 0) for state, number in found.items())
-                and all(int(got[name]) <= int(whole[name]) for name in COUNTED))
-
-    return is_told
+        if ran.status != 1 or ran.error or ran.out not in self.texts:
+            return False
+        if self.is_single:
+            rest = self.texts[self.at:]
+            if ran.out not in rest:
+                return False
+            self.at += rest.index(ran.out)
+        return True
 
 
-def told_of_records(usual):
-    """The records of a run that was refused memory are the first ones of the whole run's."""
-    def is_told(ran):
-        return ran.answer() == NO_MEMORY or (ran.status == 1 and ran.error == "" and usual.startswith(ran.out)
-                                             and (ran.out == "" or ran.out.endswith("\n")))
-
-    return is_told
+def said(ran):
+    return ran.answer() == NO_MEMORY
 
 
-def told_of_a_trace(usual, records):
-    """The report of a refused run says so, and is that of the first completed ones of the whole run's records.
-
-    Its words have the values that these records leave; the order is legal; no message was sent more often.
-    """
-    whole, history = lines_of(usual), read_records(records.encode())
-
-    def is_told(ran):
-        if ran.answer() == NO_MEMORY:
-            return True
-        got = lines_of(ran.out)
-        first = sorted(history, key=lambda record: record.number)[:int(got["completed"])]
-        left = end_memory({}, first)
-        kinds = {"loads": "load", "stores": "store", "swaps": "swap"}
-        words = [name for name in whole if name.startswith("word ")]
-        return (ran.status == 1 and ran.error == "" and got["end"] == "memory" and got["order"] == "legal"
-                and got["cores"] == whole["cores"] and int(got["issued"]) <= int(whole["issued"])
-                and all(int(got[name]) == sum(it.kind == kind for it in first) for name, kind in kinds.items())
-                and [name for name in got if name.startswith("word ")] == words
-                and all(int(got[name]) == left.get(int(name.split()[1], 16) // 8, 0) for name in words)
-                and int(got["stale-hits"]) == stale_hits(first)
-                and all(int(got[name]) <= int(whole[name]) for name in COUNTED))
-
-    return is_told
+def runs():
+    """Commands that run a machine, each with what it prints."""
+    for text in (LITMUS / "SB.litmus", LITMUS / "IRIW.litmus", LITMUS / "SB+forall.litmus"):
+        yield text.name, ["litmus", text], text.with_suffix(".report").read_text()
+    words = ["litmus", "--schedule", "seed", "--runs", "3", LITMUS / "SB.litmus"]
+    yield "three seeds of SB", words, oracle.run(oracle.words().parse_args([*map(str, words)]))[0]
+    for name in ("BANK-EVICTIONS", "FALSE-SHARING", "ADVANCES", "STALE-HITS", "SEED-EVICTIONS"):
+        text = TRACES / f"{name}.trace"
+        words = ["trace", *options_of(text), text]
+        yield name, words, text.with_suffix(".report").read_text()
+        yield f"{name} --records", [*words, "--records"], text.with_suffix(".records").read_text()
 
 
 def growths(tester):
@@ -175,26 +151,37 @@ def growths(tester):
 
     Refused alone, some growths are those of a run, which is then told as one that ended for want of memory.
     """
-    def sweep(what, words, usual, told, is_run=True):
-        counted = tester.sweep(what, words, "growth", "", (0, usual, ""), told)
-        tester.expect((counted > 0) == is_run, f"{what}: {counted} refused runs were told")
-        tester.sweep(what, words, "growth", "+", (0, usual, ""), told)
+    for what, words, usual in runs():
+        counted = tester.sweep(what, words, "growth", "", (0, usual, ""), Told(words))
+        tester.expect(counted > 0, f"{what}: no refused run was told")
+        tester.sweep(what, words, "growth", "+", (0, usual, ""), Told(words))
+    with tempfile.TemporaryDirectory() as folder:
+        for what, words, usual in without_runs(Path(folder)):
+            for how in ("", "+"):
+                tester.sweep(what, words, "growth", how, usual, said)
 
-    for text in (LITMUS / "SB.litmus", LITMUS / "IRIW.litmus"):
-        usual = text.with_suffix(".report").read_text()
-        sweep(text.name, ["litmus", text], usual, told_of_a_batch(usual))
-    words = ["litmus", "--schedule", "seed", "--runs", "3", LITMUS / "SB.litmus"]
-    usual = subprocess.run([sys.executable, TOP / "examples" / "oracle.py", *words], capture_output=True, text=True,
-                           check=True).stdout
-    sweep("three seeds of SB", words, usual, told_of_a_batch(usual))
-    for name in ("BANK-EVICTIONS", "FALSE-SHARING", "ADVANCES", "STALE-HITS"):
-        text = TRACES / f"{name}.trace"
-        options, usual = options_of(text), text.with_suffix(".report").read_text()
-        records = text.with_suffix(".records").read_text()
-        sweep(name, ["trace", *options, text], usual, told_of_a_trace(usual, records))
-        sweep(f"{name} --records", ["trace", "--records", *options, text], records, told_of_records(records))
-        sweep(f"{name}, checked", ["check", text, text.with_suffix(".records")], "legal\n",
-              lambda ran: ran.answer() == NO_MEMORY, is_run=False)
+
+def without_runs(folder):
+    """Commands that end without a run, each with its answer: the status, standard output and standard error."""
+    cut, late, wrong, loads, falling = (folder / name for name in ("cut", "late", "wrong", "loads", "falling"))
+    cut.write_text("RISCV A\n{ x=1;\n")
+    late.write_text("0 R 0x0\n" * 40 + "0 R 0x4\n")
+    trace = TRACES / "ADVANCES.trace"
+    records = trace.with_suffix(".records")
+    wrong.write_text("0 0 W 0x0 1 1 0\n")
+    loads.write_text("0 R 0x0\n" * 40)
+    falling.write_text("".join(f"0 {number} R 0x0 0 {40 - number} {number}\n" for number in range(40)))
+    yield "records, checked", ["check", trace, records], (0, "legal\n", "")
+    yield "other records, checked", ["check", trace, wrong], (1, "out of program order 0\n", "")
+    yield "records whose times fall", ["check", loads, falling], (1, "out of program order 39\n", "")
+    yield "a test that is cut", ["litmus", cut], (2, "", "tardis: line 2: 14 CutShort\n")
+    yield "a trace with a fault", ["trace", late], (2, "", "tardis: line 41: 6 BadAddress\n")
+    yield "records with a fault", ["check", trace, late], (2, "", "tardis: line 1: 7 BadValue\n")
+    yield "no machine", ["trace", "--lease", "0", trace], (3, "", "tardis: bad configuration\n")
+    yield "no file", ["trace", folder / "none"], (4, "", "tardis: read failed\n")
+    yield "no such number", ["litmus", "--limit", "0", cut], (
+        3, "", "error: invalid value '0' for '--limit <limit>': 0 is not in 1..=4294967295\n\n"
+        "For more information, try '--help'.\n")
 
 
 def commands(folder):
@@ -215,11 +202,13 @@ def commands(folder):
 def devices(tester):
     """A read that fails: status 4 and nothing written. A write that fails, or takes nothing: a beginning is written.
 
-    A read or write that moves one byte at a time changes nothing.
+    A read or write that moves one byte at a time changes nothing. Where such a one fails, it fails behind each byte.
     """
     with tempfile.TemporaryDirectory() as folder:
-        for words, usual in commands(folder):
+        for words, usual in commands(folder)[:-1]:
             device(tester, words, usual)
+            behind_each_byte(tester, words, usual)
+        device(tester, *commands(folder)[-1])
 
 
 def device(tester, words, usual):
@@ -234,6 +223,19 @@ def device(tester, words, usual):
     for name in ("read", "write"):
         ran = tester.run(words, **{name: "1:short"})
         tester.expect(ran.refused and ran.answer() == whole, f"{what}, {name} by single bytes: {ran.answer()}")
+
+
+def behind_each_byte(tester, words, usual):
+    what = " ".join(Path(word).name for word in words)
+    bytes_read = sum(Path(word).stat().st_size for word in words if os.path.exists(word))
+    for number in range(1, bytes_read + 1):
+        ran = tester.run(words, read=f"{number}:late")
+        tester.expect(ran.refused and ran.answer() == (4, "", "tardis: read failed\n"), f"{what}, read {number}: late")
+    for number in range(1, len(usual) + 1):
+        ran = tester.run(words, write=f"{number}:late")
+        tester.expect(ran.refused and ran.answer() == (4, usual[:number - 1], "tardis: write failed\n"),
+                      f"{what}, write {number}: {ran.answer()}")
+    print(f"{what}: a read fails behind each of {bytes_read} bytes, a write behind each of {len(usual)}")
 
 
 def as_nobody():
@@ -273,14 +275,61 @@ def unwritable(tester, words):
             tester.expect((ran.returncode, ran.stderr) == (4, b"tardis: write failed\n"), f"{words} to {out.name}")
 
 
+def steps(tester):
+    """Events on machines, by the player of crates/event_player: each growth is refused alone.
+
+    A refused step is an issue or a delivery. It is answered that there is no memory, and all that can be seen of the
+    machine is as before. Made once more, with memory, it has the usual answer, and so has all that follows. Else the
+    player itself has no memory: it ends, and what it has told is a beginning.
+    """
+    refused = Counter()
+    for seed in (2, 15, 20, 25, 33, 42):  # machines whose DRAM is stored to within 80 events
+        given, wanted = events.played(random.Random(seed), 80)
+        opening = events.Player(random.Random(seed)).told("Idle")
+        refused += steps_of(tester, given, [opening, *wanted])
+    for name in ("issue", "deliver"):
+        tester.expect(refused[name] > 0, f"no {name} was refused")
+    print(f"steps: {refused['issue']} issues and {refused['deliver']} deliveries were refused, and made once more")
+
+
+def steps_of(tester, given, seen):
+    """The lines that are given, a machine and then events; what is seen of the machine as it opens, and after each."""
+    refused, number = Counter(), 0
+    while True:
+        number += 1
+        ran = tester.run([], given, growth=number)
+        usual = ran.answer() == (0, text_of(seen[1:]), "")
+        if usual or not ran.refused:
+            tester.expect(usual, f"{given[0]}, growth {number}: {ran.answer()}")
+            if not ran.refused:
+                return refused
+            continue
+        at = next((at for at, line in enumerate(ran.out.splitlines(), 1) if line.startswith("refused 7|")), None)
+        if at is None:
+            tester.expect(ran.status != 0 and text_of(seen[1:]).startswith(ran.out), f"{given[0]}, growth {number}")
+            continue
+        refused[given[at].split()[0]] += 1
+        same = "refused 7|" + seen[at - 1].split("|", 1)[1]
+        again = tester.run([], given[:at + 1] + given[at:], growth=number)
+        tester.expect(given[at].split()[0] in ("issue", "deliver")
+                      and again.answer() == (0, text_of([*seen[1:at], same, *seen[at:]]), ""),
+                      f"{given[0]}, growth {number}, event {at}, made once more: {again.answer()}")
+
+
+def text_of(lines):
+    return "".join(line + "\n" for line in lines)
+
+
+# The parts of the program, which are run if none is named; and the part of the player.
 PARTS = {"growths": growths, "devices": devices, "host": host}
+PLAYER_PARTS = {"steps": steps}
 
 
 def main():
     program, shim, *parts = sys.argv[1:]
     tester = Tester(os.path.abspath(program), os.path.abspath(shim))
     for name in parts or PARTS:
-        PARTS[name](tester)
+        (PARTS | PLAYER_PARTS)[name](tester)
     print(f"{tester.tried} tried, {tester.wrong} wrong")
     return tester.wrong != 0
 

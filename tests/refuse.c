@@ -1,8 +1,8 @@
 /* Loaded in front of a program (LD_PRELOAD), it refuses what the environment says:
      REFUSE_GROWTH=N    the Nth growth of memory (malloc, calloc, realloc); N+ also each later one
      REFUSE_READ=N:HOW  the Nth read        REFUSE_WRITE=N:HOW  the Nth write to standard output
-   HOW is error (EIO), interrupted (EINTR), short (one byte is moved, of the Nth and each later call), or, for a write,
-   nothing (no byte is taken). When something is refused for the first time, one byte goes to descriptor REFUSE_TOLD. */
+   HOW is error (EIO), interrupted (EINTR), short (one byte is moved, of the Nth and each later call), late (one byte is
+   moved by each call before the Nth, which is an error), or, for a write, nothing (no byte is taken). When something is refused for the first time, one byte goes to descriptor REFUSE_TOLD. */
 #define _GNU_SOURCE
 #include <dlfcn.h>
 #include <errno.h>
@@ -15,7 +15,7 @@ extern void *__libc_malloc(size_t);
 extern void *__libc_calloc(size_t, size_t);
 extern void *__libc_realloc(void *, size_t);
 
-enum how { NEVER, ERROR, INTERRUPTED, SHORT, NOTHING };
+enum how { NEVER, ERROR, INTERRUPTED, SHORT, LATE, NOTHING };
 
 struct refusal {
     unsigned long at, made;
@@ -32,6 +32,7 @@ static enum how how_of(const char *word) {
     if (!strcmp(word, "error")) return ERROR;
     if (!strcmp(word, "interrupted")) return INTERRUPTED;
     if (!strcmp(word, "short")) return SHORT;
+    if (!strcmp(word, "late")) return LATE;
     if (!strcmp(word, "nothing")) return NOTHING;
     abort();
 }
@@ -59,9 +60,10 @@ static enum how answer_of(struct refusal *it) {
     unsigned long number;
     if (!it->at) return NEVER;
     number = __atomic_add_fetch(&it->made, 1, __ATOMIC_SEQ_CST);
+    if (number < it->at && it->how == LATE) return SHORT;
     if (number < it->at || (number > it->at && !it->and_later)) return NEVER;
     if (number == it->at && told >= 0) next_write(told, "!", 1);
-    return it->how;
+    return it->how == LATE ? ERROR : it->how;
 }
 
 void *malloc(size_t size) {

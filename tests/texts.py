@@ -50,12 +50,13 @@ class Tester:
             self.wrong += 1
             print(f"wrong: {what}")
 
-    def refuses(self, fault, text, *words):
-        """The text, from standard input, is refused with this fault; or accepted, if there is none."""
+    def refuses(self, fault, text, *words, accepted=""):
+        """The text, from standard input, is refused with this fault. If there is none, its report has these lines."""
         words = words or ("litmus", "/dev/stdin")
         status, out, error = self.run(*words, text=text)
         good = (status, out, error) == (2, "", f"tardis: {fault}\n") if fault else (status, error) == (0, "")
-        self.expect(good, f"{text[-80:]!r} of {len(text)} bytes: wanted {fault}, got {status} {error!r}")
+        self.expect(good and accepted in out,
+                    f"{text[-80:]!r} of {len(text)} bytes: wanted {fault}, got {status} {error!r}")
 
 
 def told(line, kind):
@@ -64,13 +65,13 @@ def told(line, kind):
 
 def cuts(tester):
     """Store buffering, cut behind each byte."""
-    text = b""
+    text, report = b"", (TOP / "examples/litmus/SB.report").read_text()
     tester.refuses(told(1, CUT_SHORT), text)
     for line, pieces in enumerate(STORE_BUFFERING, 1):
         for piece, kind in pieces:
             for byte in piece.encode():
                 text += bytes([byte])
-                tester.refuses(told(line, kind), text)
+                tester.refuses(told(line, kind), text, accepted="" if kind else report)
     tester.expect(text == (TOP / "crates/tardis/data/SB.litmus").read_bytes(), "the pieces are the text")
 
 
@@ -106,7 +107,10 @@ def one_line_faults(table):
 
 
 def places(tester):
-    """Each faulty line of a trace and of records, as the first line, between others, and as the last."""
+    """Each faulty line of a trace and of records, as the first line, between others, and as the last.
+
+    Behind a line with fields no form is told any more: a line that begins with `trace` has no core then.
+    """
     with tempfile.NamedTemporaryFile(suffix=".trace") as some:
         commands = {"traces.table": ("trace", "/dev/stdin"), "records.table": ("check", some.name, "/dev/stdin")}
         good = {"traces.table": b"0 R 0x0\n", "records.table": b"0 0 R 0x0 0 0 0\n"}
@@ -116,6 +120,9 @@ def places(tester):
                 tester.refuses(fault, text + b"\n" + good[table] * 3, *words)
                 tester.refuses(moved(fault, 3), b"#\n \n\t# x\n" + text + b"\n" + good[table], *words)
                 tester.refuses(moved(fault, 2), b"\n\n" + text, *words)
+                behind = "line 1: 4 BadCore" if text.split()[:1] == [b"trace"] else fault
+                tester.refuses(moved(behind, 3), good[table] * 3 + text + b"\n" + good[table], *words)
+                tester.refuses(moved(behind, 3), good[table] * 3 + text, *words)
 
 
 def sizes(tester):
@@ -128,16 +135,40 @@ def sizes(tester):
     tester.refuses("line 1: 4 BadHeader", b"RISCV " + b"a" * 60000)
     tester.refuses("line 65529: 14 CutShort", b"RISCV A\n" + b"\n" * 65528)
     tester.refuses("line 2: 9 ValueRange", b"RISCV A\n{ x=" + b"9" * 60000 + b"; }\n P0 ;\nexists (x=0)\n")
-    tester.refuses(None, b"RISCV A\n{ x=" + b"0" * 60000 + b"1; }\n P0 ;\nexists (x=1)\n")
+    tester.refuses(None, b"RISCV A\n{ x=" + b"0" * 60000 + b"1; }\n P0 ;\nexists (x=1)\n", accepted="verdict yes\n")
+    tester.refuses(None, front + b"exists (x=" + b"0" * 60000 + b")\n", accepted="verdict yes\n")
     tester.refuses("line 2: 5 BadInitial", b"RISCV A\n{ " + b"0" * 60000 + b":x5=1; }\n P0 ;\nexists (x=0)\n")
     tester.refuses("line 2: 5 BadInitial", b"RISCV A\n{ " + b"a" * 60000 + b"=1; }\n P0 ;\nexists (x=0)\n")
     tester.refuses("line 4: 9 ValueRange", front + b" li x5," + b"1" * 60000 + b" ;\nexists (x=0)\n")
+    tester.refuses("line 4: 8 BadInstruction", front + b" li x" + b"1" * 60000 + b",1 ;\nexists (x=0)\n")
+    tester.refuses("line 4: 9 ValueRange", front + b"exists (x=" + b"9" * 60000 + b")\n")
+    tester.refuses("line 4: 13 BadCondition", front + b"exists (0:x" + b"1" * 60000 + b"=0)\n")
+    tester.refuses("line 4: 13 BadCondition", front + b"exists (" + b"1" * 60000 + b":x5=0)\n")
+    tester.refuses("line 60004: 14 CutShort", front + b"exists (x=0" + b"\n" * 60001)
+    tester.refuses("line 3: 7 BadTable", b"RISCV A\n{ }\n P0 " + b"|" * 60000 + b" ;\nexists (x=0)\n")
+    tester.refuses("line 4: 7 BadTable", front + b"|" * 60000 + b";\nexists (x=0)\n")
     tester.refuses("line 4: 2 TooLarge", front + b"exists " + b"(" * (65536 - len(front) - 7))
     tester.refuses("line 4: 2 TooLarge", front + b"exists " + b"(" * 65)
     tester.refuses("line 4: 14 CutShort", front + b"exists " + b"(" * 64)
     tester.refuses("line 1: 3 TooLong", b"0 W 0x0 " + b"1" * 60000 + b"\n", "trace", "/dev/stdin")
     tester.refuses("line 1: 3 TooLong", b"(" * 65536, "trace", "/dev/stdin")
     tester.refuses("line 16777217: 3 TooLong", b"\n" * 16777216 + b"0", "trace", "/dev/stdin")
+
+
+def limits(tester):
+    """One more than there may be: threads, rows, locations, atoms; in a line between others, and in the last."""
+    threads = [b"P%d" % thread for thread in range(17)]
+    items = b"".join(b"v%d=0;\n" % number for number in range(64))
+    atoms = b"exists " + b" /\\\n".join([b"x=0"] * 257)
+    front = b"RISCV A\n{ }\n P0 ;\n"
+    tester.refuses("line 3: 2 TooLarge", b"RISCV A\n{ }\n " + b" | ".join(threads) + b" ;\nexists (x=0)\n")
+    tester.refuses("line 3: 2 TooLarge", b"RISCV A\n{ }\n " + b" | ".join(threads))
+    tester.refuses("line 1028: 2 TooLarge", front + b" li x5,1 ;\n" * 1025 + b"exists (x=0)\n")
+    tester.refuses("line 1028: 2 TooLarge", front + b" ;\n" * 1025)
+    tester.refuses("line 67: 2 TooLarge", b"RISCV A\n{\n" + items + b"w=0;\n}\n P0 ;\nexists (w=0)\n")
+    tester.refuses("line 69: 2 TooLarge", b"RISCV A\n{\n" + items + b"}\n P0 ;\nexists (w=0)")
+    tester.refuses("line 260: 2 TooLarge", front + atoms + b" /\\\nx=0\n")
+    tester.refuses("line 260: 2 TooLarge", front + atoms)
 
 
 PIECES = [b"0", b" ", b"\n", b"#", b"18446744073709551616", b"64", b"trace 2\n", b"x8"]
@@ -208,7 +239,8 @@ def unlike(tester, number=400):
         tester.expect(good, f"{text!r}: {status} {error!r}")
 
 
-PARTS = {"cuts": cuts, "faults": faults, "places": places, "sizes": sizes, "changes": changes, "unlike": unlike}
+PARTS = {"cuts": cuts, "faults": faults, "places": places, "sizes": sizes, "limits": limits,
+         "changes": changes, "unlike": unlike}
 
 
 def main():

@@ -1,0 +1,100 @@
+"""Runs that end for want of memory, by the second program (examples/reference): all that may be told of one.
+
+A run ends so only before an event that asks for memory: one that opens an operation, or brings DRAM the first store of a
+line. Or it ends where the schedule lists something: the messages in flight, before a round's first delivery, and the
+lines that may be evicted, if a seed drew an eviction. What is told then is what is told of the events before.
+"""
+from itertools import product
+
+import merge
+import oracle
+from reference.machine import Machine
+from reference.reports import Batch, seed_of, trace_lines
+from reference.schedules import Run, by_rounds, by_seed
+from reference.traces import record_line
+
+
+class OutOfMemory(Exception):
+    """The run ends here."""
+
+
+class Watched(Run):
+    """A run that ends before the event of this number, if there is one; it notes before which events memory is asked
+    for."""
+
+    def __init__(self, machine, programs, last):
+        super().__init__(machine, programs)
+        self.last, self.asks, self.delivered = last, [], 0
+
+    def make(self, *event):
+        if len(self.made) == self.last:
+            raise OutOfMemory
+        if self.asks_memory(*event):
+            self.asks.append(len(self.made))
+        return super().make(*event)
+
+    def asks_memory(self, name, *of):
+        if name in ("EvictCache", "EvictBank"):
+            return bool(self.drawn) and self.drawn[-1][1] in (1, 2)
+        if name != "Deliver":
+            return name == "Issue"
+        message = self.machine.flight[of[0]]
+        is_first = not self.drawn and self.delivered != self.turns
+        self.delivered = self.turns
+        return is_first or message.kind == "DramSt" and message.line not in self.machine.dram
+
+
+def run_of(options, programs, memory, seed, last=None):
+    run = Watched(Machine(options, len(programs), memory), programs, last)
+    try:
+        return run, by_seed(run, options.limit, seed) if options.schedule == "seed" else by_rounds(run, options.limit)
+    except OutOfMemory:
+        return run, "memory"
+
+
+def ends_of(start, tell):
+    """What is told of a run that ends before each event that asks for memory, in the order of the events."""
+    whole, _ = start(None)
+    return [tell(*start(last)) for last in whole.asks]
+
+
+def of_litmus(options):
+    """What may be told of a batch in which a run, or some, ended for want of memory."""
+    test = oracle.read_litmus(options.FILE)
+
+    def tell(run, end):
+        batch = Batch(test)
+        batch.add(run, end)
+        return batch.text()
+
+    wholes, cuts = [], []
+    for number in range(options.runs):
+        seed = seed_of(options, number)
+
+        def start(last, seed=seed):
+            return run_of(options, test.programs(), test.memory, seed, last)
+
+        wholes.append(tell(*start(None)))
+        cuts.append(ends_of(start, tell))
+    if options.runs == 1:
+        return cuts[0]
+    choices = [[whole, *dict.fromkeys(cut)] for whole, cut in zip(wholes, cuts)]
+    return [merge.joined(texts) for texts in product(*choices) if list(texts) != wholes]
+
+
+def of_trace(options):
+    """What may be told of the run of a trace, or of its records, if it ended for want of memory."""
+    trace = oracle.read_trace(options.FILE)
+
+    def tell(run, end):
+        lines = map(record_line, run.machine.records) if options.records else trace_lines(trace, run, end)
+        return "".join(line + "\n" for line in lines)
+
+    return ends_of(lambda last: run_of(options, trace.programs(), {}, options.seed, last), tell)
+
+
+def told_of(words):
+    """All texts that a command may write if its runs, or some, end for want of memory. Of one run they stand in the
+    order of its events."""
+    options = oracle.words().parse_args([*map(str, words)])
+    return of_litmus(options) if options.command == "litmus" else of_trace(options)

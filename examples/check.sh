@@ -4,7 +4,7 @@
 # are those of examples/oracle.py, which knows nothing of the program; the tables and error lines are by hand.
 #
 # The parts that are run, each a function below; PARTS names others.
-parts=${PARTS:-litmus catalogue settings refusals seeds traces seeded_traces verdicts trace_refusals}
+parts=${PARTS:-litmus catalogue settings refusals seeds workers traces seeded_traces verdicts trace_refusals}
 
 top=$(CDPATH='' cd -- "$(dirname -- "$0")/.." && pwd) || exit 1
 tardis=${1:-$top/tardis}
@@ -107,6 +107,20 @@ seeds() {
     for text in "$examples"/settings/*.litmus; do
         if is_seeded "$text"; then setting "$text"; fi
     done
+}
+
+# The number of workers shows in no report.
+workers() {
+    for number in 2 4 16; do
+        for name in SB IRIW; do
+            words="--schedule seed --runs 1000 --workers $number"
+            # shellcheck disable=SC2086
+            told "$name $words" 0 "$examples/litmus/$name.seeds" /dev/null litmus $words "$examples/litmus/$name.litmus"
+        done
+    done
+    text=$examples/traces/SEED-LOCK.trace
+    # shellcheck disable=SC2046
+    told "SEED-LOCK.trace by 4 workers" 0 "${text%.trace}.report" /dev/null trace $(options_of "$text") --workers 4 "$text"
 }
 
 refusals() {

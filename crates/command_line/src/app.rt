@@ -26,7 +26,7 @@ const LIMIT: &str = "How many rounds a run has at most, or turns by schedule see
 const RUNS: &str = "How often the test is run, 1 to 1000000";
 
 const WORKERS: &str =
-    "How many threads share the work, 1 to 16; schedule seed takes one, and schedule round uses one";
+    "How many threads share the runs of schedule seed, 1 to 16; schedule round and a trace use one";
 
 const PRIVATE_WRITE: &str = "Lets a core that wrote a line store to it again without a later time";
 

@@ -2,19 +2,14 @@
 
 ghost use Rattle.std.specs.Prelude.{◌≡◌, ◌⊎◌, codes, map, IfOk, IfErr, List};
 ghost use Rattle.clap.specs.Words.{Text, found_of, kind_of, rows_of};
-ghost use Rattle.command_line.specs.Job.{Asks, IsAskedBy, IsFaulty, IsOfTooMany, IsRefusedFor};
-ghost use Rattle.command_line.specs.Job.{has_too_many_workers, too_many, words_number, workers_text};
+ghost use Rattle.command_line.specs.Job.{Asks, IsAskedBy, IsFaulty, IsRefusedFor, words_number};
 
 use crate::app::command;
 use crate::options::{litmus_options, trace_options, word_of};
 use clap::error::ErrorKind;
 use clap::{ArgMatches, Error};
-use run_options::{LitmusOptions, RunOptions, Schedule, TraceOptions};
+use run_options::{LitmusOptions, TraceOptions};
 use std::alloc::Global;
-
-// Why a job by schedule seed that asks for more workers than one is refused, as clap words a refusal.
-const TOO_MANY_WORKERS: &str =
-    "error: schedule seed has one worker: '--workers' must be 1\n\nFor more information, try '--help'.\n";
 
 /// What the words ask for.
 #[derive(Clone, Copy, Debug)]
@@ -70,39 +65,7 @@ fn job_of<'a>(name: &str, matches: &ArgMatches<'a>) -> Job<'a>
     }
 }
 
-/// Whether a run has more workers than its schedule takes.
-fn too_many(run: &RunOptions) -> bool
-    ensures { result ≡ too_many run.now.schedule run.now.workers }
-{
-    match run.schedule {
-        Schedule::Round => false,
-        Schedule::Seed => 1 < run.workers,
-    }
-}
-
-/// Whether a job has more workers than its schedule takes.
-fn has_too_many_workers(job: &Job<'_>) -> bool
-    ensures { result ≡ has_too_many_workers job.now }
-{
-    match job {
-        Job::Litmus(options, _) => too_many(&options.run),
-        Job::Trace(options, _) => too_many(&options.run),
-        Job::Check(_, _) => false,
-    }
-}
-
-/// The error with the text that says so.
-fn refused_workers(alloc: Global) -> WordsError
-    ensures { (words : List Text) → IsOfTooMany words workers_text → IsRefusedFor words result }
-{
-    match TOO_MANY_WORKERS.to_string(alloc) {
-        Ok(text) => WordsError::Refused(text),
-        Err(_) => WordsError::NoMemory,
-    }
-}
-
 /// The command that the words name, with its options and its files. The first word is the program's own name.
-/// A job by schedule seed has one worker, or the words are refused.
 pub fn read_words<'a>(alloc: Global, words: &'a [&'a str]) -> Result<Job<'a>, WordsError>
     ensures job { IfOk result (IsAskedBy (map (λ w. w.now) words.entry.now)) }
     ensures refused { IfErr result (IsRefusedFor (map (λ w. w.now) words.entry.now)) }
@@ -118,9 +81,5 @@ pub fn read_words<'a>(alloc: Global, words: &'a [&'a str]) -> Result<Job<'a>, Wo
     let Some((name, inner)) = matches.subcommand() else {
         unreachable!()
     };
-    let job = job_of(name, inner);
-    if has_too_many_workers(&job) {
-        return Err(refused_workers(alloc));
-    }
-    Ok(job)
+    Ok(job_of(name, inner))
 }

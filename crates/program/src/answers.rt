@@ -15,10 +15,12 @@ use byte_streams::{Sink, write_all};
 use command_line::{WordsError, read_words};
 use run_results::{Done, ErrorLine, RunError, error_line, exit_status};
 use std::alloc::Global;
+use std::thread::Threads;
 
 /// Does what the words ask for, and answers the exit status. A report goes to `out`; why there is none goes to
 /// `errors`, in one line, or in the lines of a command line's refusal. Errors of `errors` itself are told nowhere.
-pub fn answer<F: Files, K: Sink, E: Sink>(
+pub fn answer<R: Threads + Sync, F: Files, K: Sink, E: Sink>(
+    rt: &R,
     alloc: Global,
     files: &F,
     words: &[&str],
@@ -39,7 +41,7 @@ pub fn answer<F: Files, K: Sink, E: Sink>(
 {
     match read_words(alloc, words) {
         Ok(job) => {
-            let came = run_job(alloc, files, &job, out);
+            let came = run_job(rt, alloc, files, &job, out);
             tell_result(errors, &came);
             exit_status(&came)
         }

@@ -10,10 +10,12 @@ use report::run_litmus;
 use run_options::{LitmusOptions, TraceOptions};
 use run_results::{Done, RunError};
 use std::alloc::Global;
+use std::thread::Threads;
 use trace_report::{run_check, run_trace};
 
 /// Does a job, for which all files are opened first.
-pub(crate) fn run_job<F: Files, K: Sink>(
+pub(crate) fn run_job<R: Threads + Sync, F: Files, K: Sink>(
+    rt: &R,
     alloc: Global,
     files: &F,
     job: &Job<'_>,
@@ -23,7 +25,7 @@ pub(crate) fn run_job<F: Files, K: Sink>(
         job.now out.old out.new result }
 {
     match job {
-        Job::Litmus(options, name) => litmus_of(alloc, files.open(name), options, out),
+        Job::Litmus(options, name) => litmus_of(rt, alloc, files.open(name), options, out),
         Job::Trace(options, name) => trace_of(alloc, files.open(name), options, out),
         Job::Check(trace, records) => {
             let trace = files.open(trace);
@@ -34,7 +36,8 @@ pub(crate) fn run_job<F: Files, K: Sink>(
 }
 
 // Runs the litmus test of a file that was opened.
-fn litmus_of<S: Source + Drop, K: Sink>(
+fn litmus_of<R: Threads + Sync, S: Source + Drop, K: Sink>(
+    rt: &R,
     alloc: Global,
     opened: Result<S, DeviceError>,
     options: &LitmusOptions,
@@ -45,12 +48,13 @@ fn litmus_of<S: Source + Drop, K: Sink>(
         out.old out.new result }
 {
     match opened {
-        Ok(file) => litmus_on(alloc, file, options, out),
+        Ok(file) => litmus_on(rt, alloc, file, options, out),
         Err(DeviceError) => Err(RunError::Read),
     }
 }
 
-fn litmus_on<S: Source + Drop, K: Sink>(
+fn litmus_on<R: Threads + Sync, S: Source + Drop, K: Sink>(
+    rt: &R,
     alloc: Global,
     file: S,
     options: &LitmusOptions,
@@ -61,7 +65,7 @@ fn litmus_on<S: Source + Drop, K: Sink>(
         out.old out.new result }
 {
     let mut source = file;
-    run_litmus(alloc, &mut source, out, options)
+    run_litmus(rt, alloc, &mut source, out, options)
 }
 
 // Runs the trace of a file that was opened.

@@ -1,3 +1,5 @@
 mod Rows
 mod Sequential
 mod Refused
+mod SharedRuns
+mod SameBatches

@@ -1,3 +1,4 @@
 pub mod Runs
 pub mod Bytes
 pub mod Litmus
+pub mod Batches

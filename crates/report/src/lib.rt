@@ -5,6 +5,7 @@ mod batches;
 pub mod laws;
 mod litmus;
 mod one_run;
+mod shared_runs;
 mod sources;
 
 pub use batches::batch;
@@ -15,3 +16,4 @@ pub use report_text::litmus_text;
 pub use run_ends::{End, RunEnd};
 pub use run_options::{LitmusOptions, MachineOptions, RunOptions, Schedule};
 pub use run_results::{Done, RunError, exit_status};
+pub use shared_jobs::{Free, Gate};

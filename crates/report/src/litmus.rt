@@ -1,26 +1,36 @@
 //! From a source with a litmus text to a sink for its report.
-ghost use Rattle.std.specs.Prelude.{◌≡◌, ◌≢◌, IfErr, IfOk, IsErrOf};
-ghost use Rattle.std.specs.List.{list_all};
+ghost use Rattle.std.specs.Prelude.{◌≡◌, ◌≢◌, ◌<◌, ◌≤◌, IfErr, IfOk, IsErrOf, List, length, true, ℕ};
+ghost use Rattle.std.specs.List.{AllByRecursion, list_all};
+ghost use Rattle.litmus_reader.specs.Grammar.{IsTest};
+ghost use Rattle.litmus_reader.specs.TestViews.{test_of};
+ghost use Rattle.machine_table.specs.SetUp.{is_good};
 ghost use Rattle.report_parts.specs.Answers.{AreCounted, IsCutOff, IsReported};
+ghost use Rattle.report_parts.specs.SetUp.{policy_of};
 ghost use Rattle.report_text.specs.Ends.{ends_as};
 ghost use Rattle.report.specs.Bytes.{OfBytes};
-ghost use Rattle.report.specs.Litmus.{HasNoReport, IsLitmusReport, refusal};
+ghost use Rattle.report.specs.Batches.{workers_by};
+ghost use Rattle.report.specs.Litmus.{HasNoReport, HasOutcome, IsLitmusReport, refusal, turns};
+ghost use Rattle.report.specs.Runs.{AreFrom};
 
 use crate::batches::batch;
 use crate::sources::bytes_of;
 use byte_streams::{Sink, Source};
-use litmus_reader::{Kind, LitmusError, read};
+use interleaving_core::Config;
+use litmus_reader::{Kind, LitmusError, Test, read};
 use report_parts::{config_of, limit_of, policy_of, put_out};
 use report_text::litmus_text;
 use run_ends::{End, RunEnd};
-use run_options::LitmusOptions;
+use run_options::{LitmusOptions, RunOptions, Schedule};
 use run_results::{Done, RunError};
+use shared_jobs::Free;
 use std::alloc::{AllocError, Global};
+use std::thread::Threads;
 
 /// Reads a litmus test to the end of the source, runs it as the options say, and writes the report of the runs. Each
 /// end state in the report is an outcome of the sequential machine. Read goes before Litmus, that before BadConfig,
 /// and Write comes last; by an error but Write the sink is unchanged.
-pub fn run_litmus<S: Source, K: Sink>(
+pub fn run_litmus<R: Threads + Sync, S: Source, K: Sink>(
+    rt: &R,
     alloc: Global,
     source: &mut S,
     sink: &mut K,
@@ -44,7 +54,7 @@ pub fn run_litmus<S: Source, K: Sink>(
     ensures nothing { IfErr result (λ e. e ≢ RunError.Write → sink.new ≡ sink.old) }
 {
     let bytes = bytes_of(alloc, source)?;
-    let report = report_of(alloc, &bytes, options)?;
+    let report = report_of(rt, alloc, &bytes, options)?;
     let done = Done {
         all_done: report.all_done,
     };
@@ -59,7 +69,12 @@ struct Report {
 }
 
 // The report on the litmus test that these bytes are.
-fn report_of(alloc: Global, bytes: &[u8], options: &LitmusOptions) -> Result<Report, RunError>
+fn report_of<R: Threads + Sync>(
+    rt: &R,
+    alloc: Global,
+    bytes: &[u8],
+    options: &LitmusOptions,
+) -> Result<Report, RunError>
     ensures report { IfOk result (λ report.
         IsLitmusReport options.now bytes.now report.all_done report.text.items) }
     ensures refused { IfErr result (HasNoReport options.now bytes.now) }
@@ -71,8 +86,7 @@ fn report_of(alloc: Global, bytes: &[u8], options: &LitmusOptions) -> Result<Rep
     let Some(config) = config_of(&options.run.machine, test.threads() as u32) else {
         return Err(RunError::BadConfig);
     };
-    let (first, limit) = (policy_of(&options.run), limit_of(&options.run));
-    let Ok(runs) = batch(alloc, &test, config, first, options.runs, limit) else {
+    let Ok(runs) = runs_of(rt, alloc, &test, config, options) else {
         return Err(RunError::NoMemory);
     };
     match litmus_text(alloc, &test, &runs) {
@@ -81,6 +95,48 @@ fn report_of(alloc: Global, bytes: &[u8], options: &LitmusOptions) -> Result<Rep
             all_done: are_all_done(&runs),
         }),
         Err(AllocError) => Err(RunError::NoMemory),
+    }
+}
+
+// The runs of the test that the options ask for, on a machine that is set up so.
+fn runs_of<R: Threads + Sync>(
+    rt: &R,
+    alloc: Global,
+    test: &Test,
+    config: Config,
+    options: &LitmusOptions,
+) -> Result<Vec<RunEnd>, AllocError>
+    requires good { is_good config ≡ true }
+    requires cores { config.cores ≡ (test_of test.now).threads }
+    ensures count { IfOk result (λ runs. length runs.items ≡ options.now.runs) }
+    ensures each { IfOk result (λ runs. AreFrom (test_of test.now) config
+        (policy_of options.now.run) (turns options.now) 0 runs.items) }
+    ensures outcomes { IfOk result (λ runs. (text : List ℕ) → IsTest text (test_of test.now) →
+        AllByRecursion (HasOutcome (test_of test.now)) runs.items) }
+{
+    let run = &options.run;
+    let (first, limit, workers) = (policy_of(run), limit_of(run), workers_of(run));
+    batch(
+        rt,
+        alloc,
+        test,
+        config,
+        first,
+        options.runs,
+        limit,
+        workers,
+        &Free,
+    )
+}
+
+// How many threads share the runs: one by rounds, and by seeds as many as the options say, from 1 to 16.
+fn workers_of(options: &RunOptions) -> u32
+    ensures number { result ≡ workers_by options.now.schedule options.now.workers }
+    ensures few { (0 < result) × (result ≤ 16) }
+{
+    match options.schedule {
+        Schedule::Round => 1,
+        Schedule::Seed => options.workers.min(16).max(1) as u32,
     }
 }
 

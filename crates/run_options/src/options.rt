@@ -59,8 +59,8 @@ pub struct RunOptions {
     /// What opens the generator of schedule seed, in the first of several runs: run i, counted from 0, has this number
     /// plus i, modulo 2^64. Schedule round draws nothing.
     pub seed: u64,
-    /// How many threads share the work, 1 to 16. Schedule round uses one, whatever is said here; for schedule seed the
-    /// command line takes 1 alone.
+    /// How many threads share the runs of a litmus test by schedule seed, 1 to 16. Schedule round uses one, whatever is
+    /// said here, and so does a trace.
     pub workers: u64,
     /// How many rounds a run has at most, or turns by schedule seed: 1 to 4294967295.
     pub limit: u64,

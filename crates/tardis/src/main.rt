@@ -10,6 +10,7 @@ use program::{answer, refuse, refuse_memory};
 use std::alloc::AllocError;
 use std::io;
 use std::process::ExitCode;
+use std::thread::Threads;
 
 /// The words of the command line.
 fn words_of(rt: &HostRuntime) -> io::Result<Vec<String>> {
@@ -21,8 +22,9 @@ fn borrowed<'a>(rt: &HostRuntime, texts: &'a [String]) -> Result<Vec<&'a str>, A
     texts.iter().map(|text| text.as_str()).collect(rt.alloc())
 }
 
-/// The exit status. A word that is no text is a refused command line; whatever else fails here wants memory.
-fn status(rt: &HostRuntime) -> u8 {
+/// The exit status. A word that is no text is a refused command line; whatever else fails here wants memory. By `threads`
+/// the runs of a litmus test are shared.
+fn status<R: Threads + Sync>(rt: &HostRuntime, threads: &R) -> u8 {
     let mut out = ToWrite::new(rt.stdout());
     let mut errors = ToWrite::new(rt.stderr());
     let texts = match words_of(rt) {
@@ -32,11 +34,11 @@ fn status(rt: &HostRuntime) -> u8 {
     };
     let files = HostFiles { rt };
     match borrowed(rt, &texts) {
-        Ok(words) => answer(rt.alloc(), &files, &words, &mut out, &mut errors),
+        Ok(words) => answer(threads, rt.alloc(), &files, &words, &mut out, &mut errors),
         Err(AllocError) => refuse_memory(&mut errors),
     }
 }
 
 fn main(rt: HostRuntime) -> ExitCode {
-    ExitCode::from(status(&rt))
+    ExitCode::from(status(&rt, &rt))
 }

@@ -84,7 +84,7 @@ fn one_byte_a_call(rt: HostRuntime) -> Result<(), Fail> {
         inner: &mut out,
         calls: 1000,
     };
-    let done = report_from(rt.alloc(), reader, writer, 1);
+    let done = report_from(&rt, rt.alloc(), reader, writer, 1);
     assert_eq!(rt; done, Ok(Done { all_done: true }));
     assert!(rt; out.as_slice() == REPORT);
     Ok(())
@@ -98,7 +98,7 @@ fn the_longest_text_one_byte_a_call(rt: HostRuntime) -> Result<(), Fail> {
         calls: 70_000,
     };
     let mut out = Vec::new(rt.alloc());
-    let done = report_from(rt.alloc(), reader, &mut out, 1);
+    let done = report_from(&rt, rt.alloc(), reader, &mut out, 1);
     assert_eq!(rt; done, Ok(Done { all_done: true }));
     Ok(())
 }
@@ -112,7 +112,7 @@ fn a_reader_that_fails(rt: HostRuntime) -> Result<(), Fail> {
             inner: STORE_BUFFERING,
             calls,
         };
-        let done = report_from(rt.alloc(), reader, &mut out, 1);
+        let done = report_from(&rt, rt.alloc(), reader, &mut out, 1);
         assert_eq!(rt; done, Err(RunError::Read), "after {calls} calls");
         assert_eq!(rt; out.len(), 0, "after {calls} calls");
     }
@@ -128,7 +128,7 @@ fn a_writer_that_fails(rt: HostRuntime) -> Result<(), Fail> {
             inner: &mut out,
             calls: calls as u32,
         };
-        let done = report_from(rt.alloc(), STORE_BUFFERING, writer, 1);
+        let done = report_from(&rt, rt.alloc(), STORE_BUFFERING, writer, 1);
         assert_eq!(rt; done, Err(RunError::Write), "after {calls} calls");
         assert!(rt; out.as_slice() == &REPORT[..calls], "after {calls} calls");
     }

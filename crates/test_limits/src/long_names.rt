@@ -26,7 +26,7 @@ fn a_name_of_128_characters(rt: HostRuntime) -> Result<(), Fail> {
     let mut name = String::new(rt.alloc());
     repeat(&mut name, "n", 128)?;
     let report = report_of(rt.alloc(), &name, "x=0", "exists")?;
-    assert!(rt; gives(rt.alloc(), text.as_bytes(), 1, report.as_bytes()));
+    assert!(rt; gives(&rt, rt.alloc(), text.as_bytes(), 1, report.as_bytes()));
     Ok(())
 }
 
@@ -37,7 +37,7 @@ fn a_location_of_32_characters(rt: HostRuntime) -> Result<(), Fail> {
     repeat(&mut state, "l", 30)?;
     state.push_str("10=1")?;
     let report = report_of(rt.alloc(), "L", &state, "exists")?;
-    assert!(rt; gives(rt.alloc(), text.as_bytes(), 1, report.as_bytes()));
+    assert!(rt; gives(&rt, rt.alloc(), text.as_bytes(), 1, report.as_bytes()));
     Ok(())
 }
 
@@ -51,6 +51,6 @@ fn an_end_state_of_64_locations(rt: HostRuntime) -> Result<(), Fail> {
         state.push_str(&value)?;
     }
     let report = report_of(rt.alloc(), "L", &state, "forall")?;
-    assert!(rt; gives(rt.alloc(), text.as_bytes(), 1, report.as_bytes()));
+    assert!(rt; gives(&rt, rt.alloc(), text.as_bytes(), 1, report.as_bytes()));
     Ok(())
 }

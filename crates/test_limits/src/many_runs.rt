@@ -39,7 +39,7 @@ stale-hits 0
 
 #[test]
 fn a_thousand_runs(rt: HostRuntime) -> Result<(), Fail> {
-    assert!(rt; gives(rt.alloc(), STORE_BUFFERING, 1000, REPORT));
+    assert!(rt; gives(&rt, rt.alloc(), STORE_BUFFERING, 1000, REPORT));
     Ok(())
 }
 

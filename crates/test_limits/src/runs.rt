@@ -4,6 +4,7 @@ use litmus_reader::{Kind, read};
 use report::{Done, LitmusOptions, RunError, run_litmus};
 use std::alloc::Global;
 use std::io::{Read, Write};
+use std::thread::Threads;
 
 /// The options that the program has by default, for so many runs.
 pub(crate) fn options(runs: u64) -> LitmusOptions {
@@ -22,7 +23,8 @@ pub(crate) fn fault(alloc: Global, text: &[u8]) -> Option<(usize, Kind)> {
 }
 
 /// Runs what a reader gives, so often, and writes the report.
-pub(crate) fn report_from<R: Read + Drop, W: Write + Drop>(
+pub(crate) fn report_from<T: Threads + Sync, R: Read + Drop, W: Write + Drop>(
+    rt: &T,
     alloc: Global,
     reader: R,
     writer: W,
@@ -30,12 +32,18 @@ pub(crate) fn report_from<R: Read + Drop, W: Write + Drop>(
 ) -> Result<Done, RunError> {
     let mut source = FromRead::new(reader);
     let mut sink = ToWrite::new(writer);
-    run_litmus(alloc, &mut source, &mut sink, &options(runs))
+    run_litmus(rt, alloc, &mut source, &mut sink, &options(runs))
 }
 
 /// Whether a text is run so often, each run all done, and its report is this one.
-pub(crate) fn gives(alloc: Global, text: &[u8], runs: u64, report: &[u8]) -> bool {
+pub(crate) fn gives<T: Threads + Sync>(
+    rt: &T,
+    alloc: Global,
+    text: &[u8],
+    runs: u64,
+    report: &[u8],
+) -> bool {
     let mut out = Vec::new(alloc);
-    let done = report_from(alloc, text, &mut out, runs);
+    let done = report_from(rt, alloc, text, &mut out, runs);
     done == Ok(Done { all_done: true }) && out.as_slice() == report
 }

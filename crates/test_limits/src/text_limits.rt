@@ -111,7 +111,7 @@ fn texts_past_their_limits_are_refused(rt: HostRuntime) -> Result<(), Fail> {
 fn a_source_with_a_text_that_is_too_long(rt: HostRuntime) -> Result<(), Fail> {
     let text = with_bytes(rt.alloc(), BYTES + 1)?;
     let mut out = Vec::new(rt.alloc());
-    let done = report_from(rt.alloc(), text.as_bytes(), &mut out, 1);
+    let done = report_from(&rt, rt.alloc(), text.as_bytes(), &mut out, 1);
     let too_large = LitmusError {
         line: 1,
         kind: Kind::TooLarge,
@@ -285,7 +285,7 @@ fn texts_at_their_limits_are_run(rt: HostRuntime) -> Result<(), Fail> {
     for (index, (shape, report)) in RUN.iter().enumerate() {
         let text = text_of(rt.alloc(), shape)?;
         assert!(rt;
-            gives(rt.alloc(), text.as_bytes(), 1, report),
+            gives(&rt, rt.alloc(), text.as_bytes(), 1, report),
             "text {index}"
         );
     }
@@ -329,8 +329,8 @@ stale-hits 0
 fn many_registers_and_cells(rt: HostRuntime) -> Result<(), Fail> {
     let registers = with_registers(rt.alloc())?;
     let report = many_values(rt.alloc())?;
-    assert!(rt; gives(rt.alloc(), registers.as_bytes(), 1, report.as_bytes()));
+    assert!(rt; gives(&rt, rt.alloc(), registers.as_bytes(), 1, report.as_bytes()));
     let cells = with_cells(rt.alloc())?;
-    assert!(rt; gives(rt.alloc(), cells.as_bytes(), 1, CELLS));
+    assert!(rt; gives(&rt, rt.alloc(), cells.as_bytes(), 1, CELLS));
     Ok(())
 }

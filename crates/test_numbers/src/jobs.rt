@@ -1,11 +1,10 @@
 //! Batches of jobs: the same list for every number of workers, and two workers that do jobs at the same time.
 ghost use Rattle.std.specs.Prelude.{ℕ};
 
-use shared_jobs::{Free, Gate, Jobs, run_jobs};
+use shared_jobs::{Free, Jobs, run_jobs};
 use std::alloc::AllocError;
-use std::sync::atomic::{AtomicU64, Ordering};
 use std::test::Fail;
-use std::thread;
+use test_gates::Meeting;
 
 // Job n gives the square of n.
 struct Squares;
@@ -45,54 +44,13 @@ fn a_batch_may_have_no_job_or_fewer_than_workers(rt: HostRuntime) -> Result<(), 
     Ok(())
 }
 
-// A gate at which jobs 0 and 1 wait for each other, each for so many looks; it counts those that saw the other.
-#[derive(Drop)]
-struct Meeting {
-    flags: [AtomicU64; 2],
-    met: AtomicU64,
-    ended: AtomicU64,
-    looks: u32,
-}
-
-impl Meeting {
-    fn new(looks: u32) -> Meeting {
-        Meeting {
-            flags: [AtomicU64::new(0), AtomicU64::new(0)],
-            met: AtomicU64::new(0),
-            ended: AtomicU64::new(0),
-            looks,
-        }
-    }
-}
-
-impl Gate for Meeting {
-    fn before(&self, seat: u64, _turn: u64) {
-        if seat > 1 {
-            return;
-        }
-        let mine = seat as usize;
-        self.flags[mine].store(1, Ordering::SeqCst);
-        for _ in 0..self.looks {
-            if self.flags[1 - mine].load(Ordering::SeqCst) == 1 {
-                self.met.fetch_add(1, Ordering::SeqCst);
-                return;
-            }
-            thread::yield_now();
-        }
-    }
-
-    fn after(&self, _seat: u64, _turn: u64) {
-        self.ended.fetch_add(1, Ordering::SeqCst);
-    }
-}
-
 #[test]
 fn two_workers_do_jobs_at_the_same_time(rt: HostRuntime) -> Result<(), Fail> {
     let gate = Meeting::new(10_000_000);
     let list = run_jobs(&rt, rt.alloc(), &Squares, 2, 2, &gate)?;
     assert_eq!(rt; list.as_slice(), [0, 1].as_slice());
-    assert_eq!(rt; gate.met.load(Ordering::SeqCst), 2);
-    assert_eq!(rt; gate.ended.load(Ordering::SeqCst), 2);
+    assert_eq!(rt; gate.met(), 2);
+    assert_eq!(rt; gate.ended(), 2);
     Ok(())
 }
 
@@ -102,7 +60,7 @@ fn one_worker_does_one_job_after_the_other(rt: HostRuntime) -> Result<(), Fail> 
     let gate = Meeting::new(100);
     let list = run_jobs(&rt, rt.alloc(), &Squares, 2, 1, &gate)?;
     assert_eq!(rt; list.as_slice(), [0, 1].as_slice());
-    assert_eq!(rt; gate.met.load(Ordering::SeqCst), 1);
-    assert_eq!(rt; gate.ended.load(Ordering::SeqCst), 2);
+    assert_eq!(rt; gate.met(), 1);
+    assert_eq!(rt; gate.ended(), 2);
     Ok(())
 }

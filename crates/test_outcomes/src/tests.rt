@@ -6,6 +6,7 @@ use byte_streams::{FromRead, ToWrite};
 use report::{Done, LitmusOptions, MachineOptions, RunOptions, run_litmus};
 use std::alloc::Global;
 use std::test::Fail;
+use std::thread::Threads;
 
 const RUNS: u64 = 2;
 
@@ -55,11 +56,17 @@ fn must_finish(options: &LitmusOptions) -> bool {
 }
 
 // Whether a report says that a run of a test ended as it may, and each of its states is one of the ends.
-fn is_right(alloc: Global, case: &Case, options: &LitmusOptions, ends: &[End]) -> bool {
+fn is_right<R: Threads + Sync>(
+    rt: &R,
+    alloc: Global,
+    case: &Case,
+    options: &LitmusOptions,
+    ends: &[End],
+) -> bool {
     let mut out = Vec::new(alloc);
     let mut source = FromRead::new(case.text);
     let mut sink = ToWrite::new(&mut out);
-    match run_litmus(alloc, &mut source, &mut sink, options) {
+    match run_litmus(rt, alloc, &mut source, &mut sink, options) {
         Ok(Done { all_done }) => match runs_in(&out, ends) {
             Some(runs) => all_done == (runs == RUNS) && (all_done || !must_finish(options)),
             None => false,
@@ -69,9 +76,14 @@ fn is_right(alloc: Global, case: &Case, options: &LitmusOptions, ends: &[End]) -
 }
 
 // The first setting with which a test isn't reported rightly.
-fn wrong_setting(alloc: Global, case: &Case, ends: &[End]) -> Option<u64> {
+fn wrong_setting<R: Threads + Sync>(
+    rt: &R,
+    alloc: Global,
+    case: &Case,
+    ends: &[End],
+) -> Option<u64> {
     for setting in 0..SETTINGS {
-        if !is_right(alloc, case, &options(setting), ends) {
+        if !is_right(rt, alloc, case, &options(setting), ends) {
             return Some(setting);
         }
     }
@@ -93,7 +105,7 @@ fn each_reported_end_is_one_of_the_plain_machine(rt: HostRuntime) -> Result<(), 
     for (number, case) in CASES.iter().enumerate() {
         let ends = ends_of(rt.alloc(), &case.program)?;
         assert_eq!(rt;
-            wrong_setting(rt.alloc(), case, &ends),
+            wrong_setting(&rt, rt.alloc(), case, &ends),
             None,
             "in case {number}"
         );

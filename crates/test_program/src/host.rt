@@ -3,6 +3,7 @@
 use byte_streams::{DeviceError, FromRead, ToWrite};
 use program::{Files, answer};
 use std::alloc::Global;
+use std::thread::Threads;
 use test_devices::Limited;
 
 /// The name of the first file.
@@ -50,7 +51,13 @@ pub(crate) struct Answer {
 }
 
 /// The answer to words, where the output fails after so many writes of one byte.
-pub(crate) fn answered(alloc: Global, shelf: Shelf<'_>, words: &[&str], writes: u32) -> Answer {
+pub(crate) fn answered<R: Threads + Sync>(
+    rt: &R,
+    alloc: Global,
+    shelf: Shelf<'_>,
+    words: &[&str],
+    writes: u32,
+) -> Answer {
     let mut out = Vec::new(alloc);
     let mut errors = Vec::new(alloc);
     let mut sink = ToWrite::new(Limited {
@@ -63,7 +70,7 @@ pub(crate) fn answered(alloc: Global, shelf: Shelf<'_>, words: &[&str], writes: 
         step: 5,
         calls: ALL,
     });
-    let status = answer(alloc, &shelf, words, &mut sink, &mut error_sink);
+    let status = answer(rt, alloc, &shelf, words, &mut sink, &mut error_sink);
     Answer {
         status,
         out,

@@ -177,7 +177,7 @@ fn each_fault_is_told(rt: HostRuntime) {
             records: b"",
             reads: ALL,
         };
-        let told = answered(rt.alloc(), shelf, &["tardis", "litmus", NAME], ALL);
+        let told = answered(&rt, rt.alloc(), shelf, &["tardis", "litmus", NAME], ALL);
         assert_eq!(rt; told.status, 2);
         assert_eq!(rt; told.out.len(), 0);
         assert!(rt; told.errors.as_slice() == *line, "fault {number}");

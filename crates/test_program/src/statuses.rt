@@ -3,6 +3,7 @@ use crate::host::{ALL, Answer, NAME, Shelf, answered};
 use byte_streams::ToWrite;
 use program::{refuse, refuse_memory};
 use std::alloc::Global;
+use std::thread::Threads;
 
 // One thread stores 1 to x and loads it, on a machine of the defaults: the line is asked for once, and nothing is
 // sent back.
@@ -27,13 +28,13 @@ const ONE_ROUND: &[u8] =
 const EXHAUSTED: &[u8] =
     b"test S\nthreads 1\nruns 1\nall-done 0\nstalled 0\nlimit 0\nexhausted 1\nmemory 0\nstates 0\ncondition exists\nheld 0\nverdict no\ncompleted 0\nrenewals 0\nupgrades 0\nflushes 0\nwrite-backs 0\nstale-hits 0\n";
 
-fn told(alloc: Global, words: &[&str]) -> Answer {
+fn told<R: Threads + Sync>(rt: &R, alloc: Global, words: &[&str]) -> Answer {
     let shelf = Shelf {
         text: STORE,
         records: b"",
         reads: ALL,
     };
-    answered(alloc, shelf, words, ALL)
+    answered(rt, alloc, shelf, words, ALL)
 }
 
 #[test]
@@ -50,7 +51,7 @@ fn options_that_change_the_report(rt: HostRuntime) {
         ),
     ];
     for (words, status, report) in cases {
-        let told = told(rt.alloc(), words);
+        let told = told(&rt, rt.alloc(), words);
         assert_eq!(rt; told.status, status);
         assert!(rt; told.out.as_slice() == report);
         assert_eq!(rt; told.errors.len(), 0);
@@ -71,9 +72,29 @@ fn options_that_leave_the_report(rt: HostRuntime) {
         "--line-words=8",
         "--private-write",
     ] {
-        let told = told(rt.alloc(), &["tardis", "litmus", option, NAME]);
+        let told = told(&rt, rt.alloc(), &["tardis", "litmus", option, NAME]);
         assert_eq!(rt; told.status, 0, "{option}");
         assert!(rt; told.out.as_slice() == STORE_REPORT, "{option}");
+    }
+}
+
+#[test]
+fn workers_leave_the_report(rt: HostRuntime) {
+    let one = ["tardis", "litmus", "--schedule=seed", "--runs=40", NAME];
+    let wanted = told(&rt, rt.alloc(), &one);
+    assert_eq!(rt; wanted.status, 0);
+    for workers in ["--workers=2", "--workers=16"] {
+        let words = [
+            "tardis",
+            "litmus",
+            "--schedule=seed",
+            "--runs=40",
+            workers,
+            NAME,
+        ];
+        let told = told(&rt, rt.alloc(), &words);
+        assert_eq!(rt; told.status, 0, "{workers}");
+        assert!(rt; told.out.as_slice() == wanted.out.as_slice(), "{workers}");
     }
 }
 
@@ -89,7 +110,7 @@ fn each_option_reaches_the_machine(rt: HostRuntime) {
         "--line-words=2",
         "--messages=0",
     ] {
-        let told = told(rt.alloc(), &["tardis", "litmus", option, NAME]);
+        let told = told(&rt, rt.alloc(), &["tardis", "litmus", option, NAME]);
         assert_eq!(rt; told.status, 3, "{option}");
         assert_eq!(rt; told.out.len(), 0);
         assert!(rt;
@@ -107,12 +128,12 @@ fn refused_words(rt: HostRuntime) {
             b"error: invalid value '0' for '--limit <limit>': 0 is not in 1..=4294967295\n\nFor more information, try '--help'.\n",
         ),
         (
-            &["tardis", "litmus", "--schedule=seed", "--workers=2", NAME],
-            b"error: schedule seed has one worker: '--workers' must be 1\n\nFor more information, try '--help'.\n",
+            &["tardis", "litmus", "--schedule=seed", "--workers=17", NAME],
+            b"error: invalid value '17' for '--workers <workers>': 17 is not in 1..=16\n\nFor more information, try '--help'.\n",
         ),
     ];
     for (words, errors) in cases {
-        let told = told(rt.alloc(), words);
+        let told = told(&rt, rt.alloc(), words);
         assert_eq!(rt; told.status, 3);
         assert_eq!(rt; told.out.len(), 0);
         assert!(rt; told.errors.as_slice() == errors, "{words:?}");
@@ -127,14 +148,20 @@ fn devices_that_fail(rt: HostRuntime) {
         records: b"",
         reads,
     };
-    let none = answered(rt.alloc(), shelf(ALL), &["tardis", "litmus", "none"], ALL);
-    let read = answered(rt.alloc(), shelf(2), &words, ALL);
+    let none = answered(
+        &rt,
+        rt.alloc(),
+        shelf(ALL),
+        &["tardis", "litmus", "none"],
+        ALL,
+    );
+    let read = answered(&rt, rt.alloc(), shelf(2), &words, ALL);
     for told in [none, read] {
         assert_eq!(rt; told.status, 4);
         assert_eq!(rt; told.out.len(), 0);
         assert!(rt; told.errors.as_slice() == b"tardis: read failed\n".as_slice());
     }
-    let write = answered(rt.alloc(), shelf(ALL), &words, 6);
+    let write = answered(&rt, rt.alloc(), shelf(ALL), &words, 6);
     assert_eq!(rt; write.status, 4);
     assert!(rt; write.out.as_slice() == b"test S".as_slice());
     assert!(rt; write.errors.as_slice() == b"tardis: write failed\n".as_slice());

@@ -104,7 +104,7 @@ fn each_command_has_its_answer(rt: HostRuntime) {
             records: *records,
             reads: ALL,
         };
-        let told = answered(rt.alloc(), shelf, *words, ALL);
+        let told = answered(&rt, rt.alloc(), shelf, *words, ALL);
         assert_eq!(rt; told.status, *status, "case {number}");
         assert!(rt; told.out.as_slice() == *out, "case {number}");
         assert!(rt; told.errors.as_slice() == *errors, "case {number}");

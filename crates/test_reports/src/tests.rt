@@ -10,7 +10,13 @@ fn each_report_is_the_wanted_one(rt: HostRuntime) -> Result<(), Fail> {
         let mut out = Vec::new(rt.alloc());
         let mut source = FromRead::new(text);
         let mut sink = ToWrite::new(&mut out);
-        let done = run_litmus(rt.alloc(), &mut source, &mut sink, &LitmusOptions::DEFAULT);
+        let done = run_litmus(
+            &rt,
+            rt.alloc(),
+            &mut source,
+            &mut sink,
+            &LitmusOptions::DEFAULT,
+        );
         assert_eq!(rt; done, Ok(Done { all_done: true }));
         assert!(rt; out.as_slice() == report);
     }

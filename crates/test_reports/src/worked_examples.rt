@@ -4,6 +4,7 @@ use litmus_lexer::{Kind, LitmusError};
 use report::{Done, LitmusOptions, MachineOptions, RunError, RunOptions, run_litmus};
 use std::alloc::Global;
 use std::test::Fail;
+use std::thread::Threads;
 
 const STORE_BUFFERING: &[u8] =
     b"RISCV SB\n{ 0:x5=1; 0:x6=x; 0:x8=y; 1:x5=1; 1:x6=y; 1:x8=x; }\n P0          | P1          ;\n sw x5,0(x6) | sw x5,0(x6) ;\n lw x7,0(x8) | lw x7,0(x8) ;\nexists (0:x7=0 /\\ 1:x7=0)\n";
@@ -49,7 +50,8 @@ fn options(messages: u64, lease: u64) -> LitmusOptions {
 }
 
 // Runs a text, and puts the report after what was written.
-fn reported(
+fn reported<R: Threads + Sync>(
+    rt: &R,
     alloc: Global,
     text: &[u8],
     options: &LitmusOptions,
@@ -57,7 +59,7 @@ fn reported(
 ) -> Result<Done, RunError> {
     let mut source = FromRead::new(text);
     let mut sink = ToWrite::new(out);
-    run_litmus(alloc, &mut source, &mut sink, options)
+    run_litmus(rt, alloc, &mut source, &mut sink, options)
 }
 
 #[test]
@@ -70,7 +72,7 @@ fn reports(rt: HostRuntime) -> Result<(), Fail> {
     ];
     for (text, messages, all_done, report) in cases {
         let mut out = Vec::new(rt.alloc());
-        let done = reported(rt.alloc(), text, &options(messages, 10), &mut out);
+        let done = reported(&rt, rt.alloc(), text, &options(messages, 10), &mut out);
         assert_eq!(rt; done, Ok(Done { all_done }));
         assert!(rt; out.as_slice() == report);
     }
@@ -95,7 +97,7 @@ fn refusals_write_nothing(rt: HostRuntime) -> Result<(), Fail> {
     ];
     for (text, lease, error) in cases {
         let mut out = Vec::new(rt.alloc());
-        let refused = reported(rt.alloc(), text, &options(4096, lease), &mut out);
+        let refused = reported(&rt, rt.alloc(), text, &options(4096, lease), &mut out);
         assert_eq!(rt; refused, Err(error));
         assert_eq!(rt; out.len(), 0);
     }

@@ -5,9 +5,11 @@ use byte_streams::{FromRead, ToWrite};
 use report::{Done, RunError, run_litmus};
 use std::alloc::Global;
 use std::test::Fail;
+use std::thread::Threads;
 
 // Runs a text with options, and puts the report after what was written.
-fn report_on(
+fn report_on<R: Threads + Sync>(
+    rt: &R,
     alloc: Global,
     text: &[u8],
     given: &[Given],
@@ -15,7 +17,7 @@ fn report_on(
 ) -> Result<Done, RunError> {
     let mut source = FromRead::new(text);
     let mut sink = ToWrite::new(out);
-    run_litmus(alloc, &mut source, &mut sink, &options(given))
+    run_litmus(rt, alloc, &mut source, &mut sink, &options(given))
 }
 
 // Whether a report says that some run didn't end all done.
@@ -36,7 +38,7 @@ fn has_other_ends(report: &[u8]) -> bool {
 fn each_report_is_the_wanted_one(rt: HostRuntime) -> Result<(), Fail> {
     for (text, given, report) in &EXAMPLES {
         let mut out = Vec::new(rt.alloc());
-        let done = report_on(rt.alloc(), text, given, &mut out);
+        let done = report_on(&rt, rt.alloc(), text, given, &mut out);
         let all_done = !has_other_ends(report);
         assert_eq!(rt; done, Ok(Done { all_done }), "{given:?}");
         assert!(rt; out.as_slice() == *report, "{given:?}");

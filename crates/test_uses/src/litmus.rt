@@ -2,6 +2,7 @@
 use report::{LitmusOptions, RunError};
 use std::alloc::Global;
 use std::test::Fail;
+use std::thread::Threads;
 use uses::litmus::run_text;
 
 // One thread stores 1 to x, so each run ends with that.
@@ -12,15 +13,15 @@ const REPORT: &[u8] =
 condition exists\nheld 1\nverdict yes\ncompleted 1\nrenewals 0\nupgrades 0\nflushes 0\nwrite-backs 0\nstale-hits 0\n";
 
 // Whether the run is all done, with this report.
-fn is_reported(alloc: Global) -> Result<bool, RunError> {
-    let (done, report) = run_text(alloc, TEXT, &LitmusOptions::DEFAULT)?;
+fn is_reported<R: Threads + Sync>(rt: &R, alloc: Global) -> Result<bool, RunError> {
+    let (done, report) = run_text(rt, alloc, TEXT, &LitmusOptions::DEFAULT)?;
     Ok(done.all_done && report.as_slice() == REPORT)
 }
 
 #[test]
 fn a_text_in_memory_has_its_report(rt: HostRuntime) -> Result<(), Fail> {
-    assert!(rt; is_reported(rt.alloc()) == Ok(true));
-    let empty = run_text(rt.alloc(), b"", &LitmusOptions::DEFAULT);
+    assert!(rt; is_reported(&rt, rt.alloc()) == Ok(true));
+    let empty = run_text(&rt, rt.alloc(), b"", &LitmusOptions::DEFAULT);
     assert!(rt; matches!(empty, Err(RunError::Litmus(_))));
     Ok(())
 }

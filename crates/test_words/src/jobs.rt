@@ -97,7 +97,7 @@ fn all_options(rt: HostRuntime) -> Result<(), Fail> {
 }
 
 // Words, the schedule that they name, its seed and its workers.
-const SCHEDULES: [(&[&str], Schedule, u64, u64); 6] = [
+const SCHEDULES: [(&[&str], Schedule, u64, u64); 8] = [
     (
         &["tardis", "litmus", "--schedule", "seed", "a"],
         Schedule::Seed,
@@ -109,6 +109,18 @@ const SCHEDULES: [(&[&str], Schedule, u64, u64); 6] = [
         Schedule::Seed,
         0,
         1,
+    ),
+    (
+        &["tardis", "litmus", "--schedule=seed", "--workers", "2", "a"],
+        Schedule::Seed,
+        0,
+        2,
+    ),
+    (
+        &["tardis", "trace", "--workers=16", "a", "--schedule=seed"],
+        Schedule::Seed,
+        0,
+        16,
     ),
     (
         &[

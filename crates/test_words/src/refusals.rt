@@ -14,10 +14,7 @@ const TRACE: &str = "\n\nUsage: tardis trace [OPTIONS] <FILE>";
 
 const CHECK: &str = "\n\nUsage: tardis check <TRACE> <RECORDS>";
 
-// More workers than one, by schedule seed.
-const MANY: &str = "schedule seed has one worker: '--workers' must be 1";
-
-const REFUSED: [(&[&str], &str, &str); 36] = [
+const REFUSED: [(&[&str], &str, &str); 34] = [
     (
         &["tardis"],
         "'tardis' requires a subcommand but one was not provided\n  [subcommands: litmus, trace, check, help]",
@@ -112,24 +109,6 @@ const REFUSED: [(&[&str], &str, &str); 36] = [
     (
         &["tardis", "litmus", "--seed", "18446744073709551616", "a"],
         "invalid value '18446744073709551616' for '--seed <seed>': number too large to fit in target type",
-        NO_USAGE,
-    ),
-    (
-        &[
-            "tardis",
-            "litmus",
-            "--schedule",
-            "seed",
-            "--workers",
-            "2",
-            "a",
-        ],
-        MANY,
-        NO_USAGE,
-    ),
-    (
-        &["tardis", "trace", "--workers=16", "a", "--schedule=seed"],
-        MANY,
         NO_USAGE,
     ),
     (
@@ -243,8 +222,8 @@ const LITMUS_HELP: [&str; 24] = [
         several, counted from 0, has this number plus i [default: 0]",
     "      --limit <limit>            How many rounds a run has at most, or turns by schedule seed, 1 to 4294967295 \
         [default: 100000]",
-    "      --workers <workers>        How many threads share the work, 1 to 16; schedule seed takes one, and schedule \
-        round uses one [default: 1]",
+    "      --workers <workers>        How many threads share the runs of schedule seed, 1 to 16; schedule round and a \
+        trace use one [default: 1]",
     "      --private-write            Lets a core that wrote a line store to it again without a later time",
     "      --lease <lease>            How many ticks a lease goes past the times that it covers, 1 to 4294967296 \
         [default: 10]",
@@ -276,8 +255,8 @@ const TRACE_HELP: [&str; 24] = [
         several, counted from 0, has this number plus i [default: 0]",
     "      --limit <limit>            How many rounds a run has at most, or turns by schedule seed, 1 to 4294967295 \
         [default: 100000]",
-    "      --workers <workers>        How many threads share the work, 1 to 16; schedule seed takes one, and schedule \
-        round uses one [default: 1]",
+    "      --workers <workers>        How many threads share the runs of schedule seed, 1 to 16; schedule round and a \
+        trace use one [default: 1]",
     "      --private-write            Lets a core that wrote a line store to it again without a later time",
     "      --lease <lease>            How many ticks a lease goes past the times that it covers, 1 to 4294967296 \
         [default: 10]",

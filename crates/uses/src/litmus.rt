@@ -4,10 +4,12 @@ ghost use Rattle.report.specs.Litmus.{IsLitmusReport};
 
 use report::{Done, FromRead, LitmusOptions, RunError, ToWrite, run_litmus};
 use std::alloc::Global;
+use std::thread::Threads;
 
-/// Runs the test as the options say. Whether every run was all done, and the report: each end state in it is one that
-/// sequential consistency allows.
-pub fn run_text(
+/// Runs the test as the options say; runs by seeds may be shared by threads. Whether every run was all done, and the
+/// report: each end state in it is one that sequential consistency allows.
+pub fn run_text<R: Threads + Sync>(
+    rt: &R,
     alloc: Global,
     text: &[u8],
     options: &LitmusOptions,
@@ -17,6 +19,6 @@ pub fn run_text(
 {
     let mut source = FromRead::new(text);
     let mut sink = ToWrite::new(Vec::new(alloc));
-    let done = run_litmus(alloc, &mut source, &mut sink, options)?;
+    let done = run_litmus(rt, alloc, &mut source, &mut sink, options)?;
     Ok((done, sink.into_inner()))
 }

@@ -1,4 +1,4 @@
-use Rattle.std.proofs.Common.{◌≡◌, ◌∙◌, refl, sym, map, true, false, true≢false}
+use Rattle.std.proofs.Common.{◌≡◌, ◌∙◌, sym, map, true, false, true≢false}
 use Rattle.clap.specs.declared.error.kind.ErrorKind.TheVariants.{OutOfMemory}
 use Rattle.command_line.proofs.Found.{found_is, has_fault, is_named, no_fault}
 use Rattle.command_line.proofs.HelpIsRefused.{one_is_named}
@@ -16,25 +16,17 @@ returns-in-Err-2-clause-refused c =
           absurd (true≢false (sym bad))),
     )
 
-pub job_of-job-requires : goal.job_of-job-requires
-job_of-job-requires c =
+pub job_of-requires : goal.job_of-requires
+job_of-requires c =
     let e = c.in-Ok.ensures.app in
     one_is_named e.0 (map (λ w. w.now) c.args.words.now) _ _
     (no_fault _ e.0 _ e.2 c.in-Ok-try_get_matches_from.ensures.kinds)
     (found_is _ e.0 _ _ _ _ e.2 c.in-Ok-try_get_matches_from.ensures.matches c.in-Some.ensures.name
     c.in-Some.ensures.rows)
 
-pub returns-then-has_too_many_workers-clause-refused : goal.returns-then-has_too_many_workers-clause-refused
-returns-then-has_too_many_workers-clause-refused c =
-    let e = c.in-Ok.ensures.app in
-    let words = map (λ w. w.now) c.args.words.now in
-    let named = is_named _ e.0 words _ _ _ _ e.1 e.2 c.in-Ok-try_get_matches_from.ensures.kinds
-    c.in-Ok-try_get_matches_from.ensures.matches c.in-Some.ensures.name c.in-Some.ensures.rows c.job_of-job.ensures in
-    c.refused_workers.ensures words (refl, c.job_of-job.result, named, cc)
-
 pub returns-clause-job : goal.returns-clause-job
 returns-clause-job c =
     let e = c.in-Ok.ensures.app in
-    let named = is_named _ e.0 (map (λ w. w.now) c.args.words.now) _ _ _ _ e.1 e.2
+    is_named _ e.0 (map (λ w. w.now) c.args.words.now) _ _ _ _ e.1 e.2
     c.in-Ok-try_get_matches_from.ensures.kinds c.in-Ok-try_get_matches_from.ensures.matches c.in-Some.ensures.name
-    c.in-Some.ensures.rows c.job_of-job.ensures in (named, cc)
+    c.in-Some.ensures.rows c.job_of.ensures

@@ -4,7 +4,7 @@ use Rattle.report.proofs.Refused.{refused}
 use Rattle.report.proofs.litmus.report_of.Goals as goal
 
 pub returns-in-Err-clause-refused : goal.returns-in-Err-clause-refused
-returns-in-Err-clause-refused c =
+returns-in-Err-clause-refused g c =
     subst (HasNoReport c.args.options.now c.args.bytes.now) (sym c.refusal.ensures)
     (refused c.args.options.now c.args.bytes.now c.in-Err.error c.in-Err.ensures.fault c.in-Err.ensures.only
     c.in-Err.ensures.told c.in-Err.ensures.early)

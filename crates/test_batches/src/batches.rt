@@ -1,0 +1,94 @@
+//! Runs of store buffering by seeds: the same list for every number of workers, and two workers that run at the same
+//! time.
+ghost use Rattle.std.specs.Prelude.{◌<◌, ◌≤◌};
+
+use litmus_reader::read;
+use report::{End, Free, Gate, MachineOptions, RunEnd, batch};
+use report_parts::config_of;
+use std::alloc::Global;
+use std::test::Fail;
+use std::thread::Threads;
+use test_gates::Meeting;
+use worker_driver::Policy;
+
+const STORE_BUFFERING: &[u8] =
+    b"RISCV SB\n{ 0:x5=1; 0:x6=x; 0:x8=y; 1:x5=1; 1:x6=y; 1:x8=x; }\n P0 | P1 ;\n sw x5,0(x6) | sw x5,0(x6) ;\n\
+ lw x7,0(x8) | lw x7,0(x8) ;\nexists (0:x7=0 /\\ 1:x7=0)\n";
+
+const LIMIT: u32 = 100_000;
+
+// Runs by the seeds from 0 on, on a machine of the defaults.
+fn runs_by<R: Threads + Sync, G: Gate + Sync>(
+    rt: &R,
+    alloc: Global,
+    count: u64,
+    workers: u32,
+    gate: &G,
+) -> Result<Vec<RunEnd>, &'static str>
+    requires { (0 < workers) × (workers ≤ 16) }
+{
+    let Ok(test) = read(alloc, STORE_BUFFERING) else {
+        return Err("the text is a test");
+    };
+    let Some(config) = config_of(&MachineOptions::DEFAULT, test.threads() as u32) else {
+        return Err("the machine is good");
+    };
+    let first = Policy::Seed(0);
+    match batch(rt, alloc, &test, config, first, count, LIMIT, workers, gate) {
+        Ok(runs) => Ok(runs),
+        Err(_) => Err("there is memory"),
+    }
+}
+
+// Whether two runs are the same in all that is told of them.
+fn are_same(run: &RunEnd, other: &RunEnd) -> bool {
+    let states = match (&run.state, &other.state) {
+        (Some(state), Some(others)) => state.values() == others.values(),
+        (None, None) => true,
+        _ => false,
+    };
+    states
+        && run.end == other.end
+        && run.completed == other.completed
+        && run.stale == other.stale
+        && run.counts == other.counts
+}
+
+#[test]
+fn every_number_of_workers_gives_the_same_list(rt: HostRuntime) -> Result<(), Fail> {
+    let alone = runs_by(&rt, rt.alloc(), 100, 1, &Free)?;
+    assert_eq!(rt; alone.len(), 100);
+    for workers in [3, 16] {
+        let shared = runs_by(&rt, rt.alloc(), 100, workers, &Free)?;
+        assert_eq!(rt; shared.len(), alone.len());
+        for i in 0..alone.len().min(shared.len()) {
+            assert!(rt; alone[i].end != End::NoMemory, "run {i}");
+            assert!(rt;
+                are_same(&alone[i], &shared[i]),
+                "run {i} by {workers} workers"
+            );
+        }
+    }
+    Ok(())
+}
+
+#[test]
+fn two_workers_run_at_the_same_time(rt: HostRuntime) -> Result<(), Fail> {
+    let gate = Meeting::new(10_000_000);
+    let runs = runs_by(&rt, rt.alloc(), 2, 2, &gate)?;
+    assert_eq!(rt; runs.len(), 2);
+    assert_eq!(rt; gate.met(), 2);
+    assert_eq!(rt; gate.ended(), 2);
+    Ok(())
+}
+
+// Run 0 ends before run 1 begins, so run 0 looks for the other in vain.
+#[test]
+fn one_worker_makes_one_run_after_the_other(rt: HostRuntime) -> Result<(), Fail> {
+    let gate = Meeting::new(100);
+    let runs = runs_by(&rt, rt.alloc(), 2, 1, &gate)?;
+    assert_eq!(rt; runs.len(), 2);
+    assert_eq!(rt; gate.met(), 1);
+    assert_eq!(rt; gate.ended(), 2);
+    Ok(())
+}

@@ -1,0 +1,6 @@
+//! Gates for tests of workers.
+#![tactic(auto)]
+
+mod meeting;
+
+pub use meeting::Meeting;

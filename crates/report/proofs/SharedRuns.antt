@@ -1,15 +1,14 @@
 -- Runs by the numbers of their jobs are the runs of a batch, one after the other.
-use Rattle.std.proofs.Common.{◌≡◌, ℕ, zero, suc, ◌+◌, ◌<◌, List, [], ◌∷◌, length, subst, arith}
+use Rattle.std.proofs.Common.{◌≡◌, ℕ, suc, ◌+◌, ◌<◌, List, [], ◌∷◌, length, subst, arith}
 use Rattle.std.specs.List.{AllByRecursion, slice_index_or}
 use Rattle.litmus_reader.specs.Grammar.{IsTest}
 use Rattle.litmus_reader.specs.Litmus.{Litmus}
 use Rattle.machine_table.specs.declared.config.Config.{Config}
 use Rattle.run_ends.specs.declared.ends.RunEnd.{RunEnd}
-use Rattle.worker_driver.specs.Batches.{policy_of_run}
 use Rattle.worker_driver.specs.declared.policy.Policy.{Policy}
 use Rattle.report.specs.Batches.{IsJobOf}
 use Rattle.report.specs.Litmus.{HasOutcome}
-use Rattle.report.specs.Runs.{AreFrom, IsRun}
+use Rattle.report.specs.Runs.{AreFrom}
 
 module _ (test : Litmus) (config : Config) (first : Policy) (limit : ℕ) where
   -- the run at each place is that of the job which has this number, counted from i on

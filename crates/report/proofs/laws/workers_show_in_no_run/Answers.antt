@@ -1,4 +1,4 @@
-use Rattle.std.proofs.Common.{ℕ, List, ap, ◌∙◌}
+use Rattle.std.proofs.Common.{ap, ◌∙◌}
 use Rattle.report.specs.Runs.{state_at}
 use Rattle.report.proofs.SameBatches.{same_at, same_lists}
 use Rattle.report.proofs.laws.workers_show_in_no_run.Goals as goal

@@ -1,5 +1,5 @@
 -- What the constants of a case stand for.
-use Rattle.std.specs.Prelude.{ℕ, ◌%◌, List, map, Option, Some, None}
+use Rattle.std.specs.Prelude.{ℕ, ◌%◌, Option, Some, None}
 use Rattle.physiological_order.specs.declared.operation.Op.{Op}
 use Rattle.physiological_order.specs.declared.operation.Op.TheVariants as operation
 use Rattle.trace_lines.specs.declared.steps.Step.{Step}

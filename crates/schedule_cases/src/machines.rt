@@ -1,7 +1,8 @@
 //! Fresh machines, and programs of a case's constants.
-ghost use Rattle.std.specs.Prelude.{◌≡◌, IfOk, length};
+ghost use Rattle.std.specs.Prelude.{◌≡◌, IfOk, map};
 ghost use Rattle.std.specs.FinMap as finite;
 ghost use Rattle.machine_table.specs.Opening.{at_start};
+ghost use Rattle.schedule_cases.specs.Cases.{step_of};
 
 use crate::cases::On;
 use crate::texts::step;
@@ -20,7 +21,9 @@ pub fn machine(alloc: Global, config: Config) -> Result<System, AllocError>
     }
 }
 
-fn steps(alloc: Global, list: &[On]) -> Result<Vec<Step>, AllocError> {
+fn steps(alloc: Global, list: &[On]) -> Result<Vec<Step>, AllocError>
+    ensures { IfOk result (λ steps. steps.items ≡ map step_of list.now) }
+{
     // The check finds what a step holds only where the function names its type.
     let _inside: Option<Op> = None;
     let mut steps = Vec::new(alloc);
@@ -31,7 +34,10 @@ fn steps(alloc: Global, list: &[On]) -> Result<Vec<Step>, AllocError> {
 }
 
 /// The steps of each program.
-pub fn steps_of(alloc: Global, programs: &[&'static [On]]) -> Result<Vec<Vec<Step>>, AllocError> {
+pub fn steps_of(alloc: Global, programs: &[&'static [On]]) -> Result<Vec<Vec<Step>>, AllocError>
+    ensures { IfOk result (λ all. map (λ steps. steps.items) all.items
+        ≡ map (λ list. map step_of list.now) programs.now) }
+{
     let _inside: Option<Op> = None;
     let mut all = Vec::new(alloc);
     for list in programs {
@@ -45,7 +51,7 @@ pub fn programs<'a>(
     alloc: Global,
     lists: &'a [Vec<Step>],
 ) -> Result<Vec<StepProgram<'a>>, AllocError>
-    ensures { IfOk result (λ programs. length programs.items ≡ length lists.now) }
+    ensures { IfOk result (λ programs. programs.items ≡ map (λ steps. steps.items) lists.now) }
 {
     let mut programs = Vec::new(alloc);
     for at in 0..lists.len() {

@@ -1,5 +1,5 @@
 //! What a case's constants stand for, and events compared with them.
-ghost use Rattle.std.specs.Prelude.{◌≡◌, ◌%◌};
+ghost use Rattle.std.specs.Prelude.{◌≡◌, ◌≢◌, ◌%◌, false, map, true};
 ghost use Rattle.schedule_cases.specs.Cases.{event_of, op_of, step_event, step_of};
 
 use crate::cases::{Made, On};
@@ -59,7 +59,10 @@ fn event(made: &Made) -> Event
 }
 
 /// Whether these are the events, in order.
-pub fn are_events(events: &[Event], wanted: &[Made]) -> bool {
+pub fn are_events(events: &[Event], wanted: &[Made]) -> bool
+    ensures yes { result ≡ true → events.now ≡ map event_of wanted.now }
+    ensures no { result ≡ false → events.now ≢ map event_of wanted.now }
+{
     let mut left = wanted;
     for given in events {
         let Some((made, rest)) = left.split_first() else {

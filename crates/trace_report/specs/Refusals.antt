@@ -1,5 +1,6 @@
 -- Why a text of a trace or of records is refused.
 use Rattle.std.specs.Prelude.{◌≡◌, ◌≢◌, ◌<◌, ℕ, List, [], Option, Result, Ok, Err, IfSome}
+use Rattle.run_results.specs.declared.results.Done.{Done}
 use Rattle.run_results.specs.declared.results.RunError.{RunError}
 use Rattle.run_results.specs.declared.results.RunError.TheVariants.{Read, Write, NoMemory, Litmus, Trace, BadConfig}
 use Rattle.trace_lines.specs.declared.errors.Kind.{Kind}
@@ -42,3 +43,10 @@ IsUnread IsFaultOf Wants before after (Trace e) = (after ≡ before) × IsFaultO
 IsUnread IsFaultOf Wants before after Write = ⊥
 IsUnread IsFaultOf Wants before after (Litmus e) = ⊥
 IsUnread IsFaultOf Wants before after BadConfig = ⊥
+
+-- what is so if the answer is one that comes only after each text was accepted
+abbrev pub OnAccepted : Result Done RunError → Type 0 → Type 0
+OnAccepted (Ok done) Said = Said
+OnAccepted (Err Write) Said = Said
+OnAccepted (Err BadConfig) Said = Said
+OnAccepted (Err e) Said = Unit {0}

@@ -1,8 +1,9 @@
 //! From two sources, with the texts of a trace and of records, to a sink for the line of the verdict.
-ghost use Rattle.std.specs.Prelude.{◌≡◌, ◌≢◌, ◌<◌, ◌⊎◌, IfErr, IfOk, IsErrOf, List};
+ghost use Rattle.std.specs.Prelude.{◌≡◌, ◌≢◌, ◌<◌, ◌⊎◌, IfErr, IfOk, IfSome, IsErrOf, List, OnOk};
+ghost use Rattle.byte_streams.specs.Device.{AtEnd};
 ghost use Rattle.report_parts.specs.Answers.{IsCutOff, IsReported};
 ghost use Rattle.trace_lines.specs.declared.steps.Step.{Step};
-ghost use Rattle.trace_report.specs.Refusals.{IsRead};
+ghost use Rattle.trace_report.specs.Refusals.{IsRead, OnAccepted};
 ghost use Rattle.trace_report.specs.Verdicts.{HasNoVerdict, IsCheckReport, IsVerdictLine};
 ghost use Rattle.trace_report.specs.Verdicts.{ReadsCounted, WritesCounted, is_legal};
 
@@ -41,6 +42,12 @@ pub fn run_check<S: Source, R: Source, K: Sink>(
         ⊎ ((lanes : List (List Step)) × IsRead (S.remaining trace.old) lanes) }
     ensures untouched { S.failures trace.old < S.failures trace.new → records.new ≡ records.old }
 
+    // Texts that were accepted were read to their end.
+    ensures trace_end { OnAccepted result (IfSome (S.remaining trace.old)
+        (λ known. AtEnd (S.remaining trace.new))) }
+    ensures records_end { OnAccepted result (IfSome (R.remaining records.old)
+        (λ known. AtEnd (R.remaining records.new))) }
+
     // Failures are told, and nothing else is written.
     ensures reads { ReadsCounted result
         (S.failures trace.old) (S.failures trace.new)
@@ -71,6 +78,10 @@ fn verdict_on<S: Source, R: Source>(
     ensures later { (records.new ≡ records.old)
         ⊎ ((lanes : List (List Step)) × IsRead (S.remaining trace.old) lanes) }
     ensures untouched { S.failures trace.old < S.failures trace.new → records.new ≡ records.old }
+    ensures trace_end { OnOk result (IfSome (S.remaining trace.old)
+        (λ known. AtEnd (S.remaining trace.new))) }
+    ensures records_end { OnOk result (IfSome (R.remaining records.old)
+        (λ known. AtEnd (R.remaining records.new))) }
     ensures reads { ReadsCounted result
         (S.failures trace.old) (S.failures trace.new)
         (R.failures records.old) (R.failures records.new) }

@@ -1,8 +1,10 @@
 //! From a source with the text of a trace to a sink for its report.
-ghost use Rattle.std.specs.Prelude.{◌≡◌, ◌≢◌, IfErr, IfOk, IsErrOf, false, true};
+ghost use Rattle.std.specs.Prelude.{◌≡◌, ◌≢◌, IfErr, IfOk, IfSome, IsErrOf, false, true};
+ghost use Rattle.byte_streams.specs.Device.{AtEnd};
 ghost use Rattle.machine_table.specs.SetUp.{is_good};
 ghost use Rattle.report_parts.specs.Answers.{AreCounted, IsCutOff, IsReported};
 ghost use Rattle.report_parts.specs.SetUp.{config_of};
+ghost use Rattle.trace_report.specs.Refusals.{OnAccepted};
 ghost use Rattle.trace_report.specs.Reports.{HasNoReport, HasNoRun, IsTraceReport, Tells};
 ghost use Rattle.trace_report.specs.Runs.{core_count, is_all_done};
 
@@ -37,6 +39,10 @@ pub fn run_trace<S: Source, K: Sink>(
     ensures cut_off { IsErrOf result RunError.Write →
         (all_done : _) × IsCutOff (IsTraceReport options.now (S.remaining source.old) all_done)
         (K.contents sink.old) (K.contents sink.new) }
+
+    // A trace that was accepted was read to its end.
+    ensures end { OnAccepted result (IfSome (S.remaining source.old)
+        (λ known. AtEnd (S.remaining source.new))) }
 
     // Failures are told, and nothing else is written.
     ensures counted { AreCounted result

@@ -1,5 +1,6 @@
 //! The texts of traces and of records from their sources.
-ghost use Rattle.std.specs.Prelude.{◌≡◌, IfOk, IfErr, OnOk};
+ghost use Rattle.std.specs.Prelude.{◌≡◌, IfOk, IfErr, IfSome, OnOk};
+ghost use Rattle.byte_streams.specs.Device.{AtEnd};
 ghost use Rattle.trace_reader.specs.Reading.{read_at, records_at};
 ghost use Rattle.trace_report.specs.Refusals.{IsRead, IsUnread, WantsMemory, refusal};
 ghost use Rattle.trace_report.specs.Reports.{IsTraceFault};
@@ -26,6 +27,8 @@ fn refusal(error: TraceError) -> RunError
 /// The trace that is all that the source has.
 pub(crate) fn trace_of<S: Source>(alloc: Global, source: &mut S) -> Result<Trace, RunError>
     ensures read { IfOk result (IsRead (S.remaining source.old)) }
+    ensures end { OnOk result (IfSome (S.remaining source.old)
+        (λ known. AtEnd (S.remaining source.new))) }
     ensures none_failed { OnOk result (S.failures source.new ≡ S.failures source.old) }
     ensures refused { IfErr result (IsUnread (IsTraceFault (S.remaining source.old))
         (WantsMemory read_at (S.remaining source.old))
@@ -40,6 +43,8 @@ pub(crate) fn trace_of<S: Source>(alloc: Global, source: &mut S) -> Result<Trace
 /// The records that are all that the source has.
 pub(crate) fn records_of<S: Source>(alloc: Global, source: &mut S) -> Result<Vec<Record>, RunError>
     ensures read { IfOk result (λ records. AreRead (S.remaining source.old) records.items) }
+    ensures end { OnOk result (IfSome (S.remaining source.old)
+        (λ known. AtEnd (S.remaining source.new))) }
     ensures none_failed { OnOk result (S.failures source.new ≡ S.failures source.old) }
     ensures refused { IfErr result (IsUnread (IsRecordsFault (S.remaining source.old))
         (WantsMemory records_at (S.remaining source.old))

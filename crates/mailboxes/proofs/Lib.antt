@@ -7,6 +7,7 @@ mod LinkEnds
 mod MergedRecords
 mod NewSeats
 mod OneStates
+mod OwnMessages
 mod Outboxes
 mod Sweeps
 mod RunStates

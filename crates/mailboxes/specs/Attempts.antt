@@ -23,6 +23,6 @@ pub record IsCompletion (p : CoreState) (op : Op) (place : ℕ) (received : Opti
 -- the seat completed its open operation with this record, which it drew the number of
 abbrev pub Completes : Machine → Record → CoreSeat → CoreSeat → Type 0
 Completes m r p q =
-    IsCompletion p.core r.op r.place r.received r.ts q.core
-    × (r ≡ record_of p.mail.number r.number p.core r.op r.received r.ts)
-    × finished m.set_up (seat_count m.set_up) q.core r.op r.received r.ts p.mail.seat.me r.number q.mail.seat.me
+    IsCompletion p.part.core r.op r.place r.received r.ts q.part.core
+    × (r ≡ record_of p.mail.number r.number p.part.core r.op r.received r.ts)
+    × finished m.set_up (seat_count m.set_up) q.part.core r.op r.received r.ts p.mail.seat.me r.number q.mail.seat.me

@@ -6,4 +6,6 @@ pub mod Places
 pub mod Remains
 pub mod RunParts
 pub mod Seats
+pub mod Sending
+pub mod Stored
 pub mod Ties

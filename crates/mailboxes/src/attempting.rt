@@ -77,11 +77,12 @@ impl CoreSeat {
     pub(crate) fn complete(&mut self, machine: &Machine) -> Option<Record>
         requires { IsCoreSeat machine.now self.old }
         ensures seat { IsCoreSeat machine.now self.new × SamePlace self.old self.new }
+        ensures outbox { self.new.part.outbox ≡ self.old.part.outbox }
         ensures completed { MatchOption result (hold self.new.mail ≡ hold self.old.mail)
             (λ r. Completes machine.now r self.old self.new) }
         ensures stopped { self.new.is_stopped ≡ self.old.is_stopped }
     {
-        let Some(done) = completed(&mut self.core) else {
+        let Some(done) = completed(&mut self.part.core) else {
             return None;
         };
         let word = machine.table.slot_count();
@@ -92,7 +93,7 @@ impl CoreSeat {
             &done.op,
             done.received,
             done.ts,
-            &self.core,
+            &self.part.core,
         );
         self.records
             .push_reserved(record_of(self.mail.number, &done, number));

@@ -1,3 +1,7 @@
+mod BankAfter
+mod BankEnds
+mod BankMoves
+mod BankReactions
 mod ClosedParts
 mod ClosedCores
 mod CoreMoves

@@ -2,7 +2,10 @@
 #![tactic(auto)]
 
 mod attempting;
+mod bank_calls;
+mod bank_receiver;
 mod bank_seat;
+mod bank_serving;
 mod changes;
 mod closed_machine;
 mod closing;
@@ -10,6 +13,7 @@ mod completions;
 mod core_calls;
 mod core_seat;
 mod ends;
+mod evicting;
 mod links;
 mod machine;
 mod mailbox;
@@ -30,6 +34,7 @@ mod whole;
 pub use bank_seat::BankSeat;
 pub use closed_machine::{BankPart, CorePart};
 pub use core_seat::CoreSeat;
+pub use evicting::Eviction;
 pub use machine::Machine;
 pub use mailbox::Mailbox;
 pub use opening::open;

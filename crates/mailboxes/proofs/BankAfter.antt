@@ -63,7 +63,7 @@ module _ (cores banks number : ℕ) where
   linked-more (x ∷ ms) s all one zero m e = all zero m e
   linked-more (x ∷ ms) s all one (suc k) m e = linked-more ms s (λ j y f. all (suc j) y f) one k m e
 
-  abbrev not-own : Message → ℕ
+  abbrev pub not-own : Message → ℕ
   not-own m = cond (is_own cores number m.to) 0 1
 
   own-weighs : (m : Message) → is_own cores number m.to ≡ true → not-own m ≡ 0
@@ -73,7 +73,7 @@ module _ (cores banks number : ℕ) where
   weighs-own true e = refl
   weighs-own false e = absurd (omega (arith, e))
 
-  own-list : (b : InboxState Message) → AllOwn cores number b → weigh not-own (messages_of b) ≡ 0
+  pub own-list : (b : InboxState Message) → AllOwn cores number b → weigh not-own (messages_of b) ≡ 0
   own-list b own =
       let hand = hand-own b.hand own.hand in
       let held = all-zero not-own b.held (λ k m e. own-weighs m (own.held k m e)) in
@@ -109,7 +109,7 @@ module _ (z : SetUp) (id i : ℕ) (below : i < z.config.banks) (named : id ≡ z
   abbrev Ends : Message → Type 0
   Ends s = (has_endpoints cores banks s ≡ true) × ((s.from ≡ node.Bank i) ⊎ (s.from ≡ node.Dram i))
 
-  abbrev Settled : InboxState Message → SendingBank → Type 0
+  abbrev pub Settled : InboxState Message → SendingBank → Type 0
   Settled c q = AllOwn cores id c × AllLinked cores banks id q.outbox.messages
 
   told-own : (s : Message) (l : Bool) → leaves s.to ≡ l → Ends s →
@@ -125,7 +125,7 @@ module _ (z : SetUp) (id i : ℕ) (below : i < z.config.banks) (named : id ≡ z
       linked-more cores banks id p.outbox.messages s linked (sent-leaves cores banks id i named s ends.0 e)
   posted-linked s false e ends = linked
 
-  settle : (q : SendingBank) (c : InboxState Message) (sent answer : Option Message) (xs : List Message) →
+  pub settle : (q : SendingBank) (c : InboxState Message) (sent answer : Option Message) (xs : List Message) →
       q.outbox ≡ posted_if p.outbox answer → sent ≡ told_if answer →
       SameBag (messages_of c) (sent_list sent ++ xs) → weigh (not-own cores banks id) xs ≡ 0 →
       ((s : Message) → answer ≡ Some s → Ends s) → Settled c q

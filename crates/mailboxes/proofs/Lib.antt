@@ -1,5 +1,7 @@
 mod BankAfter
 mod BankEnds
+mod BankEvictions
+mod BankFacts
 mod BankMoves
 mod BankReactions
 mod ClosedParts

@@ -1,5 +1,5 @@
 -- What the calls of a bank's seat answer, and what the seat has then.
-use Rattle.std.specs.Prelude.{◌≡◌, ℕ, ◌-◌, Bool, true, false, cond, List, [], ◌∷◌, ◌++◌, length, Option, Some, None}
+use Rattle.std.specs.Prelude.{◌≡◌, ℕ, ◌-◌, ◌≤◌, Bool, true, false, cond, List, [], ◌∷◌, ◌++◌, length, Option, Some, None}
 use Rattle.std.specs.Prelude.{Result, Ok, Err}
 use Rattle.network.specs.declared.message.Node.{Node}
 use Rattle.network.specs.declared.message.Body.{Body}
@@ -17,6 +17,11 @@ use Rattle.machine_moves.specs.Moves.{sent_by}
 use Rattle.serving.specs.Inboxes.{InboxState, inbox}
 use Rattle.serving.specs.Serving.{Place, order_of, sent_list, served_of}
 use Rattle.mailboxes.specs.declared.bank_seat.BankSeat.{BankSeat}
+use Rattle.mailboxes.specs.declared.machine.Machine.{Machine}
+use Rattle.mailboxes.specs.declared.mailbox.Mailbox.{Mailbox}
+use Rattle.mailboxes.specs.BoxMoves.{IsAt, Stands, hold}
+use Rattle.mailboxes.specs.Places.{AllLinked}
+use Rattle.mailboxes.specs.Ties.{BankTied}
 use Rattle.mailboxes.specs.declared.evicting.Eviction.{Eviction}
 use Rattle.mailboxes.specs.declared.evicting.Eviction.TheVariants.{Evicted, Recalled}
 use Rattle.mailboxes.specs.declared.sending.SendingBank.{SendingBank}
@@ -26,6 +31,19 @@ use Rattle.mailboxes.specs.BankServing.{finds_places, posted, told, sending_bank
 -- the seat keeps its number, and where its next look begins
 abbrev pub SameBankPlace : BankSeat → BankSeat → Type 0
 SameBankPlace p q = (q.mail.number ≡ p.mail.number) × (q.mail.cursor ≡ p.mail.cursor)
+
+-- the mailbox is that of a bank's seat, and the part is what the seat sends by and delivers messages to
+abbrev pub IsBankMail : Machine → Mailbox → Type 0
+IsBankMail m b = IsAt m b × (m.set_up.config.cores ≤ b.number) × Stands m b
+
+pub record PartOf (b : Mailbox) (p : SendingBank) : Type 0 where
+  pub tied : BankTied (hold b) p.bank p.dram p.outbox
+  pub linked : AllLinked b.cores b.banks b.number p.outbox.messages
+
+-- the mailbox is at the same place
+abbrev pub SameMailPlace : Mailbox → Mailbox → Type 0
+SameMailPlace b c =
+    (c.number ≡ b.number) × (c.cores ≡ b.cores) × (c.banks ≡ b.banks) × (c.cursor ≡ b.cursor)
 
 -- the message that would be served is a store to DRAM
 abbrev pub ServesStore : InboxState Message → SendingBank → Type 0

@@ -9,17 +9,12 @@ ghost use Rattle.mailboxes.specs.Seats.{IsBankSeat};
 ghost use Rattle.mailboxes.specs.Stored.{stored_bank};
 
 use crate::bank_seat::BankSeat;
-use crate::changes::change_bank;
-use crate::evicting::{Eviction, evict_line, evictable};
+use crate::evicting::Eviction;
 use crate::machine::Machine;
-use crate::sending::SendingBank;
 use llc_bank::Bank;
-use machine_moves::laws::waiting_banks_stay;
 use machine_table::Refusal;
 use network::{Body, LineNo, Message};
-use seat_rule::parts::{messages_of_seats_find_their_parts, parts_of_seats_have_their_shape};
 use serving::Served;
-use serving::laws::{memory_is_wanted_for_the_served, servings_do_one_of_five};
 
 // Why no message was served, as a seat tells it.
 fn seat_refusal(refusal: serving::Refusal) -> Refusal
@@ -64,28 +59,15 @@ impl BankSeat {
         ensures memory { result ≡ Err Refusal.NoMemory →
             ServesStore self.old.mail.inbox self.old.part }
     {
-        waiting_banks_stay();
-        messages_of_seats_find_their_parts();
-        parts_of_seats_have_their_shape();
-        servings_do_one_of_five::<Message, SendingBank>();
-        memory_is_wanted_for_the_served::<Message, SendingBank>();
         if self.is_stopped {
             return Err(Refusal::Stopped);
         }
-        match self.mail.inbox.serve(&mut self.part) {
+        match self.mail.serve_bank(machine, &mut self.part) {
             Err(refusal) => {
                 self.is_stopped = matches!(refusal, serving::Refusal::Exhausted);
                 Err(seat_refusal(refusal))
             }
-            Ok(served) => {
-                change_bank(
-                    machine,
-                    &mut self.mail.seat,
-                    &self.part,
-                    &self.mail.inbox,
-                );
-                Ok(served)
-            }
+            Ok(served) => Ok(served),
         }
     }
 
@@ -110,22 +92,10 @@ impl BankSeat {
         ensures stopped { self.new.is_stopped ≡ self.old.is_stopped }
         ensures memory { result ≢ Err Refusal.NoMemory }
     {
-        messages_of_seats_find_their_parts();
-        parts_of_seats_have_their_shape();
         if self.is_stopped {
             return Err(Refusal::Stopped);
         }
-        if let Err(refusal) = evictable(&self.part, &self.mail.inbox, line) {
-            return Err(refusal);
-        }
-        let eviction = evict_line(&mut self.part, &mut self.mail.inbox, line);
-        change_bank(
-            machine,
-            &mut self.mail.seat,
-            &self.part,
-            &self.mail.inbox,
-        );
-        Ok(eviction)
+        self.mail.evict_bank(machine, &mut self.part, line)
     }
 
     /// The line to evict to make room for a held request, the oldest that waits for room in a set in which nothing is

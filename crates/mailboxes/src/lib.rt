@@ -3,6 +3,7 @@
 
 mod attempting;
 mod bank_calls;
+mod bank_mail;
 mod bank_receiver;
 mod bank_seat;
 mod bank_serving;

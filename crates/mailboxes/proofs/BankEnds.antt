@@ -172,11 +172,11 @@ module _ (cores banks number i : ℕ) (named : number ≡ cores + i) where
   sent-stays s ends from l =
       elim from [
         | inl f ↦ own-dram s.to (to-dram cores banks i s.to (has_endpoints cores banks s) ends l
-              (subst (λ n. Goes cores banks n s.to (has_endpoints cores banks s)) f
-              (goes cores banks s.from s.to s.body)))
+            (subst (λ n. Goes cores banks n s.to (has_endpoints cores banks s)) f
+            (goes cores banks s.from s.to s.body)))
         | inr f ↦ own-bank s.to (to-bank cores banks i s.to (has_endpoints cores banks s) ends
-              (subst (λ n. Goes cores banks n s.to (has_endpoints cores banks s)) f
-              (goes cores banks s.from s.to s.body)))
+            (subst (λ n. Goes cores banks n s.to (has_endpoints cores banks s)) f
+            (goes cores banks s.from s.to s.body)))
       ]
 
   linked-to : (from to : Node) (ends : Bool) → ends ≡ true → Goes cores banks from to ends → leaves to ≡ true →

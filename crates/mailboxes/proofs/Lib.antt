@@ -4,6 +4,7 @@ mod BankEvictions
 mod BankFacts
 mod BankMoves
 mod BankReactions
+mod BankRefusals
 mod ClosedParts
 mod ClosedCores
 mod CoreMoves
@@ -16,4 +17,5 @@ mod OneStates
 mod OwnMessages
 mod Outboxes
 mod Sweeps
+mod Rooms
 mod RunStates

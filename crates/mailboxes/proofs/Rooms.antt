@@ -6,13 +6,19 @@ use Rattle.network.specs.declared.message.Message.{Message}
 use Rattle.llc_bank.specs.BankTable.{BankState, or_else}
 use Rattle.mailboxes.specs.BankCalls.{first_room, room_for}
 
-pub room-step : (bank : BankState) (held : List Message) (at : ℕ) (m : Message) → slice_get held at ≡ Some m →
-    first_room bank (drop at held) ≡ or_else (room_for bank m) (first_room bank (drop (at + 1) held))
-room-step bank [] at m e = absurd (let no : None ≡ Some m = e in cc)
-room-step bank (x ∷ held) zero m e =
+step-to : (bank : BankState) (held : List Message) (at : ℕ) (m : Message) → slice_get held at ≡ Some m →
+    first_room bank (drop at held) ≡ or_else (room_for bank m) (first_room bank (drop (suc at) held))
+step-to bank [] at m e = absurd (let no : None ≡ Some m = e in cc)
+step-to bank (x ∷ held) zero m e =
     let same : x ≡ m = cc in
     ap (λ y. or_else (room_for bank y) (first_room bank held)) same
-room-step bank (x ∷ held) (suc at) m e = room-step bank held at m e
+step-to bank (x ∷ held) (suc at) m e = step-to bank held at m e
+
+pub room-step : (bank : BankState) (held : List Message) (at : ℕ) (m : Message) → slice_get held at ≡ Some m →
+    first_room bank (drop at held) ≡ or_else (room_for bank m) (first_room bank (drop (at + 1) held))
+room-step bank held at m e =
+    let next : suc at ≡ at + 1 = omega arith in
+    step-to bank held at m e ∙ ap (λ n. or_else (room_for bank m) (first_room bank (drop n held))) next
 
 pub room-end : (bank : BankState) (held : List Message) (at : ℕ) → slice_get held at ≡ None →
     first_room bank (drop at held) ≡ None

@@ -9,5 +9,6 @@ mod NewSeats
 mod OneStates
 mod OwnMessages
 mod Outboxes
+mod SentMessages
 mod Sweeps
 mod RunStates

@@ -2,6 +2,7 @@ pub mod Attempts
 pub mod BoxMoves
 pub mod PartsOfState
 pub mod CoreCalls
+pub mod Evictions
 pub mod Places
 pub mod Remains
 pub mod RunParts

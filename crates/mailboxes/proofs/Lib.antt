@@ -16,6 +16,7 @@ mod NewSeats
 mod OneStates
 mod OwnMessages
 mod Outboxes
+mod SentMessages
 mod Sweeps
 mod Rooms
 mod RunStates

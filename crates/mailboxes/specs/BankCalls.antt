@@ -22,8 +22,8 @@ use Rattle.mailboxes.specs.declared.mailbox.Mailbox.{Mailbox}
 use Rattle.mailboxes.specs.BoxMoves.{IsAt, Stands, hold}
 use Rattle.mailboxes.specs.Places.{AllLinked}
 use Rattle.mailboxes.specs.Ties.{BankTied}
-use Rattle.mailboxes.specs.declared.evicting.Eviction.{Eviction}
-use Rattle.mailboxes.specs.declared.evicting.Eviction.TheVariants.{Evicted, Recalled}
+use Rattle.mailboxes.specs.declared.bank_evicting.Eviction.{Eviction}
+use Rattle.mailboxes.specs.declared.bank_evicting.Eviction.TheVariants.{Evicted, Recalled}
 use Rattle.mailboxes.specs.declared.sending.SendingBank.{SendingBank}
 use Rattle.mailboxes.specs.Sending.{OutboxState}
 use Rattle.mailboxes.specs.BankServing.{finds_places, posted, told, sending_bank_table}

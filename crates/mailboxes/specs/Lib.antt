@@ -4,6 +4,7 @@ pub mod BankServing
 pub mod BoxMoves
 pub mod PartsOfState
 pub mod CoreCalls
+pub mod Evictions
 pub mod Places
 pub mod Remains
 pub mod RunParts

@@ -9,7 +9,7 @@ ghost use Rattle.serving.specs.Serving.{Serves};
 ghost use Rattle.serving.specs.declared.answer.Refusal.TheVariants.{NoMemory};
 
 use crate::changes::change_bank;
-use crate::evicting::{Eviction, evict_line, evictable};
+use crate::bank_evicting::{Eviction, evict_line, evictable};
 use crate::machine::Machine;
 use crate::mailbox::Mailbox;
 use crate::sending::SendingBank;

@@ -1,102 +1,83 @@
-//! A bank evicts a line, and its seat sends what that asks for.
-ghost use Rattle.std.specs.Prelude.{◌≡◌, ◌-◌, ◌++◌, false, IsTrue, OnOk, Ok, Err, Some, length};
-ghost use Rattle.llc_bank.specs.declared.entry.Evict.{Evict};
-ghost use Rattle.machine_table.specs.declared.event.Refusal.{Refusal};
-ghost use Rattle.llc_bank.specs.BankTable.{evict};
-ghost use Rattle.serving.specs.Inboxes.{inbox};
-ghost use Rattle.serving.specs.Serving.{sent_list};
-ghost use Rattle.mailboxes.specs.BankCalls.{became, evict_answer, evicted_inbox, evicted_part, eviction_fits, to_post};
-ghost use Rattle.mailboxes.specs.BankServing.{finds_places, posted, told};
+//! A copy leaves the cache of a core's seat.
+ghost use Rattle.std.specs.Prelude.{◌≡◌, ◌≢◌, ◌&&◌, not, Err, OnOk, OnErr};
+ghost use Rattle.core_pts.specs.CoreTable as core_table;
+ghost use Rattle.mailboxes.specs.BoxMoves.{hold};
+ghost use Rattle.mailboxes.specs.CoreCalls.{SameHold, SamePlace, sending_hold};
+ghost use Rattle.mailboxes.specs.Evictions.{TakesOut, evict_answer, evicted, is_sent_back};
+ghost use Rattle.mailboxes.specs.Seats.{IsCoreSeat};
 
-use crate::bank_serving::{finds_places, post};
-use crate::outbox::Outbox;
-use crate::sending::SendingBank;
-use llc_bank::{Evict, EvictError};
+use crate::changes::change_core;
+use crate::core_seat::CoreSeat;
+use crate::machine::Machine;
+use crate::sending::SendingCore;
+use core_pts::Core;
 use machine_table::Refusal;
-use network::{Body, LineNo, Message, Node};
-use serving::Inbox;
+use network::LineNo;
+use private_cache::{CacheError, CopyState};
+use seat_rule::parts::messages_of_seats_find_their_parts;
 
-/// What became of a line that was evicted.
-#[derive(Clone, Copy, Debug, PartialEq, Eq)]
-pub enum Eviction {
-    /// The line is gone, or it is on its way to DRAM.
-    Evicted,
-    /// The owner is asked to give the line back; the line stays.
-    Recalled,
+// Whether an eviction of a line's copy sends it back.
+fn sends_back(core: &Core, line: LineNo) -> bool
+    ensures { result ≡ is_sent_back (core_table.evict core.now line).0 }
+{
+    let Some(copy) = core.copy(line) else {
+        return false;
+    };
+    matches!(copy.state, CopyState::Exclusive) && !core.is_pinned(line)
 }
 
-// The node that a message would be sent to, and that no delivered message stays.
-fn to_post(to: Option<Node>) -> Option<(Node, bool)>
-    ensures { result ≡ to_post to }
+// Takes the copy of a line out of the core, and sends it back, if the core owned it. An error changes nothing.
+fn take_out(part: &mut SendingCore, line: LineNo) -> Result<(), Refusal>
+    ensures answer { (result, part.new) ≡ evicted part.old line }
+    ensures done { OnOk result (TakesOut part.old line part.new) }
+    ensures refused { OnErr result (part.new ≡ part.old) }
 {
-    match to {
-        None => None,
-        Some(node) => Some((node, false)),
+    if !part.outbox.can_send_out() {
+        if sends_back(&part.core, line) {
+            return Err(Refusal::NetworkFull);
+        }
     }
-}
-
-/// Whether a line can be evicted: the bank's table does it, and what it sends finds its place.
-pub(crate) fn evictable(
-    part: &SendingBank,
-    came_in: &Inbox<Message>,
-    line: LineNo,
-) -> Result<(), Refusal>
-    ensures done { OnOk result ((e : Evict) × ((evict part.now.bank line).0 ≡ Ok e) ×
-        IsTrue (eviction_fits part.now.outbox came_in.now.held e)) }
-    ensures refused { (refusal : Refusal) → result ≡ Err refusal →
-        evict_answer false part.now.outbox came_in.now.held (evict part.now.bank line).0
-        ≡ Err refusal }
-{
-    match part.bank.evicts(line) {
-        Err(EvictError::NotHere) => Err(Refusal::NoSuch),
-        Err(EvictError::Busy) => Err(Refusal::Busy),
-        Ok(to) => {
-            if finds_places(&part.outbox, came_in.places(), &to_post(to)) {
-                Ok(())
-            } else {
-                Err(Refusal::NetworkFull)
-            }
+    match part.core.evict(line) {
+        Err(CacheError::NotHere) => Err(Refusal::NoSuch),
+        Err(CacheError::NoRoom) => Err(Refusal::NoSuch),
+        Err(CacheError::Pinned) => Err(Refusal::Pinned),
+        Ok(None) => Ok(()),
+        Ok(Some(back)) => {
+            part.outbox.send(back);
+            Ok(())
         }
     }
 }
 
-// Sends a message: to the outbox, or to the end of the held list.
-fn send(outbox: &mut Outbox, came_in: &mut Inbox<Message>, message: Message)
-    requires { IsTrue (finds_places outbox.old (256 - length came_in.old.held)
-        (Some (message.to, false))) }
-    ensures sent { outbox.new ≡ posted outbox.old message }
-    ensures told { came_in.new ≡
-        inbox came_in.old.hand (came_in.old.held ++ sent_list (told message)) }
-{
-    let _body: Body = message.body;
-    if let Some(told) = post(outbox, message) {
-        came_in.hold(told);
-    }
-}
-
-/// Evicts a line, which can be evicted, and sends what that asks for.
-pub(crate) fn evict_line(
-    part: &mut SendingBank,
-    came_in: &mut Inbox<Message>,
-    line: LineNo,
-) -> Eviction
-    requires { (e : Evict) × ((evict part.old.bank line).0 ≡ Ok e) ×
-        IsTrue (eviction_fits part.old.outbox came_in.old.held e) }
-    ensures { (e : Evict) × ((evict part.old.bank line).0 ≡ Ok e) × (result ≡ became e) ×
-        (part.new ≡ evicted_part part.old (evict part.old.bank line).1 e) ×
-        (came_in.new ≡ evicted_inbox came_in.old e) }
-{
-    let _body: Option<Body> = None;
-    let evicted = part.bank.evict(line);
-    match evicted.unwrap() {
-        Evict::Clean => Eviction::Evicted,
-        Evict::Stored(store) => {
-            send(&mut part.outbox, came_in, store);
-            Eviction::Evicted
+impl CoreSeat {
+    /// Takes a copy out of the core's cache; one that the core owns is sent back.
+    ///
+    /// Stopped exactly if the seat is stopped; else NoSuch exactly if there is no copy of the line; else Pinned exactly
+    /// if the open operation is on the line; else NetworkFull exactly if the copy would be sent back, and the outbox
+    /// has no place or the seat sent 2 ^ 64 - 1 messages. NoMemory is never answered. A refusal changes nothing.
+    pub fn evict(&mut self, machine: &Machine, line: LineNo) -> Result<(), Refusal>
+        requires { IsCoreSeat machine.now self.old }
+        ensures seat { IsCoreSeat machine.now self.new × SamePlace self.old self.new }
+        ensures answer { result ≡ evict_answer self.old.is_stopped self.old.part line }
+        ensures part { OnOk result (self.new.part ≡ (evicted self.old.part line).1) }
+        ensures done { OnOk result (hold self.new.mail ≡ sending_hold (hold self.old.mail)
+            self.new.part.core self.new.part.outbox) }
+        ensures refused { OnErr result (SameHold self.old self.new) }
+        ensures stopped { self.new.is_stopped ≡ self.old.is_stopped }
+        ensures sure { result ≢ Err Refusal.NoMemory }
+    {
+        if self.is_stopped {
+            return Err(Refusal::Stopped);
         }
-        Evict::Recalled(recall) => {
-            send(&mut part.outbox, came_in, recall);
-            Eviction::Recalled
-        }
+        messages_of_seats_find_their_parts();
+        take_out(&mut self.part, line)?;
+        change_core(
+            machine,
+            &mut self.mail.seat,
+            &self.part,
+            &self.issued,
+            &self.mail.inbox,
+        );
+        Ok(())
     }
 }

@@ -37,7 +37,7 @@ core_of seats p is =
       issued = ap (λ (h : Hold). h.issued) is ∙ p.tied.issued;
       records = ap (λ (h : Hold). h.records) is ∙ p.tied.records;
       counts = ap (λ (h : Hold). h.counts) is ∙ p.tied.counts;
-      outbox = ap (λ (h : Hold). h.outbox) is ∙ p.mail.tied.outbox;
+      outbox = ap (λ (h : Hold). h.outbox) is ∙ p.tied.outbox;
       hand = ap (λ (h : Hold). h.hand) is ∙ p.mail.tied.hand;
       held = ap (λ (h : Hold). h.held) is ∙ p.mail.tied.held;
     }
@@ -49,7 +49,7 @@ bank_of seats p is =
       bank = ap (λ (h : Hold). h.bank) is ∙ p.tied.bank;
       dram = ap (λ (h : Hold). h.dram) is ∙ p.tied.dram;
       counts = ap (λ (h : Hold). h.counts) is ∙ p.tied.counts;
-      outbox = ap (λ (h : Hold). h.outbox) is ∙ p.mail.tied.outbox;
+      outbox = ap (λ (h : Hold). h.outbox) is ∙ p.tied.outbox;
       hand = ap (λ (h : Hold). h.hand) is ∙ p.mail.tied.hand;
       held = ap (λ (h : Hold). h.held) is ∙ p.mail.tied.held;
     }

@@ -1,12 +1,27 @@
 -- What a core's seat does with its core alone is a move of the seat.
-use Rattle.std.proofs.Common.{◌≡◌, ◌<◌, ℕ, List, [], ◌∷◌, ◌++◌, Ok, refl, sym, ap, ◌∙◌, subst}
+use Rattle.std.proofs.Common.{◌≡◌, ◌<◌, ℕ, List, [], ◌∷◌, ◌++◌, Option, Ok, refl, sym, ap, ◌∙◌, subst}
 use Rattle.physiological_order.specs.declared.operation.Op.{Op}
+use Rattle.network.specs.declared.message.Message.{Message}
 use Rattle.core_pts.specs.CoreTable as core_table
 use Rattle.core_pts.specs.CoreTable.{CoreState}
+use Rattle.serving.specs.Inboxes.{InboxState}
 use Rattle.seat_rule.specs.declared.views.SetUp.{SetUp}
 use Rattle.seat_rule.specs.declared.views.Hold.{Hold}
 use Rattle.seat_rule.specs.SeatMoves.{SeatMove, issues}
+use Rattle.seat_rule.specs.Serving.{core_now}
+use Rattle.mailboxes.specs.declared.sending.SendingCore.{SendingCore}
 use Rattle.mailboxes.specs.CoreCalls.{core_hold}
+use Rattle.mailboxes.specs.Sending.{OutboxState}
+use Rattle.mailboxes.specs.Stored.{stored_core}
+
+-- where the messages stay, only the core and its operations are new
+pub core_alone : (a : Hold) (part : SendingCore) (out : OutboxState) (issued : List Op) (b : InboxState Message) →
+    a.outbox ≡ out.messages → a.counts ≡ out.counts → a.hand ≡ b.hand → a.held ≡ b.held → part.outbox ≡ out →
+    stored_core a part issued b ≡ core_hold a part.core issued
+core_alone a part out issued b outbox counts hand held same =
+    λ i.
+    core_now a part.core issued ((ap (λ (o : OutboxState). o.counts) same ∙ sym counts) i)
+    ((ap (λ (o : OutboxState). o.messages) same ∙ sym outbox) i) (sym hand i) (sym held i)
 
 -- the core is given its next operation
 pub issue-moves : (z y : SetUp) (id number : ℕ) (a : Hold) (p q : CoreState) (op : Op) (ops later : List Op) →

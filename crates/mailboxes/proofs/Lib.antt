@@ -1,3 +1,10 @@
+mod BankAfter
+mod BankEnds
+mod BankEvictions
+mod BankFacts
+mod BankMoves
+mod BankReactions
+mod BankRefusals
 mod ClosedParts
 mod ClosedCores
 mod CoreMoves
@@ -7,6 +14,9 @@ mod LinkEnds
 mod MergedRecords
 mod NewSeats
 mod OneStates
+mod OwnMessages
 mod Outboxes
+mod SentMessages
 mod Sweeps
+mod Rooms
 mod RunStates

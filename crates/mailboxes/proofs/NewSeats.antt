@@ -3,8 +3,12 @@ use Rattle.std.proofs.Common.{◌≡◌, ℕ, zero, suc, ◌+◌, ◌<◌, ◌�
 use Rattle.std.proofs.Common.{◌⊎◌, inl, inr, ⊎_elim, sym, refl, ap, ◌∙◌, subst, arith}
 use Rattle.std.specs.Prelude.{slice_get}
 use Rattle.seating.proofs.Lemmas.{some_is}
-use Rattle.seat_rule.specs.Rule.{opening_hold}
+use Rattle.seat_rule.specs.declared.views.Hold.{Hold}
+use Rattle.seat_rule.specs.Rule.{opening_hold, seat_count}
+use Rattle.seat_rule.specs.Plays.{Standing}
 use Rattle.mailboxes.specs.declared.machine.Machine.{Machine}
+use Rattle.mailboxes.specs.declared.mailbox.Mailbox.{Mailbox}
+use Rattle.mailboxes.specs.BoxMoves.{Stands}
 use Rattle.mailboxes.specs.declared.core_seat.CoreSeat.{CoreSeat}
 use Rattle.mailboxes.specs.declared.bank_seat.BankSeat.{BankSeat}
 use Rattle.mailboxes.specs.Ties.{Chair}
@@ -20,32 +24,43 @@ get_snoc [] x y (suc i) e = none_some e
 get_snoc (z ∷ xs) x y zero e = inl e
 get_snoc (z ∷ xs) x y (suc i) e = ⊎_elim inl (λ t. inr (ap suc t.0, t.1)) (get_snoc xs x y i e)
 
+-- what it holds as the machine opens is a part of a reached state
+opened_stands : (m : Machine) (n : ℕ) (p : Mailbox) → p.number ≡ n → p.seat.me.0.mine ≡ opening_hold m.set_up n →
+    Standing m.set_up (seat_count m.set_up) n (opening_hold m.set_up n) → Stands m p
+opened_stands m n p number opens stands =
+    subst (λ (y : ℕ × Hold). Standing m.set_up (seat_count m.set_up) y.0 y.1) (λ i. (sym number i, sym opens i)) stands
+
 -- what a seat is once it is made of a chair of this number
 pub new_core : (m : Machine) (n : ℕ) (p : CoreSeat) (chair : Chair) → n < m.set_up.config.cores →
     chair.table_id ≡ m.table.shared.table_id → chair.me.0.mine ≡ opening_hold m.set_up n → p.mail.seat ≡ chair →
     p.mail.number ≡ n → p.mail.cores ≡ m.set_up.config.cores → p.mail.banks ≡ m.set_up.config.banks →
-    IsNewCore m n p
-new_core m n p chair lt table mine seat number cores banks = (
-  (
-    (ap (λ (y : Chair). y.table_id) seat ∙ table, omega arith, cores, banks),
-    subst (λ k. k < m.set_up.config.cores) (sym number) lt,
-  ),
-  number,
-  ap (λ (y : Chair). y.me.0.mine) seat ∙ mine,
-)
+    Standing m.set_up (seat_count m.set_up) n (opening_hold m.set_up n) → IsNewCore m n p
+new_core m n p chair lt table mine seat number cores banks stands =
+    let opens = ap (λ (y : Chair). y.me.0.mine) seat ∙ mine in (
+      (
+        (ap (λ (y : Chair). y.table_id) seat ∙ table, omega arith, cores, banks),
+        subst (λ k. k < m.set_up.config.cores) (sym number) lt,
+        opened_stands m n p.mail number opens stands,
+      ),
+      number,
+      opens,
+    )
 
 pub new_bank : (m : Machine) (n : ℕ) (p : BankSeat) (chair : Chair) → m.set_up.config.cores ≤ n →
     n < m.set_up.config.cores + m.set_up.config.banks → chair.table_id ≡ m.table.shared.table_id →
     chair.me.0.mine ≡ opening_hold m.set_up n → p.mail.seat ≡ chair → p.mail.number ≡ n →
-    p.mail.cores ≡ m.set_up.config.cores → p.mail.banks ≡ m.set_up.config.banks → IsNewBank m n p
-new_bank m n p chair le lt table mine seat number cores banks = (
-  (
-    (ap (λ (y : Chair). y.table_id) seat ∙ table, omega arith, cores, banks),
-    subst (λ k. m.set_up.config.cores ≤ k) (sym number) le,
-  ),
-  number,
-  ap (λ (y : Chair). y.me.0.mine) seat ∙ mine,
-)
+    p.mail.cores ≡ m.set_up.config.cores → p.mail.banks ≡ m.set_up.config.banks →
+    Standing m.set_up (seat_count m.set_up) n (opening_hold m.set_up n) → IsNewBank m n p
+new_bank m n p chair le lt table mine seat number cores banks stands =
+    let opens = ap (λ (y : Chair). y.me.0.mine) seat ∙ mine in (
+      (
+        (ap (λ (y : Chair). y.table_id) seat ∙ table, omega arith, cores, banks),
+        subst (λ k. m.set_up.config.cores ≤ k) (sym number) le,
+        opened_stands m n p.mail number opens stands,
+      ),
+      number,
+      opens,
+    )
 
 -- one more at the end of a list, and one more at its front
 pub more_cores : (m : Machine) (from : ℕ) (ps qs : List CoreSeat) (p : CoreSeat) → qs ≡ ps ++ p ∷ [] →

@@ -2,10 +2,9 @@
 use Rattle.std.specs.Prelude.{◌≡◌, ℕ, ◌+◌, ◌*◌, ◌%◌, ◌<◌, Bool, true, false, List, [], ◌∷◌, ◌++◌, take}
 use Rattle.std.specs.Prelude.{Some, None, slice_get, remove}
 use Rattle.network.specs.declared.message.Message.{Message}
-use Rattle.serving.specs.Queues.{values_of}
 use Rattle.seat_rule.specs.declared.views.Hold.{Hold}
-use Rattle.seat_rule.specs.Rule.{node_of}
-use Rattle.seat_rule.specs.Plays.{SamePart, ones}
+use Rattle.seat_rule.specs.Rule.{node_of, seat_count}
+use Rattle.seat_rule.specs.Plays.{SamePart, Standing, ones}
 use Rattle.mailboxes.specs.declared.machine.Machine.{Machine}
 use Rattle.mailboxes.specs.declared.mailbox.Mailbox.{Mailbox}
 use Rattle.seat_rule.specs.declared.views.SetUp.{SetUp}
@@ -22,6 +21,10 @@ abbrev pub IsAt : Machine → Mailbox → Type 0
 IsAt m p =
     (p.seat.table_id ≡ m.table.shared.table_id) × (p.number < m.set_up.config.cores + m.set_up.config.banks)
     × (p.cores ≡ m.set_up.config.cores) × (p.banks ≡ m.set_up.config.banks)
+
+-- what the seat holds is a part of a reached state
+abbrev pub Stands : Machine → Mailbox → Type 0
+Stands m p = Standing m.set_up (seat_count m.set_up) p.number (hold p)
 
 -- the seat stays that of its number and machine, and its part, operations, records and counts stay
 pub record Stays (p q : Mailbox) : Type 0 where
@@ -40,37 +43,36 @@ pub record SameIncoming (p q : Mailbox) : Type 0 where
 
 -- what goes out stays: the outbox and the messages that were put; and so does the held list
 pub record SameOutgoing (p q : Mailbox) : Type 0 where
-  pub outbox : values_of q.outbox ≡ values_of p.outbox
+  pub outbox : (hold q).outbox ≡ (hold p).outbox
   pub held : q.inbox.held ≡ p.inbox.held
   pub put : (hold q).put ≡ (hold p).put
 
 -- the message m at i of the outbox was put into the s-th slot of this link, once and unchanged: the slots before were
 -- found full, and this one empty. Before, these looks were made
-abbrev pub PutInto : ℕ → List (ℕ × ℕ) → ℕ → ℕ → Message → Mailbox → Mailbox → Type 0
-PutInto link looks i s m p q =
-    (s < 4) × (slice_get (values_of p.outbox) i ≡ Some m) × (values_of q.outbox ≡ remove (values_of p.outbox) i)
+abbrev pub PutInto : ℕ → List (ℕ × ℕ) → ℕ → ℕ → Message → Mailbox → List Message → Mailbox → List Message → Type 0
+PutInto link looks i s m p out q left =
+    (s < 4) × (slice_get out i ≡ Some m) × (left ≡ remove out i)
     × ((hold q).put ≡ (hold p).put ++ (4 * link + s, m) ∷ [])
     × ((hold q).looks ≡ (hold p).looks ++ (looks ++ (ones link s ++ (4 * link + s, 0) ∷ [])))
     × SameIncoming p q
 
 -- nothing was put, after these looks
-abbrev pub PutNothing : List (ℕ × ℕ) → Mailbox → Mailbox → Type 0
-PutNothing looks p q =
-    ((hold q).looks ≡ (hold p).looks ++ looks) × (values_of q.outbox ≡ values_of p.outbox)
-    × ((hold q).put ≡ (hold p).put) × SameIncoming p q
+abbrev pub PutNothing : List (ℕ × ℕ) → Mailbox → List Message → Mailbox → List Message → Type 0
+PutNothing looks p out q left =
+    ((hold q).looks ≡ (hold p).looks ++ looks) × (left ≡ out) × ((hold q).put ≡ (hold p).put) × SameIncoming p q
 
 -- the message at i was put into a slot of the link, or all four were found full
-abbrev pub PutAt : ℕ → ℕ → Bool → Mailbox → Mailbox → Type 0
-PutAt link i true p q = (s : ℕ) × (m : Message) × PutInto link [] i s m p q
-PutAt link i false p q = PutNothing (ones link 4) p q
+abbrev pub PutAt : ℕ → ℕ → Bool → Mailbox → List Message → Mailbox → List Message → Type 0
+PutAt link i true p out q left = (s : ℕ) × (m : Message) × PutInto link [] i s m p out q left
+PutAt link i false p out q left = PutNothing (ones link 4) p out q left
 
 -- the oldest message of the outbox whose link has a free slot was put there: the slots of the links of all older ones
 -- were found full. Or nothing was put, and the slots of the links of all messages were found full
-abbrev pub Puts : Bool → Mailbox → Mailbox → Type 0
-Puts true p q =
+abbrev pub Puts : Bool → Mailbox → List Message → Mailbox → List Message → Type 0
+Puts true p out q left =
     (i : ℕ) × (s : ℕ) × (m : Message) × PutInto (link_to p.cores p.banks p.number m.to)
-    (found_full p.cores p.banks p.number (take i (values_of p.outbox))) i s m p q
-Puts false p q = PutNothing (found_full p.cores p.banks p.number (values_of p.outbox)) p q
+    (found_full p.cores p.banks p.number (take i out)) i s m p out q left
+Puts false p out q left = PutNothing (found_full p.cores p.banks p.number out) p out q left
 
 -- the message m of this slot is in the hand: the slot was found full. Before, these looks were made
 abbrev pub TakenFrom : SetUp → List (ℕ × ℕ) → ℕ → Message → Mailbox → Mailbox → Type 0

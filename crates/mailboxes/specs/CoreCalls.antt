@@ -8,10 +8,20 @@ use Rattle.machine_table.specs.declared.event.Refusal.{Refusal}
 use Rattle.machine_table.specs.declared.event.Refusal.TheVariants.{Busy, TooMany, NoMemory, Exhausted, Stopped}
 use Rattle.seat_rule.specs.declared.views.Hold.{Hold}
 use Rattle.mailboxes.specs.declared.core_seat.CoreSeat.{CoreSeat}
+use Rattle.mailboxes.specs.BoxMoves.{hold}
+use Rattle.mailboxes.specs.Sending.{OutboxState}
 
 -- the core is now this one, and was issued these operations; all else is held as before
 abbrev pub core_hold : Hold → CoreState → List Op → Hold
 core_hold a core issued = record a { core = core; issued = issued }
+
+-- the core and the outbox are now these; all else is held as before
+abbrev pub sending_hold : Hold → CoreState → OutboxState → Hold
+sending_hold a core out = record a { core = core; outbox = out.messages; counts = out.counts }
+
+-- what the seat holds, and what it sends by, are as before
+abbrev pub SameHold : CoreSeat → CoreSeat → Type 0
+SameHold p q = (hold q.mail ≡ hold p.mail) × (q.part.outbox ≡ p.part.outbox)
 
 -- the seat keeps its number, and where its next look begins
 abbrev pub SamePlace : CoreSeat → CoreSeat → Type 0

@@ -1,9 +1,15 @@
 pub mod Attempts
+pub mod BankCalls
+pub mod BankServing
 pub mod BoxMoves
 pub mod PartsOfState
 pub mod CoreCalls
+pub mod Evictions
 pub mod Places
 pub mod Remains
 pub mod RunParts
+pub mod SeatServing
 pub mod Seats
+pub mod Sending
+pub mod Stored
 pub mod Ties

@@ -3,7 +3,6 @@ use Rattle.std.specs.Prelude.{◌≡◌, ℕ, ◌+◌, ◌<◌, true, List, Opti
 use Rattle.physiological_order.specs.declared.operation.Record.{Record}
 use Rattle.network.specs.declared.message.Message.{Message}
 use Rattle.machine_table.specs.SetUp.{is_good}
-use Rattle.serving.specs.Queues.{values_of}
 use Rattle.seat_rule.specs.declared.views.SetUp.{SetUp}
 use Rattle.seat_rule.specs.declared.views.Hold.{Hold}
 use Rattle.machine_moves.specs.States.{State}
@@ -17,16 +16,16 @@ pub record IsCoreOf (h : Hold) (p : CorePart) : Type 0 where
   pub core : h.core ≡ p.core
   pub issued : h.issued ≡ p.issued.items
   pub records : h.records ≡ p.records.items
-  pub counts : h.counts ≡ p.counts
-  pub outbox : h.outbox ≡ values_of p.outbox
+  pub counts : h.counts ≡ p.outbox.counts
+  pub outbox : h.outbox ≡ p.outbox.messages
   pub hand : h.hand ≡ p.inbox.hand
   pub held : h.held ≡ p.inbox.held
 
 pub record IsBankOf (h : Hold) (p : BankPart) : Type 0 where
   pub bank : h.bank ≡ p.bank
   pub dram : h.dram ≡ p.dram
-  pub counts : h.counts ≡ p.counts
-  pub outbox : h.outbox ≡ values_of p.outbox
+  pub counts : h.counts ≡ p.outbox.counts
+  pub outbox : h.outbox ≡ p.outbox.messages
   pub hand : h.hand ≡ p.inbox.hand
   pub held : h.held ≡ p.inbox.held
 

@@ -1,10 +1,11 @@
 -- Where a seat is among the others: at which table, at which links, and which slots come in to it.
-use Rattle.std.specs.Prelude.{◌≡◌, ℕ, zero, suc, ◌+◌, ◌-◌, ◌*◌, ◌/◌, ◌%◌, ◌<◌, ◌≤◌, ◌&&◌, Bool, true}
+use Rattle.std.specs.Prelude.{◌≡◌, ℕ, zero, suc, ◌+◌, ◌-◌, ◌*◌, ◌/◌, ◌%◌, ◌<◌, ◌≤◌, ◌==◌, ◌&&◌, Bool, true}
 use Rattle.std.specs.Prelude.{false, cond, nat_lt, nat_le, List, [], ◌∷◌, ◌++◌, Some, slice_get}
 use Rattle.atomic_table.specs.Seated.{TableId}
 use Rattle.network.specs.declared.message.Node.{Node}
 use Rattle.network.specs.declared.message.Node.TheVariants.{Core, Bank, Dram}
 use Rattle.network.specs.declared.message.Message.{Message}
+use Rattle.serving.specs.Inboxes.{InboxState}
 use Rattle.seat_rule.specs.declared.views.SetUp.{SetUp}
 use Rattle.seat_rule.specs.Rule.{slot_count, source, to_of}
 use Rattle.seat_rule.specs.Plays.{ones}
@@ -37,6 +38,17 @@ link_to cores banks number (Dram d) = 0
 abbrev pub AllLinked : ℕ → ℕ → ℕ → List Message → Type 0
 AllLinked cores banks number ms =
     (i : ℕ) (m : Message) → slice_get ms i ≡ Some m → has_link cores banks number m.to ≡ true
+
+-- the node is the seat's own: its core, or its bank, or the DRAM behind that
+abbrev pub is_own : ℕ → ℕ → Node → Bool
+is_own cores number (Core c) = nat_lt c cores && (c == number)
+is_own cores number (Bank b) = cores + b == number
+is_own cores number (Dram b) = cores + b == number
+
+-- each message that came in goes to the seat's own core, bank or DRAM
+pub record AllOwn (cores number : ℕ) (b : InboxState Message) : Type 0 where
+  pub hand : (m : Message) → b.hand ≡ Some m → is_own cores number m.to ≡ true
+  pub held : (i : ℕ) (m : Message) → slice_get b.held i ≡ Some m → is_own cores number m.to ≡ true
 
 -- how many slots come in to a seat: four on each link, one from each bank to a core, and one from each core to a bank
 abbrev pub incoming_count : ℕ → ℕ → ℕ → ℕ

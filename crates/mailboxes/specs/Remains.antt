@@ -25,11 +25,10 @@ abbrev pub core_part : CoreSeat → CorePart
 core_part p =
     record {
       number = p.mail.number;
-      core = p.core;
+      core = p.part.core;
       issued = p.issued;
       records = p.records;
-      counts = p.counts;
-      outbox = p.mail.outbox;
+      outbox = p.part.outbox;
       inbox = p.mail.inbox;
     }
 
@@ -37,10 +36,9 @@ abbrev pub bank_part : BankSeat → BankPart
 bank_part p =
     record {
       number = p.mail.number;
-      bank = p.bank;
-      dram = p.dram;
-      counts = p.counts;
-      outbox = p.mail.outbox;
+      bank = p.part.bank;
+      dram = p.part.dram;
+      outbox = p.part.outbox;
       inbox = p.mail.inbox;
     }
 

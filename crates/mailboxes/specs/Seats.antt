@@ -1,28 +1,41 @@
 -- Seats of a machine, as they open and as they stay.
-use Rattle.std.specs.Prelude.{◌≡◌, ℕ, ◌+◌, ◌<◌, ◌≤◌, List, [], Some, slice_get}
+use Rattle.std.specs.Prelude.{◌≡◌, ℕ, false, ◌+◌, ◌<◌, ◌≤◌, List, [], Some, slice_get}
 use Rattle.seating.specs.Seated.{first_view}
-use Rattle.seat_rule.specs.Rule.{opening_hold}
+use Rattle.seat_rule.specs.Rule.{opening_hold, seat_count}
 use Rattle.mailboxes.specs.declared.machine.Machine.{Machine}
 use Rattle.mailboxes.specs.declared.core_seat.CoreSeat.{CoreSeat}
 use Rattle.mailboxes.specs.declared.bank_seat.BankSeat.{BankSeat}
 use Rattle.mailboxes.specs.Ties.{Chair}
-use Rattle.mailboxes.specs.BoxMoves.{IsAt, hold}
+use Rattle.mailboxes.specs.Sending.{OutboxState}
+use Rattle.mailboxes.specs.BoxMoves.{IsAt, Stands, hold}
 
--- the seat is that of one of the machine's cores, or of one of its banks
+-- a seat at the machine's table of slots, which isn't joined to another
+abbrev pub IsLive : Machine → Chair → Type 0
+IsLive m chair =
+    (chair.table_id ≡ m.table.shared.table_id) × (chair.me.0.spent ≡ false)
+    × (chair.me.0.number < seat_count m.set_up)
+
+-- the seat is that of one of the machine's cores, or of one of its banks, and holds a part of a reached state
 abbrev pub IsCoreSeat : Machine → CoreSeat → Type 0
-IsCoreSeat m p = IsAt m p.mail × (p.mail.number < m.set_up.config.cores)
+IsCoreSeat m p = IsAt m p.mail × (p.mail.number < m.set_up.config.cores) × Stands m p.mail
 
 abbrev pub IsBankSeat : Machine → BankSeat → Type 0
-IsBankSeat m p = IsAt m p.mail × (m.set_up.config.cores ≤ p.mail.number)
+IsBankSeat m p = IsAt m p.mail × (m.set_up.config.cores ≤ p.mail.number) × Stands m p.mail
+
+-- what was sent is counted as before
+abbrev pub SameCounts : OutboxState → OutboxState → Type 0
+SameCounts o u = (u.counts ≡ o.counts) × (u.sent ≡ o.sent)
 
 -- a core's seat but for its messages, and a bank's
 abbrev pub SameCore : CoreSeat → CoreSeat → Type 0
 SameCore p q =
-    (q.core ≡ p.core) × (q.issued.items ≡ p.issued.items) × (q.records.items ≡ p.records.items)
-    × (q.counts ≡ p.counts)
+    (q.part.core ≡ p.part.core) × (q.issued.items ≡ p.issued.items) × (q.records.items ≡ p.records.items)
+    × SameCounts p.part.outbox q.part.outbox × (q.is_stopped ≡ p.is_stopped)
 
 abbrev pub SameBank : BankSeat → BankSeat → Type 0
-SameBank p q = (q.bank ≡ p.bank) × (q.dram ≡ p.dram) × (q.counts ≡ p.counts)
+SameBank p q =
+    (q.part.bank ≡ p.part.bank) × (q.part.dram ≡ p.part.dram) × SameCounts p.part.outbox q.part.outbox
+    × (q.is_stopped ≡ p.is_stopped)
 
 -- the seats of this number as the machine opens
 abbrev pub IsNewCore : Machine → ℕ → CoreSeat → Type 0

@@ -5,37 +5,37 @@ use Rattle.std.specs.FinMap.{FinMap}
 use Rattle.atomic_table.specs.declared.shared.Seat.{Seat}
 use Rattle.physiological_order.specs.declared.operation.Op.{Op}
 use Rattle.physiological_order.specs.declared.operation.Record.{Record}
-use Rattle.network.specs.declared.counts.Counts.{Counts}
 use Rattle.network.specs.declared.message.Message.{Message}
 use Rattle.core_pts.specs.CoreTable.{CoreState}
 use Rattle.llc_bank.specs.BankTable.{BankState}
 use Rattle.seating.specs.declared.views.View.{View}
 use Rattle.seat_rule.specs.declared.views.Stage.TheVariants.{Idle}
 use Rattle.seat_rule.specs.declared.views.Hold.{Hold}
+use Rattle.mailboxes.specs.Sending.{OutboxState}
 
 abbrev pub Chair : Type 0
 Chair = Seat (Option Message) (View Hold)
 
--- no slot is out with the seat, and the number and the messages that are stored are what the view has
-pub record BoxTied (chair : Chair) (n : ℕ) (out : List Message) (h : Option Message) (waiting : List Message) : Type 0
-  where
-    pub number : chair.me.0.number ≡ n
-    pub live : chair.me.0.spent ≡ false
-    pub none_out : chair.me.1 ≡ []
-    pub idle : chair.me.0.mine.stage ≡ Idle
-    pub outbox : chair.me.0.mine.outbox ≡ out
-    pub hand : chair.me.0.mine.hand ≡ h
-    pub held : chair.me.0.mine.held ≡ waiting
+-- no slot is out with the seat, and the number and the messages that came in are what the view has
+pub record BoxTied (chair : Chair) (n : ℕ) (h : Option Message) (waiting : List Message) : Type 0 where
+  pub number : chair.me.0.number ≡ n
+  pub live : chair.me.0.spent ≡ false
+  pub none_out : chair.me.1 ≡ []
+  pub idle : chair.me.0.mine.stage ≡ Idle
+  pub hand : chair.me.0.mine.hand ≡ h
+  pub held : chair.me.0.mine.held ≡ waiting
 
--- the core, its operations, its records and the counts that are stored are what the view has
-pub record CoreTied (a : Hold) (p : CoreState) (ops : List Op) (rs : List Record) (cs : Counts) : Type 0 where
+-- the core, its operations, its records, and the messages and counts of the outbox are what the view has
+pub record CoreTied (a : Hold) (p : CoreState) (ops : List Op) (rs : List Record) (out : OutboxState) : Type 0 where
   pub core : a.core ≡ p
   pub issued : a.issued ≡ ops
   pub records : a.records ≡ rs
-  pub counts : a.counts ≡ cs
+  pub outbox : a.outbox ≡ out.messages
+  pub counts : a.counts ≡ out.counts
 
--- the bank, the DRAM and the counts that are stored are what the view has
-pub record BankTied (a : Hold) (p : BankState) (lines : FinMap nat_cmp (List ℕ)) (cs : Counts) : Type 0 where
+-- the bank, the DRAM, and the messages and counts of the outbox are what the view has
+pub record BankTied (a : Hold) (p : BankState) (lines : FinMap nat_cmp (List ℕ)) (out : OutboxState) : Type 0 where
   pub bank : a.bank ≡ p
   pub dram : a.dram ≡ lines
-  pub counts : a.counts ≡ cs
+  pub outbox : a.outbox ≡ out.messages
+  pub counts : a.counts ≡ out.counts

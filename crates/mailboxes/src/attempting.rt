@@ -1,53 +1,55 @@
-//! A core's seat completes its open operation.
-ghost use Rattle.std.specs.Prelude.{◌≡◌, None, MatchOption};
-ghost use Rattle.core_pts.specs.declared.attempt.Attempt.TheVariants.{Completed};
+//! A core's seat attempts its open operation.
+ghost use Rattle.std.specs.Prelude.{◌≡◌, ◌≢◌};
 ghost use Rattle.core_pts.specs.CoreTable as core_table;
-ghost use Rattle.mailboxes.specs.Attempts.{Completes, IsCompletion};
-ghost use Rattle.mailboxes.specs.BoxMoves.{hold};
+ghost use Rattle.mailboxes.specs.Attempts.{Asks, Attempts, AttemptsSo, Tries, sent_if, tried};
 ghost use Rattle.mailboxes.specs.CoreCalls.{SamePlace};
 ghost use Rattle.mailboxes.specs.Seats.{IsCoreSeat};
 
+use crate::changes::change_core;
 use crate::completions::finish;
 use crate::core_seat::CoreSeat;
 use crate::machine::Machine;
+use crate::outcome::{Completion, Outcome};
 use core_pts::laws::{completed_on_a_copy, nothing_completed_keeps};
 use core_pts::{Attempt, Core};
+use machine_table::{Answer, Refusal};
+use network::{Body, Message};
 use physiological_order::{Op, Record};
+use seat_rule::parts::messages_of_seats_find_their_parts;
 use timestamp_manager::Exhausted;
 
-// An operation that a core completed: its place, what it received and its time.
-#[derive(Clone, Copy, Debug, PartialEq, Eq)]
-struct Completion {
-    op: Op,
-    place: u32,
-    received: Option<u64>,
-    ts: u64,
-}
-
-// Completes the open operation of a core, if its table does so now.
-fn completed(core: &mut Core) -> Option<Completion>
-    ensures { MatchOption result (core.new ≡ core.old)
-        (λ d. IsCompletion core.old d.op d.place d.received d.ts core.new) }
+// What an attempt comes to by the core's table. The core is changed only if the operation is completed.
+fn try_open(core: &mut Core) -> Outcome
+    ensures outcome { result ≡ tried core.old }
+    ensures core { Tries core.old result core.new }
 {
     nothing_completed_keeps();
     completed_on_a_copy();
     let Some((op, _)) = core.open_op() else {
-        return None;
+        return Outcome::Keeps(Answer::Idle);
     };
+    let given = &op;
     let place = core.issued().saturating_sub(1);
+    let line = core.line_of(*given);
     match core.attempt() {
-        Ok(Attempt::Completed(received, ts)) => Some(Completion {
-            op,
+        Ok(Attempt::Completed(received, ts)) => Outcome::Completes(Completion {
+            op: *given,
             place,
             received,
             ts,
         }),
-        Ok(Attempt::NeedShared(_, _)) => None,
-        Ok(Attempt::NeedExclusive(_)) => None,
-        Ok(Attempt::NoRoom) => None,
-        Ok(Attempt::Waiting) => None,
-        Ok(Attempt::Idle) => None,
-        Err(Exhausted) => None,
+        Ok(Attempt::NeedShared(pts, version)) => Outcome::Requests(core.to_bank(
+            line,
+            Body::ShReq { pts, version },
+        )),
+        Ok(Attempt::NeedExclusive(version)) => Outcome::Requests(core.to_bank(
+            line,
+            Body::ExReq { version },
+        )),
+        Ok(Attempt::NoRoom) => Outcome::Keeps(Answer::Refused(Refusal::NoRoom)),
+        Ok(Attempt::Waiting) => Outcome::Keeps(Answer::Waiting),
+        Ok(Attempt::Idle) => Outcome::Keeps(Answer::Idle),
+        Err(Exhausted) => Outcome::Exhausts,
     }
 }
 
@@ -73,29 +75,69 @@ fn record_of(core: u32, done: &Completion, number: u64) -> Record
 }
 
 impl CoreSeat {
-    // Completes the open operation, if the core's table does so now: number, record and copy change in one exchange.
-    pub(crate) fn complete(&mut self, machine: &Machine) -> Option<Record>
+    /// Attempts the open operation, by the core's table: completes it, or sends the request that it needs. Number,
+    /// record and copy of a completion change in one exchange.
+    ///
+    /// Stopped exactly if the seat is stopped; else NoRoom exactly if a request is needed, but there is no copy of the
+    /// line and its set is full; else NetworkFull exactly if a request is needed, and the outbox has no place or the
+    /// seat sent 2 ^ 64 - 1 messages. These refusals change nothing. Exhausted exactly if a sum of times doesn't fit:
+    /// the seat is then stopped, and nothing else changes. NoMemory is never answered.
+    pub fn attempt(&mut self, machine: &Machine) -> Answer
         requires { IsCoreSeat machine.now self.old }
         ensures seat { IsCoreSeat machine.now self.new × SamePlace self.old self.new }
-        ensures completed { MatchOption result (hold self.new.mail ≡ hold self.old.mail)
-            (λ r. Completes machine.now r self.old self.new) }
-        ensures stopped { self.new.is_stopped ≡ self.old.is_stopped }
+        ensures attempt { Attempts machine.now self.old result self.new }
+        ensures sure { result ≢ Answer.Refused Refusal.NoMemory }
     {
-        let Some(done) = completed(&mut self.core) else {
-            return None;
-        };
-        let word = machine.table.slot_count();
-        let number = finish(
-            &machine.table.shared,
+        if self.is_stopped {
+            return Answer::Refused(Refusal::Stopped);
+        }
+        match try_open(&mut self.part.core) {
+            Outcome::Keeps(answer) => answer,
+            Outcome::Exhausts => {
+                self.is_stopped = true;
+                Answer::Refused(Refusal::Exhausted)
+            }
+            Outcome::Requests(request) => self.ask(machine, request),
+            Outcome::Completes(done) => {
+                let word = machine.table.slot_count();
+                let number = finish(
+                    &machine.table.shared,
+                    &mut self.mail.seat,
+                    word,
+                    &done.op,
+                    done.received,
+                    done.ts,
+                    &self.part.core,
+                );
+                let record = record_of(self.mail.number, &done, number);
+                self.records.push_reserved(record);
+                Answer::Completed(record_of(self.mail.number, &done, number))
+            }
+        }
+    }
+
+    // Sends the request that the open operation needs, if it can be sent.
+    fn ask(&mut self, machine: &Machine, request: Message) -> Answer
+        requires seat { IsCoreSeat machine.now self.old }
+        requires asks { Asks self.old.part.core request }
+        ensures seat { IsCoreSeat machine.now self.new × SamePlace self.old self.new }
+        ensures asked { AttemptsSo machine.now self.old result self.new
+            (sent_if self.old.part.outbox (Outcome.Requests request)) }
+        ensures sure { result ≢ Answer.Refused Refusal.NoMemory }
+    {
+        messages_of_seats_find_their_parts();
+        if !self.part.outbox.can_send_out() {
+            return Answer::Refused(Refusal::NetworkFull);
+        }
+        self.part.core.requested();
+        self.part.outbox.send(request);
+        change_core(
+            machine,
             &mut self.mail.seat,
-            word,
-            &done.op,
-            done.received,
-            done.ts,
-            &self.core,
+            &self.part,
+            &self.issued,
+            &self.mail.inbox,
         );
-        self.records
-            .push_reserved(record_of(self.mail.number, &done, number));
-        Some(record_of(self.mail.number, &done, number))
+        Answer::Requested
     }
 }

@@ -1,28 +1,35 @@
 //! A bank's seat with what it stores.
 ghost use Rattle.std.specs.Prelude.{◌≡◌, ◌+◌, ◌-◌, ◌<◌, ◌≤◌, true, false, [], IfOk};
+ghost use Rattle.std.specs.Coded.{codes};
 ghost use Rattle.std.specs.FinMap.{entries};
+ghost use Rattle.std.proofs.Props.{props};
+ghost use Rattle.dram_mts.specs.contracts.dram.Dram as stored_dram;
 ghost use Rattle.machine_table.specs.SetUp.{is_good};
 ghost use Rattle.machine_table.specs.Opening.{dram_of};
 ghost use Rattle.seat_rule.specs.Rule.{opening_hold};
+ghost use Rattle.mailboxes.specs.Places.{AllLinked};
 ghost use Rattle.mailboxes.specs.Ties.{BankTied};
 
 use crate::machine::Machine;
 use crate::mailbox::Mailbox;
+use crate::outbox::Outbox;
+use crate::sending::SendingBank;
 use crate::steps::Chair;
 use dram_mts::Dram;
 use llc_bank::{Bank, BankConfig};
-use machine_table::Counts;
-use serving::{Inbox, Queue};
+use serving::Inbox;
 use std::alloc::{AllocError, Global};
 
-/// A bank's seat: its messages, the bank, the DRAM behind it, and the counts of the messages that it sent.
+/// A bank's seat: the messages that came in, and the bank and the DRAM behind it with what their seat sends by. All
+/// messages of the outbox go to seats to which there is a link.
 #[derive(Drop)]
 pub struct BankSeat {
     pub mail: Mailbox,
-    pub bank: Bank,
-    pub dram: Dram,
-    pub counts: Counts,
-    pub ghost tied: { BankTied mail.seat.me.0.mine bank dram counts },
+    pub part: SendingBank,
+    /// Whether a sum of times didn't fit: the seat's calls that can refuse are then refused.
+    pub is_stopped: bool,
+    pub ghost tied: { BankTied mail.seat.me.0.mine part.bank part.dram part.outbox } by { Prim.hlevel (props, codes, stored_dram.the_row.coded) },
+    pub ghost linked: { AllLinked mail.cores mail.banks mail.number part.outbox.messages },
 }
 
 impl BankSeat {
@@ -42,7 +49,7 @@ impl BankSeat {
             (seat.me.0.mine ≡ opening_hold machine.now.set_up number) × (seat.me.1 ≡ []) }
         ensures { IfOk result (λ p. (p.mail.seat ≡ seat) × (p.mail.number ≡ number) ×
             (p.mail.cores ≡ machine.now.set_up.config.cores) ×
-            (p.mail.banks ≡ machine.now.set_up.config.banks)) }
+            (p.mail.banks ≡ machine.now.set_up.config.banks) × (p.is_stopped ≡ false)) }
     {
         let config = machine.set_up.config;
         let bank = BankConfig {
@@ -54,27 +61,20 @@ impl BankSeat {
             opening_time: config.opening_time,
         };
         let bank = Bank::new(alloc, bank)?;
-        let outbox = Queue::new(alloc)?;
+        let outbox = Outbox::new(alloc)?;
         let inbox = Inbox::new(alloc)?;
         let mail = Mailbox {
             seat,
             number,
             cores: config.cores,
             banks: config.banks,
-            outbox,
             inbox,
             cursor: 0,
         };
         Ok(BankSeat {
             mail,
-            bank,
-            dram,
-            counts: Counts {
-                renewals: 0,
-                upgrades: 0,
-                flushes: 0,
-                write_backs: 0,
-            },
+            part: SendingBank { bank, dram, outbox },
+            is_stopped: false,
         })
     }
 }

@@ -5,18 +5,21 @@ ghost use Rattle.seat_rule.specs.declared.views.Hold.{Hold};
 ghost use Rattle.seat_rule.specs.Rule.{Changes, seat_count, slot_count};
 ghost use Rattle.seat_rule.specs.Plays.{Serves, Standing, stood};
 ghost use Rattle.seat_rule.specs.SeatMoves.{SeatMove};
-ghost use Rattle.mailboxes.specs.CoreCalls.{core_hold};
+ghost use Rattle.mailboxes.specs.Stored.{stored_bank, stored_core};
 ghost use Rattle.mailboxes.specs.Places.{Belongs};
+ghost use Rattle.mailboxes.specs.Seats.{IsLive};
 
+use crate::machine::Machine;
+use crate::sending::{SendingBank, SendingCore};
 use crate::steps::{Aim, Chair, Desk};
 use atomic_table::Play;
-use core_pts::Core;
 use network::Message;
 use physiological_order::Op;
 use seat_rule::Hold;
 use seat_rule::laws::changes_keep_the_rule;
 use seat_rule::parts::moves_of_seats_are_changes;
 use seating::View;
+use serving::Inbox;
 use std::marker::{Brand, PhantomData};
 
 struct Stands<C> {
@@ -43,40 +46,69 @@ fn stand<C: Aim>(desk: &Desk, seat: &mut Chair, word: usize)
     desk.fetch_add::<Stands<C>>(seat, word, 0);
 }
 
-/// What a core's seat holds becomes this core, issued these operations, if that is a move of the seat. `word` is the
-/// number of the word that counts completions.
-pub(crate) fn change_core(desk: &Desk, seat: &mut Chair, word: usize, core: &Core, issued: &Vec<Op>)
-    requires desk { Belongs seat.old.table_id desk.now.table_id desk.now.key }
-    requires word { word ≡ slot_count desk.now.key }
-    requires live { (seat.old.me.0.spent ≡ false) ×
-        (seat.old.me.0.number < seat_count desk.now.key) }
-    requires change { SeatMove desk.now.key seat.old.me.0.number seat.old.me.0.mine
-        (core_hold seat.old.me.0.mine core.now issued.now.items) }
-    ensures desk { (seat.new.table_id ≡ seat.old.table_id) × (seat.new.id ≡ seat.old.id) }
+/// What a core's seat holds becomes what it stores, if that is a move of the seat.
+pub(crate) fn change_core(
+    machine: &Machine,
+    seat: &mut Chair,
+    part: &SendingCore,
+    issued: &Vec<Op>,
+    inbox: &Inbox<Message>,
+)
+    requires seat { IsLive machine.now seat.old }
+    requires change { SeatMove machine.now.set_up seat.old.me.0.number seat.old.me.0.mine
+        (stored_core seat.old.me.0.mine part.now issued.now.items inbox.now) }
+    ensures seat { (seat.new.table_id ≡ seat.old.table_id) × (seat.new.id ≡ seat.old.id) }
     ensures changed { seat.new.me ≡ (
-      with_hold seat.old.me.0 (core_hold seat.old.me.0.mine core.now issued.now.items),
+      with_hold seat.old.me.0
+          (stored_core seat.old.me.0.mine part.now issued.now.items inbox.now),
       seat.old.me.1,
     ) }
-    ensures standing { Standing desk.now.key (seat_count desk.now.key) seat.old.me.0.number
-        (core_hold seat.old.me.0.mine core.now issued.now.items) }
+    ensures standing { Standing machine.now.set_up (seat_count machine.now.set_up)
+        seat.old.me.0.number
+        (stored_core seat.old.me.0.mine part.now issued.now.items inbox.now) }
 {
-    change_core_as::<Brand>(desk, seat, word, core, issued);
+    change::<Brand, SendingCore, Vec<Op>>(machine, seat, part, issued, inbox);
 }
 
-fn change_core_as<C: Aim>(desk: &Desk, seat: &mut Chair, word: usize, core: &Core, issued: &Vec<Op>)
-    requires desk { Belongs seat.old.table_id desk.now.table_id desk.now.key }
-    requires word { word ≡ slot_count desk.now.key }
-    requires live { (seat.old.me.0.spent ≡ false) ×
-        (seat.old.me.0.number < seat_count desk.now.key) }
-    requires change { SeatMove desk.now.key seat.old.me.0.number seat.old.me.0.mine
-        (core_hold seat.old.me.0.mine core.now issued.now.items) }
-    requires aim { (C.to ≡ with_hold seat.old.me.0
-        (core_hold seat.old.me.0.mine core.now issued.now.items)) ×
-        (C.set_up ≡ desk.now.key) }
-    ensures desk { (seat.new.table_id ≡ seat.old.table_id) × (seat.new.id ≡ seat.old.id) }
+/// What a bank's seat holds becomes what it stores, if that is a move of the seat.
+pub(crate) fn change_bank(
+    machine: &Machine,
+    seat: &mut Chair,
+    part: &SendingBank,
+    inbox: &Inbox<Message>,
+)
+    requires seat { IsLive machine.now seat.old }
+    requires change { SeatMove machine.now.set_up seat.old.me.0.number seat.old.me.0.mine
+        (stored_bank seat.old.me.0.mine part.now inbox.now) }
+    ensures seat { (seat.new.table_id ≡ seat.old.table_id) × (seat.new.id ≡ seat.old.id) }
+    ensures changed { seat.new.me ≡ (
+      with_hold seat.old.me.0 (stored_bank seat.old.me.0.mine part.now inbox.now),
+      seat.old.me.1,
+    ) }
+    ensures standing { Standing machine.now.set_up (seat_count machine.now.set_up)
+        seat.old.me.0.number (stored_bank seat.old.me.0.mine part.now inbox.now) }
+{
+    change::<Brand, SendingBank, ()>(machine, seat, part, &(), inbox);
+}
+
+// What a seat holds becomes what the call picks by what the seat stores.
+fn change<C: Aim, P, I>(
+    machine: &Machine,
+    seat: &mut Chair,
+    part: &P,
+    issued: &I,
+    inbox: &Inbox<Message>,
+)
+    requires seat { IsLive machine.now seat.old }
+    requires aim { C.set_up ≡ machine.now.set_up }
+    requires change { (h : Hold) × (C.to ≡ with_hold seat.old.me.0 h) ×
+        Serves seat.old.me.0.mine h ×
+        SeatMove C.set_up seat.old.me.0.number seat.old.me.0.mine h }
+    ensures seat { (seat.new.table_id ≡ seat.old.table_id) × (seat.new.id ≡ seat.old.id) }
     ensures changed { (seat.new.me ≡ (C.to, seat.old.me.1)) ×
         Standing C.set_up (seat_count C.set_up) C.to.number C.to.mine }
 {
     moves_of_seats_are_changes();
-    stand::<C>(desk, seat, word);
+    let word = machine.table.slot_count();
+    stand::<C>(&machine.table.shared, seat, word);
 }

@@ -1,12 +1,12 @@
 //! What is left of a machine when all its seats are given up.
+use crate::outbox::Outbox;
 use core_pts::Core;
 use dram_mts::Dram;
 use llc_bank::Bank;
-use machine_table::Counts;
 use network::Message;
 use physiological_order::{Op, Record};
 use seat_rule::SetUp;
-use serving::{Inbox, Queue};
+use serving::Inbox;
 
 /// What a core's seat leaves: all that it stored.
 #[derive(Drop)]
@@ -18,10 +18,8 @@ pub struct CorePart {
     pub issued: Vec<Op>,
     /// The records of the core, in their order.
     pub records: Vec<Record>,
-    /// How many of the counted kinds of message the seat sent.
-    pub counts: Counts,
-    /// The messages that were not put, the oldest first.
-    pub outbox: Queue<Message>,
+    /// The messages that were not put, and how many messages the seat sent.
+    pub outbox: Outbox,
     /// The message that was taken and not served, and those that waited for the core.
     pub inbox: Inbox<Message>,
 }
@@ -33,10 +31,8 @@ pub struct BankPart {
     pub number: u32,
     pub bank: Bank,
     pub dram: Dram,
-    /// How many of the counted kinds of message the seat sent.
-    pub counts: Counts,
-    /// The messages that were not put, the oldest first.
-    pub outbox: Queue<Message>,
+    /// The messages that were not put, and how many messages the seat sent.
+    pub outbox: Outbox,
     /// The message that was taken and not served, and those that waited for the bank or its DRAM.
     pub inbox: Inbox<Message>,
 }

@@ -16,6 +16,7 @@ use crate::machine::Machine;
 use crate::mailbox::Mailbox;
 use crate::merging::merged;
 use crate::run::Run;
+use crate::sending::{SendingBank, SendingCore};
 use crate::steps::{Chair, Desk, meet};
 use atomic_table::Closed;
 use network::{Body, Message};
@@ -145,25 +146,23 @@ fn leave_core(port: CoreSeat, parts: &mut Vec<CorePart>) -> Chair
 {
     let CoreSeat {
         mail,
-        core,
+        part,
         issued,
         records,
-        counts,
         ..
     } = port;
     let Mailbox {
         seat,
         number,
-        outbox,
         inbox,
         ..
     } = mail;
+    let SendingCore { core, outbox } = part;
     parts.push_reserved(CorePart {
         number,
         core,
         issued,
         records,
-        counts,
         outbox,
         inbox,
     });
@@ -177,24 +176,18 @@ fn leave_bank(port: BankSeat, parts: &mut Vec<BankPart>) -> Chair
     ensures part { parts.new.items ≡ parts.old.items ++ bank_part port ∷ [] }
     ensures room { vec_capacity parts.new ≡ vec_capacity parts.old }
 {
-    let BankSeat {
-        mail,
-        bank,
-        dram,
-        counts,
-    } = port;
+    let BankSeat { mail, part, .. } = port;
     let Mailbox {
         seat,
         number,
-        outbox,
         inbox,
         ..
     } = mail;
+    let SendingBank { bank, dram, outbox } = part;
     parts.push_reserved(BankPart {
         number,
         bank,
         dram,
-        counts,
         outbox,
         inbox,
     });

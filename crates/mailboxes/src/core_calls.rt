@@ -26,17 +26,18 @@ fn has_room<T>(list: &mut Vec<T>) -> bool
 impl CoreSeat {
     /// The open operation, and whether its request is out.
     pub fn open_op(&self) -> Option<(Op, bool)>
-        ensures { result ≡ option_map (λ op. (op, self.now.core.is_out)) self.now.core.open_op }
+        ensures { result ≡
+            option_map (λ op. (op, self.now.part.core.is_out)) self.now.part.core.open_op }
     {
-        self.core.open_op()
+        self.part.core.open_op()
     }
 
     /// The copy to evict to make room for a line: the least recently used one of its set, exactly if there is no place
     /// for the line.
     pub fn victim(&self, line: LineNo) -> Option<LineNo>
-        ensures { result ≡ victim_for self.now.core.cache line }
+        ensures { result ≡ victim_for self.now.part.core.cache line }
     {
-        self.core.victim(line)
+        self.part.core.victim(line)
     }
 
     /// Gives the core its next operation, which is open then. Stopped exactly if the seat is stopped; else Busy exactly
@@ -45,31 +46,37 @@ impl CoreSeat {
     pub fn issue(&mut self, machine: &Machine, op: Op) -> Result<(), Refusal>
         requires { IsCoreSeat machine.now self.old }
         ensures seat { IsCoreSeat machine.now self.new × SamePlace self.old self.new }
-        ensures answer { IssueAnswers self.old.is_stopped (core_table.issue self.old.core op).0 result }
+        ensures outbox { self.new.part.outbox ≡ self.old.part.outbox }
+        ensures answer { IssueAnswers self.old.is_stopped
+            (core_table.issue self.old.part.core op).0 result }
         ensures done { OnOk result (hold self.new.mail ≡ core_hold (hold self.old.mail)
-            (core_table.issue self.old.core op).1 (self.old.issued.items ++ op ∷ [])) }
+            (core_table.issue self.old.part.core op).1 (self.old.issued.items ++ op ∷ [])) }
         ensures refused { OnErr result (hold self.new.mail ≡ hold self.old.mail) }
         ensures stopped { self.new.is_stopped ≡ self.old.is_stopped }
     {
         if self.is_stopped {
             return Err(Refusal::Stopped);
         }
-        if self.core.open_op().is_some() {
+        if self.part.core.open_op().is_some() {
             return Err(Refusal::Busy);
         }
-        if self.core.issued() == u32::MAX {
+        if self.part.core.issued() == u32::MAX {
             return Err(Refusal::TooMany);
         }
         if !has_room(&mut self.issued) || !has_room(&mut self.records) {
             return Err(Refusal::NoMemory);
         }
         let given = &op;
-        let issued = self.core.issue(*given);
+        let issued = self.part.core.issue(*given);
         issued.unwrap();
         self.issued.push_reserved(*given);
-        let word = machine.table.slot_count();
-        let desk = &machine.table.shared;
-        change_core(desk, &mut self.mail.seat, word, &self.core, &self.issued);
+        change_core(
+            machine,
+            &mut self.mail.seat,
+            &self.part,
+            &self.issued,
+            &self.mail.inbox,
+        );
         Ok(())
     }
 
@@ -78,26 +85,31 @@ impl CoreSeat {
     pub fn advance(&mut self, machine: &Machine) -> Result<(), Refusal>
         requires { IsCoreSeat machine.now self.old }
         ensures seat { IsCoreSeat machine.now self.new × SamePlace self.old self.new }
+        ensures outbox { self.new.part.outbox ≡ self.old.part.outbox }
         ensures answer { result ≡
-            advance_answer self.old.is_stopped (core_table.advance self.old.core).0 }
+            advance_answer self.old.is_stopped (core_table.advance self.old.part.core).0 }
         ensures done { OnOk result (hold self.new.mail ≡ core_hold (hold self.old.mail)
-            (core_table.advance self.old.core).1 self.old.issued.items) }
+            (core_table.advance self.old.part.core).1 self.old.issued.items) }
         ensures refused { OnErr result (hold self.new.mail ≡ hold self.old.mail) }
         ensures stopped { self.new.is_stopped ≡
-            (self.old.is_stopped || is_none (core_table.advance self.old.core).0) }
+            (self.old.is_stopped || is_none (core_table.advance self.old.part.core).0) }
     {
         if self.is_stopped {
             return Err(Refusal::Stopped);
         }
-        match self.core.advance() {
+        match self.part.core.advance() {
             Err(_) => {
                 self.is_stopped = true;
                 Err(Refusal::Exhausted)
             }
             Ok(()) => {
-                let word = machine.table.slot_count();
-                let desk = &machine.table.shared;
-                change_core(desk, &mut self.mail.seat, word, &self.core, &self.issued);
+                change_core(
+                    machine,
+                    &mut self.mail.seat,
+                    &self.part,
+                    &self.issued,
+                    &self.mail.inbox,
+                );
                 Ok(())
             }
         }

@@ -3,31 +3,33 @@ ghost use Rattle.std.specs.Prelude.{◌≡◌, ◌+◌, ◌<◌, ◌≤◌, true
 ghost use Rattle.protocol.specs.Issued.{listed};
 ghost use Rattle.machine_table.specs.SetUp.{is_good};
 ghost use Rattle.seat_rule.specs.Rule.{opening_hold};
+ghost use Rattle.mailboxes.specs.Places.{AllLinked};
 ghost use Rattle.mailboxes.specs.Ties.{CoreTied};
 
 use crate::machine::Machine;
 use crate::mailbox::Mailbox;
+use crate::outbox::Outbox;
+use crate::sending::SendingCore;
 use crate::steps::Chair;
 use core_pts::{Core, CoreConfig};
-use machine_table::Counts;
 use physiological_order::{Op, Record};
 use private_cache::Geometry;
-use serving::{Inbox, Queue};
+use serving::Inbox;
 use std::alloc::{AllocError, Global};
 
-/// A core's seat: its messages, the core, the operations that it was issued, its records, and the counts of the
-/// messages that it sent.
+/// A core's seat: the messages that came in, the core with what its seat sends by, the operations that it was issued,
+/// and its records. All messages of the outbox go to seats to which there is a link.
 #[derive(Drop)]
 pub struct CoreSeat {
     pub mail: Mailbox,
-    pub core: Core,
+    pub part: SendingCore,
     pub issued: Vec<Op>,
     pub records: Vec<Record>,
-    pub counts: Counts,
     /// Whether a sum of times didn't fit: the seat's calls that can refuse are then refused.
     pub is_stopped: bool,
-    pub ghost tied: { CoreTied mail.seat.me.0.mine core issued.items records.items counts },
-    pub ghost room: { length records.items + length (listed core.open_op) ≤ vec_capacity records },
+    pub ghost tied: { CoreTied mail.seat.me.0.mine part.core issued.items records.items part.outbox },
+    pub ghost linked: { AllLinked mail.cores mail.banks mail.number part.outbox.messages },
+    pub ghost room: { length records.items + length (listed part.core.open_op) ≤ vec_capacity records },
 }
 
 impl CoreSeat {
@@ -59,28 +61,21 @@ impl CoreSeat {
             ways: config.ways,
         };
         let core = Core::new(alloc, core, geometry)?;
-        let outbox = Queue::new(alloc)?;
+        let outbox = Outbox::new(alloc)?;
         let inbox = Inbox::new(alloc)?;
         let mail = Mailbox {
             seat,
             number,
             cores: config.cores,
             banks: config.banks,
-            outbox,
             inbox,
             cursor: 0,
         };
         Ok(CoreSeat {
             mail,
-            core,
+            part: SendingCore { core, outbox },
             issued: Vec::new(alloc),
             records: Vec::new(alloc),
-            counts: Counts {
-                renewals: 0,
-                upgrades: 0,
-                flushes: 0,
-                write_backs: 0,
-            },
             is_stopped: false,
         })
     }

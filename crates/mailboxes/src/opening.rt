@@ -15,6 +15,7 @@ use machine_table::Config;
 use physiological_order::{Memory, WordAddr};
 use seat_rule::SetUp;
 use seat_rule::laws::opened_machines_keep_the_rule;
+use seat_rule::parts::seats_stand;
 use std::alloc::{AllocError, Global};
 
 /// A machine that is set up so, with this memory, and its seats by number: those of its cores, and those of its banks.
@@ -54,6 +55,7 @@ fn open_seats(
     ensures banks { IfOk result (λ r. (length r.2.items ≡ set_up.config.banks) ×
         AllNewBanks r.0 set_up.config.cores r.2.items) }
 {
+    seats_stand();
     let (machine, mut first) = open_table(alloc, set_up)?;
     let mut cores = open_cores(alloc, &machine, &mut first)?;
     let banks = open_banks(alloc, &machine, &mut first)?;
@@ -88,6 +90,7 @@ fn open_cores(
     ensures first { IfOk result (λ cores. HasMade machine.now machine.now.set_up.config.cores
         first.new) }
 {
+    seats_stand();
     let mut cores = Vec::new(alloc);
     for number in 1..machine.set_up.config.cores {
         let seat = make(&machine.table.shared, first);
@@ -107,6 +110,7 @@ fn open_banks(
         AllNewBanks machine.now machine.now.set_up.config.cores banks.items) }
     ensures first { IfOk result (λ banks. (n : ℕ) × HasMade machine.now n first.new) }
 {
+    seats_stand();
     let config = machine.set_up.config;
     let words = machine.set_up.memory.words()?;
     let mut banks = Vec::new(alloc);

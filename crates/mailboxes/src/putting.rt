@@ -3,8 +3,8 @@ ghost use Rattle.std.specs.Prelude.{◌≡◌, ℕ, false, Some, slice_get};
 ghost use Rattle.network.specs.declared.message.Message.{Message};
 ghost use Rattle.seat_rule.specs.Rule.{target, node_of};
 ghost use Rattle.serving.specs.Queues.{IsAfter, IsIn, values_of};
-ghost use Rattle.mailboxes.specs.Places.{StartsAt, link_to};
-ghost use Rattle.mailboxes.specs.BoxMoves.{IsAt, Stays, PutAt, Puts};
+ghost use Rattle.mailboxes.specs.Places.{AllLinked, StartsAt, link_to};
+ghost use Rattle.mailboxes.specs.BoxMoves.{IsAt, Stands, Stays, PutAt, Puts, hold};
 
 use crate::ends::{link_to, slots_are_few};
 use crate::links::find_free;
@@ -12,60 +12,89 @@ use crate::machine::Machine;
 use crate::mailbox::Mailbox;
 use crate::steps::send;
 use line_arena::Cell;
+use network::Message;
+use seat_rule::parts::seats_stand;
+use serving::Queue;
 
 impl Mailbox {
     /// Puts the oldest message of the outbox whose link has a free slot, into the first one that is found free; false
     /// if there is no such message.
-    pub fn put(&mut self, machine: &Machine) -> bool
-        requires { IsAt machine.now self.old }
+    pub fn put(&mut self, machine: &Machine, outbox: &mut Queue<Message>) -> bool
+        requires seat { IsAt machine.now self.old }
+        requires stands { Stands machine.now self.old }
+        requires outbox { (hold self.old).outbox ≡ values_of outbox.old }
+        requires linked { AllLinked self.old.cores self.old.banks self.old.number
+            (values_of outbox.old) }
         ensures seat { IsAt machine.now self.new × Stays self.old self.new }
-        ensures put { Puts result self.old self.new }
+        ensures stands { Stands machine.now self.new }
+        ensures outbox { (hold self.new).outbox ≡ values_of outbox.new }
+        ensures linked { AllLinked self.new.cores self.new.banks self.new.number
+            (values_of outbox.new) }
+        ensures put { Puts result self.old (values_of outbox.old) self.new (values_of outbox.new) }
     {
-        let mut next = self.outbox.front();
-        for index in 0..self.outbox.len() {
+        let mut next = outbox.front();
+        for index in 0..outbox.len() {
             let Some(cell) = next else {
                 return false;
             };
-            let link = self.link_at(machine, cell);
-            if self.put_at(machine, cell, index as usize, link) {
+            let link = self.link_at(machine, outbox, cell);
+            if self.put_at(machine, outbox, cell, index as usize, link) {
                 return true;
             }
-            next = self.outbox.next(cell);
+            next = outbox.next(cell);
         }
         false
     }
 
     // The link of the message of a cell of the outbox.
-    fn link_at(&self, machine: &Machine, cell: Cell) -> usize
+    fn link_at(&self, machine: &Machine, outbox: &Queue<Message>, cell: Cell) -> usize
         requires seat { IsAt machine.now self.now }
-        requires cell { IsIn cell self.now.outbox }
+        requires linked { AllLinked self.now.cores self.now.banks self.now.number
+            (values_of outbox.now) }
+        requires cell { IsIn cell outbox.now }
         ensures link { StartsAt machine.now.set_up result self.now.number }
-        ensures message { (m : Message) × ((k : ℕ) → IsAfter k cell self.now.outbox →
-            slice_get (values_of self.now.outbox) k ≡ Some m) ×
+        ensures message { (m : Message) × ((k : ℕ) → IsAfter k cell outbox.now →
+            slice_get (values_of outbox.now) k ≡ Some m) ×
             (m.to ≡ node_of machine.now.set_up (target machine.now.set_up result)) ×
             (result ≡ link_to self.now.cores self.now.banks self.now.number m.to) }
     {
         slots_are_few(&machine.set_up.config);
-        let to = self.outbox.get(cell).to;
+        let to = outbox.get(cell).to;
         link_to(&machine.set_up.config, self.number, &to)
     }
 
     // Puts the message of a cell of the outbox, which comes after `index` others, into a slot of its link.
-    fn put_at(&mut self, machine: &Machine, cell: Cell, index: usize, link: usize) -> bool
+    fn put_at(
+        &mut self,
+        machine: &Machine,
+        outbox: &mut Queue<Message>,
+        cell: Cell,
+        index: usize,
+        link: usize,
+    ) -> bool
         requires seat { IsAt machine.now self.old }
+        requires stands { Stands machine.now self.old }
+        requires outbox { (hold self.old).outbox ≡ values_of outbox.old }
+        requires linked { AllLinked self.old.cores self.old.banks self.old.number
+            (values_of outbox.old) }
         requires link { StartsAt machine.now.set_up link self.old.number }
-        requires cell { IsAfter index cell self.old.outbox }
-        requires message { (m : Message) ×
-            (slice_get (values_of self.old.outbox) index ≡ Some m) ×
+        requires cell { IsAfter index cell outbox.old }
+        requires message { (m : Message) × (slice_get (values_of outbox.old) index ≡ Some m) ×
             (m.to ≡ node_of machine.now.set_up (target machine.now.set_up link)) }
         ensures seat { IsAt machine.now self.new × Stays self.old self.new }
-        ensures put { PutAt link index result self.old self.new }
-        ensures kept { result ≡ false → self.new.outbox ≡ self.old.outbox }
+        ensures stands { Stands machine.now self.new }
+        ensures outbox { (hold self.new).outbox ≡ values_of outbox.new }
+        ensures linked { AllLinked self.new.cores self.new.banks self.new.number
+            (values_of outbox.new) }
+        ensures put { PutAt link index result self.old (values_of outbox.old) self.new
+            (values_of outbox.new) }
+        ensures kept { result ≡ false → outbox.new ≡ outbox.old }
     {
+        seats_stand();
         match find_free(&machine.table.shared, &mut self.seat, link) {
             None => false,
             Some(slot) => {
-                let message = self.outbox.take(cell);
+                let message = outbox.take(cell);
                 send(&machine.table.shared, &mut self.seat, slot, message, index);
                 true
             }

@@ -1,4 +1,5 @@
 //! A core's seat and a bank's seat put and take messages.
+ghost use Rattle.std.specs.Prelude.{◌≡◌};
 ghost use Rattle.mailboxes.specs.BoxMoves.{Puts, Stays, Takes};
 ghost use Rattle.mailboxes.specs.Seats.{IsBankSeat, IsCoreSeat, SameBank, SameCore};
 
@@ -13,9 +14,10 @@ impl CoreSeat {
         requires { IsCoreSeat machine.now self.old }
         ensures seat { IsCoreSeat machine.now self.new × SameCore self.old self.new }
         ensures mail { Stays self.old.mail self.new.mail }
-        ensures put { Puts result self.old.mail self.new.mail }
+        ensures put { Puts result self.old.mail self.old.part.outbox.messages self.new.mail
+            self.new.part.outbox.messages }
     {
-        self.mail.put(machine)
+        self.mail.put(machine, &mut self.part.outbox.queue)
     }
 
     /// Takes the first message that came in, from the cursor on and going round, into the empty hand.
@@ -23,6 +25,7 @@ impl CoreSeat {
         requires { IsCoreSeat machine.now self.old }
         ensures seat { IsCoreSeat machine.now self.new × SameCore self.old self.new }
         ensures mail { Stays self.old.mail self.new.mail }
+        ensures outbox { self.new.part.outbox ≡ self.old.part.outbox }
         ensures taken { Takes machine.now.set_up result self.old.mail self.new.mail }
     {
         self.mail.take(machine)
@@ -35,9 +38,10 @@ impl BankSeat {
         requires { IsBankSeat machine.now self.old }
         ensures seat { IsBankSeat machine.now self.new × SameBank self.old self.new }
         ensures mail { Stays self.old.mail self.new.mail }
-        ensures put { Puts result self.old.mail self.new.mail }
+        ensures put { Puts result self.old.mail self.old.part.outbox.messages self.new.mail
+            self.new.part.outbox.messages }
     {
-        self.mail.put(machine)
+        self.mail.put(machine, &mut self.part.outbox.queue)
     }
 
     /// Takes the first message that came in, from the cursor on and going round, into the empty hand.
@@ -45,6 +49,7 @@ impl BankSeat {
         requires { IsBankSeat machine.now self.old }
         ensures seat { IsBankSeat machine.now self.new × SameBank self.old self.new }
         ensures mail { Stays self.old.mail self.new.mail }
+        ensures outbox { self.new.part.outbox ≡ self.old.part.outbox }
         ensures taken { Takes machine.now.set_up result self.old.mail self.new.mail }
     {
         self.mail.take(machine)

@@ -1,7 +1,7 @@
 //! A seat takes messages out of slots.
 ghost use Rattle.std.specs.Prelude.{◌≡◌, ◌<◌, ◌≤◌, None};
 ghost use Rattle.mailboxes.specs.Places.{EndsAt, incoming, incoming_count};
-ghost use Rattle.mailboxes.specs.BoxMoves.{IsAt, Stays, TakesAt, Takes};
+ghost use Rattle.mailboxes.specs.BoxMoves.{IsAt, Stands, Stays, TakesAt, Takes, hold};
 
 use crate::ends::{incoming, incoming_count};
 use crate::machine::Machine;
@@ -9,13 +9,17 @@ use crate::mailbox::Mailbox;
 use crate::steps::{look_in, receive};
 use crate::taken::Take;
 use network::Body;
+use seat_rule::parts::seats_stand;
 
 impl Mailbox {
     /// Takes the message of the first slot that comes in and is found full into the hand, from the cursor on and going
     /// round.
     pub fn take(&mut self, machine: &Machine) -> Take
-        requires { IsAt machine.now self.old }
+        requires seat { IsAt machine.now self.old }
+        requires stands { Stands machine.now self.old }
         ensures seat { IsAt machine.now self.new × Stays self.old self.new }
+        ensures stands { Stands machine.now self.new }
+        ensures outbox { (hold self.new).outbox ≡ (hold self.old).outbox }
         ensures taken { Takes machine.now.set_up result self.old self.new }
     {
         if self.inbox.hand().is_some() {
@@ -55,11 +59,15 @@ impl Mailbox {
     // Takes the message of a slot into the empty hand.
     fn take_at(&mut self, machine: &Machine, slot: usize) -> bool
         requires seat { IsAt machine.now self.old }
+        requires stands { Stands machine.now self.old }
         requires slot { EndsAt machine.now.set_up slot self.old.number }
         requires hand { self.old.inbox.hand ≡ None }
         ensures seat { IsAt machine.now self.new × Stays self.old self.new }
+        ensures stands { Stands machine.now self.new }
+        ensures outbox { (hold self.new).outbox ≡ (hold self.old).outbox }
         ensures taken { TakesAt machine.now.set_up slot result self.old self.new }
     {
+        seats_stand();
         if look_in(&machine.table.shared, &mut self.seat, slot) == 0 {
             return false;
         }

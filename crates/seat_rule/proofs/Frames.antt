@@ -11,7 +11,7 @@ use Rattle.machine_theorem.specs.Bags.{weigh, SameBag}
 use Rattle.machine_moves.specs.Moves.{same}
 use Rattle.seating.specs.declared.views.View.{View}
 use Rattle.seating.specs.Seated.{over, put, with_hold}
-use Rattle.seating.proofs.Lemmas.{at_put, over_put, over_put_by}
+use Rattle.seating.proofs.Lemmas.{at_put, over_put, over_put_by, put_here}
 use Rattle.seating.proofs.Lemmas.{within, shown_set}
 use Rattle.seat_rule.specs.declared.views.SetUp.{SetUp}
 use Rattle.seat_rule.specs.declared.views.Stage.{Stage}
@@ -254,3 +254,23 @@ standing_of z n from to slots s id w r at live =
       alone z n from to slots s r id w at live,
       r.own id ∙ ap (λ (g : Hold). g.records) is,
     )
+
+-- and it is so still, where nothing changes that the state shows
+pub stands_on : (z : SetUp) (n id : ℕ) (a b : Hold) → SamePart a b → SameBag (bag_of a) (bag_of b) →
+    Standing z n id a → Standing z n id b
+unfolding Standing
+stands_on z n id a b part bag s = (
+  put s.0 id b,
+  s.1,
+  s.2,
+  put_here s.0 id b,
+  reseat z n s.0 id b (bag_of a ++ s.1) (bag_of b ++ s.1) s.2
+      (subst (λ (g : Hold). SamePart g b) (sym s.3) part)
+      (λ f.
+      let x = weigh-append f (bag_of a) s.1 in
+      let y = weigh-append f (bag_of b) s.1 in
+      let e = bag f in
+      omega arith)
+      s.4,
+  s.5 ∙ sym part.records,
+)

@@ -17,6 +17,7 @@ use Rattle.seat_rule.specs.declared.views.SetUp.{SetUp}
 use Rattle.seat_rule.specs.declared.views.Hold.{Hold}
 use Rattle.seat_rule.specs.StateLaws.{StateLaws}
 use Rattle.seat_rule.specs.Rule.{free, opening_hold, gather, Reaches, Kept}
+use Rattle.seat_rule.specs.Plays.{Standing}
 
 at_first : (v u : View Hold) (j : ℕ) → get_elem? (v ∷ []) j ≡ some u → (j ≡ 0) × (v ≡ u)
 at_first v u zero e = (refl, some-injective v u e)
@@ -102,3 +103,8 @@ module _ (z : SetUp) (n : ℕ) (from to : ℕ → ℕ) (slots : ℕ) where
         bounded = λ j. omega arith;
         own = λ j. refl;
       }
+
+-- what a seat holds as it opens is a part of it
+pub opening_stands : (laws : StateLaws) (z : SetUp) (n id : ℕ) → Standing z n id (opening_hold z id)
+unfolding Standing
+opening_stands laws z n id = (opening_hold z, [], [], refl, opens_seated laws z n, refl)

@@ -7,8 +7,8 @@ ghost use Rattle.machine_theorem.specs.Bags.{SameBag};
 ghost use Rattle.machine_theorem.specs.Shape.{IsCore, IsBank};
 ghost use Rattle.seat_rule.specs.declared.views.SetUp.{SetUp};
 ghost use Rattle.seat_rule.specs.declared.views.Hold.{Hold};
-ghost use Rattle.seat_rule.specs.Rule.{Changes, bag_of};
-ghost use Rattle.seat_rule.specs.Plays.{Standing};
+ghost use Rattle.seat_rule.specs.Rule.{Changes, bag_of, opening_hold};
+ghost use Rattle.seat_rule.specs.Plays.{SamePart, Standing};
 ghost use Rattle.seat_rule.specs.SeatMoves.{SeatMove};
 ghost use Rattle.seat_rule.specs.Found.{FindsHere};
 
@@ -19,6 +19,16 @@ pub fn moves_of_seats_are_changes()
     ensures { (z : SetUp) (n id : ℕ) (a b : Hold) → id < n → SeatMove z id a b →
         Changes z n id a b }
 {}
+
+/// What a seat holds as it opens is a part of a reached state. So is what it holds later, as long as it has the same part,
+/// operations, records and counts, and the same messages wherever they are.
+pub fn seats_stand()
+    ensures opened { (z : SetUp) (n id : ℕ) → Standing z n id (opening_hold z id) }
+    ensures kept { (z : SetUp) (n id : ℕ) (a b : Hold) → SamePart a b →
+        SameBag (bag_of a) (bag_of b) → Standing z n id a → Standing z n id b }
+{
+    laws_of_states();
+}
 
 /// What a seat holds is a part of a reached state: its core, or its bank, knows its number and how the machine was set
 /// up.

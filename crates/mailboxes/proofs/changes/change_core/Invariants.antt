@@ -1,10 +1,10 @@
 use Rattle.seating.specs.Seated.{with_hold}
-use Rattle.mailboxes.specs.CoreCalls.{core_hold}
+use Rattle.mailboxes.specs.Stored.{stored_core}
 use Rattle.mailboxes.proofs.changes.change_core.Given as goal
 
-abbrev pub ghosts-change_core_as : goal.ghosts-change_core_as
-ghosts-change_core_as a =
+abbrev pub ghosts-change : goal.ghosts-change
+ghosts-change a =
     record {
-      set_up = a.desk.now.key;
-      to = with_hold a.seat.now.me.0 (core_hold a.seat.now.me.0.mine a.core.now a.issued.now.items);
+      set_up = a.machine.now.set_up;
+      to = with_hold a.seat.now.me.0 (stored_core a.seat.now.me.0.mine a.part.now a.issued.now.items a.inbox.now);
     }

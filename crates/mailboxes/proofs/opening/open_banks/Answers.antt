@@ -1,7 +1,7 @@
 use Rattle.std.proofs.Common.{◌≡◌, ℕ, ◌+◌, ◌<◌, ◌++◌, [], ◌∷◌, List, length, length-append, ap, subst, sym}
 use Rattle.std.proofs.Common.{arith, ◌∙◌}
 use Rattle.seating.specs.Seated.{one_more, first_view}
-use Rattle.seat_rule.specs.Rule.{opening_hold}
+use Rattle.seat_rule.specs.Rule.{opening_hold, seat_count}
 use Rattle.mailboxes.specs.declared.bank_seat.BankSeat.{BankSeat}
 use Rattle.mailboxes.specs.Seats.{IsNewBank}
 use Rattle.mailboxes.proofs.NewSeats.{new_bank, more_banks}
@@ -25,7 +25,7 @@ loop-number-preserved c =
     let below : c.loop-number.number < m.set_up.config.banks = c.loop-number-test.true in
     let seat : IsNewBank m n p =
     new_bank m n p c.make-seat.result (omega arith) (omega arith) (made.desk.2 ∙ i.0.0) mine new.0 new.1 new.2
-    new.3 in (
+    new.3 (c.seats_stand.ensures.opened m.set_up (seat_count m.set_up) n) in (
       (
         made.desk.0 ∙ i.0.0,
         made.made.0 ∙ ap (λ y. (one_more y.0, y.1)) i.0.1

@@ -1,6 +1,6 @@
 use Rattle.std.proofs.Common.{◌≡◌, ℕ, ◌+◌, ◌++◌, [], ◌∷◌, List, length, length-append, ap, subst, arith, ◌∙◌}
 use Rattle.seating.specs.Seated.{one_more}
-use Rattle.seat_rule.specs.Rule.{opening_hold}
+use Rattle.seat_rule.specs.Rule.{opening_hold, seat_count}
 use Rattle.mailboxes.specs.declared.core_seat.CoreSeat.{CoreSeat}
 use Rattle.mailboxes.specs.Seats.{IsNewCore}
 use Rattle.mailboxes.proofs.NewSeats.{new_core, more_cores}
@@ -21,7 +21,8 @@ loop-number-preserved c =
     ap (λ y. y.0.mine) made.made.1 ∙ ap (opening_hold m.table.shared.key) (ap (λ y. y.0.made) i.0.1)
     ∙ ap (λ z. opening_hold z n) m.keyed in
     let seat : IsNewCore m n p =
-    new_core m n p c.make-seat.result c.loop-number-test.true (made.desk.2 ∙ i.0.0) mine new.0 new.1 new.2 new.3 in (
+    new_core m n p c.make-seat.result c.loop-number-test.true (made.desk.2 ∙ i.0.0) mine new.0 new.1 new.2 new.3
+    (c.seats_stand.ensures.opened m.set_up (seat_count m.set_up) n) in (
       (made.desk.0 ∙ i.0.0, made.made.0 ∙ ap (λ y. (one_more y.0, y.1)) i.0.1),
       omega arith,
       omega arith,

@@ -4,9 +4,9 @@ use Rattle.serving.specs.Queues.{values_of}
 use Rattle.mailboxes.proofs.Outboxes.{left_was}
 use Rattle.mailboxes.proofs.mailbox.Mailbox.put_at.Goals as goal
 
-pub invariant_of-self-in-Some-clause-linked : goal.invariant_of-self-in-Some-clause-linked
-invariant_of-self-in-Some-clause-linked c =
+pub returns-in-Some-clause-linked : goal.returns-in-Some-clause-linked
+returns-in-Some-clause-linked c =
     λ i m e.
-    let was = left_was (values_of c.args.self.now.outbox) c.args.index i m
+    let was = left_was (values_of c.args.outbox.now) c.args.index i m
     (ap (λ xs. slice_get xs i) (sym (c.take-message.ensures.others c.args.index c.requires.cell)) ∙ e) in
-    c.args.self.now.linked was.0 m was.1
+    c.requires.linked was.0 m was.1

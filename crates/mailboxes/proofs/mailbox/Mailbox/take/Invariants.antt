@@ -1,6 +1,6 @@
 use Rattle.std.proofs.Common.{◌≡◌, None}
 use Rattle.mailboxes.specs.Places.{found_empty}
-use Rattle.mailboxes.specs.BoxMoves.{IsAt, Stays, TakenNothing}
+use Rattle.mailboxes.specs.BoxMoves.{IsAt, Stands, Stays, TakenNothing}
 use Rattle.mailboxes.proofs.mailbox.Mailbox.take.Given as goal
 
 -- all slots so far were found empty
@@ -9,3 +9,4 @@ invariant-loop-n l =
     let p = l.initial.self in
     IsAt l.machine l.self × Stays p l.self × (l.self.inbox.hand ≡ None)
     × TakenNothing (found_empty p.cores p.banks p.number p.cursor l.n) p l.self
+    × Stands l.machine l.self

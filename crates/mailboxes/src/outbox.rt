@@ -1,0 +1,130 @@
+//! What a seat sends by.
+ghost use Rattle.std.specs.Prelude.{◌≡◌, ◌+◌, ◌-◌, ◌<◌, ◌≤◌, ◌^◌, nat_eq, length, IfOk};
+ghost use Rattle.network.specs.Mail.{AreCounts, counted};
+ghost use Rattle.serving.specs.Queues.{values_of};
+ghost use Rattle.mailboxes.specs.Sending.{can_send, can_send_out, has_place, no_outbox, noted, sent_out};
+
+use machine_table::Counts;
+use network::{Body, Message};
+use serving::Queue;
+use std::alloc::{AllocError, Global};
+use std::marker::Model;
+
+/// What a seat sends by: up to 256 messages to be put, the oldest first, and how many messages it sent, of the counted
+/// kinds and in all. Contracts see these.
+#[derive(Drop)]
+pub struct Outbox {
+    pub(crate) queue: Queue<Message>,
+    pub(crate) counts: Counts,
+    // how many messages the seat sent, to its outbox or to its own held list
+    pub(crate) sent: u64,
+}
+
+impl Model for Outbox {
+    ghost use Rattle.network.specs.Mail.{AreCounts};
+    ghost use Rattle.serving.specs.Queues.{values_of};
+    ghost use Rattle.mailboxes.specs.Sending.{OutboxState};
+
+    ghost Value = { OutboxState };
+
+    ghost view = { λ b. record {
+      messages = values_of b.queue;
+      counts = b.counts;
+      sent = b.sent;
+    } };
+
+    ghost invariant = { λ b. AreCounts b.counts b.sent };
+}
+
+impl Outbox {
+    /// An outbox of a seat that sent nothing. All memory is taken here, for 256 messages.
+    pub(crate) fn new(alloc: Global) -> Result<Outbox, AllocError>
+        ensures { IfOk result (λ outbox. outbox ≡ no_outbox) }
+    {
+        let queue = Queue::new(alloc)?;
+        Ok(Outbox {
+            queue,
+            counts: Counts::zeros(),
+            sent: 0,
+        })
+    }
+
+    /// How many messages are to be put, up to 256.
+    pub fn len(&self) -> u32
+        ensures { result ≡ length self.now.messages }
+    {
+        self.queue.len()
+    }
+
+    /// Whether no message is to be put.
+    pub fn is_empty(&self) -> bool
+        ensures { result ≡ nat_eq (length self.now.messages) 0 }
+    {
+        self.queue.is_empty()
+    }
+
+    /// How many messages of the counted kinds the seat sent.
+    pub fn counts(&self) -> Counts
+        ensures { result ≡ self.now.counts }
+    {
+        self.counts
+    }
+
+    /// Whether there is place for one more message.
+    pub fn has_place(&self) -> bool
+        ensures { result ≡ has_place self.now }
+    {
+        self.queue.len() < 256
+    }
+
+    /// Whether the seat sent fewer messages than the 2 ^ 64 - 1 that it can send.
+    pub fn can_send(&self) -> bool
+        ensures { result ≡ can_send self.now }
+    {
+        self.sent < u64::MAX
+    }
+
+    /// Whether one more message can be put into the outbox: there is place for it, and the seat can send one more.
+    pub fn can_send_out(&self) -> bool
+        ensures { result ≡ can_send_out self.now }
+    {
+        self.has_place() && self.can_send()
+    }
+
+    /// Sends a message: it is to be put after the others, and is counted.
+    pub(crate) fn send(&mut self, message: Message)
+        requires place { length self.old.messages < 256 }
+        requires number { self.old.sent < 2 ^ 64 - 1 }
+        ensures { self.new ≡ sent_out self.old message }
+    {
+        count(&mut self.counts, &message.body);
+        self.sent += 1;
+        self.queue.push(message);
+    }
+
+    /// Counts a message that the seat sends to its own held list.
+    pub(crate) fn note(&mut self, message: &Message)
+        requires { self.old.sent < 2 ^ 64 - 1 }
+        ensures { self.new ≡ noted self.old message.now }
+    {
+        count(&mut self.counts, &message.body);
+        self.sent += 1;
+    }
+}
+
+// Counts a message that says this, if its kind is counted.
+fn count(counts: &mut Counts, body: &Body)
+    requires renewals { counts.old.renewals < 2 ^ 64 }
+    requires upgrades { counts.old.upgrades < 2 ^ 64 }
+    requires flushes { counts.old.flushes < 2 ^ 64 }
+    requires write_backs { counts.old.write_backs < 2 ^ 64 }
+    ensures { counts.new ≡ counted counts.old body.now }
+{
+    match body {
+        Body::RenewRep { .. } => counts.renewals += 1,
+        Body::UpgradeRep { .. } => counts.upgrades += 1,
+        Body::FlushRep(_) => counts.flushes += 1,
+        Body::WbRep(_) => counts.write_backs += 1,
+        _ => (),
+    }
+}

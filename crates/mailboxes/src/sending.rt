@@ -1,0 +1,20 @@
+//! What messages are delivered to at a seat, each part with what it sends by.
+use crate::outbox::Outbox;
+use core_pts::Core;
+use dram_mts::Dram;
+use llc_bank::Bank;
+
+/// A core, and what its seat sends by.
+#[derive(Drop)]
+pub struct SendingCore {
+    pub core: Core,
+    pub outbox: Outbox,
+}
+
+/// A bank with the DRAM behind it, and what their seat sends by.
+#[derive(Drop)]
+pub struct SendingBank {
+    pub bank: Bank,
+    pub dram: Dram,
+    pub outbox: Outbox,
+}

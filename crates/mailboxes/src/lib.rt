@@ -10,6 +10,7 @@ mod completions;
 mod core_calls;
 mod core_seat;
 mod ends;
+pub mod laws;
 mod links;
 mod machine;
 mod mailbox;

@@ -3,6 +3,7 @@
 
 mod attempting;
 mod bank_calls;
+mod bank_evicting;
 mod bank_mail;
 mod bank_receiver;
 mod bank_seat;
@@ -14,8 +15,8 @@ mod completions;
 mod core_calls;
 mod core_seat;
 mod ends;
-mod bank_evicting;
 mod evicting;
+pub mod laws;
 mod links;
 mod machine;
 mod mailbox;
@@ -34,10 +35,10 @@ mod taken;
 mod taking;
 mod whole;
 
+pub use bank_evicting::Eviction;
 pub use bank_seat::BankSeat;
 pub use closed_machine::{BankPart, CorePart};
 pub use core_seat::CoreSeat;
-pub use bank_evicting::Eviction;
 pub use machine::Machine;
 pub use mailbox::Mailbox;
 pub use opening::open;

@@ -68,7 +68,8 @@ def first_words(crate):
 
 
 def names_in(folder, ending):
-    return ", ".join(sorted(p.stem for p in folder.glob("*" + ending) if p.stem not in ("lib", "Lib"))) or "-"
+    names = sorted(p.stem for p in folder.glob("*" + ending) if p.stem not in ("lib", "Lib"))
+    return "`%s`" % ", ".join(names) if names else "-"
 
 
 def architecture():

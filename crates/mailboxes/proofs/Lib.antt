@@ -1,3 +1,10 @@
+mod BankAfter
+mod BankEnds
+mod BankEvictions
+mod BankFacts
+mod BankMoves
+mod BankReactions
+mod BankRefusals
 mod ClosedParts
 mod ClosedCores
 mod CoreMoves
@@ -11,4 +18,5 @@ mod OwnMessages
 mod Outboxes
 mod SentMessages
 mod Sweeps
+mod Rooms
 mod RunStates

@@ -1,4 +1,6 @@
 pub mod Attempts
+pub mod BankCalls
+pub mod BankServing
 pub mod BoxMoves
 pub mod PartsOfState
 pub mod CoreCalls
@@ -6,6 +8,7 @@ pub mod Evictions
 pub mod Places
 pub mod Remains
 pub mod RunParts
+pub mod SeatServing
 pub mod Seats
 pub mod Sending
 pub mod Stored

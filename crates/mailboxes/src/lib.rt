@@ -2,7 +2,12 @@
 #![tactic(auto)]
 
 mod attempting;
+mod bank_calls;
+mod bank_evicting;
+mod bank_mail;
+mod bank_receiver;
 mod bank_seat;
+mod bank_serving;
 mod changes;
 mod closed_machine;
 mod closing;
@@ -29,6 +34,7 @@ mod taken;
 mod taking;
 mod whole;
 
+pub use bank_evicting::Eviction;
 pub use bank_seat::BankSeat;
 pub use closed_machine::{BankPart, CorePart};
 pub use core_seat::CoreSeat;

@@ -1,2 +1,4 @@
+mod Effects
+mod HandFirst
 mod HeldLists
 mod Walks

@@ -1,3 +1,4 @@
+pub mod Effects
 pub mod Inboxes
 pub mod Queues
 pub mod Serving

@@ -150,15 +150,24 @@ module _ {T : Type 0} where
     serve b p =
         serve_by (is_refused b.held p (order_of b.hand b.held)) (served_of b.held p (order_of b.hand b.held)) b p
 
-    -- it was done so, or allocation failed and nothing changed
-    abbrev pub Serves : InboxState T → P → Result Served Refusal → InboxState T → P → Type 0
-    Serves b p result c q =
-        ((result, c, q) ≡ serve b p) ⊎ ((result ≡ Err NoMemory) × (c ≡ b) × (q ≡ p))
+    module _ (takes_memory : P → T → Bool) where
+      -- the answer is the table's; or the part takes memory for the message, which would be consumed or start
+      -- something, but allocation failed and nothing changed
+      abbrev pub Answers : P → T → ℕ → Answer T → P → Type 0
+      Answers p m n answer q =
+          ((answer, q) ≡ table p m n)
+          ⊎ ((answer ≡ Refused NoMemory) × (q ≡ p) × IsTrue (takes_memory p m) × (is_quiet (table p m n).0 ≡ false))
 
-    -- the answer is the table's, or allocation failed and nothing changed
-    abbrev pub Answers : P → T → ℕ → Answer T → P → Type 0
-    Answers p m n answer q =
-        ((answer, q) ≡ table p m n) ⊎ ((answer ≡ Refused NoMemory) × (q ≡ p))
+      -- the first of these messages that isn't passed is one that the part takes memory for
+      abbrev pub WantsMemory : List T → P → List (Place × T) → Type 0
+      WantsMemory held p xs = (x : Place × T) × (served_of held p xs ≡ Some x) × IsTrue (takes_memory p x.1)
+
+      -- it was done so; or the part takes memory for the message that would be served, but allocation failed and
+      -- nothing changed
+      abbrev pub Serves : InboxState T → P → Result Served Refusal → InboxState T → P → Type 0
+      Serves b p result c q =
+          ((result, c, q) ≡ serve b p)
+          ⊎ ((result ≡ Err NoMemory) × (c ≡ b) × (q ≡ p) × WantsMemory b.held p (order_of b.hand b.held))
 
   -- the part has a case for each message
   pub record HaveCases {P : Type 0} (has_case : P → T → Bool) (b : InboxState T) (p : P) : Type 0 where

@@ -3,6 +3,7 @@
 
 mod answer;
 mod inbox;
+pub mod laws;
 mod queue;
 mod receiver;
 mod serve;

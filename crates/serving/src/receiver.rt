@@ -14,11 +14,15 @@ pub trait Receiver<T> {
     /// What the part answers to a message for which the held list has so many places, and what the part is afterwards.
     ghost table: { Self → T → ℕ → Answer T × Self };
 
+    /// Whether the part takes memory for the message.
+    ghost takes_memory: { Self → T → Bool };
+
     /// Hands the part a message. `places` says for how many messages the held list has place, once this one has left
-    /// its own: the part answers Full, if it needs more. What is answered besides is the table's, or NoMemory.
+    /// its own: the part answers Full, if it needs more. What is answered besides is the table's. NoMemory is answered
+    /// only to a message for which the part takes memory, and which it would consume or start something for.
     fn deliver(&mut self, message: &T, places: u32) -> Answer<T>
         requires { IsTrue (has_case self.old message.now) }
-        ensures answer { Answers table self.old message.now places result self.new }
+        ensures answer { Answers table takes_memory self.old message.now places result self.new }
         ensures fits { (result ≡ Answer.Held) ⊎ (needs result ≤ places) }
         ensures quiet { is_quiet result ≡ true → self.new ≡ self.old };
 }

@@ -41,7 +41,7 @@ fn fitted<T: Drop>(places: u32, answer: Answer<T>) -> Answer<T>
 // Hands the part a message for which the held list has so many places.
 fn ask<T: Drop, P: Receiver<T>>(part: &mut P, message: &T, places: u32) -> Answer<T>
     requires { IsTrue (P.has_case part.old message.now) }
-    ensures answer { Asks P.table part.old message.now places result part.new }
+    ensures answer { Asks P.table P.takes_memory part.old message.now places result part.new }
     ensures fits { needs result ≤ places }
     ensures quiet { is_quiet result ≡ true → part.new ≡ part.old }
 {
@@ -71,7 +71,7 @@ struct Walk<T> {
 fn ask_held<T: Drop, P: Receiver<T>>(held: &Queue<T>, part: &mut P) -> Walk<T>
     requires cases { (i : ℕ) (m : T) → slice_get (values_of held.now) i ≡ Some m →
         IsTrue (P.has_case part.old m) }
-    ensures walk { Walks P.table (held.now) part.old result.refused result.found part.new }
+    ensures walk { Walks P.table P.takes_memory held.now part.old result.refused result.found part.new }
     ensures fits { IfSome result.found (λ f. length (values_of held.now) + needs f.1 ≤ 257) }
 {
     let count = held.len();
@@ -102,19 +102,16 @@ fn ask_held<T: Drop, P: Receiver<T>>(held: &Queue<T>, part: &mut P) -> Walk<T>
 }
 
 // Puts the held list right after the answer to the message of a cell.
-fn settle_held<T: Drop>(
-    held: &mut Queue<T>,
-    cell: Cell,
-    answer: Answer<T>,
-) -> Result<Served, Refusal>
+fn settle_held<T: Drop>(held: &mut Queue<T>, found: (Cell, Answer<T>)) -> Result<Served, Refusal>
     requires cell { (k : ℕ) × (m : T) × (drop k (held.old)
-        ≡ (cell, m) ∷ drop (k + 1) (held.old)) }
-    requires fits { length (values_of held.old) + needs answer ≤ 257 }
-    ensures result { result ≡ result_of answer }
+        ≡ (found.0, m) ∷ drop (k + 1) (held.old)) }
+    requires fits { length (values_of held.old) + needs found.1 ≤ 257 }
+    ensures result { result ≡ result_of found.1 }
     ensures after { (k : ℕ) (m : T) → drop k (held.old)
-        ≡ (cell, m) ∷ drop (k + 1) (held.old) →
-        values_of held.new ≡ after_held answer k (values_of held.old) }
+        ≡ (found.0, m) ∷ drop (k + 1) (held.old) →
+        values_of held.new ≡ after_held found.1 k (values_of held.old) }
 {
+    let (cell, answer) = found;
     match answer {
         Answer::Delivered(sent) => {
             drop(held.take(cell));
@@ -140,10 +137,11 @@ impl<T: Drop> Inbox<T> {
     ///
     /// A message that has to wait is held, also before the one that is sent on its behalf; one that is consumed leaves.
     /// All others stay where they are, in their order. Where no message is served: Full if one found no place; else
-    /// Held, or Nothing if there is no message. NoMemory and Exhausted are the part's. A refusal changes nothing.
+    /// Held, or Nothing if there is no message. Exhausted is the part's. So is NoMemory, and
+    /// only where the message that would be served is one that the part takes memory for. A refusal changes nothing.
     pub fn serve<P: Receiver<T>>(&mut self, part: &mut P) -> Result<Served, Refusal>
         requires { HaveCases P.has_case self.old part.old }
-        ensures { Serves P.table self.old part.old result self.new part.new }
+        ensures { Serves P.table P.takes_memory self.old part.old result self.new part.new }
     {
         let Some(message) = self.hand.as_ref() else {
             return self.serve_held(false, part);
@@ -159,11 +157,11 @@ impl<T: Drop> Inbox<T> {
     // Serves the held messages. `refused` says whether the one in the hand found no place.
     fn serve_held<P: Receiver<T>>(&mut self, refused: bool, part: &mut P) -> Result<Served, Refusal>
         requires { HaveCases P.has_case self.old part.old }
-        ensures { ServesHeld P.table refused self.old part.old result self.new part.new }
+        ensures { ServesHeld P.table P.takes_memory refused self.old part.old result self.new part.new }
     {
         let walk = ask_held(&self.held, part);
         match walk.found {
-            Some((cell, answer)) => settle_held(&mut self.held, cell, answer),
+            Some(found) => settle_held(&mut self.held, found),
             None => self.none_served(refused || walk.refused),
         }
     }

@@ -1,5 +1,5 @@
 -- What the part of the tests answers to a message.
-use Rattle.std.specs.Prelude.{ℕ, cond, nat_lt, Option, Some, None}
+use Rattle.std.specs.Prelude.{ℕ, cond, nat_lt, Some, None}
 use Rattle.serving.specs.declared.answer.Answer.{Answer}
 use Rattle.serving.specs.declared.answer.Answer.TheVariants.{Delivered, Dropped, Started, Held, Refused}
 use Rattle.serving.specs.declared.answer.Refusal.TheVariants.{Full, Exhausted}

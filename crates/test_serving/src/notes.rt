@@ -29,12 +29,14 @@ pub struct Clerk {
 }
 
 impl Receiver<Note> for Clerk {
-    ghost use Rattle.std.specs.Prelude.{true};
+    ghost use Rattle.std.specs.Prelude.{true, false};
     ghost use Rattle.test_serving.specs.Notes.{clerk_table};
 
     ghost has_case = { λ _ _. true };
 
     ghost table = { clerk_table };
+
+    ghost takes_memory = { λ _ _. false };
 
     fn deliver(&mut self, message: &Note, places: u32) -> Answer<Note> {
         match *message {

@@ -22,15 +22,12 @@ returns-then-not-is_passed-clause-walk g c =
     let n = c.loop.counter in
     let u = c.get.result.now in
     let is = c.get.ensures.here n (sym c.loop.invariant.0 ∙ c.in-Some.is) in
-    let room : 257 - c.len-count.result ≡ 257 - length held = ap (λ l. 257 - l) c.len-count.ensures.value in (
-      n,
-      u,
-      is,
-      comes-to g.P.Receiver.table held c.args.part.now c.loop.part n u (257 - c.len-count.result) _ _
-          c.ask-answer.result c.ask-answer.new.part _ c.loop.invariant.1 room
-          (next-tried (drop n cells) (drop (n + 1) cells) n c.in-Some.cell u is) c.ask-answer.ensures.answer
-          (sym c.is_passed.ensures ∙ c.if-not-is_passed.true) c.loop.invariant.2,
-    )
+    let room : 257 - c.len-count.result ≡ 257 - length held = ap (λ l. 257 - l) c.len-count.ensures.value in
+    let found = comes-to g.P.Receiver.table g.P.Receiver.takes_memory held c.args.part.now c.loop.part n u
+    (257 - c.len-count.result) _ _
+    c.ask-answer.result c.ask-answer.new.part _ c.loop.invariant.1 room
+    (next-tried (drop n cells) (drop (n + 1) cells) n c.in-Some.cell u is) c.ask-answer.ensures.answer
+    (sym c.is_passed.ensures ∙ c.if-not-is_passed.true) c.loop.invariant.2 in (n, u, is, found.0, found.1)
 
 pub next-next-requires : goal.next-next-requires
 next-next-requires g c = (c.loop.counter, sym c.loop.invariant.0 ∙ c.in-Some.is)
@@ -45,7 +42,8 @@ loop-preserved g c =
     let is = c.get.ensures.here n here in
     let room : 257 - c.len-count.result ≡ 257 - length held = ap (λ l. 257 - l) c.len-count.ensures.value in
     let passed = sym c.is_passed.ensures ∙ c.if-not-is_passed.false in
-    let go = goes-on g.P.Receiver.table held c.args.part.now c.loop.part n u (257 - c.len-count.result) _ _
+    let go = goes-on g.P.Receiver.table g.P.Receiver.takes_memory held c.args.part.now c.loop.part n u
+    (257 - c.len-count.result) _ _
     c.ask-answer.result c.ask-answer.new.part c.loop.refused _ c.loop.invariant.1 room
     (next-tried (drop n cells) (drop (n + 1) cells) n c.in-Some.cell u is) c.ask-answer.ensures.answer passed
     c.loop.invariant.3 in (

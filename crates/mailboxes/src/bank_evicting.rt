@@ -1,0 +1,102 @@
+//! A bank evicts a line, and its seat sends what that asks for.
+ghost use Rattle.std.specs.Prelude.{◌≡◌, ◌-◌, ◌++◌, false, IsTrue, OnOk, Ok, Err, Some, length};
+ghost use Rattle.llc_bank.specs.declared.entry.Evict.{Evict};
+ghost use Rattle.machine_table.specs.declared.event.Refusal.{Refusal};
+ghost use Rattle.llc_bank.specs.BankTable.{evict};
+ghost use Rattle.serving.specs.Inboxes.{inbox};
+ghost use Rattle.serving.specs.Serving.{sent_list};
+ghost use Rattle.mailboxes.specs.BankCalls.{became, evict_answer, evicted_inbox, evicted_part, eviction_fits, to_post};
+ghost use Rattle.mailboxes.specs.BankServing.{finds_places, posted, told};
+
+use crate::bank_serving::{finds_places, post};
+use crate::outbox::Outbox;
+use crate::sending::SendingBank;
+use llc_bank::{Evict, EvictError};
+use machine_table::Refusal;
+use network::{Body, LineNo, Message, Node};
+use serving::Inbox;
+
+/// What became of a line that was evicted.
+#[derive(Clone, Copy, Debug, PartialEq, Eq)]
+pub enum Eviction {
+    /// The line is gone, or it is on its way to DRAM.
+    Evicted,
+    /// The owner is asked to give the line back; the line stays.
+    Recalled,
+}
+
+// The node that a message would be sent to, and that no delivered message stays.
+fn to_post(to: Option<Node>) -> Option<(Node, bool)>
+    ensures { result ≡ to_post to }
+{
+    match to {
+        None => None,
+        Some(node) => Some((node, false)),
+    }
+}
+
+/// Whether a line can be evicted: the bank's table does it, and what it sends finds its place.
+pub(crate) fn evictable(
+    part: &SendingBank,
+    came_in: &Inbox<Message>,
+    line: LineNo,
+) -> Result<(), Refusal>
+    ensures done { OnOk result ((e : Evict) × ((evict part.now.bank line).0 ≡ Ok e) ×
+        IsTrue (eviction_fits part.now.outbox came_in.now.held e)) }
+    ensures refused { (refusal : Refusal) → result ≡ Err refusal →
+        evict_answer false part.now.outbox came_in.now.held (evict part.now.bank line).0
+        ≡ Err refusal }
+{
+    match part.bank.evicts(line) {
+        Err(EvictError::NotHere) => Err(Refusal::NoSuch),
+        Err(EvictError::Busy) => Err(Refusal::Busy),
+        Ok(to) => {
+            if finds_places(&part.outbox, came_in.places(), &to_post(to)) {
+                Ok(())
+            } else {
+                Err(Refusal::NetworkFull)
+            }
+        }
+    }
+}
+
+// Sends a message: to the outbox, or to the end of the held list.
+fn send(outbox: &mut Outbox, came_in: &mut Inbox<Message>, message: Message)
+    requires { IsTrue (finds_places outbox.old (256 - length came_in.old.held)
+        (Some (message.to, false))) }
+    ensures sent { outbox.new ≡ posted outbox.old message }
+    ensures told { came_in.new ≡
+        inbox came_in.old.hand (came_in.old.held ++ sent_list (told message)) }
+{
+    let _body: Body = message.body;
+    if let Some(told) = post(outbox, message) {
+        came_in.hold(told);
+    }
+}
+
+/// Evicts a line, which can be evicted, and sends what that asks for.
+pub(crate) fn evict_line(
+    part: &mut SendingBank,
+    came_in: &mut Inbox<Message>,
+    line: LineNo,
+) -> Eviction
+    requires { (e : Evict) × ((evict part.old.bank line).0 ≡ Ok e) ×
+        IsTrue (eviction_fits part.old.outbox came_in.old.held e) }
+    ensures { (e : Evict) × ((evict part.old.bank line).0 ≡ Ok e) × (result ≡ became e) ×
+        (part.new ≡ evicted_part part.old (evict part.old.bank line).1 e) ×
+        (came_in.new ≡ evicted_inbox came_in.old e) }
+{
+    let _body: Option<Body> = None;
+    let evicted = part.bank.evict(line);
+    match evicted.unwrap() {
+        Evict::Clean => Eviction::Evicted,
+        Evict::Stored(store) => {
+            send(&mut part.outbox, came_in, store);
+            Eviction::Evicted
+        }
+        Evict::Recalled(recall) => {
+            send(&mut part.outbox, came_in, recall);
+            Eviction::Recalled
+        }
+    }
+}

@@ -1,0 +1,26 @@
+//! A bank with the DRAM behind it, as what messages are delivered to.
+use crate::bank_serving::react;
+use crate::sending::SendingBank;
+use machine_moves::laws::waiting_banks_stay;
+use network::{Message, Node};
+use serving::{Answer, Receiver};
+
+impl Receiver<Message> for SendingBank {
+    ghost use Rattle.mailboxes.specs.BankServing.{sending_bank_has_case, sending_bank_table};
+    ghost use Rattle.mailboxes.specs.BankServing.{sending_bank_takes_memory};
+
+    ghost has_case = { sending_bank_has_case };
+
+    ghost table = { sending_bank_table };
+
+    ghost takes_memory = { sending_bank_takes_memory };
+
+    fn deliver(&mut self, message: &Message, places: u32) -> Answer<Message> {
+        waiting_banks_stay();
+        match message.to {
+            Node::Core(_) => unreachable!(),
+            Node::Bank(_) => react(&mut self.bank, &mut self.outbox, message, places),
+            Node::Dram(_) => react(&mut self.dram, &mut self.outbox, message, places),
+        }
+    }
+}

@@ -1,16 +1,15 @@
 -- What is known of a core's seat that serves, from what it stores and from the reached state that it stands in.
-use Rattle.std.proofs.Common.{◌≡◌, ℕ, ◌<◌, Bool, true, false, List, ◌∷◌, Option, Some, Result, Err, refl, sym, ap, ◌∙◌}
-use Rattle.std.proofs.Common.{subst, true≢false, IsTrue}
+use Rattle.std.proofs.Common.{◌≡◌, ℕ, ◌<◌, Bool, true, List, ◌∷◌, Option, Some, Result, refl, sym, ap, ◌∙◌}
+use Rattle.std.proofs.Common.{subst}
 use Rattle.std.specs.Prelude.{slice_get}
 use Rattle.physiological_order.specs.declared.operation.Op.{Op}
 use Rattle.network.specs.declared.message.Node.TheVariants.{Core}
 use Rattle.network.specs.declared.message.Message.{Message}
 use Rattle.core_pts.specs.CoreTable.{CoreState, core_has_case}
 use Rattle.serving.specs.declared.answer.Refusal.{Refusal}
-use Rattle.serving.specs.declared.answer.Refusal.TheVariants.{NoMemory}
 use Rattle.serving.specs.declared.answer.Served.{Served}
 use Rattle.serving.specs.Inboxes.{InboxState}
-use Rattle.serving.specs.Serving.{Place, in_hand, held_at, HaveCases, order_of, Serves, WantsMemory}
+use Rattle.serving.specs.Serving.{Place, in_hand, held_at, HaveCases}
 use Rattle.serving.specs.Effects.{LiesAt, Effect}
 use Rattle.seat_rule.specs.declared.views.SetUp.{SetUp}
 use Rattle.seat_rule.specs.declared.views.Hold.{Hold}
@@ -24,7 +23,6 @@ use Rattle.mailboxes.specs.declared.mailbox.Mailbox.{Mailbox}
 use Rattle.mailboxes.specs.declared.sending.SendingCore.{SendingCore}
 use Rattle.mailboxes.specs.BoxMoves.{hold}
 use Rattle.mailboxes.specs.CoreServing.{CorePartOf, IsCoreMail, sending_core_has_case, sending_core_table}
-use Rattle.mailboxes.specs.CoreServing.{sending_core_takes_memory}
 use Rattle.mailboxes.specs.Places.{AllOwn, AllLinked}
 use Rattle.mailboxes.specs.Stored.{stored_core}
 use Rattle.mailboxes.specs.Ties.{BoxTied, Chair, CoreTied}
@@ -37,11 +35,6 @@ pub record CoreLaws : Type 0 where
   pub outbox : OfStanding (λ z id a. (i : ℕ) (m : Message) → slice_get a.outbox i ≡ Some m → FindsHere z id a m)
   pub hand : OfStanding (λ z id a. (m : Message) → a.hand ≡ Some m → FindsHere z id a m)
   pub held : OfStanding (λ z id a. (i : ℕ) (m : Message) → slice_get a.held i ≡ Some m → FindsHere z id a m)
-
--- no core takes memory
-pub no_memory : (b : InboxState Message) (p : SendingCore) →
-    WantsMemory sending_core_table sending_core_takes_memory b.held p (order_of b.hand b.held) → ⊥
-no_memory b p wants = true≢false (sym wants.2.1)
 
 module _ (laws : CoreLaws) (m : Machine) (b : Mailbox) (p : SendingCore) (ops : List Op) (is : IsCoreMail m b)
     (has : CorePartOf b p ops) where

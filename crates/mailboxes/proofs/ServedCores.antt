@@ -108,13 +108,13 @@ so_answered : (p : SendingCore) (r : Option (Reaction × CoreState)) →
     ((core : CoreState) → r ≡ Some (does.Dropped, core) → core ≡ p.core) →
     ((core : CoreState) (s : Message) → r ≡ Some (does.HeldAfter s, core) → ⊥) →
     SoAnswered p r (core_reacts p r).0 (core_reacts p r).1
-so_answered p None held dropped started = refl
-so_answered p (Some (does.Done None, core)) held dropped started = (None, refl, refl, refl)
-so_answered p (Some (does.Done (Some x), core)) held dropped started = by_place p x core (can_send_out p.outbox)
-so_answered p (Some (does.Dropped, core)) held dropped started =
-    (core, refl, λ i. record p { core = dropped core refl i })
-so_answered p (Some (does.Held, core)) held dropped started = (λ i. record p { core = held core refl i })
-so_answered p (Some (does.HeldAfter x, core)) held dropped started = absurd (started core x refl)
+so_answered p None holds drops starts = refl
+so_answered p (Some (does.Done None, core)) holds drops starts = (None, refl, refl, refl)
+so_answered p (Some (does.Done (Some x), core)) holds drops starts = by_place p x core (can_send_out p.outbox)
+so_answered p (Some (does.Dropped, core)) holds drops starts =
+    (core, refl, λ i. record p { core = drops core refl i })
+so_answered p (Some (does.Held, core)) holds drops starts = (λ i. record p { core = holds core refl i })
+so_answered p (Some (does.HeldAfter x, core)) holds drops starts = absurd (starts core x refl)
 
 module _ (stay : StayingCores) where
   answered : (p : SendingCore) (m : Message) (n : ℕ) (a : Answer Message) (q : SendingCore) →
@@ -140,7 +140,7 @@ module _ (stay : StayingCores) where
 -- NoMemory is never answered
 with_place : (p : SendingCore) (x : Message) (core : CoreState) (a : Answer Message) (b : Bool) →
     (a ≡ Refused NoMemory → ⊥) →
-    (cond b (a, record { core = core; outbox = sent_out p.outbox x }) (Refused Full, p)).0 ≡ Refused NoMemory → ⊥
+    (cond {A = Answer Message × SendingCore} b (a, record { core = core; outbox = sent_out p.outbox x }) (Refused Full, p)).0 ≡ Refused NoMemory → ⊥
 with_place p x core a true other e = other e
 with_place p x core a false other e = let no : Refused Full ≡ Refused NoMemory = e in cc
 

@@ -85,7 +85,7 @@ module _ (cores banks number : ℕ) where
       hand-own None each = refl
       hand-own (Some m) each = let one = own-weighs m (each m refl) in omega arith
 
-  list-own : (b : InboxState Message) → weigh not-own (messages_of b) ≡ 0 → AllOwn cores number b
+  pub list-own : (b : InboxState Message) → weigh not-own (messages_of b) ≡ 0 → AllOwn cores number b
   list-own b none =
       let all = weigh-append not-own (option_to_list b.hand) b.held in
       record {

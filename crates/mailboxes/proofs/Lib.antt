@@ -7,6 +7,7 @@ mod BankReactions
 mod BankRefusals
 mod ClosedParts
 mod ClosedCores
+mod CoreFacts
 mod CoreMoves
 mod DramWords
 mod IncomingSlots
@@ -20,5 +21,6 @@ mod OwnMessages
 mod Outboxes
 mod SentMessages
 mod Sweeps
+mod ServedCores
 mod Rooms
 mod RunStates

@@ -4,6 +4,7 @@ pub mod BankServing
 pub mod BoxMoves
 pub mod PartsOfState
 pub mod CoreCalls
+pub mod CoreServing
 pub mod Evictions
 pub mod Places
 pub mod Remains

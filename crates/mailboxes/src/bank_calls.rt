@@ -16,8 +16,8 @@ use machine_table::Refusal;
 use network::{Body, LineNo, Message};
 use serving::Served;
 
-// Why no message was served, as a seat tells it.
-fn seat_refusal(refusal: serving::Refusal) -> Refusal
+/// Why no message was served, as a seat tells it.
+pub(crate) fn seat_refusal(refusal: serving::Refusal) -> Refusal
     ensures { result ≡ seat_refusal refusal }
 {
     match refusal {

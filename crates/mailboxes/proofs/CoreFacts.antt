@@ -1,18 +1,17 @@
 -- What is known of a core's seat that serves, from what it stores and from the reached state that it stands in.
-use Rattle.std.proofs.Common.{◌≡◌, ℕ, ◌<◌, Bool, true, List, ◌∷◌, Option, Some, Result, refl, sym, ap, ◌∙◌}
+use Rattle.std.proofs.Common.{◌≡◌, ℕ, ◌<◌, true, List, Some, Result, refl, sym, ap, ◌∙◌}
 use Rattle.std.proofs.Common.{subst}
 use Rattle.std.specs.Prelude.{slice_get}
 use Rattle.physiological_order.specs.declared.operation.Op.{Op}
 use Rattle.network.specs.declared.message.Node.TheVariants.{Core}
 use Rattle.network.specs.declared.message.Message.{Message}
-use Rattle.core_pts.specs.CoreTable.{CoreState, core_has_case}
+use Rattle.core_pts.specs.CoreTable.{core_has_case}
 use Rattle.serving.specs.declared.answer.Refusal.{Refusal}
 use Rattle.serving.specs.declared.answer.Served.{Served}
 use Rattle.serving.specs.Inboxes.{InboxState}
 use Rattle.serving.specs.Serving.{Place, in_hand, held_at, HaveCases}
 use Rattle.serving.specs.Effects.{LiesAt, Effect}
 use Rattle.seat_rule.specs.declared.views.SetUp.{SetUp}
-use Rattle.seat_rule.specs.declared.views.Hold.{Hold}
 use Rattle.seat_rule.specs.Rule.{seat_count}
 use Rattle.seat_rule.specs.Found.{FindsHere}
 use Rattle.seat_rule.specs.Plays.{SeatState, Standing}

@@ -30,7 +30,7 @@ use Rattle.seat_rule.specs.Found.{FindsHere}
 use Rattle.seat_rule.specs.SeatMoves.{SeatMove, core_gets, core_drops, sorts}
 use Rattle.seat_rule.specs.Serving.{counted_if}
 use Rattle.mailboxes.specs.declared.sending.SendingCore.{SendingCore}
-use Rattle.mailboxes.specs.CoreServing.{core_reacts, sends, sending_core_table}
+use Rattle.mailboxes.specs.CoreServing.{core_reacts, sending_core_table}
 use Rattle.mailboxes.specs.Places.{AllOwn, AllLinked, is_own}
 use Rattle.mailboxes.specs.Sending.{OutboxState, can_send_out, sent_if, sent_out}
 use Rattle.mailboxes.specs.Stored.{stored_core}

@@ -1,5 +1,5 @@
 -- What a core's seat answers to a message to its core. All that a core sends leaves the seat.
-use Rattle.std.specs.Prelude.{◌≡◌, ℕ, ◌<◌, Bool, false, cond, List, Option, Some, None}
+use Rattle.std.specs.Prelude.{ℕ, ◌<◌, Bool, false, cond, List, Option, Some, None}
 use Rattle.physiological_order.specs.declared.operation.Op.{Op}
 use Rattle.network.specs.declared.message.Message.{Message}
 use Rattle.network.specs.declared.part.Reaction.{Reaction}

@@ -1,4 +1,3 @@
-use Rattle.std.proofs.Common.{rules, ◌≡◌}
 use Rattle.mailboxes.specs.CoreServing.{sending_core_table, sending_core_takes_memory}
 use Rattle.mailboxes.proofs.ServedCores.{StayingCores, leaves_part, served_open}
 use Rattle.mailboxes.proofs.CoreFacts.{CoreLaws, all_cases, box_tied, core_tied, linked_after, moves, own_after}

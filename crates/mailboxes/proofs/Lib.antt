@@ -9,8 +9,10 @@ mod ClosedParts
 mod ClosedCores
 mod CoreMoves
 mod DramWords
+mod IncomingSlots
 mod JoinedSeats
 mod LinkEnds
+mod LinkSlots
 mod MergedRecords
 mod NewSeats
 mod OneStates

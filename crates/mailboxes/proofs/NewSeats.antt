@@ -1,5 +1,5 @@
 -- One more seat of a machine that opens.
-use Rattle.std.proofs.Common.{◌≡◌, ℕ, zero, suc, ◌+◌, ◌<◌, ◌≤◌, List, [], ◌∷◌, ◌++◌, length, Some, None}
+use Rattle.std.proofs.Common.{◌≡◌, ℕ, false, zero, suc, ◌+◌, ◌<◌, ◌≤◌, List, [], ◌∷◌, ◌++◌, length, Some, None}
 use Rattle.std.proofs.Common.{◌⊎◌, inl, inr, ⊎_elim, sym, refl, ap, ◌∙◌, subst, arith}
 use Rattle.std.specs.Prelude.{slice_get}
 use Rattle.seating.proofs.Lemmas.{some_is}
@@ -34,8 +34,9 @@ opened_stands m n p number opens stands =
 pub new_core : (m : Machine) (n : ℕ) (p : CoreSeat) (chair : Chair) → n < m.set_up.config.cores →
     chair.table_id ≡ m.table.shared.table_id → chair.me.0.mine ≡ opening_hold m.set_up n → p.mail.seat ≡ chair →
     p.mail.number ≡ n → p.mail.cores ≡ m.set_up.config.cores → p.mail.banks ≡ m.set_up.config.banks →
-    Standing m.set_up (seat_count m.set_up) n (opening_hold m.set_up n) → IsNewCore m n p
-new_core m n p chair lt table mine seat number cores banks stands =
+    p.mail.cursor ≡ 0 → p.is_stopped ≡ false → Standing m.set_up (seat_count m.set_up) n (opening_hold m.set_up n) →
+    IsNewCore m n p
+new_core m n p chair lt table mine seat number cores banks cursor runs stands =
     let opens = ap (λ (y : Chair). y.me.0.mine) seat ∙ mine in (
       (
         (ap (λ (y : Chair). y.table_id) seat ∙ table, omega arith, cores, banks),
@@ -44,14 +45,17 @@ new_core m n p chair lt table mine seat number cores banks stands =
       ),
       number,
       opens,
+      cursor,
+      runs,
     )
 
 pub new_bank : (m : Machine) (n : ℕ) (p : BankSeat) (chair : Chair) → m.set_up.config.cores ≤ n →
     n < m.set_up.config.cores + m.set_up.config.banks → chair.table_id ≡ m.table.shared.table_id →
     chair.me.0.mine ≡ opening_hold m.set_up n → p.mail.seat ≡ chair → p.mail.number ≡ n →
     p.mail.cores ≡ m.set_up.config.cores → p.mail.banks ≡ m.set_up.config.banks →
-    Standing m.set_up (seat_count m.set_up) n (opening_hold m.set_up n) → IsNewBank m n p
-new_bank m n p chair le lt table mine seat number cores banks stands =
+    p.mail.cursor ≡ 0 → p.is_stopped ≡ false → Standing m.set_up (seat_count m.set_up) n (opening_hold m.set_up n) →
+    IsNewBank m n p
+new_bank m n p chair le lt table mine seat number cores banks cursor runs stands =
     let opens = ap (λ (y : Chair). y.me.0.mine) seat ∙ mine in (
       (
         (ap (λ (y : Chair). y.table_id) seat ∙ table, omega arith, cores, banks),
@@ -60,6 +64,8 @@ new_bank m n p chair le lt table mine seat number cores banks stands =
       ),
       number,
       opens,
+      cursor,
+      runs,
     )
 
 -- one more at the end of a list, and one more at its front

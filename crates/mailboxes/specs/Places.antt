@@ -7,7 +7,7 @@ use Rattle.network.specs.declared.message.Node.TheVariants.{Core, Bank, Dram}
 use Rattle.network.specs.declared.message.Message.{Message}
 use Rattle.serving.specs.Inboxes.{InboxState}
 use Rattle.seat_rule.specs.declared.views.SetUp.{SetUp}
-use Rattle.seat_rule.specs.Rule.{slot_count, source, to_of}
+use Rattle.seat_rule.specs.Rule.{slot_count, source, from_of, to_of, node_of}
 use Rattle.seat_rule.specs.Plays.{ones}
 
 -- the seat is of the table, which has a word for each slot, and one that counts completions
@@ -75,3 +75,13 @@ found_empty cores banks number start zero = []
 found_empty cores banks number start (suc n) =
     found_empty cores banks number start n
     ++ (incoming cores banks number ((start + n) % incoming_count cores banks number), 0) ∷ []
+
+-- each slot that comes in to the seat of this number was found empty by one of these looks
+pub record AllFoundEmpty (z : SetUp) (number : ℕ) (looks : List (ℕ × ℕ)) : Type 0 where
+  pub each : (k : ℕ) → k < slot_count z → to_of z k ≡ number → (i : ℕ) × (slice_get looks i ≡ Some (k, 0))
+
+-- for each of these messages, each slot from the seat of this number to where the message goes was found full by one of
+-- these looks
+pub record AllFoundFull (z : SetUp) (number : ℕ) (ms : List Message) (looks : List (ℕ × ℕ)) : Type 0 where
+  pub each : (i : ℕ) (m : Message) → slice_get ms i ≡ Some m → (k : ℕ) → k < slot_count z → from_of z k ≡ number →
+      m.to ≡ node_of z (to_of z k) → (j : ℕ) × (slice_get looks j ≡ Some (k, 1))

@@ -37,12 +37,16 @@ SameBank p q =
     (q.part.bank ≡ p.part.bank) × (q.part.dram ≡ p.part.dram) × SameCounts p.part.outbox q.part.outbox
     × (q.is_stopped ≡ p.is_stopped)
 
--- the seats of this number as the machine opens
+-- the seats of this number as the machine opens: its looks begin at the first slot that comes in, and it isn't stopped
 abbrev pub IsNewCore : Machine → ℕ → CoreSeat → Type 0
-IsNewCore m j p = IsCoreSeat m p × (p.mail.number ≡ j) × (hold p.mail ≡ opening_hold m.set_up j)
+IsNewCore m j p =
+    IsCoreSeat m p × (p.mail.number ≡ j) × (hold p.mail ≡ opening_hold m.set_up j) × (p.mail.cursor ≡ 0)
+    × (p.is_stopped ≡ false)
 
 abbrev pub IsNewBank : Machine → ℕ → BankSeat → Type 0
-IsNewBank m j p = IsBankSeat m p × (p.mail.number ≡ j) × (hold p.mail ≡ opening_hold m.set_up j)
+IsNewBank m j p =
+    IsBankSeat m p × (p.mail.number ≡ j) × (hold p.mail ≡ opening_hold m.set_up j) × (p.mail.cursor ≡ 0)
+    × (p.is_stopped ≡ false)
 
 -- all seats of a list, by number from this one on
 abbrev pub AllNewCores : Machine → ℕ → List CoreSeat → Type 0

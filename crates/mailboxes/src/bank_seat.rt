@@ -49,7 +49,8 @@ impl BankSeat {
             (seat.me.0.mine ≡ opening_hold machine.now.set_up number) × (seat.me.1 ≡ []) }
         ensures { IfOk result (λ p. (p.mail.seat ≡ seat) × (p.mail.number ≡ number) ×
             (p.mail.cores ≡ machine.now.set_up.config.cores) ×
-            (p.mail.banks ≡ machine.now.set_up.config.banks) × (p.is_stopped ≡ false)) }
+            (p.mail.banks ≡ machine.now.set_up.config.banks) × (p.mail.cursor ≡ 0) ×
+            (p.is_stopped ≡ false)) }
     {
         let config = machine.set_up.config;
         let bank = BankConfig {

@@ -3,6 +3,7 @@
 
 mod attempting;
 mod bank_calls;
+mod bank_evicting;
 mod bank_mail;
 mod bank_receiver;
 mod bank_seat;
@@ -14,8 +15,8 @@ mod completions;
 mod core_calls;
 mod core_seat;
 mod ends;
-mod bank_evicting;
 mod evicting;
+pub mod laws;
 mod links;
 mod machine;
 mod mailbox;

@@ -92,6 +92,7 @@ gave z n w m m' = (m'.0 ≡ w) × (m'.1 ≡ rest m.1) × Standing z n w.number w
 abbrev pub Serves : Hold → Hold → Type 0
 Serves a b =
     (b.stage ≡ a.stage) × (b.put ≡ a.put) × (b.taken ≡ a.taken) × (b.records ≡ a.records) × (b.seen ≡ a.seen)
+    × (b.looks ≡ a.looks)
 
 -- the view is w
 abbrev pub stood : SetUp → ℕ → View Hold → SeatState → SeatState → Type 0

@@ -8,8 +8,8 @@ ghost use Rattle.mailboxes.specs.SeatServing.{SeatServes, is_exhausted, seat_ref
 ghost use Rattle.mailboxes.specs.Seats.{IsBankSeat};
 ghost use Rattle.mailboxes.specs.Stored.{stored_bank};
 
-use crate::bank_seat::BankSeat;
 use crate::bank_evicting::Eviction;
+use crate::bank_seat::BankSeat;
 use crate::machine::Machine;
 use llc_bank::Bank;
 use machine_table::Refusal;

@@ -8,8 +8,8 @@ ghost use Rattle.mailboxes.specs.Stored.{stored_bank};
 ghost use Rattle.serving.specs.Serving.{Serves};
 ghost use Rattle.serving.specs.declared.answer.Refusal.TheVariants.{NoMemory};
 
-use crate::changes::change_bank;
 use crate::bank_evicting::{Eviction, evict_line, evictable};
+use crate::changes::change_bank;
 use crate::machine::Machine;
 use crate::mailbox::Mailbox;
 use crate::sending::SendingBank;

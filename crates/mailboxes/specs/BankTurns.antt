@@ -36,12 +36,15 @@ abbrev pub BankTakes : Machine → Take → BankSeat → BankSeat → Type 0
 BankTakes m result p q =
     SameBank p q × Stays p.mail q.mail × (q.part.outbox ≡ p.part.outbox) × Takes m.set_up result p.mail q.mail
 
--- whether a message is in the hand, and how many are to be put
+-- whether a message is in the hand, how many are to be put, and the seat's number
 abbrev pub bank_hand : BankSeat → Bool
 bank_hand p = is_some p.mail.inbox.hand
 
 abbrev pub bank_to_put : BankSeat → ℕ
 bank_to_put p = length p.part.outbox.messages
+
+abbrev pub bank_number : BankSeat → ℕ
+bank_number p = p.mail.number
 
 -- a turn of the seat, by these
 abbrev pub BankTurns : Machine → BankSeat → Result Turn Refusal → BankSeat → Type 0

@@ -1,5 +1,5 @@
 //! A bank's seat has turns.
-ghost use Rattle.std.specs.Prelude.{◌≤◌, IfOk};
+ghost use Rattle.std.specs.Prelude.{◌≡◌, ◌≤◌, IfOk};
 ghost use Rattle.mailboxes.specs.BankTurns.{BankTurns};
 ghost use Rattle.mailboxes.specs.Seats.{IsBankSeat};
 
@@ -11,7 +11,7 @@ use machine_table::Refusal;
 use serving::Served;
 
 impl Turner for BankSeat {
-    ghost use Rattle.mailboxes.specs.BankTurns.{BankPuts, BankServes, BankTakes, bank_hand, bank_to_put};
+    ghost use Rattle.mailboxes.specs.BankTurns.{BankPuts, BankServes, BankTakes, bank_hand, bank_number, bank_to_put};
     ghost use Rattle.mailboxes.specs.Seats.{IsBankSeat};
 
     ghost is_here = { IsBankSeat };
@@ -25,6 +25,8 @@ impl Turner for BankSeat {
     ghost full = { bank_hand };
 
     ghost waiting = { bank_to_put };
+
+    ghost number = { bank_number };
 
     fn put_one(&mut self, machine: &Machine) -> bool {
         self.put(machine)
@@ -54,7 +56,7 @@ impl BankSeat {
     /// A refusal is that of a serve, told by the last one; what was put, served or taken before stays so.
     pub fn turn(&mut self, machine: &Machine) -> Result<Turn, Refusal>
         requires { IsBankSeat machine.now self.old }
-        ensures seat { IsBankSeat machine.now self.new }
+        ensures seat { IsBankSeat machine.now self.new × (self.new.mail.number ≡ self.old.mail.number) }
         ensures turns { BankTurns machine.now self.old result self.new }
         ensures within { IfOk result (λ turn. turn.put ≤ 256) }
     {

@@ -40,20 +40,26 @@ pub(crate) trait Turner {
     /// How many messages are to be put.
     ghost waiting: { Self → ℕ };
 
+    /// The seat's number, which stays.
+    ghost number: { Self → ℕ };
+
     fn put_one(&mut self, machine: &Machine) -> bool
         requires { is_here machine.now self.old }
         ensures seat { is_here machine.now self.new }
+        ensures number { number self.new ≡ number self.old }
         ensures put { puts machine.now result self.old self.new }
         ensures fewer { result ≡ true → waiting self.new + 1 ≡ waiting self.old };
 
     fn serve_one(&mut self, machine: &Machine) -> Result<Served, Refusal>
         requires { is_here machine.now self.old }
         ensures seat { is_here machine.now self.new }
+        ensures number { number self.new ≡ number self.old }
         ensures served { serves machine.now result self.old self.new };
 
     fn take_one(&mut self, machine: &Machine) -> Take
         requires { is_here machine.now self.old }
         ensures seat { is_here machine.now self.new }
+        ensures number { number self.new ≡ number self.old }
         ensures taken { takes machine.now result self.old self.new };
 
     fn hand_is_full(&self) -> bool
@@ -68,6 +74,7 @@ pub(crate) trait Turner {
 fn put_all<S: Turner>(seat: &mut S, machine: &Machine) -> u32
     requires { S.is_here machine.now seat.old }
     ensures seat { S.is_here machine.now seat.new }
+    ensures number { S.number seat.new ≡ S.number seat.old }
     ensures put { PutAll (S.puts machine.now) result seat.old seat.new }
     ensures within { result ≤ 256 }
 {
@@ -95,6 +102,7 @@ fn take_and_serve<S: Turner>(
 ) -> Result<Served, Refusal>
     requires { S.is_here machine.now seat.old }
     ensures seat { S.is_here machine.now seat.new }
+    ensures number { S.number seat.new ≡ S.number seat.old }
     ensures served { Follows (S.serves machine.now) (S.takes machine.now) before seat.old result
         seat.new }
 {
@@ -109,6 +117,7 @@ fn take_and_serve<S: Turner>(
 fn serve_first<S: Turner>(seat: &mut S, machine: &Machine) -> Result<Served, Refusal>
     requires { S.is_here machine.now seat.old }
     ensures seat { S.is_here machine.now seat.new }
+    ensures number { S.number seat.new ≡ S.number seat.old }
     ensures served { Rests (S.serves machine.now) (S.takes machine.now) (S.full seat.old) seat.old
         result seat.new }
 {
@@ -126,6 +135,7 @@ fn serve_first<S: Turner>(seat: &mut S, machine: &Machine) -> Result<Served, Ref
 pub(crate) fn turn_of<S: Turner>(seat: &mut S, machine: &Machine) -> Result<Turn, Refusal>
     requires { S.is_here machine.now seat.old }
     ensures seat { S.is_here machine.now seat.new }
+    ensures number { S.number seat.new ≡ S.number seat.old }
     ensures turns { Turns (S.serves machine.now) (S.takes machine.now) S.full (S.puts machine.now)
         seat.old result seat.new }
     ensures within { IfOk result (λ turn. turn.put ≤ 256) }

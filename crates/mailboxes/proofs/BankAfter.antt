@@ -185,7 +185,8 @@ module _ (z : SetUp) (id i : ℕ) (below : i < z.config.banks) (named : id ≡ z
         (s : Message) → answer ≡ Some s → has_endpoints cores banks s ≡ true
     sent-ends sent answer xs same bag s e =
         ends s (p.outbox.messages ++ xs)
-        (subst (λ (o : Option Message). SameBag (bag_of (stored_bank a q c)) (option_to_list o ++ (p.outbox.messages ++ xs))) e
+        (subst (λ (o : Option Message). SameBag (bag_of (stored_bank a q c))
+        (option_to_list o ++ (p.outbox.messages ++ xs))) e
         (after-sent z id i below named a p b holds q c sent xs (option_to_list answer) same bag))
 
     pub settled : (result : Result Served Refusal) → Effect sending_bank_table b p result c q → Settled c q
@@ -196,7 +197,8 @@ module _ (z : SetUp) (id i : ℕ) (below : i < z.config.banks) (named : id ≡ z
         elim x.0 [
           | inl to ↦ (let e = at-bank z id i below named a p b holds m n (Delivered sent) q to asked.1 in
               let did = consumes p.outbox n p.bank (bank_table p.bank m) sent q.bank q.outbox e.0 in
-              settle q c sent did.answer xs did.outbox did.told_is (bag-is (messages_of c) (sent_list sent ++ xs) after) (others-own at m before)
+              settle q c sent did.answer xs did.outbox did.told_is
+              (bag-is (messages_of c) (sent_list sent ++ xs) after) (others-own at m before)
               (λ s f. (
                 sent-ends sent did.answer xs (bag-is (messages_of c) (sent_list sent ++ xs) after) (did.bag xs) s f,
                 inl (bank-sender p.bank m s.from
@@ -205,7 +207,8 @@ module _ (z : SetUp) (id i : ℕ) (below : i < z.config.banks) (named : id ≡ z
               )))
           | inr to ↦ (let e = at-dram z id i below named a p b holds m n (Delivered sent) q to asked.1 in
               let did = consumes p.outbox n p.dram (dram_table p.dram m) sent q.dram q.outbox e.0 in
-              settle q c sent did.answer xs did.outbox did.told_is (bag-is (messages_of c) (sent_list sent ++ xs) after) (others-own at m before)
+              settle q c sent did.answer xs did.outbox did.told_is
+              (bag-is (messages_of c) (sent_list sent ++ xs) after) (others-own at m before)
               (λ s f. (
                 sent-ends sent did.answer xs (bag-is (messages_of c) (sent_list sent ++ xs) after) (did.bag xs) s f,
                 inr (dram-sender p.dram m s.from
@@ -220,9 +223,11 @@ module _ (z : SetUp) (id i : ℕ) (below : i < z.config.banks) (named : id ≡ z
         elim x.0 [
           | inl to ↦ (let e = at-bank z id i below named a p b holds m n (Started sent) q to asked.1 in
               let did = starts p.outbox n p.bank (bank_table p.bank m) sent q.bank q.outbox e.0 in
-              settle q c sent (Some did.started) xs did.outbox did.told_is (bag-is (messages_of c) (sent_list sent ++ xs) after) (own-list cores banks id b own)
+              settle q c sent (Some did.started) xs did.outbox did.told_is
+              (bag-is (messages_of c) (sent_list sent ++ xs) after) (own-list cores banks id b own)
               (λ s f. (
-                sent-ends sent (Some did.started) xs (bag-is (messages_of c) (sent_list sent ++ xs) after) (did.bag xs) s f,
+                sent-ends sent (Some did.started) xs (bag-is (messages_of c) (sent_list sent ++ xs) after)
+                    (did.bag xs) s f,
                 inl (bank-sender p.bank m s.from
                     (ap sender did.did ∙ ap (λ o. sender (Some (does.Done o, q.bank))) f)
                     ∙ ap (λ k. node.Bank k) numbered),

@@ -1,5 +1,5 @@
--- Where the messages go that a bank's seat has after a serving: those that go out have a link, and those that came in or
--- were told to the held list are for the seat's own bank or DRAM.
+-- Where the messages go that a bank's seat has after a serving: those that go out have a link, and those that came in
+-- or were told to the held list are for the seat's own bank or DRAM.
 use Rattle.std.proofs.Common.{◌≡◌, ℕ, zero, suc, ◌+◌, ◌<◌, ◌&&◌, ◌==◌, ◌⊎◌, inl, inr, Bool, true, false, cond, nat_le}
 use Rattle.std.proofs.Common.{nat_lt, List, [], ◌∷◌, ◌++◌, Option, Some, None, Result, refl, sym, ap, ◌∙◌, subst}
 use Rattle.std.proofs.Common.{true≢false, option_to_list, arith}

@@ -87,7 +87,8 @@ module _ (z : SetUp) (id i : ℕ) (below : i < z.config.banks) (named : id ≡ z
       let y = weigh-append f hand b.held in
       omega arith
 
-  pub evicted-bag : SameBag (bag_of (stored_bank a q c)) (option_to_list (sent_by e) ++ (p.outbox.messages ++ messages_of b))
+  pub evicted-bag : SameBag (bag_of (stored_bank a q c))
+      (option_to_list (sent_by e) ++ (p.outbox.messages ++ messages_of b))
   evicted-bag =
       after-sent z id i below named a p b holds q c (told_if (sent_by e)) (messages_of b)
       (option_to_list (sent_by e)) inbox-bag (posted-if-bag p.outbox (sent_by e) (messages_of b))
@@ -114,7 +115,8 @@ module _ (z : SetUp) (id i : ℕ) (below : i < z.config.banks) (named : id ≡ z
       refl refl inbox-bag (own-list z.config.cores z.config.banks id b own)
       (λ s is. (
         ends s (p.outbox.messages ++ messages_of b)
-            (subst (λ o. SameBag (bag_of (stored_bank a q c)) (option_to_list o ++ (p.outbox.messages ++ messages_of b)))
+            (subst (λ o. SameBag (bag_of (stored_bank a q c))
+            (option_to_list o ++ (p.outbox.messages ++ messages_of b)))
             is evicted-bag),
         inl (evict-from p.bank line e s did is ∙ ap (λ k. node.Bank k) numbered),
       ))

@@ -59,7 +59,8 @@ pub posted-bag : (out : OutboxState) (m : Message) (xs : List Message) →
     SameBag ((posted out m).messages ++ (sent_list (told m) ++ xs)) (m ∷ (out.messages ++ xs))
 posted-bag out m xs = by (leaves m.to)
   where
-    by : (b : Bool) → SameBag ((cond b (sent_out out m) (noted out m)).messages ++ (sent_list (cond b None (Some m)) ++ xs))
+    by : (b : Bool) → SameBag ((cond b (sent_out out m) (noted out m)).messages ++
+        (sent_list (cond b None (Some m)) ++ xs))
         (m ∷ (out.messages ++ xs))
     by true f =
         let a = weigh-append f (out.messages ++ m ∷ []) xs in
@@ -103,20 +104,29 @@ pub record Starts {P : Type 0} (out : OutboxState) (r : Option (Reaction × P)) 
 
 module _ {P : Type 0} where
   -- the same outcome
-  moved-to : (F : Option Message → P → OutboxState → Type 0) (a : Answer Message) (q : P) (o : OutboxState) (y : Answer Message × P × OutboxState) →
+  moved-to : (F : Option Message → P → OutboxState → Type 0) (a : Answer Message) (q : P) (o : OutboxState)
+      (y : Answer Message × P × OutboxState) →
       (a, q, o) ≡ y → F (sent_with a) q o → F (sent_with y.0) y.1 y.2
   moved-to F a q o y e f = subst (λ (x : Answer Message × P × OutboxState). F (sent_with x.0) x.1 x.2) e f
 
   replied-consumes : (out : OutboxState) (p : P) (r : Option (Reaction × P)) (sent : Option Message) (q : P)
       (o : OutboxState) → replied out p r ≡ (Delivered sent, q, o) → Consumes out r sent q o
-  replied-consumes out p None sent q o e = apart _ _ 4 0 (ap (λ (y : Answer Message × P × OutboxState). y.0) e) refl refl (λ n. omega (arith, n))
+  replied-consumes out p None sent q o e = apart _ _ 4 0 (ap (λ (y : Answer Message × P × OutboxState). y.0) e)
+      refl refl (λ n. omega (arith, n))
   replied-consumes out p (Some (does.Done None, s)) sent q o e =
       moved-to (Consumes out (Some (does.Done None, s))) (Delivered None) s out (Delivered sent, q, o) e
       (record { answer = None; did = refl; outbox = refl; told_is = refl; counts = refl; bag = λ xs f. refl })
   replied-consumes out p (Some (does.Done (Some m), s)) sent q o e =
       moved-to (Consumes out (Some (does.Done (Some m), s))) (Delivered (told m)) s (posted out m)
       (Delivered sent, q, o) e
-      (record { answer = Some m; did = refl; outbox = refl; told_is = refl; counts = posted-counts out m; bag = posted-bag out m })
+      (record {
+        answer = Some m;
+        did = refl;
+        outbox = refl;
+        told_is = refl;
+        counts = posted-counts out m;
+        bag = posted-bag out m;
+      })
   replied-consumes out p (Some (does.Dropped, s)) sent q o e =
       apart _ _ 1 0 (ap (λ (y : Answer Message × P × OutboxState). y.0) e) refl refl (λ n. omega (arith, n))
   replied-consumes out p (Some (does.Held, s)) sent q o e =
@@ -126,7 +136,8 @@ module _ {P : Type 0} where
 
   replied-starts : (out : OutboxState) (p : P) (r : Option (Reaction × P)) (sent : Option Message) (q : P)
       (o : OutboxState) → replied out p r ≡ (Started sent, q, o) → Starts out r sent q o
-  replied-starts out p None sent q o e = apart _ _ 4 2 (ap (λ (y : Answer Message × P × OutboxState). y.0) e) refl refl (λ n. omega (arith, n))
+  replied-starts out p None sent q o e = apart _ _ 4 2 (ap (λ (y : Answer Message × P × OutboxState). y.0) e)
+      refl refl (λ n. omega (arith, n))
   replied-starts out p (Some (does.Done None, s)) sent q o e =
       apart _ _ 0 2 (ap (λ (y : Answer Message × P × OutboxState). y.0) e) refl refl (λ n. omega (arith, n))
   replied-starts out p (Some (does.Done (Some m), s)) sent q o e =
@@ -137,23 +148,33 @@ module _ {P : Type 0} where
       apart _ _ 3 2 (ap (λ (y : Answer Message × P × OutboxState). y.0) e) refl refl (λ n. omega (arith, n))
   replied-starts out p (Some (does.HeldAfter m, s)) sent q o e =
       moved-to (Starts out (Some (does.HeldAfter m, s))) (Started (told m)) s (posted out m) (Started sent, q, o) e
-      (record { started = m; did = refl; outbox = refl; told_is = refl; counts = posted-counts out m; bag = posted-bag out m })
+      (record {
+        started = m;
+        did = refl;
+        outbox = refl;
+        told_is = refl;
+        counts = posted-counts out m;
+        bag = posted-bag out m;
+      })
 
   replied-drops : (out : OutboxState) (p : P) (r : Option (Reaction × P)) (q : P) (o : OutboxState) →
       replied out p r ≡ (Dropped, q, o) → r ≡ Some (does.Dropped, q)
-  replied-drops out p None q o e = apart _ _ 4 1 (ap (λ (y : Answer Message × P × OutboxState). y.0) e) refl refl (λ n. omega (arith, n))
+  replied-drops out p None q o e = apart _ _ 4 1 (ap (λ (y : Answer Message × P × OutboxState). y.0) e)
+      refl refl (λ n. omega (arith, n))
   replied-drops out p (Some (does.Done None, s)) q o e =
       apart _ _ 0 1 (ap (λ (y : Answer Message × P × OutboxState). y.0) e) refl refl (λ n. omega (arith, n))
   replied-drops out p (Some (does.Done (Some m), s)) q o e =
       apart _ _ 0 1 (ap (λ (y : Answer Message × P × OutboxState). y.0) e) refl refl (λ n. omega (arith, n))
-  replied-drops out p (Some (does.Dropped, s)) q o e = ap (λ (y : Answer Message × P × OutboxState). Some (does.Dropped, y.1)) e
+  replied-drops out p (Some (does.Dropped, s)) q o e =
+      ap (λ (y : Answer Message × P × OutboxState). Some (does.Dropped, y.1)) e
   replied-drops out p (Some (does.Held, s)) q o e =
       apart _ _ 3 1 (ap (λ (y : Answer Message × P × OutboxState). y.0) e) refl refl (λ n. omega (arith, n))
   replied-drops out p (Some (does.HeldAfter m, s)) q o e =
       apart _ _ 2 1 (ap (λ (y : Answer Message × P × OutboxState). y.0) e) refl refl (λ n. omega (arith, n))
 
   -- a reaction that isn't Full was the part's
-  placed : (out : OutboxState) (p : P) (r : Option (Reaction × P)) (b : Bool) (k : ℕ) (y : Answer Message × P × OutboxState) →
+  placed : (out : OutboxState) (p : P) (r : Option (Reaction × P)) (b : Bool) (k : ℕ)
+      (y : Answer Message × P × OutboxState) →
       cond b (replied out p r) (Refused Full, p, out) ≡ y → kind y.0 ≡ k → (4 ≡ k → ⊥) → replied out p r ≡ y
   placed out p r true k y e is other = e
   placed out p r false k y e is other =

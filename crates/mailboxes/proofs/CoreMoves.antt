@@ -28,6 +28,7 @@ pub issue-moves : (z y : SetUp) (id number : ℕ) (a : Hold) (p q : CoreState) (
     z ≡ y → id ≡ number → number < y.config.cores → a.core ≡ p → a.issued ≡ ops →
     core_table.issue p op ≡ (Ok tt, q) → later ≡ ops ++ op ∷ [] → SeatMove z id a (core_hold a q later)
 issue-moves z y id number a p q op ops later same named below core issued done more =
-    issues op (subst (λ (n : ℕ). n < z.config.cores) (sym named) (subst (λ (x : SetUp). number < x.config.cores) (sym same) below))
+    issues op (subst (λ (n : ℕ). n < z.config.cores) (sym named)
+    (subst (λ (x : SetUp). number < x.config.cores) (sym same) below))
     (ap (λ c. core_table.issue c op) core ∙ done) (more ∙ ap (λ xs. xs ++ op ∷ []) (sym issued))
     (record { bank = refl; dram = refl }) (record { bag = λ h. refl; counts = refl })

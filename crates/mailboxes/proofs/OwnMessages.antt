@@ -1,5 +1,6 @@
 -- What comes in to a seat goes to its own core or bank.
-use Rattle.std.proofs.Common.{◌≡◌, ℕ, ◌+◌, ◌-◌, ◌==◌, ◌&&◌, Bool, true, false, cond, nat_lt, Some, ap, ◌∙◌, arith, sym, refl, ⊎_elim}
+use Rattle.std.proofs.Common.{◌≡◌, ℕ, ◌+◌, ◌-◌, ◌==◌, ◌&&◌, Bool, true, false, cond, nat_lt, Some}
+use Rattle.std.proofs.Common.{ap, ◌∙◌, arith, sym, refl, ⊎_elim}
 use mathlib.Core.Logic.{dite}
 use native.Mathlib.Decide.{dec_lt}
 use Rattle.std.specs.Prelude.{slice_get}

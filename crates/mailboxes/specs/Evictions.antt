@@ -18,7 +18,8 @@ sent_back part core (Some m) =
     (Err refusal.NetworkFull, part)
 
 -- what the core's table says
-abbrev pub evicts : SendingCore → Result (Option Message) CacheError × CoreState → Result (Unit {0}) Refusal × SendingCore
+abbrev pub evicts : SendingCore → Result (Option Message) CacheError × CoreState →
+    Result (Unit {0}) Refusal × SendingCore
 evicts part (Err NotHere, core) = (Err refusal.NoSuch, part)
 evicts part (Err NoRoom, core) = (Err refusal.NoSuch, part)
 evicts part (Err Pinned, core) = (Err refusal.Pinned, part)

@@ -1,6 +1,7 @@
 pub mod Attempts
 pub mod BankCalls
 pub mod BankServing
+pub mod BankTurns
 pub mod BoxMoves
 pub mod PartsOfState
 pub mod CoreCalls
@@ -14,3 +15,4 @@ pub mod Seats
 pub mod Sending
 pub mod Stored
 pub mod Ties
+pub mod Turns

@@ -51,7 +51,8 @@ impl Outbox {
 
     /// How many messages are to be put, up to 256.
     pub fn len(&self) -> u32
-        ensures { result ≡ length self.now.messages }
+        ensures value { result ≡ length self.now.messages }
+        ensures within { length self.now.messages ≤ 256 }
     {
         self.queue.len()
     }

@@ -23,7 +23,8 @@ invariant_of-self-clause-tied c =
       bank = c.parts_of_seats_have_their_shape.ensures.bank;
     } in
     box-tied laws c.args.machine.now c.args.self.now c.args.part.now c.requires.seat c.requires.part
-    c.change_bank.new.seat c.evict_line-eviction.new.part c.evict_line-eviction.new.came_in c.change_bank.ensures.changed
+    c.change_bank.new.seat c.evict_line-eviction.new.part c.evict_line-eviction.new.came_in
+    c.change_bank.ensures.changed
 
 pub invariant_of-self-clause-own : goal.invariant_of-self-clause-own
 invariant_of-self-clause-own c =
@@ -35,7 +36,8 @@ invariant_of-self-clause-own c =
     } in
     let e = c.evict_line-eviction.ensures in
     (evict-settled laws c.args.machine.now c.args.self.now c.args.part.now c.requires.seat c.requires.part
-    c.args.line e.0 c.evict_line-eviction.new.came_in c.evict_line-eviction.new.part e.1 e.3 e.4 c.change_bank.ensures.standing).0
+    c.args.line e.0 c.evict_line-eviction.new.came_in c.evict_line-eviction.new.part e.1 e.3 e.4
+    c.change_bank.ensures.standing).0
 
 pub returns-clause-part : goal.returns-clause-part
 returns-clause-part c =
@@ -51,5 +53,6 @@ returns-clause-part c =
           c.change_bank.new.seat c.evict_line-eviction.new.part c.evict_line-eviction.new.came_in
           c.change_bank.ensures.changed;
       linked = (evict-settled laws c.args.machine.now c.args.self.now c.args.part.now c.requires.seat c.requires.part
-          c.args.line e.0 c.evict_line-eviction.new.came_in c.evict_line-eviction.new.part e.1 e.3 e.4 c.change_bank.ensures.standing).1;
+          c.args.line e.0 c.evict_line-eviction.new.came_in c.evict_line-eviction.new.part e.1 e.3 e.4
+          c.change_bank.ensures.standing).1;
     }

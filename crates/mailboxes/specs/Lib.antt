@@ -6,6 +6,7 @@ pub mod BoxMoves
 pub mod PartsOfState
 pub mod CoreCalls
 pub mod CoreServing
+pub mod CoreTurns
 pub mod Evictions
 pub mod Places
 pub mod Remains

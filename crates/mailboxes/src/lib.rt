@@ -17,6 +17,7 @@ mod core_calls;
 mod core_receiver;
 mod core_seat;
 mod core_serving;
+mod core_turns;
 mod ends;
 mod evicting;
 pub mod laws;

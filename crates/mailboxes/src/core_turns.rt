@@ -1,0 +1,65 @@
+//! A core's seat has turns.
+ghost use Rattle.std.specs.Prelude.{◌≡◌, ◌≤◌, IfOk};
+ghost use Rattle.mailboxes.specs.CoreTurns.{CoreTurns};
+ghost use Rattle.mailboxes.specs.Seats.{IsCoreSeat};
+
+use crate::core_seat::CoreSeat;
+use crate::machine::Machine;
+use crate::taken::Take;
+use crate::turning::{Turn, Turner, turn_of};
+use machine_table::Refusal;
+use serving::Served;
+
+impl Turner for CoreSeat {
+    ghost use Rattle.mailboxes.specs.CoreTurns.{CorePuts, CoreServes, CoreTakes, core_hand, core_number, core_to_put};
+    ghost use Rattle.mailboxes.specs.Seats.{IsCoreSeat};
+
+    ghost is_here = { IsCoreSeat };
+
+    ghost puts = { CorePuts };
+
+    ghost serves = { CoreServes };
+
+    ghost takes = { CoreTakes };
+
+    ghost full = { core_hand };
+
+    ghost waiting = { core_to_put };
+
+    ghost number = { core_number };
+
+    fn put_one(&mut self, machine: &Machine) -> bool {
+        self.put(machine)
+    }
+
+    fn serve_one(&mut self, machine: &Machine) -> Result<Served, Refusal> {
+        self.serve(machine)
+    }
+
+    fn take_one(&mut self, machine: &Machine) -> Take {
+        self.take(machine)
+    }
+
+    fn hand_is_full(&self) -> bool {
+        self.mail.inbox.hand().is_some()
+    }
+
+    fn to_put(&self) -> u32 {
+        self.part.outbox.len()
+    }
+}
+
+impl CoreSeat {
+    /// A turn: puts messages until none is left for which there is a free slot, and then serves. A full hand is served.
+    /// With an empty one a held message is served; where nothing comes of these, a message is taken and then served.
+    ///
+    /// A refusal is that of a serve, told by the last one; what was put, served or taken before stays so.
+    pub fn turn(&mut self, machine: &Machine) -> Result<Turn, Refusal>
+        requires { IsCoreSeat machine.now self.old }
+        ensures seat { IsCoreSeat machine.now self.new × (self.new.mail.number ≡ self.old.mail.number) }
+        ensures turns { CoreTurns machine.now self.old result self.new }
+        ensures within { IfOk result (λ turn. turn.put ≤ 256) }
+    {
+        turn_of(self, machine)
+    }
+}

@@ -10,7 +10,8 @@ use Rattle.network.specs.declared.message.Message.{Message}
 use Rattle.network.specs.declared.part.Reaction.{Reaction}
 use Rattle.network.specs.declared.part.Reaction.TheVariants as does
 use Rattle.core_pts.specs.declared.decision.CoreReaction.{CoreReaction}
-use Rattle.core_pts.specs.declared.decision.CoreReaction.TheVariants.{Arrives, Grants, Returns, Drops, Holds, TooLate, NoCase}
+use Rattle.core_pts.specs.declared.decision.CoreReaction.TheVariants.{Arrives, Grants, Returns, Drops, Holds, TooLate}
+use Rattle.core_pts.specs.declared.decision.CoreReaction.TheVariants.{NoCase}
 use Rattle.core_pts.specs.CoreTable.{CoreState, after_reaction, core_has_case, core_table, decided}
 use Rattle.machine_theorem.specs.Bags.{weigh, SameBag}
 use Rattle.serving.specs.declared.answer.Answer.{Answer}
@@ -140,7 +141,8 @@ module _ (stay : StayingCores) where
 -- NoMemory is never answered
 with_place : (p : SendingCore) (x : Message) (core : CoreState) (a : Answer Message) (b : Bool) →
     (a ≡ Refused NoMemory → ⊥) →
-    (cond {A = Answer Message × SendingCore} b (a, record { core = core; outbox = sent_out p.outbox x }) (Refused Full, p)).0 ≡ Refused NoMemory → ⊥
+    (cond {A = Answer Message × SendingCore} b (a, record { core = core; outbox = sent_out p.outbox x })
+    (Refused Full, p)).0 ≡ Refused NoMemory → ⊥
 with_place p x core a true other e = other e
 with_place p x core a false other e = let no : Refused Full ≡ Refused NoMemory = e in cc
 

@@ -59,8 +59,8 @@ impl CoreSeat {
     ///
     /// Stopped exactly if the seat is stopped. NetworkFull where no message is served and one finds no place: in the
     /// held list, or in the outbox for what the core would send, or the seat sent 2^64 - 1 messages. Exhausted where a
-    /// sum of times doesn't fit 64 bits: the seat is then stopped. NoMemory is never answered. A refusal changes nothing
-    /// else.
+    /// sum of times doesn't fit 64 bits: the seat is then stopped. NoMemory is never answered. A refusal changes
+    /// nothing else.
     pub fn serve(&mut self, machine: &Machine) -> Result<Served, Refusal>
         requires { IsCoreSeat machine.now self.old }
         ensures seat { IsCoreSeat machine.now self.new × SamePlace self.old self.new }

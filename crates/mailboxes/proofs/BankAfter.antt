@@ -1,23 +1,21 @@
 -- After a serving of a bank's seat, what came in is still for the seat's own bank or DRAM, and there is a link for each
 -- message of the outbox.
 use Rattle.std.proofs.Common.{◌≡◌, ℕ, zero, suc, ◌+◌, ◌<◌, ◌⊎◌, inl, inr, Bool, true, false, cond, List, [], ◌∷◌, ◌++◌}
-use Rattle.std.proofs.Common.{Option, Some, None, Result, refl, sym, ap, ◌∙◌, subst, true≢false, option_to_list, arith}
+use Rattle.std.proofs.Common.{Option, Some, None, Result, refl, sym, ap, ◌∙◌, subst, option_to_list, arith}
 use Rattle.std.specs.Prelude.{slice_get}
 use Rattle.std.specs.Ordering.{nat_cmp}
 use Rattle.std.specs.FinMap.{FinMap}
-use Rattle.network.specs.declared.message.Node.{Node}
 use Rattle.network.specs.declared.message.Node.TheVariants as node
 use Rattle.network.specs.declared.message.Message.{Message}
 use Rattle.network.specs.declared.part.Reaction.TheVariants as does
 use Rattle.network.specs.Routes.{has_endpoints}
-use Rattle.llc_bank.specs.BankTable.{BankState, bank_table, bank_has_case}
-use Rattle.dram_mts.specs.Table.{dram_table, dram_has_case}
+use Rattle.llc_bank.specs.BankTable.{bank_table}
+use Rattle.dram_mts.specs.Table.{dram_table}
 use Rattle.machine_theorem.specs.Bags.{weigh, SameBag}
-use Rattle.serving.specs.declared.answer.Answer.{Answer}
 use Rattle.serving.specs.declared.answer.Answer.TheVariants.{Delivered, Dropped, Started}
 use Rattle.serving.specs.declared.answer.Refusal.{Refusal}
 use Rattle.serving.specs.declared.answer.Served.{Served}
-use Rattle.serving.specs.Inboxes.{InboxState, inbox}
+use Rattle.serving.specs.Inboxes.{InboxState}
 use Rattle.serving.specs.Serving.{Place, places, sent_list}
 use Rattle.serving.specs.Effects.{SameMessages, messages_of, LiesAt, others, IsAsked, Effect}
 use Rattle.serving.specs.Effects.{delivered, dropped, started, moved, unchanged}
@@ -28,11 +26,11 @@ use Rattle.mailboxes.specs.declared.sending.SendingBank.{SendingBank}
 use Rattle.mailboxes.specs.Sending.{OutboxState, noted, sent_out}
 use Rattle.mailboxes.specs.Stored.{stored_bank}
 use Rattle.mailboxes.specs.Places.{AllOwn, AllLinked, has_link, is_own}
-use Rattle.mailboxes.specs.BankServing.{leaves, posted, told, sending_bank_table, sending_bank_has_case}
+use Rattle.mailboxes.specs.BankServing.{leaves, told, sending_bank_table, sending_bank_has_case}
 use Rattle.mailboxes.specs.BankCalls.{posted_if, told_if}
-use Rattle.mailboxes.proofs.BankReactions.{Consumes, Starts, consumes, starts, weigh-append}
+use Rattle.mailboxes.proofs.BankReactions.{consumes, starts, weigh-append}
 use Rattle.mailboxes.proofs.BankEnds.{sender, bank-sender, dram-sender, sent-stays, sent-leaves}
-use Rattle.mailboxes.proofs.BankMoves.{Holds, bag-is, bag-before, after-sent, at-bank, at-dram}
+use Rattle.mailboxes.proofs.BankMoves.{Holds, bag-is, after-sent, at-bank, at-dram}
 
 -- messages that all weigh nothing, and the list of them
 zero-all : (f : Message → ℕ) (xs : List Message) (k : ℕ) (m : Message) → weigh f xs ≡ 0 → slice_get xs k ≡ Some m →

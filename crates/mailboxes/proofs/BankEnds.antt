@@ -1,9 +1,8 @@
 -- Where the messages go that a bank's seat has after a serving: those that go out have a link, and those that came in
 -- or were told to the held list are for the seat's own bank or DRAM.
-use Rattle.std.proofs.Common.{◌≡◌, ℕ, zero, suc, ◌+◌, ◌<◌, ◌&&◌, ◌==◌, ◌⊎◌, inl, inr, Bool, true, false, cond, nat_le}
-use Rattle.std.proofs.Common.{nat_lt, List, [], ◌∷◌, ◌++◌, Option, Some, None, Result, refl, sym, ap, ◌∙◌, subst}
-use Rattle.std.proofs.Common.{true≢false, option_to_list, arith}
-use Rattle.std.specs.Prelude.{slice_get}
+use Rattle.std.proofs.Common.{◌≡◌, ℕ, ◌+◌, ◌<◌, ◌&&◌, ◌⊎◌, inl, inr, Bool, true, false, nat_le}
+use Rattle.std.proofs.Common.{nat_lt, List, Option, Some, None, refl, sym, ap, ◌∙◌, subst}
+use Rattle.std.proofs.Common.{true≢false, arith}
 use Rattle.std.proofs.lemmas.Bool.{lt-ltb, ltb-true, le-leb, eq-eqb, eqb-true}
 use Rattle.std.specs.Ordering.{nat_cmp}
 use Rattle.std.specs.FinMap.{FinMap}
@@ -19,7 +18,6 @@ use Rattle.llc_bank.specs.declared.decision.Decision.{Decision}
 use Rattle.llc_bank.specs.declared.decision.Decision.TheVariants as decision
 use Rattle.llc_bank.specs.BankTable.{BankState, after_decision, bank_table, decided}
 use Rattle.dram_mts.specs.Table.{dram_case, dram_table}
-use Rattle.machine_theorem.specs.Bags.{weigh, SameBag}
 use Rattle.mailboxes.specs.BankServing.{leaves}
 use Rattle.mailboxes.specs.Places.{has_link, is_own}
 

@@ -1,10 +1,9 @@
 -- An eviction from a bank is a move of its seat.
-use Rattle.std.proofs.Common.{◌≡◌, ℕ, ◌+◌, ◌<◌, inl, Bool, true, false, cond, List, [], ◌∷◌, ◌++◌, Option, Some, None}
+use Rattle.std.proofs.Common.{◌≡◌, ℕ, ◌+◌, ◌<◌, inl, true, List, ◌∷◌, ◌++◌, Option, Some, None}
 use Rattle.std.proofs.Common.{Result, Ok, Err, refl, sym, ap, ◌∙◌, subst, option_to_list, arith}
 use Rattle.network.specs.declared.message.Node.{Node}
 use Rattle.network.specs.declared.message.Node.TheVariants as node
 use Rattle.network.specs.declared.message.Message.{Message}
-use Rattle.network.specs.Mail.{counted}
 use Rattle.network.specs.Routes.{has_endpoints}
 use Rattle.llc_bank.specs.declared.entry.Evict.{Evict}
 use Rattle.llc_bank.specs.declared.entry.Evict.TheVariants as evict
@@ -14,9 +13,9 @@ use Rattle.llc_bank.specs.declared.decision.Eviction.TheVariants as eviction
 use Rattle.llc_bank.specs.OnEntry.{evicted}
 use Rattle.llc_bank.specs.BankTable as bank_table
 use Rattle.llc_bank.specs.BankTable.{BankState, after_eviction, entry_of}
-use Rattle.machine_theorem.specs.Bags.{weigh, SameBag}
+use Rattle.machine_theorem.specs.Bags.{SameBag}
 use Rattle.machine_moves.specs.Moves.{sent_by}
-use Rattle.serving.specs.Inboxes.{InboxState, inbox}
+use Rattle.serving.specs.Inboxes.{InboxState}
 use Rattle.serving.specs.Serving.{sent_list}
 use Rattle.serving.specs.Effects.{messages_of}
 use Rattle.seat_rule.specs.declared.views.SetUp.{SetUp}
@@ -31,7 +30,7 @@ use Rattle.mailboxes.specs.Places.{AllOwn, AllLinked}
 use Rattle.mailboxes.specs.BankCalls.{posted_if, told_if, evicted_part, evicted_inbox}
 use Rattle.mailboxes.proofs.BankReactions.{posted-bag, posted-counts, weigh-append}
 use Rattle.mailboxes.proofs.BankMoves.{Holds, bag-before, after-sent}
-use Rattle.mailboxes.proofs.BankAfter.{Settled, settle, own-list, not-own}
+use Rattle.mailboxes.proofs.BankAfter.{settle, own-list}
 
 -- what an eviction sends comes from the bank
 abbrev evict-sender : Result Evict EvictError → Option Node

@@ -1,10 +1,9 @@
 -- What is known of a bank's seat, from what it stores and from the reached state that it stands in.
-use Rattle.std.proofs.Common.{◌≡◌, ℕ, ◌+◌, ◌-◌, ◌<◌, ◌⊎◌, inl, inr, Bool, true, List, ◌∷◌, Option, Some, refl, sym, ap}
-use Rattle.std.proofs.Common.{Result, Ok, ◌∙◌, subst, arith, IsTrue}
+use Rattle.std.proofs.Common.{◌≡◌, ℕ, ◌+◌, ◌-◌, ◌<◌, ◌⊎◌, inl, inr, true, List, ◌∷◌, Some, sym, ap}
+use Rattle.std.proofs.Common.{Result, Ok, ◌∙◌, subst, arith}
 use Rattle.std.specs.Prelude.{slice_get}
 use Rattle.std.specs.Ordering.{nat_cmp}
 use Rattle.std.specs.FinMap.{FinMap}
-use Rattle.network.specs.declared.message.Node.{Node}
 use Rattle.network.specs.declared.message.Node.TheVariants as node
 use Rattle.network.specs.declared.message.Message.{Message}
 use Rattle.network.specs.declared.part.Reaction.TheVariants as does
@@ -19,8 +18,8 @@ use Rattle.machine_theorem.specs.Shape.{IsBank}
 use Rattle.serving.specs.declared.answer.Refusal.{Refusal}
 use Rattle.serving.specs.declared.answer.Served.{Served}
 use Rattle.serving.specs.Inboxes.{InboxState}
-use Rattle.serving.specs.Serving.{Place, in_hand, held_at, HaveCases, Serves}
-use Rattle.serving.specs.Effects.{LiesAt, Effect, EffectLaw}
+use Rattle.serving.specs.Serving.{Place, in_hand, held_at, HaveCases}
+use Rattle.serving.specs.Effects.{LiesAt, Effect}
 use Rattle.seat_rule.specs.declared.views.SetUp.{SetUp}
 use Rattle.seat_rule.specs.declared.views.Hold.{Hold}
 use Rattle.seat_rule.specs.Rule.{bag_of, seat_count}
@@ -37,8 +36,6 @@ use Rattle.mailboxes.specs.Stored.{stored_bank}
 use Rattle.mailboxes.specs.Places.{AllOwn, AllLinked}
 use Rattle.mailboxes.specs.BankCalls.{IsBankMail, PartOf, evicted_part, evicted_inbox}
 use Rattle.mailboxes.specs.BankServing.{has_case_at, sending_bank_table, sending_bank_has_case}
-use Rattle.mailboxes.specs.BankServing.{sending_bank_takes_memory}
-use Rattle.mailboxes.proofs.BankReactions.{leaves-part}
 use Rattle.mailboxes.proofs.BankEnds.{own-ends}
 use Rattle.mailboxes.proofs.BankMoves.{Holds, serving-moves, no-drop, no-start}
 use Rattle.mailboxes.proofs.BankAfter.{settled}

@@ -3,7 +3,6 @@ use Rattle.std.proofs.Common.{◌≡◌, ℕ, ◌+◌, ◌<◌, ◌⊎◌, inl, 
 use Rattle.std.proofs.Common.{None, Result, refl, sym, ap, ◌∙◌, subst, true≢false, option_to_list, arith}
 use Rattle.std.specs.Ordering.{nat_cmp}
 use Rattle.std.specs.FinMap.{FinMap}
-use Rattle.network.specs.declared.message.Node.{Node}
 use Rattle.network.specs.declared.message.Node.TheVariants as node
 use Rattle.network.specs.declared.message.Message.{Message}
 use Rattle.network.specs.declared.counts.Counts.{Counts}
@@ -13,12 +12,12 @@ use Rattle.llc_bank.specs.BankTable.{BankState, bank_table, bank_has_case}
 use Rattle.dram_mts.specs.Table.{dram_table, dram_has_case}
 use Rattle.machine_theorem.specs.Bags.{weigh, SameBag}
 use Rattle.serving.specs.declared.answer.Answer.{Answer}
-use Rattle.serving.specs.declared.answer.Answer.TheVariants.{Delivered, Dropped, Started, Held}
+use Rattle.serving.specs.declared.answer.Answer.TheVariants.{Delivered, Dropped, Started}
 use Rattle.serving.specs.declared.answer.Refusal.{Refusal}
 use Rattle.serving.specs.declared.answer.Served.{Served}
 use Rattle.serving.specs.Inboxes.{InboxState}
-use Rattle.serving.specs.Serving.{Place, in_hand, places, sent_list}
-use Rattle.serving.specs.Effects.{IsWeight, SameMessages, messages_of, LiesAt, others, IsAsked, Effect}
+use Rattle.serving.specs.Serving.{Place, places, sent_list}
+use Rattle.serving.specs.Effects.{SameMessages, messages_of, LiesAt, others, IsAsked, Effect}
 use Rattle.serving.specs.Effects.{delivered, dropped, started, moved, unchanged}
 use Rattle.seat_rule.specs.declared.views.SetUp.{SetUp}
 use Rattle.seat_rule.specs.declared.views.Hold.{Hold}
@@ -26,11 +25,10 @@ use Rattle.seat_rule.specs.Rule.{bag_of}
 use Rattle.seat_rule.specs.Serving.{counted_if}
 use Rattle.seat_rule.specs.SeatMoves.{SeatMove, sorts, bank_gets, bank_starts, dram_gets}
 use Rattle.mailboxes.specs.declared.sending.SendingBank.{SendingBank}
-use Rattle.mailboxes.specs.Sending.{OutboxState}
 use Rattle.mailboxes.specs.Stored.{stored_bank}
 use Rattle.mailboxes.specs.BankServing.{reacts, reacts_at, has_case_at, sending_bank_table}
 use Rattle.mailboxes.specs.BankServing.{sending_bank_has_case}
-use Rattle.mailboxes.proofs.BankReactions.{Consumes, Starts, consumes, starts, drops, holds-in, weigh-append}
+use Rattle.mailboxes.proofs.BankReactions.{consumes, starts, drops, weigh-append}
 
 -- lists of the same messages are the same bag
 pub bag-is : (xs ys : List Message) → SameMessages xs ys → SameBag xs ys

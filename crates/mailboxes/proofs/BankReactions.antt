@@ -1,10 +1,9 @@
 -- What a bank with the DRAM behind it answers to a message, and what its seat sends.
-use Rattle.std.proofs.Common.{◌≡◌, ℕ, ◌+◌, ◌&&◌, Bool, true, false, cond, nat_le, List, [], ◌∷◌, ◌++◌, Option, Some}
+use Rattle.std.proofs.Common.{◌≡◌, ℕ, ◌+◌, Bool, true, false, cond, List, [], ◌∷◌, ◌++◌, Option, Some}
 use Rattle.std.proofs.Common.{None, refl, sym, ap, ◌∙◌, subst, true≢false, option_to_list, arith}
 use Rattle.network.specs.declared.message.Node.{Node}
 use Rattle.network.specs.declared.message.Node.TheVariants as node
 use Rattle.network.specs.declared.message.Message.{Message}
-use Rattle.network.specs.declared.counts.Counts.{Counts}
 use Rattle.network.specs.Mail.{counted}
 use Rattle.network.specs.declared.part.Reaction.{Reaction}
 use Rattle.network.specs.declared.part.Reaction.TheVariants as does
@@ -24,7 +23,7 @@ use Rattle.serving.specs.Effects.{LeavesPart, NeverNoMemory}
 use Rattle.seat_rule.specs.Serving.{counted_if}
 use Rattle.mailboxes.specs.declared.sending.SendingBank.{SendingBank}
 use Rattle.mailboxes.specs.Sending.{OutboxState, noted, sent_out}
-use Rattle.mailboxes.specs.BankServing.{leaves, finds_places, posted, told, answer_of, sent_for, replied, reacts}
+use Rattle.mailboxes.specs.BankServing.{leaves, finds_places, posted, told, replied, reacts}
 use Rattle.mailboxes.specs.BankServing.{reacts_at, sending_bank_table}
 use Rattle.mailboxes.specs.BankCalls.{posted_if, told_if}
 

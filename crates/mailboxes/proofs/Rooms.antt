@@ -1,6 +1,6 @@
 -- The first held request that has a line to evict for it.
 use Rattle.std.proofs.Common.{◌≡◌, ℕ, zero, suc, ◌+◌, ◌≤◌, List, [], ◌∷◌, drop, length}
-use Rattle.std.proofs.Common.{Option, Some, None, refl, sym, ap}
+use Rattle.std.proofs.Common.{Some, None, refl, ap}
 use Rattle.std.proofs.Common.{◌∙◌, arith}
 use Rattle.std.specs.Prelude.{slice_get}
 use Rattle.network.specs.declared.message.Message.{Message}

@@ -1,4 +1,3 @@
-use Rattle.std.proofs.Common.{◌≡◌}
 use Rattle.mailboxes.proofs.BankRefusals.{memory-of}
 use Rattle.mailboxes.proofs.bank_seat.BankSeat.serve.Goals as goal
 

@@ -1,4 +1,3 @@
-use Rattle.std.proofs.Common.{rules, ◌≡◌}
 use Rattle.mailboxes.proofs.BankFacts.{BankLaws, box-tied, bank-tied, evict-moves, evict-settled}
 use Rattle.mailboxes.proofs.mailbox.Mailbox.evict_bank.Goals as goal
 

@@ -1,4 +1,3 @@
-use Rattle.std.proofs.Common.{rules, ◌≡◌}
 use Rattle.mailboxes.specs.BankServing.{sending_bank_table, sending_bank_takes_memory}
 use Rattle.mailboxes.proofs.BankReactions.{leaves-part}
 use Rattle.mailboxes.proofs.BankFacts.{BankLaws, StayLaws, all-cases, box-tied, bank-tied, serve-moves, serve-settled}

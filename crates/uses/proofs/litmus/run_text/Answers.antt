@@ -4,7 +4,7 @@ use Rattle.report.specs.Litmus.{IsLitmusReport}
 use Rattle.uses.proofs.litmus.run_text.Goals as goal
 
 pub returns : goal.returns
-returns c =
+returns g c =
     let told = c.in_ok-done.ensures.reported in
     let options = c.args.options.now in
     let all_done = c.in_ok-done.done.all_done in

@@ -5,6 +5,7 @@ ghost use Rattle.mailboxes.specs.Seats.{AllCoreSeats};
 
 use crate::looks::all_find_nothing;
 use crate::machines::{BANKS, CORES, VALUES, opened};
+use crate::player::closed;
 use dram_mts::Dram;
 use mailboxes::{CoreSeat, Machine, Run};
 use network::LineNo;
@@ -21,10 +22,7 @@ fn opened_and_closed(alloc: Global) -> Result<Option<Run>, Fail>
     if !all_find_nothing(&machine, &mut cores, &mut banks) {
         return Ok(None);
     }
-    if !machine.is_whole(cores.as_slice(), banks.as_slice()) {
-        return Ok(None);
-    }
-    Ok(Some(machine.close(alloc, cores, banks)?))
+    closed(alloc, machine, cores, banks)
 }
 
 // The machine is opened and closed at once; none if a seat is missing.
@@ -32,10 +30,7 @@ fn closed_at_once(alloc: Global) -> Result<Option<Run>, Fail>
     ensures { IfOk result (λ run. IfSome run (λ r. Parts r)) }
 {
     let (machine, cores, banks) = opened(alloc)?;
-    if !machine.is_whole(cores.as_slice(), banks.as_slice()) {
-        return Ok(None);
-    }
-    Ok(Some(machine.close(alloc, cores, banks)?))
+    closed(alloc, machine, cores, banks)
 }
 
 // Whether a core's seat accepts an operation.
@@ -60,10 +55,7 @@ fn issued_and_closed(alloc: Global, op: Op) -> Result<Option<Run>, Fail>
     if accepts(&machine, &mut cores, 1, Op::Load(WordAddr::at(1))) {
         return Ok(None);
     }
-    if !machine.is_whole(cores.as_slice(), banks.as_slice()) {
-        return Ok(None);
-    }
-    Ok(Some(machine.close(alloc, cores, banks)?))
+    closed(alloc, machine, cores, banks)
 }
 
 // The value of a word of a line.

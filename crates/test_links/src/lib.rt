@@ -1,9 +1,13 @@
-//! Tests of a shared machine: which set-ups it takes, what it has when it closes as soon as it opened, and what its
-//! links give then. The expected values were worked out by hand from docs/PROTOCOL.md.
+//! Tests of a shared machine: which set-ups it takes, what its seats do call by call, and what it has when it is closed,
+//! wherever its seats stopped. The expected values were worked out by hand from docs/PROTOCOL.md and docs/SEATS.md.
 #![tactic(auto)]
 
 #[cfg(test)]
+mod calls;
+#[cfg(test)]
 mod closings;
+#[cfg(test)]
+mod examples;
 #[cfg(test)]
 mod links;
 #[cfg(test)]
@@ -11,4 +15,8 @@ mod looks;
 #[cfg(test)]
 mod machines;
 #[cfg(test)]
+mod player;
+#[cfg(test)]
 mod set_ups;
+#[cfg(test)]
+mod stops;

@@ -35,18 +35,26 @@ fn leave_out_bank(machine: &Machine, banks: &mut Vec<BankSeat>, at: usize)
     }
 }
 
+// Whether all seats of the machine are in these lists.
+fn is_whole(machine: &Machine, cores: &Vec<CoreSeat>, banks: &Vec<BankSeat>) -> bool
+    requires cores { AllCoreSeats machine.now cores.now.items }
+    requires banks { AllBankSeats machine.now banks.now.items }
+{
+    machine.is_whole(cores.as_slice(), banks.as_slice())
+}
+
 // Whether a machine is whole without one of its cores' seats.
 fn is_whole_without_core(alloc: Global, missing: usize) -> Result<bool, Fail> {
     let (machine, mut cores, banks) = opened(alloc)?;
     leave_out_core(&machine, &mut cores, missing);
-    Ok(machine.is_whole(cores.as_slice(), banks.as_slice()))
+    Ok(is_whole(&machine, &cores, &banks))
 }
 
 // Whether a machine is whole without one of its banks' seats.
 fn is_whole_without_bank(alloc: Global, missing: usize) -> Result<bool, Fail> {
     let (machine, cores, mut banks) = opened(alloc)?;
     leave_out_bank(&machine, &mut banks, missing);
-    Ok(machine.is_whole(cores.as_slice(), banks.as_slice()))
+    Ok(is_whole(&machine, &cores, &banks))
 }
 
 #[test]

@@ -1,7 +1,0 @@
-use Rattle.std.proofs.Common.{ap, ◌∙◌, sym}
-use Rattle.std.specs.Prelude.{slice_get}
-use Rattle.test_links.proofs.links.is_whole_without_bank.Goals as goal
-
-pub is_whole-requires-clause-banks : goal.is_whole-requires-clause-banks
-is_whole-requires-clause-banks c =
-    λ i p e. c.leave_out_bank.ensures i p (ap (λ xs. slice_get xs i) (sym c.as_slice-2.ensures.value) ∙ e)

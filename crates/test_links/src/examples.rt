@@ -1,0 +1,543 @@
+//! Examples of seats, call by call, worked out by hand from docs/PROTOCOL.md and docs/SEATS.md.
+use crate::calls::{Call, On, Says};
+use crate::player::{Example, has_values, is_legal, played};
+use machine_table::Config;
+use mailboxes::Take;
+use serving::Served;
+use std::test::Fail;
+
+/// One core and one bank, with lines of one word.
+pub(crate) const ONE: Config = Config {
+    cores: 1,
+    banks: 1,
+    sets: 64,
+    ways: 4,
+    bank_sets: 256,
+    bank_ways: 8,
+    line_words: 1,
+    lease: 10,
+    messages: 4096,
+    opening_time: 0,
+    private_write: false,
+};
+
+pub(crate) const TWO: Config = Config { cores: 2, ..ONE };
+
+const TWO_OF_EIGHT: Config = Config {
+    line_words: 8,
+    ..TWO
+};
+
+const TWO_PRIVATE: Config = Config {
+    private_write: true,
+    ..TWO
+};
+
+/// Two cores at the last time but one.
+const LAST: Config = Config {
+    opening_time: 18_446_744_073_709_551_614,
+    ..TWO
+};
+
+const LAST_PRIVATE: Config = Config {
+    private_write: true,
+    ..LAST
+};
+
+/// A cache and a bank for one line each.
+const TINY: Config = Config {
+    sets: 1,
+    ways: 1,
+    bank_sets: 1,
+    bank_ways: 1,
+    ..ONE
+};
+
+const FIRST_STORE: Example = Example {
+    shows: "a first store and a load of it, turn by turn",
+    config: ONE,
+    steps: &[
+        (0, Call::Issue(On::Store(0, 7)), Says::Done),
+        (0, Call::Attempt, Says::Requested),
+        (0, Call::Turn, Says::Turned(1, Served::Nothing)),
+        (1, Call::Turn, Says::Turned(0, Served::Started)),
+        (1, Call::Turn, Says::Turned(0, Served::Delivered)),
+        (1, Call::Turn, Says::Turned(0, Served::Delivered)),
+        (1, Call::Turn, Says::Turned(0, Served::Delivered)),
+        (1, Call::Turn, Says::Turned(1, Served::Nothing)),
+        (0, Call::Turn, Says::Turned(0, Served::Delivered)),
+        (0, Call::Attempt, Says::Completed(None, 1, 0)),
+        (0, Call::Issue(On::Load(0)), Says::Done),
+        (0, Call::Attempt, Says::Completed(Some(7), 1, 1)),
+    ],
+    records: 2,
+    words: &[(0, 7)],
+};
+
+const MESSAGE: Example = Example {
+    shows: "a value that one core stored comes to another, with an attempt before each of its turns",
+    config: TWO,
+    steps: &[
+        (0, Call::Issue(On::Store(0, 7)), Says::Done),
+        (0, Call::Attempt, Says::Requested),
+        (0, Call::Turn, Says::Turned(1, Served::Nothing)),
+        (2, Call::Turn, Says::Turned(0, Served::Started)),
+        (2, Call::Turn, Says::Turned(0, Served::Delivered)),
+        (2, Call::Turn, Says::Turned(0, Served::Delivered)),
+        (2, Call::Turn, Says::Turned(0, Served::Delivered)),
+        (2, Call::Turn, Says::Turned(1, Served::Nothing)),
+        (0, Call::Turn, Says::Turned(0, Served::Delivered)),
+        (0, Call::Attempt, Says::Completed(None, 1, 0)),
+        (1, Call::Issue(On::Load(0)), Says::Done),
+        (1, Call::Attempt, Says::Requested),
+        (1, Call::Turn, Says::Turned(1, Served::Nothing)),
+        (2, Call::Turn, Says::Turned(0, Served::Started)),
+        (0, Call::Turn, Says::Turned(0, Served::Nothing)),
+        (1, Call::Attempt, Says::Waiting),
+        (1, Call::Turn, Says::Turned(0, Served::Nothing)),
+        (2, Call::Turn, Says::Turned(1, Served::Held)),
+        (0, Call::Turn, Says::Turned(0, Served::Delivered)),
+        (1, Call::Attempt, Says::Waiting),
+        (1, Call::Turn, Says::Turned(0, Served::Nothing)),
+        (2, Call::Turn, Says::Turned(0, Served::Held)),
+        (0, Call::Turn, Says::Turned(1, Served::Nothing)),
+        (1, Call::Attempt, Says::Waiting),
+        (1, Call::Turn, Says::Turned(0, Served::Nothing)),
+        (2, Call::Turn, Says::Turned(0, Served::Delivered)),
+        (0, Call::Turn, Says::Turned(0, Served::Nothing)),
+        (1, Call::Attempt, Says::Waiting),
+        (1, Call::Turn, Says::Turned(0, Served::Nothing)),
+        (2, Call::Turn, Says::Turned(0, Served::Delivered)),
+        (0, Call::Turn, Says::Turned(0, Served::Nothing)),
+        (1, Call::Attempt, Says::Waiting),
+        (1, Call::Turn, Says::Turned(0, Served::Nothing)),
+        (2, Call::Turn, Says::Turned(1, Served::Nothing)),
+        (0, Call::Turn, Says::Turned(0, Served::Nothing)),
+        (1, Call::Attempt, Says::Waiting),
+        (1, Call::Turn, Says::Turned(0, Served::Delivered)),
+        (2, Call::Turn, Says::Turned(0, Served::Nothing)),
+        (0, Call::Turn, Says::Turned(0, Served::Nothing)),
+        (1, Call::Attempt, Says::Completed(Some(7), 1, 1)),
+    ],
+    records: 2,
+    words: &[(0, 7)],
+};
+
+const FALSE_SHARING: Example = Example {
+    shows: "two words of one line: an upgrade, and a stale hit",
+    config: TWO_OF_EIGHT,
+    steps: &[
+        (0, Call::Issue(On::Store(0, 5)), Says::Done),
+        (0, Call::Attempt, Says::Requested),
+        (0, Call::Turn, Says::Turned(1, Served::Nothing)),
+        (2, Call::Turn, Says::Turned(0, Served::Started)),
+        (2, Call::Turn, Says::Turned(0, Served::Delivered)),
+        (2, Call::Turn, Says::Turned(0, Served::Delivered)),
+        (2, Call::Turn, Says::Turned(0, Served::Delivered)),
+        (2, Call::Turn, Says::Turned(1, Served::Nothing)),
+        (0, Call::Turn, Says::Turned(0, Served::Delivered)),
+        (0, Call::Attempt, Says::Completed(None, 1, 0)),
+        (1, Call::Issue(On::Load(1)), Says::Done),
+        (1, Call::Attempt, Says::Requested),
+        (1, Call::Turn, Says::Turned(1, Served::Nothing)),
+        (2, Call::Turn, Says::Turned(0, Served::Started)),
+        (2, Call::Turn, Says::Turned(1, Served::Held)),
+        (0, Call::Turn, Says::Turned(0, Served::Delivered)),
+        (0, Call::Turn, Says::Turned(1, Served::Nothing)),
+        (2, Call::Turn, Says::Turned(0, Served::Delivered)),
+        (2, Call::Turn, Says::Turned(0, Served::Delivered)),
+        (2, Call::Turn, Says::Turned(1, Served::Nothing)),
+        (1, Call::Turn, Says::Turned(0, Served::Delivered)),
+        (1, Call::Attempt, Says::Completed(Some(0), 1, 1)),
+        (0, Call::Issue(On::Store(1, 6)), Says::Done),
+        (0, Call::Attempt, Says::Requested),
+        (0, Call::Turn, Says::Turned(1, Served::Nothing)),
+        (2, Call::Turn, Says::Turned(0, Served::Delivered)),
+        (2, Call::Turn, Says::Turned(1, Served::Nothing)),
+        (0, Call::Turn, Says::Turned(0, Served::Delivered)),
+        (0, Call::Attempt, Says::Completed(None, 12, 2)),
+        (1, Call::Issue(On::Load(0)), Says::Done),
+        (1, Call::Attempt, Says::Completed(Some(5), 1, 3)),
+        (1, Call::Issue(On::Load(1)), Says::Done),
+        (1, Call::Attempt, Says::Completed(Some(0), 1, 4)),
+    ],
+    records: 5,
+    words: &[(0, 5), (1, 6)],
+};
+
+const PRIVATE_WRITES: Example = Example {
+    shows: "stores at one time, with private writes",
+    config: TWO_PRIVATE,
+    steps: &[
+        (0, Call::Issue(On::Store(0, 1)), Says::Done),
+        (0, Call::Attempt, Says::Requested),
+        (0, Call::Turn, Says::Turned(1, Served::Nothing)),
+        (2, Call::Turn, Says::Turned(0, Served::Started)),
+        (2, Call::Turn, Says::Turned(0, Served::Delivered)),
+        (2, Call::Turn, Says::Turned(0, Served::Delivered)),
+        (2, Call::Turn, Says::Turned(0, Served::Delivered)),
+        (2, Call::Turn, Says::Turned(1, Served::Nothing)),
+        (0, Call::Turn, Says::Turned(0, Served::Delivered)),
+        (0, Call::Attempt, Says::Completed(None, 1, 0)),
+        (0, Call::Issue(On::Store(0, 2)), Says::Done),
+        (0, Call::Attempt, Says::Completed(None, 1, 1)),
+        (0, Call::Issue(On::Store(0, 3)), Says::Done),
+        (0, Call::Attempt, Says::Completed(None, 1, 2)),
+        (1, Call::Issue(On::Load(0)), Says::Done),
+        (1, Call::Attempt, Says::Requested),
+        (1, Call::Turn, Says::Turned(1, Served::Nothing)),
+        (2, Call::Turn, Says::Turned(0, Served::Started)),
+        (2, Call::Turn, Says::Turned(1, Served::Held)),
+        (0, Call::Turn, Says::Turned(0, Served::Delivered)),
+        (0, Call::Turn, Says::Turned(1, Served::Nothing)),
+        (2, Call::Turn, Says::Turned(0, Served::Delivered)),
+        (2, Call::Turn, Says::Turned(0, Served::Delivered)),
+        (2, Call::Turn, Says::Turned(1, Served::Nothing)),
+        (1, Call::Turn, Says::Turned(0, Served::Delivered)),
+        (1, Call::Attempt, Says::Completed(Some(3), 1, 3)),
+        (0, Call::Issue(On::Store(0, 4)), Says::Done),
+        (0, Call::Attempt, Says::Requested),
+        (0, Call::Turn, Says::Turned(1, Served::Nothing)),
+        (2, Call::Turn, Says::Turned(0, Served::Delivered)),
+        (2, Call::Turn, Says::Turned(1, Served::Nothing)),
+        (0, Call::Turn, Says::Turned(0, Served::Delivered)),
+        (0, Call::Attempt, Says::Completed(None, 12, 4)),
+        (0, Call::Issue(On::Store(0, 5)), Says::Done),
+        (0, Call::Attempt, Says::Completed(None, 12, 5)),
+        (1, Call::Issue(On::Load(0)), Says::Done),
+        (1, Call::Attempt, Says::Completed(Some(3), 1, 6)),
+    ],
+    records: 7,
+    words: &[(0, 5)],
+};
+
+const LATER_WRITES: Example = Example {
+    shows: "the same stores without private writes",
+    config: TWO,
+    steps: &[
+        (0, Call::Issue(On::Store(0, 1)), Says::Done),
+        (0, Call::Attempt, Says::Requested),
+        (0, Call::Turn, Says::Turned(1, Served::Nothing)),
+        (2, Call::Turn, Says::Turned(0, Served::Started)),
+        (2, Call::Turn, Says::Turned(0, Served::Delivered)),
+        (2, Call::Turn, Says::Turned(0, Served::Delivered)),
+        (2, Call::Turn, Says::Turned(0, Served::Delivered)),
+        (2, Call::Turn, Says::Turned(1, Served::Nothing)),
+        (0, Call::Turn, Says::Turned(0, Served::Delivered)),
+        (0, Call::Attempt, Says::Completed(None, 1, 0)),
+        (0, Call::Issue(On::Store(0, 2)), Says::Done),
+        (0, Call::Attempt, Says::Completed(None, 2, 1)),
+        (0, Call::Issue(On::Store(0, 3)), Says::Done),
+        (0, Call::Attempt, Says::Completed(None, 3, 2)),
+    ],
+    records: 3,
+    words: &[(0, 3)],
+};
+
+const PRIVATE_AT_THE_END: Example = Example {
+    shows: "two stores at the last time, with private writes",
+    config: LAST_PRIVATE,
+    steps: &[
+        (0, Call::Issue(On::Store(0, 1)), Says::Done),
+        (0, Call::Attempt, Says::Requested),
+        (0, Call::Turn, Says::Turned(1, Served::Nothing)),
+        (2, Call::Turn, Says::Turned(0, Served::Started)),
+        (2, Call::Turn, Says::Turned(0, Served::Delivered)),
+        (2, Call::Turn, Says::Turned(0, Served::Delivered)),
+        (2, Call::Turn, Says::Turned(0, Served::Delivered)),
+        (2, Call::Turn, Says::Turned(1, Served::Nothing)),
+        (0, Call::Turn, Says::Turned(0, Served::Delivered)),
+        (
+            0,
+            Call::Attempt,
+            Says::Completed(None, 18446744073709551615, 0),
+        ),
+        (0, Call::Issue(On::Store(0, 2)), Says::Done),
+        (
+            0,
+            Call::Attempt,
+            Says::Completed(None, 18446744073709551615, 1),
+        ),
+    ],
+    records: 2,
+    words: &[(0, 2)],
+};
+
+const STORE_AFTER_THE_END: Example = Example {
+    shows: "a second store after the last time stops its seat alone",
+    config: LAST,
+    steps: &[
+        (0, Call::Issue(On::Store(0, 1)), Says::Done),
+        (0, Call::Attempt, Says::Requested),
+        (0, Call::Turn, Says::Turned(1, Served::Nothing)),
+        (2, Call::Turn, Says::Turned(0, Served::Started)),
+        (2, Call::Turn, Says::Turned(0, Served::Delivered)),
+        (2, Call::Turn, Says::Turned(0, Served::Delivered)),
+        (2, Call::Turn, Says::Turned(0, Served::Delivered)),
+        (2, Call::Turn, Says::Turned(1, Served::Nothing)),
+        (0, Call::Turn, Says::Turned(0, Served::Delivered)),
+        (
+            0,
+            Call::Attempt,
+            Says::Completed(None, 18446744073709551615, 0),
+        ),
+        (0, Call::Issue(On::Store(0, 2)), Says::Done),
+        (0, Call::Attempt, Says::Refused(8)),
+        (0, Call::Attempt, Says::Refused(9)),
+        (0, Call::Turn, Says::Refused(9)),
+        (0, Call::Put, Says::Is(false)),
+        (0, Call::Take, Says::Takes(Take::Nothing)),
+        (1, Call::Issue(On::Load(1)), Says::Done),
+        (1, Call::Attempt, Says::Requested),
+    ],
+    records: 1,
+    words: &[(0, 1)],
+};
+
+const TIMES_AT_THE_END: Example = Example {
+    shows: "a core and a bank whose times are used up stop alone",
+    config: LAST,
+    steps: &[
+        (0, Call::Issue(On::Store(0, 1)), Says::Done),
+        (0, Call::Attempt, Says::Requested),
+        (0, Call::Turn, Says::Turned(1, Served::Nothing)),
+        (2, Call::Turn, Says::Turned(0, Served::Started)),
+        (2, Call::Turn, Says::Turned(0, Served::Delivered)),
+        (2, Call::Turn, Says::Turned(0, Served::Delivered)),
+        (2, Call::Turn, Says::Turned(0, Served::Delivered)),
+        (2, Call::Turn, Says::Turned(1, Served::Nothing)),
+        (0, Call::Turn, Says::Turned(0, Served::Delivered)),
+        (
+            0,
+            Call::Attempt,
+            Says::Completed(None, 18446744073709551615, 0),
+        ),
+        (0, Call::Advance, Says::Refused(8)),
+        (0, Call::Issue(On::Load(0)), Says::Refused(9)),
+        (1, Call::Issue(On::Load(1)), Says::Done),
+        (1, Call::Attempt, Says::Requested),
+        (1, Call::Turn, Says::Turned(1, Served::Nothing)),
+        (2, Call::Turn, Says::Turned(0, Served::Started)),
+        (2, Call::Turn, Says::Turned(0, Served::Delivered)),
+        (2, Call::Turn, Says::Turned(0, Served::Delivered)),
+        (2, Call::Serve, Says::Refused(8)),
+        (2, Call::Serve, Says::Refused(9)),
+        (1, Call::Turn, Says::Turned(0, Served::Nothing)),
+    ],
+    records: 1,
+    words: &[(0, 1)],
+};
+
+const FULL_LINK: Example = Example {
+    shows: "five lines are sent back: four find a slot",
+    config: ONE,
+    steps: &[
+        (0, Call::Issue(On::Store(0, 1)), Says::Done),
+        (0, Call::Attempt, Says::Requested),
+        (0, Call::Turn, Says::Turned(1, Served::Nothing)),
+        (1, Call::Turn, Says::Turned(0, Served::Started)),
+        (1, Call::Turn, Says::Turned(0, Served::Delivered)),
+        (1, Call::Turn, Says::Turned(0, Served::Delivered)),
+        (1, Call::Turn, Says::Turned(0, Served::Delivered)),
+        (1, Call::Turn, Says::Turned(1, Served::Nothing)),
+        (0, Call::Turn, Says::Turned(0, Served::Delivered)),
+        (0, Call::Attempt, Says::Completed(None, 1, 0)),
+        (0, Call::Issue(On::Store(1, 2)), Says::Done),
+        (0, Call::Attempt, Says::Requested),
+        (0, Call::Turn, Says::Turned(1, Served::Nothing)),
+        (1, Call::Turn, Says::Turned(0, Served::Started)),
+        (1, Call::Turn, Says::Turned(0, Served::Delivered)),
+        (1, Call::Turn, Says::Turned(0, Served::Delivered)),
+        (1, Call::Turn, Says::Turned(0, Served::Delivered)),
+        (1, Call::Turn, Says::Turned(1, Served::Nothing)),
+        (0, Call::Turn, Says::Turned(0, Served::Delivered)),
+        (0, Call::Attempt, Says::Completed(None, 1, 1)),
+        (0, Call::Issue(On::Store(2, 3)), Says::Done),
+        (0, Call::Attempt, Says::Requested),
+        (0, Call::Turn, Says::Turned(1, Served::Nothing)),
+        (1, Call::Turn, Says::Turned(0, Served::Started)),
+        (1, Call::Turn, Says::Turned(0, Served::Delivered)),
+        (1, Call::Turn, Says::Turned(0, Served::Delivered)),
+        (1, Call::Turn, Says::Turned(0, Served::Delivered)),
+        (1, Call::Turn, Says::Turned(1, Served::Nothing)),
+        (0, Call::Turn, Says::Turned(0, Served::Delivered)),
+        (0, Call::Attempt, Says::Completed(None, 1, 2)),
+        (0, Call::Issue(On::Store(3, 4)), Says::Done),
+        (0, Call::Attempt, Says::Requested),
+        (0, Call::Turn, Says::Turned(1, Served::Nothing)),
+        (1, Call::Turn, Says::Turned(0, Served::Started)),
+        (1, Call::Turn, Says::Turned(0, Served::Delivered)),
+        (1, Call::Turn, Says::Turned(0, Served::Delivered)),
+        (1, Call::Turn, Says::Turned(0, Served::Delivered)),
+        (1, Call::Turn, Says::Turned(1, Served::Nothing)),
+        (0, Call::Turn, Says::Turned(0, Served::Delivered)),
+        (0, Call::Attempt, Says::Completed(None, 1, 3)),
+        (0, Call::Issue(On::Store(4, 5)), Says::Done),
+        (0, Call::Attempt, Says::Requested),
+        (0, Call::Turn, Says::Turned(1, Served::Nothing)),
+        (1, Call::Turn, Says::Turned(0, Served::Started)),
+        (1, Call::Turn, Says::Turned(0, Served::Delivered)),
+        (1, Call::Turn, Says::Turned(0, Served::Delivered)),
+        (1, Call::Turn, Says::Turned(0, Served::Delivered)),
+        (1, Call::Turn, Says::Turned(1, Served::Nothing)),
+        (0, Call::Turn, Says::Turned(0, Served::Delivered)),
+        (0, Call::Attempt, Says::Completed(None, 1, 4)),
+        (0, Call::Evict(0), Says::Done),
+        (0, Call::Evict(1), Says::Done),
+        (0, Call::Evict(2), Says::Done),
+        (0, Call::Evict(3), Says::Done),
+        (0, Call::Evict(4), Says::Done),
+        (0, Call::Put, Says::Is(true)),
+        (0, Call::Put, Says::Is(true)),
+        (0, Call::Put, Says::Is(true)),
+        (0, Call::Put, Says::Is(true)),
+        (0, Call::Put, Says::Is(false)),
+    ],
+    records: 5,
+    words: &[(0, 1), (1, 2), (2, 3), (3, 4), (4, 5)],
+};
+
+const NO_ROOM: Example = Example {
+    shows: "a full set makes room by its victim, and a pinned copy stays",
+    config: TINY,
+    steps: &[
+        (0, Call::Issue(On::Load(0)), Says::Done),
+        (0, Call::Attempt, Says::Requested),
+        (0, Call::Turn, Says::Turned(1, Served::Nothing)),
+        (1, Call::Turn, Says::Turned(0, Served::Started)),
+        (1, Call::Turn, Says::Turned(0, Served::Delivered)),
+        (1, Call::Turn, Says::Turned(0, Served::Delivered)),
+        (1, Call::Turn, Says::Turned(0, Served::Delivered)),
+        (1, Call::Turn, Says::Turned(1, Served::Nothing)),
+        (0, Call::Turn, Says::Turned(0, Served::Delivered)),
+        (0, Call::Attempt, Says::Completed(Some(0), 0, 0)),
+        (0, Call::Issue(On::Load(1)), Says::Done),
+        (0, Call::Attempt, Says::Refused(4)),
+        (0, Call::Evict(1), Says::Refused(3)),
+        (0, Call::Evict(0), Says::Done),
+        (0, Call::Evict(0), Says::Refused(3)),
+        (0, Call::Attempt, Says::Requested),
+        (0, Call::Turn, Says::Turned(1, Served::Nothing)),
+        (1, Call::Turn, Says::Turned(0, Served::Held)),
+        (1, Call::MakeRoom, Says::Room(Some(0))),
+        (1, Call::Evict(1), Says::Refused(3)),
+        (1, Call::Evict(0), Says::Done),
+        (1, Call::MakeRoom, Says::Room(None)),
+        (1, Call::Turn, Says::Turned(0, Served::Started)),
+        (1, Call::Evict(1), Says::Refused(1)),
+        (1, Call::Turn, Says::Turned(0, Served::Delivered)),
+        (1, Call::Turn, Says::Turned(0, Served::Delivered)),
+        (1, Call::Turn, Says::Turned(0, Served::Delivered)),
+        (1, Call::Turn, Says::Turned(1, Served::Nothing)),
+        (0, Call::Turn, Says::Turned(0, Served::Delivered)),
+        (0, Call::Evict(1), Says::Refused(5)),
+        (0, Call::Attempt, Says::Completed(Some(0), 10, 1)),
+    ],
+    records: 2,
+    words: &[(0, 0), (1, 0)],
+};
+
+const RECALLED_FOR_ROOM: Example = Example {
+    shows: "an owned line is recalled before it leaves its bank, and is then stored",
+    config: TINY,
+    steps: &[
+        (0, Call::Issue(On::Store(0, 1)), Says::Done),
+        (0, Call::Attempt, Says::Requested),
+        (0, Call::Turn, Says::Turned(1, Served::Nothing)),
+        (1, Call::Turn, Says::Turned(0, Served::Started)),
+        (1, Call::Turn, Says::Turned(0, Served::Delivered)),
+        (1, Call::Turn, Says::Turned(0, Served::Delivered)),
+        (1, Call::Turn, Says::Turned(0, Served::Delivered)),
+        (1, Call::Turn, Says::Turned(1, Served::Nothing)),
+        (0, Call::Turn, Says::Turned(0, Served::Delivered)),
+        (0, Call::Attempt, Says::Completed(None, 1, 0)),
+        (1, Call::Evict(0), Says::Recalled),
+        (1, Call::Evict(0), Says::Refused(1)),
+        (1, Call::Turn, Says::Turned(1, Served::Nothing)),
+        (0, Call::Turn, Says::Turned(0, Served::Delivered)),
+        (0, Call::Turn, Says::Turned(1, Served::Nothing)),
+        (1, Call::Turn, Says::Turned(0, Served::Delivered)),
+        (1, Call::Evict(0), Says::Done),
+        (1, Call::Evict(0), Says::Refused(1)),
+        (1, Call::Turn, Says::Turned(0, Served::Delivered)),
+        (1, Call::Turn, Says::Turned(0, Served::Delivered)),
+        (1, Call::Evict(0), Says::Refused(3)),
+        (1, Call::Turn, Says::Turned(0, Served::Nothing)),
+        (0, Call::Issue(On::Load(0)), Says::Done),
+        (0, Call::Attempt, Says::Requested),
+        (0, Call::Turn, Says::Turned(1, Served::Nothing)),
+        (1, Call::Turn, Says::Turned(0, Served::Started)),
+        (1, Call::Turn, Says::Turned(0, Served::Delivered)),
+        (1, Call::Turn, Says::Turned(0, Served::Delivered)),
+        (1, Call::Turn, Says::Turned(0, Served::Delivered)),
+        (1, Call::Turn, Says::Turned(1, Served::Nothing)),
+        (0, Call::Turn, Says::Turned(0, Served::Delivered)),
+        (0, Call::Attempt, Says::Completed(Some(1), 1, 1)),
+    ],
+    records: 2,
+    words: &[(0, 1)],
+};
+
+const SWAPS: Example = Example {
+    shows: "swaps receive what was there",
+    config: TWO,
+    steps: &[
+        (0, Call::Issue(On::Swap(0, 1)), Says::Done),
+        (0, Call::Attempt, Says::Requested),
+        (0, Call::Turn, Says::Turned(1, Served::Nothing)),
+        (2, Call::Turn, Says::Turned(0, Served::Started)),
+        (2, Call::Turn, Says::Turned(0, Served::Delivered)),
+        (2, Call::Turn, Says::Turned(0, Served::Delivered)),
+        (2, Call::Turn, Says::Turned(0, Served::Delivered)),
+        (2, Call::Turn, Says::Turned(1, Served::Nothing)),
+        (0, Call::Turn, Says::Turned(0, Served::Delivered)),
+        (0, Call::Attempt, Says::Completed(Some(0), 1, 0)),
+        (1, Call::Issue(On::Swap(0, 2)), Says::Done),
+        (1, Call::Attempt, Says::Requested),
+        (1, Call::Turn, Says::Turned(1, Served::Nothing)),
+        (2, Call::Turn, Says::Turned(0, Served::Started)),
+        (2, Call::Turn, Says::Turned(1, Served::Held)),
+        (0, Call::Turn, Says::Turned(0, Served::Delivered)),
+        (0, Call::Turn, Says::Turned(1, Served::Nothing)),
+        (2, Call::Turn, Says::Turned(0, Served::Delivered)),
+        (2, Call::Turn, Says::Turned(0, Served::Delivered)),
+        (2, Call::Turn, Says::Turned(1, Served::Nothing)),
+        (1, Call::Turn, Says::Turned(0, Served::Delivered)),
+        (1, Call::Attempt, Says::Completed(Some(1), 2, 1)),
+    ],
+    records: 2,
+    words: &[(0, 2)],
+};
+
+/// All examples.
+const EXAMPLES: &[Example] = &[
+    FIRST_STORE,
+    MESSAGE,
+    FALSE_SHARING,
+    PRIVATE_WRITES,
+    LATER_WRITES,
+    PRIVATE_AT_THE_END,
+    STORE_AFTER_THE_END,
+    TIMES_AT_THE_END,
+    FULL_LINK,
+    NO_ROOM,
+    RECALLED_FOR_ROOM,
+    SWAPS,
+];
+
+#[test]
+fn seats_do_as_the_tables_say(rt: HostRuntime) -> Result<(), Fail> {
+    for example in EXAMPLES {
+        let shows = example.shows;
+        let (other, run) = played(rt.alloc(), example, usize::MAX)?;
+        assert_eq!(rt; other, None, "{shows}");
+        let run = run.ok_or("all seats are there")?;
+        assert_eq!(rt; run.records().len(), example.records, "{shows}");
+        assert!(rt;
+            is_legal(rt.alloc(), &run, example.config.cores)?,
+            "{shows}"
+        );
+        assert!(rt; has_values(&run, example.words), "{shows}");
+    }
+    Ok(())
+}

@@ -84,10 +84,13 @@ class Player:
     def step(self):
         """A line that is given, and the line that is wanted."""
         event = self.event()
+        return text_of(event), self.told(self.make(event))
+
+    def make(self, event):
         answer = self.machine.step(event)
         if answer == "Completed":
             self.write(self.machine.records[-1])
-        return text_of(event), self.told(answer)
+        return answer
 
     def write(self, record):
         """The word's value, if no write of a later time left another."""

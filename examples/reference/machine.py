@@ -174,13 +174,16 @@ class Machine:
     def deliver(self, number):
         if number not in self.flight:
             raise Refusal("NoSuch")
-        m = self.flight[number]
-        at = dict(DramLd=self.at_dram, DramSt=self.at_dram, ShReq=self.request, ExReq=self.request,
-                  FlushRep=self.returned, WbRep=self.returned, DramLdRep=self.returned, DramStRep=self.returned)
-        answer = at.get(m.kind, self.at_core)(m)
+        answer = self.take_in(self.flight[number])
         if answer in ("Delivered", "Dropped"):
             del self.flight[number]
         return answer
+
+    def take_in(self, m):
+        """What the part that a message goes to makes of it."""
+        at = dict(DramLd=self.at_dram, DramSt=self.at_dram, ShReq=self.request, ExReq=self.request,
+                  FlushRep=self.returned, WbRep=self.returned, DramLdRep=self.returned, DramStRep=self.returned)
+        return at.get(m.kind, self.at_core)(m)
 
     def at_dram(self, m):
         if m.kind == "DramSt":
@@ -266,7 +269,9 @@ class Machine:
     # Evictions at a bank.
     def room_for(self, number):
         """The line to evict for a request that is held for room, where nothing is under way in its set; or None."""
-        m = self.flight[number]
+        return self.room_of(self.flight[number])
+
+    def room_of(self, m):
         e, entries = self.find(m.line, self.bank_set(m.line))
         busy = any(other.state in UNDER_WAY for other in entries)
         if e or busy or m.kind not in ("ShReq", "ExReq") or len(entries) < self.o.bank_ways:

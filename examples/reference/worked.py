@@ -1,14 +1,17 @@
-"""Runs of the machine that were worked out by hand, event by event: what the second program is itself tested by.
+"""Runs of the machine and of seats that were worked out by hand: what the second program is itself tested by.
 
 A run is a list of words. An event with its answer: `I0:S0,5` issues to core 0 a store of 5 to word 0 (R a load, X a
 swap), `A0` an attempt of core 0, `D3` the delivery of message 3, `C0,2` the eviction of core 0's copy of line 2,
 `B0,2` that of bank 0's entry of line 2, `T0` an advance of core 0; behind `=` stands the answer's beginning. `0:R1`
 does a whole operation of core 0: behind `=` stand the received value (- for none), a comma and the time.
+
+A run of seats is a list of calls with their answers, as `turn 0=1 nothing`.
 """
 from types import SimpleNamespace
 
 from reference import order
 from reference.machine import Machine
+from reference.seats import Seats
 
 USUAL = {"banks": 1, "sets": 64, "ways": 4, "bank_sets": 256, "bank_ways": 8, "line_words": 1, "lease": 10,
          "messages": 4096, "time": 0, "private_write": False}
@@ -58,6 +61,31 @@ RUNS = [
     ("what isn't there", {}, "D0=NoSuch A0=Idle C0,0=NoSuch B0,0=NoSuch", {}, [0], {}),
 ]
 
+# A first store by core 0, whose seat is 0, through the bank's seat: 1 with one core, and 2 with two.
+STORE = ("issue 0 S{word},{value}=done; attempt 0=Requested; turn 0=1 nothing; turn {bank}=0 started; "
+         "turn {bank}=0 delivered; turn {bank}=0 delivered; turn {bank}=0 delivered; turn {bank}=1 nothing; "
+         "turn 0=0 delivered; attempt 0=Completed; ")
+
+# What a run shows, its options, its calls; the last record's value and time, and how many messages wait in slots.
+SEAT_RUNS = [
+    ("a first store, and a load of it by another core", {"cores": 2},
+     STORE.format(word=0, value=7, bank=2)
+     + "issue 1 R0=done; attempt 1=Requested; attempt 1=Waiting; turn 1=1 nothing; turn 2=0 started; turn 2=1 held; "
+     "turn 0=0 delivered; take 0=none taken; turn 0=1 nothing; turn 2=0 delivered; turn 2=0 delivered; "
+     "serve 2=nothing; put 2=put; take 1=taken; take 1=hand full; serve 1=delivered; attempt 1=Completed; attempt 1=Idle", (7, 1), 0),
+    # The bank took each request from the first slot, so it looks for the next message at the second: that of line 1.
+    ("a link has four slots, which go round", {"cores": 1},
+     "".join(STORE.format(word=word, value=word, bank=1) for word in range(5))
+     + "evict 0 0=done; evict 0 1=done; evict 0 2=done; evict 0 3=done; evict 0 4=done; evict 0 4=refused 3; "
+     "put 0=put; put 0=put; put 0=put; put 0=put; put 0=none put; turn 1=0 delivered; evict 1 1=evicted; "
+     "evict 1 0=recalled; evict 1 0=refused 1; evict 1 9=refused 3; put 0=put; put 0=none put", (None, 1), 4),
+    ("times end for one seat, and then for another", {"cores": 2, "time": LAST - 1},
+     STORE.format(word=0, value=1, bank=2)
+     + "advance 0=refused 8; issue 0 R0=refused 9; turn 0=refused 9; issue 1 R1=done; attempt 1=Requested; "
+     "turn 1=1 nothing; turn 2=0 started; turn 2=0 delivered; turn 2=0 delivered; turn 2=refused 8; turn 2=refused 9; "
+     "take 2=none taken", (None, LAST), 0),
+]
+
 
 def operation(words):
     word, _, value = words[1:].partition(",")
@@ -101,7 +129,25 @@ def test_run(shows, options, words, counts, times, values):
     assert all(memory.get(word, 0) == value for word, value in values.items()), f"{shows}: {memory}"
 
 
+def call_of(words):
+    name, seat, *of = words.split()
+    return name, int(seat), *(operation(one) if one[0] in KINDS else int(one) for one in of)
+
+
+def test_seats(shows, options, calls, last, waiting):
+    seats = Seats(SimpleNamespace(**{**USUAL, **options}), {})
+    for words in calls.split("; "):
+        call, _, wanted = words.partition("=")
+        answer = seats.call(*call_of(call))
+        assert answer == wanted, f"{shows}: {call} is answered {answer}"
+    record = seats.records[-1]
+    assert (record.received, record.time) == last, f"{shows}: {record}"
+    assert sum(m is not None for m in seats.slots) == waiting, shows
+
+
 def test_machine():
     for run in RUNS:
         test_run(*run)
-    return len(RUNS)
+    for run in SEAT_RUNS:
+        test_seats(*run)
+    return len(RUNS) + len(SEAT_RUNS)

@@ -1,16 +1,19 @@
-//! The lines that are played: a machine, or an event.
+//! The lines that are played: a machine, an event, or a list of events.
 
 use crate::views::Seen;
 use anyhow::{Context, Result, bail};
 use interleaving_core::{Config, Event};
 use network::{LineNo, MsgNo};
 use physiological_order::{Op, WordAddr};
+use std::alloc::Global;
 use std::str::SplitAsciiWhitespace;
 
 /// What a line asks for.
+#[derive(Drop)]
 pub(crate) enum Line {
     Machine(Config, Seen),
     Event(Event),
+    List(Vec<Event>),
 }
 
 /// The next field, a number.
@@ -57,19 +60,39 @@ fn operation(fields: &mut SplitAsciiWhitespace<'_>) -> Result<Op> {
     }
 }
 
+/// The event that a word and what follows it name.
+fn event(name: &str, fields: &mut SplitAsciiWhitespace<'_>) -> Result<Event> {
+    match name {
+        "issue" => Ok(Event::Issue(narrow(fields)?, operation(fields)?)),
+        "attempt" => Ok(Event::Attempt(narrow(fields)?)),
+        "deliver" => Ok(Event::Deliver(MsgNo(wide(fields)?))),
+        "cache" => Ok(Event::EvictCache(narrow(fields)?, LineNo(wide(fields)?))),
+        "bank" => Ok(Event::EvictBank(narrow(fields)?, LineNo(wide(fields)?))),
+        "advance" => Ok(Event::Advance(narrow(fields)?)),
+        _ => bail!("there is no such event"),
+    }
+}
+
+/// The events up to the end of the line, one after the other.
+fn list(alloc: Global, fields: &mut SplitAsciiWhitespace<'_>) -> Result<Vec<Event>> {
+    let _inside: Option<Op> = None;
+    let mut events = Vec::new(alloc);
+    for _ in 0..u64::MAX {
+        let Some(name) = fields.next() else {
+            break;
+        };
+        events.push(event(name, fields)?)?;
+    }
+    Ok(events)
+}
+
 /// What a text asks for.
-pub(crate) fn line_of(text: &str) -> Result<Line> {
+pub(crate) fn line_of(alloc: Global, text: &str) -> Result<Line> {
     let mut fields = text.split_ascii_whitespace();
     let fields = &mut fields;
-    let event = match fields.next().context("a line without words")? {
-        "machine" => return machine(fields),
-        "issue" => Event::Issue(narrow(fields)?, operation(fields)?),
-        "attempt" => Event::Attempt(narrow(fields)?),
-        "deliver" => Event::Deliver(MsgNo(wide(fields)?)),
-        "cache" => Event::EvictCache(narrow(fields)?, LineNo(wide(fields)?)),
-        "bank" => Event::EvictBank(narrow(fields)?, LineNo(wide(fields)?)),
-        "advance" => Event::Advance(narrow(fields)?),
-        _ => bail!("there is no such event"),
-    };
-    Ok(Line::Event(event))
+    match fields.next().context("a line without words")? {
+        "machine" => machine(fields),
+        "list" => Ok(Line::List(list(alloc, fields)?)),
+        name => Ok(Line::Event(event(name, fields)?)),
+    }
 }

@@ -6,20 +6,36 @@ mod lines;
 mod views;
 
 use anyhow::{Result, bail};
-use interleaving_core::System;
+use interleaving_core::{Event, System};
 use lines::{Line, line_of};
 use physiological_order::Memory;
 use std::alloc::Global;
 use std::io;
 use std::io::{BufRead, BufReader, BufWriter, Write};
-use views::{Seen, tell};
+use views::{Seen, tell, tell_list, tell_refused_list};
 
 /// A machine with what is to be seen of it, once the first one was opened.
 type Played = Option<(System, Seen)>;
 
-/// What a line asks for: another machine, or an event on the one that there is, which is then told.
+/// The answers to a list of events, or that there is no memory for the list, which is then given once more.
+fn play_list<W: Write + Drop>(
+    system: &mut System,
+    seen: &Seen,
+    events: &[Event],
+    out: &mut W,
+) -> Result<()> {
+    for _ in 0..2 {
+        if let Ok(answers) = system.run(events) {
+            return tell_list(system, seen, answers.as_slice(), out);
+        }
+        tell_refused_list(system, seen, out)?;
+    }
+    Ok(())
+}
+
+/// What a line asks for: another machine, or one or more events on the one that there is, which is then told.
 fn play<W: Write + Drop>(alloc: Global, played: Played, text: &str, out: &mut W) -> Result<Played> {
-    match (line_of(text)?, played) {
+    match (line_of(alloc, text)?, played) {
         (Line::Machine(config, seen), _) => match System::new(alloc, config, Memory::new(alloc)) {
             Ok(system) => Ok(Some((system, seen))),
             Err(_) => bail!("a configuration is refused"),
@@ -29,7 +45,11 @@ fn play<W: Write + Drop>(alloc: Global, played: Played, text: &str, out: &mut W)
             tell(&system, &seen, &answer, out)?;
             Ok(Some((system, seen)))
         }
-        (Line::Event(_), None) => bail!("a machine is wanted before its events"),
+        (Line::List(events), Some((mut system, seen))) => {
+            play_list(&mut system, &seen, events.as_slice(), out)?;
+            Ok(Some((system, seen)))
+        }
+        _ => bail!("a machine is wanted before its events"),
     }
 }
 

@@ -112,6 +112,17 @@ fn tell_values<W: Write + Drop>(system: &System, seen: &Seen, out: &mut W) -> Re
     Ok(())
 }
 
+/// All that can be seen of the machine.
+fn tell_machine<W: Write + Drop>(system: &System, seen: &Seen, out: &mut W) -> Result<()> {
+    for core in 0..system.cores() {
+        tell_core(system, core, seen.lines, out)?;
+    }
+    tell_banks(system, out)?;
+    tell_values(system, seen, out)?;
+    writeln!(out)?;
+    Ok(())
+}
+
 /// An answer, and the machine after it, in one line.
 pub(crate) fn tell<W: Write + Drop>(
     system: &System,
@@ -120,11 +131,30 @@ pub(crate) fn tell<W: Write + Drop>(
     out: &mut W,
 ) -> Result<()> {
     tell_answer(answer, out)?;
-    for core in 0..system.cores() {
-        tell_core(system, core, seen.lines, out)?;
+    tell_machine(system, seen, out)
+}
+
+/// The answers to a list of events, and the machine after them, in one line.
+pub(crate) fn tell_list<W: Write + Drop>(
+    system: &System,
+    seen: &Seen,
+    answers: &[Answer],
+    out: &mut W,
+) -> Result<()> {
+    write!(out, "list")?;
+    for answer in answers {
+        write!(out, "; ")?;
+        tell_answer(answer, out)?;
     }
-    tell_banks(system, out)?;
-    tell_values(system, seen, out)?;
-    writeln!(out)?;
-    Ok(())
+    tell_machine(system, seen, out)
+}
+
+/// That there is no memory for a list of events, and the machine then.
+pub(crate) fn tell_refused_list<W: Write + Drop>(
+    system: &System,
+    seen: &Seen,
+    out: &mut W,
+) -> Result<()> {
+    write!(out, "no list")?;
+    tell_machine(system, seen, out)
 }

@@ -75,6 +75,7 @@ parts_of_state z cores banks log slots good all_cores all_banks o =
       banks_there = λ j l.
           let h = all_banks.there j l in (h.0, bank_part h.1, mapped bank_part banks h.0 h.1 h.2, h.3);
       lying = o.lying;
+      home = o.home;
     }
 
 pub left_parts : (z left : SetUp) (cores : List CoreSeat) (banks : List BankSeat) (core_parts : List CorePart)

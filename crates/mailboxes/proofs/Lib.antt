@@ -19,6 +19,7 @@ mod NewSeats
 mod OneStates
 mod OwnMessages
 mod Outboxes
+mod SeatSums
 mod SentMessages
 mod Sweeps
 mod ServedCores

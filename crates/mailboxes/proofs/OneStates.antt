@@ -80,6 +80,7 @@ module _ (z : SetUp) (cores rest : List CoreSeat) (banks : List BankSeat) (first
         of_cores = λ i p e. held c.seats c.agrees p.mail (core_known i p e);
         of_banks = λ i p e. held c.seats c.agrees p.mail (bank_known i p e);
         lying = λ k l. sliced slots k (lies (c.phases k)) (c.lying (all_idle a b) k l);
+        home = c.home (all_idle a b);
       }
 
 -- the last of the cores' seats is apart from the others

@@ -29,11 +29,17 @@ pub issued_is : (run : Run) (parts : Parts run) (core i : ℕ) (p : CorePart) �
 issued_is run parts core i p e n =
     sym (parts.of_cores i p e).issued ∙ ap (λ c. (state_of run parts).issued c) n
 
+-- the part that is read at a place where one of a number stands
+pub found : {A : Type 0} → (number : A → ℕ) (items : List A) (n at : ℕ) (p q : A) → slice_get items at ≡ Some p →
+    number p ≡ n → q ≡ get_or items at q → (slice_get items at ≡ Some q) × (number q ≡ n)
+found number items n at p q e is read =
+    let here = slice_get_read items (length items) at q refl (slice_get_within items at p e) read in
+    (here, ap number (some_is (sym here ∙ e)) ∙ is)
+
 -- and so has the part that is read at a place where one of its number stands
 pub found_issued : (run : Run) (parts : Parts run) (core at : ℕ) (p q : CorePart) →
     slice_get run.cores.items at ≡ Some p → p.number ≡ core → q ≡ get_or run.cores.items at q →
     q.issued.items ≡ (state_of run parts).issued core
 found_issued run parts core at p q e n is =
-    let here : slice_get run.cores.items at ≡ Some q =
-    slice_get_read run.cores.items (length run.cores.items) at q refl (slice_get_within run.cores.items at p e) is in
-    issued_is run parts core at q here (ap (λ (x : CorePart). x.number) (some_is (sym here ∙ e)) ∙ n)
+    let here = found (λ (x : CorePart). x.number) run.cores.items core at p q e n is in
+    issued_is run parts core at q here.0 here.1

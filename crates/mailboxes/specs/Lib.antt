@@ -11,6 +11,7 @@ pub mod Evictions
 pub mod Places
 pub mod Remains
 pub mod RunParts
+pub mod RunSums
 pub mod SeatServing
 pub mod Seats
 pub mod Sending

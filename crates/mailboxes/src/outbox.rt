@@ -1,11 +1,14 @@
 //! What a seat sends by.
 ghost use Rattle.std.specs.Prelude.{◌≡◌, ◌+◌, ◌-◌, ◌<◌, ◌≤◌, ◌^◌, nat_eq, length, IfOk};
 ghost use Rattle.network.specs.Mail.{AreCounts, counted};
+ghost use Rattle.machine_theorem.specs.Bags.{weigh};
+ghost use Rattle.machine_moves.specs.Ownership.{ownership_in};
 ghost use Rattle.serving.specs.Queues.{values_of};
 ghost use Rattle.mailboxes.specs.Sending.{can_send, can_send_out, has_place, no_outbox, noted, sent_out};
 
+use crate::run_owners::grants_of;
 use machine_table::Counts;
-use network::{Body, Message};
+use network::{Body, LineNo, Message};
 use serving::Queue;
 use std::alloc::{AllocError, Global};
 use std::marker::Model;
@@ -66,9 +69,28 @@ impl Outbox {
 
     /// How many messages of the counted kinds the seat sent.
     pub fn counts(&self) -> Counts
-        ensures { result ≡ self.now.counts }
+        ensures value { result ≡ self.now.counts }
+        ensures within { AreCounts result (2 ^ 64 - 1) }
     {
+        let _fits = self.sent;
         self.counts
+    }
+
+    /// How many of the messages to be put are grants or returns of a line.
+    pub(crate) fn grants(&self, line: LineNo) -> u32
+        ensures value { result ≡ weigh (ownership_in line) self.now.messages }
+        ensures within { result ≤ 256 }
+    {
+        let mut count = 0;
+        let mut next = self.queue.front();
+        for _ in 0..self.queue.len() {
+            let Some(cell) = next else {
+                return count;
+            };
+            count += grants_of(Some(self.queue.get(cell)), line);
+            next = self.queue.next(cell);
+        }
+        count
     }
 
     /// Whether there is place for one more message.

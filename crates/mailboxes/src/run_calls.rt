@@ -8,19 +8,10 @@ ghost use Rattle.machine_moves.specs.Ownership.{coherent};
 ghost use Rattle.mailboxes.specs.declared.closed_machine.CorePart.{CorePart};
 ghost use Rattle.mailboxes.specs.RunParts.{Parts, state_of};
 
-use crate::closed_machine::CorePart;
 use crate::run::Run;
-use closed_runs::{Numbered, find, value_left};
+use closed_runs::{find, value_left};
 use machine_moves::laws::{places_count_records, records_are_in_order};
 use physiological_order::{Op, Record, WordAddr};
-
-impl Numbered for CorePart {
-    ghost number = { λ p. p.number };
-
-    fn number(&self) -> u32 {
-        self.number
-    }
-}
 
 impl Run {
     /// The records of all completed operations, by number. Of a run that `close` gave, they are a legal history of the

@@ -19,7 +19,7 @@ use Rattle.seat_rule.specs.declared.views.Hold.{Hold}
 use Rattle.seat_rule.specs.StateLaws.{StateLaws}
 use Rattle.seat_rule.specs.Rule.{Phase, free, writing, full, reading, content, InPhase, Busy, Kept, Holds, from_of}
 use Rattle.seat_rule.specs.Rule.{to_of, seat_count, slot_count, state_of, in_flight}
-use Rattle.seat_rule.specs.Ended.{Whole, on_link, lies, Agrees, Closes}
+use Rattle.seat_rule.specs.Ended.{Whole, on_link, lies, Agrees, AllIdle, Closes, IsHome}
 use Rattle.seat_rule.proofs.Phases.{idle_writing, idle_reading}
 
 module _ {A : Type 0} where
@@ -47,6 +47,15 @@ module _ (z : SetUp) (n : ℕ) (from to : ℕ → ℕ) (slots : ℕ) (s : State 
       by writing p b = idle_writing (sym (all_idle (from k)) ∙ b)
       by (full m) p b = final k (Some m) p.1
       by (reading m) p b = idle_reading (sym (all_idle (to k)) ∙ b)
+
+  slot_home : (k : ℕ) → k < slots → IsHome (r.phases k)
+  slot_home k l = by (r.phases k) (r.busy k l)
+    where
+      by : (phase : Phase) → Busy from to (λ j. (r.seats j).stage) k phase → IsHome phase
+      by free b = refl
+      by writing b = idle_writing (sym (all_idle (from k)) ∙ b)
+      by (full m) b = refl
+      by (reading m) b = idle_reading (sym (all_idle (to k)) ∙ b)
 
 pub ends : (laws : StateLaws) (z : SetUp) (id : ℕ) (w : View Hold) (words : List ℕ) (xs : List (Option Message))
     (n : ℕ) → is_good z.config ≡ true → w.spent ≡ false → Final (Seen (Holds z) id w) words xs →
@@ -76,12 +85,17 @@ ends laws z id w words xs n good live final found =
           ∙ read_at words (slot_count z) n 0 found;
       agrees = known;
       lying = λ all.
-          slot_lies z (seat_count z) (from_of z) (to_of z) (slot_count z) s r
-          (λ j l.
-          let h = all j l in
-          ap (λ (g : Hold). g.stage) (known h.0 (j, h.1) h.2) ∙ h.3) xs final.4;
+          slot_lies z (seat_count z) (from_of z) (to_of z) (slot_count z) s r (idle r.seats known all) xs final.4;
+      home = λ all.
+          slot_home z (seat_count z) (from_of z) (to_of z) (slot_count z) s r (idle r.seats known all);
     }
   where
+    idle : (seats : ℕ → Hold) → Agrees seats ((w.number, w.mine) ∷ w.known) →
+        AllIdle z ((w.number, w.mine) ∷ w.known) → (j : ℕ) → j < seat_count z → (seats j).stage ≡ Idle
+    idle seats known all j l =
+        let h = all j l in
+        ap (λ (g : Hold). g.stage) (known h.0 (j, h.1) h.2) ∙ h.3
+
     agrees : (seats : ℕ → Hold) → seats w.number ≡ w.mine →
         ((q : ℕ) (p : ℕ × Hold) → get_elem? w.known q ≡ some p → seats p.0 ≡ p.1) →
         Agrees seats ((w.number, w.mine) ∷ w.known)

@@ -1,18 +1,22 @@
 -- What is known of a closed machine: of its seats, its slots and all records.
 use Rattle.std.specs.Prelude.{◌≡◌, ℕ, ◌+◌, ◌/◌, ◌==◌, ◌<◌, List, length, Option, Some, None, if◌then◌else◌}
+use Rattle.std.specs.Prelude.{option_to_list}
 use mathlib.Core.Option.{some}
 use lib.ListN.{get_elem?}
 use Rattle.physiological_order.specs.declared.operation.Record.{Record}
 use Rattle.physiological_order.specs.Order.{of_core}
 use Rattle.network.specs.declared.message.Message.{Message}
+use Rattle.private_cache.specs.CopyTable.{copy_of}
 use Rattle.machine_theorem.specs.Bags.{weigh}
+use Rattle.machine_theorem.specs.Coherence.{owner_in}
 use Rattle.machine_moves.specs.Consistent.{Consistent}
+use Rattle.machine_moves.specs.Ownership.{ownership_in}
 use Rattle.seating.specs.Seated.{over}
 use Rattle.seat_rule.specs.declared.views.SetUp.{SetUp}
 use Rattle.seat_rule.specs.declared.views.Stage.TheVariants.{Idle}
 use Rattle.seat_rule.specs.declared.views.Hold.{Hold}
 use Rattle.seat_rule.specs.Rule.{Phase, free, writing, full, reading, content, seat_count, slot_count, state_of}
-use Rattle.seat_rule.specs.Rule.{in_flight, Reaches, IsPrefix, weigh_links}
+use Rattle.seat_rule.specs.Rule.{bag_of, in_flight, Reaches, IsPrefix, weigh_links}
 
 -- One reached state, which is consistent: each seat has the records of its core, these are all, and they begin with
 -- what any seat has seen. On each link, the messages put are those taken and those in its slots.
@@ -39,6 +43,18 @@ lies writing = None
 lies (full m) = Some m
 lies (reading m) = None
 
+-- the slot isn't out with a seat: no message of it is in flight but the one that lies in it
+abbrev pub IsHome : Phase → Type 0
+IsHome phase = content phase ≡ option_to_list (lies phase)
+
+-- the owners of a line, place by place: the Exclusive copies in the cores' caches, and the grants and returns of the
+-- line among the messages of each seat and in each slot
+abbrev pub owners_by_place : SetUp → (ℕ → Hold) → (ℕ → Phase) → ℕ → ℕ
+owners_by_place z seats phases line =
+    over z.config.cores (λ c. owner_in (copy_of (seats c).core.cache line))
+    + (over (seat_count z) (λ j. weigh (ownership_in line) (bag_of (seats j)))
+    + over (slot_count z) (λ k. weigh (ownership_in line) (content (phases k))))
+
 -- each hold that is known is that of the seat of its number
 abbrev pub Agrees : (ℕ → Hold) → List (ℕ × Hold) → Type 0
 Agrees seats known = (i : ℕ) (p : ℕ × Hold) → get_elem? known i ≡ some p → seats p.0 ≡ p.1
@@ -50,7 +66,7 @@ AllIdle z known =
     (i : ℕ) × (h : Hold) × (get_elem? known i ≡ some (j, h)) × (h.stage ≡ Idle)
 
 -- There is one reached state of which every hold that is known is a part. It has as many records as were counted, and
--- if all seats are known and idle, each slot has its message or none.
+-- if all seats are known and idle, each slot is at home, and has its message or none.
 pub record Closes (z : SetUp) (known : List (ℕ × Hold)) (count : ℕ) (slots : List (Option Message)) : Type 0 where
   pub seats : ℕ → Hold
   pub phases : ℕ → Phase
@@ -59,3 +75,4 @@ pub record Closes (z : SetUp) (known : List (ℕ × Hold)) (count : ℕ) (slots 
   pub counted : length log ≡ count
   pub agrees : Agrees seats known
   pub lying : AllIdle z known → (k : ℕ) → k < slot_count z → get_elem? slots k ≡ some (lies (phases k))
+  pub home : AllIdle z known → (k : ℕ) → k < slot_count z → IsHome (phases k)

@@ -11,6 +11,7 @@ ghost use Rattle.core_pts.specs.declared.attempt.Attempt.TheVariants.{Completed}
 ghost use Rattle.core_pts.specs.CoreTable as core_table;
 ghost use Rattle.core_pts.specs.CoreTable.{CoreState};
 ghost use Rattle.machine_table.specs.SetUp.{is_good};
+ghost use Rattle.machine_moves.specs.Ownership.{owners};
 ghost use Rattle.seating.specs.declared.views.View.{View};
 ghost use Rattle.seating.specs.Seated.{over, first_view, seat_view, one_more, knows, spent_view};
 ghost use Rattle.seating.specs.Seated.{with_hold};
@@ -23,7 +24,8 @@ ghost use Rattle.seat_rule.specs.Rule.{from_of, to_of, node_of, opening_hold, no
 ghost use Rattle.seat_rule.specs.Rule.{weigh_links};
 ghost use Rattle.seat_rule.specs.Plays.{SeatState, saw_out, saw_in, gave, Serves, stood, finished};
 ghost use Rattle.seat_rule.specs.Plays.{put_hold, take_hold};
-ghost use Rattle.seat_rule.specs.Ended.{Whole, Closes, on_link};
+ghost use Rattle.seat_rule.specs.Rule.{in_flight, state_of};
+ghost use Rattle.seat_rule.specs.Ended.{Whole, Closes, on_link, owners_by_place};
 
 use machine_moves::laws::{
     initial_states_are_reached, messages_find_their_parts, places_count_records,
@@ -136,6 +138,15 @@ pub fn closed_machines_are_one_state()
 {
     laws_of_states();
 }
+
+/// The owners of a line in the state that seats and slots make are in the caches of cores, or in flight with a seat or
+/// in a slot.
+pub fn owners_are_added_up()
+    ensures { (z : SetUp) (seats : ℕ → Hold) (phases : ℕ → Phase) (log : List Record) (line : ℕ) →
+        owners z.config (state_of z (seat_count z) seats
+        (in_flight (seat_count z) (slot_count z) seats phases) log) line ≡
+        owners_by_place z seats phases line }
+{}
 
 /// At the end, on each link: no message was taken more often than it was put, whatever each message weighs; and at most
 /// four more messages were put than taken.

@@ -3,7 +3,7 @@ ghost use Rattle.mailboxes.specs.Seats.{IsBankSeat, IsCoreSeat};
 
 use machine_table::{Answer, Refusal};
 use mailboxes::{BankSeat, CoreSeat, Eviction, Machine, Take, Turn};
-use network::LineNo;
+use network::{LineNo, Message};
 use physiological_order::{Op, Record, WordAddr};
 use serving::Served;
 
@@ -32,6 +32,14 @@ pub(crate) enum Call {
     Turn,
     /// Asks a bank for the line that makes room.
     MakeRoom,
+    /// Asks a core for the copy that would make room for a line.
+    Victim(u64),
+    /// Asks a core for its open operation.
+    OpenOp,
+    /// Looks at the message in the hand.
+    Hand,
+    /// Looks at the held message at an index, from 0 for the oldest.
+    Held(u32),
 }
 
 /// What a call answers.
@@ -52,6 +60,10 @@ pub(crate) enum Says {
     /// So many messages were put, and so the last serving ended.
     Turned(u32, Served),
     Room(Option<u64>),
+    /// The line of a message, or of a copy, if there is one.
+    Line(Option<u64>),
+    /// The word of the open operation, and whether its request is out, if one is open.
+    Open(Option<(u64, bool)>),
     /// The refusal's number.
     Refused(u8),
     /// The seat has no such call.
@@ -133,6 +145,10 @@ pub(crate) fn call_core(core: &mut CoreSeat, machine: &Machine, call: Call) -> S
         Call::Take => Says::Takes(core.take(machine)),
         Call::Serve => served(core.serve(machine)),
         Call::Turn => turned(core.turn(machine)),
+        Call::Victim(line) => Says::Line(number_of(core.victim(LineNo(line)))),
+        Call::OpenOp => Says::Open(open_op(core)),
+        Call::Hand => Says::Line(line_of(core.mail.inbox.hand())),
+        Call::Held(at) => Says::Line(line_of(core.mail.inbox.held(at))),
         Call::MakeRoom => Says::Nonsense,
     }
 }
@@ -149,13 +165,31 @@ pub(crate) fn call_bank(bank: &mut BankSeat, machine: &Machine, call: Call) -> S
         Call::Serve => served(bank.serve(machine)),
         Call::Turn => turned(bank.turn(machine)),
         Call::MakeRoom => Says::Room(number_of(bank.make_room())),
+        Call::Hand => Says::Line(line_of(bank.mail.inbox.hand())),
+        Call::Held(at) => Says::Line(line_of(bank.mail.inbox.held(at))),
         Call::Issue(_) | Call::Attempt | Call::Advance => Says::Nonsense,
+        Call::Victim(_) | Call::OpenOp => Says::Nonsense,
     }
 }
 
 fn number_of(line: Option<LineNo>) -> Option<u64> {
     match line {
         Some(line) => Some(line.0),
+        None => None,
+    }
+}
+
+fn line_of(message: Option<&Message>) -> Option<u64> {
+    match message {
+        Some(message) => Some(message.line.0),
+        None => None,
+    }
+}
+
+// The word of the open operation, and whether its request is out.
+fn open_op(core: &CoreSeat) -> Option<(u64, bool)> {
+    match core.open_op() {
+        Some((op, is_out)) => Some((op.word(), is_out)),
         None => None,
     }
 }

@@ -34,7 +34,7 @@ const TWO_PRIVATE: Config = Config {
 };
 
 /// Two cores at the last time but one.
-const LAST: Config = Config {
+pub(crate) const LAST: Config = Config {
     opening_time: 18_446_744_073_709_551_614,
     ..TWO
 };
@@ -123,7 +123,7 @@ const MESSAGE: Example = Example {
     words: &[(0, 7)],
 };
 
-const FALSE_SHARING: Example = Example {
+pub(crate) const FALSE_SHARING: Example = Example {
     shows: "two words of one line: an upgrade, and a stale hit",
     config: TWO_OF_EIGHT,
     steps: &[
@@ -478,7 +478,7 @@ const RECALLED_FOR_ROOM: Example = Example {
     words: &[(0, 1)],
 };
 
-const SWAPS: Example = Example {
+pub(crate) const SWAPS: Example = Example {
     shows: "swaps receive what was there",
     config: TWO,
     steps: &[

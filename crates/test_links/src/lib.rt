@@ -9,7 +9,13 @@ mod closings;
 #[cfg(test)]
 mod examples;
 #[cfg(test)]
+mod full_outbox;
+#[cfg(test)]
 mod links;
+#[cfg(test)]
+mod lists;
+#[cfg(test)]
+mod looking;
 #[cfg(test)]
 mod looks;
 #[cfg(test)]
@@ -17,6 +23,12 @@ mod machines;
 #[cfg(test)]
 mod player;
 #[cfg(test)]
+mod prepared;
+#[cfg(test)]
 mod set_ups;
 #[cfg(test)]
+mod stopped_seats;
+#[cfg(test)]
 mod stops;
+#[cfg(test)]
+mod sums;

@@ -1,0 +1,13 @@
+use Rattle.std.proofs.Common.{◌≡◌, ◌*◌, ◌≤◌}
+use Rattle.machine_theorem.specs.Bags.{weigh}
+use Rattle.machine_moves.specs.Ownership.{ownership_in}
+use Rattle.seating.specs.Seated.{over}
+use Rattle.seat_rule.specs.Rule.{bag_of}
+use Rattle.mailboxes.specs.RunParts.{Parts}
+use Rattle.mailboxes.proofs.run.Run.grants_with_seats.Given as goal
+
+-- the grants and returns of the seats so far are counted
+abbrev pub invariant-loop-number : goal.invariant-loop-number
+invariant-loop-number l =
+    (l.count ≤ 513 * l.number)
+    × ((parts : Parts l.self) → l.count ≡ over l.number (λ j. weigh (ownership_in l.fn.line) (bag_of (parts.seats j))))

@@ -1,9 +1,11 @@
 #!/usr/bin/env python3
 """Plays random events on random machines, and compares each answer and what can be seen of the machine with the second
-program's: tests/events.py PROGRAM [--machines N] [--events N] [--seed N], or tests/events.py --print STDIN STDOUT ..
+program's: tests/events.py PROGRAM [--machines N] [--events N] [--driven N] [--seed N], or tests/events.py --print STDIN
+STDOUT ..
 
 PROGRAM is the built crate event_player. The machines have few words, and every limit of theirs is small or at its end:
-sets, ways, messages, leases, times. With --print the files are written that the gate plays.
+sets, ways, messages, leases, times. Some machines are driven by programs, by rounds and by seeds, instead of being
+given single events. With --print the files are written that the gate plays.
 """
 import argparse
 import random
@@ -17,6 +19,7 @@ TOP = Path(__file__).resolve().parent.parent
 sys.path.insert(0, str(TOP / "examples"))
 from reference.machine import Machine  # noqa: E402
 from reference.order import end_memory  # noqa: E402
+from reference.schedules import ADVANCE, Run, by_rounds, by_seed  # noqa: E402
 
 REFUSALS = {name: number for number, name in enumerate(
     "Busy TooMany NoSuch NoRoom Pinned NetworkFull NoMemory Exhausted Stopped".split(), 1)}
@@ -99,8 +102,11 @@ class Player:
             self.memory[record.word] = max(last, (record.time, record.number, record.value))
 
     def told(self, answer):
+        return answer_text(self.machine, answer) + "|" + self.seen()
+
+    def seen(self):
         machine = self.machine
-        parts = [answer_text(machine, answer), *map(self.core, range(self.o.cores))]
+        parts = [*map(self.core, range(self.o.cores))]
         parts += ["".join(f" {line}" for line in machine.entries(bank)) for bank in range(self.o.banks)]
         parts.append("".join(map(self.message, sorted(machine.flight))))
         totals = machine.totals()
@@ -127,6 +133,57 @@ class Player:
         return (owned + [m.line for m in self.machine.flight.values() if m.kind in CARRIERS]).count(line)
 
 
+class Steps:
+    """A program that is a list of steps."""
+
+    def __init__(self):
+        self.left = []
+
+    def next(self):
+        return self.left[0] if self.left else None
+
+    def done(self, received):
+        self.left = self.left[1:]
+
+
+class Drive:
+    """A run of a player's machine by random programs: its schedule, its limit, and each step with its core."""
+
+    def __init__(self, player):
+        generator, self.player = player.random, player
+        self.seed = generator.choice([None, None, generator.randrange(2 ** 64), LAST])
+        self.limit = generator.choice([0, 1, 2, 5, 10, 30, 100, 300])
+        self.steps = [(generator.randrange(player.o.cores), ADVANCE if generator.random() < 0.1 else player.operation())
+                      for _ in range(generator.choice([0, 1, 2, 5, 12, 12]))]
+
+    def text(self):
+        policy = "round" if self.seed is None else f"seed {self.seed}"
+        steps = (f"{core} {'A' if step == ADVANCE else operation_text(step)}" for core, step in self.steps)
+        return " ".join([f"drive {policy} {self.limit}", *steps])
+
+    def make(self, run_of=Run, ended=()):
+        """The run that this makes on the player's machine, and how it ended: by `memory` if it raises `ended`."""
+        programs = [Steps() for _ in range(self.player.o.cores)]
+        for core, step in self.steps:
+            programs[core].left.append(step)
+        run, before = run_of(self.player.machine, programs), len(self.player.machine.records)
+        try:
+            end = by_rounds(run, self.limit) if self.seed is None else by_seed(run, self.limit, self.seed)
+        except ended:
+            end = "memory"
+        for record in self.player.machine.records[before:]:
+            self.player.write(record)
+        return run, end
+
+    def step(self):
+        """A line that is given, and the line that is wanted."""
+        run, end = self.make()
+        return self.text(), self.told(run, end)
+
+    def told(self, run, end):
+        return "; ".join([end, *(text_of(event) for event, _ in run.made)]) + "|" + self.player.seen()
+
+
 def operation_text(op):
     kind, word, value = op
     return f"{LETTERS[kind]} {word}" + ("" if value is None else f" {value}")
@@ -151,15 +208,15 @@ def text_of(event):
     return " ".join([names[name], *(operation_text(one) if isinstance(one, tuple) else str(one) for one in of)])
 
 
-def played(generator, events):
+def played(generator, events, is_driven=False):
     """A machine's lines, and those that are wanted. Its values at the end are those of the replay of its records.
 
-    A machine that has stopped is given three more events.
+    A machine that has stopped is given three more events. One that is driven is given runs, one for 20 events.
     """
     player, steps, stopped = Player(generator), [], 0
-    while len(steps) < events and stopped < 3:
+    while len(steps) < (events // 20 if is_driven else events) and stopped < 3:
         stopped += player.machine.stopped
-        steps.append(player.step())
+        steps.append(Drive(player).step() if is_driven else player.step())
     left = end_memory({}, player.machine.records)
     assert all(left.get(word, 0) == player.memory.get(word, (0, 0, 0))[2] for word in range(player.words))
     return [player.opening(), *(given for given, _ in steps)], [wanted for _, wanted in steps]
@@ -169,19 +226,21 @@ def main():
     parser = argparse.ArgumentParser()
     parser.add_argument("--machines", type=int, default=400)
     parser.add_argument("--events", type=int, default=250)
+    parser.add_argument("--driven", type=int, default=100)
     parser.add_argument("--seed", type=int, default=1)
     parser.add_argument("--print", action="store_true")
     parser.add_argument("FILES", nargs="+")
     words = parser.parse_args()
     generator = random.Random(words.seed)
+    machines = [False] * words.machines + [True] * words.driven
     if words.print:
-        both = [played(generator, words.events) for _ in range(words.machines)]
+        both = [played(generator, words.events, is_driven) for is_driven in machines]
         for file, index in zip(words.FILES, (0, 1)):
             Path(file).write_text("".join(line + "\n" for machine in both for line in machine[index]))
         return 0
-    tried, answers = 0, Counter()
-    for machine in range(words.machines):
-        given, wanted = played(generator, words.events)
+    tried, driven, answers = 0, 0, Counter()
+    for machine, is_driven in enumerate(machines):
+        given, wanted = played(generator, words.events, is_driven)
         ran = subprocess.run([*words.FILES], input="\n".join(given) + "\n", capture_output=True, text=True)
         got = ran.stdout.splitlines()
         if ran.returncode or got != wanted:
@@ -190,10 +249,12 @@ def main():
             print(f"machine {machine} ({given[0]}), status {ran.returncode}, event {at} ({given[1:][at:at + 1]}):")
             print(f"wanted {wanted[at:at + 1]}\ngot    {got[at:at + 1]}\n{ran.stderr}")
             return 1
-        tried += len(wanted)
+        tried += len(wanted) * (not is_driven)
         answers.update(" ".join(line.split("|")[0].split()[:2 if line.startswith("refused") else 1]) for line in wanted)
-    print(", ".join(f"{answer}: {number}" for answer, number in answers.most_common()))
-    print(f"{tried} events on {words.machines} machines, no difference")
+        if is_driven:
+            driven += sum(line.split("|")[0].count(";") for line in wanted)
+    print(", ".join(f"{answer.strip(';')}: {number}" for answer, number in answers.most_common()))
+    print(f"{tried} events on {words.machines} machines, and {driven} events of runs on {words.driven} others, no difference")
     return 0
 
 

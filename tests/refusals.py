@@ -4,8 +4,8 @@
 PROGRAM is the built program, SHIM the shared object made of tests/refuse.c; tests/refusals.sh makes both. What a whole
 run must print comes from the examples, whose reports the second program made. What may be told of a run that ended for
 want of memory is by the second program, too (ended_runs.py); all else follows from docs/TEXTS.md. Each part prints what
-it tried; the last line is `N tried, M wrong`. The parts `steps` and `lists` want the player crates/event_player as
-PROGRAM, and `seats` wants crates/seat_player.
+it tried; the last line is `N tried, M wrong`. The parts `steps`, `lists` and `drives` want the player
+crates/event_player as PROGRAM, and `seats` wants crates/seat_player.
 """
 import os
 import random
@@ -21,6 +21,7 @@ sys.path.insert(0, str(TOP / "examples"))
 import events  # noqa: E402
 import oracle  # noqa: E402
 from ended_runs import told_of  # noqa: E402
+from refused_drives import refused_drives  # noqa: E402
 from refused_lists import refused_lists  # noqa: E402
 from refused_seats import refused_seats  # noqa: E402
 
@@ -325,7 +326,7 @@ def text_of(lines):
 
 # The parts of the program, which are run if none is named; and those of the players.
 PARTS = {"growths": growths, "devices": devices, "host": host}
-PLAYER_PARTS = {"steps": steps, "lists": refused_lists, "seats": refused_seats}
+PLAYER_PARTS = {"steps": steps, "lists": refused_lists, "drives": refused_drives, "seats": refused_seats}
 
 
 def main():

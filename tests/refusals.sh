@@ -1,8 +1,8 @@
 #!/bin/sh
 # Refuses the program memory, reads and writes, each in turn: tests/refusals.sh [PROGRAM [PART..]]. PROGRAM is a program
-# that is built; without it the program at the top is built where it isn't. For the parts `steps` and `lists` it is the
-# event player (crates/event_player), for `seats` the seat player (crates/seat_player). It wants a C compiler and the GNU
-# C library.
+# that is built; without it the program at the top is built where it isn't. For the parts `steps`, `lists` and `drives`
+# it is the event player (crates/event_player), for `seats` the seat player (crates/seat_player). It wants a C compiler
+# and the GNU C library.
 top=$(CDPATH='' cd -- "$(dirname -- "$0")/.." && pwd) || exit 1
 if [ $# -gt 0 ]; then
     program=$1

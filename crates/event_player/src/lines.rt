@@ -1,5 +1,6 @@
-//! The lines that are played: a machine, an event, or a list of events.
+//! The lines that are played: a machine, an event, a list of events, or programs that drive the machine.
 
+use crate::drives::Drive;
 use crate::views::Seen;
 use anyhow::{Context, Result, bail};
 use interleaving_core::{Config, Event};
@@ -7,6 +8,7 @@ use network::{LineNo, MsgNo};
 use physiological_order::{Op, WordAddr};
 use std::alloc::Global;
 use std::str::SplitAsciiWhitespace;
+use worker_driver::{Policy, Step};
 
 /// What a line asks for.
 #[derive(Drop)]
@@ -14,6 +16,7 @@ pub(crate) enum Line {
     Machine(Config, Seen),
     Event(Event),
     List(Vec<Event>),
+    Drive(Drive),
 }
 
 /// The next field, a number.
@@ -51,6 +54,11 @@ fn machine(fields: &mut SplitAsciiWhitespace<'_>) -> Result<Line> {
 
 fn operation(fields: &mut SplitAsciiWhitespace<'_>) -> Result<Op> {
     let kind = fields.next().context("an operation is wanted")?;
+    operation_of(kind, fields)
+}
+
+/// The operation of this kind that follows.
+fn operation_of(kind: &str, fields: &mut SplitAsciiWhitespace<'_>) -> Result<Op> {
     let word = WordAddr::at(u64::from(narrow(fields)?));
     match kind {
         "R" => Ok(Op::Load(word)),
@@ -86,6 +94,41 @@ fn list(alloc: Global, fields: &mut SplitAsciiWhitespace<'_>) -> Result<Vec<Even
     Ok(events)
 }
 
+/// A step of a program: an advance, or an operation.
+fn step(fields: &mut SplitAsciiWhitespace<'_>) -> Result<Step> {
+    match fields.next().context("a step is wanted")? {
+        "A" => Ok(Step::Advance),
+        kind => Ok(Step::Op(operation_of(kind, fields)?)),
+    }
+}
+
+fn policy(fields: &mut SplitAsciiWhitespace<'_>) -> Result<Policy> {
+    match fields.next().context("a schedule is wanted")? {
+        "round" => Ok(Policy::Rounds),
+        "seed" => Ok(Policy::Seed(wide(fields)?)),
+        _ => bail!("the schedules are round and seed"),
+    }
+}
+
+/// The schedule, the limit, and up to the end of the line each core with a step of its program.
+fn drive(alloc: Global, fields: &mut SplitAsciiWhitespace<'_>) -> Result<Drive> {
+    let policy = policy(fields)?;
+    let limit = narrow(fields)?;
+    let mut steps = Vec::new(alloc);
+    for _ in 0..u64::MAX {
+        let Some(core) = fields.next() else {
+            break;
+        };
+        let core: u32 = core.parse().context("a core is wanted")?;
+        steps.push((core, step(fields)?))?;
+    }
+    Ok(Drive {
+        policy,
+        limit,
+        steps,
+    })
+}
+
 /// What a text asks for.
 pub(crate) fn line_of(alloc: Global, text: &str) -> Result<Line> {
     let mut fields = text.split_ascii_whitespace();
@@ -93,6 +136,7 @@ pub(crate) fn line_of(alloc: Global, text: &str) -> Result<Line> {
     match fields.next().context("a line without words")? {
         "machine" => machine(fields),
         "list" => Ok(Line::List(list(alloc, fields)?)),
+        "drive" => Ok(Line::Drive(drive(alloc, fields)?)),
         name => Ok(Line::Event(event(name, fields)?)),
     }
 }

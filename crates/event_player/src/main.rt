@@ -2,17 +2,19 @@
 //! events, and compares what is told with the second program's machine; docs/HOSTILE.md has the lines.
 #![tactic(auto)]
 
+mod drives;
 mod lines;
 mod views;
 
 use anyhow::{Result, bail};
+use drives::driven;
 use interleaving_core::{Event, System};
 use lines::{Line, line_of};
 use physiological_order::Memory;
 use std::alloc::Global;
 use std::io;
 use std::io::{BufRead, BufReader, BufWriter, Write};
-use views::{Seen, tell, tell_list, tell_refused_list};
+use views::{Seen, tell, tell_list, tell_refused_list, tell_run};
 
 /// A machine with what is to be seen of it, once the first one was opened.
 type Played = Option<(System, Seen)>;
@@ -33,7 +35,7 @@ fn play_list<W: Write + Drop>(
     Ok(())
 }
 
-/// What a line asks for: another machine, or one or more events on the one that there is, which is then told.
+/// What a line asks for: another machine, or one or more events on the one that there is, or a run of it. It is then told.
 fn play<W: Write + Drop>(alloc: Global, played: Played, text: &str, out: &mut W) -> Result<Played> {
     match (line_of(alloc, text)?, played) {
         (Line::Machine(config, seen), _) => match System::new(alloc, config, Memory::new(alloc)) {
@@ -47,6 +49,11 @@ fn play<W: Write + Drop>(alloc: Global, played: Played, text: &str, out: &mut W)
         }
         (Line::List(events), Some((mut system, seen))) => {
             play_list(&mut system, &seen, events.as_slice(), out)?;
+            Ok(Some((system, seen)))
+        }
+        (Line::Drive(drive), Some((mut system, seen))) => {
+            let run = driven(alloc, &mut system, &drive)?;
+            tell_run(&system, &seen, &run, out)?;
             Ok(Some((system, seen)))
         }
         _ => bail!("a machine is wanted before its events"),

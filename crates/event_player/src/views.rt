@@ -1,10 +1,11 @@
 //! What can be seen of a machine, in one line behind the answer.
 
 use anyhow::Result;
-use interleaving_core::{Answer, System};
+use interleaving_core::{Answer, Event, System};
 use network::{LineNo, MsgNo};
 use physiological_order::{Op, Record, WordAddr};
 use std::io::Write;
+use worker_driver::{Driven, End};
 
 /// How many words and lines are looked at, from 0.
 #[derive(Clone, Copy)]
@@ -156,5 +157,46 @@ pub(crate) fn tell_refused_list<W: Write + Drop>(
     out: &mut W,
 ) -> Result<()> {
     write!(out, "no list")?;
+    tell_machine(system, seen, out)
+}
+
+/// An event, as it is given.
+fn tell_event<W: Write + Drop>(event: &Event, out: &mut W) -> Result<()> {
+    match event {
+        Event::Issue(core, op) => {
+            write!(out, "issue {core} ")?;
+            return tell_op(op, out);
+        }
+        Event::Attempt(core) => write!(out, "attempt {core}")?,
+        Event::Deliver(message) => write!(out, "deliver {}", message.0)?,
+        Event::EvictCache(core, line) => write!(out, "cache {core} {}", line.0)?,
+        Event::EvictBank(bank, line) => write!(out, "bank {bank} {}", line.0)?,
+        Event::Advance(core) => write!(out, "advance {core}")?,
+    }
+    Ok(())
+}
+
+fn name_of(end: End) -> &'static str {
+    match end {
+        End::AllDone => "all-done",
+        End::Stalled => "stalled",
+        End::TurnsUsed => "limit",
+        End::Exhausted => "exhausted",
+        End::NoMemory => "memory",
+    }
+}
+
+/// How a run ended, its events, and the machine after them, in one line.
+pub(crate) fn tell_run<W: Write + Drop>(
+    system: &System,
+    seen: &Seen,
+    run: &Driven,
+    out: &mut W,
+) -> Result<()> {
+    write!(out, "{}", name_of(run.end))?;
+    for event in &run.events {
+        write!(out, "; ")?;
+        tell_event(event, out)?;
+    }
     tell_machine(system, seen, out)
 }

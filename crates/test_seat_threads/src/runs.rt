@@ -27,7 +27,7 @@ const FEW: Case = Case {
     threads: 4,
     words: 16,
     rounds: 20,
-    turns: 2_000,
+    turns: 200,
 };
 
 /// 64 cores with caches for two lines each, and eight banks with room for all 128 words.
@@ -48,7 +48,7 @@ const MANY: Case = Case {
     threads: 16,
     words: 128,
     rounds: 20,
-    turns: 500,
+    turns: 50,
 };
 
 // Whether the checker says that a run's records are legal, for what its cores were issued and the opening memory.
@@ -118,12 +118,6 @@ fn seats_in_several_threads_leave_a_legal_run(rt: HostRuntime) -> Result<(), Fai
         assert!(rt; run.records().len() >= case.config.cores as usize);
         assert_eq!(rt; total(run.counts()), counted(&run));
         assert!(rt; owned(&run, case.words).is_some());
-        let _said = println!(rt;
-            "records {} counts {} owned {}",
-            run.records().len(),
-            counted(&run),
-            owned(&run, case.words).unwrap_or(9999)
-        );
     }
     Ok(())
 }

@@ -5,6 +5,7 @@ ghost use Rattle.mailboxes.specs.Seats.{IsBankSeat, IsCoreSeat};
 use crate::seats::{bank_turn, core_turn};
 use mailboxes::{BankSeat, CoreSeat, Machine};
 use std::alloc::{AllocError, Global};
+use std::thread;
 
 /// The seats that one thread drives: those of some cores, and that of one bank or none.
 #[derive(Drop)]
@@ -89,5 +90,6 @@ pub(crate) fn work(team: &mut Team, machine: &Machine, turns: u32, words: u64)
         if let Some(bank) = &mut team.bank {
             bank_turn(bank, machine);
         }
+        thread::yield_now();
     }
 }

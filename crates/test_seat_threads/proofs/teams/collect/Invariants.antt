@@ -1,4 +1,4 @@
-use Rattle.std.proofs.Common.{All, IfSome}
+use Rattle.std.proofs.Common.{All, IfSome, length}
 use Rattle.mailboxes.specs.Seats.{IsBankSeat, IsCoreSeat}
 use Rattle.test_seat_threads.proofs.teams.collect.Given as goal
 
@@ -8,4 +8,4 @@ invariant-loop-team l =
     × All (λ t. All (IsCoreSeat l.machine) t.cores.items × IfSome t.bank (IsBankSeat l.machine)) l.teams.items
 
 abbrev pub decreases-loop-team : goal.decreases-loop-team
-decreases-loop-team l = goal.left-loop-team l
+decreases-loop-team l = length l.teams.items

@@ -1,5 +1,5 @@
 //! Seats that are dealt to teams, one for each thread, and are taken together again.
-ghost use Rattle.std.specs.Prelude.{All, IfOk, IfSome, ◌<◌};
+ghost use Rattle.std.specs.Prelude.{All, IfOk, IfSome, OnOk, ◌<◌};
 ghost use Rattle.mailboxes.specs.Seats.{IsBankSeat, IsCoreSeat};
 
 use crate::seats::{bank_turn, core_turn};
@@ -61,11 +61,26 @@ pub(crate) fn collect(
             bank,
         } = team;
         cores.append(&mut mine)?;
-        if let Some(bank) = bank {
-            banks.push(bank)?;
-        }
+        add_bank(&mut banks, machine, bank)?;
     }
     Ok((cores, banks))
+}
+
+// Puts a bank's seat at the end, if there is one.
+fn add_bank(
+    banks: &mut Vec<BankSeat>,
+    machine: &Machine,
+    bank: Option<BankSeat>,
+) -> Result<(), AllocError>
+    requires banks { All (IsBankSeat machine.now) banks.old.items }
+    requires bank { IfSome bank (IsBankSeat machine.now) }
+    ensures { OnOk result (All (IsBankSeat machine.now) banks.new.items) }
+{
+    let Some(bank) = bank else {
+        return Ok(());
+    };
+    banks.push(bank)?;
+    Ok(())
 }
 
 // Each core of a team has a turn.

@@ -29,14 +29,24 @@ const SENT_BACK: &[(usize, Call, Says)] = &[
     (0, Call::Evict(256), Says::Done),
 ];
 
-/// The held list of the bank is full: the bank keeps line 256. Once the store of line 0 is served there is a place.
-const EVICTED: &[(usize, Call, Says)] = &[
+/// The held list of the bank is full of stores to DRAM: the bank keeps line 256. The store of line 0 is served, and
+/// DRAM's answer takes its place, behind all others.
+const STORES: &[(usize, Call, Says)] = &[
     (1, Call::Held(0), Says::Line(Some(0))),
     (1, Call::Held(255), Says::Line(Some(255))),
     (1, Call::Evict(256), Says::Refused(6)),
-    (1, Call::Evict(256), Says::Refused(6)),
     (1, Call::Evict(257), Says::Refused(3)),
     (1, Call::Held(255), Says::Line(Some(255))),
+    (1, Call::Serve, Says::Served(Served::Delivered)),
+    (1, Call::Held(0), Says::Line(Some(1))),
+    (1, Call::Held(255), Says::Line(Some(0))),
+];
+
+/// All stores were served: the held list is full of answers. Once the oldest is served there is a place.
+const ANSWERS: &[(usize, Call, Says)] = &[
+    (1, Call::Held(0), Says::Line(Some(0))),
+    (1, Call::Held(255), Says::Line(Some(255))),
+    (1, Call::Evict(256), Says::Refused(6)),
     (1, Call::Serve, Says::Served(Served::Delivered)),
     (1, Call::Held(0), Says::Line(Some(1))),
     (1, Call::Held(255), Says::Line(None)),
@@ -75,24 +85,53 @@ fn has_all_stored(run: &Run) -> bool
     true
 }
 
-// What is answered otherwise, if anything is: the index of the first such step, of all steps one after the other; and
-// how many records there are, if they are legal and each word has its value.
+// The bank's held list is filled, and all its messages are served once, but for the first, which is served twice. The
+// first step that is answered otherwise, if any is.
+fn fill_and_serve(
+    machine: &Machine,
+    cores: &mut Vec<CoreSeat>,
+    banks: &mut Vec<BankSeat>,
+) -> Option<usize>
+    requires cores { AllCoreSeats machine.now cores.old.items }
+    requires banks { AllBankSeats machine.now banks.old.items }
+    ensures cores { AllCoreSeats machine.now cores.new.items }
+    ensures banks { AllBankSeats machine.now banks.new.items }
+{
+    if !evict_first(machine, cores, banks, 1) {
+        return Some(0);
+    }
+    let other = play(machine, cores, banks, STORES, usize::MAX);
+    if other.is_some() {
+        return other;
+    }
+    for _ in 1..PLACES {
+        if called(machine, cores, banks, 1, Call::Serve) != Says::Served(Served::Delivered) {
+            return Some(STORES.len());
+        }
+    }
+    play(machine, cores, banks, ANSWERS, usize::MAX)
+}
+
+// Whether all calls are answered as they should be until the held list of the bank is to be filled.
+fn prepare(machine: &Machine, cores: &mut Vec<CoreSeat>, banks: &mut Vec<BankSeat>) -> bool
+    requires cores { AllCoreSeats machine.now cores.old.items }
+    requires banks { AllBankSeats machine.now banks.old.items }
+    ensures cores { AllCoreSeats machine.now cores.new.items }
+    ensures banks { AllBankSeats machine.now banks.new.items }
+{
+    fill(machine, cores, banks)
+        && play(machine, cores, banks, SENT_BACK, usize::MAX).is_none()
+        && carry(machine, cores, banks)
+}
+
+// What is answered otherwise once the bank has all lines, if anything is; and how many records there are, if they are
+// legal and each word has its value.
 fn played(alloc: Global) -> Result<(Option<usize>, Option<usize>), Fail> {
     let (machine, mut cores, mut banks) = opened(alloc, WIDE)?;
-    if !fill(&machine, &mut cores, &mut banks) {
-        return Err(Fail::from("the outbox is filled"));
+    if !prepare(&machine, &mut cores, &mut banks) {
+        return Err(Fail::from("all lines come back to the bank"));
     }
-    let sent_back = play(&machine, &mut cores, &mut banks, SENT_BACK, usize::MAX);
-    if sent_back.is_some() {
-        return Ok((sent_back, None));
-    }
-    if !carry(&machine, &mut cores, &mut banks) {
-        return Err(Fail::from("all lines come back"));
-    }
-    if !evict_first(&machine, &mut cores, &mut banks, 1) {
-        return Err(Fail::from("the held list is filled"));
-    }
-    let other = play(&machine, &mut cores, &mut banks, EVICTED, usize::MAX);
+    let other = fill_and_serve(&machine, &mut cores, &mut banks);
     let run = closed(alloc, machine, cores, banks)?.ok_or("all seats are there")?;
     if !is_legal(alloc, &run, 1)? || !has_all_stored(&run) {
         return Ok((other, None));

@@ -85,8 +85,8 @@ fn has_all_stored(run: &Run) -> bool
     true
 }
 
-// The bank's held list is filled, and all its messages are served once, but for the first, which is served twice. The
-// first step that is answered otherwise, if any is.
+// The bank's held list is filled with stores, each of which is served; then the oldest answer is. The index of the first
+// step of a table that is answered otherwise, if any is.
 fn fill_and_serve(
     machine: &Machine,
     cores: &mut Vec<CoreSeat>,

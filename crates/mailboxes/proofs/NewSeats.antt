@@ -12,6 +12,7 @@ use Rattle.mailboxes.specs.BoxMoves.{Stands}
 use Rattle.mailboxes.specs.declared.core_seat.CoreSeat.{CoreSeat}
 use Rattle.mailboxes.specs.declared.bank_seat.BankSeat.{BankSeat}
 use Rattle.mailboxes.specs.Ties.{Chair}
+use Rattle.mailboxes.specs.Sending.{no_outbox}
 use Rattle.mailboxes.specs.Seats.{IsNewCore, IsNewBank, AllNewCores, AllNewBanks}
 
 pub none_some : {A B : Type 0} {y : A} → None ≡ Some y → B
@@ -34,9 +35,10 @@ opened_stands m n p number opens stands =
 pub new_core : (m : Machine) (n : ℕ) (p : CoreSeat) (chair : Chair) → n < m.set_up.config.cores →
     chair.table_id ≡ m.table.shared.table_id → chair.me.0.mine ≡ opening_hold m.set_up n → p.mail.seat ≡ chair →
     p.mail.number ≡ n → p.mail.cores ≡ m.set_up.config.cores → p.mail.banks ≡ m.set_up.config.banks →
-    p.mail.cursor ≡ 0 → p.is_stopped ≡ false → Standing m.set_up (seat_count m.set_up) n (opening_hold m.set_up n) →
+    p.mail.cursor ≡ 0 → p.is_stopped ≡ false → p.part.outbox ≡ no_outbox →
+    Standing m.set_up (seat_count m.set_up) n (opening_hold m.set_up n) →
     IsNewCore m n p
-new_core m n p chair lt table mine seat number cores banks cursor runs stands =
+new_core m n p chair lt table mine seat number cores banks cursor runs nothing stands =
     let opens = ap (λ (y : Chair). y.me.0.mine) seat ∙ mine in (
       (
         (ap (λ (y : Chair). y.table_id) seat ∙ table, omega arith, cores, banks),
@@ -47,15 +49,17 @@ new_core m n p chair lt table mine seat number cores banks cursor runs stands =
       opens,
       cursor,
       runs,
+      nothing,
     )
 
 pub new_bank : (m : Machine) (n : ℕ) (p : BankSeat) (chair : Chair) → m.set_up.config.cores ≤ n →
     n < m.set_up.config.cores + m.set_up.config.banks → chair.table_id ≡ m.table.shared.table_id →
     chair.me.0.mine ≡ opening_hold m.set_up n → p.mail.seat ≡ chair → p.mail.number ≡ n →
     p.mail.cores ≡ m.set_up.config.cores → p.mail.banks ≡ m.set_up.config.banks →
-    p.mail.cursor ≡ 0 → p.is_stopped ≡ false → Standing m.set_up (seat_count m.set_up) n (opening_hold m.set_up n) →
+    p.mail.cursor ≡ 0 → p.is_stopped ≡ false → p.part.outbox ≡ no_outbox →
+    Standing m.set_up (seat_count m.set_up) n (opening_hold m.set_up n) →
     IsNewBank m n p
-new_bank m n p chair le lt table mine seat number cores banks cursor runs stands =
+new_bank m n p chair le lt table mine seat number cores banks cursor runs nothing stands =
     let opens = ap (λ (y : Chair). y.me.0.mine) seat ∙ mine in (
       (
         (ap (λ (y : Chair). y.table_id) seat ∙ table, omega arith, cores, banks),
@@ -66,6 +70,7 @@ new_bank m n p chair le lt table mine seat number cores banks cursor runs stands
       opens,
       cursor,
       runs,
+      nothing,
     )
 
 -- one more at the end of a list, and one more at its front

@@ -6,7 +6,7 @@ use Rattle.mailboxes.specs.declared.machine.Machine.{Machine}
 use Rattle.mailboxes.specs.declared.core_seat.CoreSeat.{CoreSeat}
 use Rattle.mailboxes.specs.declared.bank_seat.BankSeat.{BankSeat}
 use Rattle.mailboxes.specs.Ties.{Chair}
-use Rattle.mailboxes.specs.Sending.{OutboxState}
+use Rattle.mailboxes.specs.Sending.{OutboxState, no_outbox}
 use Rattle.mailboxes.specs.BoxMoves.{IsAt, Stands, hold}
 
 -- a seat at the machine's table of slots, which isn't joined to another
@@ -37,16 +37,17 @@ SameBank p q =
     (q.part.bank ≡ p.part.bank) × (q.part.dram ≡ p.part.dram) × SameCounts p.part.outbox q.part.outbox
     × (q.is_stopped ≡ p.is_stopped)
 
--- the seats of this number as the machine opens: its looks begin at the first slot that comes in, and it isn't stopped
+-- a core's seat of this number as the machine opens, and a bank's: its looks begin at the first slot that comes in, it
+-- isn't stopped, and it has sent nothing
 abbrev pub IsNewCore : Machine → ℕ → CoreSeat → Type 0
 IsNewCore m j p =
     IsCoreSeat m p × (p.mail.number ≡ j) × (hold p.mail ≡ opening_hold m.set_up j) × (p.mail.cursor ≡ 0)
-    × (p.is_stopped ≡ false)
+    × (p.is_stopped ≡ false) × (p.part.outbox ≡ no_outbox)
 
 abbrev pub IsNewBank : Machine → ℕ → BankSeat → Type 0
 IsNewBank m j p =
     IsBankSeat m p × (p.mail.number ≡ j) × (hold p.mail ≡ opening_hold m.set_up j) × (p.mail.cursor ≡ 0)
-    × (p.is_stopped ≡ false)
+    × (p.is_stopped ≡ false) × (p.part.outbox ≡ no_outbox)
 
 -- all seats of a list, by number from this one on
 abbrev pub AllNewCores : Machine → ℕ → List CoreSeat → Type 0

@@ -8,6 +8,7 @@ ghost use Rattle.machine_table.specs.SetUp.{is_good};
 ghost use Rattle.machine_table.specs.Opening.{dram_of};
 ghost use Rattle.seat_rule.specs.Rule.{opening_hold};
 ghost use Rattle.mailboxes.specs.Places.{AllLinked};
+ghost use Rattle.mailboxes.specs.Sending.{no_outbox};
 ghost use Rattle.mailboxes.specs.Ties.{BankTied};
 
 use crate::machine::Machine;
@@ -50,7 +51,7 @@ impl BankSeat {
         ensures { IfOk result (λ p. (p.mail.seat ≡ seat) × (p.mail.number ≡ number) ×
             (p.mail.cores ≡ machine.now.set_up.config.cores) ×
             (p.mail.banks ≡ machine.now.set_up.config.banks) × (p.mail.cursor ≡ 0) ×
-            (p.is_stopped ≡ false)) }
+            (p.is_stopped ≡ false) × (p.part.outbox ≡ no_outbox)) }
     {
         let config = machine.set_up.config;
         let bank = BankConfig {

@@ -4,6 +4,7 @@ ghost use Rattle.protocol.specs.Issued.{listed};
 ghost use Rattle.machine_table.specs.SetUp.{is_good};
 ghost use Rattle.seat_rule.specs.Rule.{opening_hold};
 ghost use Rattle.mailboxes.specs.Places.{AllLinked};
+ghost use Rattle.mailboxes.specs.Sending.{no_outbox};
 ghost use Rattle.mailboxes.specs.Ties.{CoreTied};
 
 use crate::machine::Machine;
@@ -46,7 +47,7 @@ impl CoreSeat {
         ensures { IfOk result (λ p. (p.mail.seat ≡ seat) × (p.mail.number ≡ number) ×
             (p.mail.cores ≡ machine.now.set_up.config.cores) ×
             (p.mail.banks ≡ machine.now.set_up.config.banks) × (p.mail.cursor ≡ 0) ×
-            (p.is_stopped ≡ false)) }
+            (p.is_stopped ≡ false) × (p.part.outbox ≡ no_outbox)) }
     {
         let config = machine.set_up.config;
         let core = CoreConfig {

@@ -18,8 +18,8 @@ const WIDE: Config = Config {
     ..ONE
 };
 
-/// The outbox has so many places.
-const PLACES: u64 = 256;
+/// An outbox has so many places, and a held list as many.
+pub(crate) const PLACES: u64 = 256;
 
 /// The core owns line 256, and sent 256 others back. Line 1,280 is of the same set.
 const STEPS: &[(usize, Call, Says)] = &[
@@ -49,8 +49,28 @@ const STEPS: &[(usize, Call, Says)] = &[
     (0, Call::Turn, Says::Turned(2, Served::Nothing)),
 ];
 
-// Makes the core own lines 0 to 256, and sends back all but the last. False if a call is answered otherwise.
-fn fill(machine: &Machine, cores: &mut Vec<CoreSeat>, banks: &mut Vec<BankSeat>) -> bool
+/// A seat is asked to evict lines 0 to 255. False if it answers otherwise than that it is done.
+pub(crate) fn evict_first(
+    machine: &Machine,
+    cores: &mut Vec<CoreSeat>,
+    banks: &mut Vec<BankSeat>,
+    seat: usize,
+) -> bool
+    requires cores { AllCoreSeats machine.now cores.old.items }
+    requires banks { AllBankSeats machine.now banks.old.items }
+    ensures cores { AllCoreSeats machine.now cores.new.items }
+    ensures banks { AllBankSeats machine.now banks.new.items }
+{
+    for at in 0..PLACES {
+        if called(machine, cores, banks, seat, Call::Evict(at)) != Says::Done {
+            return false;
+        }
+    }
+    true
+}
+
+/// Makes the core own lines 0 to 256, and sends back all but the last. False if a call is answered otherwise.
+pub(crate) fn fill(machine: &Machine, cores: &mut Vec<CoreSeat>, banks: &mut Vec<BankSeat>) -> bool
     requires cores { AllCoreSeats machine.now cores.old.items }
     requires banks { AllBankSeats machine.now banks.old.items }
     ensures cores { AllCoreSeats machine.now cores.new.items }
@@ -61,12 +81,7 @@ fn fill(machine: &Machine, cores: &mut Vec<CoreSeat>, banks: &mut Vec<BankSeat>)
             return false;
         }
     }
-    for at in 0..PLACES {
-        if called(machine, cores, banks, 0, Call::Evict(at)) != Says::Done {
-            return false;
-        }
-    }
-    true
+    evict_first(machine, cores, banks, 0)
 }
 
 // The index of the first step that is answered otherwise, if any is, and how many records there are if they are legal.

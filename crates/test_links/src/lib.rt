@@ -9,7 +9,11 @@ mod closings;
 #[cfg(test)]
 mod examples;
 #[cfg(test)]
+mod full_lists;
+#[cfg(test)]
 mod full_outbox;
+#[cfg(test)]
+mod in_slots;
 #[cfg(test)]
 mod links;
 #[cfg(test)]

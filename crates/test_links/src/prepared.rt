@@ -79,9 +79,12 @@ fn store_all(
     true
 }
 
-// Plays an example on a new machine, and closes it; the index of the first step that is answered otherwise, if any is,
-// and what the machine leaves.
-fn played(alloc: Global, example: &Prepared) -> Result<(Option<usize>, Option<Run>), Fail>
+/// Plays an example on a new machine, and closes it; the index of the first step that is answered otherwise, if any is,
+/// and what the machine leaves.
+pub(crate) fn played(
+    alloc: Global,
+    example: &Prepared,
+) -> Result<(Option<usize>, Option<Run>), Fail>
     ensures { IfOk result (λ r. IfSome r.1 (λ run. Parts run)) }
 {
     let (machine, mut cores, mut banks) = opened(alloc, example.then.config)?;

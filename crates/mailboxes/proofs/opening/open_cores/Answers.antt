@@ -22,7 +22,7 @@ loop-number-preserved c =
     ∙ ap (λ z. opening_hold z n) m.keyed in
     let seat : IsNewCore m n p =
     new_core m n p c.make-seat.result c.loop-number-test.true (made.desk.2 ∙ i.0.0) mine new.0 new.1 new.2 new.3
-    new.4 new.5 (c.seats_stand.ensures.opened m.set_up (seat_count m.set_up) n) in (
+    new.4 new.5 new.6 (c.seats_stand.ensures.opened m.set_up (seat_count m.set_up) n) in (
       (made.desk.0 ∙ i.0.0, made.made.0 ∙ ap (λ y. (one_more y.0, y.1)) i.0.1),
       omega arith,
       omega arith,

@@ -20,7 +20,7 @@ returns-clause-cores c =
     let count : length ps + 1 ≡ m.set_up.config.cores = others.0 in
     let some : 0 < m.set_up.config.cores = omega arith in
     let first = new_core m 0 p c.open_banks.new.first some made.1.0 (ap (λ y. y.0.mine) made.1.1) new.0 new.1 new.2
-    new.3 new.4 new.5 (c.seats_stand.ensures.opened m.set_up (seat_count m.set_up) 0) in
+    new.3 new.4 new.5 new.6 (c.seats_stand.ensures.opened m.set_up (seat_count m.set_up) 0) in
     (omega arith, subst (AllNewCores m 0) (sym items) (front_core m ps p others.1 first))
 
 pub returns-clause-banks : goal.returns-clause-banks

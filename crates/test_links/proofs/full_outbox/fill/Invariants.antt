@@ -3,6 +3,3 @@ use Rattle.test_links.proofs.full_outbox.fill.Given as goal
 
 abbrev pub invariant-loop-at : goal.invariant-loop-at
 invariant-loop-at l = AllCoreSeats l.machine l.cores.items × AllBankSeats l.machine l.banks.items
-
-abbrev pub invariant-loop-at-2 : goal.invariant-loop-at-2
-invariant-loop-at-2 l = AllCoreSeats l.machine l.cores.items × AllBankSeats l.machine l.banks.items

@@ -75,6 +75,10 @@ fn run<R: AllocGlobal + Print + Threads + Sync + std::rt::Env>(rt: &R) -> Result
     let words = number(rt, texts.next())?;
     let threads = number(rt, texts.next())?;
     ensure!(threads > 0, "a number above 0 is wanted");
+    ensure!(
+        threads <= 4,
+        "there are four banks, and each thread has one"
+    );
     let (machine, cores, banks) = opened(alloc, cores)?;
     let mut teams = deal(alloc, &machine, cores, banks, threads)?;
     drive(rt, &machine, teams.as_mut_slice(), turns, words as u64);

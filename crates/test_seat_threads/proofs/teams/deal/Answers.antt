@@ -1,4 +1,4 @@
-use Rattle.std.proofs.Common.{All, IfSome, List, sym, subst}
+use Rattle.std.proofs.Common.{All, IfSome, sym, subst}
 use Rattle.std.proofs.lemmas.List.Elements.{All-drop, All-pop, All-push, All-take}
 use Rattle.mailboxes.specs.Seats.{IsBankSeat, IsCoreSeat}
 use Rattle.test_seat_threads.specs.declared.teams.Team.{Team}
@@ -18,7 +18,7 @@ loop-preserved c =
       subst (All (IsCoreSeat m)) (sym c.in_ok-mine.ensures.items)
           (All-take (IsCoreSeat m) kept c.loop.cores.items i.0),
       banks.0,
-      subst (All team) (sym {A = List Team} c.in_ok-push.ensures.items)
+      subst (All team) (sym c.in_ok-push.ensures.items)
           (All-push team c.loop.teams.items (record { cores = c.in_ok-mine.mine; bank = c.pop.result }) i.2
           (mine, banks.1)),
     )

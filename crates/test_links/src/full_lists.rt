@@ -119,9 +119,13 @@ fn prepare(machine: &Machine, cores: &mut Vec<CoreSeat>, banks: &mut Vec<BankSea
     ensures cores { AllCoreSeats machine.now cores.new.items }
     ensures banks { AllBankSeats machine.now banks.new.items }
 {
-    fill(machine, cores, banks)
-        && play(machine, cores, banks, SENT_BACK, usize::MAX).is_none()
-        && carry(machine, cores, banks)
+    if !fill(machine, cores, banks) {
+        return false;
+    }
+    if play(machine, cores, banks, SENT_BACK, usize::MAX).is_some() {
+        return false;
+    }
+    carry(machine, cores, banks)
 }
 
 // What is answered otherwise once the bank has all lines, if anything is; and how many records there are, if they are

@@ -22,8 +22,8 @@ pub fn all_slots_of_a_link_are_looked_at()
         AllFoundFull z number ms (found_full z.config.cores z.config.banks number ms) }
 {}
 
-/// A seat can send a message exactly if it sent fewer than 18,446,744,073,709,551,615. It can then send one out if
-/// fewer than 256 messages are to be put, and it can't if 256 are.
+/// A seat can send a message exactly if it sent fewer than 18,446,744,073,709,551,615. It can send one out exactly if
+/// it also has fewer than 256 messages to be put.
 pub fn seats_send_up_to_the_last_number()
     ensures sends { (o : OutboxState) → o.sent < 18446744073709551615 → can_send o ≡ true }
     ensures ends { (o : OutboxState) → 18446744073709551615 ≤ o.sent → can_send o ≡ false }

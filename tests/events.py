@@ -9,6 +9,7 @@ given single events. With --print the files are written that the gate plays.
 """
 import argparse
 import random
+import re
 import subprocess
 import sys
 from collections import Counter
@@ -211,11 +212,13 @@ def text_of(event):
 def played(generator, events, is_driven=False):
     """A machine's lines, and those that are wanted. Its values at the end are those of the replay of its records.
 
-    A machine that has stopped is given three more events. One that is driven is given runs, one for 20 events.
+    A machine that has stopped is given three more events. One that is driven is given runs, one for 20 events, until it
+    has stopped.
     """
-    player, steps, stopped = Player(generator), [], 0
-    while len(steps) < (events // 20 if is_driven else events) and stopped < 3:
-        stopped += player.machine.stopped
+    player, steps = Player(generator), []
+    most, after = (events // 20, 0) if is_driven else (events, 3)
+    while len(steps) < most and (after or not player.machine.stopped):
+        after -= player.machine.stopped
         steps.append(Drive(player).step() if is_driven else player.step())
     left = end_memory({}, player.machine.records)
     assert all(left.get(word, 0) == player.memory.get(word, (0, 0, 0))[2] for word in range(player.words))
@@ -250,10 +253,11 @@ def main():
             print(f"wanted {wanted[at:at + 1]}\ngot    {got[at:at + 1]}\n{ran.stderr}")
             return 1
         tried += len(wanted) * (not is_driven)
-        answers.update(" ".join(line.split("|")[0].split()[:2 if line.startswith("refused") else 1]) for line in wanted)
+        answers.update(" ".join(re.split("[|;]", line)[0].split()[:2 if line.startswith("refused") else 1])
+                       for line in wanted)
         if is_driven:
             driven += sum(line.split("|")[0].count(";") for line in wanted)
-    print(", ".join(f"{answer.strip(';')}: {number}" for answer, number in answers.most_common()))
+    print(", ".join(f"{answer}: {number}" for answer, number in answers.most_common()))
     print(f"{tried} events on {words.machines} machines, and {driven} events of runs on {words.driven} others, no difference")
     return 0
 

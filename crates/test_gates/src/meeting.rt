@@ -1,10 +1,10 @@
-//! A gate at which two jobs wait for each other.
+//! A gate at which two jobs, or the first turns of two seats, wait for each other.
 use shared_jobs::Gate;
 use std::sync::atomic::{AtomicU64, Ordering};
 use std::thread;
 
-/// A gate at which jobs 0 and 1 wait for each other, each for so many looks. It counts those that saw the other, and
-/// all jobs that ended.
+/// A gate at which jobs 0 and 1 wait for each other, each for so many looks; so do the first turns of seats 0 and 1. It
+/// counts those that saw the other, and all jobs or turns that ended.
 #[derive(Drop)]
 pub struct Meeting {
     flags: [AtomicU64; 2],
@@ -14,7 +14,7 @@ pub struct Meeting {
 }
 
 impl Meeting {
-    /// A gate that no job has passed yet.
+    /// A gate that nothing has passed yet.
     pub fn new(looks: u32) -> Meeting {
         Meeting {
             flags: [AtomicU64::new(0), AtomicU64::new(0)],
@@ -24,20 +24,20 @@ impl Meeting {
         }
     }
 
-    /// How many of the two jobs saw the other.
+    /// How many of the two saw the other.
     pub fn met(&self) -> u64 {
         self.met.load(Ordering::SeqCst)
     }
 
-    /// How many jobs ended.
+    /// How many jobs or turns ended.
     pub fn ended(&self) -> u64 {
         self.ended.load(Ordering::SeqCst)
     }
 }
 
 impl Gate for Meeting {
-    fn before(&self, seat: u64, _turn: u64) {
-        if seat > 1 {
+    fn before(&self, seat: u64, turn: u64) {
+        if seat > 1 || turn > 0 {
             return;
         }
         let mine = seat as usize;

@@ -1,0 +1,56 @@
+//! The same operations on a machine that isn't shared, by rounds.
+
+use crate::loads::{Load, config_of, operation_of};
+use anyhow::{Result, bail, ensure};
+use interleaving_core::System;
+use physiological_order::Memory;
+use std::alloc::Global;
+use std::rt::Clock;
+use std::time::Instant;
+use worker_driver::{End, OpProgram, Policy, run_to_end};
+
+// The machine of a load.
+fn machine(alloc: Global, load: &Load) -> Result<System> {
+    match System::new(alloc, config_of(load), Memory::new(alloc)) {
+        Ok(system) => Ok(system),
+        Err(_) => bail!("no machine has so many cores and banks"),
+    }
+}
+
+// The program of a core.
+fn program(alloc: Global, core: u32, operations: u32) -> Result<OpProgram> {
+    let mut ops = Vec::new(alloc);
+    for place in 0..operations {
+        ops.push(operation_of(core, u64::from(place)))?;
+    }
+    if ops.len() > 4_294_967_295 {
+        bail!("a core is issued at most 4,294,967,295 operations");
+    }
+    Ok(OpProgram::new(ops))
+}
+
+fn programs(alloc: Global, load: &Load) -> Result<Vec<OpProgram>> {
+    let mut programs = Vec::new(alloc);
+    for core in 0..load.cores {
+        programs.push(program(alloc, core, load.operations)?)?;
+    }
+    Ok(programs)
+}
+
+/// How many operations of a load are completed by rounds, and in how many nanoseconds.
+pub(crate) fn run_rounds<R: Clock>(rt: &R, alloc: Global, load: &Load) -> Result<(usize, u128)> {
+    let mut system = machine(alloc, load)?;
+    let mut programs = programs(alloc, load)?;
+    ensure!(
+        programs.len() as u64 == u64::from(system.cores()),
+        "programs are missing"
+    );
+    let programs = programs.as_mut_slice();
+    let start = Instant::now(rt)?;
+    let end = run_to_end(alloc, &mut system, programs, Policy::Rounds, load.turns);
+    let nanos = start.elapsed(rt)?.as_nanos();
+    if matches!(end, End::NoMemory) {
+        bail!("there is no memory for the run");
+    }
+    Ok((system.records().len(), nanos))
+}

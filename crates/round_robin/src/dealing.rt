@@ -1,0 +1,58 @@
+//! A list is dealt to hands.
+ghost use Rattle.std.specs.Prelude.{◌≡◌, ℕ, ◌+◌, ◌<◌, ◌≤◌, ◌^◌, [], length, map, IfOk, All};
+ghost use Rattle.std.specs.Vec.{vec_capacity};
+ghost use Rattle.round_robin.specs.Dealing.{HaveRoom, IsDealt};
+
+use std::alloc::{AllocError, Global};
+
+/// So many empty hands, with room for their shares of so many items. AllocError where there is no memory for them.
+pub fn empty_hands<T: Drop>(
+    alloc: Global,
+    hands: usize,
+    items: usize,
+) -> Result<Vec<Vec<T>>, AllocError>
+    requires { 0 < hands }
+    ensures long { IfOk result (λ r. length r.items ≡ hands) }
+    ensures room { IfOk result (λ r. HaveRoom items r.items) }
+    ensures capacity { IfOk result (λ r. hands ≤ vec_capacity r) }
+{
+    let Some(room) = (items / hands).checked_add(1) else {
+        return Err(AllocError);
+    };
+    roomy_hands(alloc, hands, room)
+}
+
+// So many empty hands, with room for so many items each.
+fn roomy_hands<T: Drop>(alloc: Global, hands: usize, room: usize) -> Result<Vec<Vec<T>>, AllocError>
+    ensures long { IfOk result (λ r. length r.items ≡ hands) }
+    ensures empty { IfOk result (λ r. All (λ v. (v.items ≡ []) × (room ≤ vec_capacity v)) r.items) }
+    ensures capacity { IfOk result (λ r. hands ≤ vec_capacity r) }
+{
+    let mut dealt = Vec::with_capacity(alloc, hands)?;
+    for _ in 0..hands {
+        dealt.push_reserved(Vec::with_capacity(alloc, room)?);
+    }
+    Ok(dealt)
+}
+
+/// Deals all items: item i goes to hand `first + i` modulo the number of hands, and a hand has its items in the order of
+/// the list. The list is then empty, with its capacity as before. Nothing is refused, since the hands have room.
+pub fn deal<T: Drop>(items: &mut Vec<T>, first: usize, hands: &mut Vec<Vec<T>>)
+    requires some { 0 < length hands.old.items }
+    requires room { HaveRoom (length items.old.items) hands.old.items }
+    requires few { first + length hands.old.items < 2 ^ 64 }
+    ensures dealt { IsDealt items.old.items first (length hands.old.items)
+        (map (λ v. v.items) hands.new.items) }
+    ensures long { length hands.new.items ≡ length hands.old.items }
+    ensures empty { items.new.items ≡ [] }
+    ensures capacity { vec_capacity items.new ≡ vec_capacity items.old }
+    ensures hands_capacity { vec_capacity hands.new ≡ vec_capacity hands.old }
+{
+    let count = hands.len();
+    items.reverse();
+    let mut at = 0;
+    while let Some(item) = items.pop() {
+        hands[(first + at % count) % count].push_reserved(item);
+        at += 1;
+    }
+}

@@ -1,0 +1,3 @@
+mod KeptWork
+pub mod Lemmas
+mod Played

@@ -1,0 +1,36 @@
+//! What a turn of a seat tells the one that gave it.
+use machine_table::Refusal;
+use mailboxes::Turn;
+use serving::Served;
+
+/// What came of a turn of a seat.
+#[derive(Clone, Copy, Debug, PartialEq, Eq)]
+pub struct Told {
+    /// A call of the seat was refused since allocation failed.
+    pub no_memory: bool,
+    /// The seat stopped in this turn, since a sum of times didn't fit.
+    pub is_exhausted: bool,
+    /// A step of a program was done, or a message was put or served.
+    pub has_progressed: bool,
+}
+
+/// What the turn of a seat tells, which was stopped or not before and after.
+pub(crate) fn told_of_turn(
+    was_stopped: bool,
+    is_stopped: bool,
+    moved: Result<Turn, Refusal>,
+) -> Told {
+    Told {
+        no_memory: matches!(moved, Err(Refusal::NoMemory)),
+        is_exhausted: is_stopped && !was_stopped,
+        has_progressed: has_moved(moved),
+    }
+}
+
+// Whether messages were put, or one was served.
+fn has_moved(moved: Result<Turn, Refusal>) -> bool {
+    match moved {
+        Err(_) => false,
+        Ok(turn) => turn.put > 0 || !matches!(turn.served, Served::Nothing | Served::Held),
+    }
+}

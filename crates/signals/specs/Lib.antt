@@ -1,0 +1,3 @@
+pub mod Told
+pub mod Ties
+pub mod Signalers

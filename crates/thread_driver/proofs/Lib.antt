@@ -1,0 +1,9 @@
+mod Lists
+mod NewSeats
+mod Driven
+mod Counted
+mod Dealt
+mod Formed
+mod Ordered
+mod Served
+mod Worked

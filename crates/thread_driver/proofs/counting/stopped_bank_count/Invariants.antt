@@ -1,0 +1,6 @@
+use Rattle.std.proofs.Common.{◌≡◌, ◌≤◌, take}
+use Rattle.shifts.specs.Shifts.{stopped_banks}
+use Rattle.thread_driver.proofs.counting.stopped_bank_count.Given as goal
+
+abbrev pub invariant-loop-i : goal.invariant-loop-i
+invariant-loop-i l = (l.count ≡ stopped_banks (take l.i l.banks)) × (l.count ≤ l.i)

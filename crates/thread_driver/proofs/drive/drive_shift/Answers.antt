@@ -1,0 +1,166 @@
+use Rattle.std.proofs.Common.{◌≡◌, ℕ, ◌<◌, length, sym, ap, ◌∙◌, subst, arith}
+use Rattle.std.specs.Prelude.{slice_index_or}
+use Rattle.std.proofs.lemmas.List.{length-map}
+use Rattle.std.proofs.lemmas.Option.{slice_get_within}
+use Rattle.signals.specs.declared.signaler.Signaler.{Signaler}
+use Rattle.signals.specs.Signalers.{IsSignalerOf}
+use Rattle.thread_driver.specs.declared.worker.Worker.{Worker}
+use Rattle.thread_driver.specs.Hands.{HaveHandRoom}
+use Rattle.thread_driver.proofs.Driven.{driven_none}
+use Rattle.thread_driver.proofs.Formed.{dealt_back, dealt_to, lengths_back}
+use Rattle.thread_driver.proofs.Dealt.{ahead_of, all_banks, all_cores, all_driven, all_same, banks_of, cores_of}
+use Rattle.thread_driver.proofs.Dealt.{lengths_after, value_of, vs_count}
+use Rattle.thread_driver.proofs.drive.drive_shift.Goals as goal
+
+pub returns-in_err-signals-clause-driven : goal.returns-in_err-signals-clause-driven
+returns-in_err-signals-clause-driven g c =
+    driven_none g.P.Program.acts c.args.shift.now.cores.items c.args.shift.now.programs.items c.requires.ahead
+
+pub returns-in_err-hands-clause-driven : goal.returns-in_err-hands-clause-driven
+returns-in_err-hands-clause-driven g c =
+    driven_none g.P.Program.acts c.args.shift.now.cores.items c.args.shift.now.programs.items c.requires.ahead
+
+pub returns-in_err-team-clause-driven : goal.returns-in_err-team-clause-driven
+returns-in_err-team-clause-driven g c =
+    driven_none g.P.Program.acts c.args.shift.now.cores.items c.args.shift.now.programs.items c.requires.ahead
+
+pub drive_team-requires-clause-ready : goal.drive_team-requires-clause-ready
+drive_team-requires-clause-ready g c κs bounds i w at =
+    let n : ℕ = length c.in_ok-hands.hands.cores.items in
+    let s = c.args.shift.now in
+    let ws = c.form.new.team.items in
+    let dealt = dealt_to n s.cores.items s.programs.items s.banks.items c.deal_all.new.hands c.form.new.hands ws
+    c.deal_all.ensures.dealt c.form.ensures.split c.form.ensures.empty in
+    let a = g.P.Program.acts in
+    let m = c.args.machine.now in
+    let signals = c.in_ok-signals.signals in
+    let made = c.in_ok-signals.ensures in
+    let within = slice_get_within ws i w at in
+    let as_many = length-map {B = Signaler} ws (λ (x : Worker g.row.P.Denot). x.signaler) in
+    let same = ap length c.form.ensures.signalers in
+    let lt : i < length c.in_ok-signals.signalers.items = omega arith in
+    let one = made.2 i w.signaler lt in
+    let it : slice_index_or c.in_ok-signals.signalers.items i w.signaler ≡ w.signaler =
+    ap (λ xs. slice_index_or xs i w.signaler) (sym c.form.ensures.signalers)
+    ∙ value_of (λ (x : Worker g.row.P.Denot). x.signaler) ws i w w.signaler at in (
+      record {
+        signaler = subst (IsSignalerOf signals) it one.0;
+        cores = cores_of a m signals n s.cores.items s.programs.items s.banks.items ws dealt c.requires.cores
+            c.requires.banks c.requires.ahead i w at;
+        banks = banks_of a m signals n s.cores.items s.programs.items s.banks.items ws dealt c.requires.cores
+            c.requires.banks c.requires.ahead i w at;
+      },
+      ahead_of a m signals n s.cores.items s.programs.items s.banks.items ws dealt c.requires.cores c.requires.banks
+          c.requires.ahead i w at,
+    )
+
+pub disband-wanted-requires-clause-room : goal.disband-wanted-requires-clause-room
+disband-wanted-requires-clause-room g c =
+    let ws = c.form.new.team.items in
+    let as_many = length-map {B = Signaler} ws (λ (x : Worker g.row.P.Denot). x.signaler) in
+    let same = ap length c.form.ensures.signalers in
+    let long = c.drive_team.ensures.work.long in
+    let made = c.in_ok-signals.ensures.1 in
+    let count : c.args.workers ≡ length c.drive_team.new.team.items = omega arith in
+    subst (λ k. HaveHandRoom k c.form.new.hands) count
+    (c.form.ensures.room c.args.workers (c.deal_all.ensures.room c.args.workers c.in_ok-hands.ensures.room))
+
+pub gather_all-requires-clause-lengths : goal.gather_all-requires-clause-lengths
+gather_all-requires-clause-lengths g c =
+    let n : ℕ = length c.in_ok-hands.hands.cores.items in
+    let s = c.args.shift.now in
+    let ws = c.form.new.team.items in
+    let dealt = dealt_to n s.cores.items s.programs.items s.banks.items c.deal_all.new.hands c.form.new.hands ws
+    c.deal_all.ensures.dealt c.form.ensures.split c.form.ensures.empty in
+    let vs = c.drive_team.new.team.items in
+    let h = c.disband-wanted.new.hands in
+    let a = g.P.Program.acts in
+    let m = c.args.machine.now in
+    let long = vs_count a m c.in_ok-signals.signals n s.cores.items s.programs.items s.banks.items ws vs dealt
+    c.drive_team.ensures.work in
+    lengths_back n vs h long c.disband-wanted.ensures.back (length s.cores.items) (length s.programs.items)
+    (length s.banks.items) c.len-cores.result c.len-programs.result c.len-banks.result
+    (c.len-cores.ensures ∙ s.cores.ok.0) (c.len-programs.ensures ∙ s.programs.ok.0)
+    (c.len-banks.ensures ∙ s.banks.ok.0)
+    (lengths_after a m c.in_ok-signals.signals n s.cores.items s.programs.items s.banks.items ws vs dealt
+    c.drive_team.ensures.work)
+
+pub returns-clause-cores : goal.returns-clause-cores
+returns-clause-cores g c =
+    let n : ℕ = length c.in_ok-hands.hands.cores.items in
+    let s = c.args.shift.now in
+    let ws = c.form.new.team.items in
+    let dealt = dealt_to n s.cores.items s.programs.items s.banks.items c.deal_all.new.hands c.form.new.hands ws
+    c.deal_all.ensures.dealt c.form.ensures.split c.form.ensures.empty in
+    let vs = c.drive_team.new.team.items in
+    let h = c.disband-wanted.new.hands in
+    let t = c.gather_all.new.shift in
+    let long = vs_count g.P.Program.acts c.args.machine.now c.in_ok-signals.signals n s.cores.items s.programs.items
+    s.banks.items ws vs dealt c.drive_team.ensures.work in
+    let counts = c.gather_all.ensures.long in
+    let back = dealt_back n vs h long c.disband-wanted.ensures.back t.cores.items t.programs.items t.banks.items
+    c.gather_all.ensures.dealt in
+    all_cores g.P.Program.acts c.args.machine.now c.in_ok-signals.signals n s.cores.items s.programs.items s.banks.items ws vs
+    dealt c.drive_team.ensures.work t.cores.items t.programs.items t.banks.items
+    (counts.0 ∙ c.len-cores.ensures ∙ s.cores.ok.0) (counts.1 ∙ c.len-programs.ensures ∙ s.programs.ok.0)
+    (counts.2 ∙ c.len-banks.ensures ∙ s.banks.ok.0) back
+
+pub returns-clause-banks : goal.returns-clause-banks
+returns-clause-banks g c =
+    let n : ℕ = length c.in_ok-hands.hands.cores.items in
+    let s = c.args.shift.now in
+    let ws = c.form.new.team.items in
+    let dealt = dealt_to n s.cores.items s.programs.items s.banks.items c.deal_all.new.hands c.form.new.hands ws
+    c.deal_all.ensures.dealt c.form.ensures.split c.form.ensures.empty in
+    let vs = c.drive_team.new.team.items in
+    let h = c.disband-wanted.new.hands in
+    let t = c.gather_all.new.shift in
+    let long = vs_count g.P.Program.acts c.args.machine.now c.in_ok-signals.signals n s.cores.items s.programs.items
+    s.banks.items ws vs dealt c.drive_team.ensures.work in
+    let counts = c.gather_all.ensures.long in
+    let back = dealt_back n vs h long c.disband-wanted.ensures.back t.cores.items t.programs.items t.banks.items
+    c.gather_all.ensures.dealt in
+    all_banks g.P.Program.acts c.args.machine.now c.in_ok-signals.signals n s.cores.items s.programs.items s.banks.items ws vs
+    dealt c.drive_team.ensures.work t.cores.items t.programs.items t.banks.items
+    (counts.0 ∙ c.len-cores.ensures ∙ s.cores.ok.0) (counts.1 ∙ c.len-programs.ensures ∙ s.programs.ok.0)
+    (counts.2 ∙ c.len-banks.ensures ∙ s.banks.ok.0) back
+
+pub returns-clause-driven : goal.returns-clause-driven
+returns-clause-driven g c =
+    let n : ℕ = length c.in_ok-hands.hands.cores.items in
+    let s = c.args.shift.now in
+    let ws = c.form.new.team.items in
+    let dealt = dealt_to n s.cores.items s.programs.items s.banks.items c.deal_all.new.hands c.form.new.hands ws
+    c.deal_all.ensures.dealt c.form.ensures.split c.form.ensures.empty in
+    let vs = c.drive_team.new.team.items in
+    let h = c.disband-wanted.new.hands in
+    let t = c.gather_all.new.shift in
+    let long = vs_count g.P.Program.acts c.args.machine.now c.in_ok-signals.signals n s.cores.items s.programs.items
+    s.banks.items ws vs dealt c.drive_team.ensures.work in
+    let counts = c.gather_all.ensures.long in
+    let back = dealt_back n vs h long c.disband-wanted.ensures.back t.cores.items t.programs.items t.banks.items
+    c.gather_all.ensures.dealt in
+    all_driven g.P.Program.acts c.args.machine.now c.in_ok-signals.signals n s.cores.items s.programs.items s.banks.items ws vs
+    dealt c.drive_team.ensures.work t.cores.items t.programs.items t.banks.items
+    (counts.0 ∙ c.len-cores.ensures ∙ s.cores.ok.0) (counts.1 ∙ c.len-programs.ensures ∙ s.programs.ok.0)
+    (counts.2 ∙ c.len-banks.ensures ∙ s.banks.ok.0) back
+
+pub returns-clause-same : goal.returns-clause-same
+returns-clause-same g c =
+    let n : ℕ = length c.in_ok-hands.hands.cores.items in
+    let s = c.args.shift.now in
+    let ws = c.form.new.team.items in
+    let dealt = dealt_to n s.cores.items s.programs.items s.banks.items c.deal_all.new.hands c.form.new.hands ws
+    c.deal_all.ensures.dealt c.form.ensures.split c.form.ensures.empty in
+    let vs = c.drive_team.new.team.items in
+    let h = c.disband-wanted.new.hands in
+    let t = c.gather_all.new.shift in
+    let long = vs_count g.P.Program.acts c.args.machine.now c.in_ok-signals.signals n s.cores.items s.programs.items
+    s.banks.items ws vs dealt c.drive_team.ensures.work in
+    let counts = c.gather_all.ensures.long in
+    let back = dealt_back n vs h long c.disband-wanted.ensures.back t.cores.items t.programs.items t.banks.items
+    c.gather_all.ensures.dealt in
+    all_same g.P.Program.acts c.args.machine.now c.in_ok-signals.signals n s.cores.items s.programs.items s.banks.items ws vs
+    dealt c.drive_team.ensures.work t.cores.items t.programs.items t.banks.items
+    (counts.0 ∙ c.len-cores.ensures ∙ s.cores.ok.0) (counts.1 ∙ c.len-programs.ensures ∙ s.programs.ok.0)
+    (counts.2 ∙ c.len-banks.ensures ∙ s.banks.ok.0) back

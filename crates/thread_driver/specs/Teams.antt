@@ -1,0 +1,34 @@
+-- Workers, and what they do with what they were dealt.
+use Rattle.std.specs.Prelude.{◌≡◌, ℕ, List, length, Some, slice_get}
+use Rattle.mailboxes.specs.declared.machine.Machine.{Machine}
+use Rattle.mailboxes.specs.Seats.{AllCoreSeats, AllBankSeats}
+use Rattle.signals.specs.declared.signals.Signals.{Signals}
+use Rattle.signals.specs.Signalers.{IsSignalerOf}
+use Rattle.worker_driver.specs.Acts.{Acts}
+use Rattle.thread_driver.specs.declared.worker.Worker.{Worker}
+use Rattle.thread_driver.specs.Driving.{AreAhead, AreDriven, AreSameBanks}
+
+module _ {P : Type 0} where
+  -- the worker has one of these signalers, and seats of the machine
+  pub record IsAtWork (m : Machine) (signals : Signals) (w : Worker P) : Type 0 where
+    pub signaler : IsSignalerOf signals w.signaler
+    pub cores : AllCoreSeats m w.cores.items
+    pub banks : AllBankSeats m w.banks.items
+
+  -- its programs are ahead of its cores
+  abbrev pub IsReady : Acts P → Machine → Signals → Worker P → Type 0
+  IsReady acts m signals w = IsAtWork m signals w × AreAhead acts w.cores.items w.programs.items
+
+  -- the worker gave its seats turns
+  pub record Works (acts : Acts P) (w v : Worker P) : Type 0 where
+    pub cores : AreDriven acts w.cores.items w.programs.items v.cores.items v.programs.items
+    pub banks : AreSameBanks w.banks.items v.banks.items
+
+  -- so is each of a team, and so did each
+  abbrev pub AreReady : Acts P → Machine → Signals → List (Worker P) → Type 0
+  AreReady acts m signals ws = (i : ℕ) (w : Worker P) → slice_get ws i ≡ Some w → IsReady acts m signals w
+
+  pub record AllWork (acts : Acts P) (m : Machine) (signals : Signals) (ws vs : List (Worker P)) : Type 0 where
+    pub long : length vs ≡ length ws
+    pub each : (i : ℕ) (w v : Worker P) → slice_get ws i ≡ Some w → slice_get vs i ≡ Some v →
+        IsAtWork m signals v × Works acts w v

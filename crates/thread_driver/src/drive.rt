@@ -1,0 +1,165 @@
+//! Seats that workers drive, and what comes of it.
+ghost use Rattle.std.specs.Prelude.{◌≡◌, ◌≢◌, ◌⊎◌, ◌<◌, ◌≤◌, ◌^◌, OnErr, length};
+ghost use Rattle.run_ends.specs.declared.ends.End.TheVariants as end;
+ghost use Rattle.mailboxes.specs.Seats.{AllBankSeats, AllCoreSeats, AreAll};
+ghost use Rattle.shifts.specs.Shifts.{AreBanksInOrder, AreCoresInOrder, AreOver, AreServed, NoneOpen, Ran, Refused, stopped};
+ghost use Rattle.thread_driver.specs.Driving.{AreAhead, AreDriven, AreSameBanks};
+ghost use Rattle.thread_driver.specs.Teams.{AllWork, AreReady, IsAtWork, IsReady, Works};
+
+use crate::counting::{are_over, stopped_count};
+use crate::dealing::{deal_all, disband, form, gather_all, open_hands};
+use crate::work::work;
+use crate::worker::{Rota, Worker};
+use mailboxes::{BankSeat, CoreSeat, Machine};
+use run_ends::End;
+use seat_rule::parts::records_of_seats_are_counted;
+use shared_jobs::Gate;
+use shifts::Shift;
+use signals::{Signals, open_signals};
+use std::alloc::{AllocError, Global};
+use std::thread;
+use std::thread::Threads;
+use worker_driver::program::Program;
+
+/// Gives the seats of a machine turns, by 1 to 16 workers, each a thread that ends within the call. Seat i, where cores
+/// come before banks, belongs to worker i modulo their number. A program a core gives it its steps, and is told what
+/// each operation received. Each turn is between the calls of the gate. docs/SCHEDULES.md has the order within a turn.
+///
+/// A worker goes on until all programs are done, each of its seats had `turn_limit` turns, or some seat wanted memory
+/// or stopped. The end is AllDone exactly if no program has a next step and no core an open operation. Otherwise it is
+/// NoMemory if memory was refused, then Exhausted if a seat stopped, else TurnsUsed. If there is no memory for the
+/// workers, no turn is made, and all is as it was given. A worker that can't be started loses nothing: another thread
+/// gives its seats their turns.
+pub fn drive_threads<R: Threads + Sync, P: Program + Send + Drop, G: Gate + Sync>(
+    rt: &R,
+    alloc: Global,
+    machine: &Machine,
+    cores: Vec<CoreSeat>,
+    banks: Vec<BankSeat>,
+    programs: Vec<P>,
+    workers: u32,
+    turn_limit: u32,
+    gate: &G,
+) -> Shift<P>
+    requires cores { AreCoresInOrder machine.now cores.items × NoneOpen cores.items }
+    requires banks { AreBanksInOrder machine.now banks.items }
+    requires programs { length programs.items ≡ length cores.items }
+    requires workers { (0 < workers) × (workers ≤ 16) }
+    ensures cores { AreCoresInOrder machine.now result.cores.items }
+    ensures banks { AreBanksInOrder machine.now result.banks.items }
+    ensures whole { AreAll machine.now result.cores.items result.banks.items }
+    ensures served { AreServed P.acts cores.items programs.items result.cores.items
+        result.programs.items }
+    ensures ended { Refused cores.items banks.items programs.items
+        result.cores.items result.banks.items result.programs.items result.end
+        ⊎ Ran P.acts cores.items banks.items
+        result.cores.items result.banks.items result.programs.items result.end }
+{
+    records_of_seats_are_counted();
+    let stopped = stopped_count(cores.as_slice(), banks.as_slice());
+    let mut shift = Shift {
+        end: End::NoMemory,
+        cores,
+        banks,
+        programs,
+    };
+    match drive_shift(rt, alloc, machine, &mut shift, workers, turn_limit, gate) {
+        Err(AllocError) => shift,
+        Ok(wanted) => {
+            shift.end = end_of(&mut shift, stopped, wanted);
+            shift
+        }
+    }
+}
+
+// Deals the seats and programs to workers, lets these work, and gathers the seats and programs again. Whether a call of
+// a seat wanted memory. AllocError where there is no memory for the workers: then nothing is changed.
+fn drive_shift<R: Threads + Sync, P: Program + Send + Drop, G: Gate + Sync>(
+    rt: &R,
+    alloc: Global,
+    machine: &Machine,
+    shift: &mut Shift<P>,
+    workers: u32,
+    turn_limit: u32,
+    gate: &G,
+) -> Result<bool, AllocError>
+    requires cores { AllCoreSeats machine.now shift.old.cores.items }
+    requires banks { AllBankSeats machine.now shift.old.banks.items }
+    requires ahead { AreAhead P.acts shift.old.cores.items shift.old.programs.items }
+    requires few { length shift.old.cores.items < 2 ^ 32 }
+    requires workers { (0 < workers) × (workers ≤ 16) }
+    ensures cores { AllCoreSeats machine.now shift.new.cores.items }
+    ensures banks { AllBankSeats machine.now shift.new.banks.items }
+    ensures driven { AreDriven P.acts shift.old.cores.items shift.old.programs.items
+        shift.new.cores.items shift.new.programs.items }
+    ensures same { AreSameBanks shift.old.banks.items shift.new.banks.items }
+    ensures refused { OnErr result (shift.new ≡ shift.old) }
+{
+    let count = workers as usize;
+    let (cores, programs, banks) = (shift.cores.len(), shift.programs.len(), shift.banks.len());
+    let (signals, signalers) = open_signals(alloc, workers)?;
+    let mut hands = open_hands(alloc, count, shift)?;
+    let mut team = Vec::with_capacity(alloc, count)?;
+    deal_all(shift, &mut hands);
+    form(&mut hands, signalers, &mut team);
+    let rota = Rota {
+        programs: cores as u64,
+        turns: turn_limit,
+    };
+    drive_team(rt, machine, &signals, gate, rota, &mut team);
+    let wanted = disband(team, &mut hands);
+    gather_all(hands, shift, cores, programs, banks);
+    Ok(wanted)
+}
+
+// Each worker works in a thread of its own.
+fn drive_team<R: Threads + Sync, P: Program + Send + Drop, G: Gate + Sync>(
+    rt: &R,
+    machine: &Machine,
+    signals: &Signals,
+    gate: &G,
+    rota: Rota,
+    team: &mut Vec<Worker<P>>,
+)
+    requires ready { AreReady P.acts machine.now signals.now team.old.items }
+    ensures work { AllWork P.acts machine.now signals.now team.old.items team.new.items }
+{
+    thread::for_each_mut(
+        rt,
+        team.as_mut_slice(),
+        16,
+        &|_, worker: &mut Worker<P>| -> ()
+            requires { IsReady P.acts machine.now signals.now worker.now }
+            ensures { IsAtWork machine.entry.now signals.entry.now worker.exit.now ×
+                Works P.acts worker.entry.now worker.exit.now }
+        { work(machine, signals, gate, rota, worker) },
+    );
+}
+
+// How a shift ends, by what is left to do: whether a call wanted memory, and how many seats were stopped before.
+fn end_of<P: Program + Drop>(shift: &mut Shift<P>, before: usize, wanted: bool) -> End
+    requires { length shift.old.programs.items ≡ length shift.old.cores.items }
+    ensures done { result ≡ end.AllDone → AreOver P.acts shift.old.cores.items
+        shift.old.programs.items }
+    ensures all_done { AreOver P.acts shift.old.cores.items shift.old.programs.items →
+        result ≡ end.AllDone }
+    ensures exhausted { result ≡ end.Exhausted →
+        before < stopped shift.old.cores.items shift.old.banks.items }
+    ensures turns_used { result ≡ end.TurnsUsed →
+        stopped shift.old.cores.items shift.old.banks.items ≤ before }
+    ensures not_stalled { result ≢ end.Stalled }
+    ensures same { (shift.new.cores ≡ shift.old.cores) × (shift.new.banks ≡ shift.old.banks) ×
+        (shift.new.programs.items ≡ shift.old.programs.items) }
+{
+    if are_over(shift.cores.as_slice(), &mut shift.programs) {
+        return End::AllDone;
+    }
+    if wanted {
+        return End::NoMemory;
+    }
+    if stopped_count(shift.cores.as_slice(), shift.banks.as_slice()) > before {
+        End::Exhausted
+    } else {
+        End::TurnsUsed
+    }
+}

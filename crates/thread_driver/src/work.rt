@@ -1,0 +1,96 @@
+//! What a worker does: it gives its seats turns until there is nothing left to do.
+ghost use Rattle.std.specs.Prelude.{◌≡◌, length};
+ghost use Rattle.mailboxes.specs.Seats.{AllBankSeats, AllCoreSeats};
+ghost use Rattle.signals.specs.Signalers.{IsSignalerOf};
+ghost use Rattle.thread_driver.specs.Driving.{AreAhead};
+ghost use Rattle.thread_driver.specs.Teams.{IsAtWork, Works};
+
+use crate::counting::over_count;
+use crate::pass::{bank_pass, both, core_pass, ends_all};
+use crate::worker::{Rota, Worker};
+use mailboxes::Machine;
+use seat_turns::Told;
+use shared_jobs::Gate;
+use signals::Signals;
+use std::thread;
+use worker_driver::program::Program;
+
+/// Gives the worker's seats turns, one pass after the other, until all programs are done, its seats had as many turns
+/// as they may have, or some seat wanted memory or stopped.
+pub(crate) fn work<P: Program + Drop, G: Gate>(
+    machine: &Machine,
+    signals: &Signals,
+    gate: &G,
+    rota: Rota,
+    worker: &mut Worker<P>,
+)
+    requires work { IsAtWork machine.now signals.now worker.old }
+    requires ahead { AreAhead P.acts worker.old.cores.items worker.old.programs.items }
+    ensures work { IsAtWork machine.now signals.now worker.new }
+    ensures works { Works P.acts worker.old worker.new }
+{
+    let mut idle = 0;
+    for turn in 0..rota.turns {
+        tell(signals, worker);
+        let look = worker.signaler.look(signals);
+        if look.is_stopped || look.finished >= rota.programs {
+            return;
+        }
+        let told = pass(machine, gate, worker, turn);
+        if ends_all(&told) {
+            worker.no_memory = told.no_memory;
+            worker.signaler.stop(signals);
+            return;
+        }
+        idle = rest(idle, told.has_progressed);
+    }
+    tell(signals, worker);
+}
+
+// Counts passes in a row that came to nothing. After 256 of them another thread has its turn at the processor.
+fn rest(idle: u8, has_progressed: bool) -> u8 {
+    if has_progressed {
+        return 0;
+    }
+    let idle = idle.wrapping_add(1);
+    if idle == 0 {
+        thread::yield_now();
+    }
+    idle
+}
+
+// Each seat of the worker has a turn.
+fn pass<P: Program + Drop, G: Gate>(
+    machine: &Machine,
+    gate: &G,
+    worker: &mut Worker<P>,
+    turn: u32,
+) -> Told
+    requires cores { AllCoreSeats machine.now worker.old.cores.items }
+    requires banks { AllBankSeats machine.now worker.old.banks.items }
+    requires ahead { AreAhead P.acts worker.old.cores.items worker.old.programs.items }
+    ensures cores { AllCoreSeats machine.now worker.new.cores.items }
+    ensures banks { AllBankSeats machine.now worker.new.banks.items }
+    ensures works { Works P.acts worker.old worker.new }
+    ensures signaler { worker.new.signaler ≡ worker.old.signaler }
+{
+    let told = core_pass(machine, gate, &mut worker.cores, &mut worker.programs, turn);
+    if ends_all(&told) {
+        return told;
+    }
+    both(told, bank_pass(machine, gate, &mut worker.banks, turn))
+}
+
+// Tells of each program that was finished since.
+fn tell<P: Program + Drop>(signals: &Signals, worker: &mut Worker<P>)
+    requires signaler { IsSignalerOf signals.now worker.old.signaler }
+    requires long { length worker.old.programs.items ≡ length worker.old.cores.items }
+    ensures signaler { IsSignalerOf signals.now worker.new.signaler }
+    ensures same { (worker.new.cores ≡ worker.old.cores) × (worker.new.banks ≡ worker.old.banks) ×
+        (worker.new.programs.items ≡ worker.old.programs.items) }
+{
+    let over = over_count(worker.cores.as_slice(), &mut worker.programs);
+    for _ in worker.signaler.said.finished..over {
+        let _finished = worker.signaler.finish(signals);
+    }
+}

@@ -1,0 +1,30 @@
+//! A worker, with what it was dealt.
+use mailboxes::{BankSeat, CoreSeat};
+use signals::Signaler;
+
+/// A worker: how it tells the others, the seats of its cores with their programs, by index, and the seats of its
+/// banks.
+#[derive(Drop)]
+pub struct Worker<P: Drop> {
+    pub signaler: Signaler,
+    pub cores: Vec<CoreSeat>,
+    pub programs: Vec<P>,
+    pub banks: Vec<BankSeat>,
+    /// Whether a call of one of its seats was refused since allocation failed.
+    pub no_memory: bool,
+}
+
+/// How far workers go: so many programs are there in all, and each seat has at most so many turns.
+#[derive(Clone, Copy)]
+pub struct Rota {
+    pub programs: u64,
+    pub turns: u32,
+}
+
+/// What is dealt to workers, or was, by worker: the seats of cores, their programs, and the seats of banks.
+#[derive(Drop)]
+pub struct Hands<P: Drop> {
+    pub cores: Vec<Vec<CoreSeat>>,
+    pub programs: Vec<Vec<P>>,
+    pub banks: Vec<Vec<BankSeat>>,
+}

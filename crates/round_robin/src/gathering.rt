@@ -28,6 +28,7 @@ pub fn gather<T: Drop>(mut dealt: Vec<Vec<T>>, first: usize, items: &mut Vec<T>,
 mod tests {
     use super::*;
     use crate::dealing::{deal, empty_hands};
+    use std::alloc::{AllocError, Global};
     use std::test::Fail;
 
     // How many items, 0 and up, are dealt from which hand on, to how many, and what each hand has then.
@@ -47,17 +48,31 @@ mod tests {
         (3, 4, 5, "[[1], [2], [], [], [0]]"),
     ];
 
+    // Deals the items from the hand `first` on, and gathers them again: what the hands had between, as text.
+    fn dealt_and_gathered(
+        alloc: Global,
+        items: &mut Vec<u32>,
+        first: usize,
+        hands: usize,
+    ) -> Result<String, AllocError>
+        requires some { 0 < hands }
+        requires few { first + hands < 2 ^ 64 }
+    {
+        let count = items.len();
+        let mut dealt = empty_hands(alloc, hands, count)?;
+        deal(items, first, &mut dealt);
+        let shown = format!(in alloc; "{dealt:?}")?;
+        gather(dealt, first, items, count);
+        Ok(shown)
+    }
+
     #[test]
     fn lists_are_dealt_and_gathered(rt: HostRuntime) -> Result<(), Fail> {
         for (count, first, hands, want) in DEALT {
             let mut items: Vec<u32> = (0..count).collect(rt.alloc())?;
             let before = items.clone()?;
-            let mut dealt = empty_hands(rt.alloc(), hands, items.len())?;
-            deal(&mut items, first, &mut dealt);
-            assert_eq!(rt; items.len(), 0);
-            let shown = format!(in rt.alloc(); "{dealt:?}")?;
+            let shown = dealt_and_gathered(rt.alloc(), &mut items, first, hands)?;
             assert_eq!(rt; shown.as_str(), want);
-            gather(dealt, first, &mut items, count as usize);
             assert_eq!(rt; items, before);
         }
         Ok(())

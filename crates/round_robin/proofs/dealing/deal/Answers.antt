@@ -1,6 +1,6 @@
 use Rattle.std.proofs.Common.{◌≡◌, ℕ, ◌+◌, ◌/◌, ◌%◌, ◌<◌, ◌≤◌, [], ◌∷◌, ◌++◌, length, map, reverse, length-set}
 use Rattle.std.proofs.Common.{length-append, refl, sym, ap, ◌∙◌, subst, arith, vec_capacity}
-use Rattle.std.proofs.lemmas.List.{reverse-reverse, length-reverse}
+use Rattle.std.proofs.lemmas.List.{reverse-reverse}
 use Rattle.round_robin.specs.Dealing.{IsDealt, hand_of}
 use Rattle.round_robin.proofs.Steps.{hand_is_there, empty_dealt, goes_to_hand, hand_has_room}
 use Rattle.round_robin.proofs.Turned.{one_more_turned, one_is_left, all_set}

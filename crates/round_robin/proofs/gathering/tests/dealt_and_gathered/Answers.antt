@@ -9,5 +9,6 @@ gather-requires-clause-lengths c =
     let vs = c.deal.new.hands.items in
     let dealt : IsDealt all c.args.first (length vs) (map (λ v. v.items) vs) =
     subst (λ n. IsDealt all c.args.first n (map (λ v. v.items) vs)) (sym c.deal.ensures.long) c.deal.ensures.dealt in
-    subst (λ n. HasLengths n c.args.first (length vs) (map (λ v. v.items) vs)) (sym (c.len-count.ensures ∙ c.args.items.now.ok.0))
+    subst (λ n. HasLengths n c.args.first (length vs) (map (λ v. v.items) vs))
+    (sym (c.len-count.ensures ∙ c.args.items.now.ok.0))
     (lengths_of_hands (λ v. v.items) all c.args.first (length vs) vs dealt)

@@ -26,7 +26,7 @@ pub(crate) fn run_job<R: Threads + Sync, F: Files, K: Sink>(
 {
     match job {
         Job::Litmus(options, name) => litmus_of(rt, alloc, files.open(name), options, out),
-        Job::Trace(options, name) => trace_of(alloc, files.open(name), options, out),
+        Job::Trace(options, name) => trace_of(rt, alloc, files.open(name), options, out),
         Job::Check(trace, records) => {
             let trace = files.open(trace);
             let records = files.open(records);
@@ -69,7 +69,8 @@ fn litmus_on<R: Threads + Sync, S: Source + Drop, K: Sink>(
 }
 
 // Runs the trace of a file that was opened.
-fn trace_of<S: Source + Drop, K: Sink>(
+fn trace_of<R: Threads + Sync, S: Source + Drop, K: Sink>(
+    rt: &R,
     alloc: Global,
     opened: Result<S, DeviceError>,
     options: &TraceOptions,
@@ -80,12 +81,13 @@ fn trace_of<S: Source + Drop, K: Sink>(
         out.old out.new result }
 {
     match opened {
-        Ok(file) => trace_on(alloc, file, options, out),
+        Ok(file) => trace_on(rt, alloc, file, options, out),
         Err(DeviceError) => Err(RunError::Read),
     }
 }
 
-fn trace_on<S: Source + Drop, K: Sink>(
+fn trace_on<R: Threads + Sync, S: Source + Drop, K: Sink>(
+    rt: &R,
     alloc: Global,
     file: S,
     options: &TraceOptions,
@@ -96,7 +98,7 @@ fn trace_on<S: Source + Drop, K: Sink>(
         out.old out.new result }
 {
     let mut source = file;
-    run_trace(alloc, &mut source, out, options)
+    run_trace(rt, alloc, &mut source, out, options)
 }
 
 // Checks the records of a file against the trace of another, where both were opened.

@@ -1,5 +1,7 @@
+mod OnOk
 mod Rows
 mod Sequential
 mod Refused
 mod SharedRuns
 mod SameBatches
+mod ThreadedRuns

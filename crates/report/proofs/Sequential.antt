@@ -6,19 +6,21 @@ use Rattle.std.specs.Prelude.{slice_index_or}
 use Rattle.std.specs.FinMap.{empty}
 use Rattle.physiological_order.specs.declared.operation.Op.{Op}
 use Rattle.physiological_order.specs.declared.operation.Record.{Record}
-use Rattle.physiological_order.specs.Order.{Follows, of_core, replay_end}
+use Rattle.physiological_order.specs.Order.{Arrangement, Follows, Legal, flat, of_core, replay_end}
 use Rattle.litmus_reader.specs.Litmus.{Litmus}
-use Rattle.litmus_reader.specs.OpeningMemory.{words_opened}
+use Rattle.litmus_reader.specs.Grammar.{IsTest}
+use Rattle.litmus_reader.specs.OpeningMemory.{words_opened, Words}
 use Rattle.litmus_reader.specs.ThreadSteps.{Thread, next_of, done_with}
 use Rattle.litmus_reader.specs.Truth.{end_value}
 use Rattle.machine_table.specs.declared.config.Config.{Config}
 use Rattle.machine_table.specs.Machine.{Machine}
 use Rattle.machine_table.specs.Opening.{at_start, cores_from}
 use Rattle.machine_theorem.specs.Coherence.{coherent}
+use Rattle.machine_theorem.specs.Consistency.{IsConsistent}
 use Rattle.interleaving_core.specs.LookUps.{open_op, open_op_of}
 use Rattle.run_ends.specs.declared.ends.End.{End}
 use Rattle.run_ends.specs.declared.ends.End.TheVariants.{AllDone, Stalled, TurnsUsed, Exhausted, NoMemory}
-use Rattle.sequential_machine.specs.SequentialMachine.{memory_opened}
+use Rattle.sequential_machine.specs.SequentialMachine.{IsOutcome, memory_opened}
 use Rattle.sequential_machine.specs.Performed.{ArePerformed, Performs as Does}
 use Rattle.trace_lines.specs.declared.steps.Step.TheVariants as step
 use Rattle.worker_driver.specs.Acts.{as_step, next_in}
@@ -91,7 +93,7 @@ module _ (test : Litmus) (config : Config) (m : Machine) (threads : List Thread)
   of_thread t below = served.each t (subst (λ n. t < n) (sym cores) below) (nothing_open config 0 config.cores t)
 
   -- each thread was performed to its end
-  pub performed : ((core : ℕ) → core < config.cores → (open_op m core ≡ None) ×
+  performed : ((core : ℕ) → core < config.cores → (open_op m core ≡ None) ×
       (next_in thread_acts threads core ≡ None)) → ArePerformed test issued_to m.records threads
   performed done = record {
     there = subst (AllByRecursion (λ (r : Record). r.core < test.threads)) (sym served.records)
@@ -112,7 +114,7 @@ module _ (test : Litmus) (config : Config) (m : Machine) (threads : List Thread)
   }
 
   -- and the words are those that the records leave
-  pub left : (arranged : List Record) → ((word : ℕ) → coherent m word ≡ replay_end (memory_opened test)
+  left : (arranged : List Record) → ((word : ℕ) → coherent m word ≡ replay_end (memory_opened test)
       (map (λ r. r.op) arranged) word) →
       (l : ℕ) → l < length test.locations → slice_get (values_from m 0 (length test.locations)) l ≡ Some
       (replay_end (memory_opened test) (map (λ r. r.op) arranged) l)
@@ -121,7 +123,7 @@ module _ (test : Litmus) (config : Config) (m : Machine) (threads : List Thread)
       ∙ ap Some (leaves l)
 
 -- only a run that is all done has a state
-pub state_of : (test : Litmus) (end : End) (threads : List Thread) (m : Machine) (P : List ℕ → Type 0) →
+state_of : (test : Litmus) (end : End) (threads : List Thread) (m : Machine) (P : List ℕ → Type 0) →
     (end ≡ AllDone → P (map (end_value threads (values_from m 0 (length test.locations))) test.seen)) →
     IfSome (state_at test end threads m) P
 state_of test AllDone threads m P is = is refl
@@ -129,3 +131,41 @@ state_of test Stalled threads m P is = tt
 state_of test TurnsUsed threads m P is = tt
 state_of test Exhausted threads m P is = tt
 state_of test NoMemory threads m P is = tt
+
+-- ---- the end state
+
+-- a legal history of a test in which each thread was performed to its end has an outcome
+abbrev pub SequentialLaw : Type 0
+SequentialLaw =
+    (text : List ℕ) (test : Litmus) (issued : ℕ → List Op) (records arranged : List Record) (threads : List Thread)
+    (memory : List ℕ) → IsTest text test → Legal (memory_opened test) issued records → Arrangement records arranged →
+    ArePerformed test issued records threads →
+    ((l : ℕ) → l < length test.locations → slice_get memory l ≡
+    Some (replay_end (memory_opened test) (map (λ r. r.op) arranged) l)) →
+    IsOutcome test (map (end_value threads memory) test.seen)
+
+-- so has a run that came to a consistent machine, if it is all done
+module _ (law : SequentialLaw) (test : Litmus) (config : Config) (m : Machine) (threads : List Thread)
+    (cores : config.cores ≡ test.threads) (opened : m.opening ≡ words_opened test.items empty)
+    (consistent : IsConsistent m)
+    (served : AreServed thread_acts (at_start config (words_opened test.items empty)) m
+    (threads_from test 0 test.threads) threads) where
+  legal : Legal (memory_opened test) (λ core. slice_index_or m.issued core []) m.records
+  legal = subst (λ (ws : Words). Legal (flat ws) (λ core. slice_index_or m.issued core []) m.records) opened
+      consistent.legal
+
+  leaves : (arranged : List Record) → Arrangement m.records arranged → (word : ℕ) →
+      coherent m word ≡ replay_end (memory_opened test) (map (λ r. r.op) arranged) word
+  leaves = subst (λ (ws : Words). (arranged : List Record) → Arrangement m.records arranged → (word : ℕ) →
+      coherent m word ≡ replay_end (flat ws) (map (λ r. r.op) arranged) word) opened consistent.coherent
+
+  pub has_outcome : (text : List ℕ) → IsTest text test → (end : End) →
+      (end ≡ AllDone → (core : ℕ) → core < config.cores → (open_op m core ≡ None) ×
+      (next_in thread_acts threads core ≡ None)) → (state : Option (List ℕ)) →
+      state ≡ state_at test end threads m → IfSome state (IsOutcome test)
+  has_outcome text is end over state told =
+      subst (λ s. IfSome s (IsOutcome test)) (sym told)
+      (state_of test end threads m (IsOutcome test) (λ all.
+      law text test _ m.records legal.arranged threads _ is legal legal.arrangement
+      (performed test config m threads cores served (over all))
+      (left test config m threads cores served legal.arranged (leaves legal.arranged legal.arrangement))))

@@ -1,13 +1,11 @@
 -- Runs of a litmus test as jobs by number.
-use Rattle.std.specs.Prelude.{◌≢◌, ℕ, List, max, min}
+use Rattle.std.specs.Prelude.{◌≢◌, ℕ, List, Some}
 use Rattle.std.specs.List.{AllByRecursion}
 use Rattle.litmus_reader.specs.Grammar.{IsTest}
 use Rattle.litmus_reader.specs.Litmus.{Litmus}
 use Rattle.machine_table.specs.declared.config.Config.{Config}
 use Rattle.run_ends.specs.declared.ends.End.TheVariants.{NoMemory}
 use Rattle.run_ends.specs.declared.ends.RunEnd.{RunEnd}
-use Rattle.run_options.specs.declared.options.Schedule.{Schedule}
-use Rattle.run_options.specs.declared.options.Schedule.TheVariants.{Round, Seed}
 use Rattle.worker_driver.specs.Batches.{policy_of_run}
 use Rattle.worker_driver.specs.declared.policy.Policy.{Policy}
 use Rattle.report.specs.Litmus.{HasOutcome}
@@ -17,13 +15,8 @@ use Rattle.report.specs.Runs.{IsRun}
 -- outcome of the sequential machine
 abbrev pub IsJobOf : Litmus → Config → Policy → ℕ → ℕ → RunEnd → Type 0
 IsJobOf test config first limit number run =
-    IsRun test config (policy_of_run first number) limit run
+    IsRun test config (Some (policy_of_run first number)) limit run
     × ((text : List ℕ) → IsTest text test → HasOutcome test run)
-
--- how many workers share the runs: one by rounds, and by seeds as many as is said, from 1 to 16
-abbrev pub workers_by : Schedule → ℕ → ℕ
-workers_by Round workers = 1
-workers_by Seed workers = max (min workers 16) 1
 
 -- no run ended for want of memory
 abbrev pub AreMade : List RunEnd → Type 0

@@ -1,5 +1,6 @@
 -- What a run of a litmus test is.
 use Rattle.std.specs.Prelude.{◌≡◌, ℕ, zero, suc, ◌+◌, List, [], ◌∷◌, length, map, replicate, Option, Some, None}
+use Rattle.std.specs.Prelude.{option_map}
 use Rattle.std.specs.FinMap.{empty}
 use Rattle.physiological_order.specs.StaleHits.{stale_count}
 use Rattle.litmus_reader.specs.Litmus.{Litmus}
@@ -7,16 +8,14 @@ use Rattle.litmus_reader.specs.OpeningMemory.{words_opened}
 use Rattle.litmus_reader.specs.ThreadSteps.{Thread, opened, settled, next_of, done_with}
 use Rattle.litmus_reader.specs.Truth.{end_value}
 use Rattle.machine_table.specs.declared.config.Config.{Config}
-use Rattle.machine_table.specs.declared.event.Event.{Event}
 use Rattle.machine_table.specs.Machine.{Machine}
-use Rattle.machine_table.specs.Opening.{at_start}
 use Rattle.machine_theorem.specs.Coherence.{coherent}
+use Rattle.report_parts.specs.Orders.{LeadsTo}
 use Rattle.run_ends.specs.declared.ends.End.{End}
 use Rattle.run_ends.specs.declared.ends.End.TheVariants.{AllDone}
 use Rattle.run_ends.specs.declared.ends.RunEnd.{RunEnd}
 use Rattle.worker_driver.specs.Acts.{Acts, as_step}
 use Rattle.worker_driver.specs.declared.policy.Policy.{Policy}
-use Rattle.worker_driver.specs.Policies.{EndedBy}
 use Rattle.worker_driver.specs.Batches.{policy_of_run}
 
 -- what the threads of a test do
@@ -41,21 +40,25 @@ abbrev pub state_at : Litmus → End → List Thread → Machine → Option (Lis
 state_at test AllDone threads m = Some (map (end_value threads (values_from m 0 (length test.locations))) test.seen)
 state_at test end threads m = None
 
--- events by the policy's schedule lead from the machine and the threads that the test opens to the run's end; its
--- numbers are those of the machine then
-pub record IsRun (test : Litmus) (config : Config) (policy : Policy) (limit : ℕ) (run : RunEnd) : Type 0 where
-  pub events : List Event
+-- what is told of a run that came to this machine and these threads
+pub record Tells (test : Litmus) (m : Machine) (threads : List Thread) (run : RunEnd) : Type 0 where
+  pub state : run.state ≡ state_at test run.end threads m
+  pub completed : run.completed ≡ length m.records
+  pub stale : run.stale ≡ stale_count m.records
+  pub counts : run.counts ≡ m.mail.counts
+
+-- a policy's schedule, or threads, lead from the machine and the threads that the test opens to those of which the run
+-- tells, and to its end
+pub record IsRun (test : Litmus) (config : Config) (policy : Option Policy) (limit : ℕ) (run : RunEnd) : Type 0 where
   pub machine : Machine
   pub threads : List Thread
-  pub ended : EndedBy thread_acts policy limit (at_start config (words_opened test.items empty))
-      (threads_from test 0 test.threads) events machine threads run.end
-  pub state : run.state ≡ state_at test run.end threads machine
-  pub completed : run.completed ≡ length machine.records
-  pub stale : run.stale ≡ stale_count machine.records
-  pub counts : run.counts ≡ machine.mail.counts
+  pub led : LeadsTo thread_acts policy limit config (words_opened test.items empty) (threads_from test 0 test.threads)
+      machine threads run.end
+  pub told : Tells test machine threads run
 
--- runs of a batch from its run i on, where its first run follows this policy
-abbrev pub AreFrom : Litmus → Config → Policy → ℕ → ℕ → List RunEnd → Type 0
+-- runs of a batch from its run i on, where its first run follows this policy; each is by threads if there is none
+abbrev pub AreFrom : Litmus → Config → Option Policy → ℕ → ℕ → List RunEnd → Type 0
 AreFrom test config first limit i [] = Unit {0}
 AreFrom test config first limit i (run ∷ runs) =
-    IsRun test config (policy_of_run first i) limit run × AreFrom test config first limit (i + 1) runs
+    IsRun test config (option_map (λ policy. policy_of_run policy i) first) limit run
+    × AreFrom test config first limit (i + 1) runs

@@ -1,6 +1,6 @@
 //! What a verdict shows, how many turns a run may have, and that workers don't show in runs. The functions do nothing:
 //! their contracts are the laws.
-ghost use Rattle.std.specs.Prelude.{◌≡◌, ◌≢◌, ◌<◌, ◌≤◌, List, [], length, slice_get, Some, None, true, ℕ};
+ghost use Rattle.std.specs.Prelude.{◌≡◌, ◌≢◌, ◌<◌, ◌≤◌, List, [], length, slice_get, Option, Some, None, true, ℕ};
 ghost use Rattle.std.specs.List.{AllByRecursion};
 ghost use Rattle.litmus_parser.specs.declared.syntax.Quantifier.TheVariants.{Exists};
 ghost use Rattle.litmus_reader.specs.Grammar.{IsTest};
@@ -45,14 +45,14 @@ pub fn turns_are_those_of_the_options()
 pub fn workers_show_in_no_run()
     ensures runs { (test : Litmus) (config : Config) (first : Policy) (limit : ℕ)
         (runs others : List RunEnd) (place : ℕ) (run other : RunEnd) →
-        AreFrom test config first limit 0 runs → AreFrom test config first limit 0 others →
+        AreFrom test config (Some first) limit 0 runs → AreFrom test config (Some first) limit 0 others →
         slice_get runs place ≡ Some run → slice_get others place ≡ Some other →
         run.end ≢ NoMemory → other.end ≢ NoMemory → run ≡ other }
     ensures lists { (test : Litmus) (config : Config) (first : Policy) (limit : ℕ)
         (runs others : List RunEnd) →
-        AreFrom test config first limit 0 runs → AreFrom test config first limit 0 others →
+        AreFrom test config (Some first) limit 0 runs → AreFrom test config (Some first) limit 0 others →
         length runs ≡ length others → AreMade runs → AreMade others → runs ≡ others }
-    ensures refused { (test : Litmus) (config : Config) (policy : Policy) (limit : ℕ)
+    ensures refused { (test : Litmus) (config : Config) (policy : Option Policy) (limit : ℕ)
         (run : RunEnd) → IsRun test config policy limit run →
         run.end ≡ NoMemory → run.state ≡ None }
 {

@@ -7,6 +7,8 @@ mod litmus;
 mod one_run;
 mod shared_runs;
 mod sources;
+mod threads;
+mod told;
 
 pub use batches::batch;
 pub use byte_streams::{FromRead, Sink, Source, ToWrite};
@@ -17,3 +19,4 @@ pub use run_ends::{End, RunEnd};
 pub use run_options::{LitmusOptions, MachineOptions, RunOptions, Schedule};
 pub use run_results::{Done, RunError, exit_status};
 pub use shared_jobs::{Free, Gate};
+pub use threads::threaded_runs;

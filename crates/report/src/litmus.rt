@@ -1,5 +1,5 @@
 //! From a source with a litmus text to a sink for its report.
-ghost use Rattle.std.specs.Prelude.{◌≡◌, ◌≢◌, ◌<◌, ◌≤◌, IfErr, IfOk, IsErrOf, List, length, true, ℕ};
+ghost use Rattle.std.specs.Prelude.{◌≡◌, ◌≢◌, IfErr, IfOk, IsErrOf, List, length, true, ℕ};
 ghost use Rattle.std.specs.List.{AllByRecursion, list_all};
 ghost use Rattle.litmus_reader.specs.Grammar.{IsTest};
 ghost use Rattle.litmus_reader.specs.TestViews.{test_of};
@@ -8,19 +8,19 @@ ghost use Rattle.report_parts.specs.Answers.{AreCounted, IsCutOff, IsReported};
 ghost use Rattle.report_parts.specs.SetUp.{policy_of};
 ghost use Rattle.report_text.specs.Ends.{ends_as};
 ghost use Rattle.report.specs.Bytes.{OfBytes};
-ghost use Rattle.report.specs.Batches.{workers_by};
 ghost use Rattle.report.specs.Litmus.{HasNoReport, HasOutcome, IsLitmusReport, refusal, turns};
 ghost use Rattle.report.specs.Runs.{AreFrom};
 
 use crate::batches::batch;
 use crate::sources::bytes_of;
+use crate::threads::threaded_runs;
 use byte_streams::{Sink, Source};
 use interleaving_core::Config;
 use litmus_reader::{Kind, LitmusError, Test, read};
-use report_parts::{config_of, limit_of, policy_of, put_out};
+use report_parts::{config_of, limit_of, policy_of, put_out, workers_of};
 use report_text::litmus_text;
 use run_ends::{End, RunEnd};
-use run_options::{LitmusOptions, RunOptions, Schedule};
+use run_options::LitmusOptions;
 use run_results::{Done, RunError};
 use shared_jobs::Free;
 use std::alloc::{AllocError, Global};
@@ -115,28 +115,10 @@ fn runs_of<R: Threads + Sync>(
         AllByRecursion (HasOutcome (test_of test.now)) runs.items) }
 {
     let run = &options.run;
-    let (first, limit, workers) = (policy_of(run), limit_of(run), workers_of(run));
-    batch(
-        rt,
-        alloc,
-        test,
-        config,
-        first,
-        options.runs,
-        limit,
-        workers,
-        &Free,
-    )
-}
-
-// How many threads share the runs: one by rounds, and by seeds as many as the options say, from 1 to 16.
-fn workers_of(options: &RunOptions) -> u32
-    ensures number { result ≡ workers_by options.now.schedule options.now.workers }
-    ensures few { (0 < result) × (result ≤ 16) }
-{
-    match options.schedule {
-        Schedule::Round => 1,
-        Schedule::Seed => options.workers.min(16).max(1) as u32,
+    let (count, limit, workers) = (options.runs, limit_of(run), workers_of(run));
+    match policy_of(run) {
+        Some(first) => batch(rt, alloc, test, config, first, count, limit, workers, &Free),
+        None => threaded_runs(rt, alloc, test, config, count, limit, workers, &Free),
     }
 }
 

@@ -1,5 +1,5 @@
-//! One run of a litmus test.
-ghost use Rattle.std.specs.Prelude.{◌≡◌, ◌≤◌, ◌<◌, ℕ, true, length, IfOk, List, OnOk};
+//! One run of a litmus test by a policy.
+ghost use Rattle.std.specs.Prelude.{◌≡◌, ℕ, true, IfOk, List, OnOk, Some};
 ghost use Rattle.std.specs.FinMap.{empty};
 ghost use Rattle.litmus_reader.specs.Grammar.{IsTest};
 ghost use Rattle.litmus_reader.specs.OpeningMemory.{words_opened};
@@ -7,13 +7,14 @@ ghost use Rattle.litmus_reader.specs.TestViews.{test_of};
 ghost use Rattle.machine_table.specs.Opening.{at_start};
 ghost use Rattle.machine_table.specs.SetUp.{is_good};
 ghost use Rattle.report.specs.Litmus.{HasOutcome};
-ghost use Rattle.report.specs.Runs.{IsRun, state_at, threads_from, values_from};
+ghost use Rattle.report.specs.Runs.{IsRun};
 
+use crate::threads::start_threads;
+use crate::told::told;
 use interleaving_core::{Config, System};
-use litmus_reader::{EndState, Test, ThreadState};
+use litmus_reader::Test;
 use machine_theorem::laws::every_history_is_legal;
-use physiological_order::{WordAddr, stale_hits};
-use run_ends::{End, RunEnd};
+use run_ends::RunEnd;
 use sequential_machine::laws::performed_histories_are_sequential;
 use std::alloc::{AllocError, Global};
 use worker_driver::{Policy, run_to_end};
@@ -29,7 +30,7 @@ pub fn run_once(
 ) -> Result<RunEnd, AllocError>
     requires good { is_good config ≡ true }
     requires cores { config.cores ≡ (test_of test.now).threads }
-    ensures run { IfOk result (IsRun (test_of test.now) config policy limit) }
+    ensures run { IfOk result (IsRun (test_of test.now) config (Some policy) limit) }
     ensures outcome { IfOk result (λ run.
         (text : List ℕ) → IsTest text (test_of test.now) → HasOutcome (test_of test.now) run) }
 {
@@ -63,7 +64,8 @@ pub(crate) fn run_on(
     requires cores { system.old.config.cores ≡ (test_of test.now).threads }
     requires opened { system.old ≡ at_start system.old.config
         (words_opened (test_of test.now).items empty) }
-    ensures run { IfOk result (IsRun (test_of test.now) system.old.config policy limit) }
+    ensures run { IfOk result (IsRun (test_of test.now) system.old.config (Some policy)
+        limit) }
     ensures outcome { IfOk result (λ run.
         (text : List ℕ) → IsTest text (test_of test.now) → HasOutcome (test_of test.now) run) }
     ensures config { OnOk result (system.new.config ≡ system.old.config) }
@@ -73,57 +75,5 @@ pub(crate) fn run_on(
     let mut started = start_threads(alloc, test)?;
     let threads = started.as_mut_slice();
     let end = run_to_end(alloc, system, threads, policy, limit);
-    let stale = stale_hits(alloc, system.records())?;
-    let state = end_state(alloc, test, end, threads, system)?;
-    Ok(RunEnd {
-        end,
-        state,
-        completed: system.records().len() as u64,
-        stale,
-        counts: system.counts(),
-    })
-}
-
-// The threads as the test opens them.
-fn start_threads<'a>(alloc: Global, test: &'a Test) -> Result<Vec<ThreadState<'a>>, AllocError>
-    ensures { IfOk result (λ threads. threads.items ≡
-        threads_from (test_of test.now) 0 (test_of test.now).threads) }
-{
-    let mut threads = Vec::new(alloc);
-    for thread in 0..test.threads() {
-        threads.push(test.start(thread as u8))?;
-    }
-    Ok(threads)
-}
-
-// The values of the condition's names, where all threads are done.
-fn end_state(
-    alloc: Global,
-    test: &Test,
-    end: End,
-    threads: &[ThreadState<'_>],
-    system: &System,
-) -> Result<Option<EndState>, AllocError>
-    ensures { IfOk result (λ state. state ≡
-        state_at (test_of test.now) end threads.now system.now) }
-{
-    match end {
-        End::AllDone => {
-            let memory = values(alloc, test.locations(), system)?;
-            Ok(Some(test.end(threads, &memory)?))
-        }
-        _ => Ok(None),
-    }
-}
-
-// The values of the first words, where they stand.
-fn values(alloc: Global, count: usize, system: &System) -> Result<Vec<u64>, AllocError>
-    requires { count ≤ 64 }
-    ensures { IfOk result (λ values. values.items ≡ values_from system.now 0 count) }
-{
-    let mut values = Vec::new(alloc);
-    for word in 0..count {
-        values.push(system.coherent(WordAddr::at(word as u64)))?;
-    }
-    Ok(values)
+    told(alloc, test, end, threads, system)
 }

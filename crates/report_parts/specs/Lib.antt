@@ -1,2 +1,3 @@
 pub mod SetUp
 pub mod Answers
+pub mod Orders

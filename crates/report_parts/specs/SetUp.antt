@@ -1,9 +1,9 @@
--- The machine that options ask for, which schedule a run of it follows, and how far it goes.
-use Rattle.std.specs.Prelude.{ℕ, min, nat_le, Bool, ◌&&◌}
+-- The machine that options ask for, which policy a run of it follows, and how far it goes.
+use Rattle.std.specs.Prelude.{ℕ, max, min, nat_le, Bool, ◌&&◌, Option, Some, None}
 use Rattle.run_options.specs.declared.options.MachineOptions.{MachineOptions}
 use Rattle.run_options.specs.declared.options.RunOptions.{RunOptions}
 use Rattle.run_options.specs.declared.options.Schedule.{Schedule}
-use Rattle.run_options.specs.declared.options.Schedule.TheVariants.{Round, Seed as ScheduledBySeed}
+use Rattle.run_options.specs.declared.options.Schedule.TheVariants.{Round, Seed as ScheduledBySeed, Threads}
 use Rattle.worker_driver.specs.declared.policy.Policy.{Policy}
 use Rattle.worker_driver.specs.declared.policy.Policy.TheVariants.{Rounds, Seed}
 use Rattle.machine_table.specs.declared.config.Config.{Config}
@@ -35,10 +35,17 @@ fits options =
 abbrev pub limit_of : RunOptions → ℕ
 limit_of options = min options.limit 4294967295
 
--- which schedule the first run follows
-abbrev pub policy_by : Schedule → ℕ → Policy
-policy_by Round seed = Rounds
-policy_by ScheduledBySeed seed = Seed seed
+-- which policy the first run follows; threads follow none
+abbrev pub policy_by : Schedule → ℕ → Option Policy
+policy_by Round seed = Some Rounds
+policy_by ScheduledBySeed seed = Some (Seed seed)
+policy_by Threads seed = None
 
-abbrev pub policy_of : RunOptions → Policy
+abbrev pub policy_of : RunOptions → Option Policy
 policy_of options = policy_by options.schedule options.seed
+
+-- how many threads make the runs: one by rounds, and else as many as is said, from 1 to 16
+abbrev pub workers_by : Schedule → ℕ → ℕ
+workers_by Round workers = 1
+workers_by ScheduledBySeed workers = max (min workers 16) 1
+workers_by Threads workers = max (min workers 16) 1

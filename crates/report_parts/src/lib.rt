@@ -1,9 +1,11 @@
-//! What the reports of litmus tests and traces share: the machine that options ask for, which schedule a run follows
-//! and how far, and a whole text to a sink.
+//! What the reports of litmus tests and traces share: the machine that options ask for, which policy a run follows and
+//! how far, the machine after a run, and a whole text to a sink.
 #![tactic(auto)]
 
+mod finished;
 mod outputs;
 mod set_up;
 
+pub use finished::Finished;
 pub use outputs::put_out;
-pub use set_up::{config_of, limit_of, policy_of};
+pub use set_up::{config_of, limit_of, policy_of, workers_of};

@@ -1,7 +1,7 @@
 //! The machine that options ask for, and how far a run of it goes.
-ghost use Rattle.std.specs.Prelude.{◌≡◌, ◌<◌, ◌^◌, false, true, IfSome, None};
+ghost use Rattle.std.specs.Prelude.{◌≡◌, ◌<◌, ◌≤◌, ◌^◌, false, true, IfSome, None};
 ghost use Rattle.machine_table.specs.SetUp.{is_good};
-ghost use Rattle.report_parts.specs.SetUp.{config_of, fits, limit_of, policy_of};
+ghost use Rattle.report_parts.specs.SetUp.{config_of, fits, limit_of, policy_of, workers_by};
 
 use machine_table::Config;
 use run_options::{MachineOptions, RunOptions, Schedule};
@@ -52,12 +52,26 @@ pub fn limit_of(options: &RunOptions) -> u32
     options.limit.min(u64::from(u32::MAX)) as u32
 }
 
-/// Which schedule the first run follows: rounds, or the seed of the options.
-pub fn policy_of(options: &RunOptions) -> Policy
+/// Which policy the first run follows: rounds, or the seed of the options. None by threads, which follow no policy.
+pub fn policy_of(options: &RunOptions) -> Option<Policy>
     ensures { result ≡ policy_of options.now }
 {
     match options.schedule {
-        Schedule::Round => Policy::Rounds,
-        Schedule::Seed => Policy::Seed(options.seed),
+        Schedule::Round => Some(Policy::Rounds),
+        Schedule::Seed => Some(Policy::Seed(options.seed)),
+        Schedule::Threads => None,
+    }
+}
+
+/// How many threads drive the machine of a run by threads, or share the runs by a seed: as many as the options say, from
+/// 1 to 16. By rounds it is one.
+pub fn workers_of(options: &RunOptions) -> u32
+    ensures number { result ≡ workers_by options.now.schedule options.now.workers }
+    ensures few { (0 < result) × (result ≤ 16) }
+{
+    match options.schedule {
+        Schedule::Round => 1,
+        Schedule::Seed => options.workers.min(16).max(1) as u32,
+        Schedule::Threads => options.workers.min(16).max(1) as u32,
     }
 }

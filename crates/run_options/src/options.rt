@@ -8,6 +8,8 @@ pub enum Schedule {
     Round,
     /// One event a turn, drawn by a generator that a seed opens.
     Seed,
+    /// By threads that share the machine: each gives its seats, which are the cores and banks, turns in order.
+    Threads,
 }
 
 /// How the machine is built.

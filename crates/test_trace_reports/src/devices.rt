@@ -3,6 +3,7 @@ use byte_streams::{FromRead, ToWrite};
 use run_options::{MachineOptions, RunOptions, TraceOptions};
 use run_results::{Done, RunError};
 use std::alloc::Global;
+use std::thread::Threads;
 use test_devices::Limited;
 use trace_report::{run_check, run_trace};
 
@@ -47,7 +48,8 @@ fn source(text: &[u8], calls: u32) -> FromRead<Limited<&[u8]>> {
 }
 
 /// Runs a trace, and puts what is written after what was.
-pub(crate) fn ran(
+pub(crate) fn ran<R: Threads + Sync>(
+    rt: &R,
     alloc: Global,
     text: &[u8],
     options: &TraceOptions,
@@ -59,7 +61,7 @@ pub(crate) fn ran(
         step: 1,
         calls: devices.writes,
     });
-    run_trace(alloc, &mut source(text, devices.reads), &mut sink, options)
+    run_trace(rt, alloc, &mut source(text, devices.reads), &mut sink, options)
 }
 
 /// Checks records, of which reading fails after so many calls, against a trace.

@@ -45,7 +45,7 @@ fn runs(rt: HostRuntime) {
                 ..options(3).run
             },
         };
-        let done = ran(rt.alloc(), PAST, &asked, Devices::WHOLE, &mut out);
+        let done = ran(&rt, rt.alloc(), PAST, &asked, Devices::WHOLE, &mut out);
         assert!(rt; done == Ok(Done { all_done: true }) && out.as_slice() == wanted);
     }
 }

@@ -7,22 +7,30 @@ use Rattle.std.proofs.lemmas.List.Elements.{All-from_recursion, recursion_from_A
 use Rattle.std.proofs.lemmas.List.Sorted.{All-permutation, IsPermutation-sym}
 use Rattle.std.specs.Prelude.{slice_get, slice_index_or}
 use Rattle.std.specs.List.{AllByRecursion}
-use Rattle.std.specs.FinMap.{empty}
+use Rattle.std.specs.FinMap.{FinMap, empty}
+use Rattle.std.specs.Ordering.{nat_cmp}
 use Rattle.physiological_order.specs.declared.operation.Op.{Op}
 use Rattle.physiological_order.specs.declared.operation.Op.TheVariants.{Load, Store, Swap}
 use Rattle.physiological_order.specs.declared.operation.Record.{Record}
-use Rattle.physiological_order.specs.Order.{Memory, Follows, Legal, flat, flat_after, flat_received, of_core, replay}
+use Rattle.physiological_order.specs.Order.{Arrangement, Memory, Follows, Legal, flat, flat_after, flat_received}
+use Rattle.physiological_order.specs.Order.{of_core, replay, replay_end}
+use Rattle.physiological_order.specs.StaleHits.{RisesByNumber}
 use Rattle.physiological_order.proofs.Lemmas.{Follows-issued}
 use Rattle.machine_table.specs.declared.config.Config.{Config}
 use Rattle.machine_table.specs.Machine.{Machine}
 use Rattle.machine_table.specs.Opening.{at_start, cores_from}
+use Rattle.machine_theorem.specs.Coherence.{coherent}
+use Rattle.machine_theorem.specs.Consistency.{IsConsistent}
 use Rattle.interleaving_core.specs.LookUps.{open_op, open_op_of}
 use Rattle.record_text.specs.Text.{AreComplete, HasItsValue}
+use Rattle.report_parts.specs.Orders.{LeadsTo}
+use Rattle.run_ends.specs.declared.ends.End.{End}
 use Rattle.trace_lines.specs.declared.steps.Step.{Step}
 use Rattle.trace_lines.specs.declared.steps.Step.TheVariants as step
 use Rattle.trace_reader.specs.Steps.{lane, ops_of}
 use Rattle.worker_driver.specs.Service.{AreServed, Performs, rests, advances, does, still_open}
-use Rattle.trace_report.specs.Runs.{core_count, issued_in, programs_below, step_acts}
+use Rattle.worker_driver.specs.declared.policy.Policy.{Policy}
+use Rattle.trace_report.specs.Runs.{IsRun, core_count, issued_in, programs_below, step_acts}
 use Rattle.trace_report.proofs.CoreCounts.{programs_count}
 
 -- ---- what a program of steps gave
@@ -170,7 +178,7 @@ module _ (lanes : List (List Step)) (config : Config) (m : Machine) (programs : 
   ]
 
   module _ (legal : Legal (flat empty) (λ core. slice_index_or m.issued core []) m.records) where
-    pub legal_in_trace : Legal (flat empty) (issued_in lanes) m.records
+    legal_in_trace : Legal (flat empty) (issued_in lanes) m.records
     legal_in_trace =
         let each = recursion_from_All (λ (r : Record). r.core < config.cores) legal.arranged
         (All-permutation (λ (r : Record). r.core < config.cores) m.records legal.arranged
@@ -183,10 +191,30 @@ module _ (lanes : List (List Step)) (config : Config) (m : Machine) (programs : 
           values = legal.values;
         }
 
-    pub complete : config.cores ≤ 64 → AreComplete m.records
+    complete : config.cores ≤ 64 → AreComplete m.records
     complete few =
         let P = λ (r : Record). HasItsValue r.op r.received in
         both m.records config.cores few there (recursion_from_All P m.records
         (All-permutation P legal.arranged m.records
         (IsPermutation-sym m.records legal.arranged legal.arrangement.same_members)
         (All-from_recursion P legal.arranged (each_value (flat empty) legal.arranged legal.values))))
+
+  -- a run that came to a consistent machine
+  pub is_run : IsConsistent m → m.opening ≡ empty → RisesByNumber m.records → config.cores ≤ 64 →
+      (policy : Option Policy) (limit : ℕ) (end : End) →
+      LeadsTo step_acts policy limit config empty (programs_below lanes (core_count lanes)) m programs end →
+      IsRun policy limit config lanes end m
+  is_run consistent opened rising few policy limit end led =
+      let legal = subst (λ (ws : FinMap nat_cmp ℕ). Legal (flat ws) (λ core. slice_index_or m.issued core []) m.records)
+      opened consistent.legal in
+      record {
+        programs = programs;
+        led = led;
+        legal = legal;
+        legal_in_trace = legal_in_trace legal;
+        rising = rising;
+        complete = complete legal few;
+        left = subst (λ (ws : FinMap nat_cmp ℕ). (arranged : List Record) → Arrangement m.records arranged →
+            (word : ℕ) → coherent m word ≡ replay_end (flat ws) (map (λ r. r.op) arranged) word) opened
+            consistent.coherent;
+      }

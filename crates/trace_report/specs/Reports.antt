@@ -3,7 +3,7 @@ use Rattle.std.specs.Prelude.{◌≡◌, ◌⊎◌, ◌≤◌, ℕ, Bool, true, 
 use Rattle.machine_table.specs.Machine.{Machine}
 use Rattle.machine_table.specs.SetUp.{is_good}
 use Rattle.physiological_order.specs.declared.operation.Record.{Record}
-use Rattle.report_parts.specs.SetUp.{config_of}
+use Rattle.report_parts.specs.SetUp.{config_of, limit_of, policy_of}
 use Rattle.run_ends.specs.declared.ends.End.{End}
 use Rattle.run_options.specs.declared.options.TraceOptions.{TraceOptions}
 use Rattle.run_results.specs.declared.results.RunError.{RunError}
@@ -23,16 +23,22 @@ abbrev pub Stands : List ℕ → List Record → Type 0
 Stands text records =
     (length (lines_of text) ≡ length records) × (length records ≤ MOST_LINES → AreRecords text records)
 
--- the text tells a run of the trace on a good machine, and says whether that ended all done; records that are told
+-- the text tells a run that came to this end and machine, and says whether that ended all done; records that are told
 -- alone are read back
+pub record TellsOf (records : Bool) (lanes : List (List Step)) (end : End) (machine : Machine) (all_done : Bool)
+    (text : List ℕ) : Type 0 where
+  pub text_is : text ≡ run_text records lanes end machine
+  pub read_back : records ≡ true → Stands text machine.records
+  pub done : all_done ≡ is_all_done end
+
+-- it tells a run of the trace on a good machine
 pub record Tells (options : TraceOptions) (lanes : List (List Step)) (all_done : Bool) (text : List ℕ) : Type 0 where
   pub good : is_good (config_of options.run.machine (core_count lanes)) ≡ true
   pub end : End
   pub machine : Machine
-  pub run : IsRun options.run (config_of options.run.machine (core_count lanes)) lanes end machine
-  pub text_is : text ≡ run_text options.records lanes end machine
-  pub read_back : options.records ≡ true → Stands text machine.records
-  pub done : all_done ≡ is_all_done end
+  pub run : IsRun (policy_of options.run) (limit_of options.run) (config_of options.run.machine (core_count lanes)) lanes
+      end machine
+  pub told : TellsOf options.records lanes end machine all_done text
 
 -- it tells a run of the trace that the source had
 abbrev pub IsTraceReport : TraceOptions → Option (List ℕ) → Bool → List ℕ → Type 0

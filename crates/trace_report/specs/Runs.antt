@@ -1,28 +1,25 @@
 -- What a run of a trace is, and the texts that tell it.
-use Rattle.std.specs.Prelude.{◌≡◌, ℕ, zero, suc, ◌+◌, max, Bool, true, false, List, [], ◌∷◌, ◌++◌, length, map}
+use Rattle.std.specs.Prelude.{◌≡◌, ℕ, zero, suc, ◌+◌, max, Bool, true, false, List, [], ◌∷◌, ◌++◌, length, map, Option}
 use Rattle.std.specs.Prelude.{slice_index_or}
 use Rattle.std.specs.Ordering.{nat_cmp}
 use Rattle.std.specs.FinMap.{FinMap, empty, entries, insert}
 use Rattle.machine_table.specs.declared.config.Config.{Config}
-use Rattle.machine_table.specs.declared.event.Event.{Event}
 use Rattle.machine_table.specs.Machine.{Machine}
-use Rattle.machine_table.specs.Opening.{at_start}
 use Rattle.machine_theorem.specs.Coherence.{coherent}
 use Rattle.physiological_order.specs.declared.operation.Op.{Op}
 use Rattle.physiological_order.specs.declared.operation.Record.{Record}
 use Rattle.physiological_order.specs.Order.{address, flat, Legal, Arrangement, replay_end}
 use Rattle.physiological_order.specs.StaleHits.{RisesByNumber, stale_count}
 use Rattle.record_text.specs.Text.{AreComplete, records_text}
-use Rattle.report_parts.specs.SetUp.{limit_of, policy_of}
+use Rattle.report_parts.specs.Orders.{LeadsTo}
 use Rattle.run_ends.specs.declared.ends.End.{End}
 use Rattle.run_ends.specs.declared.ends.End.TheVariants.{AllDone, Stalled, TurnsUsed, Exhausted, NoMemory}
-use Rattle.run_options.specs.declared.options.RunOptions.{RunOptions}
 use Rattle.trace_lines.specs.declared.steps.Step.{Step}
 use Rattle.trace_reader.specs.Steps.{lane, ops_of}
 use Rattle.trace_report_text.specs.declared.text.TraceEnd.{TraceEnd}
 use Rattle.trace_report_text.specs.Text.{trace_text}
 use Rattle.worker_driver.specs.Acts.{Acts, first_step, behind_first}
-use Rattle.worker_driver.specs.Policies.{EndedBy}
+use Rattle.worker_driver.specs.declared.policy.Policy.{Policy}
 
 -- the steps of a core are its program
 abbrev pub step_acts : Acts (List Step)
@@ -41,15 +38,13 @@ programs_below lanes (suc core) = programs_below lanes core ++ lane lanes core �
 abbrev pub issued_in : List (List Step) → ℕ → List Op
 issued_in lanes core = slice_index_or (map ops_of lanes) core []
 
--- a run of a trace over a memory of zeros: its records are a legal history of what the cores were issued, and so of the
--- operations of the trace; they stand by rising number, and are such as a text of records can tell; and the words have
--- the values that the records leave, one after the other in the order of their times
-pub record IsRun (options : RunOptions) (config : Config) (lanes : List (List Step)) (end : End)
+-- a run of a trace over a memory of zeros, by a policy or by threads: its records are a legal history of what the cores
+-- were issued, and so of the operations of the trace; they stand by rising number, and are such as a text of records can
+-- tell; and the words have the values that the records leave, one after the other in the order of their times
+pub record IsRun (policy : Option Policy) (limit : ℕ) (config : Config) (lanes : List (List Step)) (end : End)
     (machine : Machine) : Type 0 where
-  pub events : List Event
   pub programs : List (List Step)
-  pub ended : EndedBy step_acts (policy_of options) (limit_of options) (at_start config empty)
-      (programs_below lanes (core_count lanes)) events machine programs end
+  pub led : LeadsTo step_acts policy limit config empty (programs_below lanes (core_count lanes)) machine programs end
   pub legal : Legal (flat empty) (λ core. slice_index_or machine.issued core []) machine.records
   pub legal_in_trace : Legal (flat empty) (issued_in lanes) machine.records
   pub rising : RisesByNumber machine.records

@@ -1,8 +1,11 @@
-//! One run of a trace, and its text.
-ghost use Rattle.std.specs.Prelude.{◌≡◌, true, IfOk};
+//! One run of a trace, by a policy or by threads, and its text.
+ghost use Rattle.std.specs.Prelude.{◌≡◌, ◌<◌, ◌≤◌, true, IfOk, None, Some};
+ghost use Rattle.machine_table.specs.Machine.{Machine};
 ghost use Rattle.machine_table.specs.SetUp.{is_good};
+ghost use Rattle.mailboxes.specs.RunParts.{Parts};
 ghost use Rattle.physiological_order.specs.StaleHits.{RisesByNumber};
 ghost use Rattle.record_text.specs.Text.{AreComplete, records_text};
+ghost use Rattle.thread_runs.specs.ThreadRuns.{machine_of};
 ghost use Rattle.trace_report.specs.Reports.{Stands};
 ghost use Rattle.trace_report.specs.Runs.{IsRun, core_count, end_of, run_text};
 
@@ -10,33 +13,38 @@ use crate::programs::programs_of;
 use crate::words::{issued_below, values_of};
 use interleaving_core::{Config, System};
 use machine_theorem::laws::every_history_is_legal;
+use mailboxes::Run;
 use physiological_order::{Memory, stale_hits};
 use record_text::records_text;
-use report_parts::{limit_of, policy_of};
+use report_parts::Finished;
 use run_ends::End;
-use run_options::{RunOptions, TraceOptions};
+use shared_jobs::Free;
 use std::alloc::{AllocError, Global};
+use std::thread::Threads;
+use thread_runs::laws::closed_machines_are_consistent;
+use thread_runs::run_threads;
 use trace_reader::Trace;
 use trace_report_text::{TraceEnd, trace_text};
-use worker_driver::run_to_end;
+use worker_driver::{Policy, run_to_end};
 
 /// The machine on which a trace was run, and how the run ended.
 #[derive(Drop)]
-pub(crate) struct Ran {
-    pub(crate) system: System,
+pub(crate) struct Ran<M: Drop> {
+    pub(crate) machine: M,
     pub(crate) end: End,
 }
 
-/// A run of the trace over a memory of zeros.
-pub(crate) fn run_once(
+/// A run of the trace over a memory of zeros, by this policy, with at most so many turns.
+pub(crate) fn run_by_policy(
     alloc: Global,
     trace: &Trace,
     config: Config,
-    options: &RunOptions,
-) -> Result<Ran, AllocError>
+    policy: Policy,
+    limit: u32,
+) -> Result<Ran<System>, AllocError>
     requires good { is_good config ≡ true }
     requires cores { config.cores ≡ core_count trace.now }
-    ensures { IfOk result (λ ran. IsRun options.now config trace.now ran.end ran.system) }
+    ensures { IfOk result (λ ran. IsRun (Some policy) limit config trace.now ran.end ran.machine) }
 {
     every_history_is_legal();
     let _few = trace.cores();
@@ -44,58 +52,78 @@ pub(crate) fn run_once(
         return Err(AllocError);
     };
     let mut programs = programs_of(alloc, trace)?;
-    let policy = policy_of(options);
-    let end = run_to_end(
-        alloc,
-        &mut system,
-        programs.as_mut_slice(),
-        policy,
-        limit_of(options),
-    );
+    let end = run_to_end(alloc, &mut system, programs.as_mut_slice(), policy, limit);
     let _rising = system.records();
-    Ok(Ran { system, end })
+    Ok(Ran {
+        machine: system,
+        end,
+    })
+}
+
+/// A run of the trace over a memory of zeros, by so many threads, with at most so many turns of each core and bank.
+pub(crate) fn run_by_threads<R: Threads + Sync>(
+    rt: &R,
+    alloc: Global,
+    trace: &Trace,
+    config: Config,
+    limit: u32,
+    workers: u32,
+) -> Result<Ran<Run>, AllocError>
+    requires good { is_good config ≡ true }
+    requires cores { config.cores ≡ core_count trace.now }
+    requires workers { (0 < workers) × (workers ≤ 16) }
+    ensures { IfOk result (λ ran. (parts : Parts ran.machine) ×
+        IsRun None limit config trace.now ran.end (machine_of ran.machine parts)) }
+{
+    closed_machines_are_consistent();
+    let _few = trace.cores();
+    let memory = Memory::new(alloc);
+    let programs = programs_of(alloc, trace)?;
+    let ran = run_threads(rt, alloc, config, memory, programs, workers, limit, &Free)?;
+    let _rising = ran.run.records();
+    Ok(Ran {
+        machine: ran.run,
+        end: ran.end,
+    })
 }
 
 // What the report says of a run beside its records and its words.
-fn end_of(alloc: Global, trace: &Trace, ran: &Ran) -> Result<TraceEnd, AllocError>
-    ensures { IfOk result (λ end. end ≡ end_of trace.now ran.now.end ran.now.system) }
+fn end_of<M: Finished + Drop>(
+    alloc: Global,
+    trace: &Trace,
+    ran: &Ran<M>,
+) -> Result<TraceEnd, AllocError>
+    requires { (m : Machine) × M.shows ran.now.machine m }
+    ensures { IfOk result (λ end. (m : Machine) → M.shows ran.now.machine m →
+        end ≡ end_of trace.now ran.now.end m) }
 {
-    let stale = stale_hits(alloc, ran.system.records())?;
+    let stale = stale_hits(alloc, ran.machine.records())?;
     Ok(TraceEnd {
         cores: trace.cores(),
-        issued: issued_below(&ran.system, trace.cores()),
+        issued: issued_below(&ran.machine, trace.cores()),
         end: ran.end,
-        counts: ran.system.counts(),
+        counts: ran.machine.counts(),
         stale,
     })
 }
 
-// The text of the records of a run, by rising number.
-fn records_of(alloc: Global, ran: &Ran) -> Result<Vec<u8>, AllocError>
-    requires { AreComplete ran.now.system.records }
-    ensures text { IfOk result (λ text. text.items ≡ records_text ran.now.system.records) }
-    ensures stands { IfOk result (λ text. Stands text.items ran.now.system.records) }
-{
-    records_text(alloc, ran.system.records())
-}
-
 /// The text that tells a run: its report, or its records alone.
-pub(crate) fn text_of(
+pub(crate) fn text_of<M: Finished + Drop>(
     alloc: Global,
     trace: &Trace,
-    ran: &Ran,
+    ran: &Ran<M>,
     records: bool,
 ) -> Result<Vec<u8>, AllocError>
-    requires { AreComplete ran.now.system.records }
-    ensures text { IfOk result (λ text. text.items ≡
-        run_text records trace.now ran.now.end ran.now.system) }
-    ensures stands { IfOk result (λ text. records ≡ true →
-        Stands text.items ran.now.system.records) }
+    requires shows { (m : Machine) × M.shows ran.now.machine m × AreComplete m.records }
+    ensures text { IfOk result (λ text. (m : Machine) → M.shows ran.now.machine m →
+        text.items ≡ run_text records trace.now ran.now.end m) }
+    ensures stands { IfOk result (λ text. (m : Machine) → M.shows ran.now.machine m →
+        records ≡ true → Stands text.items m.records) }
 {
     if records {
-        return records_of(alloc, ran);
+        return records_text(alloc, ran.machine.records());
     }
     let end = end_of(alloc, trace, ran)?;
-    let values = values_of(alloc, trace, &ran.system)?;
-    trace_text(alloc, &end, ran.system.records(), &values)
+    let values = values_of(alloc, trace, &ran.machine)?;
+    trace_text(alloc, &end, ran.machine.records(), &values)
 }

@@ -1,29 +1,33 @@
 //! From a source with the text of a trace to a sink for its report.
 ghost use Rattle.std.specs.Prelude.{◌≡◌, ◌≢◌, IfErr, IfOk, IfSome, IsErrOf, false, true};
 ghost use Rattle.byte_streams.specs.Device.{AtEnd};
+ghost use Rattle.machine_table.specs.Machine.{Machine};
 ghost use Rattle.machine_table.specs.SetUp.{is_good};
+ghost use Rattle.record_text.specs.Text.{AreComplete};
 ghost use Rattle.report_parts.specs.Answers.{AreCounted, IsCutOff, IsReported};
 ghost use Rattle.report_parts.specs.SetUp.{config_of};
 ghost use Rattle.trace_report.specs.Refusals.{OnAccepted};
-ghost use Rattle.trace_report.specs.Reports.{HasNoReport, HasNoRun, IsTraceReport, Tells};
+ghost use Rattle.trace_report.specs.Reports.{HasNoReport, HasNoRun, IsTraceReport, Tells, TellsOf};
 ghost use Rattle.trace_report.specs.Runs.{core_count, is_all_done};
 
-use crate::one_run::{run_once, text_of};
+use crate::one_run::{Ran, run_by_policy, run_by_threads, text_of};
 use crate::texts::trace_of;
 use byte_streams::{Sink, Source};
 use interleaving_core::Config;
-use report_parts::{config_of, put_out};
+use report_parts::{Finished, config_of, limit_of, policy_of, put_out, workers_of};
 use run_ends::End;
 use run_options::TraceOptions;
 use run_results::{Done, RunError};
 use std::alloc::{AllocError, Global};
+use std::thread::Threads;
 use trace_reader::Trace;
 
 /// Reads a trace from the source, to its end if it is accepted, runs it over a memory of zeros as the options say, and
 /// writes the report of the run, or its records alone. What goes out is told of a legal history, whatever the end of
 /// the run. Read goes before Trace, that before BadConfig, and Write comes last; by an error but Write the sink is
 /// unchanged. NoMemory comes only of a text with a step to keep or a fault, or of a run on a good machine.
-pub fn run_trace<S: Source, K: Sink>(
+pub fn run_trace<R: Threads + Sync, S: Source, K: Sink>(
+    rt: &R,
     alloc: Global,
     source: &mut S,
     sink: &mut K,
@@ -54,7 +58,7 @@ pub fn run_trace<S: Source, K: Sink>(
         Ok(trace) => trace,
         Err(error) => return Err(error),
     };
-    let report = match report_of(alloc, &trace, options) {
+    let report = match report_of(rt, alloc, &trace, options) {
         Ok(report) => report,
         Err(error) => return Err(error),
     };
@@ -72,7 +76,12 @@ pub(crate) struct Report {
 }
 
 // The report on a trace, or its records.
-fn report_of(alloc: Global, trace: &Trace, options: &TraceOptions) -> Result<Report, RunError>
+fn report_of<R: Threads + Sync>(
+    rt: &R,
+    alloc: Global,
+    trace: &Trace,
+    options: &TraceOptions,
+) -> Result<Report, RunError>
     ensures report { IfOk result (λ report.
         Tells options.now trace.now report.all_done report.text.items) }
     ensures refused { IfErr result (HasNoRun options.now trace.now) }
@@ -80,14 +89,15 @@ fn report_of(alloc: Global, trace: &Trace, options: &TraceOptions) -> Result<Rep
     let Some(config) = config_of(&options.run.machine, trace.cores()) else {
         return Err(RunError::BadConfig);
     };
-    match told(alloc, trace, config, options) {
+    match told(rt, alloc, trace, config, options) {
         Ok(report) => Ok(report),
         Err(AllocError) => Err(RunError::NoMemory),
     }
 }
 
 // A run of the trace on this machine, as it is told.
-fn told(
+fn told<R: Threads + Sync>(
+    rt: &R,
     alloc: Global,
     trace: &Trace,
     config: Config,
@@ -97,8 +107,32 @@ fn told(
     requires config { config ≡ config_of options.now.run.machine (core_count trace.now) }
     ensures { IfOk result (λ report. Tells options.now trace.now report.all_done report.text.items) }
 {
-    let ran = run_once(alloc, trace, config, &options.run)?;
-    let text = text_of(alloc, trace, &ran, options.records)?;
+    let limit = limit_of(&options.run);
+    match policy_of(&options.run) {
+        Some(policy) => {
+            let ran = run_by_policy(alloc, trace, config, policy, limit)?;
+            report_on(alloc, trace, &ran, options.records)
+        }
+        None => {
+            let workers = workers_of(&options.run);
+            let ran = run_by_threads(rt, alloc, trace, config, limit, workers)?;
+            report_on(alloc, trace, &ran, options.records)
+        }
+    }
+}
+
+// What is told of a run.
+fn report_on<M: Finished + Drop>(
+    alloc: Global,
+    trace: &Trace,
+    ran: &Ran<M>,
+    records: bool,
+) -> Result<Report, AllocError>
+    requires shows { (m : Machine) × M.shows ran.now.machine m × AreComplete m.records }
+    ensures { IfOk result (λ report. (m : Machine) → M.shows ran.now.machine m →
+        TellsOf records trace.now ran.now.end m report.all_done report.text.items) }
+{
+    let text = text_of(alloc, trace, ran, records)?;
     Ok(Report {
         text,
         all_done: is_all_done(ran.end),

@@ -1,11 +1,12 @@
 //! What is told of a run beside its records: the words that its trace names, their values, and how many operations
 //! were issued.
 ghost use Rattle.std.specs.Prelude.{◌≡◌, ◌≤◌, max, length, IfOk, OnOk};
+ghost use Rattle.machine_table.specs.Machine.{Machine};
 ghost use Rattle.trace_reader.specs.Steps.{ops_of};
 ghost use Rattle.trace_report.specs.Runs.{core_count, issued_below, values_in, with_words, words_below};
 
-use interleaving_core::System;
 use physiological_order::{Memory, Op, WordAddr};
+use report_parts::Finished;
 use std::alloc::{AllocError, Global};
 use trace_reader::Trace;
 
@@ -31,41 +32,43 @@ fn words_of(alloc: Global, trace: &Trace) -> Result<Memory, AllocError>
 }
 
 // The values of words, where they stand.
-fn values_in(
+fn values_in<M: Finished>(
     alloc: Global,
-    system: &System,
+    machine: &M,
     words: &Memory,
 ) -> Result<Vec<(WordAddr, u64)>, AllocError>
-    ensures { IfOk result (λ values. values.items ≡ values_in system.now words.now) }
+    ensures { IfOk result (λ values. (m : Machine) → M.shows machine.now m →
+        values.items ≡ values_in m words.now) }
 {
     let named = words.words()?;
     let mut values = Vec::with_capacity(alloc, named.len())?;
     for entry in &named {
-        values.push((entry.0, system.coherent(entry.0)))?;
+        values.push((entry.0, machine.value(entry.0)))?;
     }
     Ok(values)
 }
 
 /// The words that the operations of a trace name, by rising address, with their values, where they stand.
-pub(crate) fn values_of(
+pub(crate) fn values_of<M: Finished>(
     alloc: Global,
     trace: &Trace,
-    system: &System,
+    machine: &M,
 ) -> Result<Vec<(WordAddr, u64)>, AllocError>
-    ensures { IfOk result (λ values. values.items ≡
-        values_in system.now (words_below trace.now (core_count trace.now))) }
+    ensures { IfOk result (λ values. (m : Machine) → M.shows machine.now m →
+        values.items ≡ values_in m (words_below trace.now (core_count trace.now))) }
 {
     let words = words_of(alloc, trace)?;
-    values_in(alloc, system, &words)
+    values_in(alloc, machine, &words)
 }
 
 /// How many operations the cores below a number were issued.
-pub(crate) fn issued_below(system: &System, cores: u32) -> u128
-    ensures { result ≡ issued_below system.now cores }
+pub(crate) fn issued_below<M: Finished>(machine: &M, cores: u32) -> u128
+    requires { (m : Machine) × M.shows machine.now m }
+    ensures { (m : Machine) → M.shows machine.now m → result ≡ issued_below m cores }
 {
     let mut issued = 0;
     for core in 0..cores {
-        issued += system.issued(core).len() as u128;
+        issued += machine.issued(core).len() as u128;
     }
     issued
 }

@@ -13,4 +13,4 @@ returns-clause-lists c = λ test config first limit runs others.
 
 pub returns-clause-refused : goal.returns-clause-refused
 returns-clause-refused c = λ test config policy limit run is ended.
-    is.state ∙ ap (λ e. state_at test e is.threads is.machine) ended
+    is.told.state ∙ ap (λ e. state_at test e is.threads is.machine) ended

@@ -31,7 +31,7 @@ returns-clause-legal c = λ options trace text line all_done legal asked reporte
     let lanes = reported.0 in
     let tells = reported.2 in
     let records = tells.machine.records in
-    let back = tells.read_back asked in
+    let back = tells.told.read_back asked in
     let told = checked.1 in
     let said = checked.4 in
     let one = c.one_text_tells_one_list.ensures in
@@ -51,5 +51,5 @@ returns-clause-accepted c = λ options trace text all_done e asked reported refu
     let tells = reported.2 in
     let records = tells.machine.records in
     let few = few_records trace reported.0 records reported.1 tells.run.legal_in_trace in
-    let back = (tells.read_back asked).1 few in
+    let back = (tells.told.read_back asked).1 few in
     no_fault trace text reported.0 records reported.1 back e refused

@@ -1,7 +1,7 @@
 use Rattle.std.proofs.Common.{◌++◌, [], ◌∷◌, ap, ap₂, ◌∙◌}
 use Rattle.machine_theorem.specs.Coherence.{coherent}
 use Rattle.report.proofs.Rows.{next_value}
-use Rattle.report.proofs.one_run.values.Goals as goal
+use Rattle.report.proofs.told.values.Goals as goal
 
 pub loop-word-preserved : goal.loop-word-preserved
 loop-word-preserved c =

@@ -1,7 +1,7 @@
 use Rattle.std.proofs.Common.{◌++◌, [], ◌∷◌, ap₂, ◌∙◌}
 use Rattle.litmus_reader.specs.TestViews.{test_of}
 use Rattle.report.proofs.Rows.{next_thread}
-use Rattle.report.proofs.one_run.start_threads.Goals as goal
+use Rattle.report.proofs.threads.start_threads.Goals as goal
 
 pub loop-thread-preserved : goal.loop-thread-preserved
 loop-thread-preserved c =

@@ -1,0 +1,14 @@
+use Rattle.std.proofs.Common.{◌≡◌, ℕ, List, None, length}
+use Rattle.std.specs.List.{AllByRecursion}
+use Rattle.litmus_reader.specs.Grammar.{IsTest}
+use Rattle.litmus_reader.specs.TestViews.{test_of}
+use Rattle.report.specs.Litmus.{HasOutcome}
+use Rattle.report.specs.Runs.{AreFrom}
+use Rattle.report.proofs.threads.threaded_runs.Given as goal
+
+abbrev pub invariant-loop : goal.invariant-loop
+invariant-loop g l =
+    (length l.runs.items ≡ l.counter)
+    × AreFrom (test_of l.fn.test.now) l.fn.config None l.fn.limit 0 l.runs.items
+    × ((text : List ℕ) → IsTest text (test_of l.fn.test.now) →
+    AllByRecursion (HasOutcome (test_of l.fn.test.now)) l.runs.items)

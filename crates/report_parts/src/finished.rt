@@ -1,0 +1,89 @@
+//! A machine after a run, whatever drove it, as reports look at it.
+ghost use Rattle.std.specs.Prelude.{◌≡◌, ℕ, List, [], slice_index_or};
+ghost use Rattle.physiological_order.specs.declared.operation.Op.{Op};
+ghost use Rattle.machine_table.specs.Machine.{Machine};
+ghost use Rattle.machine_theorem.specs.Coherence.{coherent};
+
+use interleaving_core::System;
+use machine_table::Counts;
+use mailboxes::Run;
+use physiological_order::{Op, Record, WordAddr};
+
+/// A machine after a run, of which reports tell the records and what they left.
+pub trait Finished {
+    ghost use Rattle.std.specs.Prelude.{◌≡◌, ℕ, List, [], slice_index_or};
+    ghost use Rattle.physiological_order.specs.declared.operation.Op.{Op};
+    ghost use Rattle.machine_table.specs.Machine.{Machine};
+    ghost use Rattle.machine_theorem.specs.Coherence.{coherent};
+
+    /// The machine as data.
+    ghost shows: { Self → Machine → Type 0 };
+
+    /// The records of all completed operations, by number.
+    fn records(&self) -> &[Record]
+        ensures { (m : Machine) → shows self.now m → result.now ≡ m.records };
+
+    /// The operations that a core was issued, in order. None for a core that isn't there.
+    fn issued(&self, core: u32) -> &[Op]
+        requires { (m : Machine) × shows self.now m }
+        ensures { (m : Machine) → shows self.now m → result.now ≡ slice_index_or m.issued core [] };
+
+    /// How many messages of the counted kinds were sent.
+    fn counts(&self) -> Counts
+        requires { (m : Machine) × shows self.now m }
+        ensures { (m : Machine) → shows self.now m → result ≡ m.mail.counts };
+
+    /// A word's value, where its line stands.
+    fn value(&self, addr: WordAddr) -> u64
+        ensures { (m : Machine) → shows self.now m → result ≡ coherent m addr };
+}
+
+/// A machine that events drove.
+impl Finished for System {
+    ghost use Rattle.std.specs.Prelude.{◌≡◌};
+    ghost use Rattle.machine_table.specs.Machine.{Machine};
+
+    ghost shows = { λ system m. system ≡ m };
+
+    fn records(&self) -> &[Record] {
+        System::records(self)
+    }
+
+    fn issued(&self, core: u32) -> &[Op] {
+        System::issued(self, core)
+    }
+
+    fn counts(&self) -> Counts {
+        System::counts(self)
+    }
+
+    fn value(&self, addr: WordAddr) -> u64 {
+        System::coherent(self, addr)
+    }
+}
+
+/// A machine that threads drove, after it was closed.
+impl Finished for Run {
+    ghost use Rattle.std.specs.Prelude.{◌≡◌};
+    ghost use Rattle.machine_table.specs.Machine.{Machine};
+    ghost use Rattle.mailboxes.specs.RunParts.{Parts};
+    ghost use Rattle.thread_runs.specs.ThreadRuns.{machine_of};
+
+    ghost shows = { λ run m. (parts : Parts run) × (machine_of run parts ≡ m) };
+
+    fn records(&self) -> &[Record] {
+        Run::records(self)
+    }
+
+    fn issued(&self, core: u32) -> &[Op] {
+        Run::issued(self, core)
+    }
+
+    fn counts(&self) -> Counts {
+        Run::counts(self)
+    }
+
+    fn value(&self, addr: WordAddr) -> u64 {
+        Run::value(self, addr)
+    }
+}

@@ -1,0 +1,5 @@
+mod Numbered
+mod OwnRecords
+mod Seats
+mod Served
+mod Ended

@@ -1,0 +1,65 @@
+//! A run by threads, from the opening of the machine to its end.
+ghost use Rattle.std.specs.Prelude.{◌≡◌, ◌<◌, ◌≤◌, true, length, IfOk};
+ghost use Rattle.machine_table.specs.SetUp.{is_good};
+ghost use Rattle.thread_runs.specs.ThreadRuns.{IsRunFrom};
+
+use mailboxes::{Run, open};
+use machine_table::Config;
+use physiological_order::Memory;
+use run_ends::End;
+use shared_jobs::Gate;
+use shifts::Shift;
+use std::alloc::{AllocError, Global};
+use std::thread::Threads;
+use thread_driver::drive_threads;
+use thread_driver::laws::new_seats_can_be_driven;
+use crate::laws::closed_machines_are_consistent;
+use worker_driver::program::Program;
+
+/// What comes of a run by threads: how it ended, the machine after it was closed, and the programs, in the order of
+/// their cores (docs/SCHEDULES.md).
+#[derive(Drop)]
+pub struct ThreadRun<P: Drop> {
+    pub end: End,
+    pub run: Run,
+    pub programs: Vec<P>,
+}
+
+/// Opens a machine with this memory, lets 1 to 16 workers drive its seats with at most `turn_limit` turns each, and
+/// closes it. A program a core gives it its steps. docs/SCHEDULES.md has the order of turns, and the ends. Of the run
+/// that comes of it, all is so that is so of a run by events: its records are a legal history, and so on. AllocError
+/// where there is no memory to open the machine or to close it.
+pub fn run_threads<R: Threads + Sync, P: Program + Send + Drop, G: Gate + Sync>(
+    rt: &R,
+    alloc: Global,
+    config: Config,
+    memory: Memory,
+    programs: Vec<P>,
+    workers: u32,
+    turn_limit: u32,
+    gate: &G,
+) -> Result<ThreadRun<P>, AllocError>
+    requires good { is_good config ≡ true }
+    requires programs { length programs.items ≡ config.cores }
+    requires workers { (0 < workers) × (workers ≤ 16) }
+    ensures set_up { IfOk result (λ r. (r.run.set_up.config ≡ config) ×
+        (r.run.set_up.memory ≡ memory)) }
+    ensures run { IfOk result (λ r.
+        IsRunFrom P.acts programs.items r.run r.programs.items r.end) }
+{
+    new_seats_can_be_driven();
+    closed_machines_are_consistent();
+    let Ok((machine, cores, banks)) = open(alloc, config, memory) else {
+        return Err(AllocError);
+    };
+    let Shift {
+        end,
+        cores,
+        banks,
+        programs,
+    } = drive_threads(
+        rt, alloc, &machine, cores, banks, programs, workers, turn_limit, gate,
+    );
+    let run = machine.close(alloc, cores, banks)?;
+    Ok(ThreadRun { end, run, programs })
+}

@@ -14,11 +14,11 @@ any_number = Unsigned 0 18446744073709551615
 abbrev pub up_to : ℕ → ValueParser
 up_to most = Unsigned 1 most
 
--- the word round or the word seed, and no other
+-- the word round, the word seed or the word threads, and no other
 abbrev pub NamesSchedules : ValueParser → Type 0
 NamesSchedules p =
     (names : Bor (List (Bor Text))) × (p ≡ Names names)
-    × (map (λ name. name.now) names.now ≡ codes "round" ∷ codes "seed" ∷ [])
+    × (map (λ name. name.now) names.now ≡ codes "round" ∷ codes "seed" ∷ codes "threads" ∷ [])
 
 -- --name N, which is a default where it isn't given
 abbrev pub number_rule : Text → Text → ValueParser → Rule

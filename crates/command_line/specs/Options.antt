@@ -9,7 +9,7 @@ use Rattle.run_options.specs.declared.options.LitmusOptions.{LitmusOptions}
 use Rattle.run_options.specs.declared.options.MachineOptions.{MachineOptions}
 use Rattle.run_options.specs.declared.options.RunOptions.{RunOptions}
 use Rattle.run_options.specs.declared.options.Schedule.{Schedule}
-use Rattle.run_options.specs.declared.options.Schedule.TheVariants.{Round, Seed}
+use Rattle.run_options.specs.declared.options.Schedule.TheVariants.{Round, Seed, Threads}
 use Rattle.run_options.specs.declared.options.TraceOptions.{TraceOptions}
 
 -- the text is this number in decimal, with a plus before it or without one
@@ -56,10 +56,13 @@ TellsMachine rows options =
     × IsAnyNumber rows (codes "messages") machine_default.messages options.messages
     × IsFlag rows (codes "private-write") options.private_write
 
--- the schedule is seed exactly if the word is seed; the rule of its option takes no other word but round
+-- the schedule is seed exactly if the word is seed, and threads exactly if it is threads; the rule of its option takes
+-- no other word but round
 abbrev pub IsSchedule : List Row → Text → Schedule → Type 0
 IsSchedule rows name schedule = (first_of name rows ≡ Some (codes "seed") → schedule ≡ Seed)
-    × ((first_of name rows ≡ Some (codes "seed") → ⊥) → schedule ≡ Round)
+    × (first_of name rows ≡ Some (codes "threads") → schedule ≡ Threads)
+    × ((first_of name rows ≡ Some (codes "seed") → ⊥) → (first_of name rows ≡ Some (codes "threads") → ⊥)
+    → schedule ≡ Round)
 
 -- how a run goes
 abbrev pub TellsRun : List Row → RunOptions → Type 0

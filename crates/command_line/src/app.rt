@@ -11,22 +11,26 @@ use clap::builder::ValueParser;
 use clap::{Arg, ArgAction, Command, value_parser};
 use std::alloc::{AllocError, Global};
 
-static SCHEDULES: [&str; 2] = ["round", "seed"];
+static SCHEDULES: [&str; 3] = ["round", "seed", "threads"];
 
 // What help says of each option.
 const SCHEDULE: &str =
-    "The order of events: round gives each core its turn, then each message in flight; seed draws one event a turn";
+    "The order of events: round gives each core its turn, then each message in flight; seed draws one event a turn; \
+    threads has workers drive the cores and banks of a machine that they share, so runs differ";
 
 const SEED: &str =
     "What opens the generator of schedule seed, any number of 64 bits; run i of several, counted from 0, \
     has this number plus i";
 
-const LIMIT: &str = "How many rounds a run has at most, or turns by schedule seed, 1 to 4294967295";
+const LIMIT: &str =
+    "How many rounds a run has at most, or turns by schedule seed, or turns of each core and bank by \
+    schedule threads, 1 to 4294967295";
 
 const RUNS: &str = "How often the test is run, 1 to 1000000";
 
 const WORKERS: &str =
-    "How many threads share the runs of schedule seed, 1 to 16; schedule round and a trace use one";
+    "How many threads there are, 1 to 16: they share the runs of a litmus test by schedule seed, and \
+    drive each run by schedule threads; else there is one";
 
 const PRIVATE_WRITE: &str = "Lets a core that wrote a line store to it again without a later time";
 
@@ -47,7 +51,8 @@ const BANK_WAYS: &str = "How many lines a set of a bank holds, 1 to 16";
 
 const LINE_WORDS: &str = "How many words a line has, 1 or 8";
 
-const MESSAGES: &str = "How many messages can be in flight, 1 to 65536";
+const MESSAGES: &str =
+    "How many messages can be in flight, 1 to 65536; of no effect by schedule threads";
 
 const RECORDS: &str = "Writes the records of the completed operations in place of the report";
 
@@ -76,7 +81,7 @@ fn number<'a>(
         .help(help)
 }
 
-/// The schedule, which is `round` or `seed`.
+/// The schedule, which is `round`, `seed` or `threads`.
 fn schedule<'a>(alloc: Global) -> Arg<'a>
     ensures rule { (p : _) × NamesSchedules p × (rule_of result ≡ schedule_rule p) }
     ensures local { result.global ≡ false }

@@ -45,6 +45,7 @@ fn schedule(matches: &ArgMatches<'_>, name: &str) -> Schedule
 {
     match word_of(matches, name) {
         "seed" => Schedule::Seed,
+        "threads" => Schedule::Threads,
         _ => Schedule::Round,
     }
 }

@@ -8,7 +8,7 @@ pub enum Schedule {
     Round,
     /// One event a turn, drawn by a generator that a seed opens.
     Seed,
-    /// By threads that share the machine: each gives its seats, which are the cores and banks, turns in order.
+    /// The cores and banks of a machine that threads share: each seat in turn, worker by worker.
     Threads,
 }
 
@@ -31,7 +31,8 @@ pub struct MachineOptions {
     pub bank_ways: u64,
     /// How many words a line has. A machine takes 1 or 8.
     pub line_words: u64,
-    /// How many messages can be in flight. A machine takes 1 to 65536.
+    /// How many messages can be in flight. A machine takes 1 to 65536. By schedule threads it has no effect: each seat
+    /// has places of its own.
     pub messages: u64,
     /// Whether a core that wrote a line stores to it again without a later time.
     pub private_write: bool,
@@ -59,12 +60,14 @@ pub struct RunOptions {
     /// The order of events.
     pub schedule: Schedule,
     /// What opens the generator of schedule seed, in the first of several runs: run i, counted from 0, has this number
-    /// plus i, modulo 2^64. Schedule round draws nothing.
+    /// plus i, modulo 2^64. Schedules round and threads draw nothing.
     pub seed: u64,
-    /// How many threads share the runs of a litmus test by schedule seed, 1 to 16. Schedule round uses one, whatever is
-    /// said here, and so does a trace.
+    /// How many threads there are, 1 to 16. By schedule seed they share the runs of a litmus test, and a trace uses one.
+    /// By schedule threads they drive the seats of each run, one run after the other. Schedule round uses one thread,
+    /// whatever is said here.
     pub workers: u64,
-    /// How many rounds a run has at most, or turns by schedule seed: 1 to 4294967295.
+    /// How many rounds a run has at most, or turns by schedule seed, or turns of each seat by schedule threads: 1 to
+    /// 4294967295.
     pub limit: u64,
     pub machine: MachineOptions,
 }

@@ -97,7 +97,7 @@ fn all_options(rt: HostRuntime) -> Result<(), Fail> {
 }
 
 // Words, the schedule that they name, its seed and its workers.
-const SCHEDULES: [(&[&str], Schedule, u64, u64); 8] = [
+const SCHEDULES: [(&[&str], Schedule, u64, u64); 11] = [
     (
         &["tardis", "litmus", "--schedule", "seed", "a"],
         Schedule::Seed,
@@ -159,6 +159,32 @@ const SCHEDULES: [(&[&str], Schedule, u64, u64); 8] = [
         Schedule::Seed,
         1,
         1,
+    ),
+    (
+        &["tardis", "litmus", "--schedule", "threads", "a"],
+        Schedule::Threads,
+        0,
+        1,
+    ),
+    (
+        &["tardis", "trace", "--schedule=threads", "--workers=16", "a"],
+        Schedule::Threads,
+        0,
+        16,
+    ),
+    (
+        &[
+            "tardis",
+            "litmus",
+            "--workers",
+            "4",
+            "--seed=9",
+            "a",
+            "--schedule=threads",
+        ],
+        Schedule::Threads,
+        9,
+        4,
     ),
 ];
 

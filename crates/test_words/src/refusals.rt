@@ -14,7 +14,7 @@ const TRACE: &str = "\n\nUsage: tardis trace [OPTIONS] <FILE>";
 
 const CHECK: &str = "\n\nUsage: tardis check <TRACE> <RECORDS>";
 
-const REFUSED: [(&[&str], &str, &str); 34] = [
+const REFUSED: [(&[&str], &str, &str); 36] = [
     (
         &["tardis"],
         "'tardis' requires a subcommand but one was not provided\n  [subcommands: litmus, trace, check, help]",
@@ -92,18 +92,26 @@ const REFUSED: [(&[&str], &str, &str); 34] = [
         NO_USAGE,
     ),
     (
-        &["tardis", "litmus", "--schedule", "threads", "a"],
-        "invalid value 'threads' for '--schedule <schedule>'\n  [possible values: round, seed]",
+        &["tardis", "litmus", "--schedule", "turns", "a"],
+        "invalid value 'turns' for '--schedule <schedule>'\n  [possible values: round, seed, threads]",
+        NO_USAGE,
+    ),
+    (
+        &["tardis", "trace", "--schedule", "thread", "a"],
+        "invalid value 'thread' for '--schedule <schedule>'\n  [possible values: round, seed, threads]\n\n  \
+        tip: a similar value exists: 'threads'",
         NO_USAGE,
     ),
     (
         &["tardis", "litmus", "--schedule", "rounds", "a"],
-        "invalid value 'rounds' for '--schedule <schedule>'\n  [possible values: round, seed]\n\n  tip: a similar value exists: 'round'",
+        "invalid value 'rounds' for '--schedule <schedule>'\n  [possible values: round, seed, threads]\n\n  \
+        tip: a similar value exists: 'round'",
         NO_USAGE,
     ),
     (
         &["tardis", "trace", "--schedule=Seed", "a"],
-        "invalid value 'Seed' for '--schedule <schedule>'\n  [possible values: round, seed]\n\n  tip: a similar value exists: 'seed'",
+        "invalid value 'Seed' for '--schedule <schedule>'\n  [possible values: round, seed, threads]\n\n  \
+        tip: a similar value exists: 'seed'",
         NO_USAGE,
     ),
     (
@@ -114,6 +122,11 @@ const REFUSED: [(&[&str], &str, &str); 34] = [
     (
         &["tardis", "trace", "--schedule=seed", "--workers=17", "a"],
         "invalid value '17' for '--workers <workers>': 17 is not in 1..=16",
+        NO_USAGE,
+    ),
+    (
+        &["tardis", "litmus", "--schedule=threads", "--workers=0", "a"],
+        "invalid value '0' for '--workers <workers>': 0 is not in 1..=16",
         NO_USAGE,
     ),
     (
@@ -216,14 +229,15 @@ const LITMUS_HELP: [&str; 24] = [
     "",
     "Options:",
     "      --runs <runs>              How often the test is run, 1 to 1000000 [default: 1]",
-    "      --schedule <schedule>      The order of events: round gives each core its turn, then each message in flight; \
-        seed draws one event a turn [default: round] [possible values: round, seed]",
+    "      --schedule <schedule>      The order of events: round gives each core its turn, then each message in \
+        flight; seed draws one event a turn; threads has workers drive the cores and banks of a machine that they \
+        share, so runs differ [default: round] [possible values: round, seed, threads]",
     "      --seed <seed>              What opens the generator of schedule seed, any number of 64 bits; run i of \
         several, counted from 0, has this number plus i [default: 0]",
-    "      --limit <limit>            How many rounds a run has at most, or turns by schedule seed, 1 to 4294967295 \
-        [default: 100000]",
-    "      --workers <workers>        How many threads share the runs of schedule seed, 1 to 16; schedule round and a \
-        trace use one [default: 1]",
+    "      --limit <limit>            How many rounds a run has at most, or turns by schedule seed, or turns of each \
+        core and bank by schedule threads, 1 to 4294967295 [default: 100000]",
+    "      --workers <workers>        How many threads there are, 1 to 16: they share the runs of a litmus test by \
+        schedule seed, and drive each run by schedule threads; else there is one [default: 1]",
     "      --private-write            Lets a core that wrote a line store to it again without a later time",
     "      --lease <lease>            How many ticks a lease goes past the times that it covers, 1 to 4294967296 \
         [default: 10]",
@@ -235,7 +249,8 @@ const LITMUS_HELP: [&str; 24] = [
     "      --bank-sets <bank-sets>    How many sets a bank has, 1 to 1024 [default: 256]",
     "      --bank-ways <bank-ways>    How many lines a set of a bank holds, 1 to 16 [default: 8]",
     "      --line-words <line-words>  How many words a line has, 1 or 8 [default: 1]",
-    "      --messages <messages>      How many messages can be in flight, 1 to 65536 [default: 4096]",
+    "      --messages <messages>      How many messages can be in flight, 1 to 65536; of no effect by schedule threads \
+        [default: 4096]",
     "  -h, --help                     Print help",
 ];
 
@@ -249,14 +264,15 @@ const TRACE_HELP: [&str; 24] = [
     "",
     "Options:",
     "      --records                  Writes the records of the completed operations in place of the report",
-    "      --schedule <schedule>      The order of events: round gives each core its turn, then each message in flight; \
-        seed draws one event a turn [default: round] [possible values: round, seed]",
+    "      --schedule <schedule>      The order of events: round gives each core its turn, then each message in \
+        flight; seed draws one event a turn; threads has workers drive the cores and banks of a machine that they \
+        share, so runs differ [default: round] [possible values: round, seed, threads]",
     "      --seed <seed>              What opens the generator of schedule seed, any number of 64 bits; run i of \
         several, counted from 0, has this number plus i [default: 0]",
-    "      --limit <limit>            How many rounds a run has at most, or turns by schedule seed, 1 to 4294967295 \
-        [default: 100000]",
-    "      --workers <workers>        How many threads share the runs of schedule seed, 1 to 16; schedule round and a \
-        trace use one [default: 1]",
+    "      --limit <limit>            How many rounds a run has at most, or turns by schedule seed, or turns of each \
+        core and bank by schedule threads, 1 to 4294967295 [default: 100000]",
+    "      --workers <workers>        How many threads there are, 1 to 16: they share the runs of a litmus test by \
+        schedule seed, and drive each run by schedule threads; else there is one [default: 1]",
     "      --private-write            Lets a core that wrote a line store to it again without a later time",
     "      --lease <lease>            How many ticks a lease goes past the times that it covers, 1 to 4294967296 \
         [default: 10]",
@@ -268,7 +284,8 @@ const TRACE_HELP: [&str; 24] = [
     "      --bank-sets <bank-sets>    How many sets a bank has, 1 to 1024 [default: 256]",
     "      --bank-ways <bank-ways>    How many lines a set of a bank holds, 1 to 16 [default: 8]",
     "      --line-words <line-words>  How many words a line has, 1 or 8 [default: 1]",
-    "      --messages <messages>      How many messages can be in flight, 1 to 65536 [default: 4096]",
+    "      --messages <messages>      How many messages can be in flight, 1 to 65536; of no effect by schedule threads \
+        [default: 4096]",
     "  -h, --help                     Print help",
 ];
 

@@ -1,15 +1,28 @@
-use Rattle.std.proofs.Common.{◌≡◌, ◌∙◌, Option, [], ap, codes, refl}
+use Rattle.std.proofs.Common.{◌≡◌, ◌∙◌, Option, Some, [], ap, codes, refl, sym}
 use Rattle.std.specs.Prelude.{unwrap_or}
 use Rattle.clap.specs.Words.{Text, found_of, first_of, rows_of}
 use Rattle.command_line.proofs.Numbers.{word_says}
 use Rattle.command_line.proofs.options.schedule.Goals as goal
 
 pub returns-in-seed : goal.returns-in-seed
-returns-in-seed c = (
-  λ seed. refl,
-  λ other. absurd (other (word_says (first_of c.args.name.now (rows_of (found_of c.args.matches.now)))
-      c.word_of.result.now (codes "seed") c.word_of.ensures c.in-seed.is (λ e. absurd cc))),
-)
+returns-in-seed c =
+    let first = first_of c.args.name.now (rows_of (found_of c.args.matches.now)) in
+    let is : first ≡ Some (codes "seed") =
+    word_says first c.word_of.result.now (codes "seed") c.word_of.ensures c.in-seed.is (λ e. absurd cc) in (
+      λ seed. refl,
+      λ threads. let same : Some (codes "seed") ≡ Some (codes "threads") = sym is ∙ threads in absurd cc,
+      λ other more. absurd (other is),
+    )
+
+pub returns-in-threads : goal.returns-in-threads
+returns-in-threads c =
+    let first = first_of c.args.name.now (rows_of (found_of c.args.matches.now)) in
+    let is : first ≡ Some (codes "threads") =
+    word_says first c.word_of.result.now (codes "threads") c.word_of.ensures c.in-threads.is (λ e. absurd cc) in (
+      λ seed. let same : Some (codes "threads") ≡ Some (codes "seed") = sym is ∙ seed in absurd cc,
+      λ threads. refl,
+      λ other more. absurd (more is),
+    )
 
 pub returns-in_default : goal.returns-in_default
 returns-in_default c = (
@@ -17,5 +30,9 @@ returns-in_default c = (
       let is : c.word_of.result.now ≡ codes "seed" =
       c.word_of.ensures ∙ ap (λ (o : Option Text). unwrap_or o []) seed in
       absurd (c.in_default.not-seed is),
-  λ other. refl,
+  λ threads.
+      let is : c.word_of.result.now ≡ codes "threads" =
+      c.word_of.ensures ∙ ap (λ (o : Option Text). unwrap_or o []) threads in
+      absurd (c.in_default.not-threads is),
+  λ other more. refl,
 )

@@ -24,6 +24,7 @@ from ended_runs import told_of  # noqa: E402
 from refused_drives import refused_drives  # noqa: E402
 from refused_lists import refused_lists  # noqa: E402
 from refused_seats import refused_seats  # noqa: E402
+from refused_threads import refused_threads  # noqa: E402
 
 LITMUS = TOP / "examples" / "litmus"
 TRACES = TOP / "examples" / "traces"
@@ -325,7 +326,7 @@ def text_of(lines):
 
 
 # The parts of the program, which are run if none is named; and those of the players.
-PARTS = {"growths": growths, "devices": devices, "host": host}
+PARTS = {"growths": growths, "threads": refused_threads, "devices": devices, "host": host}
 PLAYER_PARTS = {"steps": steps, "lists": refused_lists, "drives": refused_drives, "seats": refused_seats}
 
 

@@ -1,10 +1,11 @@
 #!/bin/sh
 # Runs every example and compares its report, and some refused inputs and their error lines: examples/check.sh [PROGRAM]
 # PROGRAM is a program that is built; without it the program at the top is built where it isn't, and run. The reports
-# are those of examples/oracle.py, which knows nothing of the program; the tables and error lines are by hand.
+# are those of examples/oracle.py, which knows nothing of the program; the tables and error lines are by hand. Runs by
+# threads differ from one time to the next: of their reports it is asked what every run has (examples/by_threads.py).
 #
 # The parts that are run, each a function below; PARTS names others.
-parts=${PARTS:-litmus catalogue settings refusals seeds workers traces seeded_traces verdicts trace_refusals}
+parts=${PARTS:-litmus catalogue settings refusals seeds workers threads traces seeded_traces verdicts trace_refusals}
 
 top=$(CDPATH='' cd -- "$(dirname -- "$0")/.." && pwd) || exit 1
 tardis=${1:-$top/tardis}
@@ -121,6 +122,132 @@ workers() {
     text=$examples/traces/SEED-LOCK.trace
     # shellcheck disable=SC2046
     told "SEED-LOCK.trace by 4 workers" 0 "${text%.trace}.report" /dev/null trace $(options_of "$text") --workers 4 "$text"
+}
+
+# by_threads COMMAND WORDS..: the program runs by schedule threads. Its standard output is $work/out, its status $got.
+by_threads() {
+    command=$1
+    shift
+    "$tardis" "$command" --schedule threads "$@" >"$work/out" 2>"$work/err"
+    got=$?
+    good=yes
+    [ ! -s "$work/err" ] || { cat "$work/err"; good=no; }
+}
+
+# must TEXT TEST..: the test is so; otherwise the text says what isn't.
+must() {
+    text=$1
+    shift
+    "$@" || { echo "$text"; good=no; }
+}
+
+# The number behind a word in what was printed; whether a line is there; and the lines of the end states.
+number_of() {
+    sed -n "s/^$1 //p" "$work/out"
+}
+
+has() {
+    grep -qxF -e "$1" "$work/out"
+}
+
+states() {
+    sed -e '1,/^states /d' -e '/^condition /,$d' "$work/out"
+}
+
+# Whether all runs are all done, as the status says it; and whether each end state is one of three.
+has_status_of() {
+    wanted=1
+    if has "all-done $1"; then wanted=0; fi
+    [ "$got" -eq "$wanted" ]
+}
+
+are_three() {
+    ! states | grep -qvxE '[1-9][0-9]* (0:x7=0 1:x7=1|0:x7=1 1:x7=0|0:x7=1 1:x7=1)'
+}
+
+# In store buffering no run ends with both loads 0. For a load that is 1 the store's owner wrote its line back. One
+# worker gives all turns in one order, so that its runs are alike.
+buffering_by_threads() {
+    for number in 1 2 4; do
+        name="SB by threads, $number workers"
+        by_threads litmus --runs 50 --workers "$number" "$examples/litmus/SB.litmus"
+        for line in 'test SB' 'runs 50' 'stalled 0' 'memory 0' 'held 0' 'verdict no'; do
+            must "$name: no line '$line'" has "$line"
+        done
+        must "$name: too few write-backs" [ "$(number_of write-backs)" -ge "$(number_of all-done)" ]
+        must "$name: another end state" are_three
+        must "$name: status $got" has_status_of 50
+        [ "$number" -gt 1 ] || must "$name: not all done" has 'all-done 50'
+        count "$good"
+    done
+}
+
+# Seats have places of their own, so that one message in flight is no limit: by rounds both runs stall.
+one_message_by_threads() {
+    name="SB by threads, messages 1"
+    by_threads litmus --messages 1 "$examples/litmus/SB.litmus"
+    must "$name: not all done" has 'all-done 1'
+    must "$name: stalled" has 'stalled 0'
+    must "$name: status $got" [ "$got" -eq 0 ]
+    count "$good"
+    printf '%s\n' 'cores 1' 'issued 1' 'completed 1' 'end all-done' 'loads 1' 'stores 0' 'swaps 0' 'renewals 0' \
+        'upgrades 0' 'flushes 0' 'write-backs 0' 'stale-hits 0' 'order legal' 'word 0x0 0' >"$work/wanted"
+    told "ONE-MESSAGE by threads" 0 "$work/wanted" /dev/null trace --schedule threads --messages 1 \
+        "$examples/traces/ONE-MESSAGE.trace"
+}
+
+# Each test of the catalogue: the end states are some of those of examples/sequential.py, and nothing stalls. By one
+# worker all runs are all done, and alike.
+tests_by_threads() {
+    for file in "$examples"/litmus/*.litmus; do
+        for number in 1 2; do
+            name="${file##*/} by threads, $number workers"
+            by_threads litmus --runs 20 --workers "$number" "$file"
+            must "$name: that can't be" "$examples/by_threads.py" litmus "$file" 20 "$got" "$work/out"
+            if [ "$number" -eq 1 ]; then
+                must "$name: not all done" has 'all-done 20'
+                must "$name: not alike" has 'states 1'
+            fi
+            count "$good"
+        done
+    done
+}
+
+# trace_by_threads TRACE WORKERS: its records are legal, and the report's numbers agree with the trace. By one worker
+# the report and the records are of runs that are alike.
+trace_by_threads() {
+    name="${1##*/} by threads, $2 workers"
+    words="$(options_of "$1" | sed -e 's/--schedule seed//' -e 's/--seed [0-9]*//') --workers $2"
+    # shellcheck disable=SC2086
+    by_threads trace --records $words "$1"
+    must "$name: such records can't be" "$examples/by_threads.py" records "$1" "$got" "$work/out"
+    count "$good"
+    mv "$work/out" "$work/records"
+    told "$name: check" 0 "$work/legal" /dev/null check "$1" "$work/records"
+    # shellcheck disable=SC2086
+    by_threads trace $words "$1"
+    name="${1##*/} by threads, $2 workers"
+    must "$name: that can't be" "$examples/by_threads.py" trace "$1" "$got" "$work/out"
+    if [ "$2" -eq 1 ]; then
+        must "$name: not what its records say" "$examples/by_threads.py" same "$1" "$work/out" "$work/records"
+        case $words in
+            *[!\ ]*--workers*) ;;
+            *) must "$name: not all done" has 'end all-done' ;;
+        esac
+    fi
+    count "$good"
+}
+
+threads() {
+    buffering_by_threads
+    one_message_by_threads
+    tests_by_threads
+    echo legal >"$work/legal"
+    for file in "$examples"/traces/*.trace; do
+        for number in 1 2 4; do
+            trace_by_threads "$file" "$number"
+        done
+    done
 }
 
 refusals() {

@@ -62,6 +62,7 @@ fn options_that_change_the_report(rt: HostRuntime) {
 fn options_that_leave_the_report(rt: HostRuntime) {
     for option in [
         "--schedule=round",
+        "--schedule=threads",
         "--workers=16",
         "--lease=1",
         "--banks=2",
@@ -75,6 +76,18 @@ fn options_that_leave_the_report(rt: HostRuntime) {
         let told = told(&rt, rt.alloc(), &["tardis", "litmus", option, NAME]);
         assert_eq!(rt; told.status, 0, "{option}");
         assert!(rt; told.out.as_slice() == STORE_REPORT, "{option}");
+    }
+}
+
+// Nothing is drawn by threads, and seats have places of their own for messages. One worker gives all turns.
+#[test]
+fn options_without_effect_by_threads(rt: HostRuntime) {
+    for option in ["--seed=9", "--messages=1"] {
+        let words = ["tardis", "litmus", "--schedule=threads", option, NAME];
+        let told = told(&rt, rt.alloc(), &words);
+        assert_eq!(rt; told.status, 0, "{option}");
+        assert!(rt; told.out.as_slice() == STORE_REPORT, "{option}");
+        assert_eq!(rt; told.errors.len(), 0, "{option}");
     }
 }
 

@@ -1,0 +1,184 @@
+#!/usr/bin/env python3
+"""Says what can't be so in what a run by threads printed, and fails if there is something.
+
+    examples/by_threads.py litmus TEST RUNS STATUS REPORT       a test's report of so many runs
+    examples/by_threads.py trace TRACE STATUS REPORT            a trace's report
+    examples/by_threads.py records TRACE STATUS RECORDS         a trace's records
+    examples/by_threads.py same TRACE REPORT RECORDS            both of the same run, as one worker's runs are
+
+Runs by threads differ from one time to the next, so nothing here is asked that only some run has. STATUS is the exit
+status. The ends of a test are those of sequential.py; texts are read by the parts of oracle.py. Memory must be found:
+a run that ended for want of it is told as a fault.
+"""
+import re
+import sys
+from pathlib import Path
+
+import sequential
+from expected import options_of
+from reference import order
+from reference.litmus import Test
+from reference.reports import ENDS, Batch
+from reference.schedules import ADVANCE
+from reference.traces import Fault, Trace, read_records
+
+KINDS = ("load", "store", "swap")
+COUNTED = ("renewals", "upgrades", "flushes", "write-backs", "stale-hits")
+
+
+class Lines:
+    """The lines of a text, taken from the front. A line that has another form is a ValueError."""
+
+    def __init__(self, text):
+        self.left = text.split("\n")
+        if self.left.pop():
+            raise ValueError("the last line has no line feed")
+
+    def take(self, name):
+        """What stands behind this word and one space in the next line."""
+        line = self.left.pop(0) if self.left else ""
+        if not line.startswith(name + " "):
+            raise ValueError(f"'{name} ..' wanted, '{line}' is there")
+        return line[len(name) + 1:]
+
+    def number(self, name):
+        return number_of(self.take(name))
+
+    def state(self):
+        """How often an end state was met, and its values."""
+        count, *values = self.left.pop(0).split(" ")
+        return number_of(count), tuple((name, number_of(value)) for name, value in (pair.split("=") for pair in values))
+
+
+def number_of(word):
+    """A decimal number without leading zeros."""
+    if not re.fullmatch("0|[1-9][0-9]*", word):
+        raise ValueError(f"'{word}' is no number")
+    return int(word)
+
+
+def read_batch(test, text):
+    """The batch that a report tells; the lines that follow from others are left out."""
+    batch, lines = Batch(test), Lines(text)
+    lines.take("test")
+    lines.take("threads")
+    batch.runs = lines.number("runs")
+    batch.ends = {end: lines.number(end) for end in ENDS}
+    for _ in range(lines.number("states")):
+        count, values = lines.state()
+        batch.states[values] = count
+    for name in ("condition", "held", "verdict"):
+        lines.take(name)
+    batch.sums = {name: lines.number(name) for name in ("completed", *COUNTED)}
+    return batch
+
+
+def litmus_faults(path, runs, status, text):
+    test = Test(path.read_text(encoding="ascii"))
+    batch = read_batch(test, text)
+    if batch.text() != text:
+        yield f"its other lines say\n{batch.text()}"
+    if batch.runs != runs or sum(batch.ends.values()) != runs:
+        yield f"not {runs} runs, each with one end"
+    yield from (f"{batch.ends[end]} runs end {end}" for end in ("stalled", "exhausted", "memory") if batch.ends[end])
+    all_done = batch.ends["all-done"]
+    if sum(batch.states.values()) != all_done or not all(batch.states.values()):
+        yield "the end states aren't those of the runs that are all done"
+    possible = sequential.ends_of(test)
+    yield from (f"no interleaving ends with {sequential.text_of(end)}" for end in batch.states if end not in possible)
+    operations = sum(kind in KINDS for code in test.threads for kind, *_ in code)
+    if not all_done * operations <= batch.sums["completed"] <= runs * operations - (runs - all_done):
+        yield f"{batch.sums['completed']} operations can't have completed"
+    yield from status_faults(status, all_done == runs)
+
+
+def status_faults(status, is_all_done):
+    if status != (0 if is_all_done else 1):
+        yield f"status {status}"
+
+
+def trace_faults(path, status, text):
+    trace, lines = Trace(path.read_bytes()), Lines(text)
+    operations = [op for ops in trace.issued() for op in ops]
+    if lines.number("cores") != trace.cores:
+        yield f"not {trace.cores} cores"
+    issued, completed, end = lines.number("issued"), lines.number("completed"), lines.take("end")
+    ends = ["all-done", "limit"] + ["exhausted"] * ("--time" in options_of(path))
+    if end not in ends:
+        yield f"end {end}"
+    kinds = {kind: lines.number(kind + "s") for kind in KINDS}
+    wanted = {kind: sum(op[0] == kind for op in operations) for kind in KINDS}
+    if sum(kinds.values()) != completed or any(kinds[kind] > wanted[kind] for kind in KINDS):
+        yield f"not {completed} of the trace's operations completed"
+    if not completed <= issued <= min(len(operations), completed + trace.cores):
+        yield f"{issued} operations can't have been issued"
+    if end == "all-done" and not issued == completed == len(operations):
+        yield "all done, and not every operation"
+    for name in COUNTED:
+        lines.number(name)
+    if lines.take("order") != "legal":
+        yield "the order isn't legal"
+    yield from word_faults(trace, end == "all-done", lines)
+    yield from status_faults(status, end == "all-done")
+
+
+def word_faults(trace, is_all_done, lines):
+    """Of each word that is named, in rising order: what completed operations can leave there."""
+    for word in trace.words():
+        value = lines.number(f"word {8 * word:#x}")
+        written = [[op[2] for op in ops if op[1] == word and op[0] != "load"] for ops in trace.issued()]
+        if is_all_done:  # what is left was written by the last operation of its core that writes there
+            possible = {values[-1] for values in written if values} or {0}
+        else:
+            possible = {0}.union(*written)
+        if value not in possible:
+            yield f"word {8 * word:#x} can't have {value}"
+    if lines.left:
+        yield f"the line '{lines.left[0]}' is too much"
+
+
+def record_faults(path, status, text):
+    """Records are in rising order, and all there if the run is all done. Whether they are legal is for `check`."""
+    trace, records = Trace(path.read_bytes()), read_records(text.encode("ascii"))
+    if [record.number for record in records] != list(range(len(records))):
+        yield "not in the order of their numbers"
+    missing = sum(map(len, trace.issued())) - len(records)
+    has_advances = any(step == ADVANCE for steps in trace.steps for step in steps)
+    if missing < 0 or status == 0 and missing or status == 1 and not missing and not has_advances:
+        yield f"status {status}, and {missing} records are missing"
+    if status not in (0, 1):
+        yield f"status {status}"
+
+
+def same_faults(path, report, text):
+    """What a report says of the records of its own run."""
+    trace, lines, records = Trace(path.read_bytes()), report.splitlines(), read_records(text.encode("ascii"))
+    memory, kinds = order.end_memory({}, records), [record.kind for record in records]
+    wanted = [f"completed {len(records)}", *(f"{kind}s {kinds.count(kind)}" for kind in KINDS),
+              f"stale-hits {order.stale_hits(records)}", f"order {order.check({}, trace.issued(), records)}",
+              *(f"word {8 * word:#x} {memory.get(word, 0)}" for word in trace.words())]
+    yield from (f"the records say '{line}'" for line in wanted if line not in lines)
+
+
+def faults(kind, path, *given):
+    *numbers, last = given
+    text = Path(last).read_text(encoding="ascii")
+    if kind == "same":
+        return list(same_faults(path, Path(numbers[0]).read_text(encoding="ascii"), text))
+    of = {"litmus": litmus_faults, "trace": trace_faults, "records": record_faults}[kind]
+    return list(of(path, *map(int, numbers), text))
+
+
+def main(given):
+    if len(given) < 4:
+        return __doc__
+    try:
+        found = faults(given[0], Path(given[1]), *given[2:])
+    except (Fault, IndexError, ValueError) as error:
+        found = [f"another form: {error}"]
+    print("".join(fault + "\n" for fault in found), end="")
+    return int(bool(found))
+
+
+if __name__ == "__main__":
+    sys.exit(main(sys.argv[1:]))

@@ -1,12 +1,9 @@
 -- How a run by threads ends, said of the machine that the closed one shows.
-use Rattle.std.proofs.Common.{◌≡◌, ◌≢◌, ◌⊎◌, inl, inr, ℕ, ◌<◌, List, length, map, Option, Some, None, sym, ap, ◌∙◌, arith}
-use Rattle.std.specs.Prelude.{slice_get}
+use Rattle.std.proofs.Common.{◌≡◌, ◌≢◌, ◌⊎◌, inl, inr, ◌<◌, List, length, map, Option, sym, ap, ◌∙◌, arith}
 use Rattle.std.proofs.lemmas.Option.{slice_get_within}
-use Rattle.interleaving_core.specs.LookUps.{open_op}
 use Rattle.run_ends.specs.declared.ends.End.{End}
 use Rattle.run_ends.specs.declared.ends.End.TheVariants as end
-use Rattle.trace_lines.specs.declared.steps.Step.{Step}
-use Rattle.worker_driver.specs.Acts.{Acts, next_in, next_of}
+use Rattle.worker_driver.specs.Acts.{Acts, next_of}
 use Rattle.mailboxes.specs.declared.machine.Machine.{Machine}
 use Rattle.mailboxes.specs.declared.core_seat.CoreSeat.{CoreSeat}
 use Rattle.mailboxes.specs.declared.bank_seat.BankSeat.{BankSeat}
@@ -19,10 +16,10 @@ use Rattle.thread_runs.proofs.Seats.{none_left, none_open}
 use Rattle.thread_runs.proofs.Served.{there}
 
 not_done : {A : Type 0} (e : End) → e ≡ end.NoMemory → e ≡ end.AllDone → A
-not_done e no done = (let both : end.NoMemory ≡ end.AllDone = sym no ∙ done in absurd cc)
+not_done e lacks done = (let both : end.NoMemory ≡ end.AllDone = sym lacks ∙ done in absurd cc)
 
 not_stalled : {A : Type 0} (e : End) → e ≡ end.NoMemory → e ≡ end.Stalled → A
-not_stalled e no stalled = (let both : end.NoMemory ≡ end.Stalled = sym no ∙ stalled in absurd cc)
+not_stalled e lacks stalled = (let both : end.NoMemory ≡ end.Stalled = sym lacks ∙ stalled in absurd cc)
 
 module _ {P : Type 0} (acts : Acts P) (m : Machine) (run : Run) (parts : Parts run) (ended : List CoreSeat)
     (after : List P) (order : AreCoresInOrder m ended) (all : length ended ≡ run.set_up.config.cores)

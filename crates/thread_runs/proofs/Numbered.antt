@@ -1,11 +1,8 @@
 -- The parts of a machine in lists, and those of a machine as it opens.
-use Rattle.std.proofs.Common.{◌≡◌, ℕ, zero, suc, ◌<◌, ◌≤◌, List, [], Some, None, replicate, refl, arith}
+use Rattle.std.proofs.Common.{◌≡◌, ℕ, zero, suc, ◌<◌, ◌≤◌, List, [], Some, replicate, refl, arith}
 use Rattle.std.specs.Prelude.{slice_get, slice_index_or}
 use Rattle.physiological_order.specs.declared.operation.Op.{Op}
-use Rattle.machine_table.specs.declared.config.Config.{Config}
-use Rattle.machine_table.specs.Opening.{cores_from}
 use Rattle.machine_moves.specs.States.{first}
-use Rattle.interleaving_core.specs.LookUps.{open_op_of}
 
 module _ {X : Type 0} where
   pub first_at : (f : ℕ → X) (n k : ℕ) → k < n → slice_get (first f n) k ≡ Some (f k)

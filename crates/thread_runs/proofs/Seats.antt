@@ -1,5 +1,5 @@
 -- The seats of a closed machine: what the machine that it shows has of each.
-use Rattle.std.proofs.Common.{◌≡◌, ℕ, ◌+◌, ◌<◌, List, [], map, Option, Some, None, IfSome, refl, sym, ap, ◌∙◌, subst, arith}
+use Rattle.std.proofs.Common.{◌≡◌, ℕ, ◌<◌, List, [], map, Option, Some, None, IfSome, refl, sym, ap, ◌∙◌, subst}
 use Rattle.std.specs.Prelude.{slice_get, option_map, Bool}
 use Rattle.std.proofs.lemmas.Option.{slice_get-map}
 use Rattle.physiological_order.specs.declared.operation.Op.{Op}
@@ -27,20 +27,23 @@ pub new_records : (m : Machine) (j : ℕ) (p : CoreSeat) → IsNewCore m j p →
 new_records m j p is = sym p.tied.records ∙ ap (λ (a : Hold). a.records) is.2
 
 -- an open operation, as it is looked up
+abbrev with_request : Bool → Op → Op × Bool
+with_request is_out op = (op, is_out)
+
 is_ahead : (o : Option Op) (is_out : Bool) (next : Option Step) → IfSome o (λ op. next ≡ Some (step.Op op)) →
-    IfSome (option_map (λ op. (op, is_out)) o) (λ x. next ≡ Some (step.Op x.0))
+    IfSome (option_map (with_request is_out) o) (λ x. next ≡ Some (step.Op x.0))
 is_ahead None is_out next is = tt
 is_ahead (Some op) is_out next is = is
 
-nothing_open : (o : Option Op) (is_out : Bool) → o ≡ None → option_map (λ op. (op, is_out)) o ≡ None
+nothing_open : (o : Option Op) (is_out : Bool) → o ≡ None → option_map (with_request is_out) o ≡ None
 nothing_open None is_out is = refl
 nothing_open (Some op) is_out is = absurd cc
 
-nothing_there : (o : Option Op) (is_out : Bool) → option_map (λ op. (op, is_out)) o ≡ None → o ≡ None
+nothing_there : (o : Option Op) (is_out : Bool) → option_map (with_request is_out) o ≡ None → o ≡ None
 nothing_there None is_out is = refl
 nothing_there (Some op) is_out is = absurd cc
 
-listed_open : (o : Option Op) (is_out : Bool) → listed o ≡ still_open (option_map (λ op. (op, is_out)) o)
+listed_open : (o : Option Op) (is_out : Bool) → listed o ≡ still_open (option_map (with_request is_out) o)
 listed_open None is_out = refl
 listed_open (Some op) is_out = refl
 

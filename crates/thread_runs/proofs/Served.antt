@@ -1,26 +1,26 @@
 -- The cores of a closed machine were issued what their programs gave.
-use Rattle.std.proofs.Common.{◌≡◌, ℕ, zero, suc, ◌+◌, ◌<◌, ◌≤◌, List, [], ◌∷◌, ◌++◌, length, map, Some, None, IfSome}
+use Rattle.std.proofs.Common.{◌≡◌, ℕ, zero, suc, ◌+◌, ◌<◌, List, [], ◌∷◌, ◌++◌, length, map, Some, IfSome}
 use Rattle.std.proofs.Common.{refl, sym, ap, ◌∙◌, subst, arith}
 use Rattle.std.specs.List.{AllByRecursion}
 use Rattle.trace_lines.specs.declared.steps.Step.TheVariants as step
 use Rattle.std.specs.Prelude.{slice_get, slice_index_or}
-use Rattle.std.proofs.lemmas.Option.{slice_get-get_or}
 use Rattle.physiological_order.specs.declared.operation.Op.{Op}
 use Rattle.physiological_order.specs.declared.operation.Record.{Record}
 use Rattle.physiological_order.specs.Order.{Follows, of_core}
+use Rattle.machine_table.specs.Machine as machine
 use Rattle.machine_table.specs.Machine.{operation_of}
 use Rattle.machine_table.specs.Opening.{at_start}
 use Rattle.machine_theorem.specs.Consistency.{IsConsistent}
 use Rattle.protocol.specs.Issued.{listed}
 use Rattle.interleaving_core.specs.LookUps.{open_op}
 use Rattle.worker_driver.specs.Acts.{Acts}
-use Rattle.worker_driver.specs.Service.{AreServed, IsServed, Performs, still_open}
+use Rattle.worker_driver.specs.Service.{AreServed, Performs, still_open}
 use Rattle.mailboxes.specs.declared.machine.Machine.{Machine}
 use Rattle.mailboxes.specs.declared.core_seat.CoreSeat.{CoreSeat}
 use Rattle.mailboxes.specs.declared.run.Run.{Run}
 use Rattle.mailboxes.specs.Remains.{core_part}
 use Rattle.mailboxes.specs.RunParts.{Parts}
-use Rattle.mailboxes.specs.Seats.{AllNewCores, IsNewCore}
+use Rattle.mailboxes.specs.Seats.{AllNewCores}
 use Rattle.shifts.specs.Shifts as shifts
 use Rattle.thread_runs.specs.ThreadRuns.{machine_of}
 use Rattle.thread_runs.proofs.Numbered.{index_past, nothing_issued}
@@ -38,7 +38,7 @@ module _ {P : Type 0} (acts : Acts P) (m : Machine) (run : Run) (parts : Parts r
     (order : shifts.AreCoresInOrder m ended) (all : length ended ≡ run.set_up.config.cores)
     (programs : length before ≡ length cores) (served : shifts.AreServed acts cores before ended after)
     (left : run.cores.items ≡ map core_part ended) (consistent : IsConsistent (machine_of run parts)) where
-  abbrev pub start : _
+  abbrev start : machine.Machine
   start = at_start run.set_up.config run.set_up.memory
 
   -- no core that isn't there has a record

@@ -3,8 +3,9 @@ ghost use Rattle.std.specs.Prelude.{◌≡◌, ◌<◌, ◌≤◌, true, length,
 ghost use Rattle.machine_table.specs.SetUp.{is_good};
 ghost use Rattle.thread_runs.specs.ThreadRuns.{IsRunFrom};
 
-use mailboxes::{Run, open};
+use crate::laws::closed_machines_are_consistent;
 use machine_table::Config;
+use mailboxes::{Run, open};
 use physiological_order::Memory;
 use run_ends::End;
 use shared_jobs::Gate;
@@ -13,7 +14,6 @@ use std::alloc::{AllocError, Global};
 use std::thread::Threads;
 use thread_driver::drive_threads;
 use thread_driver::laws::new_seats_can_be_driven;
-use crate::laws::closed_machines_are_consistent;
 use worker_driver::program::Program;
 
 /// What comes of a run by threads: how it ended, the machine after it was closed, and the programs, in the order of

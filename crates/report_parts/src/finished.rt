@@ -8,6 +8,7 @@ use interleaving_core::System;
 use machine_table::Counts;
 use mailboxes::Run;
 use physiological_order::{Op, Record, WordAddr};
+use thread_runs::laws::closed_machines_list_what_was_issued;
 
 /// A machine after a run, of which reports tell the records and what they left.
 pub trait Finished {
@@ -76,6 +77,7 @@ impl Finished for Run {
     }
 
     fn issued(&self, core: u32) -> &[Op] {
+        closed_machines_list_what_was_issued();
         Run::issued(self, core)
     }
 

@@ -1,6 +1,7 @@
 //! A machine after a run, whatever drove it, as reports look at it.
 ghost use Rattle.std.specs.Prelude.{◌≡◌, ℕ, List, [], slice_index_or};
 ghost use Rattle.physiological_order.specs.declared.operation.Op.{Op};
+ghost use Rattle.physiological_order.specs.StaleHits.{RisesByNumber};
 ghost use Rattle.machine_table.specs.Machine.{Machine};
 ghost use Rattle.machine_theorem.specs.Coherence.{coherent};
 
@@ -14,6 +15,7 @@ use thread_runs::laws::closed_machines_list_what_was_issued;
 pub trait Finished {
     ghost use Rattle.std.specs.Prelude.{◌≡◌, ℕ, List, [], slice_index_or};
     ghost use Rattle.physiological_order.specs.declared.operation.Op.{Op};
+    ghost use Rattle.physiological_order.specs.StaleHits.{RisesByNumber};
     ghost use Rattle.machine_table.specs.Machine.{Machine};
     ghost use Rattle.machine_theorem.specs.Coherence.{coherent};
 
@@ -22,7 +24,8 @@ pub trait Finished {
 
     /// The records of all completed operations, by number.
     fn records(&self) -> &[Record]
-        ensures { (m : Machine) → shows self.now m → result.now ≡ m.records };
+        ensures records { (m : Machine) → shows self.now m → result.now ≡ m.records }
+        ensures rising { (m : Machine) → shows self.now m → RisesByNumber result.now };
 
     /// The operations that a core was issued, in order. None for a core that isn't there.
     fn issued(&self, core: u32) -> &[Op]

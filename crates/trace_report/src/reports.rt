@@ -1,11 +1,11 @@
 //! From a source with the text of a trace to a sink for its report.
-ghost use Rattle.std.specs.Prelude.{◌≡◌, ◌≢◌, IfErr, IfOk, IfSome, IsErrOf, false, true};
+ghost use Rattle.std.specs.Prelude.{◌≡◌, ◌≢◌, IfErr, IfOk, IfSome, IsErrOf, None, Some, false, true};
 ghost use Rattle.byte_streams.specs.Device.{AtEnd};
 ghost use Rattle.machine_table.specs.Machine.{Machine};
 ghost use Rattle.machine_table.specs.SetUp.{is_good};
 ghost use Rattle.record_text.specs.Text.{AreComplete};
 ghost use Rattle.report_parts.specs.Answers.{AreCounted, IsCutOff, IsReported};
-ghost use Rattle.report_parts.specs.SetUp.{config_of};
+ghost use Rattle.report_parts.specs.SetUp.{config_of, policy_of};
 ghost use Rattle.trace_report.specs.Refusals.{OnAccepted};
 ghost use Rattle.trace_report.specs.Reports.{HasNoReport, HasNoRun, IsTraceReport, Tells, TellsOf};
 ghost use Rattle.trace_report.specs.Runs.{core_count, is_all_done};
@@ -21,6 +21,7 @@ use run_results::{Done, RunError};
 use std::alloc::{AllocError, Global};
 use std::thread::Threads;
 use trace_reader::Trace;
+use worker_driver::Policy;
 
 /// Reads a trace from the source, to its end if it is accepted, runs it over a memory of zeros as the options say, and
 /// writes the report of the run, or its records alone. What goes out is told of a legal history, whatever the end of
@@ -107,18 +108,45 @@ fn told<R: Threads + Sync>(
     requires config { config ≡ config_of options.now.run.machine (core_count trace.now) }
     ensures { IfOk result (λ report. Tells options.now trace.now report.all_done report.text.items) }
 {
-    let limit = limit_of(&options.run);
     match policy_of(&options.run) {
-        Some(policy) => {
-            let ran = run_by_policy(alloc, trace, config, policy, limit)?;
-            report_on(alloc, trace, &ran, options.records)
-        }
-        None => {
-            let workers = workers_of(&options.run);
-            let ran = run_by_threads(rt, alloc, trace, config, limit, workers)?;
-            report_on(alloc, trace, &ran, options.records)
-        }
+        Some(policy) => told_by_policy(alloc, trace, config, policy, options),
+        None => told_by_threads(rt, alloc, trace, config, options),
     }
+}
+
+// A run of the trace by a policy, as it is told.
+fn told_by_policy(
+    alloc: Global,
+    trace: &Trace,
+    config: Config,
+    policy: Policy,
+    options: &TraceOptions,
+) -> Result<Report, AllocError>
+    requires good { is_good config ≡ true }
+    requires config { config ≡ config_of options.now.run.machine (core_count trace.now) }
+    requires policy { policy_of options.now.run ≡ Some policy }
+    ensures { IfOk result (λ report. Tells options.now trace.now report.all_done report.text.items) }
+{
+    let ran = run_by_policy(alloc, trace, config, policy, limit_of(&options.run))?;
+    report_on(alloc, trace, &ran, options.records)
+}
+
+// A run of the trace by threads, as it is told.
+fn told_by_threads<R: Threads + Sync>(
+    rt: &R,
+    alloc: Global,
+    trace: &Trace,
+    config: Config,
+    options: &TraceOptions,
+) -> Result<Report, AllocError>
+    requires good { is_good config ≡ true }
+    requires config { config ≡ config_of options.now.run.machine (core_count trace.now) }
+    requires policy { policy_of options.now.run ≡ None }
+    ensures { IfOk result (λ report. Tells options.now trace.now report.all_done report.text.items) }
+{
+    let (limit, workers) = (limit_of(&options.run), workers_of(&options.run));
+    let ran = run_by_threads(rt, alloc, trace, config, limit, workers)?;
+    report_on(alloc, trace, &ran, options.records)
 }
 
 // What is told of a run.

@@ -36,7 +36,7 @@ returns-clause-run g c =
       threads = ran.programs.items;
       led = (
         c.in_ok-ran.ensures.set_up.0,
-        c.in_ok-ran.ensures.set_up.1 ∙ c.in_ok-memory.ensures,
+        c.in_ok-ran.ensures.set_up.1 ∙ c.in_ok-memory.ensures.memory,
         subst (λ e. IsThreadRun thread_acts (threads_from test 0 test.threads) m ran.programs.items e) (sym told.0)
             run_is,
       );
@@ -51,7 +51,7 @@ returns-clause-outcome g c =
     let m : Machine = machine_of ran.run is.parts in
     let config_is : m.config ≡ c.args.config = c.in_ok-ran.ensures.set_up.0 in
     let opened : m.opening ≡ words_opened test.items empty =
-    c.in_ok-ran.ensures.set_up.1 ∙ c.in_ok-memory.ensures in
+    c.in_ok-ran.ensures.set_up.1 ∙ c.in_ok-memory.ensures.memory in
     let served = subst (λ ws. AreServed thread_acts (at_start m.config ws) m (threads_from test 0 test.threads)
     ran.programs.items) opened
     (subst (λ (ts : List Thread). AreServed thread_acts (at_start m.config m.opening) m ts ran.programs.items)

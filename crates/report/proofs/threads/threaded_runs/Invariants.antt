@@ -9,6 +9,6 @@ use Rattle.report.proofs.threads.threaded_runs.Given as goal
 abbrev pub invariant-loop : goal.invariant-loop
 invariant-loop g l =
     (length l.runs.items ≡ l.counter)
-    × AreFrom (test_of l.fn.test.now) l.fn.config None l.fn.limit 0 l.runs.items
-    × ((text : List ℕ) → IsTest text (test_of l.fn.test.now) →
-    AllByRecursion (HasOutcome (test_of l.fn.test.now)) l.runs.items)
+    × AreFrom (test_of l.fn.test) l.fn.config None l.fn.limit 0 l.runs.items
+    × ((text : List ℕ) → IsTest text (test_of l.fn.test) →
+    AllByRecursion (HasOutcome (test_of l.fn.test)) l.runs.items)

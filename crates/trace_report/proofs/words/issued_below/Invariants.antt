@@ -5,5 +5,5 @@ use Rattle.trace_report.proofs.words.issued_below.Given as goal
 
 abbrev pub invariant-loop-core : goal.invariant-loop-core
 invariant-loop-core g l =
-    ((m : Machine) → g.M.Finished.shows l.machine.now m → l.issued ≡ issued_below m l.core)
+    ((m : Machine) → g.M.Finished.shows l.machine m → l.issued ≡ issued_below m l.core)
     × (l.issued ≤ l.core * 2 ^ 64)

@@ -44,10 +44,13 @@ class Lines:
     def number(self, name):
         return number_of(self.take(name))
 
-    def state(self):
-        """How often an end state was met, and its values."""
+    def state(self, names):
+        """How often an end state was met, and the values of these names."""
         count, *values = self.left.pop(0).split(" ")
-        return number_of(count), tuple((name, number_of(value)) for name, value in (pair.split("=") for pair in values))
+        pairs = [pair.split("=") for pair in values]
+        if [name for name, _ in pairs] != names:
+            raise ValueError(f"an end state isn't of {' '.join(names)}")
+        return number_of(count), tuple((name, number_of(value)) for name, value in pairs)
 
 
 def number_of(word):
@@ -65,7 +68,7 @@ def read_batch(test, text):
     batch.runs = lines.number("runs")
     batch.ends = {end: lines.number(end) for end in ENDS}
     for _ in range(lines.number("states")):
-        count, values = lines.state()
+        count, values = lines.state(test.seen)
         batch.states[values] = count
     for name in ("condition", "held", "verdict"):
         lines.take(name)
@@ -86,9 +89,11 @@ def litmus_faults(path, runs, status, text):
         yield "the end states aren't those of the runs that are all done"
     possible = sequential.ends_of(test)
     yield from (f"no interleaving ends with {sequential.text_of(end)}" for end in batch.states if end not in possible)
-    operations = sum(kind in KINDS for code in test.threads for kind, *_ in code)
-    if not all_done * operations <= batch.sums["completed"] <= runs * operations - (runs - all_done):
+    kinds = [kind for code in test.threads for kind, *_ in code if kind in KINDS]
+    if not all_done * len(kinds) <= batch.sums["completed"] <= runs * len(kinds) - (runs - all_done):
         yield f"{batch.sums['completed']} operations can't have completed"
+    if batch.sums["stale-hits"] > runs * kinds.count("load"):
+        yield "more stale hits than loads"
     yield from status_faults(status, all_done == runs)
 
 
@@ -114,8 +119,8 @@ def trace_faults(path, status, text):
         yield f"{issued} operations can't have been issued"
     if end == "all-done" and not issued == completed == len(operations):
         yield "all done, and not every operation"
-    for name in COUNTED:
-        lines.number(name)
+    if [lines.number(name) for name in COUNTED][-1] > kinds["load"]:
+        yield "more stale hits than loads"
     if lines.take("order") != "legal":
         yield "the order isn't legal"
     yield from word_faults(trace, end == "all-done", lines)

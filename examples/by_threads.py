@@ -20,7 +20,7 @@ from reference import order
 from reference.litmus import Test
 from reference.reports import ENDS, Batch
 from reference.schedules import ADVANCE
-from reference.traces import Fault, Trace, read_records
+from reference.traces import Fault, Trace, read_records, record_line
 
 KINDS = ("load", "store", "swap")
 COUNTED = ("renewals", "upgrades", "flushes", "write-backs", "stale-hits")
@@ -145,6 +145,8 @@ def word_faults(trace, is_all_done, lines):
 def record_faults(path, status, text):
     """Records are in rising order, and all there if the run is all done. Whether they are legal is for `check`."""
     trace, records = Trace(path.read_bytes()), read_records(text.encode("ascii"))
+    if text != "".join(record_line(record) + "\n" for record in records):
+        yield "another form"
     if [record.number for record in records] != list(range(len(records))):
         yield "not in the order of their numbers"
     missing = sum(map(len, trace.issued())) - len(records)

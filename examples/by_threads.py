@@ -1,14 +1,16 @@
 #!/usr/bin/env python3
-"""Says what can't be so in what a run by threads printed, and fails if there is something.
+"""Says what can't be so in what runs by threads printed, and fails if there is something: examples/by_threads.py <ROWS
 
-    examples/by_threads.py litmus TEST RUNS STATUS REPORT       a test's report of so many runs
-    examples/by_threads.py trace TRACE STATUS REPORT            a trace's report
-    examples/by_threads.py records TRACE STATUS RECORDS         a trace's records
-    examples/by_threads.py same TRACE REPORT RECORDS            both of the same run, as one worker's runs are
+Each row has one of these forms. STATUS is the exit status; all other words but RUNS are names of files:
 
-Runs by threads differ from one time to the next, so nothing here is asked that only some run has. STATUS is the exit
-status. The ends of a test are those of sequential.py; texts are read by the parts of oracle.py. Memory must be found:
-a run that ended for want of it is told as a fault.
+    litmus|TEST|RUNS|STATUS|REPORT       a test's report of so many runs
+    trace|TRACE|STATUS|REPORT            a trace's report
+    records|TRACE|STATUS|RECORDS         a trace's records
+    same|TRACE|REPORT|RECORDS            both of runs that are alike, as those of one worker are
+
+Runs by threads differ from one time to the next, so nothing here is asked that only some run has. The ends of a test
+are those of sequential.py; texts are read by the parts of oracle.py. Memory must be found: a run that ended for want of
+it is told as a fault.
 """
 import re
 import sys
@@ -168,24 +170,24 @@ def same_faults(path, report, text):
 
 
 def faults(kind, path, *given):
+    """The faults of a row."""
     *numbers, last = given
     text = Path(last).read_text(encoding="ascii")
-    if kind == "same":
-        return list(same_faults(path, Path(numbers[0]).read_text(encoding="ascii"), text))
-    of = {"litmus": litmus_faults, "trace": trace_faults, "records": record_faults}[kind]
-    return list(of(path, *map(int, numbers), text))
-
-
-def main(given):
-    if len(given) < 4:
-        return __doc__
     try:
-        found = faults(given[0], Path(given[1]), *given[2:])
+        if kind == "same":
+            return list(same_faults(Path(path), Path(numbers[0]).read_text(encoding="ascii"), text))
+        of = {"litmus": litmus_faults, "trace": trace_faults, "records": record_faults}[kind]
+        return list(of(Path(path), *map(int, numbers), text))
     except (Fault, IndexError, ValueError) as error:
-        found = [f"another form: {error}"]
-    print("".join(fault + "\n" for fault in found), end="")
-    return int(bool(found))
+        return [f"another form: {error}"]
+
+
+def main():
+    rows = sys.stdin.read().splitlines()
+    found = [f"{row}: {fault}" for row in rows for fault in faults(*row.split("|"))]
+    print("\n".join(found or [f"{len(rows)} rows can be so"]))
+    return int(bool(found) or not rows)
 
 
 if __name__ == "__main__":
-    sys.exit(main(sys.argv[1:]))
+    sys.exit(main())

@@ -121,7 +121,8 @@ workers() {
     done
     text=$examples/traces/SEED-LOCK.trace
     # shellcheck disable=SC2046
-    told "SEED-LOCK.trace by 4 workers" 0 "${text%.trace}.report" /dev/null trace $(options_of "$text") --workers 4 "$text"
+    told "SEED-LOCK.trace by 4 workers" 0 "${text%.trace}.report" /dev/null trace $(options_of "$text") --workers 4 \
+        "$text"
 }
 
 # by_threads COMMAND WORDS..: the program runs by schedule threads. Its standard output is $work/out, its status $got.
@@ -141,8 +142,8 @@ must() {
     "$@" || { echo "$text"; good=no; }
 }
 
-# row WORDS..: a row for examples/by_threads.py. keep WORDS..: what was printed is kept, with a row whose last word is its
-# file. judge: whether all rows since the last time can be so.
+# row WORDS..: a row for examples/by_threads.py. keep WORDS..: what was printed is kept, and its file ends such a row.
+# judge: whether all rows since the last time can be so.
 row() {
     (IFS='|' && printf '%s\n' "$*") >>"$work/rows"
 }

@@ -1,14 +1,16 @@
 #!/usr/bin/env python3
-"""Says what can't be so in what a run by threads printed, and fails if there is something.
+"""Says what can't be so in what runs by threads printed, and fails if there is something: examples/by_threads.py <ROWS
 
-    examples/by_threads.py litmus TEST RUNS STATUS REPORT       a test's report of so many runs
-    examples/by_threads.py trace TRACE STATUS REPORT            a trace's report
-    examples/by_threads.py records TRACE STATUS RECORDS         a trace's records
-    examples/by_threads.py same TRACE REPORT RECORDS            both of the same run, as one worker's runs are
+Each row has one of these forms. STATUS is the exit status; all other words but RUNS are names of files:
 
-Runs by threads differ from one time to the next, so nothing here is asked that only some run has. STATUS is the exit
-status. The ends of a test are those of sequential.py; texts are read by the parts of oracle.py. Memory must be found:
-a run that ended for want of it is told as a fault.
+    litmus|TEST|RUNS|STATUS|REPORT       a test's report of so many runs
+    trace|TRACE|STATUS|REPORT            a trace's report
+    records|TRACE|STATUS|RECORDS         a trace's records
+    same|TRACE|REPORT|RECORDS            both of runs that are alike, as those of one worker are
+
+Runs by threads differ from one time to the next, so nothing here is asked that only some run has. The ends of a test
+are those of sequential.py; texts are read by the parts of oracle.py. Memory must be found: a run that ended for want of
+it is told as a fault.
 """
 import re
 import sys
@@ -20,7 +22,7 @@ from reference import order
 from reference.litmus import Test
 from reference.reports import ENDS, Batch
 from reference.schedules import ADVANCE
-from reference.traces import Fault, Trace, read_records
+from reference.traces import Fault, Trace, read_records, record_line
 
 KINDS = ("load", "store", "swap")
 COUNTED = ("renewals", "upgrades", "flushes", "write-backs", "stale-hits")
@@ -44,10 +46,13 @@ class Lines:
     def number(self, name):
         return number_of(self.take(name))
 
-    def state(self):
-        """How often an end state was met, and its values."""
+    def state(self, names):
+        """How often an end state was met, and the values of these names."""
         count, *values = self.left.pop(0).split(" ")
-        return number_of(count), tuple((name, number_of(value)) for name, value in (pair.split("=") for pair in values))
+        pairs = [pair.split("=") for pair in values]
+        if [name for name, _ in pairs] != names:
+            raise ValueError(f"an end state isn't of {' '.join(names)}")
+        return number_of(count), tuple((name, number_of(value)) for name, value in pairs)
 
 
 def number_of(word):
@@ -65,7 +70,7 @@ def read_batch(test, text):
     batch.runs = lines.number("runs")
     batch.ends = {end: lines.number(end) for end in ENDS}
     for _ in range(lines.number("states")):
-        count, values = lines.state()
+        count, values = lines.state(test.seen)
         batch.states[values] = count
     for name in ("condition", "held", "verdict"):
         lines.take(name)
@@ -86,9 +91,11 @@ def litmus_faults(path, runs, status, text):
         yield "the end states aren't those of the runs that are all done"
     possible = sequential.ends_of(test)
     yield from (f"no interleaving ends with {sequential.text_of(end)}" for end in batch.states if end not in possible)
-    operations = sum(kind in KINDS for code in test.threads for kind, *_ in code)
-    if not all_done * operations <= batch.sums["completed"] <= runs * operations - (runs - all_done):
+    kinds = [kind for code in test.threads for kind, *_ in code if kind in KINDS]
+    if not all_done * len(kinds) <= batch.sums["completed"] <= runs * len(kinds) - (runs - all_done):
         yield f"{batch.sums['completed']} operations can't have completed"
+    if batch.sums["stale-hits"] > runs * kinds.count("load"):
+        yield "more stale hits than loads"
     yield from status_faults(status, all_done == runs)
 
 
@@ -114,8 +121,8 @@ def trace_faults(path, status, text):
         yield f"{issued} operations can't have been issued"
     if end == "all-done" and not issued == completed == len(operations):
         yield "all done, and not every operation"
-    for name in COUNTED:
-        lines.number(name)
+    if [lines.number(name) for name in COUNTED][-1] > kinds["load"]:
+        yield "more stale hits than loads"
     if lines.take("order") != "legal":
         yield "the order isn't legal"
     yield from word_faults(trace, end == "all-done", lines)
@@ -140,6 +147,8 @@ def word_faults(trace, is_all_done, lines):
 def record_faults(path, status, text):
     """Records are in rising order, and all there if the run is all done. Whether they are legal is for `check`."""
     trace, records = Trace(path.read_bytes()), read_records(text.encode("ascii"))
+    if text != "".join(record_line(record) + "\n" for record in records):
+        yield "another form"
     if [record.number for record in records] != list(range(len(records))):
         yield "not in the order of their numbers"
     missing = sum(map(len, trace.issued())) - len(records)
@@ -161,24 +170,24 @@ def same_faults(path, report, text):
 
 
 def faults(kind, path, *given):
+    """The faults of a row."""
     *numbers, last = given
     text = Path(last).read_text(encoding="ascii")
-    if kind == "same":
-        return list(same_faults(path, Path(numbers[0]).read_text(encoding="ascii"), text))
-    of = {"litmus": litmus_faults, "trace": trace_faults, "records": record_faults}[kind]
-    return list(of(path, *map(int, numbers), text))
-
-
-def main(given):
-    if len(given) < 4:
-        return __doc__
     try:
-        found = faults(given[0], Path(given[1]), *given[2:])
+        if kind == "same":
+            return list(same_faults(Path(path), Path(numbers[0]).read_text(encoding="ascii"), text))
+        of = {"litmus": litmus_faults, "trace": trace_faults, "records": record_faults}[kind]
+        return list(of(Path(path), *map(int, numbers), text))
     except (Fault, IndexError, ValueError) as error:
-        found = [f"another form: {error}"]
-    print("".join(fault + "\n" for fault in found), end="")
-    return int(bool(found))
+        return [f"another form: {error}"]
+
+
+def main():
+    rows = sys.stdin.read().splitlines()
+    found = [f"{row}: {fault}" for row in rows for fault in faults(*row.split("|"))]
+    print("\n".join(found or [f"{len(rows)} rows can be so"]))
+    return int(bool(found) or not rows)
 
 
 if __name__ == "__main__":
-    sys.exit(main(sys.argv[1:]))
+    sys.exit(main())

@@ -121,7 +121,8 @@ workers() {
     done
     text=$examples/traces/SEED-LOCK.trace
     # shellcheck disable=SC2046
-    told "SEED-LOCK.trace by 4 workers" 0 "${text%.trace}.report" /dev/null trace $(options_of "$text") --workers 4 "$text"
+    told "SEED-LOCK.trace by 4 workers" 0 "${text%.trace}.report" /dev/null trace $(options_of "$text") --workers 4 \
+        "$text"
 }
 
 # by_threads COMMAND WORDS..: the program runs by schedule threads. Its standard output is $work/out, its status $got.
@@ -139,6 +140,25 @@ must() {
     text=$1
     shift
     "$@" || { echo "$text"; good=no; }
+}
+
+# row WORDS..: a row for examples/by_threads.py. keep WORDS..: what was printed is kept, and its file ends such a row.
+# judge: whether all rows since the last time can be so.
+row() {
+    (IFS='|' && printf '%s\n' "$*") >>"$work/rows"
+}
+
+keep() {
+    rows=$((rows + 1))
+    mv "$work/out" "$work/threads.$rows"
+    row "$@" "$work/threads.$rows"
+}
+
+judge() {
+    good=yes
+    "$examples/by_threads.py" <"$work/rows" >"$work/judged" || { cat "$work/judged"; good=no; }
+    count "$good"
+    rm -f "$work/rows" "$work"/threads.*
 }
 
 # The number behind a word in what was printed; whether a line is there; and the lines of the end states.
@@ -203,42 +223,44 @@ tests_by_threads() {
         for number in 1 2; do
             name="${file##*/} by threads, $number workers"
             by_threads litmus --runs 20 --workers "$number" "$file"
-            must "$name: that can't be" "$examples/by_threads.py" litmus "$file" 20 "$got" "$work/out"
             if [ "$number" -eq 1 ]; then
                 must "$name: not all done" has 'all-done 20'
                 must "$name: not alike" has 'states 1'
             fi
             count "$good"
+            keep litmus "$file" 20 "$got"
         done
     done
+    judge
 }
 
 # trace_by_threads TRACE WORKERS: its records are legal, and the report's numbers agree with the trace. By one worker
-# the report and the records are of runs that are alike.
+# the report and the records are of runs that are alike. Where banks have few places, lines may come and go until all
+# turns are used: such a run has fewer.
 trace_by_threads() {
     name="${1##*/} by threads, $2 workers"
-    words="$(options_of "$1" | sed -e 's/--schedule seed//' -e 's/--seed [0-9]*//') --workers $2"
+    given=$(options_of "$1" | sed -e 's/--schedule seed//' -e 's/--seed [0-9]*//' -e 's/ *$//')
+    words="$given --workers $2"
+    case $words in
+        *--limit*) ;;
+        *--bank-*) words="$words --limit 2000" ;;
+    esac
     # shellcheck disable=SC2086
     by_threads trace --records $words "$1"
-    must "$name: such records can't be" "$examples/by_threads.py" records "$1" "$got" "$work/out"
     count "$good"
-    mv "$work/out" "$work/records"
-    told "$name: check" 0 "$work/legal" /dev/null check "$1" "$work/records"
+    keep records "$1" "$got"
+    records=$work/threads.$rows
+    told "$name: check" 0 "$work/legal" /dev/null check "$1" "$records"
     # shellcheck disable=SC2086
     by_threads trace $words "$1"
-    name="${1##*/} by threads, $2 workers"
-    must "$name: that can't be" "$examples/by_threads.py" trace "$1" "$got" "$work/out"
-    if [ "$2" -eq 1 ]; then
-        must "$name: not what its records say" "$examples/by_threads.py" same "$1" "$work/out" "$work/records"
-        case $words in
-            *[!\ ]*--workers*) ;;
-            *) must "$name: not all done" has 'end all-done' ;;
-        esac
-    fi
+    [ "$2" -gt 1 ] || [ -n "$given" ] || must "${1##*/} by threads: not all done" has 'end all-done'
     count "$good"
+    keep trace "$1" "$got"
+    [ "$2" -gt 1 ] || row same "$1" "$work/threads.$rows" "$records"
 }
 
 threads() {
+    rows=0
     buffering_by_threads
     one_message_by_threads
     tests_by_threads
@@ -248,6 +270,7 @@ threads() {
             trace_by_threads "$file" "$number"
         done
     done
+    judge
 }
 
 refusals() {

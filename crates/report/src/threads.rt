@@ -42,7 +42,8 @@ pub fn threaded_runs<R: Threads + Sync, G: Gate + Sync>(
 {
     let mut runs = Vec::new(alloc);
     for _ in 0..count {
-        runs.push(threaded_run(rt, alloc, test, config, limit, workers, gate)?)?;
+        let run = threaded_run(rt, alloc, test, config, limit, workers, gate)?;
+        runs.push(run)?;
     }
     Ok(runs)
 }

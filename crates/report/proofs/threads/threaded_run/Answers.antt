@@ -4,11 +4,12 @@ use Rattle.std.specs.FinMap.{empty}
 use Rattle.litmus_reader.specs.OpeningMemory.{words_opened}
 use Rattle.litmus_reader.specs.TestViews.{test_of}
 use Rattle.litmus_reader.specs.ThreadSteps.{Thread}
+use Rattle.machine_table.specs.declared.config.Config.{Config}
 use Rattle.machine_table.specs.Machine.{Machine}
 use Rattle.machine_table.specs.Opening.{at_start}
 use Rattle.thread_runs.specs.ThreadRuns.{IsThreadRun, machine_of}
 use Rattle.worker_driver.specs.Service.{AreServed}
-use Rattle.report.specs.Runs.{thread_acts, threads_from}
+use Rattle.report.specs.Runs.{Tells, thread_acts, threads_from}
 use Rattle.report.proofs.Rows.{threads_count}
 use Rattle.report.proofs.Sequential.{has_outcome}
 use Rattle.report.proofs.threads.threaded_run.Goals as goal
@@ -40,7 +41,7 @@ returns-clause-run g c =
         subst (λ e. IsThreadRun thread_acts (threads_from test 0 test.threads) m ran.programs.items e) (sym told.0)
             run_is,
       );
-      told = told.1 m (is.parts, refl);
+      told = subst (λ (ts : List Thread). Tells test m ts run) c.deref.ensures.value (told.1 m (is.parts, refl));
     }) c.told.ensures
 
 pub returns-clause-outcome : goal.returns-clause-outcome
@@ -58,6 +59,7 @@ returns-clause-outcome g c =
     c.in_ok-threads.ensures is.is_run.served) in
     IfOk-weaker c.told.result _ _ (λ run told text text_is.
     has_outcome c.performed_histories_are_sequential.ensures test m.config m ran.programs.items
-    (config_is ∙ c.requires.cores) opened (c.closed_machines_are_consistent.ensures ran.run is.parts) served text
-    text_is run.end (λ done. is.is_run.done (sym told.0 ∙ done)) run.state (told.1 m (is.parts, refl)).state)
+    (ap (λ (k : Config). k.cores) config_is ∙ c.requires.cores) opened (c.closed_machines_are_consistent.ensures ran.run is.parts) served text
+    text_is run.end (λ done. is.is_run.done (sym told.0 ∙ done)) run.state
+    (subst (λ (ts : List Thread). Tells test m ts run) c.deref.ensures.value (told.1 m (is.parts, refl))).state)
     c.told.ensures

@@ -1,5 +1,5 @@
 //! How machines end that workers drive.
-use crate::checks::{Told, are_records, is_legal, were_issued};
+use crate::checks::{Told, are_records, were_issued};
 use crate::driver::{Case, drive_case};
 use machine_table::Config;
 use run_ends::End;
@@ -134,16 +134,5 @@ fn a_store_after_the_last_time_is_the_end(rt: HostRuntime) -> Result<(), Fail> {
     assert!(rt; are_records(driven.run.records(), AT_THE_LAST_TIME));
     assert_eq!(rt; driven.left.as_slice(), [1, 0].as_slice());
     assert!(rt; were_issued(&driven.run, LAST_TIME.programs, 7));
-    Ok(())
-}
-
-// One worker has core 0 and the bank, the other core 1: its store and load are done, or one of them, or none.
-#[test]
-fn a_core_without_time_stops_both_workers(rt: HostRuntime) -> Result<(), Fail> {
-    let driven = drive_case(&rt, rt.alloc(), &LAST_TIME, 2, &Free)?;
-    assert_eq!(rt; driven.end, End::Exhausted);
-    assert_eq!(rt; driven.left.as_slice().first(), Some(&1));
-    assert!(rt; driven.run.records().len() >= 6);
-    assert!(rt; is_legal(rt.alloc(), &driven.run)?);
     Ok(())
 }

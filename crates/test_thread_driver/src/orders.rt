@@ -1,6 +1,7 @@
 //! Five cores and two banks that up to 16 workers drive: what belongs to which core.
 use crate::checks::{are_in_order, is_legal, were_issued};
 use crate::driver::{Case, drive_case};
+use crate::turn_counts::{MANY_TURNS, TurnCounts};
 use machine_table::Config;
 use run_ends::End;
 use schedule_cases::{On, USUAL};
@@ -42,13 +43,28 @@ const FIVE: Case = Case {
             On::Load(0),
         ],
     ],
-    turn_limit: 10_000_000,
+    turn_limit: MANY_TURNS,
 };
+
+// Whether the seats of each worker had as many turns as each other, and fewer than they may have.
+fn are_together(gate: &TurnCounts, workers: usize) -> bool {
+    for seat in 0..7 {
+        let Some(turns) = gate.of(seat) else {
+            return false;
+        };
+        let first = seat.checked_rem(workers).unwrap_or(0);
+        if gate.of(first) != Some(turns) || turns >= u64::from(MANY_TURNS) {
+            return false;
+        }
+    }
+    true
+}
 
 #[test]
 fn every_number_of_workers_completes_all_programs(rt: HostRuntime) -> Result<(), Fail> {
     for workers in 1..=16 {
-        let driven = drive_case(&rt, rt.alloc(), &FIVE, workers, &Free)?;
+        let gate = TurnCounts::new();
+        let driven = drive_case(&rt, rt.alloc(), &FIVE, workers, &gate)?;
         assert_eq!(rt; driven.end, End::AllDone, "{workers} workers");
         assert!(rt; are_in_order(&driven.run), "{workers} workers");
         assert!(rt;
@@ -62,6 +78,7 @@ fn every_number_of_workers_completes_all_programs(rt: HostRuntime) -> Result<(),
             [0, 0, 0, 0, 0].as_slice(),
             "{workers} workers"
         );
+        assert!(rt; are_together(&gate, workers as usize), "{workers} workers");
     }
     Ok(())
 }

@@ -2,6 +2,9 @@
 use shared_jobs::Gate;
 use std::sync::atomic::{AtomicU64, Ordering};
 
+/// So many turns are more than a thousand times those that the programs of these tests need.
+pub(crate) const MANY_TURNS: u32 = 1_000_000;
+
 /// A gate that counts the turns of seats 0 to 7 that began, and those that ended. A turn that begins or ends out of its
 /// order, or of another seat, is counted as wrong: the turns of a seat are numbered from 0 on, and none begins before
 /// the one before it has ended.

@@ -1,7 +1,8 @@
 //! Which turns workers give seats, as gates see them.
+use crate::checks::is_legal;
 use crate::driver::{Case, drive_case};
 use crate::ends::{LAST_TIME, NOTHING, STORE};
-use crate::turn_counts::TurnCounts;
+use crate::turn_counts::{MANY_TURNS, TurnCounts};
 use machine_table::Config;
 use run_ends::End;
 use schedule_cases::{On, USUAL};
@@ -97,5 +98,33 @@ fn one_worker_gives_no_turn_after_the_end(rt: HostRuntime) -> Result<(), Fail> {
             assert_eq!(rt; gate.of(seat), Some(counts[seat]), "{end:?}, seat {seat}");
         }
     }
+    Ok(())
+}
+
+// Whether seats 0 and 2 had turns in the same passes, but for the last one, which ended with seat 0, and seat 1 had
+// fewer turns than it may have.
+fn are_stopped(gate: &TurnCounts) -> bool {
+    match (gate.of(0), gate.of(1), gate.of(2)) {
+        (Some(core), Some(other), Some(bank)) => {
+            core.checked_sub(1) == Some(bank) && other < u64::from(MANY_TURNS)
+        }
+        _ => false,
+    }
+}
+
+// One worker has core 0, which stops, and the bank; the other has core 1.
+#[test]
+fn a_seat_that_stops_ends_the_turns_of_all_workers(rt: HostRuntime) -> Result<(), Fail> {
+    let case = Case {
+        turn_limit: MANY_TURNS,
+        ..LAST_TIME
+    };
+    let gate = TurnCounts::new();
+    let driven = drive_case(&rt, rt.alloc(), &case, 2, &gate)?;
+    assert_eq!(rt; driven.end, End::Exhausted);
+    assert_eq!(rt; driven.left.as_slice().first(), Some(&1));
+    assert!(rt; driven.run.records().len() >= 6);
+    assert!(rt; is_legal(rt.alloc(), &driven.run)?);
+    assert!(rt; are_stopped(&gate));
     Ok(())
 }

@@ -1,6 +1,7 @@
 //! A machine that is opened, driven by workers, and closed.
 ghost use Rattle.std.specs.Prelude.{◌<◌, ◌≤◌, IfOk};
 ghost use Rattle.mailboxes.specs.RunParts.{Parts};
+ghost use Rattle.shifts.specs.Shifts.{AreBanksInOrder, AreCoresInOrder, NoneOpen};
 
 use machine_table::Config;
 use mailboxes::{BankSeat, CoreSeat, Machine, Run, open};
@@ -32,8 +33,12 @@ pub(crate) struct Driven {
     pub(crate) run: Run,
 }
 
-// A machine with a memory of zeros, and its seats.
-fn opened(alloc: Global, config: Config) -> Result<(Machine, Vec<CoreSeat>, Vec<BankSeat>), Fail> {
+// A machine with a memory of zeros, and its seats, which can be driven.
+fn opened(alloc: Global, config: Config) -> Result<(Machine, Vec<CoreSeat>, Vec<BankSeat>), Fail>
+    ensures cores { IfOk result (λ r. AreCoresInOrder r.0 r.1.items × NoneOpen r.1.items) }
+    ensures banks { IfOk result (λ r. AreBanksInOrder r.0 r.2.items) }
+{
+    new_seats_can_be_driven();
     match open(alloc, config, Memory::new(alloc)) {
         Err(_) => Err(Fail::from("the machine opens")),
         Ok(all) => Ok(all),
@@ -53,7 +58,6 @@ fn drive<R: Threads + Sync, P: Program + Send + Drop, G: Gate + Sync>(
     requires { (0 < workers) × (workers ≤ 16) }
     ensures { IfOk result (λ r. Parts r.2) }
 {
-    new_seats_can_be_driven();
     let (machine, cores, banks) = opened(alloc, config)?;
     if programs.len() != cores.len() {
         return Err(Fail::from("there is a program a core"));

@@ -74,6 +74,6 @@ impl Gate for TurnCounts {
         }
         let begun = self.begun[seat as usize].load(Ordering::SeqCst);
         let ended = self.ended[seat as usize].fetch_add(1, Ordering::SeqCst);
-        self.tell(ended == turn && begun == turn + 1);
+        self.tell(ended == turn && begun.checked_sub(1) == Some(turn));
     }
 }

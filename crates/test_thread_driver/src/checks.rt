@@ -54,8 +54,12 @@ pub(crate) fn are_first(issued: &[Op], program: &[On], count: usize) -> bool {
 pub(crate) fn were_issued(run: &Run, programs: &[&'static [On]], count: usize) -> bool
     requires { Parts run.now }
 {
-    for core in 0..programs.len() {
-        if !are_first(run.issued(core as u32), programs[core], count) {
+    let cores = run.set_up.config.cores;
+    if programs.len() != cores as usize {
+        return false;
+    }
+    for core in 0..cores {
+        if !are_first(run.issued(core), programs[core as usize], count) {
             return false;
         }
     }

@@ -2,7 +2,7 @@
 use shared_jobs::Gate;
 use std::sync::atomic::{AtomicU64, Ordering};
 
-/// So many turns are more than a thousand times those that the programs of these tests need.
+/// Far more turns than the programs of these tests take.
 pub(crate) const MANY_TURNS: u32 = 1_000_000;
 
 /// A gate that counts the turns of seats 0 to 7 that began, and those that ended. A turn that begins or ends out of its

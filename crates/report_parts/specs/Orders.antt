@@ -12,9 +12,9 @@ use Rattle.worker_driver.specs.declared.policy.Policy.{Policy}
 use Rattle.worker_driver.specs.Policies.{EndedBy}
 use Rattle.thread_runs.specs.ThreadRuns.{IsThreadRun}
 
--- A run leads from a machine that is set up and opens so, and these programs, to a machine, other programs and an end: by
--- the events of a policy's schedule, with at most so many turns; or by threads, which follow no policy, to a state that
--- moves of the machine's parts reach.
+-- A run leads from a machine that is set up and opens so, and these programs, to a machine, other programs and an end.
+-- By a policy it does so by the events of its schedule, with at most so many turns. By threads, which follow no policy,
+-- the machine is then in a state that moves of its parts reach; how many turns there were is not said.
 abbrev pub LeadsTo : {P : Type 0} → Acts P → Option Policy → ℕ → Config → FinMap nat_cmp ℕ → List P → Machine → List P →
     End → Type 0
 LeadsTo acts (Some policy) limit config opening before m after e =

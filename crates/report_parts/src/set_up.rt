@@ -63,8 +63,8 @@ pub fn policy_of(options: &RunOptions) -> Option<Policy>
     }
 }
 
-/// How many threads drive the machine of a run by threads, or share the runs by a seed: as many as the options say, from
-/// 1 to 16. By rounds it is one.
+/// How many threads drive the machine of a run by threads, or share the runs by a seed: as many as the options say,
+/// from 1 to 16. By rounds it is one.
 pub fn workers_of(options: &RunOptions) -> u32
     ensures number { result ≡ workers_by options.now.schedule options.now.workers }
     ensures few { (0 < result) × (result ≤ 16) }

@@ -8,9 +8,9 @@ use Rattle.std.specs.declared.alloc.Global.{Global}
 abbrev pub hand_of : ℕ → ℕ → ℕ → ℕ
 hand_of first hands h = (first + h) % hands
 
--- There are so many hands, at least one. Item i of the list goes to the i-th hand from the first one on, going round, and
--- each hand has its items in their order: item k of the h-th hand is item hands * k + h, and there is the one exactly if
--- there is the other.
+-- There are so many hands, at least one. Item i of the list goes to the i-th hand from the first one on, going round.
+-- Each hand has its items in their order: item k of the h-th hand is item hands * k + h, and there is the one exactly
+-- if there is the other.
 pub record IsDealt {A : Type 0} (all : List A) (first hands : ℕ) (lists : List (List A)) : Type 0 where
   pub some : 0 < hands
   pub count : length lists ≡ hands

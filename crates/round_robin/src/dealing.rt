@@ -35,8 +35,8 @@ fn roomy_hands<T: Drop>(alloc: Global, hands: usize, room: usize) -> Result<Vec<
     Ok(dealt)
 }
 
-/// Deals all items: item i goes to hand `first + i` modulo the number of hands, and a hand has its items in the order of
-/// the list. The list is then empty, with its capacity as before. Nothing is refused, since the hands have room.
+/// Deals all items: item i goes to hand `first + i` modulo the number of hands, and a hand has its items in the order
+/// of the list. The list is then empty, with its capacity as before. Nothing is refused, since the hands have room.
 pub fn deal<T: Drop>(items: &mut Vec<T>, first: usize, hands: &mut Vec<Vec<T>>)
     requires some { 0 < length hands.old.items }
     requires room { HaveRoom (length items.old.items) hands.old.items }

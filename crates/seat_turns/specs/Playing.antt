@@ -45,9 +45,9 @@ module _ {P : Type 0} (acts : Acts P) where
   abbrev pub IsAhead : CoreSeat → P → Type 0
   IsAhead p program = IfSome p.part.core.open_op (λ op. acts.next program ≡ Some (step.Op op))
 
-  -- a core's seat and its program, p and `before`, are q and `after` now: the seat keeps its number, it has these records
-  -- more, their operations are those that the program gave, and the program was told of each; an operation that is
-  -- open is the program's next step
+  -- A core's seat and its program, p and `before`, are q and `after` now: the seat keeps its number. It has these
+  -- records more; their operations are those that the program gave, and the program was told of each. An operation that
+  -- is open is the program's next step.
   pub record Plays (p : CoreSeat) (before : P) (q : CoreSeat) (after : P) : Type 0 where
     pub number : q.mail.number ≡ p.mail.number
     pub added : List Record

@@ -1,6 +1,6 @@
 -- What comes of seats that threads drove: the seats in order, what each core's program was told, and the end.
-use Rattle.std.specs.Prelude.{◌≡◌, ◌≢◌, ◌⊎◌, ℕ, ◌+◌, ◌<◌, ◌≤◌, List, [], ◌∷◌, ◌++◌, length, map, cond, Option, Some, None}
-use Rattle.std.specs.Prelude.{slice_get}
+use Rattle.std.specs.Prelude.{◌≡◌, ◌≢◌, ◌⊎◌, ℕ, ◌+◌, ◌<◌, ◌≤◌, List, [], ◌∷◌, ◌++◌, length, map, cond}
+use Rattle.std.specs.Prelude.{Option, Some, None, slice_get}
 use Rattle.physiological_order.specs.declared.operation.Record.{Record}
 use Rattle.physiological_order.specs.Order.{Follows}
 use Rattle.protocol.specs.Issued.{listed}
@@ -42,9 +42,9 @@ abbrev pub stopped : List CoreSeat → List BankSeat → ℕ
 stopped cores banks = stopped_cores cores + stopped_banks banks
 
 module _ {P : Type 0} (acts : Acts P) where
-  -- a core's seat that had no open operation, and its program: the core was issued its program's operations. The records
-  -- that were added are of the first of them, in their order, and the program was told of each. One that is still open
-  -- is the program's next.
+  -- A core's seat that had no open operation, and its program: the core was issued its program's operations. The
+  -- records that were added are of the first of them, in their order, and the program was told of each. One that is
+  -- still open is the program's next.
   pub record IsServed (p : CoreSeat) (before : P) (q : CoreSeat) (after : P) : Type 0 where
     pub added : List Record
     pub records : q.records.items ≡ p.records.items ++ added
@@ -67,8 +67,8 @@ module _ {P : Type 0} (acts : Acts P) where
       (i : ℕ) (p : CoreSeat) (a : P) → slice_get cores i ≡ Some p → slice_get programs i ≡ Some a →
       (p.part.core.open_op ≡ None) × (acts.next a ≡ None)
 
-  -- Turns were given: all is done exactly if nothing is left to do. Otherwise times are exhausted only if more seats are
-  -- stopped than before, and the turns are used up only if none stopped. Threads never stall.
+  -- Turns were given: all is done exactly if nothing is left to do. Otherwise times are exhausted only if more seats
+  -- are stopped than before, and the turns are used up only if none stopped. Threads never stall.
   pub record Ran (cores : List CoreSeat) (banks : List BankSeat) (cores' : List CoreSeat)
       (banks' : List BankSeat) (programs' : List P) (e : End) : Type 0 where
     pub done : e ≡ end.AllDone → AreOver cores' programs'

@@ -2,7 +2,8 @@
 ghost use Rattle.std.specs.Prelude.{◌≡◌, ◌≢◌, ◌⊎◌, ◌<◌, ◌≤◌, ◌^◌, OnErr, length};
 ghost use Rattle.run_ends.specs.declared.ends.End.TheVariants as end;
 ghost use Rattle.mailboxes.specs.Seats.{AllBankSeats, AllCoreSeats, AreAll};
-ghost use Rattle.shifts.specs.Shifts.{AreBanksInOrder, AreCoresInOrder, AreOver, AreServed, NoneOpen, Ran, Refused, stopped};
+ghost use Rattle.shifts.specs.Shifts.{AreBanksInOrder, AreCoresInOrder, AreOver, AreServed, NoneOpen};
+ghost use Rattle.shifts.specs.Shifts.{Ran, Refused, stopped};
 ghost use Rattle.thread_driver.specs.Driving.{AreAhead, AreDriven, AreSameBanks};
 ghost use Rattle.thread_driver.specs.Teams.{AllWork, AreReady, IsAtWork, IsReady, Works};
 
@@ -21,15 +22,16 @@ use std::thread;
 use std::thread::Threads;
 use worker_driver::program::Program;
 
-/// Gives the seats of a machine turns, by 1 to 16 workers, each a thread that ends within the call. Seat i, where cores
-/// come before banks, belongs to worker i modulo their number. A program a core gives it its steps, and is told what
-/// each operation received. Each turn is between the calls of the gate. docs/SCHEDULES.md has the order within a turn.
+/// Gives the seats of a machine turns, by 1 to 16 workers: the calling thread, and others that end within the call.
+/// Seat i, where cores come before banks, belongs to worker i modulo their number. A program a core gives it its steps,
+/// and is told what each operation received. Each turn is between the calls of the gate. docs/SCHEDULES.md has the
+/// order within a turn.
 ///
 /// A worker goes on until all programs are done, each of its seats had `turn_limit` turns, or some seat wanted memory
-/// or stopped. The end is AllDone exactly if no program has a next step and no core an open operation. Otherwise it is
-/// NoMemory if memory was refused, then Exhausted if a seat stopped, else TurnsUsed. If there is no memory for the
-/// workers, no turn is made, and all is as it was given. A worker that can't be started loses nothing: another thread
-/// gives its seats their turns.
+/// or stopped. If there is no memory for the workers, no turn is made, all is as it was given, and the end is NoMemory.
+/// Otherwise it is AllDone exactly if no program has a next step and no core an open operation; else NoMemory if memory
+/// was refused, then Exhausted if a seat stopped, else TurnsUsed. A worker whose thread can't be started loses nothing:
+/// another thread gives its seats their turns, after those of its own.
 pub fn drive_threads<R: Threads + Sync, P: Program + Send + Drop, G: Gate + Sync>(
     rt: &R,
     alloc: Global,
@@ -112,7 +114,7 @@ fn drive_shift<R: Threads + Sync, P: Program + Send + Drop, G: Gate + Sync>(
     Ok(wanted)
 }
 
-// Each worker works in a thread of its own.
+// Each worker works in a thread of its own, one of them in the calling one.
 fn drive_team<R: Threads + Sync, P: Program + Send + Drop, G: Gate + Sync>(
     rt: &R,
     machine: &Machine,

@@ -1,4 +1,4 @@
-//! Drives the seats of a shared machine by threads: workers give their seats turns, and programs give cores their steps.
+//! Drives the seats of a shared machine by threads: workers give seats turns, and programs give cores their steps.
 #![tactic(auto)]
 
 mod counting;

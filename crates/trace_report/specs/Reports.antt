@@ -36,8 +36,8 @@ pub record Tells (options : TraceOptions) (lanes : List (List Step)) (all_done :
   pub good : is_good (config_of options.run.machine (core_count lanes)) ≡ true
   pub end : End
   pub machine : Machine
-  pub run : IsRun (policy_of options.run) (limit_of options.run) (config_of options.run.machine (core_count lanes)) lanes
-      end machine
+  pub run : IsRun (policy_of options.run) (limit_of options.run)
+      (config_of options.run.machine (core_count lanes)) lanes end machine
   pub told : TellsOf options.records lanes end machine all_done text
 
 -- it tells a run of the trace that the source had

@@ -38,9 +38,9 @@ programs_below lanes (suc core) = programs_below lanes core ++ lane lanes core �
 abbrev pub issued_in : List (List Step) → ℕ → List Op
 issued_in lanes core = slice_index_or (map ops_of lanes) core []
 
--- a run of a trace over a memory of zeros, by a policy or by threads: its records are a legal history of what the cores
--- were issued, and so of the operations of the trace; they stand by rising number, and are such as a text of records can
--- tell; and the words have the values that the records leave, one after the other in the order of their times
+-- A run of a trace over a memory of zeros, by a policy or by threads. Its records are a legal history of what the cores
+-- were issued, and so of the operations of the trace. They stand by rising number, and are such as a text of records
+-- can tell. The words have the values that the records leave, one after the other in the order of their times.
 pub record IsRun (policy : Option Policy) (limit : ℕ) (config : Config) (lanes : List (List Step)) (end : End)
     (machine : Machine) : Type 0 where
   pub programs : List (List Step)

@@ -11,7 +11,7 @@ use Rattle.trace_report.proofs.reports.told_by_threads.Goals as goal
 pub report_on-requires : goal.report_on-requires
 report_on-requires g c =
     let is = c.in_ok-ran.ensures in
-    (machine_of c.in_ok-ran.ran.machine is.0, ((is.0, refl), is.1.complete))
+    record { shows = (machine_of c.in_ok-ran.ran.machine is.0, (is.0, refl), is.1.complete); }
 
 pub returns : goal.returns
 returns g c =
@@ -21,7 +21,7 @@ returns g c =
     let parts = c.in_ok-ran.ensures.0 in
     let m = machine_of ran.machine parts in
     let run = subst (λ (k : Config). IsRun None (limit_of options.run) k lanes ran.end m) c.requires.config
-    (subst (λ n. IsRun None n c.args.config lanes ran.end m) c.limit_of.ensures c.in_ok-ran.ensures.1) in
+    (subst (λ n. IsRun None n c.args.config lanes ran.end m) c.limit_of-limit.ensures c.in_ok-ran.ensures.1) in
     IfOk-weaker c.report_on.result _ _ (λ report told. record {
       good = subst (λ (config : Config). is_good config ≡ true) c.requires.config c.requires.good;
       end = ran.end;

@@ -35,6 +35,11 @@ def is_report(ran):
             and ran.status == (done != RUNS))
 
 
+def tells_of_memory(text):
+    lines = lines_of(text)
+    return lines.get("memory", "0") != "0" or lines.get("end") == "memory"
+
+
 def is_trace_report(ran):
     lines = lines_of(ran.out)
     return (not ran.error and lines["order"] == "legal" and int(lines["completed"]) <= int(lines["issued"])
@@ -71,5 +76,6 @@ def sweep(tester, what, words, is_right):
             if not ran.refused:
                 tester.expect(ran.status == 0, f"{what}, nothing refused: {ran.answer()}")
                 break
-            told += not is_none and ran.status == 1
+            told += not is_none and ran.status == 1 and tells_of_memory(ran.out)
+        tester.expect(told > 0 or "--records" in words, f"{what}, growth {how or 'alone'}: no refused run was told")
         print(f"{what}, growth {how or 'alone'}: {number - 1} refused, {told} of them told as runs without memory")

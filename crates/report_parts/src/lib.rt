@@ -1,5 +1,5 @@
-//! What the reports of litmus tests and traces share: the machine that options ask for, which policy a run follows and
-//! how far, the machine after a run, and a whole text to a sink.
+//! What the reports of litmus tests and traces share: the machine that options ask for, how a run goes, the machine
+//! after it, and a whole text to a sink.
 #![tactic(auto)]
 
 mod finished;

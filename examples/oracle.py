@@ -8,10 +8,14 @@ tell them. The status is 0 where every run was all done or the records are legal
     examples/oracle.py litmus [--schedule seed --seed N] [--runs N] [--lease N] .. [--private-write] FILE
     examples/oracle.py trace [--records] [--schedule seed --seed N] [--lease N] .. FILE
     examples/oracle.py check TRACE RECORDS
+    examples/oracle.py --rows <ROWS
     examples/oracle.py --self-test
 
---trace tells each event and its answer on standard error. --events prints the lists of events in place of the report,
-as the constants of a Rattle test. `litmus` may be left out.
+By --schedule threads it makes runs of one worker: with more, no two runs need be alike. Each row of --rows has the form
+FILE|WORD|WORD ..: what is printed with these words is written to FILE, and the status to FILE.status.
+
+--trace tells each event and its answer on standard error; of a run by threads, each call of a seat. --events prints the
+lists of events in place of the report, as the constants of a Rattle test. `litmus` may be left out.
 """
 import argparse
 import sys
@@ -34,7 +38,7 @@ def words():
     commands = parser.add_subparsers(dest="command", required=True)
     for name in ("litmus", "trace"):
         command = commands.add_parser(name, allow_abbrev=False)
-        command.add_argument("--schedule", choices=["round", "seed"], default="round")
+        command.add_argument("--schedule", choices=["round", "seed", "threads"], default="round")
         for option, default in DEFAULTS.items():
             command.add_argument("--" + option.replace("_", "-"), type=int, default=default)
         command.add_argument("--private-write", action="store_true")
@@ -66,12 +70,22 @@ def read_trace(path):
     return Trace(Path(path).read_bytes())
 
 
+def refuse_threads(options):
+    """Runs by several threads differ from one time to the next, and those by threads have no list of events."""
+    if options.workers > 1:
+        raise SystemExit("oracle.py: a run by several threads can't be worked out")
+    if options.events:
+        raise SystemExit("oracle.py: a run by threads has no list of events")
+
+
 def run(options):
     """What is printed, and the status."""
     if options.command == "check":
         trace = read_trace(options.TRACE)
         verdict = check({}, trace.issued(), read_records(Path(options.RECORDS).read_bytes()))
         return verdict + "\n", int(verdict != "legal")
+    if options.schedule == "threads":
+        refuse_threads(options)
     events = []
 
     def after(run, end, seed):
@@ -89,10 +103,22 @@ def run(options):
     return "".join(events) if options.events else text, int(not all_done)
 
 
+def write_row(row):
+    """Writes what is printed with the words of a row, and the status."""
+    path, *given = row.split("|")
+    text, status = run(words().parse_args(given))
+    Path(path).write_text(text, encoding="ascii")
+    Path(path + ".status").write_text(f"{status}\n", encoding="ascii")
+
+
 def main(given):
     test_generator()
     if given == ["--self-test"]:
         print(f"the generator is the published one, and {test_machine()} runs are as by hand")
+        return 0
+    if given == ["--rows"]:
+        for row in sys.stdin.read().splitlines():
+            write_row(row)
         return 0
     if given and given[0] not in ("litmus", "trace", "check", "-h", "--help"):
         given = ["litmus", *given]

@@ -13,7 +13,7 @@ from types import SimpleNamespace
 
 from reference import order
 from reference.events import event_text, record_text, step_text
-from reference.reports import drive, issued_by
+from reference.reports import drive
 from reference.schedules import ADVANCE, Pcg32, test_generator
 from reference.traces import Steps
 from reference.watch import WatchedRun
@@ -111,7 +111,7 @@ def drive_case(case, seed):
     _, options, programs, limit, *_ = case
     given = SimpleNamespace(**{**USUAL, **options}, schedule="seed", limit=limit)
     run, end = drive(given, [Steps(steps) for steps in programs], {}, seed, None, WatchedRun)
-    assert order.check({}, issued_by(run), run.machine.records) == "legal"
+    assert order.check({}, run.issued(), run.machine.records) == "legal"
     return run, end
 
 

@@ -3,12 +3,15 @@ from reference import order
 from reference.machine import COUNTED, Machine
 from reference.schedules import Run, by_rounds, by_seed
 from reference.traces import record_line
+from reference.workers import by_one_worker
 
 ENDS = ("all-done", "stalled", "limit", "exhausted", "memory")
 
 
 def drive(options, programs, memory, seed, tell=None, kind=Run):
     """A run by the schedule of the options, and its end."""
+    if options.schedule == "threads":
+        return by_one_worker(options, programs, memory, tell)
     run = kind(Machine(options, len(programs), memory), programs, tell)
     end = by_seed(run, options.limit, seed) if options.schedule == "seed" else by_rounds(run, options.limit)
     return run, end
@@ -29,7 +32,7 @@ class Batch:
 
     def add(self, run, end):
         machine = run.machine
-        verdict = order.check(self.test.memory, issued_by(run), machine.records)
+        verdict = order.check(self.test.memory, run.issued(), machine.records)
         assert verdict == "legal", verdict
         self.runs += 1
         self.ends[end] += 1
@@ -54,15 +57,6 @@ class Batch:
         lines += [f"condition {test.kind}", f"held {held}", f"verdict {'yes' if verdict else 'no'}"]
         lines += [f"{name} {min(total, 2 ** 128 - 1)}" for name, total in self.sums.items()]
         return "".join(line + "\n" for line in lines)
-
-
-def issued_by(run):
-    """The operations that each core was issued, by the events of the run."""
-    issued = [[] for _ in run.programs]
-    for (name, *of), answer in run.made:
-        if name == "Issue" and answer == "Issued":
-            issued[of[0]].append(of[1])
-    return issued
 
 
 def litmus_report(test, options, tell=None, after=None):

@@ -1,4 +1,4 @@
-"""The schedules of docs/SCHEDULES.md: rounds and seeds. A run drives a machine and one program a core.
+"""Rounds and seeds of docs/SCHEDULES.md; threads are in workers.py. A run drives a machine and one program a core.
 
 A program has `next()`, its next step or None: an operation as machine.py has it, or ADVANCE; and `done(received)`.
 """
@@ -60,6 +60,14 @@ class Run:
         if self.tell:
             self.tell(self.turns, about, answer)
         return answer
+
+    def issued(self):
+        """The operations that each core was issued, by the events of the run."""
+        issued = [[] for _ in self.programs]
+        for (name, *of), answer in self.made:
+            if name == "Issue" and answer == "Issued":
+                issued[of[0]].append(of[1])
+        return issued
 
     def make_step(self, core):
         """What a core's program wants next: an Issue, or an Advance that the program is told of."""

@@ -6,12 +6,16 @@ swap), `A0` an attempt of core 0, `D3` the delivery of message 3, `C0,2` the evi
 does a whole operation of core 0: behind `=` stand the received value (- for none), a comma and the time.
 
 A run of seats is a list of calls with their answers, as `turn 0=1 nothing`.
+
+A run by one worker is a trace; behind it stand the end, how many passes were made, and the records, each as a line.
 """
 from types import SimpleNamespace
 
 from reference import order
 from reference.machine import Machine
 from reference.seats import Seats
+from reference.traces import Trace, record_line
+from reference.workers import by_one_worker
 
 USUAL = {"banks": 1, "sets": 64, "ways": 4, "bank_sets": 256, "bank_ways": 8, "line_words": 1, "lease": 10,
          "messages": 4096, "time": 0, "private_write": False}
@@ -72,7 +76,8 @@ SEAT_RUNS = [
      STORE.format(word=0, value=7, bank=2)
      + "issue 1 R0=done; attempt 1=Requested; attempt 1=Waiting; turn 1=1 nothing; turn 2=0 started; turn 2=1 held; "
      "turn 0=0 delivered; take 0=none taken; turn 0=1 nothing; turn 2=0 delivered; turn 2=0 delivered; "
-     "serve 2=nothing; put 2=put; take 1=taken; take 1=hand full; serve 1=delivered; attempt 1=Completed; attempt 1=Idle", (7, 1), 0),
+     "serve 2=nothing; put 2=put; take 1=taken; take 1=hand full; serve 1=delivered; attempt 1=Completed; "
+     "attempt 1=Idle", (7, 1), 0),
     # The bank took each request from the first slot, so it looks for the next message at the second: that of line 1.
     ("a link has four slots, which go round", {"cores": 1},
      "".join(STORE.format(word=word, value=word, bank=1) for word in range(5))
@@ -85,6 +90,39 @@ SEAT_RUNS = [
      "turn 1=1 nothing; turn 2=0 started; turn 2=0 delivered; turn 2=0 delivered; turn 2=refused 8; turn 2=refused 9; "
      "take 2=none taken", (None, LAST), 0),
 ]
+
+# Two cores each store to a word of their own and then load the other's, by seats 0 and 1 and the bank's, 2. Passes:
+# 1 both ask for their line, and the bank takes the request of line 0. 2, 3 line 0 comes from DRAM. 4 it is granted.
+# 5 the grant is put, and the request of line 1 taken. 6 core 0 takes the grant; 6, 7 line 1 comes from DRAM. 7 core 0
+# stores. 8 it asks for line 1, which is granted. 9 that grant is put, and core 0's request taken, so that line 1 is
+# recalled. 10 core 1 takes the grant. 11 it stores, and serves the recall. 12 it asks for line 0, and the bank takes
+# the line that was written back. 13 core 0's request is answered. 14 that is put, and core 1's request taken, so that
+# line 0 is recalled. 15 core 0 takes its answer. 16 it loads, and serves the recall. 17 the bank takes what was written
+# back. 18 core 1's request is answered, 19 that is put, 20 taken, and 21 core 1 loads.
+BUFFERING = "0 W 0x0 1; 0 R 0x8; 1 W 0x8 1; 1 R 0x0"
+BUFFERED = ["0 0 W 0x0 1 1 0", "1 0 W 0x8 1 1 1", "0 1 R 0x8 1 1 2", "1 1 R 0x0 1 1 3"]
+
+# A first operation takes 7 passes: asked for and taken, from DRAM in 2, granted, put, taken, done.
+# What a run by one worker shows, its options, its trace, its end, its passes, its records, and counts that aren't 0.
+WORKER_RUNS = [
+    ("store buffering", {}, BUFFERING, "all-done", 21, BUFFERED, {"write-backs": 2}),
+    ("its last turn wasn't too much", {"limit": 21}, BUFFERING, "all-done", 21, BUFFERED, {"write-backs": 2}),
+    ("one turn less", {"limit": 20}, BUFFERING, "limit", 20, BUFFERED[:3], {"write-backs": 2}),
+    ("no operation needs no turn", {}, "", "all-done", 0, [], {}),
+    ("an advance takes the core's turn", {}, "trace 2; 0 A; 0 R 0x0", "all-done", 8, ["0 0 R 0x0 0 1 0"], {}),
+    # In pass 8 the copy of line 0 leaves, and in pass 9 line 1 is asked for.
+    ("a copy leaves, and the attempt comes in the next turn", {"sets": 1, "ways": 1}, "0 R 0x0; 0 R 0x8", "all-done",
+     15, ["0 0 R 0x0 0 0 0", "0 1 R 0x8 0 0 1"], {}),
+    # In pass 8 the request of line 1 is held. In pass 9 line 0 leaves the bank, which raises the memory time to its
+    # lease's end, 10, and line 1 is asked of DRAM.
+    ("a line leaves the bank before the turn", {"bank_sets": 1, "bank_ways": 1}, "0 R 0x0; 0 R 0x8", "all-done", 15,
+     ["0 0 R 0x0 0 0 0", "0 1 R 0x8 0 10 1"], {}),
+    ("a core's time ends in its attempt", {"time": LAST}, "0 W 0x0 1", "exhausted", 7, [], {}),
+    # Pass 4: the bank's lease passes the last time. Core 1's line would have been asked for in pass 5.
+    ("a bank's time ends in its turn", {"time": LAST}, "0 R 0x0; 1 R 0x8", "exhausted", 4, [], {}),
+]
+# A seat that stops ends the pass, so that core 1 isn't issued anything, unless it stands in front of the seat.
+ISSUED = [("trace 2; 0 A; 1 R 0x0", "exhausted", [0, 0]), ("trace 2; 0 R 0x0; 1 A", "exhausted", [1, 0])]
 
 
 def operation(words):
@@ -145,9 +183,33 @@ def test_seats(shows, options, calls, last, waiting):
     assert sum(m is not None for m in seats.slots) == waiting, shows
 
 
+def drive_worker(steps, options):
+    programs = Trace(steps.replace("; ", "\n").encode("ascii")).programs()
+    return by_one_worker(SimpleNamespace(**{**USUAL, "limit": 100, **options}), programs, {})
+
+
+def test_worker(shows, options, steps, wanted, passes, records, counts):
+    run, end = drive_worker(steps, options)
+    assert (end, run.turns) == (wanted, passes), f"{shows}: {end} after {run.turns} passes"
+    made = [record_line(record) for record in run.machine.records]
+    assert made == records, f"{shows}: {made}"
+    totals = run.machine.totals()
+    assert totals == {**dict.fromkeys(totals, 0), **counts}, f"{shows}: {totals}"
+
+
+def test_stop(steps, wanted, issued):
+    run, end = drive_worker(steps, {"time": LAST})
+    made = [len(operations) for operations in run.issued()]
+    assert (end, run.turns, made) == (wanted, 1, issued), f"{steps}: {end} after {run.turns} passes, issued {made}"
+
+
 def test_machine():
     for run in RUNS:
         test_run(*run)
     for run in SEAT_RUNS:
         test_seats(*run)
-    return len(RUNS) + len(SEAT_RUNS)
+    for run in WORKER_RUNS:
+        test_worker(*run)
+    for run in ISSUED:
+        test_stop(*run)
+    return len(RUNS) + len(SEAT_RUNS) + len(WORKER_RUNS) + len(ISSUED)

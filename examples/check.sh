@@ -2,7 +2,7 @@
 # Runs every example and compares its report, and some refused inputs and their error lines: examples/check.sh [PROGRAM]
 # PROGRAM is a program that is built; without it the program at the top is built where it isn't, and run. The reports
 # are those of examples/oracle.py, which knows nothing of the program; the tables and error lines are by hand. Runs by
-# threads differ from one time to the next: of their reports it is asked what every run has (examples/by_threads.py).
+# several threads differ from one time to the next: of their reports it is asked what every run has (by_threads.py).
 #
 # The parts that are run, each a function below; PARTS names others.
 parts=${PARTS:-litmus catalogue settings refusals seeds workers threads traces seeded_traces verdicts trace_refusals}
@@ -216,61 +216,105 @@ one_message_by_threads() {
         "$examples/traces/ONE-MESSAGE.trace"
 }
 
-# Each test of the catalogue: the end states are some of those of examples/sequential.py, and nothing stalls. By one
-# worker all runs are all done, and alike.
-tests_by_threads() {
-    for file in "$examples"/litmus/*.litmus; do
-        for number in 1 2; do
-            name="${file##*/} by threads, $number workers"
-            by_threads litmus --runs 20 --workers "$number" "$file"
-            if [ "$number" -eq 1 ]; then
-                must "$name: not all done" has 'all-done 20'
-                must "$name: not alike" has 'states 1'
-            fi
-            count "$good"
-            keep litmus "$file" 20 "$got"
-        done
-    done
-    judge
+# as_by_oracle: of each row FILE|WORD|.. the program says with the words what examples/oracle.py says with them.
+as_by_oracle() {
+    "$examples/oracle.py" --rows <"$work/rows" || count no
+    while IFS='|' read -r wanted words; do
+        set -f
+        IFS='|'
+        # shellcheck disable=SC2086
+        set -- $words
+        unset IFS
+        set +f
+        told "$words" "$(cat "$wanted.status")" "$wanted" /dev/null "$@"
+    done <"$work/rows"
+    rm -f "$work/rows" "$work"/wanted.*
 }
 
-# trace_by_threads TRACE WORKERS: its records are legal, and the report's numbers agree with the trace. By one worker
-# the report and the records are of runs that are alike. Where banks have few places, lines may come and go until all
-# turns are used: such a run has fewer.
+# of_one_worker WORDS..: a row for as_by_oracle, of a command by one worker.
+of_one_worker() {
+    rows=$((rows + 1)) command=$1
+    shift
+    row "$work/wanted.$rows" "$command" --schedule threads "$@"
+}
+
+# The options of a trace, for a schedule that takes no seed. Where banks have few places, lines may come and go until
+# all turns are used: such a run has fewer.
+options_by_threads() {
+    given=$(options_of "$1" | sed -e 's/--schedule seed//' -e 's/--seed [0-9]*//')
+    case $given in
+        *--limit*) ;;
+        *--bank-*) given="$given --limit 2000" ;;
+    esac
+    printf '%s\n' "$given"
+}
+
+# One worker gives all turns in one order: what comes of it is known, of each test of the catalogue and of each trace.
+by_one_worker() {
+    for file in "$examples"/litmus/*.litmus; do
+        of_one_worker litmus --runs 3 "$file"
+    done
+    for file in "$examples"/traces/*.trace; do
+        # shellcheck disable=SC2046
+        of_one_worker trace $(options_by_threads "$file") "$file"
+        # shellcheck disable=SC2046
+        of_one_worker trace --records $(options_by_threads "$file") "$file"
+    done
+    as_by_oracle
+}
+
+# is_at NUMBER: whether the file that is looked at is one of each NUMBER, counted by `at`.
+is_at() {
+    [ $((at % $1)) -eq 0 ]
+}
+
+# test_by_threads TEST WORKERS: the end states are some of those of examples/sequential.py, and nothing stalls.
+test_by_threads() {
+    name="${1##*/} by threads, $2 workers"
+    by_threads litmus --runs 20 --workers "$2" "$1"
+    count "$good"
+    keep litmus "$1" 20 "$got"
+}
+
+# trace_by_threads TRACE WORKERS: its records are legal, and the report's numbers agree with the trace.
 trace_by_threads() {
     name="${1##*/} by threads, $2 workers"
-    given=$(options_of "$1" | sed -e 's/--schedule seed//' -e 's/--seed [0-9]*//' -e 's/ *$//')
-    words="$given --workers $2"
-    case $words in
-        *--limit*) ;;
-        *--bank-*) words="$words --limit 2000" ;;
-    esac
+    words="$(options_by_threads "$1") --workers $2"
     # shellcheck disable=SC2086
     by_threads trace --records $words "$1"
     count "$good"
     keep records "$1" "$got"
-    records=$work/threads.$rows
-    told "$name: check" 0 "$work/legal" /dev/null check "$1" "$records"
+    told "$name: check" 0 "$work/legal" /dev/null check "$1" "$work/threads.$rows"
     # shellcheck disable=SC2086
     by_threads trace $words "$1"
-    [ "$2" -gt 1 ] || [ -n "$given" ] || must "${1##*/} by threads: not all done" has 'end all-done'
     count "$good"
     keep trace "$1" "$got"
-    [ "$2" -gt 1 ] || row same "$1" "$work/threads.$rows" "$records"
+}
+
+# All tests and traces by two workers; each fourth test and each third trace by four workers, too.
+by_more_workers() {
+    at=0
+    for file in "$examples"/litmus/*.litmus; do
+        test_by_threads "$file" 2
+        if is_at 4; then test_by_threads "$file" 4; fi
+        at=$((at + 1))
+    done
+    at=0
+    for file in "$examples"/traces/*.trace; do
+        trace_by_threads "$file" 2
+        if is_at 3; then trace_by_threads "$file" 4; fi
+        at=$((at + 1))
+    done
+    judge
 }
 
 threads() {
     rows=0
+    echo legal >"$work/legal"
     buffering_by_threads
     one_message_by_threads
-    tests_by_threads
-    echo legal >"$work/legal"
-    for file in "$examples"/traces/*.trace; do
-        for number in 1 2 4; do
-            trace_by_threads "$file" "$number"
-        done
-    done
-    judge
+    by_one_worker
+    by_more_workers
 }
 
 refusals() {

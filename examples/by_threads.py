@@ -6,11 +6,10 @@ Each row has one of these forms. STATUS is the exit status; all other words but 
     litmus|TEST|RUNS|STATUS|REPORT       a test's report of so many runs
     trace|TRACE|STATUS|REPORT            a trace's report
     records|TRACE|STATUS|RECORDS         a trace's records
-    same|TRACE|REPORT|RECORDS            both of runs that are alike, as those of one worker are
 
-Runs by threads differ from one time to the next, so nothing here is asked that only some run has. The ends of a test
-are those of sequential.py; texts are read by the parts of oracle.py. Memory must be found: a run that ended for want of
-it is told as a fault.
+Runs by several threads differ from one time to the next, so nothing here is asked that only some run has. The ends of
+a test are those of sequential.py; texts are read by the parts of oracle.py. Memory must be found: a run that ended for
+want of it is told as a fault.
 """
 import re
 import sys
@@ -18,7 +17,6 @@ from pathlib import Path
 
 import sequential
 from expected import options_of
-from reference import order
 from reference.litmus import Test
 from reference.reports import ENDS, Batch
 from reference.schedules import ADVANCE
@@ -159,23 +157,11 @@ def record_faults(path, status, text):
         yield f"status {status}"
 
 
-def same_faults(path, report, text):
-    """What a report says of the records of its own run."""
-    trace, lines, records = Trace(path.read_bytes()), report.splitlines(), read_records(text.encode("ascii"))
-    memory, kinds = order.end_memory({}, records), [record.kind for record in records]
-    wanted = [f"completed {len(records)}", *(f"{kind}s {kinds.count(kind)}" for kind in KINDS),
-              f"stale-hits {order.stale_hits(records)}", f"order {order.check({}, trace.issued(), records)}",
-              *(f"word {8 * word:#x} {memory.get(word, 0)}" for word in trace.words())]
-    yield from (f"the records say '{line}'" for line in wanted if line not in lines)
-
-
 def faults(kind, path, *given):
     """The faults of a row."""
     *numbers, last = given
     text = Path(last).read_text(encoding="ascii")
     try:
-        if kind == "same":
-            return list(same_faults(Path(path), Path(numbers[0]).read_text(encoding="ascii"), text))
         of = {"litmus": litmus_faults, "trace": trace_faults, "records": record_faults}[kind]
         return list(of(Path(path), *map(int, numbers), text))
     except (Fault, IndexError, ValueError) as error:

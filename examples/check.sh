@@ -226,7 +226,7 @@ as_by_oracle() {
         set -- $words
         unset IFS
         set +f
-        told "$words" "$(cat "$wanted.status")" "$wanted" /dev/null "$@"
+        told "$*" "$(cat "$wanted.status")" "$wanted" /dev/null "$@"
     done <"$work/rows"
     rm -f "$work/rows" "$work"/wanted.*
 }

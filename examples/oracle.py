@@ -1,7 +1,7 @@
 #!/usr/bin/env python3
 """Prints what `tardis litmus|trace|check [options] FILE..` must print, without the program.
 
-Written from docs/ alone: PROTOCOL.md, SCHEDULES.md, TEXTS.md, ORDER.md. The parts are in examples/reference. Litmus
+Written from docs/ alone: PROTOCOL.md, SCHEDULES.md, SEATS.md, TEXTS.md, ORDER.md. Its parts are in reference/. Litmus
 tests must be good texts, and options in their ranges; faults of traces and of records are told as the program must
 tell them. The status is 0 where every run was all done or the records are legal, 2 where a text is refused, else 1.
 

@@ -22,7 +22,12 @@ fn is_record(record: &Record, told: &Told, number: u64) -> bool {
 
 /// Whether these are the records, by number from 0 on.
 pub(crate) fn are_records(records: &[Record], wanted: &[Told]) -> bool {
-    if records.len() != wanted.len() {
+    records.len() == wanted.len() && begin_so(records, wanted)
+}
+
+/// Whether these are the first of the records, by number from 0 on.
+pub(crate) fn begin_so(records: &[Record], wanted: &[Told]) -> bool {
+    if records.len() > wanted.len() {
         return false;
     }
     for i in 0..records.len() {

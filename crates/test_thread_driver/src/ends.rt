@@ -58,6 +58,25 @@ const AT_THE_LAST_TIME: &[Told] = &[
     (1, 1, On::Load(1), Some(3), u64::MAX),
 ];
 
+/// A lease of 10 doesn't fit behind the opening time, so the first bank stops as it would grant the load. The second
+/// bank has nothing to do.
+pub(crate) const NO_LEASE: Case = Case {
+    config: Config {
+        banks: 2,
+        opening_time: 18_446_744_073_709_551_614,
+        ..ONE
+    },
+    programs: &[&[On::Load(0)]],
+    turn_limit: 1_000,
+};
+
+/// An advance, and then a load.
+const ADVANCE_AND_LOAD: Case = Case {
+    config: ONE,
+    programs: &[&[On::Advance, On::Load(0)]],
+    turn_limit: 0,
+};
+
 #[test]
 fn a_store_is_issued_in_the_first_turn_and_left_open(rt: HostRuntime) -> Result<(), Fail> {
     for workers in [1, 2, 4] {
@@ -134,5 +153,34 @@ fn a_store_after_the_last_time_is_the_end(rt: HostRuntime) -> Result<(), Fail> {
     assert!(rt; are_records(driven.run.records(), AT_THE_LAST_TIME));
     assert_eq!(rt; driven.left.as_slice(), [1, 0].as_slice());
     assert!(rt; were_issued(&driven.run, LAST_TIME.programs, 7));
+    Ok(())
+}
+
+#[test]
+fn a_lease_after_the_last_time_is_the_end(rt: HostRuntime) -> Result<(), Fail> {
+    let driven = drive_case(&rt, rt.alloc(), &NO_LEASE, 1, &Free)?;
+    assert_eq!(rt; driven.end, End::Exhausted);
+    assert_eq!(rt; driven.run.records().len(), 0);
+    assert_eq!(rt; driven.left.as_slice(), [1].as_slice());
+    assert!(rt; were_issued(&driven.run, NO_LEASE.programs, 1));
+    Ok(())
+}
+
+#[test]
+fn after_an_advance_nothing_is_issued_in_the_same_turn(rt: HostRuntime) -> Result<(), Fail> {
+    for (turn_limit, issued, left) in [(0, 0, 2), (1, 0, 1), (2, 1, 1)] {
+        let case = Case {
+            turn_limit,
+            ..ADVANCE_AND_LOAD
+        };
+        let driven = drive_case(&rt, rt.alloc(), &case, 1, &Free)?;
+        assert_eq!(rt; driven.end, End::TurnsUsed, "{turn_limit} turns");
+        assert_eq!(rt; driven.run.issued(0).len(), issued, "{turn_limit} turns");
+        assert_eq!(rt;
+            driven.left.as_slice(),
+            [left].as_slice(),
+            "{turn_limit} turns"
+        );
+    }
     Ok(())
 }

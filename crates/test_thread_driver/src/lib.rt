@@ -4,11 +4,15 @@
 #![tactic(auto)]
 
 #[cfg(test)]
+mod buffering;
+#[cfg(test)]
 mod checks;
 #[cfg(test)]
 mod driver;
 #[cfg(test)]
 mod ends;
+#[cfg(test)]
+mod last_turns;
 #[cfg(test)]
 mod orders;
 #[cfg(test)]

@@ -43,9 +43,40 @@ const AFTER_ADVANCES: &[Told] = &[
     (0, 1, On::Load(0), Some(1), 3),
 ];
 
+/// The private cache has one place: each operation but the first finds the copy of another line there, which leaves.
+/// What was stored goes back to the bank, and comes again. Core 0's time is 1 from its store on.
+const ONE_COPY: Case = Case {
+    config: Config {
+        sets: 1,
+        ways: 1,
+        ..ONE
+    },
+    programs: &[&[
+        On::Load(0),
+        On::Load(1),
+        On::Store(2, 5),
+        On::Load(0),
+        On::Load(2),
+    ]],
+    turn_limit: 1_000,
+};
+
+const AFTER_EVICTIONS: &[Told] = &[
+    (0, 0, On::Load(0), Some(0), 0),
+    (0, 1, On::Load(1), Some(0), 0),
+    (0, 2, On::Store(2, 5), None, 1),
+    (0, 3, On::Load(0), Some(0), 1),
+    (0, 4, On::Load(2), Some(5), 1),
+];
+
 #[test]
 fn one_worker_completes_operations_at_these_times(rt: HostRuntime) -> Result<(), Fail> {
-    for (case, records) in [(ONE_PLACE, AFTER_LEASES), (ADVANCES, AFTER_ADVANCES)] {
+    let cases = [
+        (ONE_PLACE, AFTER_LEASES),
+        (ADVANCES, AFTER_ADVANCES),
+        (ONE_COPY, AFTER_EVICTIONS),
+    ];
+    for (case, records) in cases {
         let driven = drive_case(&rt, rt.alloc(), &case, 1, &Free)?;
         assert_eq!(rt; driven.end, End::AllDone, "{records:?}");
         assert!(rt; are_records(driven.run.records(), records), "{records:?}");

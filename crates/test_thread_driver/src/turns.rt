@@ -1,7 +1,7 @@
 //! Which turns workers give seats, as gates see them.
 use crate::checks::is_legal;
 use crate::driver::{Case, drive_case};
-use crate::ends::{LAST_TIME, NOTHING, STORE};
+use crate::ends::{LAST_TIME, NO_LEASE, NOTHING, STORE};
 use crate::turn_counts::{MANY_TURNS, TurnCounts};
 use machine_table::Config;
 use run_ends::End;
@@ -78,7 +78,8 @@ fn turns_are_used_once_each_seat_had_all_of_its_turns(rt: HostRuntime) -> Result
 }
 
 // A worker alone sees at once that programs without steps are all done, and that a store is done after its seventh
-// turn. A seat that stops ends the pass: those behind it have a turn less.
+// turn. A seat that stops ends the pass: those behind it have a turn less. A bank has loaded a line after three turns,
+// and would grant it in its fourth.
 #[test]
 fn one_worker_gives_no_turn_after_the_end(rt: HostRuntime) -> Result<(), Fail> {
     let store = Case {
@@ -89,6 +90,7 @@ fn one_worker_gives_no_turn_after_the_end(rt: HostRuntime) -> Result<(), Fail> {
         (NOTHING, End::AllDone, [0, 0, 0]),
         (store, End::AllDone, [7, 7, 0]),
         (LAST_TIME, End::Exhausted, [13, 12, 12]),
+        (NO_LEASE, End::Exhausted, [4, 4, 3]),
     ];
     for (case, end, counts) in cases {
         let gate = TurnCounts::new();
@@ -126,5 +128,25 @@ fn a_seat_that_stops_ends_the_turns_of_all_workers(rt: HostRuntime) -> Result<()
     assert!(rt; driven.run.records().len() >= 6);
     assert!(rt; is_legal(rt.alloc(), &driven.run)?);
     assert!(rt; are_stopped(&gate));
+    Ok(())
+}
+
+// One worker has core 0 and the bank, which stops in its fourth turn, whichever core's load it would grant then. The
+// other worker has core 1.
+#[test]
+fn a_bank_that_stops_ends_the_turns_of_all_workers(rt: HostRuntime) -> Result<(), Fail> {
+    let case = Case {
+        config: LAST_TIME.config,
+        programs: &[&[On::Load(0)], &[On::Load(1)]],
+        turn_limit: MANY_TURNS,
+    };
+    let gate = TurnCounts::new();
+    let driven = drive_case(&rt, rt.alloc(), &case, 2, &gate)?;
+    assert_eq!(rt; driven.end, End::Exhausted);
+    assert_eq!(rt; driven.run.records().len(), 0);
+    assert_eq!(rt; driven.left.as_slice(), [1, 1].as_slice());
+    assert_eq!(rt; gate.of(0), Some(4));
+    assert_eq!(rt; gate.of(2), Some(4));
+    assert!(rt; matches!(gate.of(1), Some(turns) if turns < u64::from(MANY_TURNS)));
     Ok(())
 }

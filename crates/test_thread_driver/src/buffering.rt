@@ -1,0 +1,89 @@
+//! Store buffering that workers drive, with each number of turns up to 40.
+use crate::checks::{Told, begin_so, is_legal};
+use crate::driver::{Case, drive_case};
+use machine_table::Config;
+use physiological_order::Record;
+use run_ends::End;
+use schedule_cases::{On, USUAL};
+use shared_jobs::Free;
+use std::test::Fail;
+
+/// Each core stores to a word, and then loads the word of the other.
+const BUFFERING: Case = Case {
+    config: Config { cores: 2, ..USUAL },
+    programs: &[
+        &[On::Store(0, 1), On::Load(1)],
+        &[On::Store(1, 1), On::Load(0)],
+    ],
+    turn_limit: 0,
+};
+
+/// What one worker's seats complete: the stores in turns 7 and 11, the loads in turns 16 and 21.
+///
+/// The bank grants core 0 its line in turn 4. It takes core 1's request in turn 5, and grants that in turn 8. It takes
+/// core 0's load in turn 9. That line is back in turn 12, after the store of turn 11, and granted in turn 13. The bank
+/// takes core 1's load in turn 14. That line is back in turn 17, after core 0's load, and granted in turn 18.
+const BY_ONE: &[Told] = &[
+    (0, 0, On::Store(0, 1), None, 1),
+    (1, 0, On::Store(1, 1), None, 1),
+    (0, 1, On::Load(1), Some(1), 1),
+    (1, 1, On::Load(0), Some(1), 1),
+];
+
+#[test]
+fn one_worker_completes_store_buffering_so(rt: HostRuntime) -> Result<(), Fail> {
+    let ranges = [
+        (0, 6, 0, End::TurnsUsed),
+        (7, 10, 1, End::TurnsUsed),
+        (11, 15, 2, End::TurnsUsed),
+        (16, 20, 3, End::TurnsUsed),
+        (21, 40, 4, End::AllDone),
+    ];
+    for (first, last, completed, end) in ranges {
+        for turn_limit in first..=last {
+            let case = Case {
+                turn_limit,
+                ..BUFFERING
+            };
+            let driven = drive_case(&rt, rt.alloc(), &case, 1, &Free)?;
+            let records = driven.run.records();
+            assert_eq!(rt; driven.end, end, "{turn_limit} turns");
+            assert_eq!(rt; records.len(), completed, "{turn_limit} turns");
+            assert!(rt; begin_so(records, BY_ONE), "{turn_limit} turns");
+            assert!(rt; is_legal(rt.alloc(), &driven.run)?, "{turn_limit} turns");
+        }
+    }
+    Ok(())
+}
+
+// Whether two of these received 0.
+fn two_received_zero(records: &[Record]) -> bool {
+    let mut one_has = false;
+    for i in 0..records.len() {
+        if records[i].received == Some(0) {
+            if one_has {
+                return true;
+            }
+            one_has = true;
+        }
+    }
+    false
+}
+
+#[test]
+fn two_workers_leave_legal_records_of_store_buffering(rt: HostRuntime) -> Result<(), Fail> {
+    for turn_limit in 0..=40 {
+        let case = Case {
+            turn_limit,
+            ..BUFFERING
+        };
+        let driven = drive_case(&rt, rt.alloc(), &case, 2, &Free)?;
+        let records = driven.run.records();
+        let is_done = records.len() == 4;
+        assert!(rt; is_legal(rt.alloc(), &driven.run)?, "{turn_limit} turns");
+        assert!(rt; records.len() <= 4, "{turn_limit} turns");
+        assert_eq!(rt; driven.end == End::AllDone, is_done, "{turn_limit} turns");
+        assert!(rt; !two_received_zero(records), "{turn_limit} turns");
+    }
+    Ok(())
+}

@@ -1,8 +1,9 @@
 #!/bin/sh
 # Builds the program and measures traces by rounds and by threads with 1, 2 and 4 workers, three times each:
 # bench/threads.sh [OPERATIONS] [PROGRAM, if not the one built here]
-# The traces have 4, 16 and 64 cores, and loads, stores and swaps of 4,096 words that all fit into the banks. The time is
-# that of the whole command, with reading the trace and the report.
+# The traces have 4, 16 and 64 cores, and loads, stores and swaps of 4,096 words that all fit into the banks. The time
+# is that of the whole command, with reading the trace and writing its records. (The report by threads would look
+# through all records once for each word.)
 set -e
 top=$(cd "$(dirname "$0")/.." && pwd)
 operations=${1:-200000}
@@ -34,13 +35,13 @@ measure() {
     shift
     for _ in 1 2 3; do
         start=$(date +%s.%N)
-        "$program" trace --banks 4 --limit 100000000 "$@" "$folder/$cores.trace" >"$folder/report" || :
+        status=0
+        "$program" trace --records --banks 4 --limit 100000000 "$@" "$folder/$cores.trace" >"$folder/records" \
+            || status=$?
         end=$(date +%s.%N)
-        awk -v words="$*" -v cores="$cores" -v start="$start" -v end="$end" '
-            /^completed / { completed = $2 }
-            /^end / { how = $2 }
-            END { printf "%d cores, %s: %d operations a second (%s, %d in %.2f s)\n", cores, words,
-                completed / (end - start), how, completed, end - start }' "$folder/report"
+        awk -v words="$*" -v cores="$cores" -v start="$start" -v end="$end" -v status="$status" '
+            END { printf "%d cores, %s: %d operations a second (%d in %.2f s, status %d)\n", cores, words,
+                NR / (end - start), NR, end - start, status }' "$folder/records"
     done
 }
 

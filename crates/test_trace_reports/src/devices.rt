@@ -61,7 +61,13 @@ pub(crate) fn ran<R: Threads + Sync>(
         step: 1,
         calls: devices.writes,
     });
-    run_trace(rt, alloc, &mut source(text, devices.reads), &mut sink, options)
+    run_trace(
+        rt,
+        alloc,
+        &mut source(text, devices.reads),
+        &mut sink,
+        options,
+    )
 }
 
 /// Checks records, of which reading fails after so many calls, against a trace.

@@ -52,7 +52,14 @@ fn a_long_trace_is_reported(rt: HostRuntime) -> Result<(), Fail> {
 fn records_of_a_long_trace_are_legal(rt: HostRuntime) -> Result<(), Fail> {
     let trace = many_loads(rt.alloc())?;
     let mut records = Vec::new(rt.alloc());
-    let done = ran(&rt, rt.alloc(), &trace, &asked(true), TAKING_ALL, &mut records);
+    let done = ran(
+        &rt,
+        rt.alloc(),
+        &trace,
+        &asked(true),
+        TAKING_ALL,
+        &mut records,
+    );
     assert!(rt; done == Ok(Done { all_done: true }) && records.len() as u64 == RECORD_BYTES);
     let mut line = Vec::new(rt.alloc());
     let legal = checked(rt.alloc(), &trace, &records, ALL, TAKING_ALL, &mut line);

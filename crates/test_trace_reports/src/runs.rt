@@ -198,7 +198,14 @@ const REFUSED: [(&[u8], u64, RunError); 12] = [
 fn refusals_write_nothing(rt: HostRuntime) {
     for (text, lease, error) in REFUSED {
         let mut out = Vec::new(rt.alloc());
-        let refused = ran(&rt, rt.alloc(), text, &options(lease), Devices::WHOLE, &mut out);
+        let refused = ran(
+            &rt,
+            rt.alloc(),
+            text,
+            &options(lease),
+            Devices::WHOLE,
+            &mut out,
+        );
         assert!(rt; refused == Err(error) && out.is_empty());
     }
 }
@@ -216,7 +223,14 @@ fn devices_that_fail(rt: HostRuntime) {
     for (reads, writes, error, written) in FAILING {
         let mut out = Vec::new(rt.alloc());
         let devices = Devices { reads, writes };
-        let failed = ran(&rt, rt.alloc(), SWAPS, &TraceOptions::DEFAULT, devices, &mut out);
+        let failed = ran(
+            &rt,
+            rt.alloc(),
+            SWAPS,
+            &TraceOptions::DEFAULT,
+            devices,
+            &mut out,
+        );
         assert!(rt; failed == Err(error) && out.as_slice() == &SWAPS_REPORT[..written]);
     }
 }

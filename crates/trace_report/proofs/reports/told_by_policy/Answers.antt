@@ -8,7 +8,7 @@ use Rattle.trace_report.specs.Runs.{IsRun, core_count}
 use Rattle.trace_report.proofs.reports.told_by_policy.Goals as goal
 
 pub report_on-requires : goal.report_on-requires
-report_on-requires c = record { shows = (c.in_ok-ran.ran.machine, refl, c.in_ok-ran.ensures.complete); }
+report_on-requires c = record { shows = (c.in_ok-ran.ran.machine, refl, c.in_ok-ran.ensures.complete) }
 
 pub returns : goal.returns
 returns c =

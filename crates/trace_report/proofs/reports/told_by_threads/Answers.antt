@@ -11,7 +11,7 @@ use Rattle.trace_report.proofs.reports.told_by_threads.Goals as goal
 pub report_on-requires : goal.report_on-requires
 report_on-requires g c =
     let is = c.in_ok-ran.ensures in
-    record { shows = (machine_of c.in_ok-ran.ran.machine is.0, (is.0, refl), is.1.complete); }
+    record { shows = (machine_of c.in_ok-ran.ran.machine is.0, (is.0, refl), is.1.complete) }
 
 pub returns : goal.returns
 returns g c =

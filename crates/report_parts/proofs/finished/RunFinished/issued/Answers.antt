@@ -12,6 +12,6 @@ returns c = λ m shown.
     let as_shown = ap (λ (k : Machine). slice_index_or k.issued core []) shown.1 in
     elim (cases_lt core run.set_up.config.cores) [
       | inl below ↦
-        c.issued.ensures.issued shown.0 below ∙ sym (list.there run shown.0 core below) ∙ as_shown
+          c.issued.ensures.issued shown.0 below ∙ sym (list.there run shown.0 core below) ∙ as_shown
       | inr past ↦ c.issued.ensures.none past ∙ sym (list.none run shown.0 core past) ∙ as_shown
     ]

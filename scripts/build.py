@@ -1,8 +1,8 @@
 #!/usr/bin/env python3
 """Proves and builds a crate with all crates that it stands on, several at a time: scripts/build.py [CRATE] [--jobs N]
 
-Each crate is built once those below it are. Standard error tells how far the build is, and each error; the status is
-0 exactly if all is proved. CRATE is tardis if no other is named. N is the number of processors if it isn't given, and
+Each crate is built once those below it are. Standard error tells how far the build is, after how many minutes, and each
+error; the status is 0 exactly if all is proved. CRATE is tardis if no other is named. N is the number of processors if it isn't given, and
 fewer where there is less than 3 GB of memory for each.
 """
 import argparse
@@ -10,6 +10,7 @@ import concurrent.futures
 import os
 import subprocess
 import sys
+import time
 from pathlib import Path
 
 TOP = Path(__file__).resolve().parent.parent
@@ -56,8 +57,7 @@ def say(text):
 
 def build(graph, order, jobs):
     """Proves the crates of `order`; whether all are proved."""
-    waiting = list(order)
-    proved = set()
+    waiting, proved, began = list(order), set(), time.monotonic()
     with concurrent.futures.ThreadPoolExecutor(jobs) as pool:
         running = set()
         while waiting or running:
@@ -70,7 +70,8 @@ def build(graph, order, jobs):
                     say(f"{name} is not proved:\n{fault}")
                     return False
                 proved.add(name)
-                say(f"{len(proved)} of {len(order)} crates: {name} is proved")
+                minutes = int(time.monotonic() - began) // 60
+                say(f"{len(proved)} of {len(order)} crates after {minutes} min: {name} is proved")
     return True
 
 

@@ -8,7 +8,8 @@ or tests them.
 A table stands between the lines `<!-- table NAME -->` and `<!-- end -->`. A quotation stands between the lines
 `<!-- source FILE ITEM .. -->` and `<!-- end -->`: a file of crates/ and the functions or types of it that are quoted,
 each with the comment above it. The script also tests that each path of a file that a document names or links to is
-there, and that of a crate's proofs only proofs/Lemmas.antt is open to the crates above.
+there, that of a crate's proofs only proofs/Lemmas.antt is open to the crates above, and that the figures of
+docs/HOSTILE.md add up.
 """
 import re
 import sys
@@ -299,6 +300,30 @@ def open_proofs():
                 yield "%s opens %s: crates above use proofs/Lemmas.antt alone" % (lib.relative_to(CRATES), name)
 
 
+def numbers_in(text):
+    return [int(number.replace(",", "")) for number in re.findall(r"(?<![\w.])\d[\d,]*(?![\w.]*\w)", text)]
+
+
+def figures():
+    """What docs/HOSTILE.md tells of its tests in sums, and README.md of these, if it isn't so. The scripts of tests/
+    compare the other figures with what they tried."""
+    page = (TOP / "docs/HOSTILE.md").read_text(encoding="utf-8")
+    rows = re.findall(r"^\| ([^|]+) \| ([^|]+) \|", page, re.M)
+    first = {name: numbers_in(told)[0] for name, told in rows if numbers_in(told)}
+    for name, header in (("refusals of memory, of reads and writes, of the host", "| Part | Tried |"),
+                         ("bad texts and command lines", "| Part of `tests/texts.py` |")):
+        table = page.split(header, 1)[1].split("\n\n", 1)[0]
+        total = sum(numbers_in(row.split("|")[2])[0] for row in table.splitlines() if row.startswith("| `"))
+        if first[name] != (round(total, -2) if name.startswith("refusals") else total):
+            yield "HOSTILE.md tells %d of %s, and the parts are %d" % (first[name], name, total)
+    readme = (TOP / "README.md").read_text(encoding="utf-8")
+    sentence = re.search(r"Built programs were tried under (.*?)\(\[docs/HOSTILE.md", readme, re.S).group(1)
+    told = {number for _, cell in rows for number in numbers_in(cell)}
+    for number in numbers_in(sentence):
+        if number not in told:
+            yield "README.md tells of %d tries, and HOSTILE.md doesn't" % number
+
+
 def written(page, renewed, check, faults):
     """Writes what is renewed of a page, or says that it differs."""
     old = page.read_text(encoding="utf-8")
@@ -318,7 +343,7 @@ def main():
     for document in sorted(TOP.glob("*.md")) + sorted((TOP / "docs").glob("*.md")) + [TOP / "examples/README.md"]:
         written(document, with_quotations, check, faults)
         faults += list(missing_paths(document)) + list(missing_links(document))
-    faults += open_proofs()
+    faults += list(open_proofs()) + list(figures())
     for fault in faults:
         print("documents.py: " + fault)
     raise SystemExit(1 if faults else 0)

@@ -1,8 +1,8 @@
 """Runs that end for want of memory, by the second program (examples/reference): all that may be told of one.
 
-A run ends so only before an event that asks for memory: one that opens an operation, or brings DRAM the first store of a
-line. Or it ends where the schedule lists something: the messages in flight, before a round's first delivery, and the
-lines that may be evicted, if a seed drew an eviction. What is told then is what is told of the events before.
+A run ends so only before an event that asks for memory: one that opens an operation, or brings DRAM the first store
+of a line. Or it ends where the schedule lists something: the messages in flight, before a round's first delivery, and
+the lines that may be evicted, if a seed drew an eviction. What is told then is what is told of the events before.
 """
 from itertools import product
 
@@ -58,8 +58,8 @@ def ends_of(start, tell):
     return [tell(*start(last)) for last in whole.asks]
 
 
-def of_litmus(options):
-    """What may be told of a batch in which a run, or some, ended for want of memory."""
+def cuts_of(options):
+    """Of each run of a batch what is told of it alone, and all that is told of it if it ended for want of memory."""
     test = oracle.read_litmus(options.FILE)
 
     def tell(run, end):
@@ -76,6 +76,12 @@ def of_litmus(options):
 
         wholes.append(tell(*start(None)))
         cuts.append(ends_of(start, tell))
+    return wholes, cuts
+
+
+def of_litmus(options):
+    """What may be told of a batch in which a run, or some, ended for want of memory."""
+    wholes, cuts = cuts_of(options)
     if options.runs == 1:
         return cuts[0]
     choices = [[whole, *dict.fromkeys(cut)] for whole, cut in zip(wholes, cuts)]

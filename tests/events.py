@@ -5,7 +5,8 @@ STDOUT ..
 
 PROGRAM is the built crate event_player. The machines have few words, and every limit of theirs is small or at its end:
 sets, ways, messages, leases, times. Some machines are driven by programs, by rounds and by seeds, instead of being
-given single events. With --print the files are written that the gate plays.
+given single events. What a machine remembers is asked for now and then, and at its end. Configurations at the ends of
+their ranges, and beyond, come first. With --print the files are written that the gate plays.
 """
 import argparse
 import random
@@ -18,6 +19,7 @@ from types import SimpleNamespace
 
 TOP = Path(__file__).resolve().parent.parent
 sys.path.insert(0, str(TOP / "examples"))
+from figures import is_told  # noqa: E402
 from reference.machine import Machine  # noqa: E402
 from reference.order import end_memory  # noqa: E402
 from reference.schedules import ADVANCE, Run, by_rounds, by_seed  # noqa: E402
@@ -28,6 +30,14 @@ LETTERS = {"load": "R", "store": "W", "swap": "S"}
 CARRIERS = ("ExRep", "UpgradeRep", "FlushRep", "WbRep")
 LAST = 2 ** 64 - 1
 FIELDS = "cores banks sets ways bank_sets bank_ways line_words lease messages time private_write".split()
+# The least and the greatest number of each field that has a range (docs/TEXTS.md; cores: docs/PROTOCOL.md).
+RANGES = {"cores": (1, 64), "banks": (1, 8), "sets": (1, 1024), "ways": (1, 16), "bank_sets": (1, 1024),
+          "bank_ways": (1, 16), "lease": (1, 2 ** 32), "messages": (1, 65536)}
+LINE_WORDS = (1, 8)
+NO_MACHINE = "no memory for a machine"  # told where `System::new` wanted memory; it is opened once more
+ENDS = ("all-done", "stalled", "limit", "exhausted")
+GATE = (200, 250, 100, 1)  # machines, events, driven ones and the seed as the gate has them
+ASKED = 60  # after so many events, or runs, what the machine remembers is asked for; and at the end
 
 
 def options_of(generator):
@@ -51,6 +61,7 @@ class Player:
         self.words = generator.choice([1, 2, 3, 9]) * (4 if self.o.line_words == 8 else 1)
         self.lines = (self.words - 1) // self.o.line_words + 1
         self.memory = {}  # the values that the replay leaves; (time, number) of the write that left each
+        self.issued = [[] for _ in range(self.o.cores)]
 
     def opening(self):
         return " ".join(map(str, ["machine", *(getattr(self.o, name) for name in FIELDS), self.words, self.lines]))
@@ -94,7 +105,12 @@ class Player:
         answer = self.machine.step(event)
         if answer == "Completed":
             self.write(self.machine.records[-1])
+        self.note(event, answer)
         return answer
+
+    def note(self, event, answer):
+        if answer == "Issued":
+            self.issued[event[1]].append(event[2])
 
     def write(self, record):
         """The word's value, if no write of a later time left another."""
@@ -104,6 +120,16 @@ class Player:
 
     def told(self, answer):
         return answer_text(self.machine, answer) + "|" + self.seen()
+
+    def asked(self):
+        return "history", self.history()
+
+    def history(self):
+        """What the machine remembers: its records, what each core was issued, and one that isn't there, and whether it
+        has stopped."""
+        records = "".join("; " + record_text(record) for record in self.machine.records)
+        issued = "".join("|" + "".join(f" {operation_text(op)};" for op in ops) for ops in [*self.issued, []])
+        return f"history{records}{issued}|" + "stopped" * self.machine.stopped
 
     def seen(self):
         machine = self.machine
@@ -174,6 +200,8 @@ class Drive:
             end = "memory"
         for record in self.player.machine.records[before:]:
             self.player.write(record)
+        for event, answer in run.made:
+            self.player.note(event, answer)
         return run, end
 
     def step(self):
@@ -194,9 +222,10 @@ def answer_text(machine, answer):
     if answer in REFUSALS:
         # NoRoom answers an attempt; Busy, an issue or an eviction: all are told by their numbers.
         return f"refused {REFUSALS[answer]}"
-    if answer != "Completed":
-        return answer.lower()
-    it = machine.records[-1]
+    return answer.lower() if answer != "Completed" else record_text(machine.records[-1])
+
+
+def record_text(it):
     op = operation_text((it.kind, it.word, it.value))
     received = "" if it.received is None else f" received {it.received}"
     return f"completed {it.core} {it.place} {op}{received} at {it.time} number {it.number}"
@@ -215,14 +244,68 @@ def played(generator, events, is_driven=False):
     A machine that has stopped is given three more events. One that is driven is given runs, one for 20 events, until it
     has stopped.
     """
-    player, steps = Player(generator), []
+    player, steps, made = Player(generator), [], 0
     most, after = (events // 20, 0) if is_driven else (events, 3)
-    while len(steps) < most and (after or not player.machine.stopped):
+    while made < most and (after or not player.machine.stopped):
         after -= player.machine.stopped
         steps.append(Drive(player).step() if is_driven else player.step())
+        made += 1
+        if made % ASKED == 0:
+            steps.append(player.asked())
+    steps.append(player.asked())
     left = end_memory({}, player.machine.records)
     assert all(left.get(word, 0) == player.memory.get(word, (0, 0, 0))[2] for word in range(player.words))
     return [player.opening(), *(given for given, _ in steps)], [wanted for _, wanted in steps]
+
+
+def configurations():
+    """A machine for each end of each field's range, which remembers nothing, and one beyond it, which is refused: the
+    lines that are given, and those that are wanted."""
+    usual = dict.fromkeys(FIELDS, 1) | {"time": 0, "private_write": 0}
+    good = [(name, end) for name, ends in RANGES.items() for end in ends] + [("time", LAST)]
+    bad = [(name, number) for name, (_, last) in RANGES.items() for number in (0, last + 1)]
+    bad += [(name, 2 ** 32 - 1) for name in RANGES if name != "lease"] + [("lease", LAST)]
+    good += [("line_words", number) for number in LINE_WORDS]
+    bad += [("line_words", number) for number in (0, 2, 7, 9, 2 ** 32 - 1)]
+    given, wanted = [], []
+    for name, number in [*good, *bad]:
+        fields = usual | {name: number}
+        given.append(" ".join(map(str, ["machine", *fields.values(), 1, 1])))
+        given += ["history"] * ((name, number) in good)
+        wanted.append("history" + "|" * (fields["cores"] + 2) if (name, number) in good else "bad configuration")
+    return given, wanted
+
+
+def is_played(program, name, given, wanted):
+    """Whether the lines that are told are those that are wanted; the first one that isn't is printed."""
+    ran = subprocess.run([program], input=lines_text(given), capture_output=True, text=True)
+    got = ran.stdout.splitlines()
+    if ran.returncode == 0 and got == wanted:
+        return True
+    both = enumerate(zip(wanted, got))
+    at = next((at for at, (one, other) in both if one != other), min(len(wanted), len(got)))
+    print(f"{name} ({given[0]}), status {ran.returncode}, line {at} ({given[1:][at:at + 1]}):")
+    print(f"wanted {wanted[at:at + 1]}\ngot    {got[at:at + 1]}\n{ran.stderr}")
+    return False
+
+
+def lines_text(lines):
+    return "".join(line + "\n" for line in lines)
+
+
+def name_of(line):
+    """What is told in front of a line, for the count."""
+    return " ".join(re.split("[|;]", line)[0].split()[:2 if line.startswith("refused") else 1])
+
+
+def are_told(tried, driven):
+    """Whether docs/HOSTILE.md tells so many events, with those that lie in the repository."""
+    given = (TOP / "crates/event_player/stdin").read_text().splitlines()
+    wanted = (TOP / "crates/event_player/stdout").read_text().splitlines()
+    tried += sum(line.split()[0] not in ("machine", "drive", "history") for line in given)
+    driven += sum(line.split("|")[0].count(";") for line in wanted if line.split(";")[0].split("|")[0] in ENDS)
+    ends = is_told("configurations at the ends of their ranges, and beyond", len(configurations()[1]))
+    return is_told("random events", tried) & is_told("events of random runs", driven) & ends
 
 
 def main():
@@ -236,30 +319,27 @@ def main():
     words = parser.parse_args()
     generator = random.Random(words.seed)
     machines = [False] * words.machines + [True] * words.driven
+    games = ((is_driven, *played(generator, words.events, is_driven)) for is_driven in machines)
     if words.print:
-        both = [played(generator, words.events, is_driven) for is_driven in machines]
+        both = [configurations(), *(game[1:] for game in games)]
         for file, index in zip(words.FILES, (0, 1)):
-            Path(file).write_text("".join(line + "\n" for machine in both for line in machine[index]))
+            Path(file).write_text("".join(lines_text(lines[index]) for lines in both))
         return 0
-    tried, driven, answers = 0, 0, Counter()
-    for machine, is_driven in enumerate(machines):
-        given, wanted = played(generator, words.events, is_driven)
-        ran = subprocess.run([*words.FILES], input="\n".join(given) + "\n", capture_output=True, text=True)
-        got = ran.stdout.splitlines()
-        if ran.returncode or got != wanted:
-            both = enumerate(zip(wanted, got))
-            at = next((at for at, (one, other) in both if one != other), min(len(wanted), len(got)))
-            print(f"machine {machine} ({given[0]}), status {ran.returncode}, event {at} ({given[1:][at:at + 1]}):")
-            print(f"wanted {wanted[at:at + 1]}\ngot    {got[at:at + 1]}\n{ran.stderr}")
+    if not is_played(words.FILES[0], "configurations", *configurations()):
+        return 1
+    tried, driven, answers = 0, 0, Counter(map(name_of, configurations()[1]))
+    for machine, (is_driven, given, wanted) in enumerate(games):
+        if not is_played(words.FILES[0], f"machine {machine}", given, wanted):
             return 1
-        tried += len(wanted) * (not is_driven)
-        answers.update(" ".join(re.split("[|;]", line)[0].split()[:2 if line.startswith("refused") else 1])
-                       for line in wanted)
-        if is_driven:
-            driven += sum(line.split("|")[0].count(";") for line in wanted)
+        answers.update(map(name_of, wanted))
+        events = [line for line in wanted if not line.startswith("history")]
+        tried += len(events) * (not is_driven)
+        driven += is_driven and sum(line.split("|")[0].count(";") for line in events)
     print(", ".join(f"{answer}: {number}" for answer, number in answers.most_common()))
-    print(f"{tried} events on {words.machines} machines, and {driven} events of runs on {words.driven} others, no difference")
-    return 0
+    print(f"{tried} events on {words.machines} machines, and {driven} events of runs on {words.driven} others, "
+          "no difference")
+    is_gate = (words.machines, words.events, words.driven, words.seed) == GATE
+    return is_gate and not are_told(tried, driven)
 
 
 if __name__ == "__main__":

@@ -9,7 +9,6 @@ crates/event_player as PROGRAM, and `seats` wants crates/seat_player.
 """
 import os
 import random
-import shutil
 import subprocess
 import sys
 import tempfile
@@ -21,7 +20,10 @@ sys.path.insert(0, str(TOP / "examples"))
 import events  # noqa: E402
 import oracle  # noqa: E402
 from ended_runs import told_of  # noqa: E402
+from figures import is_told  # noqa: E402
+from refused_batches import refused_batches  # noqa: E402
 from refused_drives import refused_drives  # noqa: E402
+from refused_hosts import refused_hosts  # noqa: E402
 from refused_lists import refused_lists  # noqa: E402
 from refused_seats import refused_seats  # noqa: E402
 from refused_threads import refused_threads  # noqa: E402
@@ -50,10 +52,15 @@ word 0x0 0
 
 
 class Refused:
-    """What a run answered: whether anything was refused, its status, and what it wrote."""
+    """What a run answered: what the shim told of it, its status, and what it wrote.
 
-    def __init__(self, refused, status, out, error):
-        self.refused, self.status, self.out, self.error = refused, status, out, error
+    The shim tells whether anything was refused, and if so, whether threads were at work; and how many were started.
+    """
+
+    def __init__(self, told, status, out, error):
+        self.told, self.status, self.out, self.error = told, status, out, error
+        self.is_at_work, self.started = "w" in told, told.count("t")
+        self.refused = self.is_at_work or "!" in told
 
     def answer(self):
         return self.status, self.out, self.error
@@ -69,12 +76,12 @@ class Tester:
         reader, writer = os.pipe()
         environment = {"LD_PRELOAD": self.shim, "REFUSE_TOLD": str(writer)}
         environment |= {f"REFUSE_{name.upper()}": str(value) for name, value in refusals.items()}
-        ran = subprocess.run([self.program, *map(str, words)], env=environment, pass_fds=[writer], timeout=60,
+        ran = subprocess.run([self.program, *map(str, words)], env=environment, pass_fds=[writer], timeout=600,
                              input=text_of(lines).encode(), capture_output=True)
         os.close(writer)
-        with open(reader, "rb") as told:
-            refused = told.read() != b""
-        return Refused(refused, ran.returncode, ran.stdout.decode(), ran.stderr.decode(errors="replace"))
+        with open(reader, "rb") as shim:
+            told = shim.read().decode()
+        return Refused(told, ran.returncode, ran.stdout.decode(), ran.stderr.decode(errors="replace"))
 
     def expect(self, good, what):
         self.tried += 1
@@ -243,81 +250,58 @@ def behind_each_byte(tester, words, usual):
     print(f"{what}: a read fails behind each of {bytes_read} bytes, a write behind each of {len(usual)}")
 
 
-def as_nobody():
-    if os.getuid() == 0:
-        os.setgid(65534)
-        os.setuid(65534)
-
-
 def host(tester):
-    """Files that can't be read, and outputs that can't be written, as the host makes them."""
+    """What the host itself refuses (refused_hosts.py)."""
     with tempfile.TemporaryDirectory() as folder:
-        os.chmod(folder, 0o755)
-        unreadable(tester, Path(folder))
-        for words, _ in commands(folder):
-            unwritable(tester, words)
-    print("host: files without rights, folders, full devices, closed pipes")
-
-
-def unreadable(tester, folder):
-    program, closed, some = folder / "tardis", folder / "closed", folder / "some"
-    shutil.copy(tester.program, program)
-    some.touch()
-    closed.touch()
-    closed.chmod(0)
-    for bad in (closed, folder, folder / "none"):
-        for words in (["litmus", bad], ["trace", bad], ["check", bad, some], ["check", some, bad]):
-            ran = subprocess.run([program, *words], preexec_fn=as_nobody, capture_output=True)
-            tester.expect((ran.returncode, ran.stdout, ran.stderr) == (4, b"", b"tardis: read failed\n"), f"{words}")
-
-
-def unwritable(tester, words):
-    reader, closed = os.pipe()
-    os.close(reader)
-    with open("/dev/full", "wb") as full, open(closed, "wb") as pipe:
-        for out in (full, pipe):
-            ran = subprocess.run([tester.program, *map(str, words)], stdout=out, stderr=subprocess.PIPE)
-            tester.expect((ran.returncode, ran.stderr) == (4, b"tardis: write failed\n"), f"{words} to {out.name}")
+        refused_hosts(tester, Path(folder), commands(folder))
 
 
 def steps(tester):
     """Events on machines, by the player of crates/event_player: each growth is refused alone.
 
     A refused step is an issue or a delivery. It is answered that there is no memory, and all that can be seen of the
-    machine is as before. Made once more, with memory, it has the usual answer, and so has all that follows. Else the
-    player itself has no memory: it ends, and what it has told is a beginning.
+    machine, and what it remembers, is as before. Made once more, with memory, it has the usual answer, and so has all
+    that follows. A machine for which there is no memory is opened once more. Else the player itself has no memory: it
+    ends, and what it has told is a beginning.
     """
     refused = Counter()
     for seed in (2, 15, 20, 25, 33, 42):  # machines whose DRAM is stored to within 80 events
-        given, wanted = events.played(random.Random(seed), 80)
-        opening = events.Player(random.Random(seed)).told("Idle")
-        refused += steps_of(tester, given, [opening, *wanted])
-    for name in ("issue", "deliver"):
+        player = events.Player(random.Random(seed))
+        given, seen, remembered = [player.opening()], [player.told("Idle")], [player.history()]
+        for _ in range(80):
+            line, wanted = player.step()
+            given, seen, remembered = [*given, line], [*seen, wanted], [*remembered, player.history()]
+        refused += steps_of(tester, [*given, "history"], [*seen, player.history()], remembered)
+    for name in ("machine", "issue", "deliver"):
         tester.expect(refused[name] > 0, f"no {name} was refused")
-    print(f"steps: {refused['issue']} issues and {refused['deliver']} deliveries were refused, and made once more")
+    print(f"steps: {refused['issue']} issues and {refused['deliver']} deliveries were refused, and made once more; and "
+          f"{refused['machine']} machines")
 
 
-def steps_of(tester, given, seen):
-    """The lines that are given, a machine and then events; what is seen of the machine as it opens, and after each."""
+def steps_of(tester, given, seen, remembered):
+    """The lines that are given, a machine and then events; what is seen of the machine as it opens, and after each; and
+    what it remembers then."""
     refused, number = Counter(), 0
     while True:
         number += 1
         ran = tester.run([], given, growth=number)
-        usual = ran.answer() == (0, text_of(seen[1:]), "")
+        out = ran.out.removeprefix(events.NO_MACHINE + "\n")
+        refused["machine"] += out != ran.out
+        usual = (ran.status, out, ran.error) == (0, text_of(seen[1:]), "")
         if usual or not ran.refused:
             tester.expect(usual, f"{given[0]}, growth {number}: {ran.answer()}")
             if not ran.refused:
                 return refused
             continue
-        at = next((at for at, line in enumerate(ran.out.splitlines(), 1) if line.startswith("refused 7|")), None)
+        at = next((at for at, line in enumerate(out.splitlines(), 1) if line.startswith("refused 7|")), None)
         if at is None:
             tester.expect(ran.status != 0 and text_of(seen[1:]).startswith(ran.out), f"{given[0]}, growth {number}")
             continue
         refused[given[at].split()[0]] += 1
         same = "refused 7|" + seen[at - 1].split("|", 1)[1]
-        again = tester.run([], given[:at + 1] + given[at:], growth=number)
-        tester.expect(given[at].split()[0] in ("issue", "deliver")
-                      and again.answer() == (0, text_of([*seen[1:at], same, *seen[at:]]), ""),
+        again = tester.run([], [*given[:at + 1], "history", *given[at:]], growth=number)
+        wanted = text_of([*seen[1:at], same, remembered[at - 1], *seen[at:]])
+        tester.expect(given[at].split()[0] in ("issue", "deliver") and again.answer() == (0, wanted, ""),
                       f"{given[0]}, growth {number}, event {at}, made once more: {again.answer()}")
 
 
@@ -326,17 +310,20 @@ def text_of(lines):
 
 
 # The parts of the program, which are run if none is named; and those of the players.
-PARTS = {"growths": growths, "threads": refused_threads, "devices": devices, "host": host}
+PARTS = {"growths": growths, "threads": refused_threads, "batches": refused_batches, "devices": devices,
+         "host": host}
 PLAYER_PARTS = {"steps": steps, "lists": refused_lists, "drives": refused_drives, "seats": refused_seats}
 
 
 def main():
     program, shim, *parts = sys.argv[1:]
-    tester = Tester(os.path.abspath(program), os.path.abspath(shim))
+    tester, are_told = Tester(os.path.abspath(program), os.path.abspath(shim)), True
     for name in parts or PARTS:
+        before = tester.tried
         (PARTS | PLAYER_PARTS)[name](tester)
+        are_told &= is_told(f"`{name}`", tester.tried - before, is_rough=True)
     print(f"{tester.tried} tried, {tester.wrong} wrong")
-    return tester.wrong != 0
+    return tester.wrong != 0 or not are_told
 
 
 if __name__ == "__main__":

@@ -2,10 +2,14 @@
      REFUSE_GROWTH=N    the Nth growth of memory (malloc, calloc, realloc); N+ also each later one
      REFUSE_READ=N:HOW  the Nth read        REFUSE_WRITE=N:HOW  the Nth write to standard output
    HOW is error (EIO), interrupted (EINTR), short (one byte is moved, of the Nth and each later call), late (one byte is
-   moved by each call before the Nth, which is an error), or, for a write, nothing (no byte is taken). When something is refused for the first time, one byte goes to descriptor REFUSE_TOLD. */
+   moved by each call before the Nth, which is an error), or, for a write, nothing (no byte is taken).
+   Bytes go to descriptor REFUSE_TOLD: a t for each thread that is started; and, if something is refused for the first
+   time, a w where work is shared by threads (in a thread that was started, or in the first one while it works beside
+   such a thread), and else an exclamation mark. */
 #define _GNU_SOURCE
 #include <dlfcn.h>
 #include <errno.h>
+#include <pthread.h>
 #include <stdlib.h>
 #include <string.h>
 #include <sys/uio.h>
@@ -17,6 +21,8 @@ extern void *__libc_realloc(void *, size_t);
 
 enum how { NEVER, ERROR, INTERRUPTED, SHORT, LATE, NOTHING };
 
+typedef int (*create_function)(pthread_t *, const pthread_attr_t *, void *(*)(void *), void *);
+
 struct refusal {
     unsigned long at, made;
     int and_later;
@@ -25,8 +31,11 @@ struct refusal {
 
 static struct refusal growth, reading, writing;
 static int told = -1;
+static int works; /* the first thread, beside another one */
 static ssize_t (*next_read)(int, void *, size_t);
 static ssize_t (*next_write)(int, const void *, size_t);
+static create_function next_create;
+static int (*next_join)(pthread_t, void **);
 
 static enum how how_of(const char *word) {
     if (!strcmp(word, "error")) return ERROR;
@@ -50,10 +59,20 @@ __attribute__((constructor)) static void begin(void) {
     char *text = getenv("REFUSE_TOLD");
     next_read = (ssize_t (*)(int, void *, size_t))dlsym(RTLD_NEXT, "read");
     next_write = (ssize_t (*)(int, const void *, size_t))dlsym(RTLD_NEXT, "write");
+    next_create = (create_function)dlsym(RTLD_NEXT, "pthread_create");
+    next_join = (int (*)(pthread_t, void **))dlsym(RTLD_NEXT, "pthread_join");
     if (text) told = atoi(text);
     open_refusal(&reading, "REFUSE_READ");
     open_refusal(&writing, "REFUSE_WRITE");
     open_refusal(&growth, "REFUSE_GROWTH");
+}
+
+static int is_first_thread(void) {
+    return gettid() == getpid();
+}
+
+static void tell(const char *byte) {
+    if (told >= 0) next_write(told, byte, 1);
 }
 
 static enum how answer_of(struct refusal *it) {
@@ -62,7 +81,7 @@ static enum how answer_of(struct refusal *it) {
     number = __atomic_add_fetch(&it->made, 1, __ATOMIC_SEQ_CST);
     if (number < it->at && it->how == LATE) return SHORT;
     if (number < it->at || (number > it->at && !it->and_later)) return NEVER;
-    if (number == it->at && told >= 0) next_write(told, "!", 1);
+    if (number == it->at) tell(works || !is_first_thread() ? "w" : "!");
     return it->how == LATE ? ERROR : it->how;
 }
 
@@ -101,4 +120,17 @@ ssize_t write(int file, const void *from, size_t size) {
     if (fails(how)) return -1;
     if (how == NOTHING) return 0;
     return next_write(file, from, how == SHORT && size > 1 ? 1 : size);
+}
+
+int pthread_create(pthread_t *thread, const pthread_attr_t *how, void *(*run)(void *), void *with) {
+    int error = next_create(thread, how, run, with);
+    if (error) return error;
+    tell("t");
+    if (is_first_thread()) works = 1;
+    return 0;
+}
+
+int pthread_join(pthread_t thread, void **result) {
+    if (is_first_thread()) works = 0;
+    return next_join(thread, result);
 }

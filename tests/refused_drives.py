@@ -18,7 +18,7 @@ RUNS = 3
 def picked(seed):
     """The machine's line, and a line for each of its runs."""
     player = events.Player(random.Random(seed))
-    return [player.opening(), *(events.Drive(player).step()[0] for _ in range(RUNS))]
+    return [player.opening(), *(events.Drive(player).step()[0] for _ in range(RUNS)), "history"]
 
 
 def followed(seed, lines):
@@ -33,7 +33,7 @@ def followed(seed, lines):
             ended["by a seed" if drive.seed is not None else "by rounds"] += end == "memory"
         else:
             wanted.append(drive.told(*drive.make()))
-    return "".join(line + "\n" for line in wanted), ended
+    return events.lines_text([*wanted, player.history()]), ended
 
 
 def drives_of(tester, seed):
@@ -41,8 +41,9 @@ def drives_of(tester, seed):
     while True:
         number += 1
         ran = tester.run([], given, growth=number)
-        wanted, here = followed(seed, ran.out.splitlines())
-        is_whole = ran.answer() == (0, wanted, "")
+        out = ran.out.removeprefix(events.NO_MACHINE + "\n")
+        wanted, here = followed(seed, out.splitlines())
+        is_whole = (ran.status, out, ran.error) == (0, wanted, "")
         tester.expect(is_whole or ran.refused and ran.status == 1 and wanted.startswith(ran.out),
                       f"drives {seed}, growth {number}: {ran.answer()}")
         ended += here

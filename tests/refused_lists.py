@@ -58,16 +58,17 @@ class Follower:
 
 def lists_of(tester, seed):
     opening, lists = picked(seed)
-    given = [opening, *(" ".join(["list", *map(events.text_of, one)]) for one in lists)]
+    given = [opening, *(" ".join(["list", *map(events.text_of, one)]) for one in lists), "history"]
     refused, number = Counter(), 0
     while True:
         number += 1
         ran = tester.run([], given, growth=number)
-        follower = Follower(seed, ran.out.splitlines())
+        out = ran.out.removeprefix(events.NO_MACHINE + "\n")
+        follower = Follower(seed, out.splitlines())
         for one in lists:
             follower.follow(one)
-        wanted = "".join(line + "\n" for line in follower.wanted)
-        is_whole = ran.answer() == (0, wanted, "")
+        wanted = events.lines_text([*follower.wanted, follower.player.history()])
+        is_whole = (ran.status, out, ran.error) == (0, wanted, "")
         tester.expect(is_whole or ran.refused and ran.status == 1 and wanted.startswith(ran.out),
                       f"lists {seed}, growth {number}: {ran.answer()}")
         refused += follower.refused

@@ -1,10 +1,25 @@
 """Runs by threads whose growths are refused, each in turn; tests/refusals.py runs this part.
 
-A run by threads differs from one time to the next, so what is asked is what holds of each: there is no memory, or the
-report tells runs of which some ended for want of it. What must hold of any report follows from docs/TEXTS.md.
+A run by threads differs from one time to the next, so what is asked is what holds of each. If nothing was refused, all
+is done. If one growth was refused, the answer is one of these, and the shim tells which of them it may be:
+
+- It was refused to a worker at its work, so to a turn of some seat: that run ended for want of memory, and is told so.
+- The second worker's thread couldn't be started: its seats had their turns before or after those of the first. That
+  leaves one order of all turns, and the run is the second program's, byte for byte.
+- It was refused elsewhere: there is no memory; or the run ended for want of it before any turn; or it was one that can
+  be done without, and all is done.
+
+How many turns a seat may have must not matter: a run whose threads were all started and that ends at its limit is made
+again with a higher one.
 """
 import tempfile
+from collections import Counter
 from pathlib import Path
+
+import oracle
+from reference.reports import Batch, trace_lines
+from reference.traces import record_line
+from reference.workers import SharedMachine, WorkerRun
 
 TOP = Path(__file__).resolve().parent.parent
 LITMUS = TOP / "examples" / "litmus" / "SB.litmus"
@@ -14,69 +29,198 @@ RUNS = 3
 # The end states of store buffering that sequential consistency allows: not both 0.
 STATES = {"0:x7=0 1:x7=1", "0:x7=1 1:x7=0", "0:x7=1 1:x7=1"}
 OPERATIONS = 4
+WORKERS = 2
+LIMITS = (100_000, 5_000_000, 200_000_000)
+PASSES = 200  # after so many of one worker alone nothing in these runs goes on any more
+SCHEDULE = ["--schedule", "threads", "--workers", WORKERS]
+
+
+class OneAfterTheOther(WorkerRun):
+    """A run in which one thread gives all turns: first those of one worker's seats, and then those of the other's."""
+
+    def drive_all(self, first):
+        for worker in (first, 1 - first):
+            for _ in range(PASSES):
+                self.make_pass_of(worker)
+        assert not self.is_done() and not self.machine.has_stopped()
+        return "limit"
+
+    def make_pass_of(self, worker):
+        for number in range(worker, len(self.machine.seats), WORKERS):
+            (self.begin_core if number < len(self.programs) else self.begin_bank)(number)
+            self.call("turn", number)
+
+
+def by_one_thread(options, programs, memory, tell):
+    """What may be told of a run whose second worker's thread couldn't be started; `programs` makes them."""
+    for first in range(WORKERS):
+        run = OneAfterTheOther(SharedMachine(options, len(programs()), memory), programs())
+        yield tell(run, run.drive_all(first))
+
+
+def texts_by_one_thread(words):
+    """What may be reported of one run of a litmus test so."""
+    options = oracle.words().parse_args([*map(str, words)])
+    test = oracle.read_litmus(options.FILE)
+
+    def tell(run, end):
+        batch = Batch(test)
+        batch.add(run, end)
+        return batch.text()
+
+    return list(by_one_thread(options, test.programs, test.memory, tell))
 
 
 def lines_of(text):
     return dict(line.split(" ", 1) for line in text.splitlines())
 
 
-def is_report(ran):
-    """Whether it is a report of so many runs of store buffering, each with a legal end, and the status fits."""
-    if ran.error:
-        return False
-    lines = lines_of(ran.out)
-    done = int(lines["all-done"])
-    ends = [int(lines[name]) for name in ("all-done", "limit", "exhausted", "memory")]
-    states = ran.out.split("\nstates ", 1)[1].splitlines()
-    seen = dict(reversed(line.split(" ", 1)) for line in states[1:1 + int(states[0])])
-    return (sum(ends) == RUNS == int(lines["runs"]) and lines["stalled"] == "0" and lines["held"] == "0"
-            and set(seen) <= STATES and sum(map(int, seen.values())) == done
-            and OPERATIONS * done <= int(lines["completed"]) <= OPERATIONS * RUNS
-            and ran.status == (done != RUNS))
+class Litmus:
+    """Runs of store buffering, and what must be told of them."""
+
+    def __init__(self):
+        self.words, self.runs = ["litmus", *SCHEDULE, "--runs", RUNS, LITMUS], RUNS
+        self.completed = {int(lines_of(text)["completed"]) for text in texts_by_one_thread(self.words)}
+
+    def ends(self, ran):
+        """How many runs ended in each way, if that is a report of legal runs."""
+        lines = lines_of(ran.out)
+        ends = Counter({name: int(lines[name]) for name in ("all-done", "stalled", "limit", "exhausted", "memory")})
+        states = ran.out.split("\nstates ", 1)[1].splitlines()
+        seen = dict(reversed(line.split(" ", 1)) for line in states[1:1 + int(states[0])])
+        good = (ends.total() == RUNS == int(lines["runs"]) and lines["held"] == "0" and set(seen) <= STATES
+                and sum(map(int, seen.values())) == ends["all-done"])
+        return +ends if good else None
+
+    def is_whole(self, ran):
+        return self.rest(ran, 0) == 0
+
+    def is_cut(self, ran, is_at_work):
+        rest = self.rest(ran, 1)
+        return rest in range(OPERATIONS) if is_at_work else rest == 0
+
+    def is_by_one_thread(self, ran):
+        return self.rest(ran, 1) in self.completed
+
+    @staticmethod
+    def rest(ran, others):
+        """How many operations completed in the runs that aren't all done, if so many aren't."""
+        return int(lines_of(ran.out)["completed"]) - OPERATIONS * (RUNS - others)
 
 
-def tells_of_memory(text):
-    lines = lines_of(text)
-    return lines.get("memory", "0") != "0" or lines.get("end") == "memory"
+class Trace:
+    """The run of a trace, and what must be told of it."""
+
+    def __init__(self):
+        options = next(line for line in TRACE.read_text().splitlines() if "options=" in line).split("options=")[1]
+        self.words, self.runs = ["trace", *options.split(), *SCHEDULE, TRACE], 1
+        self.trace = oracle.read_trace(TRACE)
+        self.operations = sum(map(len, self.trace.issued()))
+        self.options = oracle.words().parse_args([*map(str, self.words)])
+        self.texts = set(by_one_thread(self.options, self.trace.programs, {}, self.text))
+
+    def text(self, run, end):
+        return "".join(line + "\n" for line in trace_lines(self.trace, run, end))
+
+    def ends(self, ran):
+        lines = lines_of(ran.out)
+        completed, issued = int(lines["completed"]), int(lines["issued"])
+        good = lines["order"] == "legal" and completed <= issued <= self.operations
+        return Counter([lines["end"]]) if good else None
+
+    def is_whole(self, ran):
+        return int(lines_of(ran.out)["completed"]) == self.operations
+
+    def is_cut(self, ran, is_at_work):
+        issued = int(lines_of(ran.out)["issued"])
+        return issued < self.operations and (is_at_work or issued == 0)
+
+    def is_by_one_thread(self, ran):
+        return ran.out in self.texts
 
 
-def is_trace_report(ran):
-    lines = lines_of(ran.out)
-    return (not ran.error and lines["order"] == "legal" and int(lines["completed"]) <= int(lines["issued"])
-            and ran.status == (lines["end"] != "all-done"))
+class Records(Trace):
+    """The records of a trace's run. They don't tell how the run ended: only the status tells whether all is done."""
+
+    def __init__(self, tester, file):
+        super().__init__()
+        self.words, self.tester, self.file = [*self.words, "--records"], tester, file
+
+    def text(self, run, end):
+        return "".join(record_line(record) + "\n" for record in run.machine.records)
+
+    def ends(self, ran):
+        self.file.write_text(ran.out)
+        if self.tester.run(["check", TRACE, self.file]).answer() != (0, "legal\n", ""):
+            return None
+        if ran.status == 0:
+            return Counter(["all-done"])
+        is_cut = ran.is_at_work or ran.started == 0 and ran.out not in self.texts
+        return Counter(["memory" if is_cut else "limit"])
+
+    def is_whole(self, ran):
+        return ran.out.count("\n") == self.operations
+
+    def is_cut(self, ran, is_at_work):
+        return ran.out.count("\n") < self.operations and (is_at_work or ran.out == "")
+
+
+def kind_of(what, ran, are_later):
+    """Which of the answers this is; None, if it is none of them. If later growths are refused, too, then in the end
+    there is no memory, wherever the first one was."""
+    if ran.answer() == NO_MEMORY:
+        return "no memory" if ran.refused and (are_later or not ran.is_at_work) else None
+    ends = None if ran.error else what.ends(ran)
+    if ends is None or ran.status != (set(ends) != {"all-done"}):
+        return None
+    is_all_started, others = ran.started == what.runs, Counter({"all-done": what.runs - 1})
+    if ends["limit"] > (0 if ends["memory"] else what.runs - ran.started):
+        return "short of turns"
+    if ran.is_at_work or ends["memory"]:
+        # If it wasn't refused at work, it was before the first turn: then no thread was started.
+        good = ends == others + Counter(["memory"]) and ran.started == what.runs - (not ran.is_at_work)
+        return "ended for want of memory" if good and what.is_cut(ran, ran.is_at_work) else None
+    if ends["all-done"] == what.runs:
+        return "done" if is_all_started and what.is_whole(ran) else None
+    good = ran.refused and ends == others + Counter(["limit"]) and ran.started == what.runs - 1
+    return "by one thread" if good and what.is_by_one_thread(ran) else None
+
+
+def run_through(tester, what, growth):
+    """What comes of the command, and its kind; with more turns, if these were too few."""
+    for limit in LIMITS:
+        ran = tester.run([*what.words, "--limit", limit], growth=growth)
+        kind = kind_of(what, ran, growth.endswith("+"))
+        if kind != "short of turns":
+            break
+    return ran, kind
+
+
+def sweep(tester, name, what, how):
+    """Refuses the 1st, 2nd, .. growth alone, or with each later one, until nothing is left to refuse."""
+    kinds, number = Counter(), 0
+    while True:
+        number += 1
+        ran, kind = run_through(tester, what, f"{number}{how}")
+        allowed = ["done"] if not ran.refused else ["no memory", "done"] if how else KINDS
+        tester.expect(kind in allowed, f"{name}, growth {number}{how}, {ran.told}: {ran.answer()}")
+        if not ran.refused:
+            break
+        kinds[kind] += 1
+    if not how:
+        for kind in KINDS[:3]:
+            tester.expect(kinds[kind] > 0, f"{name}: none was told as {kind}")
+    told = ", ".join(f"{kind} {kinds[kind]}" for kind in KINDS if kinds[kind])
+    print(f"{name}, growth {how or 'alone'}: {number - 1} refused: {told}")
+
+
+KINDS = ("no memory", "ended for want of memory", "by one thread", "done")
 
 
 def refused_threads(tester):
-    litmus = ["litmus", "--schedule", "threads", "--workers", 2, "--runs", RUNS, LITMUS]
-    options = next(line for line in TRACE.read_text().splitlines() if "options=" in line).split("options=")[1].split()
-    trace = ["trace", *options, "--schedule", "threads", "--workers", 2, TRACE]
-    sweep(tester, "three runs of SB by threads", litmus, is_report)
-    sweep(tester, f"{TRACE.name} by threads", trace, is_trace_report)
     with tempfile.TemporaryDirectory() as folder:
-        sweep(tester, f"{TRACE.name} by threads, its records", [*trace, "--records"],
-              lambda ran: are_legal(tester, ran, Path(folder, "records")))
-
-
-def are_legal(tester, ran, file):
-    """Whether the records that went out are legal for the trace."""
-    file.write_text(ran.out)
-    return not ran.error and tester.run(["check", TRACE, file]).answer() == (0, "legal\n", "")
-
-
-def sweep(tester, what, words, is_right):
-    """Refuses the 1st, 2nd, .. growth alone, and then with each later one, until nothing is left to refuse."""
-    for how in ("", "+"):
-        number = told = 0
-        while True:
-            number += 1
-            ran = tester.run(words, growth=f"{number}{how}")
-            is_none = ran.answer() == NO_MEMORY
-            tester.expect(is_none and ran.refused or not is_none and is_right(ran),
-                          f"{what}, growth {number}{how}: {ran.answer()}")
-            if not ran.refused:
-                tester.expect(ran.status == 0, f"{what}, nothing refused: {ran.answer()}")
-                break
-            told += not is_none and ran.status == 1 and tells_of_memory(ran.out)
-        if how == "" and "--records" not in words:  # with each later one refused, there is no memory for a report
-            tester.expect(told > 0, f"{what}: no refused run was told")
-        print(f"{what}, growth {how or 'alone'}: {number - 1} refused, {told} of them told as runs without memory")
+        cases = {"three runs of SB by threads": Litmus(), f"{TRACE.name} by threads": Trace(),
+                 f"{TRACE.name} by threads, its records": Records(tester, Path(folder, "records"))}
+        for name, what in cases.items():
+            for how in ("", "+"):
+                sweep(tester, name, what, how)

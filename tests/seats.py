@@ -4,8 +4,9 @@ program's seats: tests/seats.py PROGRAM [--machines N] [--calls N] [--crowded N]
 tests/seats.py --print STDIN STDOUT ..
 
 PROGRAM is the built crate seat_player. The machines have few words, and every limit of theirs is small or at its end.
-On crowded ones many lines are written and evicted, so that outboxes and held lists are full. With --print the files
-are written that the gate plays.
+On crowded ones many lines are written and evicted, so that outboxes and held lists are full. Before these, store
+buffering is played by single calls and stopped after each number of them. With --print the files are written that the
+gate plays.
 """
 import argparse
 import random
@@ -17,6 +18,7 @@ from types import SimpleNamespace
 
 TOP = Path(__file__).resolve().parent.parent
 sys.path.insert(0, str(TOP / "examples"))
+from figures import is_told  # noqa: E402
 from reference import order  # noqa: E402
 from reference.seats import PLACES, SLOTS, Seats  # noqa: E402
 
@@ -24,6 +26,7 @@ FIELDS = "cores banks sets ways bank_sets bank_ways line_words lease messages ti
 LETTERS = {"load": "R", "store": "W", "swap": "S"}
 COUNTS = ("RenewRep", "UpgradeRep", "FlushRep", "WbRep")
 LAST = 2 ** 64 - 1
+GATE = (200, 100, 2, 1)  # machines, calls, crowded ones and the seed as the gate has them
 NO_MEMORY = "refused 7"
 
 
@@ -38,6 +41,13 @@ def options_of(generator):
                            private_write=few(0, 1), time=few(0, 0, 0, 0, 5, LAST - 60, seldom=LAST))
 
 
+# Store buffering, and a round of single calls by which it is stopped after each number of calls.
+PROGRAMS = [[("store", 0, 1), ("load", 1, None)], [("store", 1, 1), ("load", 0, None)]]
+ROUND = [*((core, name) for core in (0, 1) for name in ("issue", "attempt", "put", "take", "serve")),
+         (2, "put"), (2, "take"), (2, "serve"), (2, "serve")]
+
+TWO = SimpleNamespace(cores=2, banks=1, sets=64, ways=4, bank_sets=256, bank_ways=8, line_words=1, lease=10, messages=1,
+                      private_write=0, time=0)
 CROWDED = SimpleNamespace(cores=2, banks=1, sets=64, ways=8, bank_sets=64, bank_ways=16, line_words=1, lease=10,
                           messages=1, private_write=0, time=0)
 
@@ -299,6 +309,30 @@ def played(generator, calls):
     return game
 
 
+def buffering(calls):
+    """The first calls of store buffering, if there are so many: it ends when all is completed. A core is issued its
+    next operation right after the one before is completed, or in its next round."""
+    game = Game(Player(TWO, 2, [0, 0, 0, 0], 2))
+    while len(game.given) < calls and len(game.player.seats.records) < 4:
+        for seat, name in ROUND:
+            of = PROGRAMS[seat][len(game.player.seats.seats[seat].issued):][:1] if name == "issue" else []
+            is_free = name != "issue" or of and game.player.seats.cores[seat].op is None
+            if is_free and len(game.given) < calls:
+                game.make(name, seat, *of)
+    return game
+
+
+def stops():
+    """Store buffering, stopped after each number of calls up to its end: also right behind each issue, where a core has
+    an operation that it never attempted."""
+    games = [buffering(0)]
+    while len(games[-1].player.seats.records) < 4:
+        games.append(buffering(len(games)))
+    behind = [game for game in games if game.given and game.given[-1][0] == "issue"]
+    assert len(behind) == 4 and all(game.wanted[-1].startswith("done|") for game in behind)
+    return games
+
+
 def crowded(generator, seat):
     """Core 0 writes more lines than an outbox and a link have places, and a seat evicts them, core 0's or the bank's:
     then its link and its outbox are full. When all messages are served, the bank evicts all, which fills its held list.
@@ -364,15 +398,28 @@ def main():
         for file, index in zip(words.FILES, (0, 1)):
             Path(file).write_text("".join(texts[index] for texts in both))
         return 0
+    stopped = stops()
+    for machine, game in enumerate(stopped):
+        if not is_played(words.FILES, f"stop {machine}", game):
+            return 1
+    print(f"store buffering stopped after 0 to {len(stopped) - 1} calls, no difference")
     tried, answers, records = 0, Counter(), 0
     for machine, game in enumerate(games):
-        if not is_played(words.FILES, machine, game):
+        if not is_played(words.FILES, f"machine {machine}", game):
             return 1
         tried, records = tried + len(game.given), records + len(game.player.seats.records)
         answers.update(name_of(call, line) for call, line in zip(game.given, game.wanted))
     print(", ".join(f"{answer}: {number}" for answer, number in answers.most_common()))
     print(f"{tried} calls of seats on {words.machines + words.crowded} machines, {records} records, no difference")
-    return 0
+    is_gate = (words.machines, words.calls, words.crowded, words.seed) == GATE
+    return is_gate and not are_told(tried, sum(len(game.given) for game in stopped))
+
+
+def are_told(tried, stopped):
+    """Whether docs/HOSTILE.md tells so many calls, with those that lie in the repository."""
+    given = (TOP / "crates/seat_player/stdin").read_text().splitlines()
+    tried += sum(line.split()[0] not in ("machine", "numbers", "draw", "close") for line in given)
+    return is_told("random calls of seats", tried) & is_told("calls of seats that stop", stopped)
 
 
 def name_of(call, line):
@@ -383,14 +430,14 @@ def name_of(call, line):
     return f"{call[0]} {words[-1] if call[0] == 'turn' else words[0]}"
 
 
-def is_played(program, machine, game):
+def is_played(program, name, game):
     text = game.wanted_text()
     ran = subprocess.run(program, input=game.given_text(), capture_output=True, text=True)
     if ran.returncode == 0 and ran.stdout == text:
         return True
     lines, got = text.splitlines(), ran.stdout.splitlines()
     at = next((at for at, (one, other) in enumerate(zip(lines, got)) if one != other), min(len(lines), len(got)))
-    print(f"machine {machine} ({game.player.opening()}), status {ran.returncode}, line {at} "
+    print(f"{name} ({game.player.opening()}), status {ran.returncode}, line {at} "
           f"({list(map(call_text, game.given))[at:at + 1]}):")
     print(f"wanted {lines[at:at + 1]}\ngot    {got[at:at + 1]}\n{ran.stderr}")
     return False

@@ -13,6 +13,7 @@ from pathlib import Path
 
 TOP = Path(__file__).resolve().parent.parent
 sys.path.insert(0, str(TOP / "examples"))
+from figures import is_told  # noqa: E402
 from reference.order import check  # noqa: E402
 from reference.traces import Fault, Trace, read_records  # noqa: E402
 
@@ -75,6 +76,25 @@ def cuts(tester):
     tester.expect(text == (TOP / "crates/tardis/data/SB.litmus").read_bytes(), "the pieces are the text")
 
 
+def line_cuts(tester):
+    """A trace and its records, each cut behind each byte: the answer of `check` is the second program's."""
+    trace = (TOP / "examples/traces/SWAP-LOCK.trace").read_bytes()
+    records = (TOP / "examples/traces/SWAP-LOCK.records").read_bytes()
+    for at in range(len(trace)):
+        checks(tester, trace[:at], records, f"a trace cut behind byte {at}")
+    for at in range(len(records)):
+        checks(tester, trace, records[:at], f"records cut behind byte {at}")
+
+
+def checks(tester, trace, records, what):
+    with tempfile.TemporaryDirectory() as folder:
+        files = Path(folder, "trace"), Path(folder, "records")
+        for file, text in zip(files, (trace, records)):
+            file.write_bytes(text)
+        got, wanted = tester.run("check", *map(str, files)), verdict_of(trace, records)
+        tester.expect(got == wanted, f"{what}: {got}, wanted {wanted}")
+
+
 def rows(table):
     for line in table.read_text().splitlines():
         if not line.startswith("#"):
@@ -106,6 +126,22 @@ def one_line_faults(table):
             yield fault, text
 
 
+# Faults of form 1 alone: cores above 15, and an advance.
+FORM_1 = (b"16 R 0x0", b"16 X 0x4 x y", b"0 A")
+
+
+def form_2_faults():
+    """Lines with a fault in form 2, each told as in line 2: those that the table has behind `trace 2`, and those that
+    have it in any form."""
+    for fault, text in rows(TOP / "examples/bad/traces.table"):
+        text = of_printf(text).removesuffix(b"\n")
+        front, _, behind = text.partition(b"\n")
+        if front == b"trace 2":
+            yield fault, behind
+        elif b"\n" not in text and text not in FORM_1 and text.split()[:1] != [b"trace"]:
+            yield moved(fault, 1), text
+
+
 def places(tester):
     """Each faulty line of a trace and of records, as the first line, between others, and as the last.
 
@@ -123,6 +159,11 @@ def places(tester):
                 behind = "line 1: 4 BadCore" if text.split()[:1] == [b"trace"] else fault
                 tester.refuses(moved(behind, 3), good[table] * 3 + text + b"\n" + good[table], *words)
                 tester.refuses(moved(behind, 3), good[table] * 3 + text, *words)
+    for fault, text in form_2_faults():
+        front = b"trace 2\n"
+        tester.refuses(fault, front + text + b"\n63 A\n", "trace", "/dev/stdin")
+        tester.refuses(moved(fault, 3), b"\n" + front + b"63 A\n#\n" + text + b"\n63 A\n", "trace", "/dev/stdin")
+        tester.refuses(moved(fault, 2), front + b"0 A\n63 R 0x0\n" + text, "trace", "/dev/stdin")
 
 
 def sizes(tester):
@@ -150,9 +191,27 @@ def sizes(tester):
     tester.refuses("line 4: 2 TooLarge", front + b"exists " + b"(" * (65536 - len(front) - 7))
     tester.refuses("line 4: 2 TooLarge", front + b"exists " + b"(" * 65)
     tester.refuses("line 4: 14 CutShort", front + b"exists " + b"(" * 64)
-    tester.refuses("line 1: 3 TooLong", b"0 W 0x0 " + b"1" * 60000 + b"\n", "trace", "/dev/stdin")
-    tester.refuses("line 1: 3 TooLong", b"(" * 65536, "trace", "/dev/stdin")
     tester.refuses("line 16777217: 3 TooLong", b"\n" * 16777216 + b"0", "trace", "/dev/stdin")
+    line_sizes(tester)
+
+
+def line_sizes(tester):
+    """Traces and records of long numbers, and of one sign or name throughout."""
+    with tempfile.NamedTemporaryFile(suffix=".trace") as some:
+        some.write(b"0 R 0x0\n")
+        some.flush()
+        for words, good, accepted in ((("trace", "/dev/stdin"), b"0 W 0x0 1", "issued 0\n"),
+                                      (("check", some.name, "/dev/stdin"), b"0 0 R 0x0 0 0 0", "legal\n")):
+            for field, word in enumerate(good.split()):
+                long = [word + b"0" * 60000 if at == field else other for at, other in enumerate(good.split())]
+                tester.refuses("line 1: 3 TooLong", b" ".join(long) + b"\n", *words)
+            for sign in (b"(", b"a", b" ", b"#"):
+                tester.refuses("line 1: 3 TooLong", sign * 65536, *words)
+                tester.refuses("line 3: 3 TooLong", b"\n" + good + b"\n" + sign * 257, *words)
+            tester.refuses(None, b"\n" * 65536, *words, accepted=accepted)
+            tester.refuses(None, (b"#" * 256 + b"\n") * 256, *words, accepted=accepted)
+        tester.refuses("line 16777217: 3 TooLong", b"\n" * 16777216 + b"0", "check", some.name, "/dev/stdin")
+        tester.refuses(None, b"\n" * 16777216, "check", some.name, "/dev/stdin", accepted="legal\n")
 
 
 def limits(tester):
@@ -169,6 +228,34 @@ def limits(tester):
     tester.refuses("line 69: 2 TooLarge", b"RISCV A\n{\n" + items + b"}\n P0 ;\nexists (w=0)")
     tester.refuses("line 260: 2 TooLarge", front + atoms + b" /\\\nx=0\n")
     tester.refuses("line 260: 2 TooLarge", front + atoms)
+
+
+def words_of_the_line(tester):
+    """Command lines of long words and numbers: they are refused, and nothing is written."""
+    test = str(TOP / "examples/litmus/SB.litmus")
+    digits, name = "9" * 60000, "a" * 65536
+    options = ("seed", "limit", "workers", "runs", "lease", "time", "banks", "sets", "ways", "bank-sets", "bank-ways",
+               "line-words", "messages")
+    for option in options:
+        refuses_words(tester, 3, "error: ", "litmus", f"--{option}", digits, test)
+        refuses_words(tester, 3, "error: ", "litmus", f"--{option}", "-1", test)
+        refuses_words(tester, 3, "error: ", "litmus", f"--{option}", "18446744073709551616", test)
+        refuses_words(tester, 3, "error: ", "litmus", f"--{option}", "", test)
+    for word in (digits, name, "(" * 65536, "\n" * 65536):
+        refuses_words(tester, 3, "error: ", word)
+        refuses_words(tester, 3, "error: ", "litmus", "--schedule", word, test)
+        refuses_words(tester, 3, "error: ", "litmus", f"--{word}", test)
+        refuses_words(tester, 3, "error: ", "litmus", test, word)
+        refuses_words(tester, 4, "tardis: read failed\n", "litmus", word)
+    refuses_words(tester, 3, "error: ", "litmus", *[test] * 10000)
+    refuses_words(tester, 3, "tardis: bad command line\n", "litmus", b"\xff")
+    refuses_words(tester, 3, "tardis: bad command line\n", b"\x80" * 65536)
+
+
+def refuses_words(tester, status, error, *words):
+    got = tester.run(*words)
+    tester.expect(got[:2] == (status, "") and got[2].startswith(error),
+                  f"{[word[:20] for word in words[:4]]}: {got[0]} {got[2][:80]!r}")
 
 
 PIECES = [b"0", b" ", b"\n", b"#", b"18446744073709551616", b"64", b"trace 2\n", b"x8"]
@@ -209,17 +296,12 @@ def changes(tester, number=600):
     """Traces and records that are changed at random: the answer of `check` is the second program's."""
     generator = random.Random(1)
     examples = sorted((TOP / "examples/traces").glob("*.trace"), key=lambda path: path.stat().st_size)[:40]
-    with tempfile.TemporaryDirectory() as folder:
-        files = Path(folder, "trace"), Path(folder, "records")
-        for _ in range(number):
-            example = generator.choice(examples)
-            texts = [example.read_bytes(), example.with_suffix(".records").read_bytes()]
-            which = generator.randrange(2)
-            texts[which] = changed(texts[which], generator)
-            for file, text in zip(files, texts):
-                file.write_bytes(text)
-            got, wanted = tester.run("check", *map(str, files)), verdict_of(*texts)
-            tester.expect(got == wanted, f"{example.name}, {texts[which]!r}: {got}, wanted {wanted}")
+    for _ in range(number):
+        example = generator.choice(examples)
+        texts = [example.read_bytes(), example.with_suffix(".records").read_bytes()]
+        which = generator.randrange(2)
+        texts[which] = changed(texts[which], generator)
+        checks(tester, *texts, f"{example.name}, {texts[which]!r}")
 
 
 def unlike(tester, number=400):
@@ -239,19 +321,20 @@ def unlike(tester, number=400):
         tester.expect(good, f"{text!r}: {status} {error!r}")
 
 
-PARTS = {"cuts": cuts, "faults": faults, "places": places, "sizes": sizes, "limits": limits,
-         "changes": changes, "unlike": unlike}
+PARTS = {"cuts": cuts, "line-cuts": line_cuts, "faults": faults, "places": places, "sizes": sizes, "limits": limits,
+         "words": words_of_the_line, "changes": changes, "unlike": unlike}
 
 
 def main():
     program, *parts = sys.argv[1:]
-    tester = Tester(os.path.abspath(program))
+    tester, are_told = Tester(os.path.abspath(program)), True
     for name in parts or PARTS:
         before = tester.tried
         PARTS[name](tester)
         print(f"{name}: {tester.tried - before} texts")
+        are_told &= is_told(f"`{name}`", tester.tried - before)
     print(f"{tester.tried} tried, {tester.wrong} wrong")
-    return tester.wrong != 0
+    return tester.wrong != 0 or not are_told
 
 
 if __name__ == "__main__":

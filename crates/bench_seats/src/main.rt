@@ -1,15 +1,12 @@
-//! A measurement of a machine that threads share: its seats are dealt to so many threads, each of which gives its seats
-//! turns until all cores have completed their operations. The word `rounds` in place of the threads makes the same
-//! operations by rounds, on a machine that isn't shared. A last word `time` makes it tell the time, too.
-//! docs/BENCHMARKS.md has the table.
+//! A measurement of a machine that threads share: so many workers, each a thread, give its seats turns until all cores
+//! have completed their operations. The word `rounds` in place of the threads makes the same operations by rounds, on a
+//! machine that isn't shared. A last word `time` makes it tell the time, too. docs/BENCHMARKS.md has the table.
 #![tactic(auto)]
 
 mod loads;
+mod programs;
 mod rounds;
-mod seats;
 mod shared;
-mod teams;
-mod working;
 
 use anyhow::{Context, Result, ensure};
 use loads::Load;
@@ -40,7 +37,7 @@ fn measure<R: AllocGlobal + Threads + Sync + Clock>(
         return run_rounds(rt, alloc, load);
     }
     let threads: u32 = way.as_str().parse().context("a number is wanted")?;
-    ensure!(threads > 0, "a number above 0 is wanted");
+    ensure!(threads > 0 && threads <= 16, "1 to 16 threads are wanted");
     run_seats(rt, alloc, load, threads)
 }
 

@@ -1,13 +1,14 @@
 //! The same operations on a machine that isn't shared, by rounds.
 
-use crate::loads::{Load, config_of, operation_of};
+use crate::loads::{Load, config_of};
+use crate::programs::programs_of;
 use anyhow::{Result, bail, ensure};
 use interleaving_core::System;
 use physiological_order::Memory;
 use std::alloc::Global;
 use std::rt::Clock;
 use std::time::Instant;
-use worker_driver::{End, OpProgram, Policy, run_to_end};
+use worker_driver::{End, Policy, run_to_end};
 
 // The machine of a load.
 fn machine(alloc: Global, load: &Load) -> Result<System> {
@@ -17,30 +18,10 @@ fn machine(alloc: Global, load: &Load) -> Result<System> {
     }
 }
 
-// The program of a core.
-fn program(alloc: Global, core: u32, operations: u32) -> Result<OpProgram> {
-    let mut ops = Vec::new(alloc);
-    for place in 0..operations {
-        ops.push(operation_of(core, u64::from(place)))?;
-    }
-    if ops.len() > 4_294_967_295 {
-        bail!("a core is issued at most 4,294,967,295 operations");
-    }
-    Ok(OpProgram::new(ops))
-}
-
-fn programs(alloc: Global, load: &Load) -> Result<Vec<OpProgram>> {
-    let mut programs = Vec::new(alloc);
-    for core in 0..load.cores {
-        programs.push(program(alloc, core, load.operations)?)?;
-    }
-    Ok(programs)
-}
-
 /// How many operations of a load are completed by rounds, and in how many nanoseconds.
 pub(crate) fn run_rounds<R: Clock>(rt: &R, alloc: Global, load: &Load) -> Result<(usize, u128)> {
     let mut system = machine(alloc, load)?;
-    let mut programs = programs(alloc, load)?;
+    let mut programs = programs_of(alloc, load)?;
     ensure!(
         programs.len() as u64 == u64::from(system.cores()),
         "programs are missing"

@@ -1,4 +1,5 @@
 mod LeftValues
+mod AllWords
 mod Places
 mod Records
 mod Removed

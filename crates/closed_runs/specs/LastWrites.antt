@@ -1,9 +1,12 @@
 -- The last of the writes of a word.
 use Rattle.std.specs.Prelude.{◌≡◌, ◌⊎◌, ℕ, ◌<◌, ◌≤◌, ◌==◌, List, [], ◌∷◌, Option, Some, None, if◌then◌else◌}
 use Rattle.std.specs.List.{AllByRecursion as Each}
+use Rattle.std.specs.Ordering.{nat_cmp}
+use Rattle.std.specs.FinMap.{FinMap, get}
 use Rattle.physiological_order.specs.declared.operation.Op.{Op}
 use Rattle.physiological_order.specs.declared.operation.Op.TheVariants.{Load, Store, Swap}
 use Rattle.physiological_order.specs.declared.operation.Record.{Record}
+use Rattle.physiological_order.specs.Order.{Memory}
 use Rattle.closed_runs.specs.declared.values.Write.{Write}
 
 -- what an operation writes to a word, if it does
@@ -31,3 +34,16 @@ IsLast a rs None = Each (λ r. written r.op a ≡ None) rs
 IsLast a rs (Some w) =
     Includes (IsWrite a w) rs
     × Each (λ r. (v : ℕ) → written r.op a ≡ Some v → IsSooner r.ts r.number w.ts w.number) rs
+
+-- each word has its last write in the map, and a word that no record writes has none
+abbrev pub AreLast : List Record → FinMap nat_cmp Write → Type 0
+AreLast rs lasts = (a : ℕ) → IsLast a rs (get lasts a)
+
+-- what a write leaves, or else what was there
+abbrev pub written_or : Option Write → ℕ → ℕ
+written_or None there = there
+written_or (Some w) there = w.value
+
+-- the value of a word, by the last writes of all words
+abbrev pub value_in : Memory → FinMap nat_cmp Write → ℕ → ℕ
+value_in opening lasts a = written_or (get lasts a) (opening a)

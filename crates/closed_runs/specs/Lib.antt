@@ -1,3 +1,4 @@
 pub mod LastWrites
 pub mod Merged
 pub mod Numbers
+pub mod ValuesLeft

@@ -9,4 +9,4 @@ mod values;
 
 pub use merging::place;
 pub use ordering::{Numbered, by_number, find};
-pub use values::value_left;
+pub use values::{value_left, values_left};

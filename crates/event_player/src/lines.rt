@@ -1,4 +1,5 @@
-//! The lines that are played: a machine, an event, a list of events, or programs that drive the machine.
+//! The lines that are played: a machine, an event, a list of events, programs that drive the machine, or the wish to
+//! know what it remembers.
 
 use crate::drives::Drive;
 use crate::views::Seen;
@@ -17,6 +18,7 @@ pub(crate) enum Line {
     Event(Event),
     List(Vec<Event>),
     Drive(Drive),
+    History,
 }
 
 /// The next field, a number.
@@ -137,6 +139,7 @@ pub(crate) fn line_of(alloc: Global, text: &str) -> Result<Line> {
         "machine" => machine(fields),
         "list" => Ok(Line::List(list(alloc, fields)?)),
         "drive" => Ok(Line::Drive(drive(alloc, fields)?)),
+        "history" => Ok(Line::History),
         name => Ok(Line::Event(event(name, fields)?)),
     }
 }

@@ -3,21 +3,21 @@
 #![tactic(auto)]
 
 mod drives;
+mod history;
 mod lines;
+mod machines;
 mod views;
 
 use anyhow::{Result, bail};
 use drives::driven;
+use history::tell_history;
 use interleaving_core::{Event, System};
 use lines::{Line, line_of};
-use physiological_order::Memory;
+use machines::{Played, opened};
 use std::alloc::Global;
 use std::io;
 use std::io::{BufRead, BufReader, BufWriter, Write};
 use views::{Seen, tell, tell_list, tell_refused_list, tell_run};
-
-/// A machine with what is to be seen of it, once the first one was opened.
-type Played = Option<(System, Seen)>;
 
 /// The answers to a list of events, or that there is no memory for the list, which is then given once more.
 fn play_list<W: Write + Drop>(
@@ -35,13 +35,11 @@ fn play_list<W: Write + Drop>(
     Ok(())
 }
 
-/// What a line asks for: another machine, or one or more events on the one that there is, or a run of it. It is then told.
+/// What a line asks for: another machine, or one or more events on the one that there is, or a run of it, or what it
+/// remembers. It is then told.
 fn play<W: Write + Drop>(alloc: Global, played: Played, text: &str, out: &mut W) -> Result<Played> {
     match (line_of(alloc, text)?, played) {
-        (Line::Machine(config, seen), _) => match System::new(alloc, config, Memory::new(alloc)) {
-            Ok(system) => Ok(Some((system, seen))),
-            Err(_) => bail!("a configuration is refused"),
-        },
+        (Line::Machine(config, seen), _) => opened(alloc, config, seen, out),
         (Line::Event(event), Some((mut system, seen))) => {
             let answer = system.step(event);
             tell(&system, &seen, &answer, out)?;
@@ -56,20 +54,31 @@ fn play<W: Write + Drop>(alloc: Global, played: Played, text: &str, out: &mut W)
             tell_run(&system, &seen, &run, out)?;
             Ok(Some((system, seen)))
         }
+        (Line::History, Some((system, seen))) => {
+            tell_history(&system, out)?;
+            Ok(Some((system, seen)))
+        }
         _ => bail!("a machine is wanted before its events"),
     }
 }
 
-fn run<R: AllocGlobal + Input + Print>(rt: &R) -> Result<()> {
+/// Plays all lines of standard input.
+fn play_all<R: AllocGlobal + Input, W: Write + Drop>(rt: &R, out: &mut W) -> Result<()> {
     let alloc = rt.alloc();
-    let mut out = BufWriter::new(alloc, io::writer(rt))?;
     let mut played = None;
     for text in BufReader::new(alloc, rt.reader())?.lines(alloc) {
         let text = text?;
-        played = play(alloc, played, text.as_str(), &mut out)?;
+        played = play(alloc, played, text.as_str(), out)?;
     }
-    out.flush()?;
     Ok(())
+}
+
+/// What was told before a fault goes out, too.
+fn run<R: AllocGlobal + Input + Print>(rt: &R) -> Result<()> {
+    let mut out = BufWriter::new(rt.alloc(), io::writer(rt))?;
+    let played = play_all(rt, &mut out);
+    out.flush()?;
+    played
 }
 
 fn main(rt: HostRuntime) -> Result<()> {

@@ -34,7 +34,8 @@ fn tell_answer<W: Write + Drop>(answer: &Answer, out: &mut W) -> Result<()> {
     Ok(())
 }
 
-fn tell_record<W: Write + Drop>(record: &Record, out: &mut W) -> Result<()> {
+/// A completed operation, with what it received, its time and its number.
+pub(crate) fn tell_record<W: Write + Drop>(record: &Record, out: &mut W) -> Result<()> {
     write!(out, "completed {} {} ", record.core, record.place)?;
     tell_op(&record.op, out)?;
     if let Some(received) = record.received {
@@ -44,7 +45,8 @@ fn tell_record<W: Write + Drop>(record: &Record, out: &mut W) -> Result<()> {
     Ok(())
 }
 
-fn tell_op<W: Write + Drop>(op: &Op, out: &mut W) -> Result<()> {
+/// An operation.
+pub(crate) fn tell_op<W: Write + Drop>(op: &Op, out: &mut W) -> Result<()> {
     match op {
         Op::Load(word) => write!(out, "R {}", word.word())?,
         Op::Store(word, value) => write!(out, "W {} {value}", word.word())?,

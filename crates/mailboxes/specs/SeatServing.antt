@@ -7,6 +7,7 @@ use Rattle.serving.specs.declared.answer.Answer.{Answer}
 use Rattle.serving.specs.declared.answer.Refusal.{Refusal as ServingRefusal}
 use Rattle.serving.specs.declared.answer.Refusal.TheVariants as serving
 use Rattle.serving.specs.declared.answer.Served.{Served}
+use Rattle.serving.specs.declared.answer.Served.TheVariants as served
 use Rattle.serving.specs.Inboxes.{InboxState}
 use Rattle.serving.specs.Serving.{Serves}
 
@@ -32,3 +33,13 @@ SeatServes table takes_memory true b p result c q = (result ≡ Err Stopped) × 
 SeatServes table takes_memory false b p result c q =
     (served : Result Served ServingRefusal) × (result ≡ seat_result served)
     × Serves table takes_memory b p served c q
+
+-- Whether a serving changes anything, if the hand was full before, or empty. Held messages that stay held are as they
+-- were; the message in the hand moves when it has to wait.
+abbrev pub may_change : Bool → Result Served ServingRefusal → Bool
+may_change full (Ok served.Delivered) = true
+may_change full (Ok served.Dropped) = true
+may_change full (Ok served.Started) = true
+may_change full (Ok served.Held) = full
+may_change full (Ok served.Nothing) = false
+may_change full (Err refusal) = false

@@ -9,7 +9,7 @@ ghost use Rattle.serving.specs.Serving.{Serves};
 ghost use Rattle.serving.specs.declared.answer.Refusal.TheVariants.{NoMemory};
 
 use crate::bank_evicting::{Eviction, evict_line, evictable};
-use crate::changes::change_bank;
+use crate::changes::{change_bank, change_bank_if, may_change};
 use crate::machine::Machine;
 use crate::mailbox::Mailbox;
 use crate::sending::SendingBank;
@@ -41,8 +41,10 @@ impl Mailbox {
         parts_of_seats_have_their_shape();
         servings_do_one_of_five::<Message, SendingBank>();
         memory_is_wanted_for_the_served::<Message, SendingBank>();
+        let was_full = self.hand_is_full();
         let served = self.inbox.serve(part);
-        change_bank(machine, &mut self.seat, part, &self.inbox);
+        let changes = may_change(was_full, &served);
+        change_bank_if(changes, machine, &mut self.seat, part, &self.inbox);
         served
     }
 

@@ -41,7 +41,7 @@ impl Turner for BankSeat {
     }
 
     fn hand_is_full(&self) -> bool {
-        self.mail.inbox.hand().is_some()
+        self.mail.hand_is_full()
     }
 
     fn to_put(&self) -> u32 {

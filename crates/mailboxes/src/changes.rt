@@ -5,6 +5,7 @@ ghost use Rattle.seat_rule.specs.declared.views.Hold.{Hold};
 ghost use Rattle.seat_rule.specs.Rule.{Changes, seat_count, slot_count};
 ghost use Rattle.seat_rule.specs.Plays.{Serves, Standing, stood};
 ghost use Rattle.seat_rule.specs.SeatMoves.{SeatMove};
+ghost use Rattle.mailboxes.specs.SeatServing.{may_change};
 ghost use Rattle.mailboxes.specs.Stored.{stored_bank, stored_core};
 ghost use Rattle.mailboxes.specs.Places.{Belongs};
 ghost use Rattle.mailboxes.specs.Seats.{IsLive};
@@ -19,7 +20,7 @@ use seat_rule::Hold;
 use seat_rule::laws::changes_keep_the_rule;
 use seat_rule::parts::moves_of_seats_are_changes;
 use seating::View;
-use serving::Inbox;
+use serving::{Inbox, Refusal, Served};
 use std::marker::{Brand, PhantomData};
 
 struct Stands<C> {
@@ -44,6 +45,78 @@ fn stand<C: Aim>(desk: &Desk, seat: &mut Chair, word: usize)
 {
     changes_keep_the_rule();
     desk.fetch_add::<Stands<C>>(seat, word, 0);
+}
+
+/// Whether a serving changes anything, if the hand was full before, or empty.
+pub(crate) fn may_change(was_full: bool, served: &Result<Served, Refusal>) -> bool
+    ensures { result ≡ may_change was_full served.now }
+{
+    match served {
+        Ok(Served::Delivered | Served::Dropped | Served::Started) => true,
+        Ok(Served::Held) => was_full,
+        Ok(Served::Nothing) | Err(_) => false,
+    }
+}
+
+/// What a core's seat holds becomes what it stores, if that is a move of the seat. Where nothing changes, no exchange
+/// is made.
+pub(crate) fn change_core_if(
+    changes: bool,
+    machine: &Machine,
+    seat: &mut Chair,
+    part: &SendingCore,
+    issued: &Vec<Op>,
+    inbox: &Inbox<Message>,
+)
+    requires seat { IsLive machine.now seat.old }
+    requires stands { Standing machine.now.set_up (seat_count machine.now.set_up)
+        seat.old.me.0.number seat.old.me.0.mine }
+    requires change { SeatMove machine.now.set_up seat.old.me.0.number seat.old.me.0.mine
+        (stored_core seat.old.me.0.mine part.now issued.now.items inbox.now) }
+    requires same { changes ≡ false →
+        stored_core seat.old.me.0.mine part.now issued.now.items inbox.now ≡ seat.old.me.0.mine }
+    ensures seat { (seat.new.table_id ≡ seat.old.table_id) × (seat.new.id ≡ seat.old.id) }
+    ensures changed { seat.new.me ≡ (
+      with_hold seat.old.me.0
+          (stored_core seat.old.me.0.mine part.now issued.now.items inbox.now),
+      seat.old.me.1,
+    ) }
+    ensures standing { Standing machine.now.set_up (seat_count machine.now.set_up)
+        seat.old.me.0.number
+        (stored_core seat.old.me.0.mine part.now issued.now.items inbox.now) }
+{
+    if changes {
+        change_core(machine, seat, part, issued, inbox);
+    }
+}
+
+/// What a bank's seat holds becomes what it stores, if that is a move of the seat. Where nothing changes, no exchange
+/// is made.
+pub(crate) fn change_bank_if(
+    changes: bool,
+    machine: &Machine,
+    seat: &mut Chair,
+    part: &SendingBank,
+    inbox: &Inbox<Message>,
+)
+    requires seat { IsLive machine.now seat.old }
+    requires stands { Standing machine.now.set_up (seat_count machine.now.set_up)
+        seat.old.me.0.number seat.old.me.0.mine }
+    requires change { SeatMove machine.now.set_up seat.old.me.0.number seat.old.me.0.mine
+        (stored_bank seat.old.me.0.mine part.now inbox.now) }
+    requires same { changes ≡ false →
+        stored_bank seat.old.me.0.mine part.now inbox.now ≡ seat.old.me.0.mine }
+    ensures seat { (seat.new.table_id ≡ seat.old.table_id) × (seat.new.id ≡ seat.old.id) }
+    ensures changed { seat.new.me ≡ (
+      with_hold seat.old.me.0 (stored_bank seat.old.me.0.mine part.now inbox.now),
+      seat.old.me.1,
+    ) }
+    ensures standing { Standing machine.now.set_up (seat_count machine.now.set_up)
+        seat.old.me.0.number (stored_bank seat.old.me.0.mine part.now inbox.now) }
+{
+    if changes {
+        change_bank(machine, seat, part, inbox);
+    }
 }
 
 /// What a core's seat holds becomes what it stores, if that is a move of the seat.

@@ -11,7 +11,7 @@ ghost use Rattle.serving.specs.Serving.{Serves};
 ghost use Rattle.serving.specs.declared.answer.Refusal.TheVariants.{NoMemory};
 
 use crate::bank_calls::seat_refusal;
-use crate::changes::change_core;
+use crate::changes::{change_core_if, may_change};
 use crate::core_seat::CoreSeat;
 use crate::machine::Machine;
 use crate::mailbox::Mailbox;
@@ -47,8 +47,10 @@ impl Mailbox {
         messages_of_seats_find_their_parts();
         servings_do_one_of_five::<Message, SendingCore>();
         memory_is_wanted_for_the_served::<Message, SendingCore>();
+        let was_full = self.hand_is_full();
         let served = self.inbox.serve(part);
-        change_core(machine, &mut self.seat, part, issued, &self.inbox);
+        let changes = may_change(was_full, &served);
+        change_core_if(changes, machine, &mut self.seat, part, issued, &self.inbox);
         served
     }
 }

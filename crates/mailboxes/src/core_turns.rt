@@ -1,5 +1,5 @@
 //! A core's seat has turns.
-ghost use Rattle.std.specs.Prelude.{◌≡◌, ◌≤◌, IfOk};
+ghost use Rattle.std.specs.Prelude.{◌≡◌, ◌≢◌, ◌≤◌, Err, IfOk};
 ghost use Rattle.mailboxes.specs.CoreTurns.{CoreTurns};
 ghost use Rattle.mailboxes.specs.Seats.{IsCoreSeat};
 
@@ -41,7 +41,7 @@ impl Turner for CoreSeat {
     }
 
     fn hand_is_full(&self) -> bool {
-        self.mail.inbox.hand().is_some()
+        self.mail.hand_is_full()
     }
 
     fn to_put(&self) -> u32 {
@@ -53,12 +53,14 @@ impl CoreSeat {
     /// A turn: puts messages until none is left for which there is a free slot, and then serves. A full hand is served.
     /// With an empty one a held message is served; where nothing comes of these, a message is taken and then served.
     ///
-    /// A refusal is that of a serve, told by the last one; what was put, served or taken before stays so.
+    /// A refusal is that of a serve, told by the last one; what was put, served or taken before stays so. NoMemory is
+    /// never answered.
     pub fn turn(&mut self, machine: &Machine) -> Result<Turn, Refusal>
         requires { IsCoreSeat machine.now self.old }
         ensures seat { IsCoreSeat machine.now self.new × (self.new.mail.number ≡ self.old.mail.number) }
         ensures turns { CoreTurns machine.now self.old result self.new }
         ensures within { IfOk result (λ turn. turn.put ≤ 256) }
+        ensures memory { result ≢ Err Refusal.NoMemory }
     {
         turn_of(self, machine)
     }

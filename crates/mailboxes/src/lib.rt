@@ -18,6 +18,7 @@ mod core_receiver;
 mod core_seat;
 mod core_serving;
 mod core_turns;
+pub mod edges;
 mod ends;
 mod evicting;
 pub mod laws;

@@ -1,5 +1,5 @@
 //! The messages of a seat, whatever its part.
-ghost use Rattle.std.specs.Prelude.{◌≡◌, ◌<◌};
+ghost use Rattle.std.specs.Prelude.{◌≡◌, ◌<◌, is_some};
 ghost use Rattle.mailboxes.specs.Places.{AllOwn};
 ghost use Rattle.mailboxes.specs.Ties.{BoxTied};
 
@@ -24,4 +24,13 @@ pub struct Mailbox {
     pub ghost tied: { BoxTied seat number inbox.hand inbox.held },
     pub ghost own: { AllOwn cores number inbox },
     pub ghost turned: { cursor < 256 },
+}
+
+impl Mailbox {
+    /// Whether a message is in the hand.
+    pub(crate) fn hand_is_full(&self) -> bool
+        ensures { result ≡ is_some self.now.inbox.hand }
+    {
+        self.inbox.hand().is_some()
+    }
 }

@@ -1,17 +1,19 @@
 //! What is looked up in a machine that was closed: the records, what cores were issued, and the values of words.
-ghost use Rattle.std.specs.Prelude.{◌≡◌, ℕ, ◌<◌, ◌≤◌, List, [], map, Some, slice_get};
+ghost use Rattle.std.specs.Prelude.{◌≡◌, ℕ, ◌<◌, ◌≤◌, List, [], map, Some, slice_get, IfOk};
 ghost use Rattle.physiological_order.specs.declared.operation.Record.{Record};
 ghost use Rattle.physiological_order.specs.Order.{flat, Legal, Arrangement, of_core, replay_end};
 ghost use Rattle.physiological_order.specs.StaleHits.{RisesByNumber};
 ghost use Rattle.protocol.specs.Issued.{IsIssued};
 ghost use Rattle.machine_moves.specs.Ownership.{coherent};
+ghost use Rattle.closed_runs.specs.ValuesLeft.{ValuesLeft};
 ghost use Rattle.mailboxes.specs.declared.closed_machine.CorePart.{CorePart};
 ghost use Rattle.mailboxes.specs.RunParts.{Parts, state_of};
 
 use crate::run::Run;
-use closed_runs::{find, value_left};
+use closed_runs::{find, value_left, values_left};
 use machine_moves::laws::{places_count_records, records_are_in_order};
 use physiological_order::{Op, Record, WordAddr};
+use std::alloc::{AllocError, Global};
 
 impl Run {
     /// The records of all completed operations, by number. Of a run that `close` gave, they are a legal history of the
@@ -58,5 +60,17 @@ impl Run {
             result ≡ replay_end (flat self.now.set_up.memory) (map (λ r. r.op) arranged) addr }
     {
         value_left(&self.set_up.memory, self.records.as_slice(), addr)
+    }
+
+    /// The values of these words, in their order, each as `value` answers it. Each record is looked at once, however
+    /// many words there are. AllocError where there is no memory for the list, or for the last write of each word.
+    pub fn values(&self, alloc: Global, words: &[WordAddr]) -> Result<Vec<u64>, AllocError>
+        ensures value { IfOk result (λ values. (parts : Parts self.now) →
+            values.items ≡ map (coherent self.now.set_up.config self.now.set_up.memory
+            (state_of self.now parts)) words.now) }
+        ensures left { IfOk result (λ values. ValuesLeft
+            (flat self.now.set_up.memory) self.now.records.items words.now values.items) }
+    {
+        values_left(alloc, &self.set_up.memory, self.records.as_slice(), words)
     }
 }

@@ -1,5 +1,5 @@
 //! A seat takes messages out of slots.
-ghost use Rattle.std.specs.Prelude.{◌≡◌, ◌<◌, ◌≤◌, None};
+ghost use Rattle.std.specs.Prelude.{◌≡◌, ◌+◌, ◌%◌, ◌<◌, ◌≤◌, None};
 ghost use Rattle.mailboxes.specs.Places.{EndsAt, incoming, incoming_count};
 ghost use Rattle.mailboxes.specs.BoxMoves.{IsAt, Stands, Stays, TakesAt, Takes, hold};
 
@@ -10,6 +10,14 @@ use crate::steps::{look_in, receive};
 use crate::taken::Take;
 use network::Body;
 use seat_rule::parts::seats_stand;
+
+// The place after this one among so many, going round.
+fn place_after(place: usize, count: usize) -> usize
+    requires { (place < count) × (count ≤ 256) }
+    ensures { result ≡ (place + 1) % count }
+{
+    if place + 1 == count { 0 } else { place + 1 }
+}
 
 impl Mailbox {
     /// Takes the message of the first slot that comes in and is found full into the hand, from the cursor on and going
@@ -26,13 +34,15 @@ impl Mailbox {
             return Take::HandFull;
         }
         let count = self.slots_in(machine);
+        let mut place = self.cursor % count;
         for n in 0..count {
-            let place = (self.cursor + n) % count;
             let slot = self.slot_at(machine, place);
+            let after = place_after(place, count);
             if self.take_at(machine, slot) {
-                self.cursor = (place + 1) % count;
+                self.cursor = after;
                 return Take::Taken;
             }
+            place = after;
         }
         Take::Nothing
     }

@@ -1,3 +1,4 @@
 mod AddedUp
+mod EndedRuns
 mod OneMore
 mod LineByLine

@@ -1,10 +1,12 @@
 -- How many runs ended in each way, and what is seen of those that are all done.
-use Rattle.std.specs.Prelude.{ℕ, Bool, true, false, List, Option, Some, None, count_by}
+use Rattle.std.specs.Prelude.{ℕ, ◌+◌, ◌-◌, ◌^◌, ◌<◌, Bool, true, false, cond, List, Option, Some, None}
+use Rattle.std.specs.Prelude.{count_by}
 use Rattle.litmus_reader.specs.Litmus.{Litmus}
 use Rattle.litmus_reader.specs.Truth.{value_of, holds}
 use Rattle.run_ends.specs.declared.ends.End.{End}
 use Rattle.run_ends.specs.declared.ends.End.TheVariants.{AllDone, Stalled, TurnsUsed, Exhausted, NoMemory}
 use Rattle.run_ends.specs.declared.ends.RunEnd.{RunEnd}
+use Rattle.report_text.specs.declared.ends.Endings.{Endings}
 
 abbrev pub same_end : End → End → Bool
 same_end AllDone AllDone = true
@@ -37,3 +39,31 @@ is_held test run = holds_in test (done_state run.end run.state)
 -- how many runs are all done with an end state in which the condition's expression holds
 abbrev pub held : Litmus → List RunEnd → ℕ
 held test runs = count_by (is_held test) runs
+
+-- how many runs ended in each way, and in how many the condition's expression holds
+abbrev pub endings_of : Litmus → List RunEnd → Endings
+endings_of test runs = record {
+  all_done = ended AllDone runs;
+  stalled = ended Stalled runs;
+  turns_used = ended TurnsUsed runs;
+  exhausted = ended Exhausted runs;
+  no_memory = ended NoMemory runs;
+  held = held test runs;
+}
+
+-- the same after one more run
+abbrev pub with_run : Litmus → Endings → RunEnd → Endings
+with_run test endings run = record {
+  all_done = endings.all_done + cond (ends_as AllDone run) 1 0;
+  stalled = endings.stalled + cond (ends_as Stalled run) 1 0;
+  turns_used = endings.turns_used + cond (ends_as TurnsUsed run) 1 0;
+  exhausted = endings.exhausted + cond (ends_as Exhausted run) 1 0;
+  no_memory = endings.no_memory + cond (ends_as NoMemory run) 1 0;
+  held = endings.held + cond (is_held test run) 1 0;
+}
+
+-- one more of each fits 64 bits
+abbrev pub AreFew : Endings → Type 0
+AreFew endings =
+    (endings.all_done < 2 ^ 64 - 1) × (endings.stalled < 2 ^ 64 - 1) × (endings.turns_used < 2 ^ 64 - 1)
+    × (endings.exhausted < 2 ^ 64 - 1) × (endings.no_memory < 2 ^ 64 - 1) × (endings.held < 2 ^ 64 - 1)

@@ -4,25 +4,25 @@ use Rattle.std.specs.List.{flat_map}
 use Rattle.litmus_parser.specs.declared.syntax.Quantifier.{Quantifier}
 use Rattle.litmus_parser.specs.declared.syntax.Quantifier.TheVariants.{Exists, NotExists, Forall}
 use Rattle.litmus_reader.specs.Litmus.{Litmus}
-use Rattle.run_ends.specs.declared.ends.End.TheVariants.{AllDone, Stalled, TurnsUsed, Exhausted, NoMemory}
 use Rattle.run_ends.specs.declared.ends.RunEnd.{RunEnd}
+use Rattle.report_text.specs.declared.ends.Endings.{Endings}
 use Rattle.report_text.specs.declared.sums.Sums.{Sums}
-use Rattle.report_text.specs.Ends.{ended, held}
+use Rattle.report_text.specs.Ends.{endings_of}
 use Rattle.report_lines.specs.Lines.{counts_text, field, word_line}
 use Rattle.report_text.specs.Lines.{state_line, quantifier_text}
 use Rattle.report_text.specs.States.{State, done_states, tallied}
 use Rattle.report_text.specs.Sums.{sums_of}
 
 -- the test, and how many runs ended in which way
-abbrev pub ends_text : Litmus → List RunEnd → List ℕ
-ends_text test runs = word_line (codes "test") test.name
+abbrev pub ends_text : Litmus → ℕ → Endings → List ℕ
+ends_text test runs endings = word_line (codes "test") test.name
     ++ field (codes "threads") test.threads
-    ++ field (codes "runs") (length runs)
-    ++ field (codes "all-done") (ended AllDone runs)
-    ++ field (codes "stalled") (ended Stalled runs)
-    ++ field (codes "limit") (ended TurnsUsed runs)
-    ++ field (codes "exhausted") (ended Exhausted runs)
-    ++ field (codes "memory") (ended NoMemory runs)
+    ++ field (codes "runs") runs
+    ++ field (codes "all-done") endings.all_done
+    ++ field (codes "stalled") endings.stalled
+    ++ field (codes "limit") endings.turns_used
+    ++ field (codes "exhausted") endings.exhausted
+    ++ field (codes "memory") endings.no_memory
 
 -- how many end states there are, and a line for each
 abbrev pub states_text : Litmus → List (ℕ × State) → List ℕ
@@ -35,10 +35,10 @@ is_yes NotExists held all_done = held == 0
 is_yes Forall held all_done = held == all_done
 
 -- the condition, in how many runs its expression holds, and the verdict
-abbrev pub condition_text : Litmus → List RunEnd → List ℕ
-condition_text test runs = word_line (codes "condition") (quantifier_text test.quantifier)
-    ++ field (codes "held") (held test runs)
-    ++ word_line (codes "verdict") (if is_yes test.quantifier (held test runs) (ended AllDone runs) then codes
+abbrev pub condition_text : Litmus → Endings → List ℕ
+condition_text test endings = word_line (codes "condition") (quantifier_text test.quantifier)
+    ++ field (codes "held") endings.held
+    ++ word_line (codes "verdict") (if is_yes test.quantifier endings.held endings.all_done then codes
     "yes" else codes "no")
 
 abbrev pub sums_text : Sums → List ℕ
@@ -47,5 +47,7 @@ sums_text sums = field (codes "completed") sums.completed
     ++ field (codes "stale-hits") sums.stale
 
 unfoldable pub litmus_text : Litmus → List RunEnd → List ℕ
-litmus_text test runs = ends_text test runs ++ states_text test (tallied (done_states runs)) ++ condition_text test
-    runs ++ sums_text (sums_of runs)
+litmus_text test runs = ends_text test (length runs) (endings_of test runs)
+    ++ states_text test (tallied (done_states runs))
+    ++ condition_text test (endings_of test runs)
+    ++ sums_text (sums_of runs)

@@ -2,10 +2,22 @@
 
 ghost use Rattle.std.specs.Prelude.{◌≡◌};
 ghost use Rattle.litmus_reader.specs.TestViews.{test_of};
-ghost use Rattle.report_text.specs.Ends.{ended, held, ends_as, is_held};
+ghost use Rattle.report_text.specs.Ends.{AreFew, endings_of, ends_as, is_held, with_run};
 
 use litmus_reader::Test;
 use run_ends::{End, RunEnd};
+
+/// How many runs ended in each way, and how many of those that are all done have an end state in which the condition's
+/// expression holds.
+#[derive(Clone, Copy, Debug)]
+pub(crate) struct Endings {
+    pub all_done: usize,
+    pub stalled: usize,
+    pub turns_used: usize,
+    pub exhausted: usize,
+    pub no_memory: usize,
+    pub held: usize,
+}
 
 fn ends_as(run: &RunEnd, end: End) -> bool
     ensures { result ≡ ends_as end run.now }
@@ -20,13 +32,6 @@ fn ends_as(run: &RunEnd, end: End) -> bool
     }
 }
 
-/// How many runs ended in this way.
-pub(crate) fn ended(runs: &[RunEnd], end: End) -> usize
-    ensures { result ≡ ended end runs.now }
-{
-    runs.iter().filter(|run| ends_as(run, end)).count()
-}
-
 /// Whether a run is all done with an end state in which the condition's expression holds.
 fn is_held(test: &Test, run: &RunEnd) -> bool
     ensures { result ≡ is_held (test_of test.now) run.now }
@@ -37,9 +42,35 @@ fn is_held(test: &Test, run: &RunEnd) -> bool
     }
 }
 
-/// How many runs are all done with an end state in which the condition's expression holds.
-pub(crate) fn held(test: &Test, runs: &[RunEnd]) -> usize
-    ensures { result ≡ held (test_of test.now) runs.now }
+/// One more run.
+fn with_run(test: &Test, endings: Endings, run: &RunEnd) -> Endings
+    requires { AreFew endings }
+    ensures { result ≡ with_run (test_of test.now) endings run.now }
 {
-    runs.iter().filter(|run| is_held(test, run)).count()
+    Endings {
+        all_done: endings.all_done + usize::from(ends_as(run, End::AllDone)),
+        stalled: endings.stalled + usize::from(ends_as(run, End::Stalled)),
+        turns_used: endings.turns_used + usize::from(ends_as(run, End::TurnsUsed)),
+        exhausted: endings.exhausted + usize::from(ends_as(run, End::Exhausted)),
+        no_memory: endings.no_memory + usize::from(ends_as(run, End::NoMemory)),
+        held: endings.held + usize::from(is_held(test, run)),
+    }
+}
+
+/// How these runs ended.
+pub(crate) fn endings_of(test: &Test, runs: &[RunEnd]) -> Endings
+    ensures { result ≡ endings_of (test_of test.now) runs.now }
+{
+    let mut endings = Endings {
+        all_done: 0,
+        stalled: 0,
+        turns_used: 0,
+        exhausted: 0,
+        no_memory: 0,
+        held: 0,
+    };
+    for run in runs {
+        endings = with_run(test, endings, run);
+    }
+    endings
 }

@@ -5,28 +5,29 @@ ghost use Rattle.litmus_reader.specs.TestViews.{test_of};
 ghost use Rattle.report_text.specs.States.{counted};
 ghost use Rattle.report_text.specs.Text.{ends_text, states_text, is_yes, condition_text, sums_text, litmus_text};
 
-use crate::ends::{ended, held};
+use crate::ends::{Endings, endings_of};
 use crate::lines::{put_state, quantifier_text};
 use crate::states::count_states;
 use crate::sums::{Sums, sums_of};
 use indexmap::IndexMap;
 use litmus_reader::{Quantifier, Test};
 use report_lines::{put_counts, put_field, put_word};
-use run_ends::{End, RunEnd};
+use run_ends::RunEnd;
 use std::alloc::{AllocError, Global};
 
-/// The test's name and threads, and how many runs ended in which way.
-fn put_ends(out: &mut Vec<u8>, test: &Test, runs: &[RunEnd]) -> Result<(), AllocError>
-    ensures { OnOk result (out.new.items ≡ out.old.items ++ ends_text (test_of test.now) runs.now) }
+/// The test's name and threads, how many runs there are, and how many of them ended in which way.
+fn put_ends(out: &mut Vec<u8>, test: &Test, runs: usize, endings: Endings) -> Result<(), AllocError>
+    ensures { OnOk result (out.new.items ≡
+        out.old.items ++ ends_text (test_of test.now) runs endings) }
 {
     put_word(out, b"test", test.name())?;
     put_field(out, b"threads", test.threads() as u128)?;
-    put_field(out, b"runs", runs.len() as u128)?;
-    put_field(out, b"all-done", ended(runs, End::AllDone) as u128)?;
-    put_field(out, b"stalled", ended(runs, End::Stalled) as u128)?;
-    put_field(out, b"limit", ended(runs, End::TurnsUsed) as u128)?;
-    put_field(out, b"exhausted", ended(runs, End::Exhausted) as u128)?;
-    put_field(out, b"memory", ended(runs, End::NoMemory) as u128)
+    put_field(out, b"runs", runs as u128)?;
+    put_field(out, b"all-done", endings.all_done as u128)?;
+    put_field(out, b"stalled", endings.stalled as u128)?;
+    put_field(out, b"limit", endings.turns_used as u128)?;
+    put_field(out, b"exhausted", endings.exhausted as u128)?;
+    put_field(out, b"memory", endings.no_memory as u128)
 }
 
 /// How many end states there are, and a line for each.
@@ -59,14 +60,13 @@ fn is_yes(quantifier: Quantifier, held: usize, all_done: usize) -> bool
 }
 
 /// The condition, in how many runs its expression holds, and the verdict.
-fn put_condition(out: &mut Vec<u8>, test: &Test, runs: &[RunEnd]) -> Result<(), AllocError>
+fn put_condition(out: &mut Vec<u8>, test: &Test, endings: Endings) -> Result<(), AllocError>
     ensures { OnOk result (out.new.items ≡
-        out.old.items ++ condition_text (test_of test.now) runs.now) }
+        out.old.items ++ condition_text (test_of test.now) endings) }
 {
-    let held = held(test, runs);
     put_word(out, b"condition", quantifier_text(test.condition()))?;
-    put_field(out, b"held", held as u128)?;
-    if is_yes(test.condition(), held, ended(runs, End::AllDone)) {
+    put_field(out, b"held", endings.held as u128)?;
+    if is_yes(test.condition(), endings.held, endings.all_done) {
         return put_word(out, b"verdict", b"yes");
     }
     put_word(out, b"verdict", b"no")
@@ -89,11 +89,12 @@ fn put_sums(out: &mut Vec<u8>, sums: Sums) -> Result<(), AllocError>
 pub fn litmus_text(alloc: Global, test: &Test, runs: &[RunEnd]) -> Result<Vec<u8>, AllocError>
     ensures { IfOk result (λ text. text.items ≡ litmus_text (test_of test.now) runs.now) }
 {
+    let endings = endings_of(test, runs);
     let states = count_states(alloc, runs)?;
     let mut out = Vec::new(alloc);
-    put_ends(&mut out, test, runs)?;
+    put_ends(&mut out, test, runs.len(), endings)?;
     put_states(&mut out, test, &states)?;
-    put_condition(&mut out, test, runs)?;
+    put_condition(&mut out, test, endings)?;
     put_sums(&mut out, sums_of(runs))?;
     Ok(out)
 }

@@ -1,5 +1,5 @@
 -- What turns of a core's seat leave: its number, its operations and its records, and so the operation that is open.
-use Rattle.std.proofs.Common.{◌≡◌, ℕ, zero, suc, ◌<◌, Bool, true, false, List, [], ◌∷◌, ◌++◌, map, Option, Some, None}
+use Rattle.std.proofs.Common.{◌≡◌, ℕ, zero, suc, ◌<◌, Bool, true, false, List, ◌++◌, map, Option, Some, None}
 use Rattle.std.proofs.Common.{Result, Ok, Err, refl, sym, ap, subst, ◌∙◌}
 use Rattle.std.proofs.lemmas.List.{append_cancel_left}
 use Rattle.physiological_order.specs.declared.operation.Op.{Op}
@@ -21,7 +21,7 @@ use Rattle.mailboxes.specs.declared.turning.Turn.{Turn}
 use Rattle.mailboxes.specs.BoxMoves.{hold}
 use Rattle.mailboxes.specs.CoreTurns.{CorePuts, CoreServes, CoreTakes, CoreTurns, core_hand}
 use Rattle.mailboxes.specs.Seats.{IsCoreSeat}
-use Rattle.mailboxes.specs.Turns.{PutSo, PutAll, Ends, Follows, Goes, Rests, TurnsBy, Turns, is_idle}
+use Rattle.mailboxes.specs.Turns.{PutSo, PutAll, Ends, Goes, Rests, TurnsBy, is_idle}
 use Rattle.seat_turns.specs.Playing.{SameWork}
 
 -- the law that a core's seat was issued the operations of its records and then the open one

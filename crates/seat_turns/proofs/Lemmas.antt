@@ -1,14 +1,12 @@
 -- What the proofs of this crate give to those above: turns of a core's seat with its program, one after the other, and
 -- what a seat was issued.
-use Rattle.std.proofs.Common.{◌≡◌, List, [], ◌∷◌, ◌++◌, Option, Some, None, IfSome, refl, sym, ap, subst, ◌∙◌}
+use Rattle.std.proofs.Common.{List, [], ◌++◌, None, refl, sym, ap, ◌∙◌}
 use Rattle.std.proofs.Common.{append-nil, append_assoc}
-use Rattle.physiological_order.specs.declared.operation.Op.{Op}
 use Rattle.physiological_order.specs.declared.operation.Record.{Record}
 use Rattle.mailboxes.specs.declared.core_seat.CoreSeat.{CoreSeat}
-use Rattle.trace_lines.specs.declared.steps.Step.TheVariants as step
 use Rattle.worker_driver.specs.Acts.{Acts}
 use Rattle.worker_driver.specs.Service.{Performs, rests, advances, does}
-use Rattle.seat_turns.specs.Playing.{SameWork, OpensWork, EndsWork, IsAhead, Plays}
+use Rattle.seat_turns.specs.Playing.{IsAhead, Plays}
 pub use Rattle.seat_turns.proofs.KeptWork.{IssuedLaw, issued_here}
 pub use Rattle.seat_turns.proofs.Played.{none_ahead}
 

@@ -1,3 +1,4 @@
 mod KeptWork
 pub mod Lemmas
 mod Played
+mod Turned

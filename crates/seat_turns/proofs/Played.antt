@@ -1,12 +1,12 @@
 -- What one step of a program comes to.
-use Rattle.std.proofs.Common.{◌≡◌, List, [], ◌∷◌, ◌++◌, Option, Some, None, IfSome, refl, sym, ap, subst, ◌∙◌}
-use Rattle.std.proofs.Common.{append-nil, append_assoc}
+use Rattle.std.proofs.Common.{◌≡◌, [], ◌∷◌, Option, Some, None, IfSome, sym, subst, ◌∙◌}
+use Rattle.std.proofs.Common.{append-nil}
 use Rattle.physiological_order.specs.declared.operation.Op.{Op}
 use Rattle.physiological_order.specs.declared.operation.Record.{Record}
 use Rattle.mailboxes.specs.declared.core_seat.CoreSeat.{CoreSeat}
 use Rattle.trace_lines.specs.declared.steps.Step.TheVariants as step
 use Rattle.worker_driver.specs.Acts.{Acts}
-use Rattle.worker_driver.specs.Service.{Performs, rests, advances, does}
+use Rattle.worker_driver.specs.Service.{rests, advances, does}
 use Rattle.seat_turns.specs.Playing.{SameWork, OpensWork, EndsWork, IsAhead, Plays}
 
 module _ {P : Type 0} (acts : Acts P) where

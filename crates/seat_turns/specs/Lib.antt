@@ -1,1 +1,3 @@
+pub mod Calls
 pub mod Playing
+pub mod Turns

@@ -2,7 +2,9 @@
 ghost use Rattle.std.specs.Prelude.{◌≡◌, ◌&&◌, is_none, None, Some};
 ghost use Rattle.mailboxes.specs.Seats.{IsCoreSeat};
 ghost use Rattle.trace_lines.specs.declared.steps.Step.TheVariants as step;
-ghost use Rattle.seat_turns.specs.Playing.{IsAhead, Plays};
+ghost use Rattle.seat_turns.specs.Playing.{IsAhead, Plays, SameWork};
+ghost use Rattle.seat_turns.specs.Turns.{AfterRefusal, CoreHadTurn, OpIssued, OpenTried, StepDone, TimeAdvanced};
+ghost use Rattle.seat_turns.specs.Turns.{told_of};
 
 use crate::seat_calls::{advance, attempt, issue, make_place, turn};
 use crate::told::{Told, told_of_turn};
@@ -21,6 +23,8 @@ pub fn core_turn<P: Program>(machine: &Machine, seat: &mut CoreSeat, program: &m
     requires ahead { IsAhead P.acts seat.old program.old }
     ensures seat { IsCoreSeat machine.now seat.new }
     ensures plays { Plays P.acts seat.old program.old seat.new program.new }
+    ensures turn { CoreHadTurn P.acts machine.now
+        seat.old program.old result seat.new program.new }
 {
     let was_stopped = seat.is_stopped;
     let done = do_next(machine, seat, program);
@@ -47,6 +51,8 @@ fn do_next<P: Program>(
     requires ahead { IsAhead P.acts seat.old program.old }
     ensures seat { IsCoreSeat machine.now seat.new }
     ensures plays { Plays P.acts seat.old program.old seat.new program.new }
+    ensures step { StepDone P.acts machine.now seat.old.part.core.open_op
+        seat.old program.old result seat.new program.new }
 {
     if seat.open_op().is_some() {
         return try_open(machine, seat, program);
@@ -69,6 +75,7 @@ fn advance_next<P: Program>(
     requires next { P.acts.next program.old ≡ Some step.Advance }
     ensures seat { IsCoreSeat machine.now seat.new }
     ensures plays { Plays P.acts seat.old program.old seat.new program.new }
+    ensures step { TimeAdvanced P.acts seat.old program.old result seat.new program.new }
 {
     match advance(machine, seat) {
         Ok(()) => {
@@ -91,6 +98,8 @@ fn issue_next<P: Program>(
     requires next { P.acts.next program.old ≡ Some (step.Op op) }
     ensures seat { IsCoreSeat machine.now seat.new }
     ensures plays { Plays P.acts seat.old program.old seat.new program.new }
+    ensures step { OpIssued P.acts machine.now op
+        seat.old program.old result seat.new program.new }
 {
     match issue(machine, seat, op) {
         Ok(()) => try_open(machine, seat, program),
@@ -109,6 +118,7 @@ fn try_open<P: Program>(
     requires ahead { IsAhead P.acts seat.old program.old }
     ensures seat { IsCoreSeat machine.now seat.new }
     ensures plays { Plays P.acts seat.old program.old seat.new program.new }
+    ensures step { OpenTried P.acts machine.now seat.old program.old result seat.new program.new }
 {
     match attempt(machine, seat) {
         Ok(None) => Ok(false),
@@ -116,11 +126,24 @@ fn try_open<P: Program>(
             program.done(done.received);
             Ok(true)
         }
-        Err(Refusal::NoRoom) => {
+        Err(refusal) => refused(machine, seat, refusal),
+    }
+}
+
+// For a refusal of an attempt: a copy goes if there is no place for the line, and then no step is done. Any other is
+// told.
+fn refused(machine: &Machine, seat: &mut CoreSeat, refusal: Refusal) -> Result<bool, Refusal>
+    requires { IsCoreSeat machine.now seat.old }
+    ensures seat { IsCoreSeat machine.now seat.new }
+    ensures work { SameWork seat.old seat.new }
+    ensures after { AfterRefusal refusal seat.old result seat.new }
+{
+    match refusal {
+        Refusal::NoRoom => {
             make_place(machine, seat);
             Ok(false)
         }
-        Err(refusal) => Err(refusal),
+        _ => Err(refusal),
     }
 }
 
@@ -130,7 +153,9 @@ fn told_of(
     is_stopped: bool,
     done: Result<bool, Refusal>,
     moved: Result<Turn, Refusal>,
-) -> Told {
+) -> Told
+    ensures { result ≡ told_of was_stopped is_stopped done moved }
+{
     let is_done = matches!(done, Ok(true));
     let is_refused = matches!(done, Err(Refusal::NoMemory));
     let told = told_of_turn(was_stopped, is_stopped, moved);

@@ -1,6 +1,8 @@
-//! The calls of a core's seat, with what they do to its work alone.
+//! The calls of a core's seat: what each does, and what it does to the seat's work.
 ghost use Rattle.std.specs.Prelude.{◌≡◌, None, OnOk, OnErr};
+ghost use Rattle.mailboxes.specs.CoreTurns.{CoreTurns};
 ghost use Rattle.mailboxes.specs.Seats.{IsCoreSeat};
+ghost use Rattle.seat_turns.specs.Calls.{Attempted, CoreAdvanced, CoreIssued, PlaceMade};
 ghost use Rattle.seat_turns.specs.Playing.{AttemptsWork, IssuesWork, OpensWork, SameWork};
 
 use machine_table::{Answer, Refusal};
@@ -15,6 +17,7 @@ pub(crate) fn issue(machine: &Machine, seat: &mut CoreSeat, op: Op) -> Result<()
     requires none { seat.old.part.core.open_op ≡ None }
     ensures seat { IsCoreSeat machine.now seat.new }
     ensures work { IssuesWork op result seat.old seat.new }
+    ensures issued { CoreIssued op result seat.old seat.new }
 {
     seat.issue(machine, op)
 }
@@ -24,6 +27,7 @@ pub(crate) fn advance(machine: &Machine, seat: &mut CoreSeat) -> Result<(), Refu
     requires seat { IsCoreSeat machine.now seat.old }
     ensures seat { IsCoreSeat machine.now seat.new }
     ensures work { SameWork seat.old seat.new }
+    ensures advanced { CoreAdvanced result seat.old seat.new }
 {
     seat.advance(machine)
 }
@@ -33,6 +37,7 @@ pub(crate) fn attempt(machine: &Machine, seat: &mut CoreSeat) -> Result<Option<R
     requires seat { IsCoreSeat machine.now seat.old }
     ensures seat { IsCoreSeat machine.now seat.new }
     ensures work { AttemptsWork result seat.old seat.new }
+    ensures attempted { Attempted machine.now result seat.old seat.new }
 {
     match seat.attempt(machine) {
         Answer::Completed(done) => Ok(Some(done)),
@@ -46,6 +51,7 @@ pub(crate) fn make_place(machine: &Machine, seat: &mut CoreSeat)
     requires seat { IsCoreSeat machine.now seat.old }
     ensures seat { IsCoreSeat machine.now seat.new }
     ensures work { SameWork seat.old seat.new }
+    ensures made { PlaceMade seat.old seat.new }
 {
     let Some((op, _)) = seat.open_op() else {
         return;
@@ -62,6 +68,7 @@ pub(crate) fn turn(machine: &Machine, seat: &mut CoreSeat) -> Result<Turn, Refus
     requires seat { IsCoreSeat machine.now seat.old }
     ensures seat { IsCoreSeat machine.now seat.new }
     ensures work { SameWork seat.old seat.new }
+    ensures turned { CoreTurns machine.now seat.old result seat.new }
 {
     records_of_seats_are_counted();
     seat.turn(machine)

@@ -1,4 +1,7 @@
 //! What a turn of a seat tells the one that gave it.
+ghost use Rattle.std.specs.Prelude.{◌≡◌};
+ghost use Rattle.seat_turns.specs.Turns.{has_moved, told_of_turn};
+
 use machine_table::Refusal;
 use mailboxes::Turn;
 use serving::Served;
@@ -19,7 +22,9 @@ pub(crate) fn told_of_turn(
     was_stopped: bool,
     is_stopped: bool,
     moved: Result<Turn, Refusal>,
-) -> Told {
+) -> Told
+    ensures { result ≡ told_of_turn was_stopped is_stopped moved }
+{
     Told {
         no_memory: matches!(moved, Err(Refusal::NoMemory)),
         is_exhausted: is_stopped && !was_stopped,
@@ -28,7 +33,9 @@ pub(crate) fn told_of_turn(
 }
 
 // Whether messages were put, or one was served.
-fn has_moved(moved: Result<Turn, Refusal>) -> bool {
+fn has_moved(moved: Result<Turn, Refusal>) -> bool
+    ensures { result ≡ has_moved moved }
+{
     match moved {
         Err(_) => false,
         Ok(turn) => turn.put > 0 || !matches!(turn.served, Served::Nothing | Served::Held),

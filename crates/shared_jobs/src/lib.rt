@@ -3,8 +3,8 @@
 #![tactic(auto)]
 
 mod gate;
+mod in_order;
 mod jobs;
-mod places;
 mod run;
 mod workers;
 

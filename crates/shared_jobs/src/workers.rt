@@ -1,18 +1,20 @@
 //! What each worker does: it claims jobs until there are no more.
-ghost use Rattle.std.specs.Prelude.{◌≡◌, ℕ, ◌<◌, IfSome};
+ghost use Rattle.std.specs.Prelude.{ℕ, ◌<◌, IfSome};
 ghost use Rattle.drawn_numbers.specs.Drawers.{IsDrawerOf};
-ghost use Rattle.shared_jobs.specs.Results.{AllGiven};
+ghost use Rattle.shared_jobs.specs.Results.{AllGiven, AllBelow};
 ghost use Rattle.shared_jobs.specs.Teams.{IsAtWork};
 
 use crate::gate::Gate;
 use crate::jobs::{Jobs, run_one};
 use drawn_numbers::{Drawer, Numbers};
+use std::collections::VecDeque;
 
-/// A worker: what it claims jobs with, and the results that it has, each with its job's number.
+/// A worker: what it claims jobs with, and the results that it has, each with its job's number, in the order in which
+/// it claimed them.
 #[derive(Drop)]
 pub struct Worker<X: Drop> {
     pub drawer: Drawer,
-    pub results: Vec<(u64, X)>,
+    pub results: VecDeque<(u64, X)>,
 }
 
 /// Claims jobs and runs them, until a number is drawn that is no job's. A worker that is refused memory stops sooner.
@@ -48,10 +50,12 @@ fn do_one<X: Drop, S: Drop, J: Jobs<X, S>, G: Gate>(
     state: S,
 ) -> Option<S>
     requires drawer { IsDrawerOf numbers.now worker.old.drawer }
-    requires given { AllGiven (J.gives jobs.now) count worker.old.results.items }
+    requires below { AllBelow count worker.old.results.items }
+    requires given { AllGiven (J.gives jobs.now) worker.old.results.items }
     requires ready { J.ready jobs.now state }
     ensures drawer { IsDrawerOf numbers.now worker.new.drawer }
-    ensures given { AllGiven (J.gives jobs.now) count worker.new.results.items }
+    ensures below { AllBelow count worker.new.results.items }
+    ensures given { AllGiven (J.gives jobs.now) worker.new.results.items }
     ensures ready { IfSome result (J.ready jobs.now) }
 {
     if worker.results.reserve(1).is_err() {
@@ -66,6 +70,6 @@ fn do_one<X: Drop, S: Drop, J: Jobs<X, S>, G: Gate>(
     let Ok((result, next)) = run_one(jobs, gate, state, number) else {
         return None;
     };
-    worker.results.push_reserved((number, result));
+    worker.results.push_back_reserved((number, result));
     Some(next)
 }

@@ -4,7 +4,7 @@ ghost use Rattle.mailboxes.specs.Seats.{AllBankSeats, AllCoreSeats};
 
 use crate::calls::{Call, On, Says, word};
 use crate::examples::ONE;
-use crate::full_outbox::{PLACES, evict_first, fill};
+use crate::full_outbox::{PLACES, evict_below, fill};
 use crate::player::{called, closed, is_legal, opened, play};
 use machine_table::Config;
 use mailboxes::{BankSeat, CoreSeat, Machine, Run};
@@ -73,12 +73,12 @@ fn carry(machine: &Machine, cores: &mut Vec<CoreSeat>, banks: &mut Vec<BankSeat>
     true
 }
 
-// Whether each word has the value that was stored to it.
-fn has_all_stored(run: &Run) -> bool
+/// Whether each word below a number has the value that was stored to it first: one more than its own number.
+pub(crate) fn has_first_values(run: &Run, below: u64) -> bool
     requires { Parts run.now }
 {
-    for at in 0..PLACES + 1 {
-        if run.value(word(at)) != at + 1 {
+    for at in 0..below {
+        if run.value(word(at)) != at.saturating_add(1) {
             return false;
         }
     }
@@ -97,7 +97,7 @@ fn fill_and_serve(
     ensures cores { AllCoreSeats machine.now cores.new.items }
     ensures banks { AllBankSeats machine.now banks.new.items }
 {
-    if !evict_first(machine, cores, banks, 1) {
+    if !evict_below(machine, cores, banks, 1, PLACES, Says::Done) {
         return Some(0);
     }
     let other = play(machine, cores, banks, STORES, usize::MAX);
@@ -137,7 +137,7 @@ fn played(alloc: Global) -> Result<(Option<usize>, Option<usize>), Fail> {
     }
     let other = fill_and_serve(&machine, &mut cores, &mut banks);
     let run = closed(alloc, machine, cores, banks)?.ok_or("all seats are there")?;
-    if !is_legal(alloc, &run, 1)? || !has_all_stored(&run) {
+    if !is_legal(alloc, &run, 1)? || !has_first_values(&run, PLACES + 1) {
         return Ok((other, None));
     }
     Ok((other, Some(run.records().len())))

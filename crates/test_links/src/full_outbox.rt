@@ -12,7 +12,7 @@ use std::alloc::Global;
 use std::test::Fail;
 
 /// A cache with a set of its own for each of 1,024 lines.
-const WIDE: Config = Config {
+pub(crate) const WIDE: Config = Config {
     sets: 1024,
     ways: 1,
     ..ONE
@@ -49,20 +49,42 @@ const STEPS: &[(usize, Call, Says)] = &[
     (0, Call::Turn, Says::Turned(2, Served::Nothing)),
 ];
 
-/// A seat is asked to evict lines 0 to 255. False if it answers otherwise than that it is done.
-pub(crate) fn evict_first(
+/// A seat is asked to evict the lines below a number. False if it answers otherwise than this.
+pub(crate) fn evict_below(
     machine: &Machine,
     cores: &mut Vec<CoreSeat>,
     banks: &mut Vec<BankSeat>,
     seat: usize,
+    below: u64,
+    says: Says,
 ) -> bool
     requires cores { AllCoreSeats machine.now cores.old.items }
     requires banks { AllBankSeats machine.now banks.old.items }
     ensures cores { AllCoreSeats machine.now cores.new.items }
     ensures banks { AllBankSeats machine.now banks.new.items }
 {
-    for at in 0..PLACES {
-        if called(machine, cores, banks, seat, Call::Evict(at)) != Says::Done {
+    for at in 0..below {
+        if called(machine, cores, banks, seat, Call::Evict(at)) != says {
+            return false;
+        }
+    }
+    true
+}
+
+/// Makes core 0 own lines 0 to 256, which the bank of this seat grants. False if a call is answered otherwise.
+pub(crate) fn own(
+    machine: &Machine,
+    cores: &mut Vec<CoreSeat>,
+    banks: &mut Vec<BankSeat>,
+    bank: usize,
+) -> bool
+    requires cores { AllCoreSeats machine.now cores.old.items }
+    requires banks { AllBankSeats machine.now banks.old.items }
+    ensures cores { AllCoreSeats machine.now cores.new.items }
+    ensures banks { AllBankSeats machine.now banks.new.items }
+{
+    for at in 0..PLACES + 1 {
+        if !store_first(machine, cores, banks, 0, bank, at) {
             return false;
         }
     }
@@ -76,12 +98,7 @@ pub(crate) fn fill(machine: &Machine, cores: &mut Vec<CoreSeat>, banks: &mut Vec
     ensures cores { AllCoreSeats machine.now cores.new.items }
     ensures banks { AllBankSeats machine.now banks.new.items }
 {
-    for at in 0..PLACES + 1 {
-        if !store_first(machine, cores, banks, 0, 1, at) {
-            return false;
-        }
-    }
-    evict_first(machine, cores, banks, 0)
+    own(machine, cores, banks, 1) && evict_below(machine, cores, banks, 0, PLACES, Says::Done)
 }
 
 // The index of the first step that is answered otherwise, if any is, and how many records there are if they are legal.

@@ -7,6 +7,8 @@ mod calls;
 #[cfg(test)]
 mod closings;
 #[cfg(test)]
+mod edges;
+#[cfg(test)]
 mod examples;
 #[cfg(test)]
 mod full_lists;

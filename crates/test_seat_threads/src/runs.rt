@@ -1,55 +1,14 @@
 //! What machines have when they are closed, once their seats were driven by several threads at once.
 ghost use Rattle.mailboxes.specs.RunParts.{Parts};
 
-use crate::threads::{Case, memory, run};
-use machine_table::{Config, Counts};
-use mailboxes::Run;
+use crate::cases::{CROWDED, Case, FOUR_TO_THE_END, MANY, MANY_TO_THE_END};
+use crate::threads::{memory, run};
+use machine_table::Counts;
+use mailboxes::{CorePart, Run};
 use network::LineNo;
 use physiological_order::{Verdict, check};
 use std::alloc::Global;
 use std::test::Fail;
-
-/// Four cores with caches for four lines each, and two banks for four lines each, fewer than the 16 words.
-const FEW: Case = Case {
-    config: Config {
-        cores: 4,
-        banks: 2,
-        sets: 2,
-        ways: 2,
-        bank_sets: 4,
-        bank_ways: 1,
-        line_words: 1,
-        lease: 10,
-        messages: 4096,
-        opening_time: 0,
-        private_write: false,
-    },
-    threads: 4,
-    words: 16,
-    rounds: 20,
-    turns: 200,
-};
-
-/// 64 cores with caches for two lines each, and eight banks with room for all 128 words.
-const MANY: Case = Case {
-    config: Config {
-        cores: 64,
-        banks: 8,
-        sets: 2,
-        ways: 1,
-        bank_sets: 16,
-        bank_ways: 2,
-        line_words: 1,
-        lease: 10,
-        messages: 4096,
-        opening_time: 0,
-        private_write: false,
-    },
-    threads: 16,
-    words: 128,
-    rounds: 20,
-    turns: 50,
-};
 
 // Whether the checker says that a run's records are legal, for what its cores were issued and the opening memory.
 fn is_legal(alloc: Global, run: &Run, case: &Case) -> Result<bool, Fail>
@@ -71,6 +30,38 @@ fn all_began(run: &Run, cores: u32) -> bool
     for core in 0..cores {
         if run.issued(core).len() < 2 {
             return false;
+        }
+    }
+    true
+}
+
+// Whether each core has completed its program.
+fn all_are_over(run: &Run, case: &Case) -> bool {
+    for core in &run.cores {
+        if core.records.len() as u64 != case.operations {
+            return false;
+        }
+    }
+    true
+}
+
+// Whether a core has completed an operation on a word of a bank. A line is one word.
+fn has_used(core: &CorePart, bank: u64, banks: u64) -> bool {
+    for record in &core.records {
+        if record.op.word().checked_rem(banks) == Some(bank) {
+            return true;
+        }
+    }
+    false
+}
+
+// Whether each core has completed operations on words of all banks: so a message went over each link between them.
+fn all_links_are_used(run: &Run, banks: u32) -> bool {
+    for core in &run.cores {
+        for bank in 0..banks {
+            if !has_used(core, bank as u64, banks as u64) {
+                return false;
+            }
         }
     }
     true
@@ -109,15 +100,42 @@ fn owned(run: &Run, words: u64) -> Option<u64>
     Some(count)
 }
 
+// What is wrong with a run, if anything is: whatever its programs have completed, its records are legal, each core has
+// completed an operation, the counts are those of all seats, and no line has two owners.
+fn wrong(alloc: Global, run: &Run, case: &Case) -> Result<Option<&'static str>, Fail>
+    requires { Parts run.now }
+{
+    if !is_legal(alloc, run, case)? {
+        return Ok(Some("the records are legal"));
+    }
+    if run.cores.len() != case.config.cores as usize || !all_began(run, case.config.cores) {
+        return Ok(Some("each core has completed an operation"));
+    }
+    if total(run.counts()) != counted(run) {
+        return Ok(Some("the counts are those of all seats"));
+    }
+    if owned(run, case.words).is_none() {
+        return Ok(Some("no line has two owners"));
+    }
+    Ok(None)
+}
+
 #[test]
 fn seats_in_several_threads_leave_a_legal_run(rt: HostRuntime) -> Result<(), Fail> {
-    for case in [&FEW, &MANY] {
+    for case in [&CROWDED, &MANY] {
         let run = run(&rt, rt.alloc(), case)?.ok_or("all seats are there")?;
-        assert!(rt; is_legal(rt.alloc(), &run, case)?);
-        assert!(rt; all_began(&run, case.config.cores));
-        assert!(rt; run.records().len() >= case.config.cores as usize);
-        assert_eq!(rt; total(run.counts()), counted(&run));
-        assert!(rt; owned(&run, case.words).is_some());
+        assert_eq!(rt; wrong(rt.alloc(), &run, case)?, None);
+    }
+    Ok(())
+}
+
+#[test]
+fn programs_on_words_of_all_banks_come_to_their_end(rt: HostRuntime) -> Result<(), Fail> {
+    for case in [&FOUR_TO_THE_END, &MANY_TO_THE_END] {
+        let run = run(&rt, rt.alloc(), case)?.ok_or("all seats are there")?;
+        assert_eq!(rt; wrong(rt.alloc(), &run, case)?, None);
+        assert!(rt; all_are_over(&run, case));
+        assert!(rt; all_links_are_used(&run, case.config.banks));
     }
     Ok(())
 }

@@ -2,6 +2,7 @@
 ghost use Rattle.std.specs.Prelude.{◌≡◌, ◌<◌};
 ghost use Rattle.mailboxes.specs.Seats.{IsBankSeat, IsCoreSeat};
 
+use crate::cases::Case;
 use machine_table::{Answer, Refusal};
 use mailboxes::{BankSeat, CoreSeat, Machine};
 use network::LineNo;
@@ -21,15 +22,16 @@ pub(crate) fn operation_of(core: u64, place: u64, words: u64) -> Op
     }
 }
 
-// Issues the core its next operation, if none is open.
-fn issue_next(core: &mut CoreSeat, machine: &Machine, words: u64)
+// Issues the core its next operation, if none is open and its program is not over.
+fn issue_next(core: &mut CoreSeat, machine: &Machine, case: &Case)
     requires { IsCoreSeat machine.now core.old }
     ensures { IsCoreSeat machine.now core.new }
 {
-    if core.open_op().is_none() {
+    let issued = core.issued.len() as u64;
+    if core.open_op().is_none() && issued < case.operations {
         let number = core.mail.number as u64 % 64;
-        let place = core.issued.len() as u64 % 4_294_967_296;
-        let _issued = core.issue(machine, operation_of(number, place, words));
+        let place = issued % 4_294_967_296;
+        let _issued = core.issue(machine, operation_of(number, place, case.words));
     }
 }
 
@@ -49,11 +51,11 @@ fn make_room(core: &mut CoreSeat, machine: &Machine)
 
 /// A core's turn: it is issued its next operation, attempts it, makes room if there is none, and has a turn of its
 /// seat.
-pub(crate) fn core_turn(core: &mut CoreSeat, machine: &Machine, words: u64)
+pub(crate) fn core_turn(core: &mut CoreSeat, machine: &Machine, case: &Case)
     requires { IsCoreSeat machine.now core.old }
     ensures { IsCoreSeat machine.now core.new }
 {
-    issue_next(core, machine, words);
+    issue_next(core, machine, case);
     let answer = core.attempt(machine);
     if matches!(answer, Answer::Refused(Refusal::NoRoom)) {
         make_room(core, machine);

@@ -2,6 +2,7 @@
 ghost use Rattle.std.specs.Prelude.{All, IfOk, IfSome, OnOk, ◌<◌};
 ghost use Rattle.mailboxes.specs.Seats.{IsBankSeat, IsCoreSeat};
 
+use crate::cases::Case;
 use crate::seats::{bank_turn, core_turn};
 use mailboxes::{BankSeat, CoreSeat, Machine};
 use std::alloc::{AllocError, Global};
@@ -83,25 +84,37 @@ fn add_bank(
     Ok(())
 }
 
+/// Whether the programs of all cores are over: each core has completed all its operations.
+pub(crate) fn are_over(teams: &[Team], case: &Case) -> bool {
+    for team in teams {
+        for core in &team.cores {
+            if (core.records.len() as u64) < case.operations {
+                return false;
+            }
+        }
+    }
+    true
+}
+
 // Each core of a team has a turn.
-fn core_turns(cores: &mut Vec<CoreSeat>, machine: &Machine, words: u64)
+fn core_turns(cores: &mut Vec<CoreSeat>, machine: &Machine, case: &Case)
     requires { All (IsCoreSeat machine.now) cores.old.items }
     ensures { All (IsCoreSeat machine.now) cores.new.items }
 {
     for i in 0..cores.len() {
-        core_turn(&mut cores[i], machine, words);
+        core_turn(&mut cores[i], machine, case);
     }
 }
 
-/// Each seat of a team has so many turns.
-pub(crate) fn work(team: &mut Team, machine: &Machine, turns: u32, words: u64)
+/// Each seat of a team has the turns of a round.
+pub(crate) fn work(team: &mut Team, machine: &Machine, case: &Case)
     requires { All (IsCoreSeat machine.now) team.old.cores.items ×
         IfSome team.old.bank (IsBankSeat machine.now) }
     ensures { All (IsCoreSeat machine.now) team.new.cores.items ×
         IfSome team.new.bank (IsBankSeat machine.now) }
 {
-    for _ in 0..turns {
-        core_turns(&mut team.cores, machine, words);
+    for _ in 0..case.turns {
+        core_turns(&mut team.cores, machine, case);
         if let Some(bank) = &mut team.bank {
             bank_turn(bank, machine);
         }

@@ -1,27 +1,16 @@
-//! A machine that is opened, driven by several threads for so many turns, and closed.
+//! A machine that is opened, driven by several threads for so many rounds, and closed.
 ghost use Rattle.std.specs.Prelude.{All, IfOk, IfSome, ◌<◌, ◌≤◌};
 ghost use Rattle.mailboxes.specs.RunParts.{Parts};
 ghost use Rattle.mailboxes.specs.Seats.{IsBankSeat, IsCoreSeat};
 
-use crate::teams::{Team, collect, deal, work};
-use machine_table::Config;
+use crate::cases::Case;
+use crate::teams::{Team, are_over, collect, deal, work};
 use mailboxes::{BankSeat, CoreSeat, Machine, Run, open};
 use physiological_order::{Memory, WordAddr};
 use std::alloc::{AllocError, Global};
 use std::test::Fail;
 use std::thread;
 use std::thread::Threads;
-
-/// How many threads drive which machine, over how many words. They meet after each round. In a round each seat has so
-/// many turns.
-#[derive(Clone, Copy)]
-pub(crate) struct Case {
-    pub(crate) config: Config,
-    pub(crate) threads: u32,
-    pub(crate) words: u64,
-    pub(crate) rounds: u32,
-    pub(crate) turns: u32,
-}
 
 /// The memory that a machine opens with: word w has 1,000,000 + w.
 pub(crate) fn memory(alloc: Global, words: u64) -> Result<Memory, AllocError> {
@@ -43,7 +32,7 @@ fn opened(alloc: Global, case: &Case) -> Result<(Machine, Vec<CoreSeat>, Vec<Ban
     }
 }
 
-// Each team works in a thread of its own, in each round.
+// Each team works in a thread of its own, in each round. When they meet and all programs are over, no round is left.
 fn drive<R: Threads + Sync>(rt: &R, machine: &Machine, teams: &mut [Team], case: &Case)
     requires { All (λ t. All (IsCoreSeat machine.now) t.cores.items ×
         IfSome t.bank (IsBankSeat machine.now)) teams.old }
@@ -51,6 +40,9 @@ fn drive<R: Threads + Sync>(rt: &R, machine: &Machine, teams: &mut [Team], case:
         IfSome t.bank (IsBankSeat machine.now)) teams.new }
 {
     for _ in 0..case.rounds {
+        if are_over(teams, case) {
+            return;
+        }
         thread::for_each_mut(
             rt,
             teams,
@@ -60,7 +52,7 @@ fn drive<R: Threads + Sync>(rt: &R, machine: &Machine, teams: &mut [Team], case:
                     IfSome team.now.bank (IsBankSeat machine.now) }
                 ensures { All (IsCoreSeat machine.entry.now) team.exit.now.cores.items ×
                     IfSome team.exit.now.bank (IsBankSeat machine.entry.now) }
-            { work(team, machine, case.turns, case.words) },
+            { work(team, machine, case) },
         );
     }
 }

@@ -8,6 +8,7 @@ use Rattle.mailboxes.specs.declared.machine.Machine.{Machine}
 use Rattle.mailboxes.specs.declared.core_seat.CoreSeat.{CoreSeat}
 use Rattle.mailboxes.specs.declared.bank_seat.BankSeat.{BankSeat}
 use Rattle.mailboxes.specs.Seats.{AllCoreSeats, AllBankSeats}
+use Rattle.shifts.specs.declared.shift.Shift.{Shift}
 use Rattle.signals.specs.declared.signals.Signals.{Signals}
 use Rattle.worker_driver.specs.Acts.{Acts}
 use Rattle.round_robin.specs.Dealing.{HasLengths, IsDealt, hand_of}
@@ -15,7 +16,7 @@ use Rattle.round_robin.proofs.Lemmas.{item_at, item_of, lengths_of, same_lengths
 use Rattle.thread_driver.specs.declared.worker.Worker.{Worker}
 use Rattle.thread_driver.specs.Driving.{AreAhead, AreDriven, AreSameBanks}
 use Rattle.thread_driver.specs.Hands.{AreDealt, HaveLengths, core_hands, program_hands, bank_hands}
-use Rattle.thread_driver.specs.Teams.{AllWork, IsReady}
+use Rattle.thread_driver.specs.Teams.{AllWork, AreWorked, IsReady}
 use Rattle.thread_driver.proofs.Lists.{there, none_some, some_is}
 
 -- what a function has of the value at an index
@@ -225,7 +226,7 @@ module _ {P : Type 0} (acts : Acts P) (m : Machine) (signals : Signals) (n : ℕ
           ∙ sym (item_at banks' (length cores) n (bank_hands vs)
           (subst (λ c. IsDealt banks' c n (bank_hands vs)) core_long after.banks_dealt) i) ∙ e
 
-      pub all_driven : AreDriven acts cores programs cores' programs'
+      all_driven : AreDriven acts cores programs cores' programs'
       all_driven =
           record {
             cores_long = core_long;
@@ -237,7 +238,7 @@ module _ {P : Type 0} (acts : Acts P) (m : Machine) (signals : Signals) (n : ℕ
                 (program_before i a at_a) (core_after i q at_q) (program_after i b at_b);
           }
 
-      pub all_same : AreSameBanks banks banks'
+      all_same : AreSameBanks banks banks'
       all_same =
           record {
             long = bank_long;
@@ -248,14 +249,36 @@ module _ {P : Type 0} (acts : Acts P) (m : Machine) (signals : Signals) (n : ℕ
                 (bank_after i q at_q);
           }
 
-      pub all_cores : AllCoreSeats m cores'
+      all_cores : AllCoreSeats m cores'
       all_cores i p e =
           let x = w (hand 0 i) (hand_within 0 i) in
           let y = v (hand 0 i) (hand_within 0 i) in
           (work.each (hand 0 i) x.0 y.0 x.1 y.1).0.cores (i / n) p (core_after i p e)
 
-      pub all_banks : AllBankSeats m banks'
+      all_banks : AllBankSeats m banks'
       all_banks i p e =
           let x = w (hand (length cores) i) (hand_within (length cores) i) in
           let y = v (hand (length cores) i) (hand_within (length cores) i) in
           (work.each (hand (length cores) i) x.0 y.0 x.1 y.1).0.banks (i / n) p (bank_after i p e)
+
+  -- the seats and programs of a shift, dealt before and gathered afterwards
+  module _ (s t : Shift P) (ws vs : List (Worker P))
+      (dealt : AreDealt n s.cores.items s.programs.items s.banks.items (core_hands ws) (program_hands ws)
+      (bank_hands ws))
+      (work : AllWork acts m signals ws vs) (core_long : length t.cores.items ≡ length s.cores.items)
+      (program_long : length t.programs.items ≡ length s.programs.items)
+      (bank_long : length t.banks.items ≡ length s.banks.items)
+      (after : AreDealt n t.cores.items t.programs.items t.banks.items (core_hands vs) (program_hands vs)
+      (bank_hands vs)) where
+    pub all_worked : AreWorked acts m s t
+    all_worked =
+        record {
+          cores = all_cores s.cores.items s.programs.items s.banks.items ws vs dealt work t.cores.items t.programs.items
+              t.banks.items core_long program_long bank_long after;
+          banks = all_banks s.cores.items s.programs.items s.banks.items ws vs dealt work t.cores.items t.programs.items
+              t.banks.items core_long program_long bank_long after;
+          driven = all_driven s.cores.items s.programs.items s.banks.items ws vs dealt work t.cores.items
+              t.programs.items t.banks.items core_long program_long bank_long after;
+          same = all_same s.cores.items s.programs.items s.banks.items ws vs dealt work t.cores.items t.programs.items
+              t.banks.items core_long program_long bank_long after;
+        }

@@ -2,12 +2,13 @@
 use Rattle.std.proofs.Common.{◌≡◌, List, sym, subst}
 use Rattle.mailboxes.specs.declared.machine.Machine.{Machine}
 use Rattle.mailboxes.specs.Seats.{AllCoreSeats, AllBankSeats}
+use Rattle.shifts.specs.declared.shift.Shift.{Shift}
 use Rattle.signals.specs.declared.signals.Signals.{Signals}
 use Rattle.signals.specs.Signalers.{IsSignalerOf}
 use Rattle.worker_driver.specs.Acts.{Acts}
 use Rattle.thread_driver.specs.declared.worker.Worker.{Worker}
 use Rattle.thread_driver.specs.Driving.{AreAhead, AreDriven, AreSameBanks}
-use Rattle.thread_driver.specs.Teams.{IsAtWork, Works}
+use Rattle.thread_driver.specs.Teams.{AreWorked, IsAtWork, Works}
 use Rattle.thread_driver.proofs.Driven.{ahead_driven, driven_both, driven_none, same_banks_both, same_banks_none}
 
 -- the seats and programs are as before
@@ -45,6 +46,17 @@ module _ {P : Type 0} (acts : Acts P) where
         cores = driven_both acts w.cores.items t.cores.items v.cores.items w.programs.items t.programs.items
             v.programs.items works.cores driven;
         banks = same_banks_both w.banks.items t.banks.items v.banks.items works.banks same;
+      }
+
+  -- a shift of which no seat had a turn
+  pub not_worked : (m : Machine) (s : Shift P) → AllCoreSeats m s.cores.items → AllBankSeats m s.banks.items →
+      AreAhead acts s.cores.items s.programs.items → AreWorked acts m s s
+  not_worked m s cores banks ahead =
+      record {
+        cores = cores;
+        banks = banks;
+        driven = driven_none acts s.cores.items s.programs.items ahead;
+        same = same_banks_none s.banks.items;
       }
 
 module _ {P : Type 0} (m : Machine) (signals : Signals) (l t : Worker P) (work : IsAtWork m signals l)

@@ -2,6 +2,7 @@
 use Rattle.std.specs.Prelude.{◌≡◌, ℕ, List, length, Some, slice_get}
 use Rattle.mailboxes.specs.declared.machine.Machine.{Machine}
 use Rattle.mailboxes.specs.Seats.{AllCoreSeats, AllBankSeats}
+use Rattle.shifts.specs.declared.shift.Shift.{Shift}
 use Rattle.signals.specs.declared.signals.Signals.{Signals}
 use Rattle.signals.specs.Signalers.{IsSignalerOf}
 use Rattle.worker_driver.specs.Acts.{Acts}
@@ -32,3 +33,10 @@ module _ {P : Type 0} where
     pub long : length vs ≡ length ws
     pub each : (i : ℕ) (w v : Worker P) → slice_get ws i ≡ Some w → slice_get vs i ≡ Some v →
         IsAtWork m signals v × Works acts w v
+
+  -- the seats of a shift, which are the machine's, were given turns, with their programs
+  pub record AreWorked (acts : Acts P) (m : Machine) (s t : Shift P) : Type 0 where
+    pub cores : AllCoreSeats m t.cores.items
+    pub banks : AllBankSeats m t.banks.items
+    pub driven : AreDriven acts s.cores.items s.programs.items t.cores.items t.programs.items
+    pub same : AreSameBanks s.banks.items t.banks.items

@@ -1,11 +1,11 @@
 //! Seats that workers drive, and what comes of it.
-ghost use Rattle.std.specs.Prelude.{◌≡◌, ◌≢◌, ◌⊎◌, ◌<◌, ◌≤◌, ◌^◌, OnErr, length};
+ghost use Rattle.std.specs.Prelude.{◌≡◌, ◌≢◌, ◌⊎◌, ◌<◌, ◌≤◌, ◌^◌, true, OnErr, length};
 ghost use Rattle.run_ends.specs.declared.ends.End.TheVariants as end;
 ghost use Rattle.mailboxes.specs.Seats.{AllBankSeats, AllCoreSeats, AreAll};
 ghost use Rattle.shifts.specs.Shifts.{AreBanksInOrder, AreCoresInOrder, AreOver, AreServed, NoneOpen};
 ghost use Rattle.shifts.specs.Shifts.{Ran, Refused, stopped};
-ghost use Rattle.thread_driver.specs.Driving.{AreAhead, AreDriven, AreSameBanks};
-ghost use Rattle.thread_driver.specs.Teams.{AllWork, AreReady, IsAtWork, IsReady, Works};
+ghost use Rattle.thread_driver.specs.Driving.{AreAhead};
+ghost use Rattle.thread_driver.specs.Teams.{AllWork, AreReady, AreWorked, IsAtWork, IsReady, Works};
 
 use crate::counting::{are_over, stopped_count};
 use crate::dealing::{deal_all, disband, form, gather_all, open_hands};
@@ -30,8 +30,11 @@ use worker_driver::program::Program;
 /// A worker goes on until all programs are done, each of its seats had `turn_limit` turns, or some seat wanted memory
 /// or stopped. If there is no memory for the workers, no turn is made, all is as it was given, and the end is NoMemory.
 /// Otherwise it is AllDone exactly if no program has a next step and no core an open operation; else NoMemory if memory
-/// was refused, then Exhausted if a seat stopped, else TurnsUsed. A worker whose thread can't be started loses nothing:
-/// another thread gives its seats their turns, after those of its own.
+/// was refused, then Exhausted if a seat stopped, else TurnsUsed.
+///
+/// A worker whose thread can't be started works in the thread that was to start it, after that thread's own worker has
+/// ended. Until then its seats have no turns, and messages to them wait. The others mostly use up their turns by then,
+/// and the run ends at its limit. All seats and programs come back all the same.
 pub fn drive_threads<R: Threads + Sync, P: Program + Send + Drop, G: Gate + Sync>(
     rt: &R,
     alloc: Global,
@@ -90,11 +93,7 @@ fn drive_shift<R: Threads + Sync, P: Program + Send + Drop, G: Gate + Sync>(
     requires ahead { AreAhead P.acts shift.old.cores.items shift.old.programs.items }
     requires few { length shift.old.cores.items < 2 ^ 32 }
     requires workers { (0 < workers) × (workers ≤ 16) }
-    ensures cores { AllCoreSeats machine.now shift.new.cores.items }
-    ensures banks { AllBankSeats machine.now shift.new.banks.items }
-    ensures driven { AreDriven P.acts shift.old.cores.items shift.old.programs.items
-        shift.new.cores.items shift.new.programs.items }
-    ensures same { AreSameBanks shift.old.banks.items shift.new.banks.items }
+    ensures worked { AreWorked P.acts machine.now shift.old shift.new }
     ensures refused { OnErr result (shift.new ≡ shift.old) }
 {
     let count = workers as usize;
@@ -149,6 +148,8 @@ fn end_of<P: Program + Drop>(shift: &mut Shift<P>, before: usize, wanted: bool) 
         before < stopped shift.old.cores.items shift.old.banks.items }
     ensures turns_used { result ≡ end.TurnsUsed →
         stopped shift.old.cores.items shift.old.banks.items ≤ before }
+    ensures memory { wanted ≡ true → (result ≡ end.AllDone) ⊎ (result ≡ end.NoMemory) }
+    ensures no_memory { result ≡ end.NoMemory → wanted ≡ true }
     ensures not_stalled { result ≢ end.Stalled }
     ensures same { (shift.new.cores ≡ shift.old.cores) × (shift.new.banks ≡ shift.old.banks) ×
         (shift.new.programs.items ≡ shift.old.programs.items) }

@@ -3,3 +3,4 @@ mod OwnRecords
 mod Seats
 mod Served
 mod Ended
+mod Stopped

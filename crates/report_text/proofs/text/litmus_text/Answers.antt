@@ -1,4 +1,4 @@
-use Rattle.std.proofs.Common.{◌++◌, ap, ap₂, ◌∙◌}
+use Rattle.std.proofs.Common.{◌++◌, ap₂, length, ◌∙◌}
 use Rattle.litmus_reader.specs.TestViews.{test_of}
 use Rattle.report_text.specs.Text.{ends_text, states_text, condition_text, sums_text, litmus_text}
 use Rattle.report_text.proofs.text.litmus_text.Goals as goal
@@ -8,10 +8,12 @@ pub returns : goal.returns
 unfolding litmus_text
 returns c =
     let test = test_of c.args.test.now in
-    let runs = c.args.runs.now in
+    let runs = length c.args.runs.now in
     c.in_ok-put_sums.ensures ∙ ap₂ (λ t sums. t ++ sums_text sums)
-    (c.in_ok-put_condition.ensures ∙ ap (λ t. t ++ condition_text test runs)
+    (c.in_ok-put_condition.ensures ∙ ap₂ (λ t endings. t ++ condition_text test endings)
     (c.in_ok-put_states.ensures ∙ ap₂ (λ t states. t ++ states_text test states)
-    (c.in_ok-put_ends.ensures ∙ ap (λ t. t ++ ends_text test runs) c.new-out.ensures.items)
-    c.in_ok-states.ensures))
+    (c.in_ok-put_ends.ensures ∙ ap₂ (λ t endings. t ++ ends_text test runs endings) c.new-out.ensures.items
+    c.endings_of-endings.ensures)
+    c.in_ok-states.ensures)
+    c.endings_of-endings.ensures)
     c.sums_of.ensures

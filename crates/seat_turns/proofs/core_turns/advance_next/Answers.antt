@@ -1,4 +1,4 @@
-use Rattle.std.proofs.Common.{None, sym, subst}
+use Rattle.std.proofs.Common.{sym, subst}
 use Rattle.seat_turns.specs.Playing.{Plays}
 use Rattle.seat_turns.proofs.Played.{plays_not, plays_advance, none_ahead}
 use Rattle.seat_turns.proofs.core_turns.advance_next.Goals as goal

@@ -1,5 +1,4 @@
-use Rattle.seat_turns.proofs.Played.{plays_not, plays_issue, none_ahead}
-use Rattle.seat_turns.proofs.Lemmas.{plays_both}
+use Rattle.seat_turns.proofs.Played.{plays_not, none_ahead}
 use Rattle.seat_turns.proofs.core_turns.issue_next.Goals as goal
 
 pub returns-in-Err-clause-plays : goal.returns-in-Err-clause-plays

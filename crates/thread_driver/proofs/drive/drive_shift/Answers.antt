@@ -6,23 +6,22 @@ use Rattle.signals.specs.declared.signaler.Signaler.{Signaler}
 use Rattle.signals.specs.Signalers.{IsSignalerOf}
 use Rattle.thread_driver.specs.declared.worker.Worker.{Worker}
 use Rattle.thread_driver.specs.Hands.{HaveHandRoom}
-use Rattle.thread_driver.proofs.Driven.{driven_none}
 use Rattle.thread_driver.proofs.Formed.{dealt_back, dealt_to, lengths_back}
-use Rattle.thread_driver.proofs.Dealt.{ahead_of, all_banks, all_cores, all_driven, all_same, banks_of, cores_of}
-use Rattle.thread_driver.proofs.Dealt.{lengths_after, value_of, vs_count}
+use Rattle.thread_driver.proofs.Dealt.{ahead_of, all_worked, banks_of, cores_of, lengths_after, value_of, vs_count}
+use Rattle.thread_driver.proofs.Worked.{not_worked}
 use Rattle.thread_driver.proofs.drive.drive_shift.Goals as goal
 
-pub returns-in_err-signals-clause-driven : goal.returns-in_err-signals-clause-driven
-returns-in_err-signals-clause-driven g c =
-    driven_none g.P.Program.acts c.args.shift.now.cores.items c.args.shift.now.programs.items c.requires.ahead
+pub returns-in_err-signals-clause-worked : goal.returns-in_err-signals-clause-worked
+returns-in_err-signals-clause-worked g c =
+    not_worked g.P.Program.acts c.args.machine.now c.args.shift.now c.requires.cores c.requires.banks c.requires.ahead
 
-pub returns-in_err-hands-clause-driven : goal.returns-in_err-hands-clause-driven
-returns-in_err-hands-clause-driven g c =
-    driven_none g.P.Program.acts c.args.shift.now.cores.items c.args.shift.now.programs.items c.requires.ahead
+pub returns-in_err-hands-clause-worked : goal.returns-in_err-hands-clause-worked
+returns-in_err-hands-clause-worked g c =
+    not_worked g.P.Program.acts c.args.machine.now c.args.shift.now c.requires.cores c.requires.banks c.requires.ahead
 
-pub returns-in_err-team-clause-driven : goal.returns-in_err-team-clause-driven
-returns-in_err-team-clause-driven g c =
-    driven_none g.P.Program.acts c.args.shift.now.cores.items c.args.shift.now.programs.items c.requires.ahead
+pub returns-in_err-team-clause-worked : goal.returns-in_err-team-clause-worked
+returns-in_err-team-clause-worked g c =
+    not_worked g.P.Program.acts c.args.machine.now c.args.shift.now c.requires.cores c.requires.banks c.requires.ahead
 
 pub drive_team-requires-clause-ready : goal.drive_team-requires-clause-ready
 drive_team-requires-clause-ready g c κs bounds i w at =
@@ -85,8 +84,8 @@ gather_all-requires-clause-lengths g c =
     (lengths_after a m c.in_ok-signals.signals n s.cores.items s.programs.items s.banks.items ws vs dealt
     c.drive_team.ensures.work)
 
-pub returns-clause-cores : goal.returns-clause-cores
-returns-clause-cores g c =
+pub returns-clause-worked : goal.returns-clause-worked
+returns-clause-worked g c =
     let n : ℕ = length c.in_ok-hands.hands.cores.items in
     let s = c.args.shift.now in
     let ws = c.form.new.team.items in
@@ -100,67 +99,6 @@ returns-clause-cores g c =
     let counts = c.gather_all.ensures.long in
     let back = dealt_back n vs h long c.disband-wanted.ensures.back t.cores.items t.programs.items t.banks.items
     c.gather_all.ensures.dealt in
-    all_cores g.P.Program.acts c.args.machine.now c.in_ok-signals.signals n s.cores.items s.programs.items s.banks.items ws vs
-    dealt c.drive_team.ensures.work t.cores.items t.programs.items t.banks.items
-    (counts.0 ∙ c.len-cores.ensures ∙ s.cores.ok.0) (counts.1 ∙ c.len-programs.ensures ∙ s.programs.ok.0)
-    (counts.2 ∙ c.len-banks.ensures ∙ s.banks.ok.0) back
-
-pub returns-clause-banks : goal.returns-clause-banks
-returns-clause-banks g c =
-    let n : ℕ = length c.in_ok-hands.hands.cores.items in
-    let s = c.args.shift.now in
-    let ws = c.form.new.team.items in
-    let dealt = dealt_to n s.cores.items s.programs.items s.banks.items c.deal_all.new.hands c.form.new.hands ws
-    c.deal_all.ensures.dealt c.form.ensures.split c.form.ensures.empty in
-    let vs = c.drive_team.new.team.items in
-    let h = c.disband-wanted.new.hands in
-    let t = c.gather_all.new.shift in
-    let long = vs_count g.P.Program.acts c.args.machine.now c.in_ok-signals.signals n s.cores.items s.programs.items
-    s.banks.items ws vs dealt c.drive_team.ensures.work in
-    let counts = c.gather_all.ensures.long in
-    let back = dealt_back n vs h long c.disband-wanted.ensures.back t.cores.items t.programs.items t.banks.items
-    c.gather_all.ensures.dealt in
-    all_banks g.P.Program.acts c.args.machine.now c.in_ok-signals.signals n s.cores.items s.programs.items s.banks.items ws vs
-    dealt c.drive_team.ensures.work t.cores.items t.programs.items t.banks.items
-    (counts.0 ∙ c.len-cores.ensures ∙ s.cores.ok.0) (counts.1 ∙ c.len-programs.ensures ∙ s.programs.ok.0)
-    (counts.2 ∙ c.len-banks.ensures ∙ s.banks.ok.0) back
-
-pub returns-clause-driven : goal.returns-clause-driven
-returns-clause-driven g c =
-    let n : ℕ = length c.in_ok-hands.hands.cores.items in
-    let s = c.args.shift.now in
-    let ws = c.form.new.team.items in
-    let dealt = dealt_to n s.cores.items s.programs.items s.banks.items c.deal_all.new.hands c.form.new.hands ws
-    c.deal_all.ensures.dealt c.form.ensures.split c.form.ensures.empty in
-    let vs = c.drive_team.new.team.items in
-    let h = c.disband-wanted.new.hands in
-    let t = c.gather_all.new.shift in
-    let long = vs_count g.P.Program.acts c.args.machine.now c.in_ok-signals.signals n s.cores.items s.programs.items
-    s.banks.items ws vs dealt c.drive_team.ensures.work in
-    let counts = c.gather_all.ensures.long in
-    let back = dealt_back n vs h long c.disband-wanted.ensures.back t.cores.items t.programs.items t.banks.items
-    c.gather_all.ensures.dealt in
-    all_driven g.P.Program.acts c.args.machine.now c.in_ok-signals.signals n s.cores.items s.programs.items s.banks.items ws vs
-    dealt c.drive_team.ensures.work t.cores.items t.programs.items t.banks.items
-    (counts.0 ∙ c.len-cores.ensures ∙ s.cores.ok.0) (counts.1 ∙ c.len-programs.ensures ∙ s.programs.ok.0)
-    (counts.2 ∙ c.len-banks.ensures ∙ s.banks.ok.0) back
-
-pub returns-clause-same : goal.returns-clause-same
-returns-clause-same g c =
-    let n : ℕ = length c.in_ok-hands.hands.cores.items in
-    let s = c.args.shift.now in
-    let ws = c.form.new.team.items in
-    let dealt = dealt_to n s.cores.items s.programs.items s.banks.items c.deal_all.new.hands c.form.new.hands ws
-    c.deal_all.ensures.dealt c.form.ensures.split c.form.ensures.empty in
-    let vs = c.drive_team.new.team.items in
-    let h = c.disband-wanted.new.hands in
-    let t = c.gather_all.new.shift in
-    let long = vs_count g.P.Program.acts c.args.machine.now c.in_ok-signals.signals n s.cores.items s.programs.items
-    s.banks.items ws vs dealt c.drive_team.ensures.work in
-    let counts = c.gather_all.ensures.long in
-    let back = dealt_back n vs h long c.disband-wanted.ensures.back t.cores.items t.programs.items t.banks.items
-    c.gather_all.ensures.dealt in
-    all_same g.P.Program.acts c.args.machine.now c.in_ok-signals.signals n s.cores.items s.programs.items s.banks.items ws vs
-    dealt c.drive_team.ensures.work t.cores.items t.programs.items t.banks.items
+    all_worked g.P.Program.acts c.args.machine.now c.in_ok-signals.signals n s t ws vs dealt c.drive_team.ensures.work
     (counts.0 ∙ c.len-cores.ensures ∙ s.cores.ok.0) (counts.1 ∙ c.len-programs.ensures ∙ s.programs.ok.0)
     (counts.2 ∙ c.len-banks.ensures ∙ s.banks.ok.0) back

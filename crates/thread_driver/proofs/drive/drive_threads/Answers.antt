@@ -23,28 +23,29 @@ returns-in-Err-clause-whole g c =
     all_there c.args.machine.now c.drive_shift.new.shift.cores.items c.drive_shift.new.shift.banks.items
     (order_of_cores c.args.machine.now g.P.Program.acts c.args.cores.items c.drive_shift.new.shift.cores.items
     c.args.programs.items c.drive_shift.new.shift.programs.items c.requires.cores.0 c.requires.cores.1
-    c.requires.programs c.drive_shift.ensures.cores c.drive_shift.ensures.driven)
+    c.requires.programs c.drive_shift.ensures.worked.cores c.drive_shift.ensures.worked.driven)
     (order_of_banks c.args.machine.now c.args.banks.items c.drive_shift.new.shift.banks.items c.requires.banks
-    c.drive_shift.ensures.banks c.drive_shift.ensures.same)
+    c.drive_shift.ensures.worked.banks c.drive_shift.ensures.worked.same)
 
 pub returns-in-Err-clause-served : goal.returns-in-Err-clause-served
 returns-in-Err-clause-served g c =
     all_served c.args.machine.now g.P.Program.acts c.args.cores.items c.drive_shift.new.shift.cores.items
     c.args.programs.items c.drive_shift.new.shift.programs.items c.requires.cores.0 c.requires.cores.1
-    c.requires.programs c.drive_shift.ensures.cores c.drive_shift.ensures.driven c.records_of_seats_are_counted.ensures.issued
+    c.requires.programs c.drive_shift.ensures.worked.cores c.drive_shift.ensures.worked.driven
+    c.records_of_seats_are_counted.ensures.issued
 
 pub returns-in-Ok-clause-cores : goal.returns-in-Ok-clause-cores
 returns-in-Ok-clause-cores g c =
     subst (λ (v : Vec CoreSeat Global). AreCoresInOrder c.args.machine.now v.items) (sym c.end_of-shift.ensures.same.0)
     (order_of_cores c.args.machine.now g.P.Program.acts c.args.cores.items c.drive_shift.new.shift.cores.items
     c.args.programs.items c.drive_shift.new.shift.programs.items c.requires.cores.0 c.requires.cores.1
-    c.requires.programs c.drive_shift.ensures.cores c.drive_shift.ensures.driven)
+    c.requires.programs c.drive_shift.ensures.worked.cores c.drive_shift.ensures.worked.driven)
 
 pub returns-in-Ok-clause-banks : goal.returns-in-Ok-clause-banks
 returns-in-Ok-clause-banks g c =
     subst (λ (v : Vec BankSeat Global). AreBanksInOrder c.args.machine.now v.items) (sym c.end_of-shift.ensures.same.1)
     (order_of_banks c.args.machine.now c.args.banks.items c.drive_shift.new.shift.banks.items c.requires.banks
-    c.drive_shift.ensures.banks c.drive_shift.ensures.same)
+    c.drive_shift.ensures.worked.banks c.drive_shift.ensures.worked.same)
 
 pub returns-in-Ok-clause-whole : goal.returns-in-Ok-clause-whole
 returns-in-Ok-clause-whole g c =
@@ -60,7 +61,8 @@ returns-in-Ok-clause-served g c =
     c.drive_shift.new.shift.programs.items) (sym same.0)
     (all_served c.args.machine.now g.P.Program.acts c.args.cores.items c.drive_shift.new.shift.cores.items
     c.args.programs.items c.drive_shift.new.shift.programs.items c.requires.cores.0 c.requires.cores.1
-    c.requires.programs c.drive_shift.ensures.cores c.drive_shift.ensures.driven c.records_of_seats_are_counted.ensures.issued))
+    c.requires.programs c.drive_shift.ensures.worked.cores c.drive_shift.ensures.worked.driven
+    c.records_of_seats_are_counted.ensures.issued))
 
 pub returns-in-Ok-clause-ended : goal.returns-in-Ok-clause-ended
 returns-in-Ok-clause-ended g c =

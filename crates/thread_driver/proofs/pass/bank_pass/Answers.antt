@@ -11,4 +11,4 @@ pub loop-i-preserved : goal.loop-i-preserved
 loop-i-preserved g c =
     bank_turned c.args.machine.now c.args.banks.now.items c.loop-i.banks.items c.loop-i.i c.index_mut.result.now
     c.loop-i.invariant.0 c.loop-i.invariant.1 (omega arith) c.index_mut.ensures.value c.bank_turn-told.new.seat
-    c.bank_turn-told.ensures.0 c.bank_turn-told.ensures.1
+    c.bank_turn-told.ensures.seat.0 c.bank_turn-told.ensures.seat.1

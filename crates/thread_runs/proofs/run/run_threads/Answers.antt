@@ -6,6 +6,7 @@ use Rattle.mailboxes.specs.RunParts.{state_of}
 use Rattle.mailboxes.specs.Seats.{AllNewBanks}
 use Rattle.thread_runs.proofs.Ended.{done_is_over, never_stalled, over_is_done}
 use Rattle.thread_runs.proofs.Served.{all_served}
+use Rattle.thread_runs.proofs.Stopped.{exhausted_stopped, none_at_first, used_not_stopped}
 use Rattle.thread_runs.proofs.run.run_threads.Goals as goal
 
 pub drive_threads-end-requires-clause-cores : goal.drive_threads-end-requires-clause-cores
@@ -50,6 +51,7 @@ returns-clause-run g c =
     let e = c.drive_threads-end.result.end in
     let banks = c.in-Ok.banks.items in
     let banks' = c.drive_threads-end.result.banks.items in
+    let first = none_at_first m c.args.config.cores cores banks c.in-Ok.ensures.cores.1 c.in-Ok.ensures.banks.1 in
     record {
       parts = parts;
       is_run = record {
@@ -65,4 +67,16 @@ returns-clause-run g c =
         not_stalled = never_stalled acts m run parts ended after order all told left cores banks banks' before e
             c.drive_threads-end.ensures.ended;
       };
+      closed = m;
+      set_up = c.in_ok-run.ensures.set_up;
+      cores = ended;
+      banks = banks';
+      cores_seated = order;
+      banks_seated = c.drive_threads-end.ensures.banks;
+      of_cores = left;
+      of_banks = c.in_ok-run.ensures.banks;
+      exhausted = exhausted_stopped acts cores ended banks banks' before after e first
+          c.drive_threads-end.ensures.ended;
+      turns_used = used_not_stopped acts cores ended banks banks' before after e first
+          c.drive_threads-end.ensures.ended;
     }

@@ -1,6 +1,9 @@
+use Rattle.std.proofs.Common.{sym, ap, ◌∙◌}
 use Rattle.mailboxes.specs.CoreServing.{sending_core_table, sending_core_takes_memory}
+use Rattle.mailboxes.specs.SeatServing.{may_change}
 use Rattle.mailboxes.proofs.ServedCores.{StayingCores, leaves_part, served_open}
 use Rattle.mailboxes.proofs.CoreFacts.{CoreLaws, all_cases, box_tied, core_tied, linked_after, moves, own_after}
+use Rattle.mailboxes.proofs.Unchanged.{core_stays, nothing_changed}
 use Rattle.mailboxes.proofs.mailbox.Mailbox.serve_core.Goals as goal
 
 pub serve-served-requires : goal.serve-served-requires
@@ -13,8 +16,8 @@ serve-served-requires c =
     }) c.args.machine.now c.args.self.now c.args.part.now c.args.issued.now.items
     c.requires.seat c.requires.part
 
-pub change_core-requires-clause-change : goal.change_core-requires-clause-change
-change_core-requires-clause-change c =
+pub change_core_if-requires-clause-change : goal.change_core_if-requires-clause-change
+change_core_if-requires-clause-change c =
     let stay : StayingCores = record {
       held = c.waiting_cores_stay.ensures.held;
       dropped = c.waiting_cores_stay.ensures.dropped;
@@ -44,8 +47,8 @@ invariant_of-self-clause-tied c =
       held = c.messages_of_seats_find_their_parts.ensures.held;
     } in
     box_tied laws c.args.machine.now c.args.self.now c.args.part.now c.args.issued.now.items
-    c.requires.seat c.requires.part c.change_core.new.seat
-    c.serve-served.new.part c.serve-served.new.self c.change_core.ensures.changed
+    c.requires.seat c.requires.part c.change_core_if.new.seat
+    c.serve-served.new.part c.serve-served.new.self c.change_core_if.ensures.changed
 
 pub invariant_of-self-clause-own : goal.invariant_of-self-clause-own
 invariant_of-self-clause-own c =
@@ -79,14 +82,14 @@ returns-clause-part c =
     } in
     record {
       tied = core_tied laws c.args.machine.now c.args.self.now c.args.part.now c.args.issued.now.items
-          c.requires.seat c.requires.part c.change_core.new.seat
-          c.serve-served.new.part c.serve-served.new.self c.change_core.ensures.changed;
+          c.requires.seat c.requires.part c.change_core_if.new.seat
+          c.serve-served.new.part c.serve-served.new.self c.change_core_if.ensures.changed;
       linked = linked_after laws c.args.machine.now c.args.self.now c.args.part.now c.args.issued.now.items
           c.requires.seat c.requires.part stay c.serve-served.result c.serve-served.new.self c.serve-served.new.part
           (c.servings_do_one_of_five.ensures sending_core_table sending_core_takes_memory c.args.self.now.inbox
           c.args.part.now c.serve-served.result c.serve-served.new.self c.serve-served.new.part (leaves_part stay)
           c.serve-served.ensures)
-          c.change_core.ensures.standing;
+          c.change_core_if.ensures.standing;
     }
 
 pub returns-clause-open : goal.returns-clause-open
@@ -106,3 +109,20 @@ returns-clause-open c =
     (c.servings_do_one_of_five.ensures sending_core_table sending_core_takes_memory c.args.self.now.inbox
     c.args.part.now c.serve-served.result c.serve-served.new.self c.serve-served.new.part (leaves_part stay)
     c.serve-served.ensures)
+
+pub change_core_if-requires-clause-same : goal.change_core_if-requires-clause-same
+change_core_if-requires-clause-same c not =
+    let stay : StayingCores = record {
+      held = c.waiting_cores_stay.ensures.held;
+      dropped = c.waiting_cores_stay.ensures.dropped;
+      started = c.waiting_cores_stay.ensures.started;
+    } in
+    core_stays c.args.self.now c.args.part.now c.serve-served.new.part c.args.issued.now.items
+    c.serve-served.new.self c.requires.part
+    (nothing_changed sending_core_table c.args.self.now.inbox c.args.part.now c.serve-served.result
+    c.serve-served.new.self c.serve-served.new.part
+    (c.servings_do_one_of_five.ensures sending_core_table sending_core_takes_memory c.args.self.now.inbox
+    c.args.part.now c.serve-served.result c.serve-served.new.self c.serve-served.new.part (leaves_part stay)
+    c.serve-served.ensures)
+    (ap (λ full. may_change full c.serve-served.result) (sym c.hand_is_full-was_full.ensures)
+    ∙ sym c.may_change-changes.ensures ∙ not))

@@ -1,0 +1,64 @@
+-- A serving that changes nothing leaves what the seat holds as it was.
+use Rattle.std.proofs.Common.{◌≡◌, ℕ, Bool, true, false, Some, Result, refl, sym, ap, ◌∙◌, subst, true≢false}
+use Rattle.std.proofs.Common.{List}
+use Rattle.std.specs.Prelude.{is_some}
+use Rattle.physiological_order.specs.declared.operation.Op.{Op}
+use Rattle.network.specs.declared.message.Message.{Message}
+use Rattle.serving.specs.declared.answer.Answer.{Answer}
+use Rattle.serving.specs.declared.answer.Refusal.{Refusal}
+use Rattle.serving.specs.declared.answer.Served.{Served}
+use Rattle.serving.specs.Inboxes.{InboxState}
+use Rattle.serving.specs.Effects.{Effect, delivered, dropped, started, moved, unchanged}
+use Rattle.seat_rule.specs.declared.views.Hold.{Hold}
+use Rattle.mailboxes.specs.declared.mailbox.Mailbox.{Mailbox}
+use Rattle.mailboxes.specs.declared.sending.SendingBank.{SendingBank}
+use Rattle.mailboxes.specs.declared.sending.SendingCore.{SendingCore}
+use Rattle.mailboxes.specs.BankCalls.{PartOf}
+use Rattle.mailboxes.specs.BoxMoves.{hold}
+use Rattle.mailboxes.specs.CoreServing.{CorePartOf}
+use Rattle.mailboxes.specs.SeatServing.{may_change}
+use Rattle.mailboxes.specs.Stored.{stored_bank, stored_core}
+
+module _ {P : Type 0} (table : P → Message → ℕ → Answer Message × P) (b : InboxState Message) (p : P)
+    (result : Result Served Refusal) (c : InboxState Message) (q : P) where
+  abbrev changes : Result Served Refusal → Bool
+  changes r = may_change (is_some b.hand) r
+
+  never : {A : Type 0} (r : Result Served Refusal) → changes r ≡ true → result ≡ r → changes result ≡ false → A
+  never r may is not = absurd (true≢false (sym may ∙ sym (ap changes is) ∙ not))
+
+  pub nothing_changed : Effect table b p result c q → changes result ≡ false → (c ≡ b) × (q ≡ p)
+  nothing_changed (delivered at m sent asked is before after) not = never _ refl is not
+  nothing_changed (dropped at m asked is before after) not = never _ refl is not
+  nothing_changed (started at m sent asked is before after) not = never _ refl is not
+  nothing_changed (moved m asked is now same part) not = never _ (ap is_some asked.0) is not
+  nothing_changed (unchanged stays messages part) not = (messages, part)
+
+-- so a core's seat that stores what it did holds what it did, and so does a bank's
+pub core_stays : (b : Mailbox) (p q : SendingCore) (ops : List Op) (c : InboxState Message) → CorePartOf b p ops →
+    (c ≡ b.inbox) × (q ≡ p) → stored_core (hold b) q ops c ≡ hold b
+core_stays b p q ops c has same =
+    (λ i. stored_core (hold b) (same.1 i) ops (same.0 i))
+    ∙ (λ i.
+    record (hold b) {
+      core = sym has.tied.core i;
+      issued = sym has.tied.issued i;
+      counts = sym has.tied.counts i;
+      outbox = sym has.tied.outbox i;
+      hand = sym b.tied.hand i;
+      held = sym b.tied.held i;
+    })
+
+pub bank_stays : (b : Mailbox) (p q : SendingBank) (c : InboxState Message) → PartOf b p →
+    (c ≡ b.inbox) × (q ≡ p) → stored_bank (hold b) q c ≡ hold b
+bank_stays b p q c has same =
+    (λ i. stored_bank (hold b) (same.1 i) (same.0 i))
+    ∙ (λ i.
+    record (hold b) {
+      bank = sym has.tied.bank i;
+      dram = sym has.tied.dram i;
+      counts = sym has.tied.counts i;
+      outbox = sym has.tied.outbox i;
+      hand = sym b.tied.hand i;
+      held = sym b.tied.held i;
+    })

@@ -1,0 +1,75 @@
+//! The results of all workers, in the order of their jobs.
+ghost use Rattle.std.specs.Prelude.{◌≡◌, ℕ, ◌≤◌, ◌++◌, [], length, IfOk, IfSome, All, vec_capacity};
+ghost use Rattle.std.specs.Prelude.{Some, None, slice_get};
+ghost use Rattle.shared_jobs.specs.Results.{AllGiven, AreGiven, numbered};
+
+use crate::gate::Gate;
+use crate::jobs::{Jobs, run_left};
+use crate::workers::Worker;
+use std::alloc::AllocError;
+use std::collections::VecDeque;
+
+/// The results of the jobs 0 to `count - 1`, in this order, behind each other in a list that has room for them. A job
+/// whose result stands in front of no worker's is run here. AllocError where there is no memory for such a job.
+pub fn in_order<X: Drop, S: Drop, J: Jobs<X, S>, G: Gate>(
+    jobs: &J,
+    gate: &G,
+    count: u64,
+    mut team: Vec<Worker<X>>,
+    mut results: Vec<X>,
+) -> Result<Vec<X>, AllocError>
+    requires given { All (λ w. AllGiven (J.gives jobs.now) w.results.items) team.items }
+    requires room { (results.items ≡ []) × (count ≤ vec_capacity results) }
+    ensures long { IfOk result (λ v. length v.items ≡ count) }
+    ensures given { IfOk result (λ v. AreGiven (J.gives jobs.now) v.items) }
+{
+    let mut state = None;
+    for number in 0..count {
+        let result = match take_one(jobs, team.as_mut_slice(), number) {
+            Some(result) => result,
+            None => {
+                let (result, next) = run_left(jobs, gate, state, number)?;
+                state = Some(next);
+                result
+            }
+        };
+        results.push_reserved(result);
+    }
+    Ok(results)
+}
+
+// Takes the result of the job of this number from the worker in whose front it stands.
+fn take_one<X: Drop, S: Drop, J: Jobs<X, S>>(
+    jobs: &J,
+    team: &mut [Worker<X>],
+    number: u64,
+) -> Option<X>
+    requires { All (λ w. AllGiven (J.gives jobs.now) w.results.items) team.old }
+    ensures given { IfSome result (J.gives jobs.now number) }
+    ensures left { All (λ w. AllGiven (J.gives jobs.now) w.results.items) team.new }
+{
+    for at in 0..team.len() {
+        if let Some(result) = take_front(&mut team[at].results, number) {
+            return Some(result);
+        }
+    }
+    None
+}
+
+// Takes the result in front, if it is of the job of this number.
+fn take_front<X: Drop>(results: &mut VecDeque<(u64, X)>, number: u64) -> Option<X>
+    ensures taken { results.old.items ≡ numbered number result ++ results.new.items }
+    ensures missing { result ≡ None → (p : ℕ × X) → slice_get results.old.items 0 ≡ Some p →
+        ¬ (p.0 ≡ number) }
+{
+    match results.front() {
+        Some(front) => {
+            if front.0 != number {
+                return None;
+            }
+        }
+        None => return None,
+    }
+    let (_, result) = results.pop_front()?;
+    Some(result)
+}

@@ -1,0 +1,68 @@
+"""Batches of seeds that two workers share, whose growths are refused, each in turn; tests/refusals.py runs this part.
+
+The report is the same for every number of workers. If one growth was refused, it is the whole one. Or a run of it, one
+alone, ended for want of memory, and is told so. Or there is no memory; but not if a worker was refused memory at its
+work: it stops, and the calling thread makes the runs that are left. What is told of a run that ended so is by the
+second program (ended_runs.py).
+"""
+from collections import Counter
+from pathlib import Path
+
+import merge
+import oracle
+from ended_runs import cuts_of
+
+TOP = Path(__file__).resolve().parent.parent
+NO_MEMORY = (1, "", "tardis: no memory\n")
+WORKERS = 2
+RUNS = 5
+KINDS = ("no memory", "a run ended for want of memory", "done")
+
+
+def texts_of(words):
+    """The whole report, and those of which one run was cut short."""
+    wholes, cuts = cuts_of(oracle.words().parse_args([*map(str, words)]))
+    cut = {merge.joined([*wholes[:at], text, *wholes[at + 1:]]) for at, texts in enumerate(cuts) for text in texts}
+    return merge.joined(wholes), cut
+
+
+def kind_of(ran, whole, cut):
+    if ran.answer() == (0, whole, ""):
+        return "done"
+    if ran.answer() == NO_MEMORY:
+        return "no memory"
+    return "a run ended for want of memory" if (ran.status, ran.error) == (1, "") and ran.out in cut else None
+
+
+def sweep(tester, words, how):
+    """Refuses the 1st, 2nd, .. growth alone, or with each later one, until nothing is left to refuse."""
+    (whole, cut), kinds, number = texts_of(words), Counter(), 0
+    name = f"{RUNS} seeds of {Path(words[-1]).name} by {WORKERS} workers"
+    unstarted = at_work = 0
+    while True:
+        number += 1
+        ran = tester.run([*words[:1], "--workers", WORKERS, *words[1:]], growth=f"{number}{how}")
+        kind = kind_of(ran, whole, cut)
+        allowed = ["done"] if not ran.refused else ["no memory", "done"] if how else KINDS[ran.is_at_work:]
+        tester.expect(kind in allowed, f"{name}, growth {number}{how}, {ran.told}: {ran.answer()}")
+        if not ran.refused:
+            tester.expect(ran.started == WORKERS - 1, f"{name}: {ran.started} threads were started")
+            break
+        kinds[kind] += 1
+        unstarted += kind == "done" and ran.started == 0
+        at_work += kind == "done" and ran.is_at_work
+    if not how:
+        for kind in KINDS:
+            tester.expect(kinds[kind] > 0, f"{name}: none was told as {kind}")
+        tester.expect(unstarted > 0, f"{name}: a thread was always started")
+        tester.expect(at_work > 0, f"{name}: no worker did without")
+    told = ", ".join(f"{kind} {kinds[kind]}" for kind in KINDS if kinds[kind])
+    print(f"{name}, growth {how or 'alone'}: {number - 1} refused: {told}")
+
+
+def refused_batches(tester):
+    for test in ("SB", "SB+forall"):
+        text = TOP / "examples" / "litmus" / f"{test}.litmus"
+        words = ["litmus", "--schedule", "seed", "--seed", 7, "--runs", RUNS, text]
+        for how in ("", "+"):
+            sweep(tester, words, how)

@@ -2,8 +2,8 @@
 use shared_jobs::Gate;
 use std::sync::atomic::{AtomicU64, Ordering};
 
-/// Far more turns than the programs of these tests take.
-pub(crate) const MANY_TURNS: u32 = 1_000_000;
+/// Far more turns than any worker has while it waits for another one whose thread has no processor.
+pub(crate) const MANY_TURNS: u32 = 4_294_967_295;
 
 /// A gate that counts the turns of seats 0 to 7 that began, and those that ended. A turn that begins or ends out of its
 /// order, or of another seat, is counted as wrong: the turns of a seat are numbered from 0 on, and none begins before

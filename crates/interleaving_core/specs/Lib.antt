@@ -5,7 +5,6 @@ pub mod RecordOrder
 pub mod IssuedOps
 pub mod LookUps
 pub mod Midway
-pub mod OpenNumbers
 pub mod Reservation
 pub mod SentMessages
 pub mod StepAnswers

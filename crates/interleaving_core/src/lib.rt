@@ -16,7 +16,7 @@ mod reopening;
 mod steps;
 pub mod system;
 
-pub use machine_table::{Answer, Config, Counts, Event, Refusal};
+pub use machine_table::{Answer, Config, Counts, Event, OpenError, Refusal};
 pub use network::{Body, LineNo, Message, MsgNo, Node, TimedLine, Words};
 pub use op_list::OpList;
-pub use system::{OpenError, System};
+pub use system::System;

@@ -18,35 +18,13 @@ ghost use Rattle.interleaving_core.specs.LookUps.{copies, entries, free_copies, 
 ghost use Rattle.interleaving_core.specs.Reservation.{completes};
 ghost use Rattle.interleaving_core.specs.Midway.{IsMidway};
 ghost use Rattle.interleaving_core.specs.StepAnswers.{Stepped, Ran, asks_memory};
-ghost use Rattle.interleaving_core.specs.OpenNumbers.{number_of};
 
 use crate::machine_state::MachineState;
-use machine_table::{Answer, Config, Counts, Event, Refusal};
+use machine_table::{Answer, Config, Counts, Event, OpenError, Refusal};
 use network::{LineNo, MsgNo};
 use physiological_order::{Memory, Op, Record, WordAddr};
 use std::alloc::{AllocError, Global};
 use std::marker::Model;
-
-/// Why no machine was made.
-#[derive(Clone, Copy, Debug, PartialEq, Eq)]
-pub enum OpenError {
-    /// 1: a value of the configuration is out of its range.
-    BadConfig,
-    /// 2: allocation failed.
-    NoMemory,
-}
-
-impl OpenError {
-    /// The error's number, as above.
-    pub fn number(self) -> u8
-        ensures { result ≡ number_of self }
-    {
-        match self {
-            OpenError::BadConfig => 1,
-            OpenError::NoMemory => 2,
-        }
-    }
-}
 
 /// A machine: its cores, its banks, the DRAM behind each bank and the messages in flight. Contracts see it as data.
 /// It is always one that the protocol reaches from an opening: what `records`, `owners` and `coherent` say holds at

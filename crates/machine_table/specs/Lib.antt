@@ -1,6 +1,7 @@
 pub mod Answered
 pub mod Change
 pub mod Machine
+pub mod OpenNumbers
 pub mod Opening
 pub mod RefusalNumbers
 pub mod Runs

@@ -1,5 +1,6 @@
-//! How a machine is set up.
+//! How a machine is set up, and why none is made.
 ghost use Rattle.std.specs.Prelude.{◌≡◌};
+ghost use Rattle.machine_table.specs.OpenNumbers.{number_of};
 ghost use Rattle.machine_table.specs.SetUp.{is_good, is_within};
 
 /// How a machine is set up. Times and the lease are in ticks of the cores' clocks.
@@ -41,6 +42,27 @@ impl Config {
         let is_bank = within(self.bank_sets, 1024) && within(self.bank_ways, 16);
         let is_line = self.line_words == 1 || self.line_words == 8;
         is_shape && is_cache && is_bank && is_line && self.lease >= 1 && self.lease <= 4_294_967_296
+    }
+}
+
+/// Why no machine was made.
+#[derive(Clone, Copy, Debug, PartialEq, Eq)]
+pub enum OpenError {
+    /// 1: a value of the configuration is out of its range.
+    BadConfig,
+    /// 2: allocation failed.
+    NoMemory,
+}
+
+impl OpenError {
+    /// The error's number, as above.
+    pub fn number(self) -> u8
+        ensures { result ≡ number_of self }
+    {
+        match self {
+            OpenError::BadConfig => 1,
+            OpenError::NoMemory => 2,
+        }
     }
 }
 

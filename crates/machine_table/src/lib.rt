@@ -6,6 +6,6 @@ pub mod config;
 pub mod event;
 pub mod laws;
 
-pub use config::Config;
+pub use config::{Config, OpenError};
 pub use event::{Answer, Event, Refusal};
 pub use network::Counts;

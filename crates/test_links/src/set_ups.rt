@@ -1,7 +1,6 @@
 //! Which set-ups are opened, with which seats, and which are refused.
 use crate::machines::{SMALL, memory, opened};
-use interleaving_core::OpenError;
-use machine_table::Config;
+use machine_table::{Config, OpenError};
 use mailboxes::open;
 use physiological_order::Memory;
 use std::alloc::Global;

@@ -83,18 +83,15 @@ def unreadable(tester, folder):
 
 
 def odd_devices(tester, folder):
-    """A device whose reads fail (a process's own memory, at 0), one without an end, and one without a byte.
-
-    A litmus text is read to its end before its size is looked at, so of one without an end there is no memory.
-    """
+    """A device whose reads fail (a process's own memory, at 0), one without an end, and one without a byte."""
     some = folder / "some"
     for words in with_bad_file("/proc/self/mem", some):
         got = ran(tester.program, words)
         tester.expect(got == READ_FAILED, f"{words}: {got}")
     for words in with_bad_file("/dev/zero", some):
         got = ran(tester.program, words, preexec_fn=lambda: limit_data(ENDLESS))
-        wanted = NO_MEMORY if words[0] == "litmus" else (2, b"", b"tardis: line 1: 3 TooLong\n")
-        tester.expect(got == wanted, f"{words}: {got}")
+        fault = b"2 TooLarge" if words[0] == "litmus" else b"3 TooLong"
+        tester.expect(got == (2, b"", b"tardis: line 1: " + fault + b"\n"), f"{words}: {got}")
     wanted = {"litmus": (2, b"", b"tardis: line 1: 14 CutShort\n"), "check": (0, b"legal\n", b"")}
     for words in with_bad_file("/dev/null", some):
         got = ran(tester.program, words)

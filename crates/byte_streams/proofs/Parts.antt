@@ -1,8 +1,9 @@
 -- What comes and goes in parts.
 use Rattle.std.proofs.Common.{◌≡◌, ℕ, List, [], ◌∷◌, ◌++◌, take, drop, Option, Some, None, Ok, IfSome, length, ◌<◌}
-use Rattle.std.proofs.Common.{sym, ap, ◌∙◌, append_assoc, length-append, arith}
-use Rattle.std.proofs.lemmas.List.{take-append-drop}
+use Rattle.std.proofs.Common.{◌+◌, ◌≤◌, sym, ap, ◌∙◌, append_assoc, length-append, arith}
+use Rattle.std.proofs.lemmas.List.{length-take-le, take-append-drop}
 use Rattle.byte_streams.specs.Device.{AtEnd, Gives, Grows, Loses}
+use Rattle.byte_streams.specs.Whole.{TakesAtMost}
 
 -- one part after another
 pub Grows-append : (a b c : Option (List ℕ)) (front more : List ℕ) → Grows a b front → Grows b c more →
@@ -32,6 +33,16 @@ loses_more (Some x) None c front more p q = absurd p
 loses_more (Some x) (Some y) None front more p q = absurd q
 loses_more (Some x) (Some y) (Some z) front more p q =
     p ∙ ap (λ (w : List ℕ). front ++ w) q ∙ sym (append_assoc front more z)
+
+-- a part more, which fits a block
+pub takes_more : (most block : ℕ) (old mid new : Option (List ℕ)) (came : List ℕ) (n : ℕ) (buffer : List ℕ) →
+    Loses old mid came → length came ≤ most → length buffer ≤ block → Gives mid new (Ok n) buffer →
+    TakesAtMost (most + block) old new
+takes_more most block old mid new came n buffer lost few room given = (
+  came ++ take n buffer,
+  omega (arith, length-append came (take n buffer), length-take-le n buffer given.0, few, room, given.0),
+  loses_more old mid new came (take n buffer) lost given.1,
+)
 
 -- what remains of nothing
 after_nothing : (front rest : List ℕ) → front ++ rest ≡ [] → rest ≡ []

@@ -1,5 +1,5 @@
 -- All the bytes that come, and a part of those that go.
-use Rattle.std.specs.Prelude.{◌≡◌, ℕ, List, ◌++◌, Option, Some, None}
+use Rattle.std.specs.Prelude.{◌≡◌, ◌≤◌, ℕ, List, length, ◌++◌, Option, Some, None}
 use Rattle.byte_streams.specs.Device.{Grows, Loses}
 
 -- these are all the bytes, where they are known
@@ -7,9 +7,9 @@ abbrev pub ReadsAll : Option (List ℕ) → List ℕ → Type 0
 ReadsAll None bytes = Unit {0}
 ReadsAll (Some known) bytes = bytes ≡ known
 
--- some bytes came, and what remains is what stood after them
-abbrev pub LosesSome : Option (List ℕ) → Option (List ℕ) → Type 0
-LosesSome old new = (came : List ℕ) × Loses old new came
+-- at most n bytes came, and what remains is what stood after them
+abbrev pub TakesAtMost : ℕ → Option (List ℕ) → Option (List ℕ) → Type 0
+TakesAtMost n old new = (came : List ℕ) × (length came ≤ n) × Loses old new came
 
 -- what went out is a beginning of the text
 abbrev pub GrowsByFront : Option (List ℕ) → Option (List ℕ) → List ℕ → Type 0

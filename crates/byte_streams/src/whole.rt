@@ -1,8 +1,7 @@
 //! All that a source has, and all of a text to a sink.
-
-ghost use Rattle.std.specs.Prelude.{◌≡◌, ◌<◌, ℕ, List, Ok, Err, IfOk, IfSome, OnOk, OnErr, IsErrOf, length};
-ghost use Rattle.byte_streams.specs.Device.{AtEnd, Grows, Loses};
-ghost use Rattle.byte_streams.specs.Whole.{GrowsByFront, LosesSome, ReadsAll};
+ghost use Rattle.std.specs.Prelude.{◌≡◌, ◌+◌, ◌<◌, ◌≤◌, IfOk, IfSome, OnOk, OnErr, IsErrOf, length};
+ghost use Rattle.byte_streams.specs.Device.{AtEnd, Grows};
+ghost use Rattle.byte_streams.specs.Whole.{GrowsByFront, ReadsAll, TakesAtMost};
 
 use crate::device::{DeviceError, Sink, Source};
 use std::alloc::{AllocFailed, Global};
@@ -14,11 +13,19 @@ pub enum ReadError {
     Device,
     /// Memory was refused for the bytes.
     NoMemory,
+    /// There are more bytes than were to be read.
+    TooMany,
 }
 
-/// Reads all the bytes that are still to come. Where that ends in an error, those that came are lost.
-pub fn read_all<S: Source>(alloc: Global, source: &mut S) -> Result<Vec<u8>, ReadError>
+// How many bytes are asked for at once.
+const BLOCK_BYTES: usize = 4096;
+
+/// Reads all the bytes that are still to come, if they are `most` bytes or fewer. If there are more, that is answered as
+/// soon as they have come, and at most a block of 4,096 bytes beyond them: a device without an end is not read for ever.
+/// Where reading ends in an error, the bytes that came are lost.
+pub fn read_all<S: Source>(alloc: Global, source: &mut S, most: usize) -> Result<Vec<u8>, ReadError>
     ensures all { IfOk result (λ bytes. ReadsAll (S.remaining source.old) bytes.items) }
+    ensures few { IfOk result (λ bytes. length bytes.items ≤ most) }
     ensures end { OnOk result (IfSome (S.remaining source.old)
         (λ known. AtEnd (S.remaining source.new))) }
     ensures none_failed { OnOk result (S.failures source.new ≡ S.failures source.old) }
@@ -29,22 +36,30 @@ pub fn read_all<S: Source>(alloc: Global, source: &mut S) -> Result<Vec<u8>, Rea
     // No memory is wanted for a source that has no bytes.
     ensures some { IsErrOf result ReadError.NoMemory →
         IfSome (S.remaining source.old) (λ bytes. 0 < length bytes) }
-    ensures rest { OnErr result (LosesSome (S.remaining source.old) (S.remaining source.new)) }
+    ensures counted { IsErrOf result ReadError.TooMany →
+        S.failures source.new ≡ S.failures source.old }
+    ensures many { IsErrOf result ReadError.TooMany →
+        IfSome (S.remaining source.old) (λ bytes. most < length bytes) }
+    ensures taken { TakesAtMost (most + BLOCK_BYTES)
+        (S.remaining source.old) (S.remaining source.new) }
 {
     let mut bytes = Vec::new(alloc);
-    let mut buffer = [0u8; 4096];
-    for _ in 0..u64::MAX {
+    let mut buffer = [0u8; BLOCK_BYTES];
+    for _ in 0..=most {
         let Ok(count) = source.read(&mut buffer) else {
             return Err(ReadError::Device);
         };
         if count == 0 {
             return Ok(bytes);
         }
+        if count > most - bytes.len() {
+            return Err(ReadError::TooMany);
+        }
         if bytes.extend_from_slice(&buffer[..count]).is_err() {
             return Err(ReadError::NoMemory);
         }
     }
-    Err(ReadError::NoMemory)
+    Err(ReadError::TooMany)
 }
 
 /// Writes all of the bytes, in order. Where a call fails, what went out is a beginning of them.

@@ -1,6 +1,8 @@
 -- A text that is refused is no test.
 use Rattle.std.proofs.Common.{◌≡◌, ◌≢◌, ℕ, ◌<◌, List, [], ◌∷◌, ◌++◌, length, Option, Some, None, IfSome, Ok, Err}
-use Rattle.std.proofs.Common.{ap, refl}
+use Rattle.std.proofs.Common.{ap, refl, sym, suc, ◌≤◌, nat_lt, replicate}
+use Rattle.std.proofs.lemmas.Bool.{cond-true, lt-ltb}
+use Rattle.std.proofs.lemmas.List.{length-replicate}
 use Rattle.std.proofs.Common.{subst, ◌⊎◌, inl, inr, codes, length-append, arith}
 use Rattle.byte_streams.specs.Whole.{ReadsAll}
 use Rattle.litmus_lexer.specs.declared.errors.Kind.{Kind}
@@ -10,7 +12,8 @@ use Rattle.litmus_lexer.specs.declared.errors.Kind.TheVariants.{BadInstruction, 
 use Rattle.litmus_lexer.specs.declared.errors.Kind.TheVariants.{AddressAsValue, ValueAsAddress, BadCondition}
 use Rattle.litmus_lexer.specs.declared.errors.Kind.TheVariants.{CutShort}
 use Rattle.litmus_lexer.specs.declared.errors.LitmusError.{LitmusError}
-use Rattle.litmus_reader.specs.Faults.{Fault, FaultBefore, empty, good_lines}
+use Rattle.litmus_lexer.specs.declared.limits.TheConstants.{MOST_BYTES}
+use Rattle.litmus_reader.specs.Faults.{Fault, FaultBefore, empty, good_lines, too_large}
 use Rattle.litmus_reader.specs.Grammar.{IsTest}
 use Rattle.litmus_reader.specs.Litmus.{Litmus}
 use Rattle.litmus_reader.specs.ReadingTest.{Told, read_at}
@@ -19,7 +22,7 @@ use Rattle.run_options.specs.declared.options.LitmusOptions.{LitmusOptions}
 use Rattle.run_results.specs.declared.results.RunError.{RunError}
 use Rattle.run_results.specs.declared.results.RunError.TheVariants.{Read, Write, NoMemory, Litmus as Refused}
 use Rattle.run_results.specs.declared.results.RunError.TheVariants.{Trace, BadConfig}
-use Rattle.report.specs.Bytes.{OfBytes, IsReadError}
+use Rattle.report.specs.Bytes.{HasNoText, OfBytes}
 use Rattle.report.specs.Litmus.{HasNoReport, IsFault, refusal, refusal_of}
 
 module _ (options : LitmusOptions) (text : List ℕ) (error : LitmusError) where
@@ -76,22 +79,37 @@ some_test [] test is =
     omega (arith, count, front)
 some_test (b ∷ text) test is = omega arith
 
--- of a source whose bytes aren't known there may be some
-some_bytes : (known : Option (List ℕ)) → IfSome known (λ bytes. 0 < length bytes) →
-    OfBytes known (λ bytes. 0 < length bytes)
-some_bytes None some = (0 ∷ [], tt, omega arith)
-some_bytes (Some bytes) some = (bytes, refl, some)
+-- nor are too many bytes
+refused_long : (text : List ℕ) → MOST_BYTES < length text →
+    read_at text ≡ Err (record { line = 1; kind = TooLarge })
+unfolding read_at
+refused_long text long = cond-true (nat_lt MOST_BYTES (length text)) _ _ (lt-ltb MOST_BYTES (length text) long)
 
--- want of memory says that there are bytes
+too_long : (options : LitmusOptions) (text : List ℕ) → MOST_BYTES < length text →
+    HasNoReport options text (Refused (record { line = 1; kind = TooLarge }))
+too_long options text long = (
+  refused_long text long,
+  (λ test is. let few : length text ≤ MOST_BYTES = is.length_is in absurd (omega (arith, long, few)), too_large long),
+  λ e. absurd cc,
+)
+
+-- of a source whose bytes aren't known there may be so many
+many_bytes : (known : Option (List ℕ)) (n : ℕ) → IfSome known (λ bytes. n < length bytes) →
+    OfBytes known (λ bytes. n < length bytes)
+many_bytes None n more = (replicate (suc n) 0, tt, omega (arith, length-replicate {A = ℕ} (suc n) 0))
+many_bytes (Some bytes) n more = (bytes, refl, more)
+
+-- why there is no text is why there is no report
 pub unread : (known : Option (List ℕ)) (options : LitmusOptions) (before after : ℕ) (e : RunError) →
-    IsReadError before after e → (e ≡ NoMemory → IfSome known (λ bytes. 0 < length bytes)) → e ≢ Read →
-    OfBytes known (λ bytes. HasNoReport options bytes e)
-unread known options before after Read is some other = absurd (other refl)
-unread known options before after NoMemory is some other = some_bytes known (some refl)
-unread known options before after Write is some other = absurd is
-unread known options before after (Refused e) is some other = absurd is
-unread known options before after (Trace e) is some other = absurd is
-unread known options before after BadConfig is some other = absurd is
+    HasNoText known before after e → e ≢ Read → OfBytes known (λ bytes. HasNoReport options bytes e)
+unread known options before after Read is other = absurd (other refl)
+unread known options before after NoMemory is other = many_bytes known 0 is.1
+unread known options before after (Refused e) is other =
+    let b = many_bytes known MOST_BYTES is.1.1 in
+    (b.0, b.1, subst (λ e. HasNoReport options b.0 (Refused e)) (sym is.1.0) (too_long options b.0 b.2))
+unread known options before after Write is other = absurd is
+unread known options before after (Trace e) is other = absurd is
+unread known options before after BadConfig is other = absurd is
 
 -- and a fault speaks of those that were read
 pub unreported : (known : Option (List ℕ)) (options : LitmusOptions) (bytes text : List ℕ) (e : RunError) →

@@ -1,5 +1,5 @@
 -- One more run by threads behind others.
-use Rattle.std.proofs.Common.{◌≡◌, ℕ, ◌+◌, List, [], ◌∷◌, ◌++◌, None}
+use Rattle.std.proofs.Common.{ℕ, ◌+◌, List, [], ◌∷◌, ◌++◌, None}
 use Rattle.std.specs.List.{AllByRecursion}
 use Rattle.litmus_reader.specs.Litmus.{Litmus}
 use Rattle.machine_table.specs.declared.config.Config.{Config}

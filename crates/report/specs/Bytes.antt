@@ -1,6 +1,9 @@
--- All the bytes of a source, and how reading them fails.
-use Rattle.std.specs.Prelude.{◌≡◌, ◌<◌, ℕ, List, Option}
+-- All the bytes of a source, and why it has no text.
+use Rattle.std.specs.Prelude.{◌≡◌, ◌<◌, ℕ, List, length, Option, IfSome}
 use Rattle.byte_streams.specs.Whole.{ReadsAll}
+use Rattle.litmus_lexer.specs.declared.errors.Kind.TheVariants.{TooLarge}
+use Rattle.litmus_lexer.specs.declared.errors.LitmusError.{LitmusError}
+use Rattle.litmus_lexer.specs.declared.limits.TheConstants.{MOST_BYTES}
 use Rattle.run_results.specs.declared.results.RunError.{RunError}
 use Rattle.run_results.specs.declared.results.RunError.TheVariants.{Read, Write, NoMemory, Litmus, Trace, BadConfig}
 
@@ -8,11 +11,16 @@ use Rattle.run_results.specs.declared.results.RunError.TheVariants.{Read, Write,
 abbrev pub OfBytes : Option (List ℕ) → (List ℕ → Type 0) → Type 0
 OfBytes known P = (bytes : List ℕ) × ReadsAll known bytes × P bytes
 
--- a failure is counted, or memory was refused and none is
-abbrev pub IsReadError : (before after : ℕ) → RunError → Type 0
-IsReadError before after Read = before < after
-IsReadError before after NoMemory = after ≡ before
-IsReadError before after Write = ⊥
-IsReadError before after (Litmus e) = ⊥
-IsReadError before after (Trace e) = ⊥
-IsReadError before after BadConfig = ⊥
+-- the bytes are more than a litmus text has, which is told of its first line
+abbrev pub IsTooLong : Option (List ℕ) → LitmusError → Type 0
+IsTooLong known e =
+    (e ≡ record { line = 1; kind = TooLarge }) × IfSome known (λ bytes. MOST_BYTES < length bytes)
+
+-- Why there is no text: a failure is counted; or memory was refused for bytes that there are; or these are too many.
+abbrev pub HasNoText : Option (List ℕ) → (before after : ℕ) → RunError → Type 0
+HasNoText known before after Read = before < after
+HasNoText known before after NoMemory = (after ≡ before) × IfSome known (λ bytes. 0 < length bytes)
+HasNoText known before after (Litmus e) = (after ≡ before) × IsTooLong known e
+HasNoText known before after Write = ⊥
+HasNoText known before after (Trace e) = ⊥
+HasNoText known before after BadConfig = ⊥

@@ -1,6 +1,7 @@
 //! From a source with a litmus text to a sink for its report.
-ghost use Rattle.std.specs.Prelude.{◌≡◌, ◌≢◌, IfErr, IfOk, IsErrOf, List, length, true, ℕ};
+ghost use Rattle.std.specs.Prelude.{◌≡◌, ◌≢◌, ◌+◌, IfErr, IfOk, IsErrOf, List, length, true, ℕ};
 ghost use Rattle.std.specs.List.{AllByRecursion, list_all};
+ghost use Rattle.byte_streams.specs.Whole.{TakesAtMost};
 ghost use Rattle.litmus_reader.specs.Grammar.{IsTest};
 ghost use Rattle.litmus_reader.specs.TestViews.{test_of};
 ghost use Rattle.machine_table.specs.SetUp.{is_good};
@@ -12,7 +13,7 @@ ghost use Rattle.report.specs.Litmus.{HasNoReport, HasOutcome, IsLitmusReport, r
 ghost use Rattle.report.specs.Runs.{AreFrom};
 
 use crate::batches::batch;
-use crate::sources::bytes_of;
+use crate::sources::text_of;
 use crate::threads::threaded_runs;
 use byte_streams::{Sink, Source};
 use interleaving_core::Config;
@@ -27,8 +28,9 @@ use std::alloc::{AllocError, Global};
 use std::thread::Threads;
 
 /// Reads a litmus test to the end of the source, runs it as the options say, and writes the report of the runs. Each
-/// end state in the report is an outcome of the sequential machine. Read goes before Litmus, that before BadConfig,
-/// and Write comes last; by an error but Write the sink is unchanged.
+/// end state in the report is an outcome of the sequential machine. A source that has more bytes than a litmus text may
+/// have is not read to its end. Read goes before Litmus, that before BadConfig, and Write comes last; by an error but
+/// Write the sink is unchanged.
 pub fn run_litmus<R: Threads + Sync, S: Source, K: Sink>(
     rt: &R,
     alloc: Global,
@@ -47,13 +49,16 @@ pub fn run_litmus<R: Threads + Sync, S: Source, K: Sink>(
         (all_done : _) × IsCutOff (IsLitmusReport options.now bytes all_done)
         (K.contents sink.old) (K.contents sink.new)) }
 
+    // A litmus text has at most 65,536 bytes, and at most one block of 4,096 is taken beyond them.
+    ensures taken { TakesAtMost (65536 + 4096) (S.remaining source.old) (S.remaining source.new) }
+
     // Failures are told, and nothing else is written.
     ensures counted { AreCounted result
         (S.failures source.old) (S.failures source.new)
         (K.failures sink.old) (K.failures sink.new) }
     ensures nothing { IfErr result (λ e. e ≢ RunError.Write → sink.new ≡ sink.old) }
 {
-    let bytes = bytes_of(alloc, source)?;
+    let bytes = text_of(alloc, source)?;
     let report = report_of(rt, alloc, &bytes, options)?;
     let done = Done {
         all_done: report.all_done,

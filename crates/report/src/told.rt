@@ -1,7 +1,8 @@
 //! What is told of a run of a litmus test.
-ghost use Rattle.std.specs.Prelude.{◌≡◌, ◌≤◌, ℕ, length, IfOk};
+ghost use Rattle.std.specs.Prelude.{◌≡◌, ◌≤◌, ℕ, length, map, IfOk};
 ghost use Rattle.litmus_reader.specs.TestViews.{test_of};
 ghost use Rattle.machine_table.specs.Machine.{Machine};
+ghost use Rattle.machine_theorem.specs.Coherence.{coherent};
 ghost use Rattle.report.specs.Runs.{Tells, state_at, values_from};
 
 use litmus_reader::{EndState, Test, ThreadState};
@@ -59,9 +60,19 @@ fn values<M: Finished>(alloc: Global, count: usize, machine: &M) -> Result<Vec<u
     ensures { IfOk result (λ values. (m : Machine) → M.shows machine.now m →
         values.items ≡ values_from m 0 count) }
 {
-    let mut values = Vec::new(alloc);
+    let words = first_words(alloc, count)?;
+    machine.values(alloc, &words)
+}
+
+// The first words, by rising address.
+fn first_words(alloc: Global, count: usize) -> Result<Vec<WordAddr>, AllocError>
+    requires { count ≤ 64 }
+    ensures { IfOk result (λ words. (m : Machine) →
+        map (coherent m) words.items ≡ values_from m 0 count) }
+{
+    let mut words = Vec::with_capacity(alloc, count)?;
     for word in 0..count {
-        values.push(machine.value(WordAddr::at(word as u64)))?;
+        words.push(WordAddr::at(word as u64))?;
     }
-    Ok(values)
+    Ok(words)
 }

@@ -1,5 +1,5 @@
 //! A machine after a run, whatever drove it, as reports look at it.
-ghost use Rattle.std.specs.Prelude.{◌≡◌, ℕ, List, [], slice_index_or};
+ghost use Rattle.std.specs.Prelude.{◌≡◌, ℕ, List, [], map, slice_index_or, IfOk};
 ghost use Rattle.physiological_order.specs.declared.operation.Op.{Op};
 ghost use Rattle.physiological_order.specs.StaleHits.{RisesByNumber};
 ghost use Rattle.machine_table.specs.Machine.{Machine};
@@ -9,11 +9,12 @@ use interleaving_core::System;
 use machine_table::Counts;
 use mailboxes::Run;
 use physiological_order::{Op, Record, WordAddr};
+use std::alloc::{AllocError, Global};
 use thread_runs::laws::closed_machines_list_what_was_issued;
 
 /// A machine after a run, of which reports tell the records and what they left.
 pub trait Finished {
-    ghost use Rattle.std.specs.Prelude.{◌≡◌, ℕ, List, [], slice_index_or};
+    ghost use Rattle.std.specs.Prelude.{◌≡◌, ℕ, List, [], map, slice_index_or, IfOk};
     ghost use Rattle.physiological_order.specs.declared.operation.Op.{Op};
     ghost use Rattle.physiological_order.specs.StaleHits.{RisesByNumber};
     ghost use Rattle.machine_table.specs.Machine.{Machine};
@@ -37,9 +38,10 @@ pub trait Finished {
         requires { (m : Machine) × shows self.now m }
         ensures { (m : Machine) → shows self.now m → result ≡ m.mail.counts };
 
-    /// A word's value, where its line stands.
-    fn value(&self, addr: WordAddr) -> u64
-        ensures { (m : Machine) → shows self.now m → result ≡ coherent m addr };
+    /// The values of these words, where their lines stand, in their order.
+    fn values(&self, alloc: Global, words: &[WordAddr]) -> Result<Vec<u64>, AllocError>
+        ensures { IfOk result (λ values. (m : Machine) → shows self.now m →
+            values.items ≡ map (coherent m) words.now) };
 }
 
 /// A machine that events drove.
@@ -61,8 +63,12 @@ impl Finished for System {
         System::counts(self)
     }
 
-    fn value(&self, addr: WordAddr) -> u64 {
-        System::coherent(self, addr)
+    fn values(&self, alloc: Global, words: &[WordAddr]) -> Result<Vec<u64>, AllocError> {
+        let mut values = Vec::with_capacity(alloc, words.len())?;
+        for addr in words {
+            values.push(System::coherent(self, *addr))?;
+        }
+        Ok(values)
     }
 }
 
@@ -88,7 +94,7 @@ impl Finished for Run {
         Run::counts(self)
     }
 
-    fn value(&self, addr: WordAddr) -> u64 {
-        Run::value(self, addr)
+    fn values(&self, alloc: Global, words: &[WordAddr]) -> Result<Vec<u64>, AllocError> {
+        Run::values(self, alloc, words)
     }
 }

@@ -1,7 +1,6 @@
 //! The results of all workers, in the order of their jobs.
-ghost use Rattle.std.specs.Prelude.{◌≡◌, ℕ, ◌≤◌, ◌++◌, [], length, IfOk, IfSome, All, vec_capacity};
-ghost use Rattle.std.specs.Prelude.{Some, None, slice_get};
-ghost use Rattle.shared_jobs.specs.Results.{AllGiven, AreGiven, numbered};
+ghost use Rattle.std.specs.Prelude.{◌≡◌, ◌≤◌, ◌++◌, [], length, IfOk, IfSome, None, All, vec_capacity};
+ghost use Rattle.shared_jobs.specs.Results.{AllGiven, AreGiven, HasOtherFront, numbered};
 
 use crate::gate::Gate;
 use crate::jobs::{Jobs, run_left};
@@ -47,6 +46,7 @@ fn take_one<X: Drop, S: Drop, J: Jobs<X, S>>(
     requires { All (λ w. AllGiven (J.gives jobs.now) w.results.items) team.old }
     ensures given { IfSome result (J.gives jobs.now number) }
     ensures left { All (λ w. AllGiven (J.gives jobs.now) w.results.items) team.new }
+    ensures missing { result ≡ None → All (λ w. HasOtherFront number w.results.items) team.new }
 {
     for at in 0..team.len() {
         if let Some(result) = take_front(&mut team[at].results, number) {
@@ -59,8 +59,7 @@ fn take_one<X: Drop, S: Drop, J: Jobs<X, S>>(
 // Takes the result in front, if it is of the job of this number.
 fn take_front<X: Drop>(results: &mut VecDeque<(u64, X)>, number: u64) -> Option<X>
     ensures taken { results.old.items ≡ numbered number result ++ results.new.items }
-    ensures missing { result ≡ None → (p : ℕ × X) → slice_get results.old.items 0 ≡ Some p →
-        ¬ (p.0 ≡ number) }
+    ensures missing { result ≡ None → HasOtherFront number results.old.items }
 {
     match results.front() {
         Some(front) => {

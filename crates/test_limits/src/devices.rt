@@ -1,6 +1,7 @@
 //! A source and a sink that take one byte a call, and some that fail in mid-stream.
 use crate::runs::report_from;
 use crate::texts::{BYTES, with_bytes};
+use litmus_reader::{Kind, LitmusError};
 use report::{Done, RunError};
 use std::io;
 use std::io::{Read, Write};
@@ -100,6 +101,30 @@ fn the_longest_text_one_byte_a_call(rt: HostRuntime) -> Result<(), Fail> {
     let mut out = Vec::new(rt.alloc());
     let done = report_from(&rt, rt.alloc(), reader, &mut out, 1);
     assert_eq!(rt; done, Ok(Done { all_done: true }));
+    Ok(())
+}
+
+// A text that is too long is told as soon as its first byte too many has come: no call is made after that one.
+#[test]
+fn a_text_that_is_too_long_is_not_read_to_its_end(rt: HostRuntime) -> Result<(), Fail> {
+    let text = with_bytes(rt.alloc(), BYTES + 1)?;
+    let too_large = LitmusError {
+        line: 1,
+        kind: Kind::TooLarge,
+    };
+    for (calls, error) in [
+        (65_536, RunError::Read),
+        (65_537, RunError::Litmus(too_large)),
+    ] {
+        let mut out = Vec::new(rt.alloc());
+        let reader = Slow {
+            inner: text.as_bytes(),
+            calls,
+        };
+        let done = report_from(&rt, rt.alloc(), reader, &mut out, 1);
+        assert_eq!(rt; done, Err(error), "after {calls} calls");
+        assert_eq!(rt; out.len(), 0, "after {calls} calls");
+    }
     Ok(())
 }
 

@@ -106,7 +106,7 @@ fn texts_past_their_limits_are_refused(rt: HostRuntime) -> Result<(), Fail> {
     Ok(())
 }
 
-// All bytes of a source come, also of a text that is too long.
+// A text that is too long comes from a source.
 #[test]
 fn a_source_with_a_text_that_is_too_long(rt: HostRuntime) -> Result<(), Fail> {
     let text = with_bytes(rt.alloc(), BYTES + 1)?;

@@ -3,21 +3,24 @@ use byte_streams::{DeviceError, FromRead, ReadError, ToWrite, read_all, write_al
 use std::test::Fail;
 use test_devices::Limited;
 
+// More bytes than any of these sources has.
+const MOST: usize = 100_000;
+
 #[test]
 fn all_bytes_come(rt: HostRuntime) -> Result<(), Fail> {
     let bytes: Vec<u8> = (0..10_000u32).map(|i| (i % 251) as u8).collect(rt.alloc())?;
     let mut source = FromRead::new(bytes.as_slice());
     assert!(rt;
-        read_all(rt.alloc(), &mut source).is_ok_and(|all| all.as_slice() == bytes.as_slice())
+        read_all(rt.alloc(), &mut source, MOST).is_ok_and(|all| all.as_slice() == bytes.as_slice())
     );
-    assert!(rt; read_all(rt.alloc(), &mut source).is_ok_and(|all| all.is_empty()));
+    assert!(rt; read_all(rt.alloc(), &mut source, MOST).is_ok_and(|all| all.is_empty()));
     let mut slow = FromRead::new(Limited {
         inner: bytes.as_slice(),
         step: 7,
         calls: 2_000,
     });
     assert!(rt;
-        read_all(rt.alloc(), &mut slow).is_ok_and(|all| all.as_slice() == bytes.as_slice())
+        read_all(rt.alloc(), &mut slow, MOST).is_ok_and(|all| all.as_slice() == bytes.as_slice())
     );
     Ok(())
 }
@@ -27,8 +30,54 @@ fn many_bytes_come(rt: HostRuntime) -> Result<(), Fail> {
     let bytes: Vec<u8> = (0..70_000u32).map(|i| (i % 251) as u8).collect(rt.alloc())?;
     let mut source = FromRead::new(bytes.as_slice());
     assert!(rt;
-        read_all(rt.alloc(), &mut source).is_ok_and(|all| all.as_slice() == bytes.as_slice())
+        read_all(rt.alloc(), &mut source, MOST).is_ok_and(|all| all.as_slice() == bytes.as_slice())
     );
+    Ok(())
+}
+
+// Ten bytes, one a call, of which so many are to be read: no call is made after the first byte too many. The last source
+// fails behind its fourth byte.
+#[test]
+fn bytes_are_few_enough_or_too_many(rt: HostRuntime) {
+    for (most, calls, wanted) in [
+        (11, 11, Ok(10)),
+        (10, 11, Ok(10)),
+        (9, 10, Err(ReadError::TooMany)),
+        (1, 2, Err(ReadError::TooMany)),
+        (0, 1, Err(ReadError::TooMany)),
+        (4, 4, Err(ReadError::Device)),
+    ] {
+        let mut source = FromRead::new(Limited {
+            inner: b"abcdefghij".as_slice(),
+            step: 1,
+            calls,
+        });
+        let read = read_all(rt.alloc(), &mut source, most).map(|all| all.len());
+        assert_eq!(rt; read, wanted, "{most} bytes at most");
+    }
+}
+
+// There is room for none, and none are there.
+#[test]
+fn no_bytes_are_few_enough(rt: HostRuntime) {
+    let mut source = FromRead::new(b"".as_slice());
+    assert!(rt; read_all(rt.alloc(), &mut source, 0).is_ok_and(|all| all.is_empty()));
+}
+
+// A block is asked for at once, also where fewer bytes are to be read.
+#[test]
+fn a_source_of_two_blocks_has_too_many(rt: HostRuntime) -> Result<(), Fail> {
+    let bytes: Vec<u8> = (0..8192u32).map(|i| (i % 251) as u8).collect(rt.alloc())?;
+    for (most, wanted) in [
+        (8192, Ok(8192)),
+        (8191, Err(ReadError::TooMany)),
+        (4096, Err(ReadError::TooMany)),
+        (4095, Err(ReadError::TooMany)),
+    ] {
+        let mut source = FromRead::new(bytes.as_slice());
+        let read = read_all(rt.alloc(), &mut source, most).map(|all| all.len());
+        assert_eq!(rt; read, wanted, "{most} bytes at most");
+    }
     Ok(())
 }
 
@@ -39,7 +88,7 @@ fn a_reader_fails_in_mid_stream(rt: HostRuntime) {
         step: 3,
         calls: 2,
     });
-    assert!(rt; read_all(rt.alloc(), &mut source).is_err_and(|e| e == ReadError::Device));
+    assert!(rt; read_all(rt.alloc(), &mut source, MOST).is_err_and(|e| e == ReadError::Device));
 }
 
 #[test]

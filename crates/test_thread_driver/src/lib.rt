@@ -21,3 +21,5 @@ mod times;
 mod turn_counts;
 #[cfg(test)]
 mod turns;
+#[cfg(test)]
+mod values;

@@ -8,4 +8,5 @@ invariant-loop g l = record {
   came : Loses (g.S.Source.remaining l.fn.source) (g.S.Source.remaining l.source) l.bytes.items;
   counted : g.S.Source.failures l.source ≡ g.S.Source.failures l.fn.source;
   many : l.counter ≤ length l.bytes.items;
+  few : length l.bytes.items ≤ l.most;
 }

@@ -6,7 +6,7 @@ pub returns-in_err-bytes-clause-refused : goal.returns-in_err-bytes-clause-refus
 returns-in_err-bytes-clause-refused g c =
     let p = err_from_is_err_and c.from_residual.result c.from_residual.ensures.1 in
     rw (p.1, p.2) (λ read write. unread (g.S.Source.remaining c.args.source.now) c.args.options.now _ _ _
-    c.in_err-bytes.ensures.failed c.in_err-bytes.ensures.some read)
+    c.in_err-bytes.ensures.none read)
 
 pub returns-in_err-report-clause-refused : goal.returns-in_err-report-clause-refused
 returns-in_err-report-clause-refused g c =

@@ -10,7 +10,7 @@ returns-in-Some-clause-given g c =
     let w = slice_index_or c.loop-at.team c.loop-at.at c.index-team-at.result in
     taken_given (g.J.Jobs.gives c.args.jobs.now) c.args.number c.take_front.result c.in-Some.result
     w.results.items c.take_front.new.results.items c.take_front.ensures.taken c.in-Some.is
-    (c.loop-at.invariant c.loop-at.at c.index-team-at.result (omega arith))
+    (c.loop-at.invariant.0 c.loop-at.at c.index-team-at.result (omega arith))
 
 pub returns-in-Some-clause-left : goal.returns-in-Some-clause-left
 returns-in-Some-clause-left g c =
@@ -18,5 +18,5 @@ returns-in-Some-clause-left g c =
     let w = slice_index_or c.loop-at.team c.loop-at.at c.index-team-at.result in
     All-set (λ (v : Worker g.row.X.Denot). AllGiven gives v.results.items) c.loop-at.team c.loop-at.at _
     (left_given gives c.args.number c.take_front.result w.results.items c.take_front.new.results.items
-    c.take_front.ensures.taken (c.loop-at.invariant c.loop-at.at c.index-team-at.result (omega arith)))
-    c.loop-at.invariant
+    c.take_front.ensures.taken (c.loop-at.invariant.0 c.loop-at.at c.index-team-at.result (omega arith)))
+    c.loop-at.invariant.0

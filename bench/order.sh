@@ -2,6 +2,7 @@
 # Builds the measurement of the checker and runs it: bench/order.sh [RECORDS [RUNS]]
 # For 1, 4, 16 and 64 cores: the steps; then for each call by itself, the least of so many runs each: the clock's time
 # of the call alone, and the greatest resident set by which the program with the call is more than the one without it.
+# Then how fast the records are written as text, in one run.
 # The load of the machine stands before and after: the times are those of the call only if nothing else runs.
 set -euo pipefail
 top=$(cd "$(dirname "$0")/.." && pwd)
@@ -41,5 +42,8 @@ for cores in 1 4 16 64; do
                 call, records * 1000 / $4, ($3 - $1) * 1024 / records
         }'
     done
+    "$program" "$records" "$cores" records_text | awk '
+        / bytes$/ { bytes = $1 }
+        / ns$/ { printf "records_text: %.0f MB of text a second\n", bytes * 1000 / $(NF - 1) }'
 done
 load

@@ -1,6 +1,6 @@
 //! A measurement of the checker: makes a legal history of so many records of so many cores, counts its stale hits, and
-//! checks it as it lies and backwards. A third word makes it time one call by itself: `check`, `stale_hits`, or `none`.
-//! docs/BENCHMARKS.md has the table.
+//! checks it as it lies and backwards. A third word makes it time one call by itself: `check`, `stale_hits`,
+//! `records_text`, or `none`. docs/BENCHMARKS.md has the table.
 #![tactic(auto)]
 
 ghost use Rattle.std.specs.Prelude.{◌<◌};
@@ -10,6 +10,7 @@ use physiological_order::{
     Memory, Op, Record, Steps, WordAddr, check, check_counted, rises_by_number, stale_hits,
     stale_hits_counted,
 };
+use record_text::records_text;
 use std::alloc::{AllocError, Global};
 use std::time::Instant;
 
@@ -106,6 +107,8 @@ fn one_call<R: AllocGlobal + Print + std::rt::Clock>(
         println!(rt; "{:?}", check(alloc, &opening, lists, history)?)?;
     } else if call == "stale_hits" {
         println!(rt; "{}", stale_hits(alloc, history)?)?;
+    } else if call == "records_text" {
+        println!(rt; "{} bytes", records_text(alloc, history)?.len())?;
     }
     println!(rt; "{call}: {} ns", start.elapsed(rt)?.as_nanos())?;
     Ok(())

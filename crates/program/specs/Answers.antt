@@ -1,5 +1,5 @@
 -- What the program answers.
-use Rattle.std.specs.Prelude.{◌≡◌, ◌⊎◌, ℕ, Bool, List, [], Option, Result, Ok, Err, codes, string_bytes}
+use Rattle.std.specs.Prelude.{◌≡◌, ◌<◌, ◌⊎◌, ℕ, Bool, List, [], Option, Result, Ok, Err, codes, string_bytes}
 use Rattle.byte_streams.specs.Device.{Grows}
 use Rattle.byte_streams.specs.Whole.{GrowsByFront}
 use Rattle.command_line.specs.declared.words.Job.{Job}
@@ -99,17 +99,18 @@ OnFile {F} d Runs (Ok file) old new came = (left : F) × RunsOn d Runs file left
 OnFile d Runs (Err error) old new came = (came ≡ Err Read) × (new ≡ old)
 
 -- the records of the second file were checked against the trace of the first; they were read only behind a trace that
--- was accepted
+-- was accepted, and not at all if reading the trace failed
 abbrev pub ChecksOn : {F K : Type 0} → Devices F K → (trace records trace' records' : F) → K → K →
     Result Done RunError → Type 0
 ChecksOn d trace records trace' records' old new came =
     Came d (IsCheckReport (d.remaining trace) (d.remaining records))
     (HasNoVerdict (d.remaining trace) (d.remaining records)) old new came
     × ((records' ≡ records) ⊎ ((lanes : List (List Step)) × IsRead (d.remaining trace) lanes))
+    × (d.unread trace < d.unread trace' → records' ≡ records)
     × ReadsCounted came (d.unread trace) (d.unread trace') (d.unread records) (d.unread records')
     × WritesCounted came (d.unwritten old) (d.unwritten new)
 
--- both files were opened before either was read
+-- both files could be opened; if one couldn't, that is told as a failed read, and nothing was written
 abbrev pub OnFiles : {F K : Type 0} → Devices F K → (trace records : Result F DeviceError) → K → K →
     Result Done RunError → Type 0
 OnFiles {F} d (Ok trace) (Ok records) old new came =

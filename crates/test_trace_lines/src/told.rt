@@ -1,4 +1,6 @@
 //! Lines that are told, and lines that say nothing.
+ghost use Rattle.std.specs.Prelude.{◌<◌};
+
 use physiological_order::{Op, Record, WordAddr};
 use trace_lines::{Form, Step, form_line, record_line, trace_line};
 
@@ -168,5 +170,44 @@ fn lines_that_tell_a_form(rt: HostRuntime) {
             Ok(Some(told)) => assert!(rt; told == form),
             _ => assert!(rt; false),
         }
+    }
+}
+
+// A line with this byte at a place.
+fn with_byte(line: &[u8; 9], at: usize, byte: u8) -> [u8; 9]
+    requires { at < 9 }
+{
+    let mut bytes = *line;
+    bytes[at] = byte;
+    bytes
+}
+
+fn is_step(line: &[u8]) -> bool {
+    matches!(trace_line(Form::One, line), Ok(Some(_)))
+}
+
+// Every byte as the one that parts two fields, as a decimal digit and as a hexadecimal one.
+#[test]
+fn every_byte_in_its_place(rt: HostRuntime) {
+    for byte in 0..=255u8 {
+        let blank = byte == 32 || byte == 9;
+        let decimal = matches!(byte, 48..=57);
+        let hexadecimal = decimal || matches!(byte, 97..=102);
+        assert!(rt;
+            is_step(&with_byte(b"0 W 0x0 7", 1, byte)) == blank,
+            "blank {byte}"
+        );
+        assert!(rt;
+            is_step(&with_byte(b"0 W 0x0 7", 8, byte)) == decimal,
+            "value {byte}"
+        );
+        assert!(rt;
+            is_step(&with_byte(b"0 R 0x008", 6, byte)) == hexadecimal,
+            "address {byte}"
+        );
+        assert!(rt;
+            is_step(&with_byte(b"0 R  0x00", 0, byte)) == decimal,
+            "core {byte}"
+        );
     }
 }

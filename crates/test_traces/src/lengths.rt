@@ -4,6 +4,7 @@ ghost use Rattle.std.specs.Prelude.{None};
 use byte_streams::{DeviceError, FromRead, Source};
 use std::alloc::Global;
 use std::test::Fail;
+use test_devices::Limited;
 use trace_reader::{Kind, TraceError, read, read_records};
 
 // What is answered of a text: how many steps core 0 has, or the fault.
@@ -64,6 +65,25 @@ fn lines_of_257_bytes(rt: HostRuntime) -> Result<(), Fail> {
     assert!(rt; count(rt.alloc(), &whole) == too_long(2));
     let record = text(rt.alloc(), "0 0 R 0x0 0 0 0 #", b'#', 240, "\n")?;
     assert!(rt; record_count(rt.alloc(), &record) == too_long(2));
+    Ok(())
+}
+
+// 77,000 bytes come in blocks: 8,192, then nine times up to 8,184, since the 8 bytes of the line that is cut are kept;
+// and the eleventh call finds the end. A device that fails there is told.
+#[test]
+fn texts_come_in_blocks(rt: HostRuntime) -> Result<(), Fail> {
+    let text = lines(rt.alloc(), "0 R 0x0 #2\n", 7_000, "")?;
+    for (calls, is_read) in [(11, true), (10, false)] {
+        let mut source = FromRead::new(Limited {
+            inner: text.as_slice(),
+            step: 8192,
+            calls,
+        });
+        assert!(rt;
+            read(rt.alloc(), &mut source).is_ok() == is_read,
+            "{calls} calls"
+        );
+    }
     Ok(())
 }
 

@@ -1,7 +1,11 @@
-//! What the limits of a text are, and that it tells one thing. A function does nothing: its contract is the law.
+//! What the limits of a text and its bytes are, and that it tells one thing. A function does nothing: its contract is
+//! the law.
 
-ghost use Rattle.std.specs.Prelude.{◌≡◌, ℕ, List};
+ghost use Rattle.std.specs.Prelude.{◌≡◌, ℕ, List, [], ◌∷◌, codes};
+ghost use Rattle.std.specs.List.{filter, range_with_len};
 ghost use Rattle.physiological_order.specs.declared.operation.Record.{Record};
+ghost use Rattle.trace_lines.specs.Fields.{is_blank};
+ghost use Rattle.trace_lines.specs.Spelling.{is_digit, is_hex_digit};
 ghost use Rattle.trace_lines.specs.declared.steps.Step.{Step};
 ghost use Rattle.trace_reader.specs.Grammar.{AreRecords, IsTrace};
 ghost use Rattle.trace_reader.specs.declared.limits.TheConstants as limit;
@@ -10,6 +14,13 @@ ghost use Rattle.trace_reader.specs.declared.limits.TheConstants as limit;
 pub fn limits_are_these_numbers()
     ensures bytes { limit.MOST_BYTES ≡ 256 }
     ensures lines { limit.MOST_LINES ≡ 16777216 }
+{}
+
+/// Which bytes part fields, and which are decimal and hexadecimal digits: of all 256, in order.
+pub fn bytes_are_of_these_kinds()
+    ensures blanks { filter is_blank (range_with_len 0 256) ≡ 9 ∷ 32 ∷ [] }
+    ensures digits { filter is_digit (range_with_len 0 256) ≡ codes "0123456789" }
+    ensures hexadecimal { filter is_hex_digit (range_with_len 0 256) ≡ codes "0123456789abcdef" }
 {}
 
 /// A text is that of one trace at most, and of one list of records at most.

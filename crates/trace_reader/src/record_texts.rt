@@ -27,6 +27,7 @@ fn add_line(records: &mut Vec<Record>, number: usize, line: &[u8]) -> Result<(),
         × ((told : Record) × (record_line_at (fields_of line.now) ≡ Ok (Some told))))
         ⊎ ((e.line ≡ number) × (record_line_at (fields_of line.now) ≡ Err e.kind))) }
 {
+    // The check finds what a record holds only where the function names its type.
     let _inside: Option<Op> = None;
     match record_line(line) {
         Err(kind) => Err(TraceError { line: number, kind }),

@@ -2,3 +2,4 @@ mod Unread
 mod CoreCounts
 mod InTrace
 mod FewRecords
+mod Pairs

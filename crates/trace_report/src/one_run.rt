@@ -47,12 +47,14 @@ pub(crate) fn run_by_policy(
     ensures { IfOk result (λ ran. IsRun (Some policy) limit config trace.now ran.end ran.machine) }
 {
     every_history_is_legal();
+    // Its contract says how few cores there are.
     let _few = trace.cores();
     let Ok(mut system) = System::new(alloc, config, Memory::new(alloc)) else {
         return Err(AllocError);
     };
     let mut programs = programs_of(alloc, trace)?;
     let end = run_to_end(alloc, &mut system, programs.as_mut_slice(), policy, limit);
+    // Its contract says that they rise by number.
     let _rising = system.records();
     Ok(Ran {
         machine: system,
@@ -76,10 +78,12 @@ pub(crate) fn run_by_threads<R: Threads + Sync>(
         IsRun None limit config trace.now ran.end (machine_of ran.machine parts)) }
 {
     closed_machines_are_consistent();
+    // Its contract says how few cores there are.
     let _few = trace.cores();
     let memory = Memory::new(alloc);
     let programs = programs_of(alloc, trace)?;
     let ran = run_threads(rt, alloc, config, memory, programs, workers, limit, &Free)?;
+    // Its contract says that they rise by number.
     let _rising = ran.run.records();
     Ok(Ran {
         machine: ran.run,

@@ -1,6 +1,7 @@
 //! What is told of a run beside its records: the words that its trace names, their values, and how many operations
 //! were issued.
-ghost use Rattle.std.specs.Prelude.{◌≡◌, ◌≤◌, max, length, IfOk, OnOk};
+ghost use Rattle.std.specs.Prelude.{◌≡◌, ◌≤◌, max, map, length, IfOk, OnOk};
+ghost use Rattle.std.specs.FinMap.{entries};
 ghost use Rattle.machine_table.specs.Machine.{Machine};
 ghost use Rattle.trace_reader.specs.Steps.{ops_of};
 ghost use Rattle.trace_report.specs.Runs.{core_count, issued_below, values_in, with_words, words_below};
@@ -31,6 +32,18 @@ fn words_of(alloc: Global, trace: &Trace) -> Result<Memory, AllocError>
     Ok(words)
 }
 
+// The words that a memory has, by rising address.
+fn named_in(alloc: Global, words: &Memory) -> Result<Vec<WordAddr>, AllocError>
+    ensures { IfOk result (λ named. named.items ≡ map (λ entry. entry.0) (entries words.now)) }
+{
+    let entries = words.words()?;
+    let mut named = Vec::with_capacity(alloc, entries.len())?;
+    for entry in &entries {
+        named.push(entry.0)?;
+    }
+    Ok(named)
+}
+
 // The values of words, where they stand.
 fn values_in<M: Finished>(
     alloc: Global,
@@ -40,12 +53,13 @@ fn values_in<M: Finished>(
     ensures { IfOk result (λ values. (m : Machine) → M.shows machine.now m →
         values.items ≡ values_in m words.now) }
 {
-    let named = words.words()?;
-    let mut values = Vec::with_capacity(alloc, named.len())?;
-    for entry in &named {
-        values.push((entry.0, machine.value(entry.0)))?;
+    let named = named_in(alloc, words)?;
+    let values = machine.values(alloc, &named)?;
+    let mut pairs = Vec::with_capacity(alloc, named.len())?;
+    for (word, value) in named.iter().zip(values.iter()) {
+        pairs.push((*word, *value))?;
     }
-    Ok(values)
+    Ok(pairs)
 }
 
 /// The words that the operations of a trace name, by rising address, with their values, where they stand.

@@ -1,8 +1,9 @@
-use Rattle.std.proofs.Common.{◌≡◌, map, take}
-use Rattle.machine_table.specs.Machine.{Machine}
-use Rattle.machine_theorem.specs.Coherence.{coherent}
+use Rattle.std.proofs.Common.{◌≡◌, ◌++◌}
+use Rattle.std.specs.List.{zip}
 use Rattle.trace_report.proofs.words.values_in.Given as goal
 
-abbrev pub invariant-loop-entry : goal.invariant-loop-entry
-invariant-loop-entry g l = (m : Machine) → g.M.Finished.shows l.machine m →
-    l.values.items ≡ map (λ entry. (entry.0, coherent m entry.0)) (take l.entry-index l.entry-items)
+-- the pairs so far, with those that are left, are all of them
+abbrev pub invariant-loop-word : goal.invariant-loop-word
+invariant-loop-word g l =
+    l.pairs.items ++ zip l.word-iterator.a.rest.now l.word-iterator.b.rest.now ≡ zip l.initial.word-iterator.a.rest.now
+    l.initial.word-iterator.b.rest.now

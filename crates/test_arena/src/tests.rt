@@ -29,50 +29,117 @@ fn after(arena: &Arena<u32>, cell: Option<Cell>) -> Option<Cell> {
     arena.next(cell)
 }
 
+/// The cell at the front of a list, if there is such a list.
+fn front(arena: &Arena<u32>, list: u32) -> Option<Cell> {
+    if list >= arena.lists() {
+        return None;
+    }
+    arena.front(list)
+}
+
+/// Whether these are the values of a list, from its front on.
+fn has(arena: &Arena<u32>, list: u32, values: &[u32]) -> bool {
+    if list >= arena.lists() || arena.len(list) as usize != values.len() {
+        return false;
+    }
+    let mut cell = arena.front(list);
+    for wanted in values {
+        if value(arena, cell) != Some(*wanted) {
+            return false;
+        }
+        cell = after(arena, cell);
+    }
+    cell.is_none()
+}
+
+/// Puts a value at the end of a list, if there are such a list and room, and gives its cell.
+fn pushed(arena: &mut Arena<u32>, list: u32, value: u32) -> Option<Cell> {
+    if list >= arena.lists() {
+        return None;
+    }
+    arena.push_back(list, value).ok()
+}
+
+/// Moves a cell to the end of a list, if both are there, and says whether they are.
+fn moved(arena: &mut Arena<u32>, list: u32, cell: Cell) -> bool {
+    let is_there = list < arena.lists() && arena.holds(cell);
+    if is_there {
+        arena.move_to_back(list, cell);
+    }
+    is_there
+}
+
+/// Takes a cell off its list, if it is on one, and gives its value.
+fn taken(arena: &mut Arena<u32>, cell: Cell) -> Option<u32> {
+    if !arena.holds(cell) {
+        return None;
+    }
+    Some(arena.unlink(cell))
+}
+
+/// Three cells for two lists: 10 and 11 on the first list, 12 on the second one.
+fn three_values(rt: &HostRuntime) -> Option<Arena<u32>> {
+    let mut arena: Arena<u32> = Arena::new(rt.alloc(), 3, 2).ok()?;
+    let _ten = pushed(&mut arena, 0, 10)?;
+    let _eleven = pushed(&mut arena, 0, 11)?;
+    let _twelve = pushed(&mut arena, 1, 12)?;
+    Some(arena)
+}
+
 #[test]
 fn two_lists(rt: HostRuntime) -> Result<(), Fail> {
-    let mut arena: Arena<u32> = Arena::new(rt.alloc(), 3, 2).ok().expect(&rt, "memory");
-    assert_eq!(rt; arena.lists(), 2);
-    assert_eq!(rt; arena.free(), 3);
-    let ten = arena.push_back(0, 10).ok().expect(&rt, "room");
-    assert!(rt; arena.push_back(0, 11).is_ok());
-    let twelve = arena.push_back(1, 12).ok().expect(&rt, "room");
-    assert_eq!(rt; arena.push_back(1, 13), Err(13));
-    assert_eq!(rt; arena.free(), 0);
-    assert!(rt; arena.holds(ten));
-    arena.move_to_back(1, ten);
-    assert_eq!(rt; arena.len(0), 1);
-    assert_eq!(rt; value(&arena, arena.front(0)), Some(11));
-    assert_eq!(rt; arena.len(1), 2);
-    assert_eq!(rt; value(&arena, arena.front(1)), Some(12));
-    assert_eq!(rt; value(&arena, after(&arena, arena.front(1))), Some(10));
-    assert!(rt; arena.holds(twelve));
-    assert_eq!(rt; arena.unlink(twelve), 12);
-    assert!(rt; !arena.holds(twelve));
-    assert_eq!(rt; arena.front(1), Some(ten));
-    assert_eq!(rt; after(&arena, Some(ten)), None);
-    assert_eq!(rt; arena.free(), 1);
-    assert_eq!(rt; arena.push_back(0, 14), Ok(twelve));
-    assert_eq!(rt; value(&arena, arena.front(0)), Some(11));
-    assert_eq!(rt; value(&arena, after(&arena, arena.front(0))), Some(14));
-    assert!(rt; arena.holds(ten));
-    *arena.get_mut(ten) = 15;
-    assert_eq!(rt; value(&arena, arena.front(1)), Some(15));
+    let mut arena = three_values(&rt).expect(&rt, "memory and room");
+    let ten = front(&arena, 0).expect(&rt, "a cell");
+    assert!(rt; pushed(&mut arena, 1, 13).is_none() && arena.free() == 0);
+    assert!(rt; moved(&mut arena, 1, ten));
+    assert!(rt; has(&arena, 0, &[11]));
+    assert!(rt; has(&arena, 1, &[12, 10]));
     arena_is_send(&arena);
     Ok(())
 }
 
 #[test]
-fn limits(rt: HostRuntime) -> Result<(), Fail> {
+fn a_cell_is_used_again(rt: HostRuntime) -> Result<(), Fail> {
+    let mut arena = three_values(&rt).expect(&rt, "memory and room");
+    let twelve = front(&arena, 1).expect(&rt, "a cell");
+    assert_eq!(rt; taken(&mut arena, twelve), Some(12));
+    assert!(rt; !arena.holds(twelve) && arena.free() == 1 && has(&arena, 1, &[]));
+    assert_eq!(rt; pushed(&mut arena, 0, 14), Some(twelve));
+    assert!(rt; has(&arena, 0, &[10, 11, 14]));
+    Ok(())
+}
+
+#[test]
+fn a_value_is_written(rt: HostRuntime) -> Result<(), Fail> {
+    let mut arena = three_values(&rt).expect(&rt, "memory and room");
+    let ten = front(&arena, 0).expect(&rt, "a cell");
+    assert!(rt; arena.holds(ten));
+    *arena.get_mut(ten) = 15;
+    assert!(rt; has(&arena, 0, &[15, 11]));
+    Ok(())
+}
+
+#[test]
+fn no_cell(rt: HostRuntime) -> Result<(), Fail> {
     let mut none: Arena<u32> = Arena::new(rt.alloc(), 0, 1).ok().expect(&rt, "memory");
     assert_eq!(rt; none.push_back(0, 1), Err(1));
     assert!(rt; !none.holds(Cell(0)));
-    let cells: Result<Arena<u32>, ArenaError> = Arena::new(rt.alloc(), 16_777_217, 1);
-    let refused = cells.err().expect(&rt, "a refusal");
-    assert_eq!(rt; refused, ArenaError::TooLarge);
-    assert_eq!(rt; refused.number(), 2);
-    let lists: Result<Arena<u32>, ArenaError> = Arena::new(rt.alloc(), 1, 1_048_577);
-    assert_eq!(rt; lists.err(), Some(ArenaError::TooLarge));
+    Ok(())
+}
+
+/// The number of the error of an arena of so many cells and lists, or 0.
+fn refused(rt: &HostRuntime, cells: u32, lists: u32) -> u32 {
+    let made: Result<Arena<u32>, ArenaError> = Arena::new(rt.alloc(), cells, lists);
+    match made {
+        Ok(_) => 0,
+        Err(error) => u32::from(error.number()),
+    }
+}
+
+#[test]
+fn limits(rt: HostRuntime) -> Result<(), Fail> {
+    assert_eq!(rt; refused(&rt, 16_777_217, 1), 2);
+    assert_eq!(rt; refused(&rt, 1, 1_048_577), 2);
     assert_eq!(rt; ArenaError::NoMemory.number(), 1);
     Ok(())
 }
@@ -115,19 +182,13 @@ fn thousands_of_cells(rt: HostRuntime) -> Result<(), Fail> {
 
 #[test]
 fn cleared(rt: HostRuntime) -> Result<(), Fail> {
-    let mut arena: Arena<u32> = Arena::new(rt.alloc(), 2, 2).ok().expect(&rt, "memory");
-    assert!(rt; arena.push_back(0, 10).is_ok());
-    assert!(rt; arena.push_back(1, 11).is_ok());
+    let mut arena = three_values(&rt).expect(&rt, "memory and room");
     arena.clear();
-    assert_eq!(rt; arena.lists(), 2);
-    assert_eq!(rt; arena.free(), 2);
-    assert_eq!(rt; arena.len(0), 0);
-    assert_eq!(rt; arena.front(1), None);
-    assert!(rt; !arena.holds(Cell(0)));
-    let last = arena.push_back(1, 12).ok().expect(&rt, "room");
-    assert_eq!(rt; value(&arena, Some(last)), Some(12));
-    assert_eq!(rt; arena.front(1), Some(last));
-    assert_eq!(rt; arena.free(), 1);
+    assert!(rt; arena.lists() == 2 && arena.free() == 3 && !arena.holds(Cell(0)));
+    assert!(rt; has(&arena, 0, &[]) && has(&arena, 1, &[]));
+    let last = pushed(&mut arena, 1, 13);
+    assert!(rt; last.is_some() && front(&arena, 1) == last && arena.free() == 2);
+    assert!(rt; has(&arena, 1, &[13]));
     Ok(())
 }
 

@@ -1,11 +1,13 @@
 //! A source and a sink that take one byte a call, and some that fail in mid-stream.
-use crate::runs::report_from;
+use crate::runs::{TOO_LARGE, fails, gives, report_from};
+use crate::text_limits::LONGEST;
 use crate::texts::{BYTES, with_bytes};
-use litmus_reader::{Kind, LitmusError};
 use report::{Done, RunError};
+use std::alloc::Global;
 use std::io;
 use std::io::{Read, Write};
 use std::test::Fail;
+use std::thread::Threads;
 
 const STORE_BUFFERING: &[u8] = b"RISCV SB
 { 0:x5=1; 0:x6=x; 0:x8=y; 1:x5=1; 1:x6=y; 1:x8=x; }
@@ -45,6 +47,10 @@ struct Slow<T> {
 }
 
 impl<T> Slow<T> {
+    fn new(inner: T, calls: u32) -> Slow<T> {
+        Slow { inner, calls }
+    }
+
     fn calls(&mut self) -> io::Result<()> {
         if self.calls == 0 {
             return Err(io::Error::from(io::ErrorKind::BrokenPipe));
@@ -74,57 +80,48 @@ impl<T: Write> Write for Slow<T> {
     }
 }
 
+// Whether a run of what a reader gives, whose writer fails after so many calls, comes to this and has written this.
+fn writes<T: Threads + Sync, R: Read + Drop>(
+    rt: &T,
+    alloc: Global,
+    reader: R,
+    calls: u32,
+    wanted: Result<Done, RunError>,
+    written: &[u8],
+) -> bool {
+    let mut out = Vec::new(alloc);
+    let writer = Slow::new(&mut out, calls);
+    let done = report_from(rt, alloc, reader, writer, 1);
+    done == wanted && out.as_slice() == written
+}
+
 #[test]
 fn one_byte_a_call(rt: HostRuntime) -> Result<(), Fail> {
-    let mut out = Vec::new(rt.alloc());
-    let reader = Slow {
-        inner: STORE_BUFFERING,
-        calls: 1000,
-    };
-    let writer = Slow {
-        inner: &mut out,
-        calls: 1000,
-    };
-    let done = report_from(&rt, rt.alloc(), reader, writer, 1);
-    assert_eq!(rt; done, Ok(Done { all_done: true }));
-    assert!(rt; out.as_slice() == REPORT);
+    let reader = Slow::new(STORE_BUFFERING, 1000);
+    let done = Ok(Done { all_done: true });
+    assert!(rt; writes(&rt, rt.alloc(), reader, 1000, done, REPORT));
     Ok(())
 }
 
 #[test]
 fn the_longest_text_one_byte_a_call(rt: HostRuntime) -> Result<(), Fail> {
     let text = with_bytes(rt.alloc(), BYTES)?;
-    let reader = Slow {
-        inner: text.as_bytes(),
-        calls: 70_000,
-    };
-    let mut out = Vec::new(rt.alloc());
-    let done = report_from(&rt, rt.alloc(), reader, &mut out, 1);
-    assert_eq!(rt; done, Ok(Done { all_done: true }));
+    let reader = Slow::new(text.as_bytes(), 70_000);
+    assert!(rt; gives(&rt, rt.alloc(), reader, 1, LONGEST));
     Ok(())
 }
 
-// A text that is too long is told as soon as its first byte too many has come: no call is made after that one.
+// Whether a text that is too long is told as soon as its first byte too many has come: no call is made after that one.
+fn is_told_at_once<T: Threads + Sync>(rt: &T, alloc: Global, text: &[u8]) -> bool {
+    let before = Slow::new(text, 65_536);
+    let after = Slow::new(text, 65_537);
+    fails(rt, alloc, before, RunError::Read) && fails(rt, alloc, after, RunError::Litmus(TOO_LARGE))
+}
+
 #[test]
 fn a_text_that_is_too_long_is_not_read_to_its_end(rt: HostRuntime) -> Result<(), Fail> {
     let text = with_bytes(rt.alloc(), BYTES + 1)?;
-    let too_large = LitmusError {
-        line: 1,
-        kind: Kind::TooLarge,
-    };
-    for (calls, error) in [
-        (65_536, RunError::Read),
-        (65_537, RunError::Litmus(too_large)),
-    ] {
-        let mut out = Vec::new(rt.alloc());
-        let reader = Slow {
-            inner: text.as_bytes(),
-            calls,
-        };
-        let done = report_from(&rt, rt.alloc(), reader, &mut out, 1);
-        assert_eq!(rt; done, Err(error), "after {calls} calls");
-        assert_eq!(rt; out.len(), 0, "after {calls} calls");
-    }
+    assert!(rt; is_told_at_once(&rt, rt.alloc(), text.as_bytes()));
     Ok(())
 }
 
@@ -132,14 +129,11 @@ fn a_text_that_is_too_long_is_not_read_to_its_end(rt: HostRuntime) -> Result<(),
 #[test]
 fn a_reader_that_fails(rt: HostRuntime) -> Result<(), Fail> {
     for calls in 0..STORE_BUFFERING.len() as u32 {
-        let mut out = Vec::new(rt.alloc());
-        let reader = Slow {
-            inner: STORE_BUFFERING,
-            calls,
-        };
-        let done = report_from(&rt, rt.alloc(), reader, &mut out, 1);
-        assert_eq!(rt; done, Err(RunError::Read), "after {calls} calls");
-        assert_eq!(rt; out.len(), 0, "after {calls} calls");
+        let reader = Slow::new(STORE_BUFFERING, calls);
+        assert!(rt;
+            fails(&rt, rt.alloc(), reader, RunError::Read),
+            "after {calls} calls"
+        );
     }
     Ok(())
 }
@@ -148,14 +142,19 @@ fn a_reader_that_fails(rt: HostRuntime) -> Result<(), Fail> {
 #[test]
 fn a_writer_that_fails(rt: HostRuntime) -> Result<(), Fail> {
     for calls in 0..REPORT.len() {
-        let mut out = Vec::new(rt.alloc());
-        let writer = Slow {
-            inner: &mut out,
-            calls: calls as u32,
-        };
-        let done = report_from(&rt, rt.alloc(), STORE_BUFFERING, writer, 1);
-        assert_eq!(rt; done, Err(RunError::Write), "after {calls} calls");
-        assert!(rt; out.as_slice() == &REPORT[..calls], "after {calls} calls");
+        let failed = Err(RunError::Write);
+        let begun = &REPORT[..calls];
+        assert!(rt;
+            writes(
+                &rt,
+                rt.alloc(),
+                STORE_BUFFERING,
+                calls as u32,
+                failed,
+                begun
+            ),
+            "after {calls} calls"
+        );
     }
     Ok(())
 }

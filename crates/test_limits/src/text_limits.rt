@@ -1,11 +1,11 @@
 //! Each limit of a text, reached and passed by one.
-use crate::runs::{fault, gives, report_from};
+use crate::runs::{TOO_LARGE, fails, gives, is_read, is_refused};
 use crate::texts::{
     BYTES, put_registers, with_atoms, with_bytes, with_cells, with_lines, with_locations,
     with_locations_seen, with_name, with_parentheses, with_registers, with_rest, with_rows,
     with_threads,
 };
-use litmus_reader::{Kind, LitmusError, Test, read};
+use litmus_reader::{Kind, Test, read};
 use physiological_order::WordAddr;
 use report::RunError;
 use std::alloc::{AllocError, Global};
@@ -77,31 +77,47 @@ fn text_of(alloc: Global, text: &Grown) -> Result<String, AllocError> {
     }
 }
 
+// Whether a text has as many bytes as it may have.
+fn is_longest(alloc: Global, shape: &Grown) -> Result<bool, AllocError> {
+    Ok(text_of(alloc, shape)?.len() == BYTES)
+}
+
 #[test]
 fn the_longest_texts(rt: HostRuntime) -> Result<(), Fail> {
-    assert_eq!(rt; text_of(rt.alloc(), &AT_LIMITS[0])?.len(), BYTES);
-    assert_eq!(rt; text_of(rt.alloc(), &AT_LIMITS[1])?.len(), BYTES);
+    assert!(rt; is_longest(rt.alloc(), &AT_LIMITS[0])?);
+    assert!(rt; is_longest(rt.alloc(), &AT_LIMITS[1])?);
     Ok(())
+}
+
+fn shape_is_read(alloc: Global, shape: &Grown) -> Result<bool, AllocError> {
+    let text = text_of(alloc, shape)?;
+    Ok(is_read(alloc, text.as_bytes()))
 }
 
 #[test]
 fn texts_at_their_limits_are_read(rt: HostRuntime) -> Result<(), Fail> {
     for (index, shape) in AT_LIMITS.iter().enumerate() {
-        let text = text_of(rt.alloc(), shape)?;
-        assert_eq!(rt; fault(rt.alloc(), text.as_bytes()), None, "text {index}");
+        assert!(rt; shape_is_read(rt.alloc(), shape)?, "text {index}");
     }
     Ok(())
+}
+
+// Whether a shape's text is refused for a fault of this kind in this line.
+fn shape_is_refused(
+    alloc: Global,
+    shape: &Grown,
+    line: usize,
+    kind: Kind,
+) -> Result<bool, AllocError> {
+    let text = text_of(alloc, shape)?;
+    Ok(is_refused(alloc, text.as_bytes(), line, kind))
 }
 
 #[test]
 fn texts_past_their_limits_are_refused(rt: HostRuntime) -> Result<(), Fail> {
     for (index, (shape, line, kind)) in PAST_LIMITS.iter().enumerate() {
-        let text = text_of(rt.alloc(), shape)?;
-        assert_eq!(rt;
-            fault(rt.alloc(), text.as_bytes()),
-            Some((*line, *kind)),
-            "text {index}"
-        );
+        let is_right = shape_is_refused(rt.alloc(), shape, *line, *kind)?;
+        assert!(rt; is_right, "text {index}");
     }
     Ok(())
 }
@@ -110,14 +126,8 @@ fn texts_past_their_limits_are_refused(rt: HostRuntime) -> Result<(), Fail> {
 #[test]
 fn a_source_with_a_text_that_is_too_long(rt: HostRuntime) -> Result<(), Fail> {
     let text = with_bytes(rt.alloc(), BYTES + 1)?;
-    let mut out = Vec::new(rt.alloc());
-    let done = report_from(&rt, rt.alloc(), text.as_bytes(), &mut out, 1);
-    let too_large = LitmusError {
-        line: 1,
-        kind: Kind::TooLarge,
-    };
-    assert_eq!(rt; done, Err(RunError::Litmus(too_large)));
-    assert_eq!(rt; out.len(), 0);
+    let too_large = RunError::Litmus(TOO_LARGE);
+    assert!(rt; fails(&rt, rt.alloc(), text.as_bytes(), too_large));
     Ok(())
 }
 
@@ -126,7 +136,7 @@ fn a_source_with_a_text_that_is_too_long(rt: HostRuntime) -> Result<(), Fail> {
 fn a_seventeenth_thread_is_refused(rt: HostRuntime) {
     let text =
         b"RISCV L\n{ }\nP0|P1|P2|P3|P4|P5|P6|P7|P8|P9|P10|P11|P12|P13|P14|P15|P16;\nexists x=0\n";
-    assert_eq!(rt; fault(rt.alloc(), text), Some((3, Kind::TooLarge)));
+    assert!(rt; is_refused(rt.alloc(), text, 3, Kind::TooLarge));
 }
 
 // What the first, the last and the next word of a test's 64 locations open as.
@@ -144,20 +154,29 @@ fn has_last(test: &Test, name: &[u8]) -> bool {
     test.locations() == 64 && test.location(63) == Some(name) && test.location(64).is_none()
 }
 
+// Whether a test has the locations of the greatest text, and their values.
+fn has_locations(test: &Test) -> Result<bool, AllocError> {
+    let name = b"llllllllllllllllllllllllllllll73";
+    Ok(has_last(test, name) && values(test)? == [1, 64, 0])
+}
+
+// The test that a text is read as.
+fn test_of(alloc: Global, shape: &Grown) -> Result<Test, Fail> {
+    let text = text_of(alloc, shape)?;
+    Ok(read(alloc, text.as_bytes()).ok().ok_or("it is read")?)
+}
+
 #[test]
 fn a_test_of_many_locations(rt: HostRuntime) -> Result<(), Fail> {
-    let text = with_locations(rt.alloc(), 64, 30)?;
-    let test = read(rt.alloc(), text.as_bytes()).ok().ok_or("it is read")?;
-    assert!(rt; has_last(&test, b"llllllllllllllllllllllllllllll73"));
-    assert!(rt; values(&test)? == [1, 64, 0]);
+    let test = test_of(rt.alloc(), &Grown::Locations(64, 30))?;
+    assert!(rt; has_locations(&test)?);
     Ok(())
 }
 
 #[test]
 fn a_test_with_a_long_name(rt: HostRuntime) -> Result<(), Fail> {
-    let text = with_name(rt.alloc(), 128)?;
-    let test = read(rt.alloc(), text.as_bytes()).ok().ok_or("it is read")?;
-    assert_eq!(rt; test.name().len(), 128);
+    let test = test_of(rt.alloc(), &Grown::Name(128))?;
+    assert!(rt; test.name().len() == 128);
     Ok(())
 }
 
@@ -249,8 +268,8 @@ write-backs 0
 stale-hits 0
 ";
 
-// The longest text, and a condition in 64 pairs of parentheses.
-const LONGEST: &[u8] = b"test L
+/// The longest text, and a condition in 64 pairs of parentheses.
+pub(crate) const LONGEST: &[u8] = b"test L
 threads 1
 runs 1
 all-done 1

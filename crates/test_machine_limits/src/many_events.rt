@@ -47,15 +47,27 @@ fn is_legal(alloc: Global, system: &System) -> Result<bool, AllocError> {
     Ok(verdict == Verdict::Legal && rises_by_number(records) && stale_hits(alloc, records)? == 0)
 }
 
+// Whether a machine answers as many events as are wanted as it must.
+fn answers(alloc: Global, system: &mut System) -> Result<bool, AllocError> {
+    let script = script(alloc)?;
+    Ok(script.events.len() as u64 == 6 * u64::from(LOADS) + 2 && script.is_answered(alloc, system)?)
+}
+
+// Whether the loads, and nothing else, are recorded and were issued, and no message is left.
+fn has_loads(system: &System) -> Result<bool, AllocError> {
+    Ok(
+        are_loads(system.records())
+            && system.issued(5).len() as u64 == u64::from(LOADS)
+            && system.in_flight()?.is_empty(),
+    )
+}
+
 #[test]
 fn a_list_of_many_events(rt: HostRuntime) -> Result<(), Fail> {
-    let script = script(rt.alloc())?;
-    assert!(rt; script.events.len() as u64 == 6 * u64::from(LOADS) + 2);
     let mut system = opened(rt.alloc(), GREATEST)?;
-    assert!(rt; script.is_answered(rt.alloc(), &mut system)?);
-    assert!(rt; are_loads(system.records()));
-    assert_eq!(rt; system.issued(5).len() as u64, u64::from(LOADS));
-    assert_eq!(rt; system.in_flight()?.len(), 0);
-    assert!(rt; is_legal(rt.alloc(), &system)?);
+    let is_right = answers(rt.alloc(), &mut system)?
+        && has_loads(&system)?
+        && is_legal(rt.alloc(), &system)?;
+    assert!(rt; is_right);
     Ok(())
 }

@@ -47,23 +47,31 @@ fn is_between(flight: &[MsgNo], first: u64, last: u64, count: u64) -> bool {
         && flight.len() as u64 == count
 }
 
-// The owners of a line, and a word's value.
-fn stands(system: &System, line: u64) -> (u64, u64) {
-    (
-        system.owners(LineNo(line)) as u64,
-        system.coherent(word(line)),
+// Whether a line has so many owners, and its word this value.
+fn stands(system: &System, line: u64, owners: u64, value: u64) -> bool {
+    system.owners(LineNo(line)) as u64 == owners && system.coherent(word(line)) == value
+}
+
+// Whether a machine answers as it must until its network is full, and then.
+fn fills(alloc: Global, system: &mut System) -> Result<bool, AllocError> {
+    Ok(script(alloc)?.is_answered(alloc, system)? && full(alloc)?.is_answered(alloc, system)?)
+}
+
+// Whether the returns are in flight but for the first one, which was delivered, and three messages of two cores.
+fn is_full(system: &System) -> Result<bool, AllocError> {
+    Ok(
+        is_between(&system.in_flight()?, 9, 5 * RETURNS + 2, RETURNS + 1)
+            && stands(system, 0, 0, 7)
+            && stands(system, RETURNS - 1, 1, RETURNS + 6)
+            && system.counts().flushes == u128::from(RETURNS),
     )
 }
 
 #[test]
 fn as_many_messages_as_there_may_be(rt: HostRuntime) -> Result<(), Fail> {
     let mut system = opened(rt.alloc(), GREATEST)?;
-    assert!(rt; script(rt.alloc())?.is_answered(rt.alloc(), &mut system)?);
-    assert!(rt; full(rt.alloc())?.is_answered(rt.alloc(), &mut system)?);
-    assert!(rt; is_between(&system.in_flight()?, 9, 5 * RETURNS + 2, RETURNS + 1));
-    assert_eq!(rt; stands(&system, 0), (0, 7));
-    assert_eq!(rt; stands(&system, RETURNS - 1), (1, RETURNS + 6));
-    assert!(rt; system.counts().flushes == u128::from(RETURNS));
+    let is_right = fills(rt.alloc(), &mut system)? && is_full(&system)?;
+    assert!(rt; is_right);
     Ok(())
 }
 
@@ -102,20 +110,40 @@ fn deliver_last(system: &mut System, count: u64) -> bool {
         && system.step(Event::Deliver(last)) == Answer::Refused(Refusal::NoSuch)
 }
 
+// Whether the returns of the lines of odd numbers are in flight and delivered, the last one first.
+fn are_delivered(system: &mut System) -> Result<bool, AllocError> {
+    for left in 0..MIXED / 2 {
+        let count = (MIXED / 2).saturating_sub(left);
+        let is_right = are_odd(&system.in_flight()?, count) && deliver_last(system, count);
+        if !is_right {
+            return Ok(false);
+        }
+    }
+    Ok(true)
+}
+
+fn is_mixed(alloc: Global, system: &mut System) -> Result<bool, AllocError> {
+    mixed(alloc)?.is_answered(alloc, system)
+}
+
+// Whether no message is left, the last line's word has its value, and another core gets that line.
+fn goes_on(alloc: Global, system: &mut System) -> Result<bool, AllocError> {
+    let mut after = Script::new(alloc);
+    after.get(1, Op::Load(word(MIXED - 1)), 5 * MIXED)?;
+    Ok(
+        system.in_flight()?.is_empty()
+            && system.coherent(word(MIXED - 1)) == MIXED
+            && after.is_answered(alloc, system)?,
+    )
+}
+
 // Each message keeps its number and is delivered once, however many places before it are empty.
 #[test]
 fn messages_taken_in_another_order(rt: HostRuntime) -> Result<(), Fail> {
     let mut system = opened(rt.alloc(), GREATEST)?;
-    assert!(rt; mixed(rt.alloc())?.is_answered(rt.alloc(), &mut system)?);
-    for left in 0..MIXED / 2 {
-        let count = (MIXED / 2).saturating_sub(left);
-        assert!(rt; are_odd(&system.in_flight()?, count), "{count} are left");
-        assert!(rt; deliver_last(&mut system, count), "{count} are left");
-    }
-    assert_eq!(rt; system.in_flight()?.len(), 0);
-    assert_eq!(rt; system.coherent(word(MIXED - 1)), MIXED);
-    let mut after = Script::new(rt.alloc());
-    after.get(1, Op::Load(word(MIXED - 1)), 5 * MIXED)?;
-    assert!(rt; after.is_answered(rt.alloc(), &mut system)?);
+    let is_right = is_mixed(rt.alloc(), &mut system)?
+        && are_delivered(&mut system)?
+        && goes_on(rt.alloc(), &mut system)?;
+    assert!(rt; is_right);
     Ok(())
 }

@@ -36,20 +36,42 @@ fn everyone(alloc: Global) -> Result<Script, AllocError> {
     Ok(script)
 }
 
+// Whether each bank has eight entries.
+fn has_entries(system: &System) -> Result<bool, AllocError> {
+    for bank in 0..8 {
+        if system.entries(bank)?.len() != 8 {
+            return Ok(false);
+        }
+    }
+    Ok(true)
+}
+
+// Whether each core has two copies, and was issued two operations.
+fn has_copies(system: &System) -> Result<bool, AllocError> {
+    for core in 0..CORES {
+        if system.copies(core)?.len() != 2 || system.issued(core).len() != 2 {
+            return Ok(false);
+        }
+    }
+    Ok(true)
+}
+
+// Whether the last core's word has its value, and each core's line was given back once.
+fn has_stores(system: &System) -> bool {
+    system.cores() == CORES
+        && system.coherent(word(own(CORES - 1))) == 163
+        && system.counts().write_backs == u128::from(CORES)
+}
+
+fn serves_everyone(alloc: Global, system: &mut System) -> Result<bool, AllocError> {
+    let is_answered = everyone(alloc)?.is_answered(alloc, system)?;
+    Ok(is_answered && has_stores(system) && has_entries(system)? && has_copies(system)?)
+}
+
 #[test]
 fn all_cores_and_banks(rt: HostRuntime) -> Result<(), Fail> {
     let mut system = opened(rt.alloc(), GREATEST)?;
-    assert!(rt; everyone(rt.alloc())?.is_answered(rt.alloc(), &mut system)?);
-    assert_eq!(rt; system.cores(), 64);
-    assert_eq!(rt; system.coherent(word(own(63))), 163);
-    assert!(rt; system.counts().write_backs == 64);
-    for bank in 0..8 {
-        assert_eq!(rt; system.entries(bank)?.len(), 8, "of bank {bank}");
-    }
-    for core in 0..CORES {
-        assert_eq!(rt; system.copies(core)?.len(), 2, "of core {core}");
-        assert_eq!(rt; system.issued(core).len(), 2, "of core {core}");
-    }
+    assert!(rt; serves_everyone(rt.alloc(), &mut system)?);
     Ok(())
 }
 
@@ -96,16 +118,36 @@ fn victim(system: &System, line: u32) -> Option<u64> {
     Some(victim)
 }
 
+// Whether core 0 and bank 0 have all lines.
+fn is_full(system: &System) -> Result<bool, AllocError> {
+    Ok(
+        system.copies(0)?.len() as u64 == u64::from(LINES)
+            && system.entries(0)?.len() as u64 == u64::from(LINES),
+    )
+}
+
+// Whether line 1024 must leave for the next line of set 0, line 1023 for that of set 1023, and no line for one that
+// is there.
+fn has_victims(system: &System) -> bool {
+    victim(system, LINES) == Some(1024)
+        && victim(system, LINES + 1023) == Some(1023)
+        && victim(system, LINES - 1).is_none()
+}
+
+fn is_filled(alloc: Global, system: &mut System) -> Result<bool, AllocError> {
+    let is_answered = fill(alloc)?.is_answered(alloc, system)?;
+    Ok(is_answered && is_full(system)? && has_victims(system))
+}
+
+fn makes_room(alloc: Global, system: &mut System) -> Result<bool, AllocError> {
+    let is_answered = one_more(alloc)?.is_answered(alloc, system)?;
+    Ok(is_answered && victim(system, LINES).is_none())
+}
+
 #[test]
 fn full_caches_and_banks(rt: HostRuntime) -> Result<(), Fail> {
     let mut system = opened(rt.alloc(), ONE_BANK)?;
-    assert!(rt; fill(rt.alloc())?.is_answered(rt.alloc(), &mut system)?);
-    assert_eq!(rt; system.copies(0)?.len() as u64, u64::from(LINES));
-    assert_eq!(rt; system.entries(0)?.len() as u64, u64::from(LINES));
-    assert!(rt; victim(&system, LINES) == Some(1024));
-    assert!(rt; victim(&system, LINES + 1023) == Some(1023));
-    assert!(rt; victim(&system, LINES - 1) == None);
-    assert!(rt; one_more(rt.alloc())?.is_answered(rt.alloc(), &mut system)?);
-    assert!(rt; victim(&system, LINES) == None);
+    let is_right = is_filled(rt.alloc(), &mut system)? && makes_room(rt.alloc(), &mut system)?;
+    assert!(rt; is_right);
     Ok(())
 }

@@ -2,6 +2,7 @@
 use crate::machines::{GREATEST, word};
 use interleaving_core::{Config, System};
 use physiological_order::Memory;
+use std::alloc::{AllocError, Global};
 use std::test::Fail;
 
 // How many words are set: every seventh one.
@@ -16,19 +17,33 @@ const FEW_COPIES: Config = Config {
     ..GREATEST
 };
 
-#[test]
-fn a_machine_opens_on_many_words(rt: HostRuntime) -> Result<(), Fail> {
-    let mut memory = Memory::new(rt.alloc());
+// A memory whose every seventh word is set, to 1, 2 and so on.
+fn every_seventh(alloc: Global) -> Result<Memory, AllocError> {
+    let mut memory = Memory::new(alloc);
     for number in 0..SET {
         memory.set(word(number.saturating_mul(7)), number.saturating_add(1))?;
     }
-    let system = System::new(rt.alloc(), FEW_COPIES, memory)
-        .ok()
-        .ok_or("the machine opens")?;
+    Ok(memory)
+}
+
+// The first word that was set and has another value, or whose next word is not 0.
+fn first_wrong(system: &System) -> Option<u64> {
     for number in 0..SET {
         let first = number.saturating_mul(7);
-        assert_eq!(rt; system.coherent(word(first)), number.saturating_add(1));
-        assert_eq!(rt; system.coherent(word(first.saturating_add(1))), 0);
+        if system.coherent(word(first)) != number.saturating_add(1)
+            || system.coherent(word(first.saturating_add(1))) != 0
+        {
+            return Some(first);
+        }
     }
+    None
+}
+
+#[test]
+fn a_machine_opens_on_many_words(rt: HostRuntime) -> Result<(), Fail> {
+    let system = System::new(rt.alloc(), FEW_COPIES, every_seventh(rt.alloc())?)
+        .ok()
+        .ok_or("the machine opens")?;
+    assert_eq!(rt; first_wrong(&system), None);
     Ok(())
 }

@@ -1,6 +1,6 @@
 //! What a machine remembers, in one line.
 
-use crate::views::{tell_op, tell_record};
+use crate::views::{tell_completed, tell_op};
 use anyhow::Result;
 use interleaving_core::System;
 use physiological_order::Op;
@@ -21,8 +21,8 @@ fn tell_issued<W: Write + Drop>(ops: &[Op], out: &mut W) -> Result<()> {
 pub(crate) fn tell_history<W: Write + Drop>(system: &System, out: &mut W) -> Result<()> {
     write!(out, "history")?;
     for record in system.records() {
-        write!(out, "; ")?;
-        tell_record(record, out)?;
+        write!(out, "; completed")?;
+        tell_completed(record, out)?;
     }
     for core in 0..system.cores() {
         tell_issued(system.issued(core), out)?;

@@ -9,7 +9,7 @@ mod machines;
 mod views;
 
 use anyhow::{Result, bail};
-use drives::driven;
+use drives::{Drive, driven};
 use history::tell_history;
 use interleaving_core::{Event, System};
 use lines::{Line, line_of};
@@ -35,30 +35,61 @@ fn play_list<W: Write + Drop>(
     Ok(())
 }
 
-/// What a line asks for: another machine, or one or more events on the one that there is, or a run of it, or what it
-/// remembers. It is then told.
-fn play<W: Write + Drop>(alloc: Global, played: Played, text: &str, out: &mut W) -> Result<Played> {
-    match (line_of(alloc, text)?, played) {
-        (Line::Machine(config, seen), _) => opened(alloc, config, seen, out),
-        (Line::Event(event), Some((mut system, seen))) => {
-            let answer = system.step(event);
-            tell(&system, &seen, &answer, out)?;
-            Ok(Some((system, seen)))
-        }
-        (Line::List(events), Some((mut system, seen))) => {
-            play_list(&mut system, &seen, events.as_slice(), out)?;
-            Ok(Some((system, seen)))
-        }
-        (Line::Drive(drive), Some((mut system, seen))) => {
-            let run = driven(alloc, &mut system, &drive)?;
-            tell_run(&system, &seen, &run, out)?;
-            Ok(Some((system, seen)))
-        }
-        (Line::History, Some((system, seen))) => {
-            tell_history(&system, out)?;
-            Ok(Some((system, seen)))
-        }
-        _ => bail!("a machine is wanted before its events"),
+/// The answer to an event.
+fn play_event<W: Write + Drop>(
+    system: &mut System,
+    seen: &Seen,
+    event: Event,
+    out: &mut W,
+) -> Result<()> {
+    let answer = system.step(event);
+    tell(system, seen, &answer, out)
+}
+
+/// A run by programs of steps.
+fn play_drive<W: Write + Drop>(
+    alloc: Global,
+    system: &mut System,
+    seen: &Seen,
+    drive: &Drive,
+    out: &mut W,
+) -> Result<()> {
+    let run = driven(alloc, system, drive)?;
+    tell_run(system, seen, &run, out)
+}
+
+/// What a line asks of the machine that there is: one or more events, a run, or what it remembers.
+fn play_on<W: Write + Drop>(
+    alloc: Global,
+    system: &mut System,
+    seen: &Seen,
+    line: &Line,
+    out: &mut W,
+) -> Result<()> {
+    match line {
+        Line::Machine(_, _) => Ok(()),
+        Line::Event(event) => play_event(system, seen, *event, out),
+        Line::List(events) => play_list(system, seen, events.as_slice(), out),
+        Line::Drive(drive) => play_drive(alloc, system, seen, drive, out),
+        Line::History => tell_history(system, out),
+    }
+}
+
+/// What a line asks for, another machine or something of the one that there is. It is then told.
+fn play<W: Write + Drop>(
+    alloc: Global,
+    played: &mut Played,
+    text: &str,
+    out: &mut W,
+) -> Result<()> {
+    let line = line_of(alloc, text)?;
+    if let Line::Machine(config, seen) = &line {
+        *played = opened(alloc, *config, *seen, out)?;
+        return Ok(());
+    }
+    match played {
+        Some((system, seen)) => play_on(alloc, system, seen, &line, out),
+        None => bail!("a machine is wanted before its events"),
     }
 }
 
@@ -68,7 +99,7 @@ fn play_all<R: AllocGlobal + Input, W: Write + Drop>(rt: &R, out: &mut W) -> Res
     let mut played = None;
     for text in BufReader::new(alloc, rt.reader())?.lines(alloc) {
         let text = text?;
-        played = play(alloc, played, text.as_str(), out)?;
+        play(alloc, &mut played, text.as_str(), out)?;
     }
     Ok(())
 }

@@ -14,29 +14,41 @@ pub(crate) struct Seen {
     pub lines: u64,
 }
 
-/// The answer by its name, a refusal by its number, a completion with its record.
-fn tell_answer<W: Write + Drop>(answer: &Answer, out: &mut W) -> Result<()> {
+/// The name of an answer.
+fn name_of_answer(answer: &Answer) -> &'static str {
     match answer {
-        Answer::Completed(record) => return tell_record(record, out),
-        Answer::Refused(refusal) => write!(out, "refused {}", refusal.number())?,
-        Answer::Issued => write!(out, "issued")?,
-        Answer::Requested => write!(out, "requested")?,
-        Answer::Waiting => write!(out, "waiting")?,
-        Answer::Idle => write!(out, "idle")?,
-        Answer::Delivered => write!(out, "delivered")?,
-        Answer::Dropped => write!(out, "dropped")?,
-        Answer::Held => write!(out, "held")?,
-        Answer::Started => write!(out, "started")?,
-        Answer::Evicted => write!(out, "evicted")?,
-        Answer::Recalled => write!(out, "recalled")?,
-        Answer::Advanced => write!(out, "advanced")?,
+        Answer::Completed(_) => "completed",
+        Answer::Refused(_) => "refused",
+        Answer::Issued => "issued",
+        Answer::Requested => "requested",
+        Answer::Waiting => "waiting",
+        Answer::Idle => "idle",
+        Answer::Delivered => "delivered",
+        Answer::Dropped => "dropped",
+        Answer::Held => "held",
+        Answer::Started => "started",
+        Answer::Evicted => "evicted",
+        Answer::Recalled => "recalled",
+        Answer::Advanced => "advanced",
     }
-    Ok(())
 }
 
-/// A completed operation, with what it received, its time and its number.
-pub(crate) fn tell_record<W: Write + Drop>(record: &Record, out: &mut W) -> Result<()> {
-    write!(out, "completed {} {} ", record.core, record.place)?;
+/// The answer by its name, a refusal with its number, a completion with its record.
+fn tell_answer<W: Write + Drop>(answer: &Answer, out: &mut W) -> Result<()> {
+    write!(out, "{}", name_of_answer(answer))?;
+    match answer {
+        Answer::Completed(record) => tell_completed(record, out),
+        Answer::Refused(refusal) => {
+            write!(out, " {}", refusal.number())?;
+            Ok(())
+        }
+        _ => Ok(()),
+    }
+}
+
+/// A completed operation: its core and place, the operation, what it received, its time and its number.
+pub(crate) fn tell_completed<W: Write + Drop>(record: &Record, out: &mut W) -> Result<()> {
+    write!(out, " {} {} ", record.core, record.place)?;
     tell_op(&record.op, out)?;
     if let Some(received) = record.received {
         write!(out, " received {received}")?;
@@ -55,17 +67,29 @@ pub(crate) fn tell_op<W: Write + Drop>(op: &Op, out: &mut W) -> Result<()> {
     Ok(())
 }
 
-/// A core: its open operation, with a mark if a request is out; the lines of its copies; the line that would go for each.
-fn tell_core<W: Write + Drop>(system: &System, core: u32, lines: u64, out: &mut W) -> Result<()> {
-    write!(out, "|")?;
+/// The numbers of lines.
+fn tell_lines<W: Write + Drop>(lines: &[LineNo], out: &mut W) -> Result<()> {
+    for line in lines {
+        write!(out, " {}", line.0)?;
+    }
+    Ok(())
+}
+
+/// The open operation of a core, with a mark if a request is out.
+fn tell_open<W: Write + Drop>(system: &System, core: u32, out: &mut W) -> Result<()> {
     if let Some((op, is_out)) = system.open_op(core) {
         tell_op(&op, out)?;
         write!(out, "{}", if is_out { "!" } else { "" })?;
     }
+    Ok(())
+}
+
+/// A core: its open operation; the lines of its copies; the line that would go for each.
+fn tell_core<W: Write + Drop>(system: &System, core: u32, lines: u64, out: &mut W) -> Result<()> {
+    write!(out, "|")?;
+    tell_open(system, core, out)?;
     write!(out, ":")?;
-    for line in &system.copies(core)? {
-        write!(out, " {}", line.0)?;
-    }
+    tell_lines(&system.copies(core)?, out)?;
     write!(out, ":")?;
     for line in 0..lines {
         if let Some(victim) = system.victim(core, LineNo(line)) {
@@ -88,9 +112,7 @@ fn tell_message<W: Write + Drop>(system: &System, message: MsgNo, out: &mut W) -
 fn tell_banks<W: Write + Drop>(system: &System, out: &mut W) -> Result<()> {
     for bank in 0..system.banks() {
         write!(out, "|")?;
-        for line in &system.entries(bank)? {
-            write!(out, " {}", line.0)?;
-        }
+        tell_lines(&system.entries(bank)?, out)?;
     }
     write!(out, "|")?;
     for message in &system.in_flight()? {

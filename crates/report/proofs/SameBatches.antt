@@ -14,7 +14,8 @@ use Rattle.worker_driver.specs.Batches.{policy_of_run}
 use Rattle.worker_driver.specs.Policies.{EndedBy}
 use Rattle.worker_driver.specs.declared.policy.Policy.{Policy}
 use Rattle.report.specs.Batches.{AreMade}
-use Rattle.report.specs.Runs.{AreFrom, IsRun, state_at, thread_acts}
+use Rattle.report.specs.Runs.{AreFrom, IsRun, state_at}
+use Rattle.sequential_machine.specs.Performed.{thread_acts}
 
 -- two runs of the same threads by one policy, from one machine, are one run
 abbrev pub OneRun : Type 0

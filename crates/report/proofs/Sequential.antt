@@ -10,7 +10,7 @@ use Rattle.physiological_order.specs.Order.{Arrangement, Follows, Legal, flat, o
 use Rattle.litmus_reader.specs.Litmus.{Litmus}
 use Rattle.litmus_reader.specs.Grammar.{IsTest}
 use Rattle.litmus_reader.specs.OpeningMemory.{words_opened, Words}
-use Rattle.litmus_reader.specs.ThreadSteps.{Thread, next_of, done_with}
+use Rattle.litmus_reader.specs.ThreadSteps.{Thread, next_of}
 use Rattle.litmus_reader.specs.Truth.{end_value}
 use Rattle.machine_table.specs.declared.config.Config.{Config}
 use Rattle.machine_table.specs.Machine.{Machine}
@@ -21,11 +21,10 @@ use Rattle.interleaving_core.specs.LookUps.{open_op, open_op_of}
 use Rattle.run_ends.specs.declared.ends.End.{End}
 use Rattle.run_ends.specs.declared.ends.End.TheVariants.{AllDone, Stalled, TurnsUsed, Exhausted, NoMemory}
 use Rattle.sequential_machine.specs.SequentialMachine.{IsOutcome, memory_opened}
-use Rattle.sequential_machine.specs.Performed.{ArePerformed, Performs as Does}
-use Rattle.trace_lines.specs.declared.steps.Step.TheVariants as step
+use Rattle.sequential_machine.specs.Performed.{ArePerformed, thread_acts}
 use Rattle.worker_driver.specs.Acts.{as_step, next_in}
-use Rattle.worker_driver.specs.Service.{AreServed, IsServed, Performs, rests, advances, does as performs}
-use Rattle.report.specs.Runs.{started, state_at, thread_acts, threads_from, values_from}
+use Rattle.worker_driver.specs.Service.{AreServed, IsServed, Performs}
+use Rattle.report.specs.Runs.{started, state_at, threads_from, values_from}
 
 -- ---- rows of threads, values and cores, by number
 
@@ -53,21 +52,6 @@ nothing_issued : (n k : ℕ) → slice_index_or (let lists : List (List Op) = re
 nothing_issued zero k = refl
 nothing_issued (suc n) zero = refl
 nothing_issued (suc n) (suc k) = nothing_issued n k
-
--- what a program of a thread gave, the thread did
-operation : (o : Option Op) (op : Op) → as_step o ≡ Some (step.Op op) → o ≡ Some op
-operation None op is = absurd cc
-operation (Some other) op is = cc
-
-never_advances : (o : Option Op) → as_step o ≡ Some step.Advance → ⊥
-never_advances None is = cc
-never_advances (Some op) is = cc
-
-does : (t : Thread) (rs : List Record) (last : Thread) → Performs thread_acts rs t last → Does t rs last
-does t rs last rests = refl
-does t rs last (advances waiting more) = absurd (never_advances (next_of t) waiting)
-does t rs last (performs {r = r} {rs = left} next more) =
-    (operation (next_of t) r.op next, does (done_with t r.received) left last more)
 
 -- a thread that gives no step has finished
 no_operation : (o : Option Op) → as_step o ≡ None → o ≡ None
@@ -107,8 +91,7 @@ module _ (test : Litmus) (config : Config) (m : Machine) (threads : List Thread)
         ∙ ap (λ i. Some (started test i)) (omega arith)) in (
           told.0,
           told.1,
-          subst (λ rs. Does (started test t) (of_core t rs) told.0) (sym served.records)
-              (does (started test t) (of_core t served.added) told.0 told.2),
+          subst (λ rs. Performs thread_acts (of_core t rs) (started test t) told.0) (sym served.records) told.2,
           next_there threads t told.0 told.1 (done t (subst (λ n. t < n) (sym cores) below)).1,
         );
   }

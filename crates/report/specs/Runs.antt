@@ -5,7 +5,7 @@ use Rattle.std.specs.FinMap.{empty}
 use Rattle.physiological_order.specs.StaleHits.{stale_count}
 use Rattle.litmus_reader.specs.Litmus.{Litmus}
 use Rattle.litmus_reader.specs.OpeningMemory.{words_opened}
-use Rattle.litmus_reader.specs.ThreadSteps.{Thread, opened, settled, next_of, done_with}
+use Rattle.litmus_reader.specs.ThreadSteps.{Thread, opened, settled}
 use Rattle.litmus_reader.specs.Truth.{end_value}
 use Rattle.machine_table.specs.declared.config.Config.{Config}
 use Rattle.machine_table.specs.Machine.{Machine}
@@ -14,13 +14,9 @@ use Rattle.report_parts.specs.Orders.{LeadsTo}
 use Rattle.run_ends.specs.declared.ends.End.{End}
 use Rattle.run_ends.specs.declared.ends.End.TheVariants.{AllDone}
 use Rattle.run_ends.specs.declared.ends.RunEnd.{RunEnd}
-use Rattle.worker_driver.specs.Acts.{Acts, as_step}
+use Rattle.sequential_machine.specs.Performed.{thread_acts}
 use Rattle.worker_driver.specs.declared.policy.Policy.{Policy}
 use Rattle.worker_driver.specs.Batches.{policy_of_run}
-
--- what the threads of a test do
-abbrev pub thread_acts : Acts Thread
-thread_acts = record { next = λ thread. as_step (next_of thread); done = done_with }
 
 -- a thread as the test opens it, and so many of them from this number on
 abbrev pub started : Litmus → ℕ → Thread

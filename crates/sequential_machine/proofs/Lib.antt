@@ -1,3 +1,4 @@
+mod Doing
 mod Tables
 mod ThreadSteps
 mod Runs

@@ -15,8 +15,9 @@ use Rattle.litmus_reader.specs.ThreadSteps.{Thread, or_zero, value_in, next_of}
 use Rattle.litmus_reader.specs.Truth.{register_in, end_value}
 use Rattle.litmus_reader.specs.Grammar.{IsTest}
 use Rattle.sequential_machine.specs.SequentialMachine.{State, memory_opened, value_at, IsOutcome}
-use Rattle.sequential_machine.specs.Performed.{Performs, ArePerformed}
+use Rattle.sequential_machine.specs.Performed.{ArePerformed}
 use Rattle.sequential_machine.specs.Threads.{ThreadIsAt}
+use Rattle.sequential_machine.proofs.Doing.{Does, does}
 use Rattle.sequential_machine.proofs.ThreadSteps.{none_left}
 use Rattle.sequential_machine.proofs.Runs.{start, whole}
 use Rattle.sequential_machine.proofs.Places.{each_permutation, same_of_core}
@@ -53,12 +54,13 @@ module _ (test : Litmus) (issued : ℕ → List Op) (records arranged : List Rec
   found : (t : ℕ) → t < test.threads → slice_get threads t ≡ Some (thread_of threads t)
   found t lt = let p = performed.performed t lt in p.1 ∙ sym (ap (λ (o : Option Thread). Some (or_none o)) p.1)
 
-  in_place : (t : ℕ) → t < test.threads → Performs (start test t) (of_core t arranged) (thread_of threads t)
+  in_place : (t : ℕ) → t < test.threads → Does (start test t) (of_core t arranged) (thread_of threads t)
   in_place t lt =
       let p = performed.performed t lt in
-      subst (λ (rs : List Record). Performs (start test t) rs (thread_of threads t))
+      subst (λ (rs : List Record). Does (start test t) rs (thread_of threads t))
       (same_of_core t (issued t) records arranged arrangement.same_members (performed.in_order t lt) (order t))
-      (subst (λ (q : Thread). Performs (start test t) (of_core t records) q) (sym (ap or_none p.1)) p.2)
+      (subst (λ (q : Thread). Does (start test t) (of_core t records) q) (sym (ap or_none p.1))
+      (does (start test t) (of_core t records) p.0 p.2))
 
   at_end : (t : ℕ) → t < test.threads → next_of (thread_of threads t) ≡ None
   at_end t lt = let p = performed.performed t lt in ap (λ (o : Option Thread). next_of (or_none o)) p.1 ∙ p.3

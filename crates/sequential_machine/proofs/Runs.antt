@@ -10,7 +10,7 @@ use Rattle.litmus_reader.specs.Litmus.{Litmus}
 use Rattle.litmus_reader.specs.ThreadSteps.{Thread, settled, done_with}
 use Rattle.sequential_machine.specs.SequentialMachine.{State, cells_of, registers_opened, memory_opened, initial}
 use Rattle.sequential_machine.specs.SequentialMachine.{with_at, Steps, none}
-use Rattle.sequential_machine.specs.Performed.{Performs}
+use Rattle.sequential_machine.proofs.Doing.{Does}
 use Rattle.sequential_machine.proofs.Tables.{everywhere}
 use Rattle.sequential_machine.specs.Threads.{ThreadIsAt}
 use Rattle.sequential_machine.proofs.ThreadSteps.{joined, settles, performs}
@@ -41,7 +41,7 @@ both_same x y xs ys e = (cc, cc)
 
 pub runs : (n : ℕ) (rs : List Record) (s : State) (q last : ℕ → Thread) → ((t : ℕ) → t < n → ThreadIsAt s t (q t)) →
     Each (λ r. r.core < n) rs →
-    ((t : ℕ) → t < n → Performs (q t) (of_core t rs) (last t)) → ReceivesAsReplayed s.memory rs →
+    ((t : ℕ) → t < n → Does (q t) (of_core t rs) (last t)) → ReceivesAsReplayed s.memory rs →
     Runs n s (replay_end s.memory (map (λ r. r.op) rs)) last
 runs n [] s q last stand there performed values =
     record {
@@ -53,8 +53,8 @@ runs n [] s q last stand there performed values =
     }
 runs n (r ∷ rs) s q last stand there performed values =
     let c = r.core in
-    let p : Performs (q c) (r ∷ of_core c rs) (last c) =
-    subst (λ (xs : List Record). Performs (q c) xs (last c)) (first_of_core r rs) (performed c there.0) in
+    let p : Does (q c) (r ∷ of_core c rs) (last c) =
+    subst (λ (xs : List Record). Does (q c) xs (last c)) (first_of_core r rs) (performed c there.0) in
     let v = both_same (flat_received s.memory r.op) r.received (replay (flat_after s.memory r.op)
     (map (λ (x : Record). x.op) rs)) (map (λ (x : Record). x.received) rs) values in
     let after = done_with (q c) r.received in
@@ -63,8 +63,8 @@ runs n (r ∷ rs) s q last stand there performed values =
     (everywhere (λ t x. t < n → ThreadIsAt g.end t x) q c after (λ lt. g.stands) (λ u ne lt. still s g.end u (q u)
     (g.others u ne) (stand u lt)))
     there.1
-    (everywhere (λ t x. t < n → Performs x (of_core t rs) (last t)) q c after (λ lt. p.1)
-    (λ u ne lt. subst (λ (xs : List Record). Performs (q u) xs (last u)) (none_of_core u r rs ne) (performed u lt)))
+    (everywhere (λ t x. t < n → Does x (of_core t rs) (last t)) q c after (λ lt. p.1)
+    (λ u ne lt. subst (λ (xs : List Record). Does (q u) xs (last u)) (none_of_core u r rs ne) (performed u lt)))
     (subst (λ (m : Memory). ReceivesAsReplayed m rs) (sym g.memory) v.1) in
     record {
       end = i.end;
@@ -116,7 +116,7 @@ opens test (suc n) =
 
 -- from the opening
 pub whole : (test : Litmus) (n : ℕ) (rs : List Record) (last : ℕ → Thread) → Each (λ r. r.core < n) rs →
-    ((t : ℕ) → t < n → Performs (start test t) (of_core t rs) (last t)) → ReceivesAsReplayed (memory_opened test) rs →
+    ((t : ℕ) → t < n → Does (start test t) (of_core t rs) (last t)) → ReceivesAsReplayed (memory_opened test) rs →
     Runs n (initial test) (replay_end (memory_opened test) (map (λ r. r.op) rs)) last
 whole test n rs last there performed values =
     let o = (opens test n).runs in

@@ -11,7 +11,7 @@ use Rattle.machine_theorem.specs.Consistency.{IsConsistent}
 use Rattle.machine_theorem.proofs.Lemmas.{after_all_same}
 use Rattle.worker_driver.specs.Policies.{EndedBy}
 use Rattle.worker_driver.specs.Service.{AreServed}
-use Rattle.report.specs.Runs.{thread_acts}
+use Rattle.sequential_machine.specs.Performed.{thread_acts}
 use Rattle.report.proofs.OnOk.{on_ok}
 use Rattle.report.proofs.Rows.{threads_count}
 use Rattle.report.proofs.Sequential.{has_outcome}

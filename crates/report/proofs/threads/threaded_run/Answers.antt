@@ -9,7 +9,8 @@ use Rattle.machine_table.specs.Machine.{Machine}
 use Rattle.machine_table.specs.Opening.{at_start}
 use Rattle.thread_runs.specs.ThreadRuns.{IsThreadRun, machine_of}
 use Rattle.worker_driver.specs.Service.{AreServed}
-use Rattle.report.specs.Runs.{Tells, thread_acts, threads_from}
+use Rattle.report.specs.Runs.{Tells, threads_from}
+use Rattle.sequential_machine.specs.Performed.{thread_acts}
 use Rattle.report.proofs.Rows.{threads_count}
 use Rattle.report.proofs.Sequential.{has_outcome}
 use Rattle.report.proofs.threads.threaded_run.Goals as goal

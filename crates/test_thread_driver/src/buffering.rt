@@ -1,12 +1,16 @@
 //! Store buffering that workers drive, with each number of turns up to 40.
+ghost use Rattle.mailboxes.specs.RunParts.{Parts};
+
 use crate::checks::{Told, begin_so, is_legal};
-use crate::driver::{Case, drive_case};
+use crate::driver::{Case, Driven, drive_case};
 use machine_table::Config;
 use physiological_order::Record;
 use run_ends::End;
 use schedule_cases::{On, USUAL};
 use shared_jobs::Free;
+use std::alloc::Global;
 use std::test::Fail;
+use std::thread::Threads;
 
 /// Each core stores to a word, and then loads the word of the other.
 const BUFFERING: Case = Case {
@@ -30,6 +34,35 @@ const BY_ONE: &[Told] = &[
     (1, 1, On::Load(0), Some(1), 1),
 ];
 
+// Whether a machine ended so, and left so many of the records that one worker's seats complete.
+fn left_first(alloc: Global, driven: &Driven, completed: usize, end: End) -> Result<bool, Fail>
+    requires { Parts driven.now.run }
+{
+    let records = driven.run.records();
+    Ok(
+        driven.end == end
+            && records.len() == completed
+            && begin_so(records, BY_ONE)
+            && is_legal(alloc, &driven.run)?,
+    )
+}
+
+// Whether one worker's seats, which have so many turns each, end so and complete so many of their records.
+fn completes<R: Threads + Sync>(
+    rt: &R,
+    alloc: Global,
+    turn_limit: u32,
+    completed: usize,
+    end: End,
+) -> Result<bool, Fail> {
+    let case = Case {
+        turn_limit,
+        ..BUFFERING
+    };
+    let driven = drive_case(rt, alloc, &case, 1, &Free)?;
+    left_first(alloc, &driven, completed, end)
+}
+
 #[test]
 fn one_worker_completes_store_buffering_so(rt: HostRuntime) -> Result<(), Fail> {
     let ranges = [
@@ -41,16 +74,8 @@ fn one_worker_completes_store_buffering_so(rt: HostRuntime) -> Result<(), Fail> 
     ];
     for (first, last, completed, end) in ranges {
         for turn_limit in first..=last {
-            let case = Case {
-                turn_limit,
-                ..BUFFERING
-            };
-            let driven = drive_case(&rt, rt.alloc(), &case, 1, &Free)?;
-            let records = driven.run.records();
-            assert_eq!(rt; driven.end, end, "{turn_limit} turns");
-            assert_eq!(rt; records.len(), completed, "{turn_limit} turns");
-            assert!(rt; begin_so(records, BY_ONE), "{turn_limit} turns");
-            assert!(rt; is_legal(rt.alloc(), &driven.run)?, "{turn_limit} turns");
+            let is_right = completes(&rt, rt.alloc(), turn_limit, completed, end)?;
+            assert!(rt; is_right, "{turn_limit} turns");
         }
     }
     Ok(())
@@ -70,20 +95,36 @@ fn two_received_zero(records: &[Record]) -> bool {
     false
 }
 
+// Whether what a machine left is legal, and all there is if all is done.
+fn left_legal(alloc: Global, driven: &Driven) -> Result<bool, Fail>
+    requires { Parts driven.now.run }
+{
+    let records = driven.run.records();
+    Ok(
+        records.len() <= 4
+            && (driven.end == End::AllDone) == (records.len() == 4)
+            && !two_received_zero(records)
+            && is_legal(alloc, &driven.run)?,
+    )
+}
+
+// Whether two workers leave legal records, whose seats have so many turns each.
+fn are_legal<R: Threads + Sync>(rt: &R, alloc: Global, turn_limit: u32) -> Result<bool, Fail> {
+    let case = Case {
+        turn_limit,
+        ..BUFFERING
+    };
+    let driven = drive_case(rt, alloc, &case, 2, &Free)?;
+    left_legal(alloc, &driven)
+}
+
 #[test]
 fn two_workers_leave_legal_records_of_store_buffering(rt: HostRuntime) -> Result<(), Fail> {
     for turn_limit in 0..=40 {
-        let case = Case {
-            turn_limit,
-            ..BUFFERING
-        };
-        let driven = drive_case(&rt, rt.alloc(), &case, 2, &Free)?;
-        let records = driven.run.records();
-        let is_done = records.len() == 4;
-        assert!(rt; is_legal(rt.alloc(), &driven.run)?, "{turn_limit} turns");
-        assert!(rt; records.len() <= 4, "{turn_limit} turns");
-        assert_eq!(rt; driven.end == End::AllDone, is_done, "{turn_limit} turns");
-        assert!(rt; !two_received_zero(records), "{turn_limit} turns");
+        assert!(rt;
+            are_legal(&rt, rt.alloc(), turn_limit)?,
+            "{turn_limit} turns"
+        );
     }
     Ok(())
 }

@@ -1,14 +1,28 @@
 //! What is looked at of a machine that was driven: its records, what its cores were issued, and the order of its seats.
+ghost use Rattle.std.specs.Prelude.{◌<◌, ◌≤◌};
 ghost use Rattle.mailboxes.specs.RunParts.{Parts};
 
+use crate::driver::{Case, Driven, drive_case};
 use mailboxes::Run;
 use physiological_order::{Memory, Op, Record, Verdict, check};
+use run_ends::End;
 use schedule_cases::{On, op};
+use shared_jobs::{Free, Gate};
 use std::alloc::Global;
 use std::test::Fail;
+use std::thread::Threads;
 
 /// What a record says: its core, its place there, its operation, what it received, and its time.
 pub(crate) type Told = (u32, u32, On, Option<u64>, u64);
+
+/// What comes of a case: the end, of how many steps of each program the operations were issued, at most, and how many
+/// steps each has left.
+#[derive(Clone, Copy)]
+pub(crate) struct Outcome {
+    pub(crate) end: End,
+    pub(crate) issued: usize,
+    pub(crate) left: &'static [usize],
+}
 
 fn is_record(record: &Record, told: &Told, number: u64) -> bool {
     let (core, place, on, received, ts) = *told;
@@ -100,4 +114,43 @@ pub(crate) fn are_in_order(run: &Run) -> bool {
         }
     }
     true
+}
+
+/// Whether this came of a case.
+pub(crate) fn came_to(driven: &Driven, case: &Case, outcome: &Outcome) -> bool
+    requires { Parts driven.now.run }
+{
+    driven.end == outcome.end
+        && were_issued(&driven.run, case.programs, outcome.issued)
+        && driven.left.as_slice() == outcome.left
+}
+
+/// Whether this comes of a case that so many workers drive, and these are all records.
+pub(crate) fn comes_to<R: Threads + Sync>(
+    rt: &R,
+    alloc: Global,
+    case: &Case,
+    workers: u32,
+    outcome: &Outcome,
+    records: &[Told],
+) -> Result<bool, Fail>
+    requires { (0 < workers) × (workers ≤ 16) }
+{
+    let driven = drive_case(rt, alloc, case, workers, &Free)?;
+    Ok(came_to(&driven, case, outcome) && are_records(driven.run.records(), records))
+}
+
+/// Whether a case ends so that so many workers drive by a gate.
+pub(crate) fn ends_so<R: Threads + Sync, G: Gate + Sync>(
+    rt: &R,
+    alloc: Global,
+    case: &Case,
+    workers: u32,
+    gate: &G,
+    end: End,
+) -> Result<bool, Fail>
+    requires { (0 < workers) × (workers ≤ 16) }
+{
+    let driven = drive_case(rt, alloc, case, workers, gate)?;
+    Ok(driven.end == end)
 }

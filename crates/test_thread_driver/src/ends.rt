@@ -1,10 +1,9 @@
 //! How machines end that workers drive.
-use crate::checks::{Told, are_records, were_issued};
-use crate::driver::{Case, drive_case};
+use crate::checks::{Outcome, Told, comes_to};
+use crate::driver::Case;
 use machine_table::Config;
 use run_ends::End;
 use schedule_cases::{On, USUAL};
-use shared_jobs::Free;
 use std::test::Fail;
 
 /// One core and one bank.
@@ -17,11 +16,51 @@ pub(crate) const STORE: Case = Case {
     turn_limit: 1,
 };
 
+/// What comes of the store when it is issued and not done.
+const OPEN: Outcome = Outcome {
+    end: End::TurnsUsed,
+    issued: 1,
+    left: &[1],
+};
+
+/// What comes of it when it is done, and its record.
+const DONE: Outcome = Outcome {
+    end: End::AllDone,
+    issued: 1,
+    left: &[0],
+};
+
+const STORED: &[Told] = &[(0, 0, On::Store(0, 1), None, 1)];
+
+/// After how many turns each seat has had, what comes of it, and what it completes. The grant is sent in the fifth turn
+/// of the bank, and the core has it at the end of its own sixth.
+const STORES: &[(u32, Outcome, &[Told])] = &[(6, OPEN, &[]), (7, DONE, STORED)];
+
+/// The store without turns, and what comes of it.
+const NO_TURN: Case = Case {
+    turn_limit: 0,
+    ..STORE
+};
+
+const UNTOUCHED: Outcome = Outcome { issued: 0, ..OPEN };
+
 /// Two cores without steps.
 pub(crate) const NOTHING: Case = Case {
     config: Config { cores: 2, ..USUAL },
     programs: &[&[], &[]],
     turn_limit: 1_000,
+};
+
+/// They have no turns either, and come to the same.
+const NEITHER: Case = Case {
+    turn_limit: 0,
+    ..NOTHING
+};
+
+const ALL_DONE: Outcome = Outcome {
+    end: End::AllDone,
+    issued: 0,
+    left: &[0, 0],
 };
 
 /// One time is left: the first store of each core takes it. Core 0 can't store once more.
@@ -46,7 +85,14 @@ pub(crate) const LAST_TIME: Case = Case {
     turn_limit: 1_000,
 };
 
-/// All that one worker's seats complete of it. The bank serves core 0 first, and core 1 four turns later.
+/// What comes of it if one worker has all seats, and all that these complete. The bank serves core 0 first, and core 1
+/// four turns later.
+const NO_TIME: Outcome = Outcome {
+    end: End::Exhausted,
+    issued: 7,
+    left: &[1, 0],
+};
+
 const AT_THE_LAST_TIME: &[Told] = &[
     (0, 0, On::Store(0, 1), None, u64::MAX),
     (0, 1, On::Load(0), Some(1), u64::MAX),
@@ -70,6 +116,12 @@ pub(crate) const NO_LEASE: Case = Case {
     turn_limit: 1_000,
 };
 
+/// What comes of it.
+const NOT_GRANTED: Outcome = Outcome {
+    end: End::Exhausted,
+    ..OPEN
+};
+
 /// An advance, and then a load.
 const ADVANCE_AND_LOAD: Case = Case {
     config: ONE,
@@ -77,110 +129,83 @@ const ADVANCE_AND_LOAD: Case = Case {
     turn_limit: 0,
 };
 
+/// After how many turns what comes of it. The advance is the first step, and the load, which is left open, the second.
+const ADVANCED: &[(u32, Outcome)] = &[
+    (
+        0,
+        Outcome {
+            issued: 0,
+            left: &[2],
+            ..OPEN
+        },
+    ),
+    (1, OPEN),
+    (2, Outcome { issued: 2, ..OPEN }),
+];
+
 #[test]
 fn a_store_is_issued_in_the_first_turn_and_left_open(rt: HostRuntime) -> Result<(), Fail> {
-    for workers in [1, 2, 4] {
-        let driven = drive_case(&rt, rt.alloc(), &STORE, workers, &Free)?;
-        assert_eq!(rt; driven.end, End::TurnsUsed, "{workers} workers");
-        assert!(rt;
-            were_issued(&driven.run, STORE.programs, 1),
-            "{workers} workers"
-        );
-        assert_eq!(rt; driven.run.records().len(), 0, "{workers} workers");
-        assert_eq!(rt; driven.left.as_slice(), [1].as_slice(), "{workers} workers");
+    for workers in 1..=4 {
+        let is_right = comes_to(&rt, rt.alloc(), &STORE, workers, &OPEN, &[])?;
+        assert!(rt; is_right, "{workers} workers");
     }
     Ok(())
 }
 
 #[test]
 fn without_turns_nothing_is_issued(rt: HostRuntime) -> Result<(), Fail> {
-    let case = Case {
-        turn_limit: 0,
-        ..STORE
-    };
-    for workers in [1, 2, 4] {
-        let driven = drive_case(&rt, rt.alloc(), &case, workers, &Free)?;
-        assert_eq!(rt; driven.end, End::TurnsUsed, "{workers} workers");
-        assert_eq!(rt; driven.run.issued(0).len(), 0, "{workers} workers");
-        assert_eq!(rt; driven.left.as_slice(), [1].as_slice(), "{workers} workers");
+    for workers in 1..=4 {
+        let is_right = comes_to(&rt, rt.alloc(), &NO_TURN, workers, &UNTOUCHED, &[])?;
+        assert!(rt; is_right, "{workers} workers");
     }
     Ok(())
 }
 
 #[test]
 fn programs_without_steps_are_all_done(rt: HostRuntime) -> Result<(), Fail> {
-    for turn_limit in [0, 1_000] {
-        let case = Case {
-            turn_limit,
-            ..NOTHING
-        };
-        for workers in [1, 2, 3, 16] {
-            let driven = drive_case(&rt, rt.alloc(), &case, workers, &Free)?;
-            assert_eq!(rt; driven.end, End::AllDone, "{workers} workers");
-            assert_eq!(rt; driven.run.records().len(), 0, "{workers} workers");
-            assert!(rt;
-                were_issued(&driven.run, case.programs, 0),
-                "{workers} workers"
-            );
-        }
+    for workers in 1..=16 {
+        let is_right = comes_to(&rt, rt.alloc(), &NOTHING, workers, &ALL_DONE, &[])?
+            && comes_to(&rt, rt.alloc(), &NEITHER, workers, &ALL_DONE, &[])?;
+        assert!(rt; is_right, "{workers} workers");
     }
     Ok(())
 }
 
-// The grant is sent in the fifth turn of the bank, and the core has it at the end of its own sixth.
 #[test]
 fn a_first_store_is_done_in_the_seventh_turn(rt: HostRuntime) -> Result<(), Fail> {
-    for (turn_limit, end, completed) in [(6, End::TurnsUsed, 0), (7, End::AllDone, 1)] {
+    for (turn_limit, outcome, records) in STORES {
         let case = Case {
-            turn_limit,
+            turn_limit: *turn_limit,
             ..STORE
         };
-        let driven = drive_case(&rt, rt.alloc(), &case, 1, &Free)?;
-        assert_eq!(rt; driven.end, end, "{turn_limit} turns");
-        assert_eq!(rt; driven.run.records().len(), completed, "{turn_limit} turns");
-        assert!(rt;
-            were_issued(&driven.run, case.programs, 1),
-            "{turn_limit} turns"
-        );
+        let is_right = comes_to(&rt, rt.alloc(), &case, 1, outcome, records)?;
+        assert!(rt; is_right, "{turn_limit} turns");
     }
     Ok(())
 }
 
 #[test]
 fn a_store_after_the_last_time_is_the_end(rt: HostRuntime) -> Result<(), Fail> {
-    let driven = drive_case(&rt, rt.alloc(), &LAST_TIME, 1, &Free)?;
-    assert_eq!(rt; driven.end, End::Exhausted);
-    assert!(rt; are_records(driven.run.records(), AT_THE_LAST_TIME));
-    assert_eq!(rt; driven.left.as_slice(), [1, 0].as_slice());
-    assert!(rt; were_issued(&driven.run, LAST_TIME.programs, 7));
+    let is_right = comes_to(&rt, rt.alloc(), &LAST_TIME, 1, &NO_TIME, AT_THE_LAST_TIME)?;
+    assert!(rt; is_right);
     Ok(())
 }
 
 #[test]
 fn a_lease_after_the_last_time_is_the_end(rt: HostRuntime) -> Result<(), Fail> {
-    let driven = drive_case(&rt, rt.alloc(), &NO_LEASE, 1, &Free)?;
-    assert_eq!(rt; driven.end, End::Exhausted);
-    assert_eq!(rt; driven.run.records().len(), 0);
-    assert_eq!(rt; driven.left.as_slice(), [1].as_slice());
-    assert!(rt; were_issued(&driven.run, NO_LEASE.programs, 1));
+    assert!(rt; comes_to(&rt, rt.alloc(), &NO_LEASE, 1, &NOT_GRANTED, &[])?);
     Ok(())
 }
 
 #[test]
 fn after_an_advance_nothing_is_issued_in_the_same_turn(rt: HostRuntime) -> Result<(), Fail> {
-    for (turn_limit, issued, left) in [(0, 0, 2), (1, 0, 1), (2, 1, 1)] {
+    for (turn_limit, outcome) in ADVANCED {
         let case = Case {
-            turn_limit,
+            turn_limit: *turn_limit,
             ..ADVANCE_AND_LOAD
         };
-        let driven = drive_case(&rt, rt.alloc(), &case, 1, &Free)?;
-        assert_eq!(rt; driven.end, End::TurnsUsed, "{turn_limit} turns");
-        assert_eq!(rt; driven.run.issued(0).len(), issued, "{turn_limit} turns");
-        assert_eq!(rt;
-            driven.left.as_slice(),
-            [left].as_slice(),
-            "{turn_limit} turns"
-        );
+        let is_right = comes_to(&rt, rt.alloc(), &case, 1, outcome, &[])?;
+        assert!(rt; is_right, "{turn_limit} turns");
     }
     Ok(())
 }

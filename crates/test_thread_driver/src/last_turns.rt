@@ -1,11 +1,15 @@
 //! Programs whose last step is done in the last turn that a seat may have.
-use crate::checks::were_issued;
-use crate::driver::{Case, drive_case};
+ghost use Rattle.std.specs.Prelude.{◌<◌, ◌≤◌};
+
+use crate::checks::{Outcome, Told, comes_to};
+use crate::driver::Case;
+use crate::times::{AFTER_EVICTIONS, BEFORE_THE_LAST};
 use machine_table::Config;
 use run_ends::End;
 use schedule_cases::{On, USUAL};
-use shared_jobs::Free;
+use std::alloc::Global;
 use std::test::Fail;
+use std::thread::Threads;
 
 /// Two cores and one bank. Core 1 has nothing to do. One of two workers has core 0 and the bank, so nobody else says in
 /// which of their turns a step is done.
@@ -53,30 +57,55 @@ const EVICTIONS: Case = Case {
     turn_limit: 33,
 };
 
-// The case with one turn less ends before its last step is done.
+/// Each with what it completes, and what it completes with one turn less.
+const CASES: &[(Case, &[Told], &[Told])] = &[
+    (ADVANCES, &[], &[]),
+    (STORE, &[(0, 0, On::Store(0, 1), None, 1)], &[]),
+    (ADVANCE_AND_LOAD, &[(0, 0, On::Load(0), Some(0), 1)], &[]),
+    (EVICTIONS, AFTER_EVICTIONS, BEFORE_THE_LAST),
+];
+
+/// What comes of each, and of each with one turn less, which ends before its last step is done.
+const DONE: Outcome = Outcome {
+    end: End::AllDone,
+    issued: 5,
+    left: &[0, 0],
+};
+
+const UNDONE: Outcome = Outcome {
+    end: End::TurnsUsed,
+    issued: 5,
+    left: &[1, 0],
+};
+
+// Whether a case that so many workers drive is done in its last turn, and not before.
+fn is_in_time<R: Threads + Sync>(
+    rt: &R,
+    alloc: Global,
+    workers: u32,
+    case: &Case,
+    done: &[Told],
+    undone: &[Told],
+) -> Result<bool, Fail>
+    requires { (0 < workers) × (workers ≤ 16) }
+{
+    let fewer = Case {
+        turn_limit: case.turn_limit.checked_sub(1).unwrap_or(0),
+        ..*case
+    };
+    Ok(
+        comes_to(rt, alloc, case, workers, &DONE, done)?
+            && comes_to(rt, alloc, &fewer, workers, &UNDONE, undone)?,
+    )
+}
+
 #[test]
 fn a_step_of_the_last_turn_is_done(rt: HostRuntime) -> Result<(), Fail> {
-    for all in [ADVANCES, STORE, ADVANCE_AND_LOAD, EVICTIONS] {
-        let fewer = all.turn_limit.checked_sub(1).unwrap_or(0);
-        let ends = [
-            (all.turn_limit, End::AllDone, 0),
-            (fewer, End::TurnsUsed, 1),
-        ];
-        for (turn_limit, end, left) in ends {
-            let case = Case { turn_limit, ..all };
-            for workers in [1, 2] {
-                let driven = drive_case(&rt, rt.alloc(), &case, workers, &Free)?;
-                assert_eq!(rt; driven.end, end, "{workers} workers, {turn_limit} turns");
-                assert_eq!(rt;
-                    driven.left.as_slice(),
-                    [left, 0].as_slice(),
-                    "{workers} workers, {turn_limit} turns"
-                );
-                assert!(rt;
-                    were_issued(&driven.run, case.programs, 5),
-                    "{workers} workers, {turn_limit} turns"
-                );
-            }
+    for (case, done, undone) in CASES {
+        let turns = case.turn_limit;
+        for workers in 1..=2 {
+            let is_right = is_in_time(&rt, rt.alloc(), workers, case, done, undone)?;
+            assert!(rt; is_right, "{workers} workers, {turns} turns");
         }
     }
     Ok(())

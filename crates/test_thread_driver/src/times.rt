@@ -1,11 +1,10 @@
 //! At which times operations complete that workers drive.
-use crate::checks::{Told, are_records, were_issued};
-use crate::driver::{Case, drive_case};
+use crate::checks::{Outcome, Told, comes_to};
+use crate::driver::Case;
 use crate::ends::ONE;
 use machine_table::Config;
 use run_ends::End;
 use schedule_cases::On;
-use shared_jobs::Free;
 use std::test::Fail;
 
 /// The bank has one place: each load but the first waits until the line before it has left, and reads after its lease.
@@ -61,7 +60,7 @@ const ONE_COPY: Case = Case {
     turn_limit: 1_000,
 };
 
-const AFTER_EVICTIONS: &[Told] = &[
+pub(crate) const AFTER_EVICTIONS: &[Told] = &[
     (0, 0, On::Load(0), Some(0), 0),
     (0, 1, On::Load(1), Some(0), 0),
     (0, 2, On::Store(2, 5), None, 1),
@@ -69,19 +68,32 @@ const AFTER_EVICTIONS: &[Told] = &[
     (0, 4, On::Load(2), Some(5), 1),
 ];
 
+/// The first four of these.
+pub(crate) const BEFORE_THE_LAST: &[Told] = &[
+    (0, 0, On::Load(0), Some(0), 0),
+    (0, 1, On::Load(1), Some(0), 0),
+    (0, 2, On::Store(2, 5), None, 1),
+    (0, 3, On::Load(0), Some(0), 1),
+];
+
+const CASES: &[(Case, &[Told])] = &[
+    (ONE_PLACE, AFTER_LEASES),
+    (ADVANCES, AFTER_ADVANCES),
+    (ONE_COPY, AFTER_EVICTIONS),
+];
+
+/// What comes of each.
+const ALL_DONE: Outcome = Outcome {
+    end: End::AllDone,
+    issued: 5,
+    left: &[0],
+};
+
 #[test]
 fn one_worker_completes_operations_at_these_times(rt: HostRuntime) -> Result<(), Fail> {
-    let cases = [
-        (ONE_PLACE, AFTER_LEASES),
-        (ADVANCES, AFTER_ADVANCES),
-        (ONE_COPY, AFTER_EVICTIONS),
-    ];
-    for (case, records) in cases {
-        let driven = drive_case(&rt, rt.alloc(), &case, 1, &Free)?;
-        assert_eq!(rt; driven.end, End::AllDone, "{records:?}");
-        assert!(rt; are_records(driven.run.records(), records), "{records:?}");
-        assert!(rt; were_issued(&driven.run, case.programs, 5), "{records:?}");
-        assert_eq!(rt; driven.left.as_slice(), [0].as_slice(), "{records:?}");
+    for (case, records) in CASES {
+        let is_right = comes_to(&rt, rt.alloc(), case, 1, &ALL_DONE, records)?;
+        assert!(rt; is_right, "{records:?}");
     }
     Ok(())
 }

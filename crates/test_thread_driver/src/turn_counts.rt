@@ -50,6 +50,16 @@ impl TurnCounts {
         Some(ended)
     }
 
+    /// Whether the first seats had so many turns each.
+    pub(crate) fn are(&self, counts: &[u64]) -> bool {
+        for seat in 0..counts.len() {
+            if self.of(seat) != Some(counts[seat]) {
+                return false;
+            }
+        }
+        true
+    }
+
     // Counts a wrong turn, if this one is.
     fn tell(&self, is_right: bool) {
         if !is_right {

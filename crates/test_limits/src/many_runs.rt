@@ -1,6 +1,6 @@
 //! Reports of many runs.
-use crate::runs::gives;
-use litmus_reader::{Test, read};
+use crate::runs::{gives, test_of};
+use litmus_reader::Test;
 use machine_table::Counts;
 use report_text::litmus_text;
 use run_ends::{End, RunEnd};
@@ -142,16 +142,20 @@ fn wanted(alloc: Global) -> Result<String, AllocError> {
     Ok(text)
 }
 
-// Whether the report on a thousand runs of a test is the wanted one.
-fn is_reported(alloc: Global, test: &Test) -> Result<bool, AllocError> {
+// Whether the report on the thousand runs of a test is the wanted one.
+fn reports(alloc: Global, test: &Test) -> Result<bool, Fail> {
     let runs = many(alloc, test)?;
     let text = litmus_text(alloc, test, &runs)?;
     Ok(runs.len() == 1000 && text.as_slice() == wanted(alloc)?.as_bytes())
 }
 
+fn is_reported(alloc: Global) -> Result<bool, Fail> {
+    let test = test_of(alloc, ONE_WORD)?;
+    reports(alloc, &test)
+}
+
 #[test]
 fn many_end_states(rt: HostRuntime) -> Result<(), Fail> {
-    let test = read(rt.alloc(), ONE_WORD).ok().ok_or("it is read")?;
-    assert!(rt; is_reported(rt.alloc(), &test)?);
+    assert!(rt; is_reported(rt.alloc())?);
     Ok(())
 }

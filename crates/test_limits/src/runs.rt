@@ -1,9 +1,10 @@
 //! Texts that are read, and texts that are run to their reports.
 use byte_streams::{FromRead, ToWrite};
-use litmus_reader::{Kind, LitmusError, read};
+use litmus_reader::{Kind, LitmusError, Test, read};
 use report::{Done, LitmusOptions, RunError, run_litmus};
 use std::alloc::Global;
 use std::io::{Read, Write};
+use std::test::Fail;
 use std::thread::Threads;
 
 /// The fault of a text that is too long.
@@ -18,6 +19,11 @@ pub(crate) fn options(runs: u64) -> LitmusOptions {
         runs,
         ..LitmusOptions::DEFAULT
     }
+}
+
+/// The test that a text is read as.
+pub(crate) fn test_of(alloc: Global, text: &[u8]) -> Result<Test, Fail> {
+    Ok(read(alloc, text).ok().ok_or("it is read")?)
 }
 
 // The line and the kind of a text's fault, where it is refused.

@@ -1,11 +1,11 @@
 //! Each limit of a text, reached and passed by one.
-use crate::runs::{TOO_LARGE, fails, gives, is_read, is_refused};
+use crate::runs::{TOO_LARGE, fails, gives, is_read, is_refused, test_of};
 use crate::texts::{
     BYTES, put_registers, with_atoms, with_bytes, with_cells, with_lines, with_locations,
     with_locations_seen, with_name, with_parentheses, with_registers, with_rest, with_rows,
     with_threads,
 };
-use litmus_reader::{Kind, Test, read};
+use litmus_reader::{Kind, Test};
 use physiological_order::WordAddr;
 use report::RunError;
 use std::alloc::{AllocError, Global};
@@ -40,7 +40,7 @@ const AT_LIMITS: [Grown; 10] = [
 ];
 
 // Each with the line and the kind of its fault.
-const PAST_LIMITS: [(Grown, usize, Kind); 14] = [
+const PAST_LIMITS: &[(Grown, usize, Kind)] = &[
     (Grown::Bytes(BYTES + 1), 1, Kind::TooLarge),
     (Grown::Lines(BYTES - 27, "exists x=0"), 1, Kind::TooLarge),
     (
@@ -154,29 +154,34 @@ fn has_last(test: &Test, name: &[u8]) -> bool {
     test.locations() == 64 && test.location(63) == Some(name) && test.location(64).is_none()
 }
 
-// Whether a test has the locations of the greatest text, and their values.
-fn has_locations(test: &Test) -> Result<bool, AllocError> {
+// Whether a test has 64 locations, the last one with its name, and the values that they are given.
+fn has_locations(test: &Test) -> Result<bool, Fail> {
     let name = b"llllllllllllllllllllllllllllll73";
     Ok(has_last(test, name) && values(test)? == [1, 64, 0])
 }
 
-// The test that a text is read as.
-fn test_of(alloc: Global, shape: &Grown) -> Result<Test, Fail> {
-    let text = text_of(alloc, shape)?;
-    Ok(read(alloc, text.as_bytes()).ok().ok_or("it is read")?)
+fn text_has_locations(alloc: Global, text: &str) -> Result<bool, Fail> {
+    let test = test_of(alloc, text.as_bytes())?;
+    has_locations(&test)
 }
 
 #[test]
 fn a_test_of_many_locations(rt: HostRuntime) -> Result<(), Fail> {
-    let test = test_of(rt.alloc(), &Grown::Locations(64, 30))?;
-    assert!(rt; has_locations(&test)?);
+    let text = with_locations(rt.alloc(), 64, 30)?;
+    assert!(rt; text_has_locations(rt.alloc(), &text)?);
     Ok(())
+}
+
+// Whether a text's test has a name of 128 characters.
+fn has_long_name(alloc: Global, text: &str) -> Result<bool, Fail> {
+    let test = test_of(alloc, text.as_bytes())?;
+    Ok(test.name().len() == 128)
 }
 
 #[test]
 fn a_test_with_a_long_name(rt: HostRuntime) -> Result<(), Fail> {
-    let test = test_of(rt.alloc(), &Grown::Name(128))?;
-    assert!(rt; test.name().len() == 128);
+    let text = with_name(rt.alloc(), 128)?;
+    assert!(rt; has_long_name(rt.alloc(), &text)?);
     Ok(())
 }
 
@@ -290,7 +295,7 @@ write-backs 0
 stale-hits 0
 ";
 
-const RUN: [(Grown, &[u8]); 6] = [
+const RUN: &[(Grown, &[u8])] = &[
     (Grown::Threads(16), THREADS),
     (Grown::Rows(1024), ROWS),
     (Grown::Atoms(256, "0"), ATOMS),

@@ -48,17 +48,19 @@ fn same<R: Abort>(rt: &R, got: Verdict, wanted: Verdict) {
     assert_eq!(rt; got, wanted);
 }
 
+/// Whether a byte address is that of the word of this number.
+fn is_at(byte: u64, number: u64) -> bool {
+    let Some(addr) = WordAddr::new(byte) else {
+        return false;
+    };
+    addr.word() == number && addr.byte() == byte
+}
+
 #[test]
-fn word_addresses(rt: HostRuntime) -> Result<(), Fail> {
-    assert_eq!(rt; WordAddr::new(4), None);
-    let addr = WordAddr::new(24).ok_or("24 is a multiple of 8")?;
-    assert_eq!(rt; addr.word(), 3);
-    assert_eq!(rt; addr.byte(), 24);
-    assert_eq!(rt; addr, WordAddr::at(3));
-    let last = WordAddr::new(18446744073709551608).ok_or("it is a multiple of 8")?;
-    assert_eq!(rt; last.word(), 2305843009213693951);
-    assert_eq!(rt; WordAddr::new(18446744073709551615), None);
-    Ok(())
+fn word_addresses(rt: HostRuntime) {
+    assert!(rt; is_at(24, 3) && WordAddr::new(24) == Some(WordAddr::at(3)));
+    assert!(rt; is_at(18446744073709551608, 2305843009213693951));
+    assert!(rt; WordAddr::new(4).is_none() && WordAddr::new(18446744073709551615).is_none());
 }
 
 /// A memory whose word 9 was set twice, and word 5 once.
@@ -84,29 +86,43 @@ fn has_words(memory: &Memory, words: &[(WordAddr, u64)]) -> Result<bool, AllocEr
     Ok(memory.words()?.as_slice() == words)
 }
 
+/// Whether a memory that was set thrice gives old values and takes new ones, which a copy of it has.
+fn keeps(memory: &mut Memory) -> Result<bool, AllocError> {
+    let is_received = received(memory)? == [Some(91), None, Some(50)];
+    let copy = memory.try_clone()?;
+    Ok(is_received && has_words(&copy, &[(word(2), 20), (word(5), 51), (word(9), 91)])?)
+}
+
+#[test]
+fn a_new_memory_is_zero(rt: HostRuntime) {
+    assert!(rt; Memory::new(rt.alloc()).get(word(5)) == 0);
+}
+
 #[test]
 fn a_memory_keeps_what_is_set(rt: HostRuntime) -> Result<(), Fail> {
-    assert_eq!(rt; Memory::new(rt.alloc()).get(word(5)), 0);
     let mut memory = set_thrice(rt.alloc())?;
-    assert!(rt; received(&mut memory)? == [Some(91), None, Some(50)]);
-    let copy = memory.try_clone()?;
-    assert!(rt; has_words(&copy, &[(word(2), 20), (word(5), 51), (word(9), 91)])?);
+    assert!(rt; keeps(&mut memory)?);
     Ok(())
+}
+
+/// Whether a replay over a memory whose word 0 is 9 receives old values, and leaves that memory as it was.
+fn receives_old_values(alloc: Global, opening: &Memory) -> Result<bool, AllocError> {
+    let operations = [load(0), Op::Swap(word(0), 4), store(1, 7), load(0), load(1)];
+    let (received, end) = replay(alloc, opening, &operations)?;
+    let wanted = [Some(9), Some(9), None, Some(4), Some(7)];
+    Ok(
+        received.as_slice() == wanted.as_slice()
+            && end.get(word(0)) == 4
+            && end.get(word(1)) == 7
+            && opening.get(word(0)) == 9,
+    )
 }
 
 #[test]
 fn a_replay_receives_old_values(rt: HostRuntime) -> Result<(), Fail> {
     let mut opening = Memory::new(rt.alloc());
     opening.set(word(0), 9)?;
-    let operations = [load(0), Op::Swap(word(0), 4), store(1, 7), load(0), load(1)];
-    let (received, end) = replay(rt.alloc(), &opening, &operations)?;
-    assert_eq!(rt;
-        received.as_slice(),
-        [Some(9), Some(9), None, Some(4), Some(7)].as_slice()
-    );
-    assert_eq!(rt; end.get(word(0)), 4);
-    assert_eq!(rt; end.get(word(1)), 7);
-    assert_eq!(rt; opening.get(word(0)), 9);
+    assert!(rt; receives_old_values(rt.alloc(), &opening)?);
     Ok(())
 }
 
@@ -239,13 +255,31 @@ fn issued_to_three(alloc: Global) -> Result<Vec<Vec<Op>>, AllocError> {
     Ok(issued)
 }
 
+/// Whether the numbers of records rise, and so many of them are stale hits.
+fn has_hits(alloc: Global, records: &[Record], hits: u64) -> Result<bool, AllocError> {
+    Ok(rises_by_number(records) && stale_hits(alloc, records)? == hits)
+}
+
+/// The same, and the steps are added to those that were made.
+fn has_counted(
+    alloc: Global,
+    steps: &mut Steps,
+    records: &[Record],
+    hits: u64,
+) -> Result<bool, AllocError> {
+    Ok(rises_by_number(records) && stale_hits_counted(alloc, steps, records)? == hits)
+}
+
+/// The verdict on the three cores' records.
+fn verdict_on_three(alloc: Global) -> Result<Verdict, AllocError> {
+    let issued = issued_to_three(alloc)?;
+    verdict(alloc, &issued, &three_cores())
+}
+
 #[test]
 fn a_stale_hit_is_legal_and_counted(rt: HostRuntime) -> Result<(), Fail> {
-    let issued = issued_to_three(rt.alloc())?;
-    let records = three_cores();
-    same(&rt, verdict(rt.alloc(), &issued, &records)?, Verdict::Legal);
-    assert!(rt; rises_by_number(&records));
-    assert_eq!(rt; stale_hits(rt.alloc(), &records)?, 1);
+    same(&rt, verdict_on_three(rt.alloc())?, Verdict::Legal);
+    assert!(rt; has_hits(rt.alloc(), &three_cores(), 1)?);
     Ok(())
 }
 
@@ -261,11 +295,9 @@ fn three_checked(alloc: Global, steps: &mut Steps) -> Result<Verdict, AllocError
 fn the_steps_of_three_cores_are_counted(rt: HostRuntime) -> Result<(), Fail> {
     let mut steps = Steps::new();
     same(&rt, three_checked(rt.alloc(), &mut steps)?, Verdict::Legal);
-    assert_eq!(rt; steps.made(), 7);
-    let records = three_cores();
-    assert!(rt; rises_by_number(&records));
-    assert_eq!(rt; stale_hits_counted(rt.alloc(), &mut steps, &records)?, 1);
-    assert_eq!(rt; steps.made(), 14);
+    assert!(rt; steps.made() == 7);
+    let is_counted = has_counted(rt.alloc(), &mut steps, &three_cores(), 1)?;
+    assert!(rt; is_counted && steps.made() == 14);
     Ok(())
 }
 
@@ -275,8 +307,7 @@ fn a_swap_makes_an_earlier_load_stale(rt: HostRuntime) -> Result<(), Fail> {
         record(0, 0, Op::Swap(word(0), 1), Some(0), 9, 0),
         record(1, 0, load(0), Some(0), 4, 1),
     ];
-    assert!(rt; rises_by_number(&records));
-    assert_eq!(rt; stale_hits(rt.alloc(), &records)?, 1);
+    assert!(rt; has_hits(rt.alloc(), &records, 1)?);
     Ok(())
 }
 
@@ -289,9 +320,7 @@ fn only_later_writes_of_the_word_make_a_load_stale(rt: HostRuntime) -> Result<()
         record(1, 2, load(0), Some(0), 4, 3),
         record(0, 1, store(0, 2), None, 6, 4),
     ];
-    assert!(rt; rises_by_number(&records));
-    assert_eq!(rt; stale_hits(rt.alloc(), &records)?, 1);
-    assert_eq!(rt; stale_hits(rt.alloc(), &[])?, 0);
+    assert!(rt; has_hits(rt.alloc(), &records, 1)? && has_hits(rt.alloc(), &[], 0)?);
     assert!(rt; !rises_by_number(&[late(), late()]));
     Ok(())
 }
@@ -364,8 +393,7 @@ fn the_greatest_time_of_a_write_is_kept(rt: HostRuntime) -> Result<(), Fail> {
         record(2, 0, load(0), Some(2), 6, 2),
         record(2, 1, load(0), Some(1), 9, 3),
     ];
-    assert!(rt; rises_by_number(&records));
-    assert_eq!(rt; stale_hits(rt.alloc(), &records)?, 1);
+    assert!(rt; has_hits(rt.alloc(), &records, 1)?);
     Ok(())
 }
 
@@ -376,22 +404,31 @@ fn checked(alloc: Global, steps: &mut Steps, records: &[Record]) -> Result<u128,
     Ok(steps.made())
 }
 
+/// Whether the steps of one core's checks add up.
+fn checks_add_up(
+    alloc: Global,
+    steps: &mut Steps,
+    first: Record,
+    second: Record,
+) -> Result<bool, AllocError> {
+    // The load is compared with the store before it, and one lane is merged with none.
+    let in_order = checked(alloc, steps, &[first, second])?;
+    let turned = checked(alloc, steps, &[second, first])?;
+    // A number is missing, and nothing is compared.
+    let missing = checked(alloc, steps, &[second])?;
+    // One comparison finds that the times fall, and what `arrange` compares isn't counted.
+    let falling = checked(alloc, steps, &falling_times(1))?;
+    Ok(in_order == 1 && turned == 2 && missing == 2 && falling == 3)
+}
+
 #[test]
 fn counts_add_up(rt: HostRuntime) -> Result<(), Fail> {
     let first = record(0, 0, store(0, 1), None, 1, 0);
     let second = record(0, 1, load(0), Some(1), 1, 1);
-    let records = [first, second];
     let mut steps = Steps::new();
-    // The load is compared with the store before it, and one lane is merged with none.
-    assert_eq!(rt; checked(rt.alloc(), &mut steps, &records)?, 1);
-    assert_eq!(rt; checked(rt.alloc(), &mut steps, &[second, first])?, 2);
-    // A number is missing, and nothing is compared.
-    assert_eq!(rt; checked(rt.alloc(), &mut steps, &[second])?, 2);
-    // One comparison finds that the times fall, and what `arrange` compares isn't counted.
-    assert_eq!(rt; checked(rt.alloc(), &mut steps, &falling_times(1))?, 3);
+    assert!(rt; checks_add_up(rt.alloc(), &mut steps, first, second)?);
     // The store looks and writes, the load looks.
-    assert!(rt; rises_by_number(&records));
-    assert_eq!(rt; stale_hits_counted(rt.alloc(), &mut steps, &records)?, 0);
-    assert_eq!(rt; steps.made(), 6);
+    let is_counted = has_counted(rt.alloc(), &mut steps, &[first, second], 0)?;
+    assert!(rt; is_counted && steps.made() == 6);
     Ok(())
 }

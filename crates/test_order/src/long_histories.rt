@@ -42,31 +42,36 @@ fn ops(alloc: Global) -> Result<Vec<Op>, AllocError> {
     Ok(ops)
 }
 
+// Whether all records are there, each at the place that is its time.
+fn are_arranged(records: &[Record]) -> bool {
+    for (place, record) in records.iter().enumerate() {
+        if record.ts != place as u64 {
+            return false;
+        }
+    }
+    records.len() as u64 == OPERATIONS
+}
+
 #[test]
 fn falling_times_are_arranged(rt: HostRuntime) -> Result<(), Fail> {
     let arranged = arrange(rt.alloc(), &falling(rt.alloc())?)?;
-    assert_eq!(rt; arranged.len() as u64, OPERATIONS);
-    for (place, record) in arranged.iter().enumerate() {
-        assert_eq!(rt; record.ts, place as u64);
-    }
+    assert!(rt; are_arranged(&arranged));
     Ok(())
+}
+
+// The verdict on the records of one core that was issued these operations.
+fn verdict(alloc: Global, ops: Vec<Op>) -> Result<Verdict, AllocError> {
+    let mut issued = Vec::new(alloc);
+    issued.push(ops)?;
+    let opening = Memory::new(alloc);
+    check(alloc, &opening, &issued, &falling(alloc)?)
 }
 
 #[test]
 fn falling_times_are_checked(rt: HostRuntime) -> Result<(), Fail> {
-    let mut issued = Vec::new(rt.alloc());
-    issued.push(ops(rt.alloc())?)?;
-    let opening = Memory::new(rt.alloc());
-    let verdict = check(rt.alloc(), &opening, &issued, &falling(rt.alloc())?)?;
-    assert_eq!(rt; verdict, Verdict::Legal);
+    let verdict = verdict(rt.alloc(), ops(rt.alloc())?)?;
+    assert!(rt; verdict == Verdict::Legal);
     Ok(())
-}
-
-// How many operations received something or nothing, and the words that are left.
-fn replayed(alloc: Global) -> Result<(u64, Vec<(WordAddr, u64)>), AllocError> {
-    let opening = Memory::new(alloc);
-    let (received, left) = replay(alloc, &opening, &ops(alloc)?)?;
-    Ok((received.len() as u64, left.words()?))
 }
 
 // The first place at which there is another word, or another value.
@@ -79,11 +84,22 @@ fn first_other(words: &[(WordAddr, u64)]) -> Option<usize> {
     None
 }
 
+// Whether a memory keeps all words, each with its value.
+fn has_words(memory: &Memory) -> Result<bool, AllocError> {
+    let words = memory.words()?;
+    Ok(words.len() as u64 == OPERATIONS && first_other(&words).is_none())
+}
+
+// Whether each operation received something or nothing, and all words are left.
+fn are_replayed(alloc: Global, ops: &[Op]) -> Result<bool, AllocError> {
+    let opening = Memory::new(alloc);
+    let (received, left) = replay(alloc, &opening, ops)?;
+    Ok(received.len() as u64 == OPERATIONS && has_words(&left)?)
+}
+
 #[test]
 fn many_words_are_replayed(rt: HostRuntime) -> Result<(), Fail> {
-    let (received, words) = replayed(rt.alloc())?;
-    assert_eq!(rt; received, OPERATIONS);
-    assert_eq!(rt; words.len() as u64, OPERATIONS);
-    assert_eq!(rt; first_other(&words), None);
+    let ops = ops(rt.alloc())?;
+    assert!(rt; are_replayed(rt.alloc(), &ops)?);
     Ok(())
 }

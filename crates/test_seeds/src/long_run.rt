@@ -1,11 +1,12 @@
 //! A run of many turns: what examples/reference makes of the same program and seed.
+use crate::driver::drive;
 use interleaving_core::System;
-use physiological_order::{Op, WordAddr};
+use physiological_order::{Op, Record, WordAddr};
 use run_ends::End;
 use schedule_cases::{USUAL, machine};
 use std::alloc::{AllocError, Global};
 use std::test::Fail;
-use worker_driver::{Driven, OpProgram, drive_seed};
+use worker_driver::{Driven, OpProgram};
 
 /// So many loads take more than 65,536 turns.
 const LOADS: u32 = 40_000;
@@ -22,29 +23,33 @@ fn many_loads(alloc: Global) -> Result<OpProgram, AllocError> {
 }
 
 // Of three cores core 1 loads one word again and again.
-fn run_long(alloc: Global) -> Result<(Driven, System), AllocError> {
-    let mut system = machine(alloc, USUAL)?;
+fn run_long(alloc: Global, system: &mut System) -> Result<Driven, AllocError> {
+    let loads = many_loads(alloc)?;
     let mut programs = [
         OpProgram::new(Vec::new(alloc)),
-        many_loads(alloc)?,
+        loads,
         OpProgram::new(Vec::new(alloc)),
     ];
-    if programs.len() as u64 != u64::from(system.cores()) {
-        return Err(AllocError);
-    }
-    let driven = drive_seed(alloc, &mut system, &mut programs, 7, u32::MAX);
-    Ok((driven, system))
+    drive(alloc, system, &mut programs, 7, u32::MAX)
 }
 
 // 123,878 turns, of which some have an empty list, make 113,477 events. The line leaves the cache and the bank again and
 // again, and comes back with the bank's memory time: so the core's time goes far.
+fn is_as_told(driven: &Driven, records: &[Record]) -> bool {
+    driven.end == End::AllDone
+        && driven.events.len() as u64 == 113_477
+        && records.len() as u64 == u64::from(LOADS)
+        && records.last().map(|record| record.ts) == Some(22_053)
+}
+
+fn long_run_is_as_told(alloc: Global) -> Result<bool, AllocError> {
+    let mut system = machine(alloc, USUAL)?;
+    let driven = run_long(alloc, &mut system)?;
+    Ok(is_as_told(&driven, system.records()))
+}
+
 #[test]
 fn a_long_run(rt: HostRuntime) -> Result<(), Fail> {
-    let (driven, system) = run_long(rt.alloc())?;
-    let records = system.records();
-    assert_eq!(rt; driven.end, End::AllDone);
-    assert_eq!(rt; driven.events.len() as u64, 113_477);
-    assert_eq!(rt; records.len() as u64, u64::from(LOADS));
-    assert_eq!(rt; records.last().map(|record| record.ts), Some(22_053));
+    assert!(rt; long_run_is_as_told(rt.alloc())?);
     Ok(())
 }

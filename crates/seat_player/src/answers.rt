@@ -53,14 +53,20 @@ pub(crate) fn tell_record<W: Write + Drop>(record: &Record, out: &mut W) -> Resu
     Ok(())
 }
 
+fn name_of_answer(answer: &Answer) -> &'static str {
+    match answer {
+        Answer::Requested => "requested",
+        Answer::Waiting => "waiting",
+        Answer::Idle => "idle",
+        _ => "nonsense",
+    }
+}
+
 fn tell_attempted<W: Write + Drop>(answer: &Answer, out: &mut W) -> Result<()> {
     match answer {
         Answer::Completed(record) => return tell_record(record, out),
         Answer::Refused(refusal) => write!(out, "refused {}", refusal.number())?,
-        Answer::Requested => write!(out, "requested")?,
-        Answer::Waiting => write!(out, "waiting")?,
-        Answer::Idle => write!(out, "idle")?,
-        _ => write!(out, "nonsense")?,
+        answer => write!(out, "{}", name_of_answer(answer))?,
     }
     Ok(())
 }
@@ -75,22 +81,28 @@ fn name_of_served(served: &Served) -> &'static str {
     }
 }
 
+fn name_of(says: &Says) -> &'static str {
+    match says {
+        Says::Serves(served) => name_of_served(served),
+        Says::Done => "done",
+        Says::Evicts(Eviction::Evicted) => "evicted",
+        Says::Evicts(Eviction::Recalled) => "recalled",
+        Says::Puts(true) => "put",
+        Says::Puts(false) => "none put",
+        Says::Takes(Take::Taken) => "taken",
+        Says::Takes(Take::Nothing) => "none taken",
+        Says::Takes(Take::HandFull) => "hand full",
+        _ => "nonsense",
+    }
+}
+
 /// The answer by its name, a refusal by its number, a turn by how many it put and what it served.
 pub(crate) fn tell_answer<W: Write + Drop>(says: &Says, out: &mut W) -> Result<()> {
     match says {
         Says::Attempted(answer) => return tell_attempted(answer, out),
         Says::Refused(refusal) => write!(out, "refused {}", refusal.number())?,
-        Says::Serves(served) => write!(out, "{}", name_of_served(served))?,
         Says::Turns(turn) => write!(out, "{} {}", turn.put, name_of_served(&turn.served))?,
-        Says::Done => write!(out, "done")?,
-        Says::Evicts(Eviction::Evicted) => write!(out, "evicted")?,
-        Says::Evicts(Eviction::Recalled) => write!(out, "recalled")?,
-        Says::Puts(true) => write!(out, "put")?,
-        Says::Puts(false) => write!(out, "none put")?,
-        Says::Takes(Take::Taken) => write!(out, "taken")?,
-        Says::Takes(Take::Nothing) => write!(out, "none taken")?,
-        Says::Takes(Take::HandFull) => write!(out, "hand full")?,
-        Says::Nonsense => write!(out, "nonsense")?,
+        says => write!(out, "{}", name_of(says))?,
     }
     Ok(())
 }

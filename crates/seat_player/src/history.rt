@@ -11,6 +11,16 @@ use physiological_order::{
 use std::alloc::Global;
 use std::io::Write;
 
+/// The numbers of records.
+fn tell_numbers<W: Write + Drop>(records: &[Record], out: &mut W) -> Result<()> {
+    write!(out, "arranged")?;
+    for record in records {
+        write!(out, " {}", record.number)?;
+    }
+    writeln!(out)?;
+    Ok(())
+}
+
 /// The numbers of the records by time, and the records so.
 fn tell_arranged<W: Write + Drop>(
     alloc: Global,
@@ -19,11 +29,7 @@ fn tell_arranged<W: Write + Drop>(
 ) -> Result<Vec<Record>> {
     for _ in 0..2 {
         if let Ok(arranged) = arrange(alloc, records) {
-            write!(out, "arranged")?;
-            for record in &arranged {
-                write!(out, " {}", record.number)?;
-            }
-            writeln!(out)?;
+            tell_numbers(arranged.as_slice(), out)?;
             return Ok(arranged);
         }
         writeln!(out, "refused 7")?;

@@ -69,6 +69,20 @@ fn closed<W: Write + Drop>(
     }
 }
 
+/// What a machine leaves.
+fn tell_all<W: Write + Drop>(
+    alloc: Global,
+    run: &Run,
+    config: &Config,
+    seen: &Seen,
+    out: &mut W,
+) -> Result<()>
+    requires { Parts run.now }
+{
+    tell_run(run, config, seen, out)?;
+    tell_history(alloc, run, config.cores, seen, out)
+}
+
 /// Opens a machine, plays the calls of the lines from this one on, closes it, and tells what it leaves; the index of the
 /// first line that isn't a call.
 pub(crate) fn play_machine<W: Write + Drop>(
@@ -83,7 +97,6 @@ pub(crate) fn play_machine<W: Write + Drop>(
     let (machine, mut cores, mut banks) = opened(alloc, config, opening, out)?;
     let next = play_calls(&machine, &mut cores, &mut banks, seen, lines, from, out)?;
     let run = closed(alloc, machine, cores, banks, out)?;
-    tell_run(&run, config, seen, out)?;
-    tell_history(alloc, &run, config.cores, seen, out)?;
+    tell_all(alloc, &run, config, seen, out)?;
     Ok(next)
 }

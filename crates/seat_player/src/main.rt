@@ -47,15 +47,21 @@ fn play_all<W: Write + Drop>(alloc: Global, lines: &[Line], out: &mut W) -> Resu
     Ok(())
 }
 
-fn run<R: AllocGlobal + Input + Print>(rt: &R) -> Result<()> {
-    let alloc = rt.alloc();
-    let mut out = BufWriter::new(alloc, io::writer(rt))?;
-    let mut lines = Vec::new(alloc);
-    for text in BufReader::new(alloc, rt.reader())?.lines(alloc) {
+/// The lines of standard input.
+fn lines_of<R: AllocGlobal + Input>(rt: &R) -> Result<Vec<Line>> {
+    let mut lines = Vec::new(rt.alloc());
+    for text in BufReader::new(rt.alloc(), rt.reader())?.lines(rt.alloc()) {
         let text = text?;
         lines.push(line_of(text.as_str())?)?;
     }
-    let played = play_all(alloc, lines.as_slice(), &mut out);
+    Ok(lines)
+}
+
+/// What was told before a fault goes out, too.
+fn run<R: AllocGlobal + Input + Print>(rt: &R) -> Result<()> {
+    let lines = lines_of(rt)?;
+    let mut out = BufWriter::new(rt.alloc(), io::writer(rt))?;
+    let played = play_all(rt.alloc(), lines.as_slice(), &mut out);
     out.flush()?;
     played
 }

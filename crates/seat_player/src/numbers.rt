@@ -27,23 +27,38 @@ fn opened<W: Write + Drop>(
     bail!("there is no memory for the numbers")
 }
 
-/// What a drawer draws, and how many numbers it has then; and whether there was no memory for it.
+/// What was drawn; and whether there was no memory for it.
+fn tell_drawn<W: Write + Drop>(drawn: &Result<u64, DrawError>, out: &mut W) -> Result<bool> {
+    match drawn {
+        Ok(number) => write!(out, "drew {number}")?,
+        Err(DrawError::NoMemory) => {
+            write!(out, "refused 7")?;
+            return Ok(true);
+        }
+        Err(DrawError::TooMany) => write!(out, "refused 2")?,
+    }
+    Ok(false)
+}
+
+/// Numbers, and the end of the line.
+fn tell_numbers<W: Write + Drop>(numbers: &[u64], out: &mut W) -> Result<()> {
+    for number in numbers {
+        write!(out, " {number}")?;
+    }
+    writeln!(out)?;
+    Ok(())
+}
+
+/// What a drawer draws, and all numbers that it has then; and whether there was no memory for it.
 fn draw<W: Write + Drop>(numbers: &Numbers, drawer: &mut Drawer, out: &mut W) -> Result<bool>
     requires { IsDrawerOf numbers.now drawer.old }
     ensures { IsDrawerOf numbers.now drawer.new }
 {
     let drawn = drawer.draw(numbers);
-    match drawn {
-        Ok(number) => write!(out, "drew {number}")?,
-        Err(DrawError::NoMemory) => write!(out, "refused 7")?,
-        Err(DrawError::TooMany) => write!(out, "refused 2")?,
-    }
+    let is_refused = tell_drawn(&drawn, out)?;
     write!(out, "|")?;
-    for number in &drawer.drawn {
-        write!(out, " {number}")?;
-    }
-    writeln!(out)?;
-    Ok(matches!(drawn, Err(DrawError::NoMemory)))
+    tell_numbers(drawer.drawn.as_slice(), out)?;
+    Ok(is_refused)
 }
 
 fn draw_at<W: Write + Drop>(
@@ -92,10 +107,7 @@ fn tell_lists<W: Write + Drop>(numbers: Numbers, drawers: Vec<Drawer>, out: &mut
     }
     for list in &numbers.close(drawers) {
         write!(out, "drawn")?;
-        for number in list {
-            write!(out, " {number}")?;
-        }
-        writeln!(out)?;
+        tell_numbers(list.as_slice(), out)?;
     }
     Ok(())
 }

@@ -61,8 +61,8 @@ fn tell_slots<W: Write + Drop>(run: &Run, words: u32, out: &mut W) -> Result<()>
     Ok(())
 }
 
-/// The parts of all seats, a line each.
-fn tell_parts<W: Write + Drop>(run: &Run, seen: &Seen, out: &mut W) -> Result<()> {
+/// The parts of the cores' seats, a line each.
+fn tell_cores<W: Write + Drop>(run: &Run, seen: &Seen, out: &mut W) -> Result<()> {
     for core in &run.cores {
         write!(out, "seat {}", core.number)?;
         tell_core(&core.core, seen, out)?;
@@ -70,6 +70,11 @@ fn tell_parts<W: Write + Drop>(run: &Run, seen: &Seen, out: &mut W) -> Result<()
         tell_outbox(&core.outbox, out)?;
         writeln!(out)?;
     }
+    Ok(())
+}
+
+/// The parts of the banks' seats, a line each.
+fn tell_banks<W: Write + Drop>(run: &Run, seen: &Seen, out: &mut W) -> Result<()> {
     for bank in &run.banks {
         write!(out, "seat {}", bank.number)?;
         tell_bank(&bank.bank, &bank.dram, seen, out)?;
@@ -93,5 +98,6 @@ pub(crate) fn tell_run<W: Write + Drop>(
     tell_issued(run, config.cores, out)?;
     tell_values(run, seen.words, out)?;
     tell_slots(run, seen.line_words, out)?;
-    tell_parts(run, seen, out)
+    tell_cores(run, seen, out)?;
+    tell_banks(run, seen, out)
 }

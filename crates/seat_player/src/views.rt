@@ -24,6 +24,10 @@ pub(crate) fn tell_inbox<W: Write + Drop>(
         tell_message(message, words, out)?;
     }
     write!(out, "|{}", inbox.places())?;
+    tell_held(inbox, words, out)
+}
+
+fn tell_held<W: Write + Drop>(inbox: &Inbox<Message>, words: u32, out: &mut W) -> Result<()> {
     for at in 0..256 {
         let Some(message) = inbox.held(at) else {
             break;
@@ -56,23 +60,28 @@ fn tell_copy<W: Write + Drop>(copy: &LineCopy, words: u32, out: &mut W) -> Resul
     tell_words(&copy.words, words, out)
 }
 
-/// A core: its time, its open operation, with a mark if a request is out; its copies; the copy that would go for each
-/// line.
-pub(crate) fn tell_core<W: Write + Drop>(core: &Core, seen: &Seen, out: &mut W) -> Result<()> {
-    write!(out, "|{} {} ", core.pts(), core.issued())?;
+/// The open operation of a core, with a mark if a request is out.
+fn tell_open<W: Write + Drop>(core: &Core, out: &mut W) -> Result<()> {
     if let Some((op, is_out)) = core.open_op() {
         tell_op(&op, out)?;
         write!(out, "{}", if is_out { "!" } else { "" })?;
     }
-    write!(out, "|")?;
+    Ok(())
+}
+
+fn tell_copies<W: Write + Drop>(core: &Core, seen: &Seen, out: &mut W) -> Result<()> {
     for line in 0..seen.lines {
         if let Some(copy) = core.copy(LineNo(line)) {
             write!(out, " {line}")?;
             tell_copy(copy, seen.line_words, out)?;
         }
     }
-    write!(out, "|")?;
-    for line in 0..seen.lines {
+    Ok(())
+}
+
+/// The copy that would go for each line.
+fn tell_victims<W: Write + Drop>(core: &Core, lines: u64, out: &mut W) -> Result<()> {
+    for line in 0..lines {
         if let Some(victim) = core.victim(LineNo(line)) {
             write!(out, " {line}>{}", victim.0)?;
         }
@@ -80,18 +89,37 @@ pub(crate) fn tell_core<W: Write + Drop>(core: &Core, seen: &Seen, out: &mut W) 
     Ok(())
 }
 
-fn tell_entry<W: Write + Drop>(entry: &Entry, words: u32, out: &mut W) -> Result<()> {
+/// A core: its time, its open operation, its copies, and the copy that would go for each line.
+pub(crate) fn tell_core<W: Write + Drop>(core: &Core, seen: &Seen, out: &mut W) -> Result<()> {
+    write!(out, "|{} {} ", core.pts(), core.issued())?;
+    tell_open(core, out)?;
+    write!(out, "|")?;
+    tell_copies(core, seen, out)?;
+    write!(out, "|")?;
+    tell_victims(core, seen.lines, out)
+}
+
+fn name_of_entry(entry: &Entry) -> &'static str {
     match entry {
-        Entry::Loading => write!(out, "L")?,
-        Entry::Shared { dirty, line } => {
-            write!(out, "S{}", if *dirty { "+" } else { "" })?;
-            tell_line(line, words, out)?;
-        }
-        Entry::Exclusive { owner } => write!(out, "E {owner}")?,
-        Entry::Recalling { owner } => write!(out, "R {owner}")?,
-        Entry::Storing => write!(out, "W")?,
+        Entry::Loading => "L",
+        Entry::Shared { dirty: false, .. } => "S",
+        Entry::Shared { dirty: true, .. } => "S+",
+        Entry::Exclusive { .. } => "E",
+        Entry::Recalling { .. } => "R",
+        Entry::Storing => "W",
     }
-    Ok(())
+}
+
+fn tell_entry<W: Write + Drop>(entry: &Entry, words: u32, out: &mut W) -> Result<()> {
+    write!(out, "{}", name_of_entry(entry))?;
+    match entry {
+        Entry::Shared { line, .. } => tell_line(line, words, out),
+        Entry::Exclusive { owner } | Entry::Recalling { owner } => {
+            write!(out, " {owner}")?;
+            Ok(())
+        }
+        Entry::Loading | Entry::Storing => Ok(()),
+    }
 }
 
 /// A bank and its DRAM: the memory time, the entries, and the words that DRAM has.

@@ -11,7 +11,7 @@ use serving::Served;
 const WORDS: u64 = 2_305_843_009_213_693_952;
 
 /// An operation on the word of a number.
-#[derive(Clone, Copy, Debug)]
+#[derive(Clone, Copy)]
 pub(crate) enum On {
     Load(u64),
     Store(u64, u64),
@@ -19,7 +19,7 @@ pub(crate) enum On {
 }
 
 /// A call of a seat.
-#[derive(Clone, Copy, Debug)]
+#[derive(Clone, Copy)]
 pub(crate) enum Call {
     Issue(On),
     Attempt,
@@ -43,7 +43,7 @@ pub(crate) enum Call {
 }
 
 /// What a call answers.
-#[derive(Clone, Copy, Debug, PartialEq, Eq)]
+#[derive(Clone, Copy, PartialEq, Eq)]
 pub(crate) enum Says {
     /// The call is done, and has no more to say.
     Done,

@@ -1,17 +1,14 @@
 //! Seats at their edges: a full outbox of a core and of a bank, a held list with two places, with one and with none, and
 //! a machine of the greatest sizes.
-ghost use Rattle.mailboxes.specs.Seats.{AllBankSeats, AllCoreSeats};
-
+use crate::acts::{Act, Long, PLACES, wrong};
 use crate::calls::{Call, On, Says};
 use crate::examples::TWO;
-use crate::full_lists::has_first_values;
-use crate::full_outbox::{PLACES, WIDE, evict_below, own};
-use crate::player::{Example, called, closed, has_values, is_legal, opened, play, played};
-use crate::prepared::store_first;
+use crate::full_outbox::WIDE;
+use crate::player::Example;
+use crate::prepared;
 use machine_table::Config;
-use mailboxes::{BankSeat, CoreSeat, Machine, Take};
+use mailboxes::Take;
 use serving::Served;
-use std::alloc::Global;
 use std::test::Fail;
 
 /// Core 0 owns lines 0 to 256, each stored to at time 1, and has a request out for line 257, which lies in a slot.
@@ -58,6 +55,18 @@ const CORE_STEPS: &[(usize, Call, Says)] = &[
     (0, Call::Held(0), Says::Line(None)),
     (0, Call::Evict(256), Says::Refused(3)),
 ];
+
+const CORE_IS_FULL: Long = Long {
+    config: WIDE,
+    acts: &[
+        Act::Own(1),
+        Act::Times(1, REQUESTED),
+        Act::Evict(0, PLACES, Says::Done),
+        Act::Times(1, CORE_STEPS),
+    ],
+    records: 259,
+    words: 257,
+};
 
 /// Two cores, whose caches have a set of their own for each of 1,024 lines.
 const WIDE_TWO: Config = Config {
@@ -119,6 +128,17 @@ const BANK_STEPS: &[(usize, Call, Says)] = &[
     (2, Call::Serve, Says::Served(Served::Held)),
 ];
 
+const BANK_IS_FULL: Long = Long {
+    config: WIDE_TWO,
+    acts: &[
+        Act::Own(2),
+        Act::Evict(2, PLACES, Says::Recalled),
+        Act::Times(1, BANK_STEPS),
+    ],
+    records: 257,
+    words: 257,
+};
+
 /// Four cores and a bank, whose seat is that of number 4.
 const FOUR_CORES: Config = Config { cores: 4, ..TWO };
 
@@ -161,8 +181,7 @@ const FEW_PLACES: &[(usize, Call, Says)] = &[
     (4, Call::Held(255), Says::Line(Some(1))),
 ];
 
-/// So many stores are served then: those of lines 2 to 253.
-const STORES_LEFT: u32 = 252;
+const SERVED: &[(usize, Call, Says)] = &[(4, Call::Serve, Says::Served(Served::Delivered))];
 
 /// The held list has the request for line 5, DRAM's answer for line 0, the store of line 254, and DRAM's answers for
 /// lines 1 to 253.
@@ -218,6 +237,21 @@ const PLACES_AGAIN: &[(usize, Call, Says)] = &[
     (4, Call::Held(255), Says::Line(Some(400))),
 ];
 
+/// Between the tables the stores of lines 2 to 253 are served.
+const FEW_PLACES_LEFT: Long = Long {
+    config: FOUR_CORES,
+    acts: &[
+        Act::Store(1, 4, 400),
+        Act::Give,
+        Act::Evict(4, 254, Says::Done),
+        Act::Times(1, FEW_PLACES),
+        Act::Times(252, SERVED),
+        Act::Times(1, PLACES_AGAIN),
+    ],
+    records: 257,
+    words: 256,
+};
+
 /// The greatest sizes that a machine opens with.
 const GREATEST: Config = Config {
     cores: 64,
@@ -239,6 +273,7 @@ const GREATEST: Config = Config {
 const LAST_WORD: Example = Example {
     shows: "the last core and the last bank of a machine of the greatest sizes",
     config: GREATEST,
+    stored: &[],
     steps: &[
         (
             63,
@@ -291,192 +326,26 @@ const LAST_WORD: Example = Example {
     ],
 };
 
-// What a machine leaves: how many records there are, if they are legal and each word below a number has its first value.
-fn left(
-    alloc: Global,
-    machine: Machine,
-    cores: Vec<CoreSeat>,
-    banks: Vec<BankSeat>,
-    words: u64,
-) -> Result<Option<usize>, Fail>
-    requires cores { AllCoreSeats machine cores.items }
-    requires banks { AllBankSeats machine banks.items }
-{
-    let count = machine.set_up.config.cores;
-    let run = closed(alloc, machine, cores, banks)?.ok_or("all seats are there")?;
-    if !is_legal(alloc, &run, count)? || !has_first_values(&run, words) {
-        return Ok(None);
-    }
-    Ok(Some(run.records().len()))
-}
-
-// Core 0 fills its outbox while a request of it is out. False if a call is answered otherwise.
-fn fill_core(machine: &Machine, cores: &mut Vec<CoreSeat>, banks: &mut Vec<BankSeat>) -> bool
-    requires cores { AllCoreSeats machine.now cores.old.items }
-    requires banks { AllBankSeats machine.now banks.old.items }
-    ensures cores { AllCoreSeats machine.now cores.new.items }
-    ensures banks { AllBankSeats machine.now banks.new.items }
-{
-    if !own(machine, cores, banks, 1) {
-        return false;
-    }
-    if play(machine, cores, banks, REQUESTED, usize::MAX).is_some() {
-        return false;
-    }
-    evict_below(machine, cores, banks, 0, PLACES, Says::Done)
-}
-
-// A core fills its outbox while a request of it is out. The index of the first step that is answered otherwise, if any
-// is, and what is left.
-fn core_is_full(alloc: Global) -> Result<(Option<usize>, Option<usize>), Fail> {
-    let (machine, mut cores, mut banks) = opened(alloc, WIDE)?;
-    if !fill_core(&machine, &mut cores, &mut banks) {
-        return Err(Fail::from("the outbox of the core is filled"));
-    }
-    let other = play(&machine, &mut cores, &mut banks, CORE_STEPS, usize::MAX);
-    Ok((other, left(alloc, machine, cores, banks, PLACES + 1)?))
-}
-
-// The bank fills its outbox with recalls. False if a call is answered otherwise.
-fn fill_bank(machine: &Machine, cores: &mut Vec<CoreSeat>, banks: &mut Vec<BankSeat>) -> bool
-    requires cores { AllCoreSeats machine.now cores.old.items }
-    requires banks { AllBankSeats machine.now banks.old.items }
-    ensures cores { AllCoreSeats machine.now cores.new.items }
-    ensures banks { AllBankSeats machine.now banks.new.items }
-{
-    if !own(machine, cores, banks, 2) {
-        return false;
-    }
-    evict_below(machine, cores, banks, 2, PLACES, Says::Recalled)
-}
-
-// A bank fills its outbox. The same.
-fn bank_is_full(alloc: Global) -> Result<(Option<usize>, Option<usize>), Fail> {
-    let (machine, mut cores, mut banks) = opened(alloc, WIDE_TWO)?;
-    if !fill_bank(&machine, &mut cores, &mut banks) {
-        return Err(Fail::from("the outbox of the bank is filled"));
-    }
-    let other = play(&machine, &mut cores, &mut banks, BANK_STEPS, usize::MAX);
-    Ok((other, left(alloc, machine, cores, banks, PLACES + 1)?))
-}
-
-// Core 0 stores to each of lines 0 to 255, and sends it back to the bank. False if a call is answered otherwise.
-fn give(machine: &Machine, cores: &mut Vec<CoreSeat>, banks: &mut Vec<BankSeat>) -> bool
-    requires cores { AllCoreSeats machine.now cores.old.items }
-    requires banks { AllBankSeats machine.now banks.old.items }
-    ensures cores { AllCoreSeats machine.now cores.new.items }
-    ensures banks { AllBankSeats machine.now banks.new.items }
-{
-    for at in 0..PLACES {
-        let back = [
-            (0, Call::Evict(at), Says::Done),
-            (0, Call::Turn, Says::Turned(1, Served::Nothing)),
-            (4, Call::Turn, Says::Turned(0, Served::Delivered)),
-        ];
-        if !store_first(machine, cores, banks, 0, 4, at) {
-            return false;
-        }
-        if play(machine, cores, banks, back.as_slice(), usize::MAX).is_some() {
-            return false;
-        }
-    }
-    true
-}
-
-// The bank serves so many messages. False if it answers otherwise than that one was delivered.
-fn serve_many(
-    machine: &Machine,
-    cores: &mut Vec<CoreSeat>,
-    banks: &mut Vec<BankSeat>,
-    count: u32,
-) -> bool
-    requires cores { AllCoreSeats machine.now cores.old.items }
-    requires banks { AllBankSeats machine.now banks.old.items }
-    ensures cores { AllCoreSeats machine.now cores.new.items }
-    ensures banks { AllBankSeats machine.now banks.new.items }
-{
-    for _ in 0..count {
-        if called(machine, cores, banks, 4, Call::Serve) != Says::Served(Served::Delivered) {
-            return false;
-        }
-    }
-    true
-}
-
-// The bank's held list is filled up to two places. False if a call is answered otherwise.
-fn fill_held(machine: &Machine, cores: &mut Vec<CoreSeat>, banks: &mut Vec<BankSeat>) -> bool
-    requires cores { AllCoreSeats machine.now cores.old.items }
-    requires banks { AllBankSeats machine.now banks.old.items }
-    ensures cores { AllCoreSeats machine.now cores.new.items }
-    ensures banks { AllBankSeats machine.now banks.new.items }
-{
-    if !store_first(machine, cores, banks, 1, 4, 400) {
-        return false;
-    }
-    if !give(machine, cores, banks) {
-        return false;
-    }
-    evict_below(machine, cores, banks, 4, PLACES - 2, Says::Done)
-}
-
-// The steps at two places, one and none; then the stores are served, and the steps with places again follow. The index
-// of the first step of a table that is answered otherwise, or one behind the first table if a store isn't served.
-fn play_few(
-    machine: &Machine,
-    cores: &mut Vec<CoreSeat>,
-    banks: &mut Vec<BankSeat>,
-) -> Option<usize>
-    requires cores { AllCoreSeats machine.now cores.old.items }
-    requires banks { AllBankSeats machine.now banks.old.items }
-    ensures cores { AllCoreSeats machine.now cores.new.items }
-    ensures banks { AllBankSeats machine.now banks.new.items }
-{
-    let other = play(machine, cores, banks, FEW_PLACES, usize::MAX);
-    if other.is_some() {
-        return other;
-    }
-    if !serve_many(machine, cores, banks, STORES_LEFT) {
-        return Some(FEW_PLACES.len());
-    }
-    play(machine, cores, banks, PLACES_AGAIN, usize::MAX)
-}
-
-// The held list of a bank has two places, one and none, and then some again. The index of the first step of a table that
-// is answered otherwise, if any is, and what is left.
-fn few_places(alloc: Global) -> Result<(Option<usize>, Option<usize>), Fail> {
-    let (machine, mut cores, mut banks) = opened(alloc, FOUR_CORES)?;
-    if !fill_held(&machine, &mut cores, &mut banks) {
-        return Err(Fail::from("the held list has two places"));
-    }
-    let other = play_few(&machine, &mut cores, &mut banks);
-    Ok((other, left(alloc, machine, cores, banks, PLACES)?))
-}
-
 #[test]
 fn a_full_outbox_of_a_core_refuses_what_sends_and_no_more(rt: HostRuntime) -> Result<(), Fail> {
-    assert_eq!(rt; core_is_full(rt.alloc())?, (None, Some(259)));
+    assert_eq!(rt; wrong(rt.alloc(), &CORE_IS_FULL)?, None);
     Ok(())
 }
 
 #[test]
 fn a_full_outbox_of_a_bank_refuses_what_leaves_and_no_more(rt: HostRuntime) -> Result<(), Fail> {
-    assert_eq!(rt; bank_is_full(rt.alloc())?, (None, Some(257)));
+    assert_eq!(rt; wrong(rt.alloc(), &BANK_IS_FULL)?, None);
     Ok(())
 }
 
 #[test]
 fn a_held_list_takes_what_finds_its_places(rt: HostRuntime) -> Result<(), Fail> {
-    assert_eq!(rt; few_places(rt.alloc())?, (None, Some(257)));
+    assert_eq!(rt; wrong(rt.alloc(), &FEW_PLACES_LEFT)?, None);
     Ok(())
 }
 
 #[test]
 fn a_machine_of_the_greatest_sizes_opens_and_serves(rt: HostRuntime) -> Result<(), Fail> {
-    let (other, run) = played(rt.alloc(), &LAST_WORD, usize::MAX)?;
-    assert_eq!(rt; other, None);
-    let run = run.ok_or("all seats are there")?;
-    assert_eq!(rt; run.records().len(), LAST_WORD.records);
-    assert!(rt; is_legal(rt.alloc(), &run, 64)?);
-    assert!(rt; has_values(&run, LAST_WORD.words));
+    assert_eq!(rt; prepared::wrong(rt.alloc(), &LAST_WORD)?, None);
     Ok(())
 }

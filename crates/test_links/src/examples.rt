@@ -1,6 +1,7 @@
 //! Examples of seats, call by call, worked out by hand from docs/PROTOCOL.md and docs/SEATS.md.
 use crate::calls::{Call, On, Says};
-use crate::player::{Example, has_values, is_legal, played};
+use crate::player::Example;
+use crate::prepared::find_wrong;
 use machine_table::Config;
 use mailboxes::Take;
 use serving::Served;
@@ -56,6 +57,7 @@ const TINY: Config = Config {
 const FIRST_STORE: Example = Example {
     shows: "a first store and a load of it, turn by turn",
     config: ONE,
+    stored: &[],
     steps: &[
         (0, Call::Issue(On::Store(0, 7)), Says::Done),
         (0, Call::Attempt, Says::Requested),
@@ -77,6 +79,7 @@ const FIRST_STORE: Example = Example {
 const MESSAGE: Example = Example {
     shows: "a value that one core stored comes to another, with an attempt before each of its turns",
     config: TWO,
+    stored: &[],
     steps: &[
         (0, Call::Issue(On::Store(0, 7)), Says::Done),
         (0, Call::Attempt, Says::Requested),
@@ -126,6 +129,7 @@ const MESSAGE: Example = Example {
 pub(crate) const FALSE_SHARING: Example = Example {
     shows: "two words of one line: an upgrade, and a stale hit",
     config: TWO_OF_EIGHT,
+    stored: &[],
     steps: &[
         (0, Call::Issue(On::Store(0, 5)), Says::Done),
         (0, Call::Attempt, Says::Requested),
@@ -168,6 +172,7 @@ pub(crate) const FALSE_SHARING: Example = Example {
 const PRIVATE_WRITES: Example = Example {
     shows: "stores at one time, with private writes",
     config: TWO_PRIVATE,
+    stored: &[],
     steps: &[
         (0, Call::Issue(On::Store(0, 1)), Says::Done),
         (0, Call::Attempt, Says::Requested),
@@ -214,6 +219,7 @@ const PRIVATE_WRITES: Example = Example {
 const LATER_WRITES: Example = Example {
     shows: "the same stores without private writes",
     config: TWO,
+    stored: &[],
     steps: &[
         (0, Call::Issue(On::Store(0, 1)), Says::Done),
         (0, Call::Attempt, Says::Requested),
@@ -237,6 +243,7 @@ const LATER_WRITES: Example = Example {
 const PRIVATE_AT_THE_END: Example = Example {
     shows: "two stores at the last time, with private writes",
     config: LAST_PRIVATE,
+    stored: &[],
     steps: &[
         (0, Call::Issue(On::Store(0, 1)), Says::Done),
         (0, Call::Attempt, Says::Requested),
@@ -266,6 +273,7 @@ const PRIVATE_AT_THE_END: Example = Example {
 const STORE_AFTER_THE_END: Example = Example {
     shows: "a second store after the last time stops its seat alone",
     config: LAST,
+    stored: &[],
     steps: &[
         (0, Call::Issue(On::Store(0, 1)), Says::Done),
         (0, Call::Attempt, Says::Requested),
@@ -297,6 +305,7 @@ const STORE_AFTER_THE_END: Example = Example {
 const TIMES_AT_THE_END: Example = Example {
     shows: "a core and a bank whose times are used up stop alone",
     config: LAST,
+    stored: &[],
     steps: &[
         (0, Call::Issue(On::Store(0, 1)), Says::Done),
         (0, Call::Attempt, Says::Requested),
@@ -331,6 +340,7 @@ const TIMES_AT_THE_END: Example = Example {
 const FULL_LINK: Example = Example {
     shows: "five lines are sent back: four find a slot",
     config: ONE,
+    stored: &[],
     steps: &[
         (0, Call::Issue(On::Store(0, 1)), Says::Done),
         (0, Call::Attempt, Says::Requested),
@@ -400,6 +410,7 @@ const FULL_LINK: Example = Example {
 const NO_ROOM: Example = Example {
     shows: "a full set makes room by its victim, and a pinned copy stays",
     config: TINY,
+    stored: &[],
     steps: &[
         (0, Call::Issue(On::Load(0)), Says::Done),
         (0, Call::Attempt, Says::Requested),
@@ -440,6 +451,7 @@ const NO_ROOM: Example = Example {
 const RECALLED_FOR_ROOM: Example = Example {
     shows: "an owned line is recalled before it leaves its bank, and is then stored",
     config: TINY,
+    stored: &[],
     steps: &[
         (0, Call::Issue(On::Store(0, 1)), Says::Done),
         (0, Call::Attempt, Says::Requested),
@@ -481,6 +493,7 @@ const RECALLED_FOR_ROOM: Example = Example {
 pub(crate) const SWAPS: Example = Example {
     shows: "swaps receive what was there",
     config: TWO,
+    stored: &[],
     steps: &[
         (0, Call::Issue(On::Swap(0, 1)), Says::Done),
         (0, Call::Attempt, Says::Requested),
@@ -527,17 +540,6 @@ const EXAMPLES: &[Example] = &[
 
 #[test]
 fn seats_do_as_the_tables_say(rt: HostRuntime) -> Result<(), Fail> {
-    for example in EXAMPLES {
-        let shows = example.shows;
-        let (other, run) = played(rt.alloc(), example, usize::MAX)?;
-        assert_eq!(rt; other, None, "{shows}");
-        let run = run.ok_or("all seats are there")?;
-        assert_eq!(rt; run.records().len(), example.records, "{shows}");
-        assert!(rt;
-            is_legal(rt.alloc(), &run, example.config.cores)?,
-            "{shows}"
-        );
-        assert!(rt; has_values(&run, example.words), "{shows}");
-    }
+    assert_eq!(rt; find_wrong(rt.alloc(), EXAMPLES)?, None);
     Ok(())
 }

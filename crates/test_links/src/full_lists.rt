@@ -1,15 +1,9 @@
 //! A bank's seat whose held list is full: a core sends 257 lines back, and the bank evicts them all.
-ghost use Rattle.mailboxes.specs.RunParts.{Parts};
-ghost use Rattle.mailboxes.specs.Seats.{AllBankSeats, AllCoreSeats};
-
-use crate::calls::{Call, On, Says, word};
+use crate::acts::{Act, Long, PLACES, wrong};
+use crate::calls::{Call, On, Says};
 use crate::examples::ONE;
-use crate::full_outbox::{PLACES, evict_below, fill};
-use crate::player::{called, closed, is_legal, opened, play};
 use machine_table::Config;
-use mailboxes::{BankSeat, CoreSeat, Machine, Run};
 use serving::Served;
-use std::alloc::Global;
 use std::test::Fail;
 
 /// A cache of 64 sets for eight lines each.
@@ -54,97 +48,41 @@ const ANSWERS: &[(usize, Call, Says)] = &[
     (1, Call::Held(255), Says::Line(Some(256))),
 ];
 
-// The bank takes and serves all 257 lines, one a turn. The core puts one each time, while it has any: 253 are left of
-// those that weren't put at first.
-fn carry(machine: &Machine, cores: &mut Vec<CoreSeat>, banks: &mut Vec<BankSeat>) -> bool
-    requires cores { AllCoreSeats machine.now cores.old.items }
-    requires banks { AllBankSeats machine.now banks.old.items }
-    ensures cores { AllCoreSeats machine.now cores.new.items }
-    ensures banks { AllBankSeats machine.now banks.new.items }
-{
-    for at in 0..PLACES + 1 {
-        if called(machine, cores, banks, 1, Call::Turn) != Says::Turned(0, Served::Delivered) {
-            return false;
-        }
-        if called(machine, cores, banks, 0, Call::Put) != Says::Is(at < 253) {
-            return false;
-        }
-    }
-    true
-}
+/// The bank takes and serves a line, and the core puts one.
+const CARRIED: &[(usize, Call, Says)] = &[
+    (1, Call::Turn, Says::Turned(0, Served::Delivered)),
+    (0, Call::Put, Says::Is(true)),
+];
 
-/// Whether each word below a number has the value that was stored to it first: one more than its own number.
-pub(crate) fn has_first_values(run: &Run, below: u64) -> bool
-    requires { Parts run.now }
-{
-    for at in 0..below {
-        if run.value(word(at)) != at.saturating_add(1) {
-            return false;
-        }
-    }
-    true
-}
+/// The same with a core that has none left.
+const CARRIED_LAST: &[(usize, Call, Says)] = &[
+    (1, Call::Turn, Says::Turned(0, Served::Delivered)),
+    (0, Call::Put, Says::Is(false)),
+];
 
-// The bank's held list is filled with stores, each of which is served; then the oldest answer is. The index of the first
-// step of a table that is answered otherwise, if any is.
-fn fill_and_serve(
-    machine: &Machine,
-    cores: &mut Vec<CoreSeat>,
-    banks: &mut Vec<BankSeat>,
-) -> Option<usize>
-    requires cores { AllCoreSeats machine.now cores.old.items }
-    requires banks { AllBankSeats machine.now banks.old.items }
-    ensures cores { AllCoreSeats machine.now cores.new.items }
-    ensures banks { AllBankSeats machine.now banks.new.items }
-{
-    if !evict_below(machine, cores, banks, 1, PLACES, Says::Done) {
-        return Some(0);
-    }
-    let other = play(machine, cores, banks, STORES, usize::MAX);
-    if other.is_some() {
-        return other;
-    }
-    for _ in 1..PLACES {
-        if called(machine, cores, banks, 1, Call::Serve) != Says::Served(Served::Delivered) {
-            return Some(STORES.len());
-        }
-    }
-    play(machine, cores, banks, ANSWERS, usize::MAX)
-}
+const SERVED: &[(usize, Call, Says)] = &[(1, Call::Serve, Says::Served(Served::Delivered))];
 
-// Whether all calls are answered as they should be until the held list of the bank is to be filled.
-fn prepare(machine: &Machine, cores: &mut Vec<CoreSeat>, banks: &mut Vec<BankSeat>) -> bool
-    requires cores { AllCoreSeats machine.now cores.old.items }
-    requires banks { AllBankSeats machine.now banks.old.items }
-    ensures cores { AllCoreSeats machine.now cores.new.items }
-    ensures banks { AllBankSeats machine.now banks.new.items }
-{
-    if !fill(machine, cores, banks) {
-        return false;
-    }
-    if play(machine, cores, banks, SENT_BACK, usize::MAX).is_some() {
-        return false;
-    }
-    carry(machine, cores, banks)
-}
-
-// What is answered otherwise once the bank has all lines, if anything is; and how many records there are, if they are
-// legal and each word has its value.
-fn played(alloc: Global) -> Result<(Option<usize>, Option<usize>), Fail> {
-    let (machine, mut cores, mut banks) = opened(alloc, WIDE)?;
-    if !prepare(&machine, &mut cores, &mut banks) {
-        return Err(Fail::from("all lines come back to the bank"));
-    }
-    let other = fill_and_serve(&machine, &mut cores, &mut banks);
-    let run = closed(alloc, machine, cores, banks)?.ok_or("all seats are there")?;
-    if !is_legal(alloc, &run, 1)? || !has_first_values(&run, PLACES + 1) {
-        return Ok((other, None));
-    }
-    Ok((other, Some(run.records().len())))
-}
+/// Of the 257 lines the core puts four at first, and one behind each of the first 253 turns of the bank. The held list
+/// is then filled with stores, each of which is served.
+const FILLED: Long = Long {
+    config: WIDE,
+    acts: &[
+        Act::Own(1),
+        Act::Evict(0, PLACES, Says::Done),
+        Act::Times(1, SENT_BACK),
+        Act::Times(253, CARRIED),
+        Act::Times(4, CARRIED_LAST),
+        Act::Evict(1, PLACES, Says::Done),
+        Act::Times(1, STORES),
+        Act::Times(255, SERVED),
+        Act::Times(1, ANSWERS),
+    ],
+    records: 258,
+    words: 257,
+};
 
 #[test]
 fn a_full_held_list_refuses_one_line_more_and_keeps_it(rt: HostRuntime) -> Result<(), Fail> {
-    assert_eq!(rt; played(rt.alloc())?, (None, Some(258)));
+    assert_eq!(rt; wrong(rt.alloc(), &FILLED)?, None);
     Ok(())
 }

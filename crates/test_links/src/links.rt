@@ -10,8 +10,9 @@ use std::test::Fail;
 #[test]
 fn no_seat_puts_and_no_seat_takes(rt: HostRuntime) -> Result<(), Fail> {
     let (machine, mut cores, mut banks) = opened(rt.alloc())?;
-    assert!(rt; all_find_nothing(&machine, &mut cores, &mut banks));
-    assert!(rt; all_find_nothing(&machine, &mut cores, &mut banks));
+    let is_right = all_find_nothing(&machine, &mut cores, &mut banks)
+        && all_find_nothing(&machine, &mut cores, &mut banks);
+    assert!(rt; is_right);
     Ok(())
 }
 

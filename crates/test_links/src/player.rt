@@ -1,5 +1,5 @@
-//! Plays examples: calls of seats one after the other, and then the machine is closed with all of them.
-ghost use Rattle.std.specs.Prelude.{IfOk, IfSome};
+//! Makes calls of seats one after the other, and closes the machine with all of them; what it leaves is looked at.
+ghost use Rattle.std.specs.Prelude.{IfOk};
 ghost use Rattle.mailboxes.specs.RunParts.{Parts};
 ghost use Rattle.mailboxes.specs.Seats.{AllBankSeats, AllCoreSeats};
 
@@ -10,12 +10,14 @@ use physiological_order::{Memory, Op, Record, Verdict, check};
 use std::alloc::Global;
 use std::test::Fail;
 
-/// An example: what it shows, in a sentence; how the machine is set up; what happens; how many records there are at
+/// An example: what it shows, in a sentence; how the machine is set up; which core stores to which words first, one
+/// after the other: to word w it stores w + 1, and to no line twice; what happens then; how many records there are at
 /// the end; and which words have which values then.
 #[derive(Clone, Copy)]
 pub(crate) struct Example {
     pub(crate) shows: &'static str,
     pub(crate) config: Config,
+    pub(crate) stored: &'static [(usize, u64)],
     pub(crate) steps: &'static [(usize, Call, Says)],
     pub(crate) records: usize,
     pub(crate) words: &'static [(u64, u64)],
@@ -96,35 +98,21 @@ pub(crate) fn opened(
     }
 }
 
-/// What a machine leaves that is closed with its seats; none if one is missing.
+/// What a machine leaves that is closed with its seats. Fails if one is missing.
 pub(crate) fn closed(
     alloc: Global,
     machine: Machine,
     cores: Vec<CoreSeat>,
     banks: Vec<BankSeat>,
-) -> Result<Option<Run>, Fail>
+) -> Result<Run, Fail>
     requires cores { AllCoreSeats machine cores.items }
     requires banks { AllBankSeats machine banks.items }
-    ensures { IfOk result (λ run. IfSome run (λ r. Parts r)) }
+    ensures { IfOk result (λ run. Parts run) }
 {
     if !machine.is_whole(cores.as_slice(), banks.as_slice()) {
-        return Ok(None);
+        return Err(Fail::from("all seats are there"));
     }
-    Ok(Some(machine.close(alloc, cores, banks)?))
-}
-
-/// Plays the first calls of an example on a new machine, up to `most`, and closes it; the index of the first call that
-/// is answered otherwise, if any is, and what the machine leaves.
-pub(crate) fn played(
-    alloc: Global,
-    example: &Example,
-    most: usize,
-) -> Result<(Option<usize>, Option<Run>), Fail>
-    ensures { IfOk result (λ r. IfSome r.1 (λ run. Parts run)) }
-{
-    let (machine, mut cores, mut banks) = opened(alloc, example.config)?;
-    let other = play(&machine, &mut cores, &mut banks, example.steps, most);
-    Ok((other, closed(alloc, machine, cores, banks)?))
+    Ok(machine.close(alloc, cores, banks)?)
 }
 
 /// Whether the checker says that a run's records are legal, for the operations that its cores were issued and a memory
@@ -150,4 +138,23 @@ pub(crate) fn has_values(run: &Run, words: &[(u64, u64)]) -> bool
         }
     }
     true
+}
+
+/// Whether a run has as many records as an example says, they are legal, and its words have their values.
+pub(crate) fn is_right(alloc: Global, run: &Run, example: &Example) -> Result<bool, Fail>
+    requires { Parts run.now }
+{
+    Ok(
+        run.records().len() == example.records
+            && is_legal(alloc, run, example.config.cores)?
+            && has_values(run, example.words),
+    )
+}
+
+/// The first that is answered otherwise; or this count of all, if what is left is wrong.
+pub(crate) fn first_wrong(other: Option<usize>, is_right: bool, count: usize) -> Option<usize> {
+    if other.is_none() && !is_right {
+        return Some(count);
+    }
+    other
 }

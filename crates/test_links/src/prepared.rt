@@ -1,22 +1,14 @@
-//! Plays examples in which cores own lines at first: each stores to words of its own, before the steps of the example.
-ghost use Rattle.std.specs.Prelude.{IfOk, IfSome};
+//! Plays examples. Cores may own lines at first: each stores to words of its own, before the steps of the example.
+ghost use Rattle.std.specs.Prelude.{IfOk};
 ghost use Rattle.mailboxes.specs.RunParts.{Parts};
 ghost use Rattle.mailboxes.specs.Seats.{AllBankSeats, AllCoreSeats};
 
 use crate::calls::{Call, On, Says};
-use crate::player::{Example, called, closed, has_values, is_legal, opened, play};
+use crate::player::{Example, called, closed, first_wrong, is_right, opened, play};
 use mailboxes::{BankSeat, CoreSeat, Machine, Run};
 use serving::Served;
 use std::alloc::Global;
 use std::test::Fail;
-
-/// Which core stores to which words first, one after the other: to word w it stores w + 1. No line is stored to twice.
-/// What happens then.
-#[derive(Clone, Copy)]
-pub(crate) struct Prepared {
-    pub(crate) stored: &'static [(usize, u64)],
-    pub(crate) then: Example,
-}
 
 /// A core stores to a word whose line no core and no bank has: it asks for the line, which the bank loads and grants.
 /// False if a call is answered otherwise.
@@ -66,7 +58,7 @@ fn store_all(
     ensures banks { AllBankSeats machine.now banks.new.items }
 {
     let config = machine.set_up.config;
-    if config.line_words != 1 || config.banks == 0 {
+    if config.banks == 0 || (config.line_words != 1 && !stored.is_empty()) {
         return false;
     }
     for i in 0..stored.len() {
@@ -79,42 +71,57 @@ fn store_all(
     true
 }
 
-/// Plays an example on a new machine, and closes it; the index of the first step that is answered otherwise, if any is,
-/// and what the machine leaves.
+// All first stores, and then the steps, up to `most`. The index of the first step that is answered otherwise, if any
+// is; or the number of steps, if a first store isn't completed.
+fn play_prepared(
+    machine: &Machine,
+    cores: &mut Vec<CoreSeat>,
+    banks: &mut Vec<BankSeat>,
+    example: &Example,
+    most: usize,
+) -> Option<usize>
+    requires cores { AllCoreSeats machine.now cores.old.items }
+    requires banks { AllBankSeats machine.now banks.old.items }
+    ensures cores { AllCoreSeats machine.now cores.new.items }
+    ensures banks { AllBankSeats machine.now banks.new.items }
+{
+    if !store_all(machine, cores, banks, example.stored) {
+        return Some(example.steps.len());
+    }
+    play(machine, cores, banks, example.steps, most)
+}
+
+/// Plays an example on a new machine, up to so many of its steps, and closes it; the index of the first step that is
+/// answered otherwise, if any is, and what the machine leaves.
 pub(crate) fn played(
     alloc: Global,
-    example: &Prepared,
-) -> Result<(Option<usize>, Option<Run>), Fail>
-    ensures { IfOk result (λ r. IfSome r.1 (λ run. Parts run)) }
+    example: &Example,
+    most: usize,
+) -> Result<(Option<usize>, Run), Fail>
+    ensures { IfOk result (λ r. Parts r.1) }
 {
-    let (machine, mut cores, mut banks) = opened(alloc, example.then.config)?;
-    if !store_all(&machine, &mut cores, &mut banks, example.stored) {
-        return Err(Fail::from("the first stores are completed"));
-    }
-    let other = play(
-        &machine,
-        &mut cores,
-        &mut banks,
-        example.then.steps,
-        usize::MAX,
-    );
+    let (machine, mut cores, mut banks) = opened(alloc, example.config)?;
+    let other = play_prepared(&machine, &mut cores, &mut banks, example, most);
     Ok((other, closed(alloc, machine, cores, banks)?))
 }
 
 /// What is wrong with an example, if anything is: the index of the first step that is answered otherwise; or the
-/// number of steps, if the records that are left are too few, too many or not legal, or a word has another value.
-pub(crate) fn wrong(alloc: Global, example: &Prepared) -> Result<Option<usize>, Fail> {
-    let (other, run) = played(alloc, example)?;
-    let run = run.ok_or("all seats are there")?;
-    if other.is_some() {
-        return Ok(other);
+/// number of steps, if a first store isn't completed, the records that are left are too few, too many or not legal, or
+/// a word has another value.
+pub(crate) fn wrong(alloc: Global, example: &Example) -> Result<Option<usize>, Fail> {
+    let (other, run) = played(alloc, example, usize::MAX)?;
+    Ok(first_wrong(other, is_right(alloc, &run, example)?, example.steps.len()))
+}
+
+/// What the first example shows with which anything is wrong, and what is; none if all are right.
+pub(crate) fn find_wrong(
+    alloc: Global,
+    examples: &[Example],
+) -> Result<Option<(&'static str, usize)>, Fail> {
+    for i in 0..examples.len() {
+        if let Some(step) = wrong(alloc, &examples[i])? {
+            return Ok(Some((examples[i].shows, step)));
+        }
     }
-    let then = &example.then;
-    let is_right = run.records().len() == then.records
-        && is_legal(alloc, &run, then.config.cores)?
-        && has_values(&run, then.words);
-    if is_right {
-        return Ok(None);
-    }
-    Ok(Some(then.steps.len()))
+    Ok(None)
 }

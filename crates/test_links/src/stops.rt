@@ -1,6 +1,6 @@
 //! Store buffering through single calls of seats, in one fixed order. The seats stop after each number of calls, also
 //! right behind an issue, and the machine is closed: its records are legal, whatever was open or in flight.
-ghost use Rattle.std.specs.Prelude.{IfOk};
+ghost use Rattle.mailboxes.specs.RunParts.{Parts};
 ghost use Rattle.mailboxes.specs.Seats.{AllBankSeats, AllCoreSeats};
 
 use crate::calls::{Call, On, Says, op};
@@ -103,47 +103,79 @@ fn begins(ops: &[Op], program: &[On; 2], count: usize) -> bool {
     true
 }
 
-// How many operations were issued, and how many records there are, if the seats stop after so many calls. None if the
-// records aren't legal, a seat is missing, or the run lists other operations than those that the seats accepted.
-fn stopped(alloc: Global, calls: usize) -> Result<Option<(usize, usize)>, Fail> {
+// Makes the first calls, and counts what each core was issued.
+fn go_on(
+    machine: &Machine,
+    cores: &mut Vec<CoreSeat>,
+    banks: &mut Vec<BankSeat>,
+    calls: usize,
+    issued: &mut [usize; 2],
+)
+    requires cores { AllCoreSeats machine.now cores.old.items }
+    requires banks { AllBankSeats machine.now banks.old.items }
+    ensures cores { AllCoreSeats machine.now cores.new.items }
+    ensures banks { AllBankSeats machine.now banks.new.items }
+{
+    for at in 0..calls {
+        go(machine, cores, banks, at, issued);
+    }
+}
+
+// How many operations were issued, and how many records there are. Fails if the records aren't legal, or the run lists
+// other operations than those that the seats accepted.
+fn counted(alloc: Global, run: &Run, issued: &[usize; 2]) -> Result<(usize, usize), Fail>
+    requires { Parts run.now }
+{
+    let is_right = is_legal(alloc, run, 2)?
+        && begins(run.issued(0), &PROGRAMS[0], issued[0])
+        && begins(run.issued(1), &PROGRAMS[1], issued[1]);
+    if !is_right {
+        return Err(Fail::from("the records are legal, of what was issued"));
+    }
+    Ok((issued[0].saturating_add(issued[1]), run.records().len()))
+}
+
+// The same if the seats stop after so many calls. Fails if a seat is missing, too.
+fn stopped(alloc: Global, calls: usize) -> Result<(usize, usize), Fail> {
     let (machine, mut cores, mut banks) = opened(alloc, TWO)?;
     let mut issued: [usize; 2] = [0, 0];
-    for at in 0..calls {
-        go(&machine, &mut cores, &mut banks, at, &mut issued);
+    go_on(&machine, &mut cores, &mut banks, calls, &mut issued);
+    counted(alloc, &closed(alloc, machine, cores, banks)?, &issued)
+}
+
+// Whether this may follow, of how many operations were issued and how many records there are: no record comes right
+// behind an issue.
+fn may_follow(before: (usize, usize), after: (usize, usize)) -> bool {
+    let (issued, records) = after;
+    before.1 <= records
+        && records <= issued
+        && issued <= 4
+        && (issued <= before.0 || records == before.1)
+}
+
+// The first number of calls behind which the seats stop otherwise than they should; the last one, if not all operations
+// are then done, or they weren't issued by four calls. None if all is right.
+fn wrong_stop(alloc: Global) -> Result<Option<usize>, Fail> {
+    let mut before: (usize, usize) = (0, 0);
+    let mut issues: usize = 0;
+    for calls in 0..=MOST {
+        let after = stopped(alloc, calls)?;
+        if !may_follow(before, after) {
+            return Ok(Some(calls));
+        }
+        if after.0 > before.0 {
+            issues = issues.saturating_add(1);
+        }
+        before = after;
     }
-    let Some(run) = closed(alloc, machine, cores, banks)? else {
-        return Ok(None);
-    };
-    if !is_legal(alloc, &run, 2)?
-        || !begins(run.issued(0), &PROGRAMS[0], issued[0])
-        || !begins(run.issued(1), &PROGRAMS[1], issued[1])
-    {
+    if before == (4, 4) && issues == 4 {
         return Ok(None);
     }
-    Ok(Some((issued[0].saturating_add(issued[1]), run.records().len())))
+    Ok(Some(MOST))
 }
 
 #[test]
 fn records_are_legal_wherever_seats_stop(rt: HostRuntime) -> Result<(), Fail> {
-    let mut before: (usize, usize) = (0, 0);
-    let mut behind_issues: usize = 0;
-    for calls in 0..=MOST {
-        let (issued, records) = stopped(rt.alloc(), calls)?.ok_or("the records are legal")?;
-        assert!(rt;
-            before.1 <= records && records <= issued && issued <= 4,
-            "after {calls} calls"
-        );
-        if issued > before.0 {
-            behind_issues = behind_issues.saturating_add(1);
-            assert_eq!(rt;
-                records,
-                before.1,
-                "right behind an issue, after {calls} calls"
-            );
-        }
-        before = (issued, records);
-    }
-    assert_eq!(rt; before, (4, 4));
-    assert_eq!(rt; behind_issues, 4);
+    assert_eq!(rt; wrong_stop(rt.alloc())?, None);
     Ok(())
 }

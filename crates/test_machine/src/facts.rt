@@ -43,15 +43,20 @@ fn are_messages(messages: &[MsgNo], numbers: &[u64]) -> bool {
     left.is_empty()
 }
 
+// Whether a list is filled with these, and once more where it has all memory that it needs.
+fn is_filled(system: &System, list: &mut Vec<MsgNo>, numbers: &[u64]) -> Result<bool, AllocError> {
+    system.list_in_flight(list)?;
+    let capacity = list.capacity();
+    let are = are_messages(list, numbers);
+    system.list_in_flight(list)?;
+    Ok(are && are_messages(list, numbers) && list.capacity() == capacity)
+}
+
 // Whether a list that has a number already, and then one that has all memory that it needs, is filled with these.
 fn are_listed(alloc: Global, system: &System, numbers: &[u64]) -> Result<bool, AllocError> {
     let mut list = Vec::new(alloc);
     list.push(MsgNo(77))?;
-    system.list_in_flight(&mut list)?;
-    let capacity = list.capacity();
-    let are = are_messages(&list, numbers);
-    system.list_in_flight(&mut list)?;
-    Ok(are && are_messages(&list, numbers) && list.capacity() == capacity)
+    is_filled(system, &mut list, numbers)
 }
 
 // Whether the copies that may be evicted, one by one, are those of these lines.
@@ -134,25 +139,58 @@ fn sent_of(counts: &Counts) -> (u128, u128, u128, u128) {
     )
 }
 
+// Whether the copies of a core are those of these lines.
+fn has_copies(system: &System, core: u32, lines: &[u64]) -> Result<bool, AllocError> {
+    let copies = system.copies(core)?;
+    Ok(are_lines(&copies, lines))
+}
+
+// Whether a bank's settled entries, as a list and one by one, are those of these lines.
+fn has_entries(system: &System, bank: u32, lines: &[u64]) -> Result<bool, AllocError> {
+    let entries = system.entries(bank)?;
+    Ok(are_lines(&entries, lines) && are_settled(system, bank, lines)?)
+}
+
+// Whether the messages in flight, as a list and one by one, are those of these numbers.
+fn has_in_flight(alloc: Global, system: &System, numbers: &[u64]) -> Result<bool, AllocError> {
+    let messages = system.in_flight()?;
+    Ok(
+        are_messages(&messages, numbers)
+            && are_in_flight(system, numbers)
+            && are_listed(alloc, system, numbers)?,
+    )
+}
+
+// Whether so many operations are completed, and so many of the loads were stale hits.
+fn has_records(alloc: Global, system: &System, count: u64, hits: u64) -> Result<bool, AllocError> {
+    let records = system.records();
+    Ok(records.len() as u64 == count && stale(alloc, records)? == Some(hits))
+}
+
 // Whether the lists of a machine are as a line of an example says.
 fn has_lists(alloc: Global, system: &System, step: &Step) -> Result<bool, AllocError> {
     match step {
-        Step::Copies(core, lines) => Ok(are_lines(&system.copies(*core)?, lines)),
+        Step::Copies(core, lines) => has_copies(system, *core, lines),
         Step::Free(core, lines) => are_free(system, *core, lines),
-        Step::Entries(bank, lines) => Ok(
-            are_lines(&system.entries(*bank)?, lines) && are_settled(system, *bank, lines)?,
-        ),
-        Step::InFlight(numbers) => Ok(
-            are_messages(&system.in_flight()?, numbers)
-                && are_listed(alloc, system, numbers)?
-                && are_in_flight(system, numbers),
-        ),
+        Step::Entries(bank, lines) => has_entries(system, *bank, lines),
+        Step::InFlight(numbers) => has_in_flight(alloc, system, numbers),
         Step::Issues(core, ops) => Ok(are_issued(system.issued(*core), ops)),
-        Step::Records(count, hits) => {
-            let records = system.records();
-            Ok(records.len() as u64 == *count && stale(alloc, records)? == Some(*hits))
-        }
+        Step::Records(count, hits) => has_records(alloc, system, *count, *hits),
         _ => Ok(false),
+    }
+}
+
+// Whether what waits in a machine, and for what, is as a line of an example says.
+fn has_waiting(alloc: Global, system: &System, step: &Step) -> Result<bool, AllocError> {
+    match step {
+        Step::Victim(core, line, victim) => {
+            Ok(number_of(system.victim(*core, LineNo(*line))) == *victim)
+        }
+        Step::Room(number, room) => Ok(place_of(system.make_room(MsgNo(*number))) == *room),
+        Step::Open(core, pending, is_out) => {
+            Ok(open_of(system.open_op(*core)) == (*pending, *is_out))
+        }
+        _ => has_lists(alloc, system, step),
     }
 }
 
@@ -170,13 +208,6 @@ pub(crate) fn is_so(alloc: Global, system: &System, step: &Step) -> Result<bool,
         Step::Shape(banks, words) => {
             Ok(system.banks() == *banks && system.line_words() == *words)
         }
-        Step::Victim(core, line, victim) => {
-            Ok(number_of(system.victim(*core, LineNo(*line))) == *victim)
-        }
-        Step::Room(number, room) => Ok(place_of(system.make_room(MsgNo(*number))) == *room),
-        Step::Open(core, pending, is_out) => {
-            Ok(open_of(system.open_op(*core)) == (*pending, *is_out))
-        }
-        _ => has_lists(alloc, system, step),
+        _ => has_waiting(alloc, system, step),
     }
 }

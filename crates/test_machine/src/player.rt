@@ -20,11 +20,15 @@ fn memory_of(alloc: Global, words: &[(u64, u64)]) -> Result<Memory, AllocError> 
     Ok(memory)
 }
 
-/// A machine that opens on a memory with these words.
-pub(crate) fn opened(alloc: Global, config: Config, words: &[(u64, u64)]) -> Result<System, Fail> {
+/// A machine that opens on a memory with these words; an error also where its set-up is refused.
+pub(crate) fn opened(
+    alloc: Global,
+    config: Config,
+    words: &[(u64, u64)],
+) -> Result<System, AllocError> {
     match System::new(alloc, config, memory_of(alloc, words)?) {
         Ok(system) => Ok(system),
-        Err(_) => Err(Fail::from("the machine is not opened")),
+        Err(_) => Err(AllocError),
     }
 }
 
@@ -71,20 +75,49 @@ fn add(
     Ok(())
 }
 
-// Whether the events of an example, run as one list on a new machine, are answered as it says.
-fn runs(alloc: Global, example: &Example) -> Result<bool, Fail> {
-    let mut events = Vec::new(alloc);
-    let mut answers = Vec::new(alloc);
-    for step in example.steps {
+// Adds the events of an example and their answers to two lists.
+fn add_all(
+    events: &mut Vec<Event>,
+    answers: &mut Vec<Answer>,
+    steps: &[Step],
+) -> Result<(), AllocError> {
+    for step in steps {
         for index in 0..MOST {
             let Some(happens) = happening(step, index) else {
                 break;
             };
-            add(&mut events, &mut answers, happens)?;
+            add(events, answers, happens)?;
         }
     }
+    Ok(())
+}
+
+// Whether events, run as one list on a machine, are answered so.
+fn are_answered(
+    system: &mut System,
+    events: &[Event],
+    answers: &[Answer],
+) -> Result<bool, AllocError> {
+    Ok(system.run(events)?.as_slice() == answers)
+}
+
+// The same, on a new machine.
+fn are_answered_anew(
+    alloc: Global,
+    example: &Example,
+    events: &[Event],
+    answers: &[Answer],
+) -> Result<bool, AllocError> {
     let mut system = opened(alloc, example.config, example.words)?;
-    Ok(system.run(&events)?.as_slice() == answers.as_slice())
+    are_answered(&mut system, events, answers)
+}
+
+// Whether the events of an example, run as one list on a new machine, are answered as it says.
+fn runs(alloc: Global, example: &Example) -> Result<bool, AllocError> {
+    let mut events = Vec::new(alloc);
+    let mut answers = Vec::new(alloc);
+    add_all(&mut events, &mut answers, example.steps)?;
+    are_answered_anew(alloc, example, &events, &answers)
 }
 
 // Words of a memory that no example opens with.
@@ -98,24 +131,57 @@ fn has_other_words(system: &System) -> bool {
         && system.messages() == 0
 }
 
-/// Plays examples, each on a new machine, and on the same one opened again with another memory and with its own.
+// The same, as an example asserts it.
+fn assert_other_words<R: Abort>(rt: &R, system: &System, shows: &str) {
+    assert!(rt; has_other_words(system), "{shows}: another memory");
+}
+
+// Plays the lines of an example on a machine, which is new or opened again.
+fn follow<R: Abort>(
+    rt: &R,
+    alloc: Global,
+    system: &mut System,
+    example: &Example,
+    machine: &str,
+) -> Result<(), AllocError> {
+    for (number, step) in example.steps.iter().enumerate() {
+        let is_right = goes(alloc, system, step)?;
+        assert!(rt; is_right, "{}: step {number}, {machine}", example.shows);
+    }
+    Ok(())
+}
+
+// The machine, opened again on a memory with these words.
+fn reopened(alloc: Global, system: System, words: &[(u64, u64)]) -> Result<System, AllocError> {
+    let memory = memory_of(alloc, words)?;
+    system.reopen(memory)
+}
+
+// The machine on which an example was played, opened again with another memory.
+fn played<R: Abort>(rt: &R, alloc: Global, example: &Example) -> Result<System, AllocError> {
+    let mut system = opened(alloc, example.config, example.words)?;
+    follow(rt, alloc, &mut system, example, "new")?;
+    reopened(alloc, system, &OTHER_WORDS)
+}
+
+// That machine, opened once more, with its own memory.
+fn restored<R: Abort>(rt: &R, alloc: Global, example: &Example) -> Result<System, AllocError> {
+    let other = played(rt, alloc, example)?;
+    assert_other_words(rt, &other, example.shows);
+    reopened(alloc, other, example.words)
+}
+
+// Plays an example on a new machine, and on the same one opened again with another memory and with its own.
+fn play_twice<R: Abort>(rt: &R, alloc: Global, example: &Example) -> Result<(), AllocError> {
+    let mut again = restored(rt, alloc, example)?;
+    follow(rt, alloc, &mut again, example, "opened again")
+}
+
+/// Plays examples so, each once more as one list.
 pub(crate) fn play<R: Abort>(rt: &R, alloc: Global, examples: &[Example]) -> Result<(), Fail> {
     for example in examples {
-        let shows = example.shows;
-        let mut system = opened(alloc, example.config, example.words)?;
-        for (number, step) in example.steps.iter().enumerate() {
-            assert!(rt; goes(alloc, &mut system, step)?, "{shows}: step {number}");
-        }
-        let other = system.reopen(memory_of(alloc, &OTHER_WORDS)?)?;
-        assert!(rt; has_other_words(&other), "{shows}: another memory");
-        let mut again = other.reopen(memory_of(alloc, example.words)?)?;
-        for (number, step) in example.steps.iter().enumerate() {
-            assert!(rt;
-                goes(alloc, &mut again, step)?,
-                "{shows}: step {number}, opened again"
-            );
-        }
-        assert!(rt; runs(alloc, example)?, "{shows}, as one list");
+        play_twice(rt, alloc, example)?;
+        assert!(rt; runs(alloc, example)?, "{}, as one list", example.shows);
     }
     Ok(())
 }

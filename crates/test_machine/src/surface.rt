@@ -3,7 +3,7 @@ use crate::examples::{BUSY, Example, NO_SUCH, On, Says, Step, USUAL, X, Y};
 use crate::player::{is_bad, is_made, opened, play};
 use interleaving_core::{Config, OpenError, Refusal};
 use physiological_order::Memory;
-use std::alloc::Global;
+use std::alloc::{AllocError, Global};
 use std::test::Fail;
 
 // A place for one copy in each set, and for one line in the bank.
@@ -242,7 +242,7 @@ fn set_ups_at_the_ends_of_their_ranges(rt: HostRuntime) {
 
 // Whether a machine keeps its lines in rising order: before it is told to, told once, told twice, told to forget it,
 // told again, and opened again.
-fn orders(alloc: Global) -> Result<[bool; 6], Fail> {
+fn orders(alloc: Global) -> Result<[bool; 6], AllocError> {
     let mut system = opened(alloc, LEAST, &[])?;
     let at_first = system.keeps_order();
     system.keep_order();

@@ -77,3 +77,31 @@ pub(crate) fn answered<R: Threads + Sync>(
         errors,
     }
 }
+
+/// What the program is to answer: the exit status, standard output and standard error.
+#[derive(Clone, Copy)]
+pub(crate) struct Wanted<'a> {
+    pub(crate) status: u8,
+    pub(crate) out: &'a [u8],
+    pub(crate) errors: &'a [u8],
+}
+
+// Whether an answer is as it is wanted.
+fn is_wanted(answer: &Answer, wanted: &Wanted<'_>) -> bool {
+    answer.status == wanted.status
+        && answer.out.as_slice() == wanted.out
+        && answer.errors.as_slice() == wanted.errors
+}
+
+/// Whether the answer to words is as it is wanted, where the output fails after so many writes of one byte.
+pub(crate) fn answers_so<R: Threads + Sync>(
+    rt: &R,
+    alloc: Global,
+    shelf: Shelf<'_>,
+    words: &[&str],
+    writes: u32,
+    wanted: &Wanted<'_>,
+) -> bool {
+    let answer = answered(rt, alloc, shelf, words, writes);
+    is_wanted(&answer, wanted)
+}

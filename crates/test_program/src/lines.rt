@@ -1,12 +1,14 @@
 //! A line for each kind of fault: as the line is made, and as the program tells it of a text; and the number, the exit
 //! status and the line of each other error.
-use crate::host::{ALL, NAME, Shelf, answered};
+use crate::host::{ALL, NAME, Shelf, Wanted, answers_so};
 use litmus_lexer::{Kind, LitmusError};
 use run_results::{RunError, error_line, exit_status};
+use std::alloc::Global;
+use std::thread::Threads;
 use trace_lines::{Kind as TraceKind, TraceError};
 
 // Every kind, in a line of its own, as it is told.
-const KINDS: [(Kind, usize, &[u8]); 14] = [
+const KINDS: &[(Kind, usize, &[u8])] = &[
     (Kind::NoMemory, 0, b"tardis: line 0: 1 NoMemory\n"),
     (Kind::TooLarge, 1, b"tardis: line 1: 2 TooLarge\n"),
     (Kind::BadByte, 9, b"tardis: line 9: 3 BadByte\n"),
@@ -48,7 +50,7 @@ const KINDS: [(Kind, usize, &[u8]); 14] = [
 ];
 
 // The same of a trace and of records.
-const TRACE_KINDS: [(TraceKind, usize, &[u8]); 9] = [
+const TRACE_KINDS: &[(TraceKind, usize, &[u8])] = &[
     (TraceKind::Read, 0, b"tardis: line 0: 1 Read\n"),
     (TraceKind::NoMemory, 0, b"tardis: line 0: 2 NoMemory\n"),
     (
@@ -77,7 +79,7 @@ const TRACE_KINDS: [(TraceKind, usize, &[u8]); 9] = [
 ];
 
 // Texts with one fault each.
-const FAULTS: [(&[u8], &[u8]); 13] = [
+const FAULTS: &[(&[u8], &[u8])] = &[
     (
         b"RISCV T\n{ }\n P0 ;\n fence rw,rw ;\nexists ((((((((((((((((((((((((((((((((((((((((((((((((((((((((((((((((((x=0))))))))))))))))))))))))))))))))))))))))))))))))))))))))))))))))))\n",
         b"tardis: line 5: 2 TooLarge\n",
@@ -133,53 +135,71 @@ const FAULTS: [(&[u8], &[u8]); 13] = [
 ];
 
 // The errors that aren't about a text: the number, the exit status and the line.
-const ERRORS: [(RunError, u8, u8, &[u8]); 4] = [
+const ERRORS: &[(RunError, u8, u8, &[u8])] = &[
     (RunError::Read, 1, 4, b"tardis: read failed\n"),
     (RunError::Write, 2, 4, b"tardis: write failed\n"),
     (RunError::NoMemory, 3, 1, b"tardis: no memory\n"),
     (RunError::BadConfig, 6, 3, b"tardis: bad configuration\n"),
 ];
 
+// Whether an error has its number, its exit status and its line.
+fn is_told(error: &RunError, number: u8, status: u8, line: &[u8]) -> bool {
+    error.number() == number
+        && exit_status(&Err(*error)) == status
+        && error_line(error).as_slice() == line
+}
+
 #[test]
 fn each_error_has_its_number_status_and_line(rt: HostRuntime) {
     for (error, number, status, line) in ERRORS {
-        assert_eq!(rt; error.number(), number);
-        assert_eq!(rt; exit_status(&Err(error)), status);
-        assert!(rt; error_line(&error).as_slice() == line, "error {number}");
+        assert!(rt; is_told(error, *number, *status, line), "error {number}");
     }
+}
+
+// The same of a fault of a litmus text.
+fn is_kind_told(kind: Kind, line: usize, text: &[u8]) -> bool {
+    let error = RunError::Litmus(LitmusError { line, kind });
+    is_told(&error, 4, 2, text)
 }
 
 #[test]
 fn each_kind_has_its_line(rt: HostRuntime) {
     for (kind, line, text) in KINDS {
-        let error = RunError::Litmus(LitmusError { line, kind });
-        assert_eq!(rt; error.number(), 4);
-        assert_eq!(rt; exit_status(&Err(error)), 2);
-        assert!(rt; error_line(&error).as_slice() == text, "line {line}");
+        assert!(rt; is_kind_told(*kind, *line, text), "line {line}");
     }
+}
+
+// The same of a fault of a trace or of records.
+fn is_trace_kind_told(kind: TraceKind, line: usize, text: &[u8]) -> bool {
+    let error = RunError::Trace(TraceError { line, kind });
+    is_told(&error, 5, 2, text)
 }
 
 #[test]
 fn each_kind_of_a_trace_has_its_line(rt: HostRuntime) {
     for (kind, line, text) in TRACE_KINDS {
-        let error = RunError::Trace(TraceError { line, kind });
-        assert_eq!(rt; error.number(), 5);
-        assert_eq!(rt; exit_status(&Err(error)), 2);
-        assert!(rt; error_line(&error).as_slice() == text, "line {line}");
+        assert!(rt; is_trace_kind_told(*kind, *line, text), "line {line}");
     }
+}
+
+// Whether the program tells a text's fault by this line, and nothing else.
+fn is_fault<R: Threads + Sync>(rt: &R, alloc: Global, text: &[u8], line: &[u8]) -> bool {
+    let shelf = Shelf {
+        text,
+        records: b"",
+        reads: ALL,
+    };
+    let wanted = Wanted {
+        status: 2,
+        out: b"",
+        errors: line,
+    };
+    answers_so(rt, alloc, shelf, &["tardis", "litmus", NAME], ALL, &wanted)
 }
 
 #[test]
 fn each_fault_is_told(rt: HostRuntime) {
     for (number, (text, line)) in FAULTS.iter().enumerate() {
-        let shelf = Shelf {
-            text: *text,
-            records: b"",
-            reads: ALL,
-        };
-        let told = answered(&rt, rt.alloc(), shelf, &["tardis", "litmus", NAME], ALL);
-        assert_eq!(rt; told.status, 2);
-        assert_eq!(rt; told.out.len(), 0);
-        assert!(rt; told.errors.as_slice() == *line, "fault {number}");
+        assert!(rt; is_fault(&rt, rt.alloc(), text, line), "fault {number}");
     }
 }

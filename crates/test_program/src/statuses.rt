@@ -1,5 +1,5 @@
 //! An answer for each exit status, and for each option.
-use crate::host::{ALL, Answer, NAME, Shelf, answered};
+use crate::host::{ALL, Answer, NAME, Shelf, Wanted, answered, answers_so};
 use byte_streams::ToWrite;
 use program::{refuse, refuse_memory};
 use std::alloc::Global;
@@ -28,164 +28,225 @@ const ONE_ROUND: &[u8] =
 const EXHAUSTED: &[u8] =
     b"test S\nthreads 1\nruns 1\nall-done 0\nstalled 0\nlimit 0\nexhausted 1\nmemory 0\nstates 0\ncondition exists\nheld 0\nverdict no\ncompleted 0\nrenewals 0\nupgrades 0\nflushes 0\nwrite-backs 0\nstale-hits 0\n";
 
-fn told<R: Threads + Sync>(rt: &R, alloc: Global, words: &[&str]) -> Answer {
-    let shelf = Shelf {
+// Files of which the first holds that text, which fail after so many reads.
+fn shelf(reads: u32) -> Shelf<'static> {
+    Shelf {
         text: STORE,
         records: b"",
-        reads: ALL,
-    };
-    answered(rt, alloc, shelf, words, ALL)
+        reads,
+    }
 }
+
+// Whether the answer to words is as it is wanted, where nothing fails.
+fn tells<R: Threads + Sync>(rt: &R, alloc: Global, words: &[&str], wanted: &Wanted<'_>) -> bool {
+    answers_so(rt, alloc, shelf(ALL), words, ALL, wanted)
+}
+
+// Whether words are reported so, and nothing else is told.
+fn reports<R: Threads + Sync>(
+    rt: &R,
+    alloc: Global,
+    words: &[&str],
+    status: u8,
+    report: &[u8],
+) -> bool {
+    let wanted = Wanted {
+        status,
+        out: report,
+        errors: b"",
+    };
+    tells(rt, alloc, words, &wanted)
+}
+
+// Words, the exit status and the report.
+const REPORTS: &[(&[&str], u8, &[u8])] = &[
+    (&["tardis", "litmus", NAME], 0, STORE_REPORT),
+    (&["tardis", "litmus", "--runs", "2", NAME], 0, TWO_RUNS),
+    (&["tardis", "litmus", "--messages=1", NAME], 1, STALLED),
+    (&["tardis", "litmus", "--limit", "1", NAME], 1, ONE_ROUND),
+    (
+        &["tardis", "litmus", "--time", "18446744073709551615", NAME],
+        1,
+        EXHAUSTED,
+    ),
+];
 
 #[test]
 fn options_that_change_the_report(rt: HostRuntime) {
-    let cases: [(&[&str], u8, &[u8]); 5] = [
-        (&["tardis", "litmus", NAME], 0, STORE_REPORT),
-        (&["tardis", "litmus", "--runs", "2", NAME], 0, TWO_RUNS),
-        (&["tardis", "litmus", "--messages=1", NAME], 1, STALLED),
-        (&["tardis", "litmus", "--limit", "1", NAME], 1, ONE_ROUND),
-        (
-            &["tardis", "litmus", "--time", "18446744073709551615", NAME],
-            1,
-            EXHAUSTED,
-        ),
-    ];
-    for (words, status, report) in cases {
-        let told = told(&rt, rt.alloc(), words);
-        assert_eq!(rt; told.status, status);
-        assert!(rt; told.out.as_slice() == report);
-        assert_eq!(rt; told.errors.len(), 0);
+    for (number, (words, status, report)) in REPORTS.iter().enumerate() {
+        let is_right = reports(&rt, rt.alloc(), words, *status, report);
+        assert!(rt; is_right, "case {number}");
     }
+}
+
+const LEAVING_OPTIONS: &[&str] = &[
+    "--schedule=round",
+    "--schedule=threads",
+    "--workers=16",
+    "--lease=1",
+    "--banks=2",
+    "--sets=1",
+    "--ways=1",
+    "--bank-sets=1",
+    "--bank-ways=1",
+    "--line-words=8",
+    "--private-write",
+];
+
+// Whether the report of the defaults stays with an option.
+fn stays<R: Threads + Sync>(rt: &R, alloc: Global, option: &str) -> bool {
+    let words = ["tardis", "litmus", option, NAME];
+    reports(rt, alloc, &words, 0, STORE_REPORT)
 }
 
 #[test]
 fn options_that_leave_the_report(rt: HostRuntime) {
-    for option in [
-        "--schedule=round",
-        "--schedule=threads",
-        "--workers=16",
-        "--lease=1",
-        "--banks=2",
-        "--sets=1",
-        "--ways=1",
-        "--bank-sets=1",
-        "--bank-ways=1",
-        "--line-words=8",
-        "--private-write",
-    ] {
-        let told = told(&rt, rt.alloc(), &["tardis", "litmus", option, NAME]);
-        assert_eq!(rt; told.status, 0, "{option}");
-        assert!(rt; told.out.as_slice() == STORE_REPORT, "{option}");
+    for option in LEAVING_OPTIONS {
+        assert!(rt; stays(&rt, rt.alloc(), option), "{option}");
     }
+}
+
+// Whether the report of the defaults stays with an option, by threads.
+fn stays_by_threads<R: Threads + Sync>(rt: &R, alloc: Global, option: &str) -> bool {
+    let words = ["tardis", "litmus", "--schedule=threads", option, NAME];
+    reports(rt, alloc, &words, 0, STORE_REPORT)
 }
 
 // Nothing is drawn by threads, and seats have places of their own for messages. One worker gives all turns.
 #[test]
 fn options_without_effect_by_threads(rt: HostRuntime) {
-    for option in ["--seed=9", "--messages=1"] {
-        let words = ["tardis", "litmus", "--schedule=threads", option, NAME];
-        let told = told(&rt, rt.alloc(), &words);
-        assert_eq!(rt; told.status, 0, "{option}");
-        assert!(rt; told.out.as_slice() == STORE_REPORT, "{option}");
-        assert_eq!(rt; told.errors.len(), 0, "{option}");
-    }
+    assert!(rt; stays_by_threads(&rt, rt.alloc(), "--seed=9"));
+    assert!(rt; stays_by_threads(&rt, rt.alloc(), "--messages=1"));
+}
+
+// Whether so many workers report forty runs so.
+fn workers_report<R: Threads + Sync>(rt: &R, alloc: Global, workers: &str, report: &[u8]) -> bool {
+    let words = [
+        "tardis",
+        "litmus",
+        "--schedule=seed",
+        "--runs=40",
+        workers,
+        NAME,
+    ];
+    reports(rt, alloc, &words, 0, report)
+}
+
+// Whether forty runs are all done, and more workers report them as this answer does.
+fn workers_report_so<R: Threads + Sync>(rt: &R, alloc: Global, answer: &Answer) -> bool {
+    let report = answer.out.as_slice();
+    answer.status == 0
+        && workers_report(rt, alloc, "--workers=2", report)
+        && workers_report(rt, alloc, "--workers=16", report)
 }
 
 #[test]
 fn workers_leave_the_report(rt: HostRuntime) {
-    let one = ["tardis", "litmus", "--schedule=seed", "--runs=40", NAME];
-    let wanted = told(&rt, rt.alloc(), &one);
-    assert_eq!(rt; wanted.status, 0);
-    for workers in ["--workers=2", "--workers=16"] {
-        let words = [
-            "tardis",
-            "litmus",
-            "--schedule=seed",
-            "--runs=40",
-            workers,
-            NAME,
-        ];
-        let told = told(&rt, rt.alloc(), &words);
-        assert_eq!(rt; told.status, 0, "{workers}");
-        assert!(rt; told.out.as_slice() == wanted.out.as_slice(), "{workers}");
-    }
+    let words = ["tardis", "litmus", "--schedule=seed", "--runs=40", NAME];
+    let answer = answered(&rt, rt.alloc(), shelf(ALL), &words, ALL);
+    assert!(rt; workers_report_so(&rt, rt.alloc(), &answer));
+}
+
+const REACHING_OPTIONS: &[&str] = &[
+    "--lease=0",
+    "--banks=9",
+    "--sets=1025",
+    "--ways=17",
+    "--bank-sets=1025",
+    "--bank-ways=17",
+    "--line-words=2",
+    "--messages=0",
+];
+
+// Whether words are refused with status 3 and this text.
+fn refuses<R: Threads + Sync>(rt: &R, alloc: Global, words: &[&str], errors: &[u8]) -> bool {
+    let wanted = Wanted {
+        status: 3,
+        out: b"",
+        errors,
+    };
+    tells(rt, alloc, words, &wanted)
+}
+
+// Whether the machine is refused that an option asks for.
+fn reaches<R: Threads + Sync>(rt: &R, alloc: Global, option: &str) -> bool {
+    let words = ["tardis", "litmus", option, NAME];
+    refuses(rt, alloc, &words, b"tardis: bad configuration\n")
 }
 
 #[test]
 fn each_option_reaches_the_machine(rt: HostRuntime) {
-    for option in [
-        "--lease=0",
-        "--banks=9",
-        "--sets=1025",
-        "--ways=17",
-        "--bank-sets=1025",
-        "--bank-ways=17",
-        "--line-words=2",
-        "--messages=0",
-    ] {
-        let told = told(&rt, rt.alloc(), &["tardis", "litmus", option, NAME]);
-        assert_eq!(rt; told.status, 3, "{option}");
-        assert_eq!(rt; told.out.len(), 0);
-        assert!(rt;
-            told.errors.as_slice() == b"tardis: bad configuration\n".as_slice(),
-            "{option}"
-        );
+    for option in REACHING_OPTIONS {
+        assert!(rt; reaches(&rt, rt.alloc(), option), "{option}");
     }
 }
 
+const REFUSED: &[(&[&str], &[u8])] = &[
+    (
+        &["tardis", "litmus", "--limit", "0", NAME],
+        b"error: invalid value '0' for '--limit <limit>': 0 is not in 1..=4294967295\n\nFor more information, try '--help'.\n",
+    ),
+    (
+        &["tardis", "litmus", "--schedule=seed", "--workers=17", NAME],
+        b"error: invalid value '17' for '--workers <workers>': 17 is not in 1..=16\n\nFor more information, try '--help'.\n",
+    ),
+];
+
 #[test]
 fn refused_words(rt: HostRuntime) {
-    let cases: [(&[&str], &[u8]); 2] = [
-        (
-            &["tardis", "litmus", "--limit", "0", NAME],
-            b"error: invalid value '0' for '--limit <limit>': 0 is not in 1..=4294967295\n\nFor more information, try '--help'.\n",
-        ),
-        (
-            &["tardis", "litmus", "--schedule=seed", "--workers=17", NAME],
-            b"error: invalid value '17' for '--workers <workers>': 17 is not in 1..=16\n\nFor more information, try '--help'.\n",
-        ),
-    ];
-    for (words, errors) in cases {
-        let told = told(&rt, rt.alloc(), words);
-        assert_eq!(rt; told.status, 3);
-        assert_eq!(rt; told.out.len(), 0);
-        assert!(rt; told.errors.as_slice() == errors, "{words:?}");
+    for (number, (words, errors)) in REFUSED.iter().enumerate() {
+        assert!(rt; refuses(&rt, rt.alloc(), words, errors), "case {number}");
     }
+}
+
+const READ_FAILED: Wanted<'static> = Wanted {
+    status: 4,
+    out: b"",
+    errors: b"tardis: read failed\n",
+};
+
+const WRITE_FAILED: Wanted<'static> = Wanted {
+    status: 4,
+    out: b"test S",
+    errors: b"tardis: write failed\n",
+};
+
+// Whether it is told that the file isn't there, or that its third read failed.
+fn tells_failed_reads<R: Threads + Sync>(rt: &R, alloc: Global) -> bool {
+    let none = ["tardis", "litmus", "none"];
+    let words = ["tardis", "litmus", NAME];
+    answers_so(rt, alloc, shelf(ALL), &none, ALL, &READ_FAILED)
+        && answers_so(rt, alloc, shelf(2), &words, ALL, &READ_FAILED)
+}
+
+// Whether it is told that the seventh write failed.
+fn tells_failed_writes<R: Threads + Sync>(rt: &R, alloc: Global) -> bool {
+    let words = ["tardis", "litmus", NAME];
+    answers_so(rt, alloc, shelf(ALL), &words, 6, &WRITE_FAILED)
 }
 
 #[test]
 fn devices_that_fail(rt: HostRuntime) {
-    let words = ["tardis", "litmus", NAME];
-    let shelf = |reads: u32| Shelf {
-        text: STORE,
-        records: b"",
-        reads,
-    };
-    let none = answered(
-        &rt,
-        rt.alloc(),
-        shelf(ALL),
-        &["tardis", "litmus", "none"],
-        ALL,
-    );
-    let read = answered(&rt, rt.alloc(), shelf(2), &words, ALL);
-    for told in [none, read] {
-        assert_eq!(rt; told.status, 4);
-        assert_eq!(rt; told.out.len(), 0);
-        assert!(rt; told.errors.as_slice() == b"tardis: read failed\n".as_slice());
-    }
-    let write = answered(&rt, rt.alloc(), shelf(ALL), &words, 6);
-    assert_eq!(rt; write.status, 4);
-    assert!(rt; write.out.as_slice() == b"test S".as_slice());
-    assert!(rt; write.errors.as_slice() == b"tardis: write failed\n".as_slice());
+    assert!(rt; tells_failed_reads(&rt, rt.alloc()));
+    assert!(rt; tells_failed_writes(&rt, rt.alloc()));
+}
+
+// Whether words that aren't text are refused.
+fn refuses_bad_words(alloc: Global) -> bool {
+    let mut told = Vec::new(alloc);
+    let status = refuse(&mut ToWrite::new(&mut told));
+    status == 3 && told.as_slice() == b"tardis: bad command line\n".as_slice()
+}
+
+// Whether it is told that there is no memory for the words.
+fn refuses_without_memory(alloc: Global) -> bool {
+    let mut told = Vec::new(alloc);
+    let status = refuse_memory(&mut ToWrite::new(&mut told));
+    status == 1 && told.as_slice() == b"tardis: no memory\n".as_slice()
 }
 
 #[test]
 fn words_that_do_not_come(rt: HostRuntime) {
-    let mut bad = Vec::new(rt.alloc());
-    assert_eq!(rt; refuse(&mut ToWrite::new(&mut bad)), 3);
-    assert!(rt; bad.as_slice() == b"tardis: bad command line\n".as_slice());
-    let mut none = Vec::new(rt.alloc());
-    assert_eq!(rt; refuse_memory(&mut ToWrite::new(&mut none)), 1);
-    assert!(rt; none.as_slice() == b"tardis: no memory\n".as_slice());
+    assert!(rt; refuses_bad_words(rt.alloc()));
+    assert!(rt; refuses_without_memory(rt.alloc()));
 }

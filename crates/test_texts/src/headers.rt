@@ -1,11 +1,12 @@
 //! Names of tests and header lines, worked out by hand. Which bytes each may have is a law of the lexer.
-use litmus_reader::{Kind, LitmusError, read};
+use crate::reading::is_refused;
+use litmus_reader::{Kind, read};
 use std::alloc::{AllocError, Global};
 
 // The text behind the first lines: no test is smaller.
 const BODY: &[u8] = b"\n{ }\nP0 ;\nexists x=0\n";
 
-const ACCEPTED: [&[u8]; 12] = [
+const ACCEPTED: &[&[u8]] = &[
     b"RISCV a_1+b.c-[d]",
     b" \tRISCV\t.\r",
     b"RISCV a\nkey=value",
@@ -20,7 +21,7 @@ const ACCEPTED: [&[u8]; 12] = [
     b"RISCV a\nA=\\",
 ];
 
-const REFUSED: [(&[u8], usize, Kind); 15] = [
+const REFUSED: &[(&[u8], usize, Kind)] = &[
     (b"RISCV a b", 1, Kind::BadHeader),
     (b"RISCV a_b/c", 1, Kind::BadHeader),
     (b"RISCVa", 1, Kind::BadHeader),
@@ -38,18 +39,35 @@ const REFUSED: [(&[u8], usize, Kind); 15] = [
     (b"RISCV a\nk=\x7f", 2, Kind::BadByte),
 ];
 
-// What reading a text with these first lines answers.
-fn read_with(alloc: Global, front: &[u8]) -> Result<Option<LitmusError>, AllocError> {
+// A text with these first lines.
+fn text_with(alloc: Global, front: &[u8]) -> Result<Vec<u8>, AllocError> {
     let mut text = Vec::new(alloc);
     text.extend_from_slice(front)?;
     text.extend_from_slice(BODY)?;
-    Ok(read(alloc, &text).err())
+    Ok(text)
+}
+
+// Whether a text with these first lines is read.
+fn is_read_with(alloc: Global, front: &[u8]) -> Result<bool, AllocError> {
+    let text = text_with(alloc, front)?;
+    Ok(read(alloc, &text).is_ok())
+}
+
+// Whether a text with these first lines is refused for this fault.
+fn is_refused_with(
+    alloc: Global,
+    front: &[u8],
+    line: usize,
+    kind: Kind,
+) -> Result<bool, AllocError> {
+    let text = text_with(alloc, front)?;
+    Ok(is_refused(alloc, &text, line, kind))
 }
 
 // The number of the first text that isn't read.
 fn first_not_read(alloc: Global) -> Result<Option<usize>, AllocError> {
-    for number in 0..ACCEPTED.len() {
-        if read_with(alloc, ACCEPTED[number])? != None {
+    for (number, front) in ACCEPTED.iter().enumerate() {
+        if !is_read_with(alloc, front)? {
             return Ok(Some(number));
         }
     }
@@ -58,9 +76,8 @@ fn first_not_read(alloc: Global) -> Result<Option<usize>, AllocError> {
 
 // The number of the first text that isn't refused for its fault.
 fn first_not_refused(alloc: Global) -> Result<Option<usize>, AllocError> {
-    for number in 0..REFUSED.len() {
-        let (front, line, kind) = REFUSED[number];
-        if read_with(alloc, front)? != Some(LitmusError { line, kind }) {
+    for (number, (front, line, kind)) in REFUSED.iter().enumerate() {
+        if !is_refused_with(alloc, front, *line, *kind)? {
             return Ok(Some(number));
         }
     }

@@ -2,7 +2,6 @@
 use litmus_reader::{Kind, LitmusError, Name, Quantifier, Test, ThreadState, read};
 use physiological_order::{Op, WordAddr};
 use std::alloc::{AllocError, Global};
-use std::test::Fail;
 
 const STORE_BUFFERING: &[u8] =
     b"RISCV SB\n{ 0:x5=1; 0:x6=x; 0:x8=y; 1:x5=1; 1:x6=y; 1:x8=x; }\n P0          | P1          ;\n sw x5,0(x6) | sw x5,0(x6) ;\n lw x7,0(x8) | lw x7,0(x8) ;\nexists (0:x7=0 /\\ 1:x7=0)\n";
@@ -13,7 +12,7 @@ const SWAPS: &[u8] =
 // A text of one load, as it is cut.
 const LOAD: &[u8] = b"RISCV T\n{ 0:x6=x; }\nP0 ;\nlw x7,0(x6) ;\nexists (0:x7=0)\n";
 
-const REFUSED: [(&[u8], usize, Kind); 59] = [
+const REFUSED: &[(&[u8], usize, Kind)] = &[
     (b"RISCV T\n{ }\nP1 ;\nexists x=0\n", 3, Kind::BadTable),
     (b"RISCV T\n{ }\nP0|P0 ;\nexists x=0\n", 3, Kind::BadTable),
     (b"RISCV T\n{ }\np0 ;\nexists x=0\n", 3, Kind::BadTable),
@@ -277,7 +276,7 @@ const REFUSED: [(&[u8], usize, Kind); 59] = [
 
 // Within a cell its form goes before its numbers, these before the width, and that before its operands. No register
 // that is set to a location gets or gives a value, and `x99` is no location.
-const CELLS_WITH_MORE_THAN_ONE_FAULT: [(&[u8], usize, Kind); 11] = [
+const CELLS_WITH_MORE_THAN_ONE_FAULT: &[(&[u8], usize, Kind)] = &[
     (
         b"RISCV T\n{ }\n P0 ;\n ori x5,x1,2048 ;\nexists (x=0)\n",
         4,
@@ -335,7 +334,7 @@ const CELLS_WITH_MORE_THAN_ONE_FAULT: [(&[u8], usize, Kind); 11] = [
     ),
 ];
 
-const ACCEPTED: [&[u8]; 11] = [
+const ACCEPTED: &[&[u8]] = &[
     b"RISCV T\n{ 0:x6=x }\nP0 ;\namoswap.d.aq x7,x7,(x6) ;\namoswap.d x7,x7,(x6) ;\nexists x=0\n",
     b"RISCV T\n{ }\nP0 ;\nexists x=0/\\y=0\\/z=0\n",
     b"RISCV SB\n{ 0:x5=1; 0:x6=x; 0:x8=y; 1:x5=1; 1:x6=y; 1:x8=x; }\n P0          | P1          ;\n sw x5,0(x6) | sw x5,0(x6) ;\n lw x7,0(x8) | lw x7,0(x8) ;\nexists (0:x7=0 /\\ 1:x7=0)",
@@ -422,16 +421,15 @@ fn holds(
     Ok(Some(test.state_holds(&state)))
 }
 
-// Whether a text is refused for this fault.
-fn is_refused(alloc: Global, text: &[u8], line: usize, kind: Kind) -> bool {
+/// Whether a text is refused for this fault.
+pub(crate) fn is_refused(alloc: Global, text: &[u8], line: usize, kind: Kind) -> bool {
     read(alloc, text).err() == Some(LitmusError { line, kind })
 }
 
 // The number of the first text that isn't refused for its fault.
 fn first_not_refused(alloc: Global, cases: &[(&[u8], usize, Kind)]) -> Option<usize> {
-    for number in 0..cases.len() {
-        let (text, line, kind) = cases[number];
-        if !is_refused(alloc, text, line, kind) {
+    for (number, (text, line, kind)) in cases.iter().enumerate() {
+        if !is_refused(alloc, text, *line, *kind) {
             return Some(number);
         }
     }
@@ -439,9 +437,9 @@ fn first_not_refused(alloc: Global, cases: &[(&[u8], usize, Kind)]) -> Option<us
 }
 
 // The number of the first text that isn't read.
-fn first_not_read(alloc: Global) -> Option<usize> {
-    for number in 0..ACCEPTED.len() {
-        if read(alloc, ACCEPTED[number]).is_err() {
+fn first_not_read(alloc: Global, texts: &[&[u8]]) -> Option<usize> {
+    for (number, text) in texts.iter().enumerate() {
+        if read(alloc, text).is_err() {
             return Some(number);
         }
     }
@@ -450,27 +448,31 @@ fn first_not_read(alloc: Global) -> Option<usize> {
 
 #[test]
 fn texts_that_are_refused(rt: HostRuntime) {
-    assert_eq!(rt; first_not_refused(rt.alloc(), &REFUSED), None);
+    assert_eq!(rt; first_not_refused(rt.alloc(), REFUSED), None);
 }
 
 #[test]
 fn cells_with_more_than_one_fault(rt: HostRuntime) {
     assert_eq!(rt;
-        first_not_refused(rt.alloc(), &CELLS_WITH_MORE_THAN_ONE_FAULT),
+        first_not_refused(rt.alloc(), CELLS_WITH_MORE_THAN_ONE_FAULT),
         None
     );
 }
 
 #[test]
 fn texts_that_are_accepted(rt: HostRuntime) {
-    assert_eq!(rt; first_not_read(rt.alloc()), None);
+    assert_eq!(rt; first_not_read(rt.alloc(), ACCEPTED), None);
+}
+
+// Whether a text of so many blanks is refused as too large.
+fn are_too_many(alloc: Global, blanks: usize) -> Result<bool, AllocError> {
+    let text = vec![in alloc; b' '; blanks]?;
+    Ok(is_refused(alloc, &text, 1, Kind::TooLarge))
 }
 
 #[test]
-fn a_text_that_is_too_long(rt: HostRuntime) -> Result<(), Fail> {
-    let text = vec![in rt.alloc(); b' '; 65537]?;
-    assert!(rt; is_refused(rt.alloc(), &text, 1, Kind::TooLarge));
-    Ok(())
+fn a_text_that_is_too_long(rt: HostRuntime) {
+    assert_eq!(rt; are_too_many(rt.alloc(), 65537), Ok(true));
 }
 
 // Where a text is cut so that it is read, though it lacks more than the last byte, or the other way round.
@@ -508,10 +510,10 @@ fn has_names(test: &Test) -> bool {
 
 // Whether a text is read as the test of the store buffering.
 fn is_store_buffering(alloc: Global, text: &[u8]) -> bool {
-    let Some(test) = read(alloc, text).ok() else {
-        return false;
-    };
-    has_sizes(&test) && has_names(&test)
+    match read(alloc, text) {
+        Ok(test) => has_sizes(&test) && has_names(&test),
+        Err(_) => false,
+    }
 }
 
 #[test]
@@ -520,39 +522,57 @@ fn what_store_buffering_says(rt: HostRuntime) {
 }
 
 // A text, what its threads do, a memory at the end, the values of the end state, and whether the condition holds.
-const ENDS: [(&[u8], &[(u8, &[Step])], &[u64], &[u64], bool); 3] = [
+type Row = (
+    &'static [u8],
+    &'static [(u8, &'static [Step])],
+    &'static [u64],
+    &'static [u64],
+    bool,
+);
+
+const ENDS: &[Row] = &[
     (STORE_BUFFERING, &STORE_THEN_LOAD, &[1, 1], &[0, 1], false),
     (SWAPS, &SWAP_THEN_STORES, &[2047], &[9, 2047], true),
     (SWAPS, &SWAP_THEN_STORES, &[2], &[9, 2], false),
 ];
 
-// Whether the condition holds once the threads have done these steps, if they do, and if the end state has these
-// values.
-fn holds_after(
-    alloc: Global,
-    test: &Test,
+// Adds the threads of a test after these steps, if they do them and nothing else.
+fn add_gone<'a>(
+    states: &mut Vec<ThreadState<'a>>,
+    test: &'a Test,
     threads: &[(u8, &[Step])],
-    memory: &[u64],
-    values: &[u64],
-) -> Result<Option<bool>, AllocError> {
-    let mut states = Vec::new(alloc);
+) -> Result<bool, AllocError> {
     for (number, steps) in threads {
         let Some(state) = gone(test, *number, steps) else {
-            return Ok(None);
+            return Ok(false);
         };
         states.push(state)?;
     }
-    holds(test, &states, memory, values)
+    Ok(true)
+}
+
+// Whether a test's threads do the steps of a row, and the condition then holds or fails as wanted.
+fn ends_so(alloc: Global, test: &Test, row: &Row) -> Result<bool, AllocError> {
+    let (_, threads, memory, values, wanted) = *row;
+    let mut states = Vec::new(alloc);
+    Ok(
+        add_gone(&mut states, test, threads)?
+            && holds(test, &states, memory, values)? == Some(wanted),
+    )
+}
+
+// Whether the text of a row is read, and its test ends so.
+fn is_end(alloc: Global, row: &Row) -> Result<bool, AllocError> {
+    match read(alloc, row.0) {
+        Ok(test) => ends_so(alloc, &test, row),
+        Err(_) => Ok(false),
+    }
 }
 
 // The number of the first row whose text isn't read, or whose condition doesn't hold or fail as wanted.
 fn first_wrong_end(alloc: Global) -> Result<Option<usize>, AllocError> {
-    for number in 0..ENDS.len() {
-        let (text, threads, memory, values, wanted) = ENDS[number];
-        let Some(test) = read(alloc, text).ok() else {
-            return Ok(Some(number));
-        };
-        if holds_after(alloc, &test, threads, memory, values)? != Some(wanted) {
+    for (number, row) in ENDS.iter().enumerate() {
+        if !is_end(alloc, row)? {
             return Ok(Some(number));
         }
     }
@@ -564,21 +584,22 @@ fn ends_of_threads(rt: HostRuntime) {
     assert_eq!(rt; first_wrong_end(rt.alloc()), Ok(None));
 }
 
-// What the word opens as, and what a swap alone leaves in its register, if it receives that.
-fn swapped(alloc: Global) -> Result<Option<(u64, u64)>, AllocError> {
-    let Some(test) = read(alloc, SWAPS).ok() else {
-        return Ok(None);
-    };
+// Whether the word of a test opens as 9, and the swap alone receives that and leaves it in its register.
+fn is_swapped(test: &Test) -> Result<bool, AllocError> {
     let opening = test.opening()?.get(word(0));
     let mut thread = test.start(0);
-    if !goes(&mut thread, &[(Next::Swap(0, 4), Some(9))]) {
-        return Ok(None);
+    Ok(opening == 9 && goes(&mut thread, &[(Next::Swap(0, 4), Some(9))]) && thread.register(7) == 9)
+}
+
+fn reads_swap(alloc: Global) -> Result<bool, AllocError> {
+    match read(alloc, SWAPS) {
+        Ok(test) => is_swapped(&test),
+        Err(_) => Ok(false),
     }
-    Ok(Some((opening, thread.register(7))))
 }
 
 // The swap alone: it receives what the word opens as, into its register.
 #[test]
 fn a_swap_fills_its_register(rt: HostRuntime) {
-    assert_eq!(rt; swapped(rt.alloc()), Ok(Some((9, 9))));
+    assert_eq!(rt; reads_swap(rt.alloc()), Ok(true));
 }

@@ -1,5 +1,5 @@
 //! Whole texts, worked out by hand.
-use litmus_reader::{EndState, Test, read};
+use litmus_reader::{EndState, Test, ThreadState, read};
 use machine_table::Counts;
 use report_text::litmus_text;
 use run_ends::{End, RunEnd};
@@ -24,15 +24,25 @@ const NONE_SENT: Counts = Counts {
     write_backs: 0,
 };
 
-/// The end state of two threads of a store and a load, which receive these values.
+/// A thread of a test after one operation, which received this.
+fn once(test: &Test, thread: u8, value: Option<u64>) -> ThreadState<'_> {
+    let mut state = test.start(thread);
+    state.done(value);
+    state
+}
+
+/// A thread of a test after a store and a load, which received this value.
+fn loaded(test: &Test, thread: u8, value: u64) -> ThreadState<'_> {
+    let mut state = once(test, thread, None);
+    state.done(Some(value));
+    state
+}
+
+/// The end state of two such threads, which receive these values.
 fn received(alloc: Global, test: &Test, first: u64, second: u64) -> Result<EndState, AllocError> {
     let mut threads = Vec::new(alloc);
-    for (thread, value) in [(0, first), (1, second)] {
-        let mut state = test.start(thread);
-        state.done(None);
-        state.done(Some(value));
-        threads.push(state)?;
-    }
+    threads.push(loaded(test, 0, first))?;
+    threads.push(loaded(test, 1, second))?;
     test.end(&threads, &[1, 1])
 }
 
@@ -77,12 +87,17 @@ fn both_received(alloc: Global, test: &Test) -> Result<RunEnd, AllocError> {
     Ok(run)
 }
 
+// Whether the report on that run is as it is worked out.
+fn tells_store_buffering(alloc: Global, test: &Test) -> Result<bool, AllocError> {
+    let run = both_received(alloc, test)?;
+    is_report(alloc, test, &[run], STORE_BUFFERING_REPORT)
+}
+
 fn reports_store_buffering(alloc: Global) -> Result<bool, AllocError> {
-    let Some(test) = read(alloc, STORE_BUFFERING).ok() else {
-        return Ok(false);
-    };
-    let run = both_received(alloc, &test)?;
-    is_report(alloc, &test, &[run], STORE_BUFFERING_REPORT)
+    match read(alloc, STORE_BUFFERING) {
+        Ok(test) => tells_store_buffering(alloc, &test),
+        Err(_) => Ok(false),
+    }
 }
 
 #[test]
@@ -100,7 +115,7 @@ enum Outcome {
 }
 
 // Tests with the ends of their runs and the report on them.
-const REPORTS: [(&[u8], &[Outcome], &[u8]); 2] = [
+const REPORTS: &[(&[u8], &[Outcome], &[u8])] = &[
     // Two states, in the order in which they were seen first.
     (
         NEVER_BOTH,
@@ -139,6 +154,17 @@ fn runs_of(alloc: Global, test: &Test, runs: &[Outcome]) -> Result<Vec<RunEnd>, 
     Ok(made)
 }
 
+// Whether runs of a test that end so are reported so.
+fn are_reported(
+    alloc: Global,
+    test: &Test,
+    runs: &[Outcome],
+    wanted: &[u8],
+) -> Result<bool, AllocError> {
+    let runs = runs_of(alloc, test, runs)?;
+    is_report(alloc, test, &runs, wanted)
+}
+
 // Whether a text is read, and runs of its test that end so are reported so.
 fn reports(
     alloc: Global,
@@ -146,17 +172,15 @@ fn reports(
     runs: &[Outcome],
     wanted: &[u8],
 ) -> Result<bool, AllocError> {
-    let Some(test) = read(alloc, litmus).ok() else {
-        return Ok(false);
-    };
-    let runs = runs_of(alloc, &test, runs)?;
-    is_report(alloc, &test, &runs, wanted)
+    match read(alloc, litmus) {
+        Ok(test) => are_reported(alloc, &test, runs, wanted),
+        Err(_) => Ok(false),
+    }
 }
 
 // The number of the first report that isn't as wanted.
 fn first_wrong(alloc: Global) -> Result<Option<usize>, AllocError> {
-    for number in 0..REPORTS.len() {
-        let (litmus, runs, wanted) = REPORTS[number];
+    for (number, (litmus, runs, wanted)) in REPORTS.iter().enumerate() {
         if !reports(alloc, litmus, runs, wanted)? {
             return Ok(Some(number));
         }
@@ -172,15 +196,17 @@ fn reports_of_runs(rt: HostRuntime) {
 const GREAT_SUMS: &[u8] =
     b"test L\nthreads 2\nruns 3\nall-done 2\nstalled 0\nlimit 1\nexhausted 0\nmemory 0\nstates 2\n1 flag_1=0 data=1 1:x7=0\n1 flag_1=18446744073709551615 data=1 1:x7=0\ncondition forall\nheld 1\nverdict no\ncompleted 36893488147419103234\nrenewals 340282366920938463463374607431768211455\nupgrades 8\nflushes 0\nwrite-backs 0\nstale-hits 18446744073709551617\n";
 
+// The end state of a thread of a store and one of a load, with this memory.
+fn ended_with(alloc: Global, test: &Test, memory: &[u64]) -> Result<EndState, AllocError> {
+    let mut threads = Vec::new(alloc);
+    threads.push(once(test, 0, None))?;
+    threads.push(once(test, 1, Some(0)))?;
+    test.end(&threads, memory)
+}
+
 // A run of the test with names of locations that ended with these values of them.
 fn at_locations(alloc: Global, test: &Test, memory: &[u64]) -> Result<RunEnd, AllocError> {
-    let mut threads = Vec::new(alloc);
-    for (thread, value) in [(0, None), (1, Some(0))] {
-        let mut state = test.start(thread);
-        state.done(value);
-        threads.push(state)?;
-    }
-    Ok(all_done(test.end(&threads, memory)?))
+    Ok(all_done(ended_with(alloc, test, memory)?))
 }
 
 // The condition doesn't hold, and there were very many renewals and operations.
@@ -200,14 +226,26 @@ fn with_many_stale_hits() -> RunEnd {
     run
 }
 
+// Adds a run of which the condition holds, and these two.
+fn add_great(alloc: Global, test: &Test, runs: &mut Vec<RunEnd>) -> Result<(), AllocError> {
+    runs.push(at_locations(alloc, test, &[1, 0])?)?;
+    runs.push(with_many_operations(alloc, test)?)?;
+    runs.push(with_many_stale_hits())?;
+    Ok(())
+}
+
+// Whether the report on these three runs is as it is worked out.
+fn tells_great_sums(alloc: Global, test: &Test) -> Result<bool, AllocError> {
+    let mut runs = Vec::new(alloc);
+    add_great(alloc, test, &mut runs)?;
+    is_report(alloc, test, &runs, GREAT_SUMS)
+}
+
 fn reports_great_sums(alloc: Global) -> Result<bool, AllocError> {
-    let Some(test) = read(alloc, LOCATIONS).ok() else {
-        return Ok(false);
-    };
-    let held = at_locations(alloc, &test, &[1, 0])?;
-    let not_held = with_many_operations(alloc, &test)?;
-    let runs = [held, not_held, with_many_stale_hits()];
-    is_report(alloc, &test, &runs, GREAT_SUMS)
+    match read(alloc, LOCATIONS) {
+        Ok(test) => tells_great_sums(alloc, &test),
+        Err(_) => Ok(false),
+    }
 }
 
 #[test]
@@ -218,19 +256,24 @@ fn names_of_locations_and_great_sums(rt: HostRuntime) {
 const MIXED_REPORT: &[u8] =
     b"test M\nthreads 1\nruns 1\nall-done 1\nstalled 0\nlimit 0\nexhausted 0\nmemory 0\nstates 1\n1 x=1 y=0\ncondition exists\nheld 1\nverdict yes\ncompleted 4\nrenewals 0\nupgrades 0\nflushes 0\nwrite-backs 0\nstale-hits 1\n";
 
-// A run of the one thread, which does nothing.
-fn nothing_done(alloc: Global, test: &Test) -> Result<RunEnd, AllocError> {
+// The end state of the one thread, which does nothing.
+fn nothing_done(alloc: Global, test: &Test) -> Result<EndState, AllocError> {
     let mut threads = Vec::new(alloc);
     threads.push(test.start(0))?;
-    Ok(all_done(test.end(&threads, &[1, 0])?))
+    test.end(&threads, &[1, 0])
+}
+
+// Whether the report on such a run is as it is worked out.
+fn tells_mixed(alloc: Global, test: &Test) -> Result<bool, AllocError> {
+    let run = all_done(nothing_done(alloc, test)?);
+    is_report(alloc, test, &[run], MIXED_REPORT)
 }
 
 fn reports_mixed(alloc: Global) -> Result<bool, AllocError> {
-    let Some(test) = read(alloc, MIXED).ok() else {
-        return Ok(false);
-    };
-    let run = nothing_done(alloc, &test)?;
-    is_report(alloc, &test, &[run], MIXED_REPORT)
+    match read(alloc, MIXED) {
+        Ok(test) => tells_mixed(alloc, &test),
+        Err(_) => Ok(false),
+    }
 }
 
 #[test]

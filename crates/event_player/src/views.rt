@@ -46,7 +46,8 @@ fn tell_answer<W: Write + Drop>(answer: &Answer, out: &mut W) -> Result<()> {
     }
 }
 
-/// A completed operation: its core and place, the operation, what it received, its time and its number.
+/// A completed operation, behind the word `completed`: its core and place, the operation, what it received, its time and
+/// its number.
 pub(crate) fn tell_completed<W: Write + Drop>(record: &Record, out: &mut W) -> Result<()> {
     write!(out, " {} {} ", record.core, record.place)?;
     tell_op(&record.op, out)?;

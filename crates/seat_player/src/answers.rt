@@ -92,7 +92,7 @@ fn name_of(says: &Says) -> &'static str {
         Says::Takes(Take::Taken) => "taken",
         Says::Takes(Take::Nothing) => "none taken",
         Says::Takes(Take::HandFull) => "hand full",
-        _ => "nonsense",
+        Says::Attempted(_) | Says::Refused(_) | Says::Turns(_) | Says::Nonsense => "nonsense",
     }
 }
 

@@ -11,8 +11,8 @@ use physiological_order::{
 use std::alloc::Global;
 use std::io::Write;
 
-/// The numbers of records.
-fn tell_numbers<W: Write + Drop>(records: &[Record], out: &mut W) -> Result<()> {
+/// A line with the numbers of records that are arranged.
+fn tell_in_order<W: Write + Drop>(records: &[Record], out: &mut W) -> Result<()> {
     write!(out, "arranged")?;
     for record in records {
         write!(out, " {}", record.number)?;
@@ -29,7 +29,7 @@ fn tell_arranged<W: Write + Drop>(
 ) -> Result<Vec<Record>> {
     for _ in 0..2 {
         if let Ok(arranged) = arrange(alloc, records) {
-            tell_numbers(arranged.as_slice(), out)?;
+            tell_in_order(arranged.as_slice(), out)?;
             return Ok(arranged);
         }
         writeln!(out, "refused 7")?;

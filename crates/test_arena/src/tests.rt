@@ -86,36 +86,58 @@ fn three_values(rt: &HostRuntime) -> Option<Arena<u32>> {
     Some(arena)
 }
 
+/// Whether a list has no room for a value, which it gives back.
+fn gives_back(arena: &mut Arena<u32>, list: u32, value: u32) -> bool {
+    list < arena.lists() && arena.free() == 0 && arena.push_back(list, value) == Err(value)
+}
+
+/// Writes a value to a cell, if it is on a list, and says whether it is.
+fn written(arena: &mut Arena<u32>, cell: Cell, value: u32) -> bool {
+    let is_there = arena.holds(cell);
+    if is_there {
+        *arena.get_mut(cell) = value;
+    }
+    is_there
+}
+
+/// Whether the first cell moves behind the third one, where it is found again by its number.
+fn moves(arena: &mut Arena<u32>, ten: Cell) -> bool {
+    moved(arena, 1, ten)
+        && has(arena, 0, &[11])
+        && has(arena, 1, &[12, 10])
+        && after(arena, front(arena, 1)) == Some(ten)
+        && after(arena, Some(ten)).is_none()
+}
+
+/// Whether the third cell, in front of the moved one, is taken off its list, and used again on the other list.
+fn is_used_again(arena: &mut Arena<u32>, ten: Cell, twelve: Cell) -> bool {
+    taken(arena, twelve) == Some(12)
+        && !arena.holds(twelve)
+        && arena.free() == 1
+        && front(arena, 1) == Some(ten)
+        && pushed(arena, 0, 14) == Some(twelve)
+        && has(arena, 0, &[11, 14])
+}
+
 #[test]
 fn two_lists(rt: HostRuntime) -> Result<(), Fail> {
     let mut arena = three_values(&rt).expect(&rt, "memory and room");
     let ten = front(&arena, 0).expect(&rt, "a cell");
-    assert!(rt; pushed(&mut arena, 1, 13).is_none() && arena.free() == 0);
-    assert!(rt; moved(&mut arena, 1, ten));
-    assert!(rt; has(&arena, 0, &[11]));
-    assert!(rt; has(&arena, 1, &[12, 10]));
+    let twelve = front(&arena, 1).expect(&rt, "a cell");
+    assert!(rt; gives_back(&mut arena, 1, 13));
+    assert!(rt; moves(&mut arena, ten));
+    assert!(rt; is_used_again(&mut arena, ten, twelve));
+    assert!(rt; written(&mut arena, ten, 15) && has(&arena, 1, &[15]));
     arena_is_send(&arena);
     Ok(())
 }
 
 #[test]
-fn a_cell_is_used_again(rt: HostRuntime) -> Result<(), Fail> {
-    let mut arena = three_values(&rt).expect(&rt, "memory and room");
-    let twelve = front(&arena, 1).expect(&rt, "a cell");
-    assert_eq!(rt; taken(&mut arena, twelve), Some(12));
-    assert!(rt; !arena.holds(twelve) && arena.free() == 1 && has(&arena, 1, &[]));
-    assert_eq!(rt; pushed(&mut arena, 0, 14), Some(twelve));
-    assert!(rt; has(&arena, 0, &[10, 11, 14]));
-    Ok(())
-}
-
-#[test]
-fn a_value_is_written(rt: HostRuntime) -> Result<(), Fail> {
-    let mut arena = three_values(&rt).expect(&rt, "memory and room");
-    let ten = front(&arena, 0).expect(&rt, "a cell");
-    assert!(rt; arena.holds(ten));
-    *arena.get_mut(ten) = 15;
-    assert!(rt; has(&arena, 0, &[15, 11]));
+fn nothing_is_used(rt: HostRuntime) -> Result<(), Fail> {
+    let arena: Arena<u32> = Arena::new(rt.alloc(), 3, 2).ok().expect(&rt, "memory");
+    assert!(rt;
+        arena.lists() == 2 && arena.free() == 3 && has(&arena, 0, &[]) && has(&arena, 1, &[])
+    );
     Ok(())
 }
 

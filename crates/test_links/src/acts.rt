@@ -120,8 +120,8 @@ fn play_times(
     true
 }
 
-// What seats do is done. False if a call is answered otherwise.
-fn is_done(
+// Makes the calls of an act. False if one is answered otherwise.
+fn act_out(
     machine: &Machine,
     cores: &mut Vec<CoreSeat>,
     banks: &mut Vec<BankSeat>,
@@ -154,7 +154,7 @@ fn act_all(
     ensures banks { AllBankSeats machine.now banks.new.items }
 {
     for at in 0..acts.len() {
-        if !is_done(machine, cores, banks, acts[at]) {
+        if !act_out(machine, cores, banks, acts[at]) {
             return Some(at);
         }
     }

@@ -131,7 +131,7 @@ fn has_other_words(system: &System) -> bool {
         && system.messages() == 0
 }
 
-// The same, as an example asserts it.
+// Asserts that; `shows` is what the example shows.
 fn assert_other_words<R: Abort>(rt: &R, system: &System, shows: &str) {
     assert!(rt; has_other_words(system), "{shows}: another memory");
 }

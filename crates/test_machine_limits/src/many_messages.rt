@@ -57,7 +57,7 @@ fn fills(alloc: Global, system: &mut System) -> Result<bool, AllocError> {
     Ok(script(alloc)?.is_answered(alloc, system)? && full(alloc)?.is_answered(alloc, system)?)
 }
 
-// Whether the returns are in flight but for the first one, which was delivered, and three messages of two cores.
+// Whether the returns are in flight but for the first one, which was delivered, and the requests of two cores.
 fn is_full(system: &System) -> Result<bool, AllocError> {
     Ok(
         is_between(&system.in_flight()?, 9, 5 * RETURNS + 2, RETURNS + 1)

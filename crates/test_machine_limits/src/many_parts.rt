@@ -56,7 +56,7 @@ fn has_copies(system: &System) -> Result<bool, AllocError> {
     Ok(true)
 }
 
-// Whether the last core's word has its value, and each core's line was given back once.
+// Whether all cores are there, the last one's word has its value, and each core's line was given back once.
 fn has_stores(system: &System) -> bool {
     system.cores() == CORES
         && system.coherent(word(own(CORES - 1))) == 163

@@ -211,7 +211,7 @@ const WRITE_FAILED: Wanted<'static> = Wanted {
     errors: b"tardis: write failed\n",
 };
 
-// Whether it is told that the file isn't there, or that its third read failed.
+// Whether it is told of a file that isn't there, and of a third read that fails.
 fn tells_failed_reads<R: Threads + Sync>(rt: &R, alloc: Global) -> bool {
     let none = ["tardis", "litmus", "none"];
     let words = ["tardis", "litmus", NAME];

@@ -16,7 +16,7 @@ pub(crate) const STORE: Case = Case {
     turn_limit: 1,
 };
 
-/// What comes of the store when it is issued and not done.
+/// What comes of one operation when it is issued and not done.
 const OPEN: Outcome = Outcome {
     end: End::TurnsUsed,
     issued: 1,

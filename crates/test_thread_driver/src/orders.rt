@@ -85,7 +85,7 @@ fn are_together(gate: &TurnCounts, workers: usize) -> bool {
     true
 }
 
-// Whether the seats came back in order, and so many records were left.
+// Whether the seats came back in order, so many records were left, and this came of the case.
 fn are_back(driven: &Driven, case: &Case, outcome: &Outcome, records: usize) -> bool
     requires { Parts driven.now.run }
 {

@@ -1,0 +1,2 @@
+mod ByLines
+pub mod Lemmas

@@ -3,8 +3,7 @@
 -- The longest front of one kind of bytes.
 pub use Rattle.litmus_lexer.proofs.Fronts.{front-all, front-whole, whole-front}
 -- What the lines in front of the initial block and the pieces of a text are, as far as reading them anew needs it.
-pub use Rattle.litmus_lexer.proofs.LinesOnly.{block-some, header_line-no_block, length-behind_line_feed}
-pub use Rattle.litmus_lexer.proofs.LinesOnly.{length-pieces}
+pub use Rattle.litmus_lexer.proofs.LinesOnly.{block-some, header_line-no_block, length-pieces}
 -- The name of a location is no number of a thread.
 pub use Rattle.litmus_lexer.proofs.LocationWords.{location-no_thread}
 -- Steps one after another, until one says that it is the last.

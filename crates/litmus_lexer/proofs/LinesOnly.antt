@@ -1,13 +1,10 @@
 -- What the lines in front of the initial block and the pieces of a text are, as far as reading them anew needs it.
-use Rattle.std.proofs.Common.{◌≡◌, ℕ, ◌-◌, ◌<◌, ◌≤◌, Bool, true, false, cond, eqb, ◌||◌, List, [], ◌∷◌, length, drop}
+use Rattle.std.proofs.Common.{◌≡◌, ℕ, ◌<◌, ◌≤◌, Bool, true, false, cond, eqb, ◌||◌, List, [], ◌∷◌, length}
 use Rattle.std.proofs.Common.{refl, arith}
-use Rattle.std.specs.List.{prefix_len}
-use Rattle.std.specs.Prelude.{not}
 use Rattle.std.proofs.lemmas.Bool.{eqb-true, ne_eqb, false_from_ne_true, both_ways}
-use Rattle.std.proofs.lemmas.List.{length-drop}
 use Rattle.litmus_lexer.specs.Pieces.{Piece, Word, Sign, LineEnd, is_blank, is_joined, grown, lone_piece, pieces_of}
 use Rattle.litmus_lexer.specs.FirstLines.{begins_with, is_quoted, is_setting, is_header_line, begins_block, behind}
-use Rattle.litmus_lexer.specs.FirstLines.{before_line_feed, without_first, behind_line_feed}
+use Rattle.text_lines.specs.Lines.{before_line_feed}
 
 -- ---- header lines
 
@@ -32,15 +29,6 @@ block-some [] e = absurd cc
 block-some (b ∷ text) e = omega arith
 
 -- ---- lengths
-
-length-without_first : (text : List ℕ) → length (without_first text) ≡ length text - 1
-length-without_first [] = refl
-length-without_first (b ∷ text) = omega arith
-
-pub length-behind_line_feed : (text : List ℕ) → length (behind_line_feed text) ≤ length text - 1
-length-behind_line_feed text =
-    let n : ℕ = prefix_len (λ b. not (eqb b 10)) text in
-    omega (arith, length-without_first (drop n text), length-drop n text)
 
 length-grown : (b : ℕ) (pieces : List Piece) → length (grown b pieces) ≡ length pieces
 length-grown b [] = refl

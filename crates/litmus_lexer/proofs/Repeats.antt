@@ -4,7 +4,8 @@ use Rattle.std.proofs.Common.{sym, ap, ◌∙◌, arith}
 use Rattle.litmus_lexer.specs.declared.errors.LitmusError.{LitmusError}
 use Rattle.litmus_lexer.specs.declared.errors.ReadError.{ReadError}
 use Rattle.litmus_lexer.specs.declared.errors.ReadError.TheVariants.{Memory, Fault}
-use Rattle.litmus_lexer.specs.Reading.{◌>>=◌, Fails, repeat_at}
+use Rattle.litmus_lexer.specs.Reading.{Fails, repeat_at}
+use Rattle.text_lines.specs.Reading.{◌>>=◌}
 
 pub goes-on : {S : Type 0} (step : S → Result (Bool × S) LitmusError) (out : S → Result S LitmusError) (n i : ℕ)
     (s s' : S) (total : Result S LitmusError)

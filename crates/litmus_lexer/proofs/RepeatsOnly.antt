@@ -1,7 +1,8 @@
 -- Steps of which each gives what is known, until one says that it is the last.
 use Rattle.std.proofs.Common.{◌≡◌, ℕ, suc, Bool, true, false, cond, Result, Ok, ap, ◌∙◌}
 use Rattle.litmus_lexer.specs.declared.errors.LitmusError.{LitmusError}
-use Rattle.litmus_lexer.specs.Reading.{◌>>=◌, repeat_at}
+use Rattle.litmus_lexer.specs.Reading.{repeat_at}
+use Rattle.text_lines.specs.Reading.{◌>>=◌}
 
 pub repeat-more : {S : Type 0} (step : S → Result (Bool × S) LitmusError) (out : S → Result S LitmusError) (k : ℕ)
     (s s' : S) (total : Result S LitmusError)

@@ -79,14 +79,3 @@ is_header_line line = length (behind is_blank line) == 0 || is_quoted (behind is
 -- the initial block begins with {
 abbrev pub begins_block : List ℕ → Bool
 begins_block line = begins_with OPENING_BRACE (behind is_blank line)
-
--- a text before its first line feed, and after it
-abbrev pub before_line_feed : List ℕ → List ℕ
-before_line_feed text = take (prefix_len (λ b. not (b == 10)) text) text
-
-abbrev pub without_first : List ℕ → List ℕ
-without_first [] = []
-without_first (first ∷ rest) = rest
-
-abbrev pub behind_line_feed : List ℕ → List ℕ
-behind_line_feed text = without_first (behind (λ b. not (b == 10)) text)

@@ -2,17 +2,13 @@
 use Rattle.std.specs.Prelude.{◌≡◌, ℕ, zero, suc, Bool, ◌+◌, ◌==◌, if◌then◌else◌, List, [], ◌∷◌, Option, Some, None}
 use Rattle.std.specs.Prelude.{Result, Ok, Err}
 use Rattle.std.specs.Str.{bytes_eq}
+use Rattle.text_lines.specs.Reading.{◌>>=◌}
 use Rattle.litmus_lexer.specs.Pieces.{Piece, Word, Sign, LineEnd}
 use Rattle.litmus_lexer.specs.declared.errors.Kind.{Kind}
 use Rattle.litmus_lexer.specs.declared.errors.Kind.TheVariants.{CutShort}
 use Rattle.litmus_lexer.specs.declared.errors.LitmusError.{LitmusError}
 use Rattle.litmus_lexer.specs.declared.errors.ReadError.{ReadError}
 use Rattle.litmus_lexer.specs.declared.errors.ReadError.TheVariants.{Memory, Fault}
-
-infixl 10 ◌>>=◌
-abbrev pub ◌>>=◌ : {A B : Type 0} → Result A LitmusError → (A → Result B LitmusError) → Result B LitmusError
-(Ok x) >>= f = f x
-(Err e) >>= f = Err e
 
 -- What a function returned, seen by view, is what reading gives, unless memory ran out.
 abbrev pub Fails : {Y : Type 0} → ReadError → Result Y LitmusError → Type 0
@@ -31,12 +27,12 @@ Read X = Result (X × ℕ × List Piece) LitmusError
 abbrev pub Passed : Type 0
 Passed = Result (ℕ × List Piece) LitmusError
 
-abbrev pub fails : {A : Type 0} → Kind → ℕ → Result A LitmusError
-fails kind line = Err (record { line = line; kind = kind })
+-- a fault of this kind in this line
+abbrev pub fault_at : Kind → ℕ → LitmusError
+fault_at kind line = record { line = line; kind = kind }
 
-abbrev pub found : {A B : Type 0} → Kind → Option A → ℕ → (A → Result B LitmusError) → Result B LitmusError
-found kind (Some x) line f = f x
-found kind None line f = fails kind line
+abbrev pub fails : {A : Type 0} → Kind → ℕ → Result A LitmusError
+fails kind line = Err (fault_at kind line)
 
 -- the next piece that is no line end
 unfoldable pub next_at : ℕ → List Piece → Read Piece

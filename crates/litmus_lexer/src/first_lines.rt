@@ -1,10 +1,9 @@
 //! The first line of a text and its header lines, byte by byte.
 
-ghost use Rattle.std.specs.Prelude.{◌≡◌, ◌≤◌, ◌<◌, ℕ, List, length, option_map, IfSome, MatchOption, ◌==◌, not};
+ghost use Rattle.std.specs.Prelude.{◌≡◌, ◌≤◌, ℕ, List, length, option_map, IfSome, MatchOption, ◌==◌, not};
 ghost use Rattle.std.specs.List.{prefix_len, list_all};
-ghost use Rattle.litmus_lexer.specs.FirstLines.{IsTitle, is_title_byte, title_of, behind_riscv, before_line_feed};
-ghost use Rattle.litmus_lexer.specs.FirstLines.{behind_line_feed, is_header_line, is_quoted, is_setting};
-ghost use Rattle.litmus_lexer.specs.FirstLines.{begins_block};
+ghost use Rattle.litmus_lexer.specs.FirstLines.{IsTitle, is_title_byte, title_of, behind_riscv, is_header_line};
+ghost use Rattle.litmus_lexer.specs.FirstLines.{is_quoted, is_setting, begins_block};
 
 use crate::bytes::{blank_count, name_count};
 use crate::limits::LONGEST_TITLE;
@@ -23,11 +22,12 @@ fn title_count(bytes: &[u8]) -> usize
     bytes.iter().take_while(|b| is_title_byte(**b)).count()
 }
 
-fn count_before(bytes: &[u8], stop: u8) -> usize
-    ensures count { result ≡ prefix_len (λ b. not (b == stop)) bytes.now }
+/// How many bytes stand before the first `"`.
+fn quoted_count(bytes: &[u8]) -> usize
+    ensures count { result ≡ prefix_len (λ b. not (b == 34)) bytes.now }
     ensures within { result ≤ length bytes.now }
 {
-    bytes.iter().take_while(|b| **b != stop).count()
+    bytes.iter().take_while(|b| **b != b'"').count()
 }
 
 /// What follows the word `RISCV`, if the line begins with it.
@@ -75,7 +75,7 @@ fn is_quoted(text: &[u8]) -> bool
     let Some((&b'"', text)) = text.split_first() else {
         return false;
     };
-    let (_, rest) = text.split_at(count_before(text, b'"'));
+    let (_, rest) = text.split_at(quoted_count(text));
     match rest {
         [_, rest @ ..] => blank_count(rest) == rest.len(),
         [] => false,
@@ -108,17 +108,4 @@ pub fn begins_block(line: &[u8]) -> bool
 {
     let (_, text) = line.split_at(blank_count(line));
     matches!(text, [OPENING_BRACE, ..])
-}
-
-/// The first line of a text without its line feed, and what follows it.
-pub fn split_line(text: &[u8]) -> (&[u8], &[u8])
-    ensures line { result.0.now ≡ before_line_feed text.now }
-    ensures rest { result.1.now ≡ behind_line_feed text.now }
-    ensures shorter { 0 < length text.now → length result.1.now < length text.now }
-{
-    let (line, rest) = text.split_at(count_before(text, b'\n'));
-    match rest {
-        [_, rest @ ..] => (line, rest),
-        [] => (line, rest),
-    }
 }

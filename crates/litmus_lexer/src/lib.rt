@@ -15,7 +15,7 @@ mod words;
 
 pub use cursor::{Cursor, HeaderLines};
 pub use errors::{Kind, LitmusError, ReadError};
-pub use first_lines::{begins_block, is_header_line, read_title, split_line};
+pub use first_lines::{begins_block, is_header_line, read_title};
 pub use limits::{
     LAST_REGISTER, LAST_THREAD, LONGEST_LOCATION, LONGEST_TITLE, MOST_ATOMS, MOST_BYTES,
     MOST_DEPTH, MOST_LOCATIONS, MOST_ORI, MOST_ROWS, MOST_THREADS, VALUE_BOUND,

@@ -11,7 +11,8 @@ use Rattle.trace_lines.specs.Fields.{fields_of}
 use Rattle.trace_lines.specs.Grammar.{IsRecordLine, IsCompletion}
 use Rattle.trace_reader.specs.declared.limits.TheConstants.{MOST_BYTES, MOST_LINES}
 use Rattle.trace_reader.specs.Grammar.{AreShort, TellRecords, AreRecords}
-use Rattle.trace_reader.specs.Lines.{lines_of, worded, with_fields}
+use Rattle.text_lines.specs.Lines.{lines_of}
+use Rattle.trace_reader.specs.Lines.{worded, with_fields}
 use Rattle.report_lines.specs.Hexadecimal.{address_text}
 use Rattle.record_text.specs.Text.{spaced, record_text, records_text}
 use Rattle.record_text.specs.Text.{AreComplete, AreRanged, HasItsValue, IsRangedOp}

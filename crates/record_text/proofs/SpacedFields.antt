@@ -6,7 +6,7 @@ use Rattle.std.specs.Prelude.{not}
 use Rattle.std.specs.List.{prefix_len}
 use Rattle.std.proofs.lemmas.Bool.Decides.{nat_tests}
 use Rattle.trace_lines.specs.Fields.{is_blank, before_comment, is_joined, grown, parted, fields_of}
-use Rattle.trace_reader.specs.Lines.{lines_of, begun}
+use Rattle.text_lines.specs.Lines.{lines_of, begun}
 use Rattle.record_text.specs.Text.{spaced}
 use Rattle.record_text.proofs.Numerals.{IsPlain}
 

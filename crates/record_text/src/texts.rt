@@ -5,7 +5,7 @@ ghost use Rattle.record_text.specs.Text.{AreComplete, AreRanged, IsRanged, IsRan
 ghost use Rattle.record_text.specs.Text.{end_text, record_text, records_text};
 ghost use Rattle.trace_reader.specs.declared.limits.TheConstants.{MOST_LINES};
 ghost use Rattle.trace_reader.specs.Grammar.{AreRecords};
-ghost use Rattle.trace_reader.specs.Lines.{lines_of};
+ghost use Rattle.text_lines.specs.Lines.{lines_of};
 
 use crate::fields::{put_next, put_number, put_op, put_value};
 use physiological_order::Record;

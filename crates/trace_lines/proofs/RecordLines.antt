@@ -9,7 +9,8 @@ use Rattle.trace_lines.specs.declared.errors.Kind.TheVariants.{BadCore, BadOpera
 use Rattle.trace_lines.specs.declared.errors.Kind.TheVariants.{ExtraWords}
 use Rattle.trace_lines.specs.declared.steps.Access.{Access}
 use Rattle.trace_lines.specs.declared.steps.Access.TheVariants as access
-use Rattle.trace_lines.specs.Reading.{◌>>=◌, decimal_in, address_in, access_in, ended, core_at, place_at}
+use Rattle.text_lines.specs.Reading.{◌>>=◌}
+use Rattle.trace_lines.specs.Reading.{decimal_in, address_in, access_in, ended, core_at, place_at}
 use Rattle.trace_lines.specs.Reading.{operation_at, address_at, number_at, timed_at, completed_at, record_at}
 use Rattle.trace_lines.specs.Reading.{record_line_at}
 use Rattle.trace_lines.specs.Grammar.{IsNumber, IsCore, IsValue, IsAddress, IsCompletion, IsRecordLine}

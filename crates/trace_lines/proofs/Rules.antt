@@ -3,7 +3,8 @@ use Rattle.std.proofs.Common.{◌≡◌, ℕ, List, [], ◌∷◌, Option, Some,
 use Rattle.std.specs.Prelude.{Result, Ok, Err}
 use Rattle.trace_lines.specs.declared.errors.Kind.{Kind}
 use Rattle.trace_lines.specs.Causes.{Missing}
-use Rattle.trace_lines.specs.Reading.{◌>>=◌, found, field_at}
+use Rattle.trace_lines.specs.Reading.{field_at}
+use Rattle.text_lines.specs.Reading.{◌>>=◌, found}
 
 -- the next field is missing, or says nothing
 abbrev pub Blank : {X : Type 0} → (List ℕ → Option X) → List (List ℕ) → Type 0

@@ -15,7 +15,8 @@ use Rattle.trace_lines.specs.declared.steps.Form.TheVariants.{One, Two}
 use Rattle.trace_lines.specs.declared.steps.Step.{Step}
 use Rattle.trace_lines.specs.declared.steps.Step.TheVariants as step
 use Rattle.trace_lines.specs.Spelling.{core_count}
-use Rattle.trace_lines.specs.Reading.{◌>>=◌, decimal_in, address_in, access_in, ended, core_at, operation_at}
+use Rattle.text_lines.specs.Reading.{◌>>=◌}
+use Rattle.trace_lines.specs.Reading.{decimal_in, address_in, access_in, ended, core_at, operation_at}
 use Rattle.trace_lines.specs.Reading.{address_at, number_at, operand_at, op_at, behind_advance, step_or, step_at}
 use Rattle.trace_lines.specs.Reading.{trace_at, trace_line_at}
 use Rattle.trace_lines.specs.Grammar.{IsCore, IsValue, IsAddress, IsOp, IsStep, IsTraceLine}

@@ -2,6 +2,7 @@
 use Rattle.std.specs.Prelude.{ℕ, ◌^◌, ◌/◌, ◌%◌, ◌==◌, ◌&&◌, nat_lt, if◌then◌else◌, List, [], ◌∷◌}
 use Rattle.std.specs.Prelude.{Option, Some, None, Result, Ok, Err, option_and_then, codes}
 use Rattle.std.specs.Str.{bytes_eq}
+use Rattle.text_lines.specs.Reading.{◌>>=◌, found}
 use Rattle.physiological_order.specs.declared.operation.Op.{Op}
 use Rattle.physiological_order.specs.declared.operation.Op.TheVariants.{Load, Store, Swap}
 use Rattle.physiological_order.specs.declared.operation.Record.{Record}
@@ -16,18 +17,9 @@ use Rattle.trace_lines.specs.declared.steps.Step.{Step}
 use Rattle.trace_lines.specs.declared.steps.Step.TheVariants as step
 use Rattle.trace_lines.specs.Spelling.{is_digit, is_hex_digit, is_few, decimal_of, hex_of, core_count}
 
-infixl 10 ◌>>=◌
-abbrev pub ◌>>=◌ : {A B : Type 0} → Result A Kind → (A → Result B Kind) → Result B Kind
-(Ok x) >>= f = f x
-(Err e) >>= f = Err e
-
 -- What is read, and the fields behind it.
 abbrev pub Read : Type 0 → Type 0
 Read X = Result (X × List (List ℕ)) Kind
-
-abbrev pub found : {A B : Type 0} → Kind → Option A → (A → Result B Kind) → Result B Kind
-found kind (Some x) f = f x
-found kind None f = Err kind
 
 -- what the next field says, by this rule; a fault of this kind if it is missing or says nothing
 unfoldable pub field_at : {X : Type 0} → Kind → (List ℕ → Option X) → List (List ℕ) → Read X

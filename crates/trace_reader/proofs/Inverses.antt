@@ -7,7 +7,7 @@ use Rattle.std.proofs.lemmas.Bool.Decides.{nat_tests}
 use Rattle.trace_lines.specs.declared.errors.Kind.{Kind}
 use Rattle.trace_lines.specs.declared.errors.Kind.TheVariants.{TooLong}
 use Rattle.trace_lines.specs.declared.errors.TraceError.{TraceError}
-use Rattle.trace_lines.specs.Reading.{◌>>=◌}
+use Rattle.text_lines.specs.Reading.{◌>>=◌}
 use Rattle.trace_reader.specs.declared.limits.TheConstants.{MOST_BYTES, MOST_LINES}
 use Rattle.trace_reader.specs.Causes.{IsTooLong}
 use Rattle.trace_reader.specs.Reading.{at_line, behind, fitted}

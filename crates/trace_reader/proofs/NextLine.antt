@@ -10,8 +10,9 @@ use borrow.Rule.Slice.PartMut.{put_mid, post_of}
 use lib.Seq.{take-add}
 use Rattle.byte_streams.specs.Device.{Loses, AtEnd}
 use Rattle.trace_reader.specs.declared.limits.TheConstants.{MOST_BYTES}
-use Rattle.trace_reader.specs.Lines.{lines_of, begun}
-use Rattle.trace_reader.specs.Ahead.{is_within_line, Both, IsNextLine}
+use Rattle.text_lines.specs.Lines.{lines_of, begun}
+use Rattle.text_lines.specs.Lines.{is_within_line}
+use Rattle.trace_reader.specs.Ahead.{Both, IsNextLine}
 
 -- ---- bytes that are put behind those that stand
 

@@ -8,7 +8,7 @@ use Rattle.trace_lines.specs.declared.errors.Kind.TheVariants.{TooLong}
 use Rattle.trace_lines.specs.declared.errors.TraceError.{TraceError}
 use Rattle.trace_reader.specs.declared.limits.TheConstants.{MOST_BYTES, MOST_LINES}
 use Rattle.trace_reader.specs.Ahead.{Both}
-use Rattle.trace_reader.specs.Lines.{lines_of}
+use Rattle.text_lines.specs.Lines.{lines_of}
 use Rattle.trace_reader.specs.Outcomes.{IsFound, BeginTooLong}
 use Rattle.trace_reader.specs.Reading.{fitted, behind}
 

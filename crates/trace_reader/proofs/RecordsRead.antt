@@ -11,7 +11,7 @@ use Rattle.trace_lines.specs.Fields.{fields_of}
 use Rattle.trace_lines.specs.Reading.{record_line_at}
 use Rattle.trace_reader.specs.declared.limits.TheConstants.{MOST_BYTES, MOST_LINES}
 use Rattle.trace_reader.specs.Ahead.{Both}
-use Rattle.trace_reader.specs.Lines.{lines_of}
+use Rattle.text_lines.specs.Lines.{lines_of}
 use Rattle.trace_reader.specs.Outcomes.{IsFound, BeginTooLong}
 use Rattle.trace_reader.specs.Reading.{at_line, behind, listed, records_from, records_at}
 use Rattle.trace_reader.proofs.OnLines.{both-next, both-fault, both-long, both-end}

@@ -11,7 +11,7 @@ use Rattle.trace_lines.specs.declared.steps.Step.{Step}
 use Rattle.trace_lines.specs.Fields.{fields_of}
 use Rattle.trace_reader.specs.declared.limits.TheConstants.{MOST_BYTES, MOST_LINES}
 use Rattle.trace_reader.specs.Ahead.{Both}
-use Rattle.trace_reader.specs.Lines.{lines_of}
+use Rattle.text_lines.specs.Lines.{lines_of}
 use Rattle.trace_reader.specs.Outcomes.{IsFound, BeginTooLong, IsOfLine}
 use Rattle.trace_reader.specs.Reading.{at_line, behind, listed, said_at, steps_from, read_at}
 use Rattle.trace_reader.specs.Steps.{IsByCore}

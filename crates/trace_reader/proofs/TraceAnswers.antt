@@ -3,7 +3,7 @@ use Rattle.std.proofs.Common.{◌≡◌, ℕ, List, Option, Some, None, IfSome, 
 use Rattle.std.specs.Prelude.{Result, Ok, Err, IfOk, IfErr}
 use Rattle.trace_lines.specs.declared.errors.TraceError.{TraceError}
 use Rattle.trace_lines.specs.declared.steps.Step.{Step}
-use Rattle.trace_reader.specs.Lines.{lines_of}
+use Rattle.text_lines.specs.Lines.{lines_of}
 use Rattle.trace_reader.specs.Grammar.{IsTrace}
 use Rattle.trace_reader.specs.Causes.{Fault}
 use Rattle.trace_reader.specs.Outcomes.{Refused, Gives, IsCaused}

@@ -1,15 +1,12 @@
 -- The bytes that stand in a block, and the next line among them and what is still to come.
-use Rattle.std.specs.Prelude.{◌≡◌, ℕ, ◌+◌, ◌≤◌, ◌==◌, not, Bool, List, [], ◌∷◌, ◌++◌, take, drop, slice_range}
+use Rattle.std.specs.Prelude.{◌≡◌, ℕ, ◌+◌, ◌≤◌, List, [], ◌∷◌, ◌++◌, take, drop, slice_range}
 use Rattle.std.specs.Prelude.{Option, Some, None}
 use Rattle.trace_reader.specs.declared.blocks.Block.{Block}
 use Rattle.trace_reader.specs.declared.limits.TheConstants.{MOST_BYTES}
-use Rattle.trace_reader.specs.Lines.{lines_of}
+use Rattle.text_lines.specs.Lines.{lines_of}
 
 abbrev pub ahead : Block → List ℕ
 ahead block = slice_range block.bytes block.start block.end
-
-abbrev pub is_within_line : ℕ → Bool
-is_within_line b = not (b == 10)
 
 -- If the bytes were known before, they are known after, and this holds of both.
 abbrev pub Both : Option (List ℕ) → Option (List ℕ) → (List ℕ → List ℕ → Type 0) → Type 0

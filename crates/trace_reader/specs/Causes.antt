@@ -8,7 +8,8 @@ use Rattle.trace_lines.specs.Causes.{TraceCause, RecordCause, FormCause}
 use Rattle.trace_lines.specs.Fields.{fields_of}
 use Rattle.trace_lines.specs.Grammar.{IsFormLine}
 use Rattle.trace_reader.specs.declared.limits.TheConstants.{MOST_BYTES, MOST_LINES}
-use Rattle.trace_reader.specs.Lines.{lines_of, worded}
+use Rattle.text_lines.specs.Lines.{lines_of}
+use Rattle.trace_reader.specs.Lines.{worded}
 
 -- a line with too many bytes, or behind so many lines as there may be
 abbrev pub IsTooLong : ℕ → List ℕ → Type 0

@@ -6,7 +6,8 @@ use Rattle.trace_lines.specs.declared.steps.Form.TheVariants.{One, Two}
 use Rattle.trace_lines.specs.declared.steps.Step.{Step}
 use Rattle.trace_lines.specs.Grammar.{IsTraceLine, IsRecordLine, IsFormLine}
 use Rattle.trace_reader.specs.declared.limits.TheConstants.{MOST_BYTES, MOST_LINES}
-use Rattle.trace_reader.specs.Lines.{lines_of, worded}
+use Rattle.text_lines.specs.Lines.{lines_of}
+use Rattle.trace_reader.specs.Lines.{worded}
 use Rattle.trace_reader.specs.Steps.{IsByCore}
 
 -- no line has more bytes than a line may have

@@ -9,9 +9,10 @@ use Rattle.trace_lines.specs.declared.steps.Form.{Form}
 use Rattle.trace_lines.specs.declared.steps.Form.TheVariants.{One, Two}
 use Rattle.trace_lines.specs.declared.steps.Step.{Step}
 use Rattle.trace_lines.specs.Fields.{fields_of}
-use Rattle.trace_lines.specs.Reading.{◌>>=◌, trace_line_at, record_line_at, form_line_at}
+use Rattle.text_lines.specs.Reading.{◌>>=◌}
+use Rattle.trace_lines.specs.Reading.{trace_line_at, record_line_at, form_line_at}
 use Rattle.trace_reader.specs.declared.limits.TheConstants.{MOST_BYTES, MOST_LINES}
-use Rattle.trace_reader.specs.Lines.{lines_of}
+use Rattle.text_lines.specs.Lines.{lines_of}
 
 -- what a line with this number says, unless it is too long
 abbrev pub fitted : {X : Type 0} → ℕ → List ℕ → Result X Kind → Result X Kind

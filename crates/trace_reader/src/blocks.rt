@@ -8,6 +8,7 @@ ghost use Rattle.byte_streams.specs.Device.{Loses, AtEnd, Counts};
 
 use crate::limits::MOST_BYTES;
 use byte_streams::{DeviceError, Source};
+use text_lines::line_length;
 
 const SIZE: usize = 8192;
 
@@ -22,7 +23,8 @@ pub(crate) struct Block {
 }
 
 impl Block {
-    ghost use Rattle.trace_reader.specs.Ahead.{ahead, is_within_line, Both, IsNextLine};
+    ghost use Rattle.text_lines.specs.Lines.{is_within_line};
+    ghost use Rattle.trace_reader.specs.Ahead.{ahead, Both, IsNextLine};
 
     /// No bytes.
     pub(crate) fn new() -> Block
@@ -47,7 +49,7 @@ impl Block {
         ensures length { result ≡ prefix_len is_within_line (ahead self.now) }
         ensures within { result ≤ length (ahead self.now) }
     {
-        self.ahead().iter().take_while(|b| **b != b'\n').count()
+        line_length(self.ahead())
     }
 
     fn move_to_front(&mut self)

@@ -3,7 +3,7 @@
 ghost use Rattle.std.specs.Prelude.{◌≡◌, ◌≤◌, ◌<◌, ◌+◌, ◌⊎◌, ◌++◌, suc, length, IfOk, IfErr, OnOk, MatchOption};
 ghost use Rattle.trace_lines.specs.declared.errors.Kind.TheVariants.{Read, TooLong};
 ghost use Rattle.trace_reader.specs.Ahead.{ahead, Both};
-ghost use Rattle.trace_reader.specs.Lines.{lines_of};
+ghost use Rattle.text_lines.specs.Lines.{lines_of};
 ghost use Rattle.trace_reader.specs.Outcomes.{whole, BeginTooLong, IsFound};
 
 use crate::blocks::Block;

@@ -16,7 +16,8 @@ use Rattle.trace_lines.specs.declared.steps.Step.TheVariants as step
 use Rattle.trace_lines.specs.Fields.{fields_of}
 use Rattle.trace_reader.specs.declared.limits.TheConstants.{MOST_LINES}
 use Rattle.trace_reader.specs.Grammar.{IsTrace, TellSteps, TellTrace}
-use Rattle.trace_reader.specs.Lines.{lines_of, with_fields, worded}
+use Rattle.text_lines.specs.Lines.{lines_of}
+use Rattle.trace_reader.specs.Lines.{with_fields, worded}
 use Rattle.trace_reader.specs.Steps.{lane, ops_of, steps_of}
 use Rattle.trace_report.specs.Runs.{issued_in}
 use Rattle.trace_report.proofs.InTrace.{issued_is}

@@ -13,7 +13,7 @@ use Rattle.trace_lines.specs.declared.steps.Step.{Step}
 use Rattle.trace_reader.specs.declared.limits.TheConstants.{MOST_LINES}
 use Rattle.trace_reader.specs.Causes.{Fault}
 use Rattle.trace_reader.specs.Grammar.{AreRecords, IsTrace}
-use Rattle.trace_reader.specs.Lines.{lines_of}
+use Rattle.text_lines.specs.Lines.{lines_of}
 use Rattle.trace_reader.specs.Reading.{read_at}
 use Rattle.trace_report.specs.Refusals.{IsFault, IsRead, WantsMemory}
 use Rattle.trace_report.specs.Runs.{IsRun, core_count, is_all_done, run_text}

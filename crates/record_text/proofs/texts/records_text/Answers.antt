@@ -2,7 +2,7 @@ use Rattle.std.proofs.Common.{◌≡◌, List, ℕ, length, subst, sym, ap, ◌�
 use Rattle.std.proofs.lemmas.List.{take_all}
 use Rattle.physiological_order.specs.declared.operation.Record.{Record}
 use Rattle.trace_reader.specs.Grammar.{AreRecords}
-use Rattle.trace_reader.specs.Lines.{lines_of}
+use Rattle.text_lines.specs.Lines.{lines_of}
 use Rattle.record_text.specs.Text.{AreRanged, records_text}
 use Rattle.record_text.proofs.ReadBack.{line-each, text-stands, writable}
 use Rattle.record_text.proofs.texts.records_text.Goals as goal

@@ -2,7 +2,7 @@ use Rattle.std.proofs.Common.{◌≡◌, ◌≤◌, ◌-◌, ◌++◌, ℕ, suc,
 use Rattle.trace_lines.specs.declared.steps.Step.{Step}
 use Rattle.trace_reader.specs.declared.limits.TheConstants.{MOST_LINES}
 use Rattle.trace_reader.specs.Ahead.{ahead, Both}
-use Rattle.trace_reader.specs.Lines.{lines_of}
+use Rattle.text_lines.specs.Lines.{lines_of}
 use Rattle.trace_reader.specs.Reading.{behind, read_at, steps_from}
 use Rattle.trace_reader.specs.Steps.{IsByCore}
 use Rattle.trace_reader.proofs.trace_texts.read_whole.Given as goal

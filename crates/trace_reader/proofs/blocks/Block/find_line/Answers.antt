@@ -1,7 +1,8 @@
 use Rattle.std.proofs.Common.{◌≡◌, ◌++◌, [], List, ℕ, ◌∙◌, sym, ap, length, arith, refl}
 use Rattle.std.specs.List.{prefix_len}
 use Rattle.std.proofs.lemmas.List.{append-nil}
-use Rattle.trace_reader.specs.Ahead.{ahead, is_within_line}
+use Rattle.text_lines.specs.Lines.{is_within_line}
+use Rattle.trace_reader.specs.Ahead.{ahead}
 use Rattle.trace_reader.proofs.NextLine.{both-last, found-after, found-last}
 use Rattle.trace_reader.proofs.blocks.Block.find_line.Goals as goal
 

@@ -1,6 +1,7 @@
 use Rattle.std.proofs.Common.{◌-◌, ◌≡◌, ◌≤◌, length, ◌++◌}
 use Rattle.std.specs.List.{prefix_len}
-use Rattle.trace_reader.specs.Ahead.{ahead, is_within_line, Both}
+use Rattle.text_lines.specs.Lines.{is_within_line}
+use Rattle.trace_reader.specs.Ahead.{ahead, Both}
 use Rattle.trace_reader.proofs.blocks.Block.find_line.Given as goal
 
 -- what came so far stands behind the bytes that were there

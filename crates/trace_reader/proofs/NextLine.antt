@@ -1,17 +1,18 @@
 -- The next line of a text, from the bytes in front.
-use Rattle.std.proofs.Common.{◌≡◌, ℕ, suc, ◌+◌, ◌-◌, ◌<◌, ◌≤◌, ◌==◌, true, false, List, [], ◌∷◌, ◌++◌, length}
+use Rattle.std.proofs.Common.{◌≡◌, ℕ, ◌+◌, ◌-◌, ◌<◌, ◌≤◌, true, false, eqb, List, [], ◌∷◌, ◌++◌, length}
 use Rattle.std.proofs.Common.{take, drop, slice_range, Option, Some, None, IfSome, refl}
-use Rattle.std.proofs.Common.{sym, ap, ◌∙◌, append_assoc, arith, inl, inr}
-use Rattle.std.proofs.lemmas.Bool.{cases_Bool, cases_lt}
+use Rattle.std.proofs.Common.{sym, ap, ◌∙◌, append_assoc, arith, inl, inr, length-append}
+use Rattle.std.proofs.lemmas.Bool.{cases_lt, eq-eqb, ne_eqb}
 use Rattle.std.proofs.lemmas.List.{append-nil, take_at, drop_at, take-append-le, drop-append-le, drop-take}
 use Rattle.std.proofs.lemmas.List.{length-take-le, length-drop, take_all, drop_all}
+use Rattle.std.proofs.lemmas.List.Folds.{prefix_len-append}
 use Rattle.std.specs.List.{prefix_len}
 use borrow.Rule.Slice.PartMut.{put_mid, post_of}
-use lib.Seq.{take-add}
+use lib.Seq.{take-add, take-append-add, drop-append-add}
 use Rattle.byte_streams.specs.Device.{Loses, AtEnd}
+use Rattle.text_lines.specs.Lines.{is_within_line, before_line_feed, behind_line_feed, lines_of}
+use Rattle.text_lines.proofs.Lemmas.{lines-first}
 use Rattle.trace_reader.specs.declared.limits.TheConstants.{MOST_BYTES}
-use Rattle.text_lines.specs.Lines.{lines_of, begun}
-use Rattle.text_lines.specs.Lines.{is_within_line}
 use Rattle.trace_reader.specs.Ahead.{Both, IsNextLine}
 
 -- ---- bytes that are put behind those that stand
@@ -33,74 +34,29 @@ grown xs ys start end k n ordered within fits =
 
 -- ---- the first line
 
-drop-one_more : (n b : ℕ) (bytes : List ℕ) → drop (1 + n + 1) (b ∷ bytes) ≡ drop (n + 1) bytes
-drop-one_more n b bytes = let e : 1 + n + 1 ≡ suc (n + 1) = omega arith in rw e refl
-
-take-one_more : (n b : ℕ) (bytes : List ℕ) → take (1 + n) (b ∷ bytes) ≡ b ∷ take n bytes
-take-one_more n b bytes = let e : 1 + n ≡ suc n = omega arith in rw e refl
-
-lines-cut : (b : ℕ) (bytes : List ℕ) → (b == 10) ≡ true → lines_of (b ∷ bytes) ≡ [] ∷ lines_of bytes
-unfolding lines_of
-lines-cut b bytes e = rw e refl
-
-lines-more : (b : ℕ) (bytes : List ℕ) → (b == 10) ≡ false → lines_of (b ∷ bytes) ≡ begun b (lines_of bytes)
-unfolding lines_of
-lines-more b bytes e = rw e refl
-
 -- a line feed ends it
 first-ended : (bytes coming : List ℕ) → prefix_len is_within_line bytes < length bytes →
     lines_of (bytes ++ coming) ≡ take (prefix_len is_within_line bytes) bytes
     ∷ lines_of (drop (prefix_len is_within_line bytes + 1) bytes ++ coming)
-first-ended [] coming lt = absurd (omega arith)
-first-ended (b ∷ bytes) coming lt =
-    elim (cases_Bool (b == 10)) [
-      | inl e ↦ rw e (lines-cut b (bytes ++ coming) e)
-      | inr e ↦ let lt' : 1 + prefix_len is_within_line bytes < length (b ∷ bytes) = rw e at lt in
-          let less : prefix_len is_within_line bytes < length bytes = omega (arith, lt') in
-          rw (
-            e,
-            take-one_more (prefix_len is_within_line bytes) b bytes,
-            drop-one_more (prefix_len is_within_line bytes) b bytes,
-          ) (lines-more b (bytes ++ coming) e ∙ ap (begun b) (first-ended bytes coming less))
-    ]
-
-begun-more : (b : ℕ) (lines : List (List ℕ)) →
-    (more : List ℕ) × (later : List (List ℕ)) × (begun b lines ≡ (b ∷ more) ∷ later)
-begun-more b [] = ([], [], refl)
-begun-more b (line ∷ lines) = (line, lines, refl)
-
-no-feed : (b : ℕ) (bytes : List ℕ) → prefix_len is_within_line (b ∷ bytes) ≡ length (b ∷ bytes) →
-    ((b == 10) ≡ false) × (prefix_len is_within_line bytes ≡ length bytes)
-no-feed b bytes h =
-    elim (cases_Bool (b == 10)) [
-      | inl e ↦ let h' : 0 ≡ length (b ∷ bytes) = rw e at h in absurd (omega (arith, h'))
-      | inr e ↦ let h' : 1 + prefix_len is_within_line bytes ≡ length (b ∷ bytes) = rw e at h in
-          (e, omega (arith, h'))
-    ]
+first-ended bytes coming lt =
+    let n : ℕ = prefix_len is_within_line bytes in
+    let there : eqb n (length bytes) ≡ false = ne_eqb _ _ (omega arith) in
+    let same : prefix_len is_within_line (bytes ++ coming) ≡ n =
+    prefix_len-append is_within_line bytes coming ∙ (rw there refl) in
+    lines-first (bytes ++ coming) (omega (arith, length-append bytes coming))
+    ∙ (rw (same, take-append-le n bytes coming (omega arith), drop-append-le (n + 1) bytes coming (omega arith)) refl)
 
 -- without a line feed it goes on
-first-open : (b : ℕ) (bytes coming : List ℕ) → prefix_len is_within_line (b ∷ bytes) ≡ length (b ∷ bytes) →
-    (more : List ℕ) × (later : List (List ℕ)) × (lines_of ((b ∷ bytes) ++ coming) ≡ ((b ∷ bytes) ++ more) ∷ later)
-first-open b [] coming h =
-    let m = begun-more b (lines_of coming) in
-    (m.0, m.1, lines-more b coming (no-feed b [] h).0 ∙ m.2)
-first-open b (c ∷ bytes) coming h =
-    let k = no-feed b (c ∷ bytes) h in
-    let r = first-open c bytes coming k.1 in
-    (r.0, r.1, lines-more b ((c ∷ bytes) ++ coming) k.0 ∙ ap (begun b) r.2)
-
--- and ends with the text
-first-last : (b : ℕ) (bytes : List ℕ) → prefix_len is_within_line (b ∷ bytes) ≡ length (b ∷ bytes) →
-    lines_of (b ∷ bytes) ≡ (b ∷ bytes) ∷ []
-unfolding lines_of
-first-last b [] h = lines-more b [] (no-feed b [] h).0
-first-last b (c ∷ bytes) h =
-    let k = no-feed b (c ∷ bytes) h in
-    lines-more b (c ∷ bytes) k.0 ∙ ap (begun b) (first-last c bytes k.1)
-
-lines-none : lines_of [] ≡ []
-unfolding lines_of
-lines-none = refl
+first-open : (bytes coming : List ℕ) → 0 < length bytes → prefix_len is_within_line bytes ≡ length bytes →
+    lines_of (bytes ++ coming) ≡ (bytes ++ before_line_feed coming) ∷ lines_of (behind_line_feed coming)
+first-open bytes coming some open_ended =
+    let k : ℕ = prefix_len is_within_line coming in
+    let none : eqb (prefix_len is_within_line bytes) (length bytes) ≡ true = eq-eqb _ _ open_ended in
+    let more : prefix_len is_within_line (bytes ++ coming) ≡ length bytes + k =
+    prefix_len-append is_within_line bytes coming ∙ (rw none refl) in
+    let behind : length bytes + k + 1 ≡ length bytes + (k + 1) = omega arith in
+    lines-first (bytes ++ coming) (omega (arith, length-append bytes coming))
+    ∙ (rw (more, behind, take-append-add bytes coming k, drop-append-add bytes coming (k + 1)) refl)
 
 -- ---- what is found of the next line
 
@@ -116,14 +72,12 @@ next-ended n bytes coming e lt =
 
 next-long : (n : ℕ) (bytes coming : List ℕ) → n ≡ prefix_len is_within_line bytes → n ≡ length bytes →
     MOST_BYTES < n → IsNextLine n bytes coming
-next-long n [] coming e f lt = absurd (omega (arith, f))
-next-long n (b ∷ bytes) coming e f lt =
-    let r = first-open b bytes coming (sym e ∙ f) in (
-      r.0,
-      r.1,
-      r.2 ∙ ap (λ (w : List ℕ). (w ++ r.0) ∷ r.1) (sym (take_all n (b ∷ bytes) (omega (arith, f)))),
-      λ short. absurd (omega arith),
-    )
+next-long n bytes coming e f lt = (
+  before_line_feed coming,
+  lines_of (behind_line_feed coming),
+  rw (take_all n bytes (omega (arith, f))) (first-open bytes coming (omega (arith, f)) (sym e ∙ f)),
+  λ short. absurd (omega arith),
+)
 
 -- a line feed stands there, or more bytes than a line has
 pub next-found : (n : ℕ) (bytes coming : List ℕ) → n ≡ prefix_len is_within_line bytes → n ≤ length bytes →
@@ -141,14 +95,12 @@ next-found n bytes coming e within some =
 -- at the end
 pub next-last : (n : ℕ) (bytes coming : List ℕ) → n ≡ prefix_len is_within_line bytes → n ≡ length bytes →
     (n ≡ 0 → ⊥) → coming ≡ [] → IsNextLine n bytes coming
-next-last n [] coming e f some none = absurd (some f)
-next-last n (b ∷ bytes) coming e f some none =
-    let all : take n (b ∷ bytes) ≡ b ∷ bytes = take_all n (b ∷ bytes) (omega (arith, f)) in
-    let rest : drop (n + 1) (b ∷ bytes) ≡ [] = drop_all (n + 1) (b ∷ bytes) (omega (arith, f)) in (
+next-last n bytes coming e f some none =
+    let rest : drop (n + 1) bytes ≡ [] = drop_all (n + 1) bytes (omega (arith, f)) in (
       [],
-      [],
-      rw (none, all, append-nil (b ∷ bytes)) (first-last b bytes (sym e ∙ f)),
-      λ short. (refl, rw (none, rest) (sym lines-none)),
+      lines_of [],
+      rw (none, take_all n bytes (omega (arith, f))) (first-open bytes [] (omega (arith, f, some)) (sym e ∙ f)),
+      λ short. (refl, rw (none, rest) refl),
     )
 
 -- ---- bytes that are known

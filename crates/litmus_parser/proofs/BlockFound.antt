@@ -12,7 +12,8 @@ use Rattle.litmus_lexer.specs.Naming.{place_of}
 use Rattle.litmus_lexer.specs.Spelling.{is_number, number_of, small_of, register_of, is_location}
 use Rattle.litmus_lexer.specs.declared.errors.Kind.{Kind}
 use Rattle.litmus_lexer.specs.declared.errors.Kind.TheVariants.{BadInitial, TooLarge, ValueRange}
-use Rattle.litmus_lexer.specs.Reading.{◌>>=◌, fails, next_at, word_at, sign_at, expect_at, end_line_at}
+use Rattle.text_lines.specs.Reading.{◌>>=◌}
+use Rattle.litmus_lexer.specs.Reading.{fails, next_at, word_at, sign_at, expect_at, end_line_at}
 use Rattle.litmus_lexer.proofs.Lemmas.{repeat-takes}
 use Rattle.litmus_parser.specs.Names.{Names, same_name}
 use Rattle.litmus_parser.specs.ReadingItems.{location_at, number_at, setting_at, register_item_at, location_item_at}

@@ -8,7 +8,8 @@ use Rattle.std.proofs.lemmas.List.{append-nil, map-append}
 use Rattle.litmus_lexer.specs.Pieces.{Piece, Word, Sign, LineEnd, between}
 use Rattle.litmus_lexer.specs.Spelling.{is_number, number_of, register_of}
 use Rattle.litmus_lexer.specs.declared.errors.Kind.TheVariants.{BadInitial, ValueRange}
-use Rattle.litmus_lexer.specs.Reading.{◌>>=◌, Read, fails, next_at, word_at, sign_at, expect_at, repeat_at}
+use Rattle.text_lines.specs.Reading.{◌>>=◌}
+use Rattle.litmus_lexer.specs.Reading.{Read, fails, next_at, word_at, sign_at, expect_at, repeat_at}
 use Rattle.litmus_lexer.proofs.Lemmas.{location-no_thread, repeat-more, repeat-last}
 use Rattle.litmus_parser.specs.Names.{Names, same_name, address_of}
 use Rattle.litmus_parser.specs.ReadingItems.{location_at, number_at, setting_at, register_item_at, location_item_at}

@@ -5,7 +5,8 @@ use Rattle.litmus_lexer.specs.Pieces.{Piece, Word, Sign, LineEnd}
 use Rattle.litmus_lexer.specs.declared.errors.Kind.{Kind}
 use Rattle.litmus_lexer.specs.declared.errors.Kind.TheVariants.{CutShort}
 use Rattle.litmus_lexer.specs.declared.errors.LitmusError.{LitmusError}
-use Rattle.litmus_lexer.specs.Reading.{◌>>=◌, found, repeat_at}
+use Rattle.text_lines.specs.Reading.{◌>>=◌, found}
+use Rattle.litmus_lexer.specs.Reading.{repeat_at, fault_at}
 use Rattle.litmus_parser.specs.RestLines.{RestAt, line_ends}
 
 -- ---- places
@@ -67,7 +68,7 @@ test_explains C P false r s holds fails_it = fails_it refl
 
 pub found_explains : (C : Kind → ℕ → Type 0) {A Y : Type 0} (P : Y → Type 0) (kind : Kind) (o : Option A) (n : ℕ)
     (f : A → Result Y LitmusError)
-    → (o ≡ None → C kind n) → ((x : A) → o ≡ Some x → Explains C P (f x)) → Explains C P (found kind o n f)
+    → (o ≡ None → C kind n) → ((x : A) → o ≡ Some x → Explains C P (f x)) → Explains C P (found (fault_at kind n) o f)
 found_explains C P kind None n f none some = none refl
 found_explains C P kind (Some x) n f none some = some x refl
 

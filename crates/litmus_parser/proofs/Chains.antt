@@ -4,7 +4,8 @@ use Rattle.litmus_lexer.specs.Pieces.{Piece}
 use Rattle.litmus_lexer.specs.declared.errors.LitmusError.{LitmusError}
 use Rattle.litmus_lexer.specs.declared.errors.ReadError.{ReadError}
 use Rattle.litmus_lexer.specs.declared.errors.ReadError.TheVariants.{Memory, Fault}
-use Rattle.litmus_lexer.specs.Reading.{◌>>=◌, Fails, Read, repeat_at}
+use Rattle.text_lines.specs.Reading.{◌>>=◌}
+use Rattle.litmus_lexer.specs.Reading.{Fails, Read, repeat_at}
 use Rattle.litmus_lexer.proofs.Lemmas.{goes-on, fails-there, is-done, runs-out}
 use Rattle.litmus_parser.specs.Trees.{Tree}
 use Rattle.litmus_parser.specs.ReadingCondition.{Chain, joined_with, too_many_parts, chain_result, sign_of, join_of}

@@ -11,7 +11,8 @@ use Rattle.litmus_lexer.specs.declared.errors.Kind.TheVariants.{DoubleInitial, B
 use Rattle.litmus_lexer.specs.declared.errors.Kind.TheVariants.{ValueAsAddress, TooLarge, AddressAsValue}
 use Rattle.litmus_lexer.specs.declared.errors.Kind.TheVariants.{BadCondition, BadTable, CutShort}
 use Rattle.litmus_lexer.specs.declared.errors.LitmusError.{LitmusError}
-use Rattle.litmus_lexer.specs.Reading.{◌>>=◌, Read, fails, found, behind, next_at, word_at, expect_at, word_here_at}
+use Rattle.text_lines.specs.Reading.{◌>>=◌, found}
+use Rattle.litmus_lexer.specs.Reading.{Read, fails, behind, next_at, word_at, expect_at, word_here_at, fault_at}
 use Rattle.litmus_lexer.specs.Reading.{here_at, repeat_at}
 use Rattle.litmus_lexer.proofs.Lemmas.{location-no_thread}
 use Rattle.litmus_parser.specs.Names.{Names, address_of, is_there}
@@ -472,8 +473,8 @@ answer_fails (Err d) f e is = cc
 
 keyword_there : (items : List Item) (threads line : ℕ) (names : Names) (rest : List Piece) (o : Option Quantifier)
     (e : LitmusError) → is_there o ≡ true
-    → (found BadTable o line (λ q. (let r : Read Quantifier = Ok (q, line, rest) in r)) >>= λ q. whole_at items
-    threads names q.1 q.2 >>= λ t. (let r : Result (Quantifier × Tree × Names) LitmusError = Ok (q.0, t.0, t.1) in
+    → (found (fault_at BadTable line) o (λ q. (let r : Read Quantifier = Ok (q, line, rest) in r)) >>= λ q. whole_at
+    items threads names q.1 q.2 >>= λ t. (let r : Result (Quantifier × Tree × Names) LitmusError = Ok (q.0, t.0, t.1) in
     r)) ≡ Err e
     → whole_at items threads names line rest ≡ Err e
 keyword_there items threads line names rest (Some q) e there is =

@@ -5,7 +5,8 @@ use Rattle.std.proofs.lemmas.Bool.{eqb-true, eqb-false, leb-false, and_parts}
 use Rattle.litmus_lexer.specs.Pieces.{Piece, Word, Sign, LineEnd}
 use Rattle.litmus_lexer.specs.Spelling.{small_of, register_of, is_and, is_or}
 use Rattle.litmus_lexer.specs.declared.errors.Kind.TheVariants.{BadCondition, BadTable, AddressAsValue}
-use Rattle.litmus_lexer.specs.Reading.{◌>>=◌, fails, behind, next_at, word_at, expect_at, word_here_at, repeat_at}
+use Rattle.text_lines.specs.Reading.{◌>>=◌}
+use Rattle.litmus_lexer.specs.Reading.{fails, behind, next_at, word_at, expect_at, word_here_at, repeat_at}
 use Rattle.litmus_lexer.proofs.Lemmas.{repeat-takes}
 use Rattle.litmus_parser.specs.Names.{Names, address_of, is_there}
 use Rattle.litmus_parser.specs.Trees.{Tree, Is, Both, Either}

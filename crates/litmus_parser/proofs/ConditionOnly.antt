@@ -5,7 +5,8 @@ use Rattle.std.proofs.lemmas.Bool.{lt-leb, ne_eqb}
 use Rattle.litmus_lexer.specs.Pieces.{Piece, Word, Sign, LineEnd}
 use Rattle.litmus_lexer.specs.Spelling.{register_of, is_and, is_or}
 use Rattle.litmus_lexer.specs.declared.errors.Kind.TheVariants.{BadCondition, BadTable}
-use Rattle.litmus_lexer.specs.Reading.{◌>>=◌, Read, found, next_at, word_at, expect_at, here_at, word_here_at}
+use Rattle.text_lines.specs.Reading.{◌>>=◌, found}
+use Rattle.litmus_lexer.specs.Reading.{Read, next_at, word_at, expect_at, here_at, word_here_at, fault_at}
 use Rattle.litmus_lexer.specs.Reading.{repeat_at}
 use Rattle.litmus_lexer.proofs.Lemmas.{location-no_thread}
 use Rattle.litmus_parser.specs.Names.{Names, address_of, is_there}
@@ -336,7 +337,8 @@ none_again line (Sign b ∷ pieces) e = absurd e
 keyword_again : (line : ℕ) (w : List ℕ) (a : List Piece) (quantifier : Quantifier) → quantifier_of w ≡ Some
     quantifier → keyword_at line (Word w ∷ a) ≡ Ok (quantifier, line, a)
 unfolding keyword_at word_here_at here_at
-keyword_again line w a quantifier e = ap (λ (o : Option Quantifier). found BadTable o line (λ q. Ok (q, line, a))) e
+keyword_again line w a quantifier e =
+    ap (λ (o : Option Quantifier). found (fault_at BadTable line) o (λ q. Ok (q, line, a))) e
 
 pub condition_again : (items items' : List Item) (threads line : ℕ) (pieces : List Piece) (before : Names)
     (quantifier : Quantifier) (tree : Tree) (after : Names)

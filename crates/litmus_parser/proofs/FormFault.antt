@@ -4,7 +4,8 @@ use Rattle.litmus_lexer.specs.Pieces.{Piece, Word, Sign}
 use Rattle.litmus_lexer.specs.Spelling.{is_number, number_of, register_of}
 use Rattle.litmus_lexer.specs.declared.errors.Kind.{Kind}
 use Rattle.litmus_lexer.specs.declared.errors.Kind.TheVariants.{BadInstruction}
-use Rattle.litmus_lexer.specs.Reading.{◌>>=◌, Read, Passed, fails, word_here_at, expect_here_at}
+use Rattle.text_lines.specs.Reading.{◌>>=◌}
+use Rattle.litmus_lexer.specs.Reading.{Read, Passed, fails, word_here_at, expect_here_at}
 use Rattle.litmus_parser.specs.Mnemonics.{mnemonic_of, is_zero, is_fence_set}
 use Rattle.litmus_parser.specs.RestLines.{RestAt}
 use Rattle.litmus_parser.specs.ReadingForms.{register_at, based_at, offset_at, swapped_at, number_word_at, set_at}

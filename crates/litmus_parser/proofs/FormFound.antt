@@ -5,7 +5,8 @@ use Rattle.std.proofs.lemmas.Bool.{eqb-true, ltb-true, ltb-false}
 use Rattle.litmus_lexer.specs.Pieces.{Piece, Word, Sign}
 use Rattle.litmus_lexer.specs.Spelling.{is_number, number_of, register_of}
 use Rattle.litmus_lexer.specs.declared.errors.Kind.TheVariants.{BadInstruction}
-use Rattle.litmus_lexer.specs.Reading.{◌>>=◌, word_here_at, expect_here_at}
+use Rattle.text_lines.specs.Reading.{◌>>=◌}
+use Rattle.litmus_lexer.specs.Reading.{word_here_at, expect_here_at}
 use Rattle.litmus_parser.specs.Names.{address_of, is_there}
 use Rattle.litmus_parser.specs.Mnemonics.{mnemonic_of, is_zero, is_fence_set}
 use Rattle.litmus_parser.specs.ReadingForms.{register_at, based_at, offset_at, swapped_at, number_word_at, set_at}

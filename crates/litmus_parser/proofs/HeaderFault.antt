@@ -6,7 +6,8 @@ use Rattle.litmus_lexer.specs.Pieces.{Piece, Word, Sign, LineEnd}
 use Rattle.litmus_lexer.specs.declared.errors.Kind.{Kind}
 use Rattle.litmus_lexer.specs.declared.errors.Kind.TheVariants.{BadTable, TooLarge, CutShort}
 use Rattle.litmus_lexer.specs.declared.errors.LitmusError.{LitmusError}
-use Rattle.litmus_lexer.specs.Reading.{◌>>=◌, fails, here_at, word_here_at, start_at, end_line_at, repeat_at}
+use Rattle.text_lines.specs.Reading.{◌>>=◌}
+use Rattle.litmus_lexer.specs.Reading.{fails, here_at, word_here_at, start_at, end_line_at, repeat_at}
 use Rattle.litmus_parser.specs.RestLines.{RestAt}
 use Rattle.litmus_parser.specs.GrammarWords.{EndsLine}
 use Rattle.litmus_parser.specs.ReadingTable.{is_thread, separated_by, separated, Headings, heading_at, too_many}

@@ -5,7 +5,8 @@ use Rattle.std.proofs.lemmas.Bool.{eq-eqb}
 use Rattle.litmus_lexer.specs.Pieces.{Piece, Word, Sign, LineEnd}
 use Rattle.litmus_lexer.specs.declared.errors.Kind.{Kind}
 use Rattle.litmus_lexer.specs.declared.errors.LitmusError.{LitmusError}
-use Rattle.litmus_lexer.specs.Reading.{◌>>=◌, found, Read, Passed, fails, as_word, as_sign, next_at, word_at, sign_at}
+use Rattle.text_lines.specs.Reading.{◌>>=◌, found}
+use Rattle.litmus_lexer.specs.Reading.{Read, Passed, fails, as_word, as_sign, next_at, word_at, sign_at, fault_at}
 use Rattle.litmus_lexer.specs.Reading.{expect_at}
 use Rattle.litmus_parser.specs.GrammarWords.{Next}
 
@@ -51,8 +52,8 @@ pub bind_again : {A B : Type 0} (read : Result A LitmusError) (f : A → Result 
 bind_again read f x y e g = ap (λ r. r >>= f) e ∙ g
 
 pub found_again : {A B : Type 0} (kind : Kind) (o : Option A) (line : ℕ) (f : A → Result B LitmusError) (x : A)
-    (y : Result B LitmusError) → o ≡ Some x → f x ≡ y → found kind o line f ≡ y
-found_again kind o line f x y e g = ap (λ p. found kind p line f) e ∙ g
+    (y : Result B LitmusError) → o ≡ Some x → f x ≡ y → found (fault_at kind line) o f ≡ y
+found_again kind o line f x y e g = ap (λ p. found (fault_at kind line) p f) e ∙ g
 
 pub then_again : {A : Type 0} (b : Bool) (x y z : A) → b ≡ true → x ≡ z → cond b x y ≡ z
 then_again true x y z e g = g

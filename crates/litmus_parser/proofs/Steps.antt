@@ -5,7 +5,8 @@ use Rattle.std.proofs.lemmas.Bool.{eqb-true}
 use Rattle.litmus_lexer.specs.Pieces.{Piece, Word, Sign, LineEnd}
 use Rattle.litmus_lexer.specs.declared.errors.Kind.{Kind}
 use Rattle.litmus_lexer.specs.declared.errors.LitmusError.{LitmusError}
-use Rattle.litmus_lexer.specs.Reading.{◌>>=◌, fails, found, as_word, as_sign, as_wanted, next_at, word_at, sign_at}
+use Rattle.text_lines.specs.Reading.{◌>>=◌, found}
+use Rattle.litmus_lexer.specs.Reading.{fails, as_word, as_sign, as_wanted, next_at, word_at, sign_at, fault_at}
 use Rattle.litmus_lexer.specs.Reading.{expect_at, here_at, word_here_at, expect_here_at, start_at, end_line_at}
 use Rattle.litmus_lexer.specs.Reading.{passed_at}
 use Rattle.litmus_parser.specs.GrammarWords.{Next, EndsLine}
@@ -17,7 +18,7 @@ bind_ok (Ok x) f y e = (x, refl, e)
 bind_ok (Err d) f y e = absurd cc
 
 pub found_ok : {A B : Type 0} (kind : Kind) (o : Option A) (line : ℕ) (f : A → Result B LitmusError) (y : B) →
-    found kind o line f ≡ Ok y → (x : A) × (o ≡ Some x) × (f x ≡ Ok y)
+    found (fault_at kind line) o f ≡ Ok y → (x : A) × (o ≡ Some x) × (f x ≡ Ok y)
 found_ok kind (Some x) line f y e = (x, refl, e)
 found_ok kind None line f y e = absurd cc
 

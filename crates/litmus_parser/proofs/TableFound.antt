@@ -5,7 +5,8 @@ use Rattle.std.proofs.lemmas.Bool.{eqb-true, leb-false}
 use Rattle.std.proofs.lemmas.List.{append-nil}
 use Rattle.litmus_lexer.specs.Pieces.{Piece, Word, Sign, LineEnd}
 use Rattle.litmus_lexer.specs.declared.errors.Kind.TheVariants.{BadInstruction, BadTable, TooLarge}
-use Rattle.litmus_lexer.specs.Reading.{◌>>=◌, fails, behind, here_at, word_here_at, expect_here_at, start_at}
+use Rattle.text_lines.specs.Reading.{◌>>=◌}
+use Rattle.litmus_lexer.specs.Reading.{fails, behind, here_at, word_here_at, expect_here_at, start_at}
 use Rattle.litmus_lexer.specs.Reading.{end_line_at, passed_at, repeat_at}
 use Rattle.litmus_lexer.proofs.Lemmas.{repeat-takes}
 use Rattle.litmus_parser.specs.ReadingForms.{form_at}

@@ -7,7 +7,8 @@ use Rattle.litmus_lexer.specs.Pieces.{Piece, Word, Sign, LineEnd}
 use Rattle.litmus_lexer.specs.declared.errors.Kind.{Kind}
 use Rattle.litmus_lexer.specs.declared.errors.Kind.TheVariants.{CutShort}
 use Rattle.litmus_lexer.specs.declared.errors.LitmusError.{LitmusError}
-use Rattle.litmus_lexer.specs.Reading.{◌>>=◌, fails, found, as_word, as_sign, next_at, word_at, sign_at, expect_at}
+use Rattle.text_lines.specs.Reading.{◌>>=◌, found}
+use Rattle.litmus_lexer.specs.Reading.{fails, as_word, as_sign, next_at, word_at, sign_at, expect_at, fault_at}
 use Rattle.litmus_parser.specs.RestLines.{line_ends}
 use Rattle.litmus_parser.proofs.Causes.{line-ends-append}
 
@@ -187,7 +188,7 @@ test_way K E A L make false g h n rest holds fails_it = fails_it refl
 pub found_way : (K : Kind) (E : Type 0) (L : List Piece → List Piece → Type 0) {B X Y : Type 0} (make : X → ℕ →
     List Piece → Y) (kind : Kind) (o : Option B) (f : B → Reading Y) (n : ℕ) (rest : List Piece)
     → ((b : B) → o ≡ Some b → Way K E (Unit {0}) L make (f b) n rest) → Way K E (Unit {0}) L make
-    (λ n u. found kind o n (λ b. f b n u)) n rest
+    (λ n u. found (fault_at kind n) o (λ b. f b n u)) n rest
 found_way K E L make kind (Some b) f n rest go = go b refl
 found_way K E L make kind None f n rest go = stops K E L make (λ n u. fails kind n) n rest kind (λ u. refl)
 

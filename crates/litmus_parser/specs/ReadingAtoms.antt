@@ -5,7 +5,8 @@ use Rattle.litmus_lexer.specs.declared.signs.TheConstants.{COLON, EQUALS}
 use Rattle.litmus_lexer.specs.Pieces.{Piece, Word, Sign, LineEnd}
 use Rattle.litmus_lexer.specs.Spelling.{small_of, register_of}
 use Rattle.litmus_lexer.specs.declared.errors.Kind.TheVariants.{TooLarge, AddressAsValue, BadCondition}
-use Rattle.litmus_lexer.specs.Reading.{◌>>=◌, Read, fails, found, word_at, expect_at}
+use Rattle.text_lines.specs.Reading.{◌>>=◌, found}
+use Rattle.litmus_lexer.specs.Reading.{Read, fails, word_at, expect_at, fault_at}
 use Rattle.litmus_parser.specs.Names.{Names, address_of, is_there}
 use Rattle.litmus_parser.specs.ReadingItems.{location_at, number_at}
 use Rattle.litmus_parser.specs.Trees.{Tree, Is}
@@ -27,7 +28,7 @@ register_name_at items threads thread line pieces =
     if nat_le threads thread then fails BadCondition line else (do
       colon ← expect_at COLON BadCondition line pieces
       w ← word_at BadCondition colon.0 colon.1
-      found BadCondition (register_of w.0) w.1 (λ register.
+      found (fault_at BadCondition w.1) (register_of w.0) (λ register.
           if register == 0 then fails BadCondition w.1
           else if is_there (address_of thread register items) then fails AddressAsValue w.1
           else Ok (Register thread register, w.1, w.2)))

@@ -6,7 +6,8 @@ use Rattle.litmus_lexer.specs.declared.signs.TheConstants.{CLOSING_BRACE, OPENIN
 use Rattle.litmus_lexer.specs.Pieces.{Piece, Word, Sign, LineEnd}
 use Rattle.litmus_lexer.specs.declared.errors.Kind.TheVariants.{BadInitial, DoubleInitial, CutShort}
 use Rattle.litmus_lexer.specs.declared.errors.LitmusError.{LitmusError}
-use Rattle.litmus_lexer.specs.Reading.{◌>>=◌, fails, next_at, sign_at, expect_at, end_line_at, repeat_at}
+use Rattle.text_lines.specs.Reading.{◌>>=◌}
+use Rattle.litmus_lexer.specs.Reading.{fails, next_at, sign_at, expect_at, end_line_at, repeat_at}
 use Rattle.litmus_parser.specs.Names.{Names, same_name}
 use Rattle.litmus_parser.specs.ReadingItems.{item_at}
 use Rattle.litmus_parser.specs.declared.syntax.Item.{Item}

@@ -5,7 +5,8 @@ use Rattle.litmus_lexer.specs.declared.signs.TheConstants.{CLOSING_PARENTHESIS, 
 use Rattle.litmus_lexer.specs.Pieces.{Piece, Word, Sign, LineEnd}
 use Rattle.litmus_lexer.specs.declared.errors.Kind.TheVariants.{TooLarge, BadCondition}
 use Rattle.litmus_lexer.specs.declared.errors.LitmusError.{LitmusError}
-use Rattle.litmus_lexer.specs.Reading.{◌>>=◌, Read, fails, behind, next_at, expect_at, repeat_at}
+use Rattle.text_lines.specs.Reading.{◌>>=◌}
+use Rattle.litmus_lexer.specs.Reading.{Read, fails, behind, next_at, expect_at, repeat_at}
 use Rattle.litmus_parser.specs.Trees.{Tree, Both, Either}
 use Rattle.litmus_parser.specs.ReadingAtoms.{joined_at, atom_at}
 use Rattle.litmus_parser.specs.declared.expressions.Connective.{Connective}

@@ -4,7 +4,8 @@ use Rattle.litmus_lexer.specs.declared.limits.TheConstants.{MOST_DEPTH}
 use Rattle.litmus_lexer.specs.Pieces.{Piece, Word, Sign, LineEnd}
 use Rattle.litmus_lexer.specs.declared.errors.Kind.TheVariants.{BadTable, BadCondition}
 use Rattle.litmus_lexer.specs.declared.errors.LitmusError.{LitmusError}
-use Rattle.litmus_lexer.specs.Reading.{◌>>=◌, Read, fails, found, word_here_at}
+use Rattle.text_lines.specs.Reading.{◌>>=◌, found}
+use Rattle.litmus_lexer.specs.Reading.{Read, fails, word_here_at, fault_at}
 use Rattle.litmus_parser.specs.Names.{Names}
 use Rattle.litmus_parser.specs.Trees.{Tree}
 use Rattle.litmus_parser.specs.ReadingCondition.{expression_at}
@@ -15,7 +16,7 @@ use Rattle.litmus_parser.specs.Keywords.{quantifier_of}
 unfoldable pub keyword_at : ℕ → List Piece → Read Quantifier
 keyword_at line pieces = do
   w ← word_here_at BadTable line pieces
-  found BadTable (quantifier_of w.0) w.1 (λ q. Ok (q, w.1, w.2))
+  found (fault_at BadTable w.1) (quantifier_of w.0) (λ q. Ok (q, w.1, w.2))
 
 -- the line of the next piece, if there is one
 unfoldable pub further_at : ℕ → List Piece → Option ℕ

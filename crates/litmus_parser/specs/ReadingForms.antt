@@ -5,7 +5,8 @@ use Rattle.litmus_lexer.specs.declared.signs.TheConstants.{CLOSING_PARENTHESIS, 
 use Rattle.litmus_lexer.specs.Pieces.{Piece}
 use Rattle.litmus_lexer.specs.Spelling.{is_number, number_of, register_of}
 use Rattle.litmus_lexer.specs.declared.errors.Kind.TheVariants.{BadInstruction}
-use Rattle.litmus_lexer.specs.Reading.{◌>>=◌, Read, Passed, fails, found, word_here_at, expect_here_at}
+use Rattle.text_lines.specs.Reading.{◌>>=◌, found}
+use Rattle.litmus_lexer.specs.Reading.{Read, Passed, fails, word_here_at, expect_here_at, fault_at}
 use Rattle.litmus_parser.specs.Mnemonics.{mnemonic_of, is_zero, is_fence_set}
 use Rattle.litmus_parser.specs.declared.forms.Mnemonic.{Mnemonic}
 use Rattle.litmus_parser.specs.declared.forms.Mnemonic.TheVariants as word
@@ -15,7 +16,7 @@ use Rattle.litmus_parser.specs.declared.forms.Form.TheVariants as form
 unfoldable pub register_at : ℕ → List Piece → Read ℕ
 register_at line pieces = do
   w ← word_here_at BadInstruction line pieces
-  found BadInstruction (register_of w.0) w.1 (λ number. Ok (number, w.1, w.2))
+  found (fault_at BadInstruction w.1) (register_of w.0) (λ number. Ok (number, w.1, w.2))
 
 -- (xB)
 unfoldable pub based_at : ℕ → List Piece → Read ℕ
@@ -95,4 +96,4 @@ operands_at word.Fence line pieces = fence_at line pieces >>= λ r. Ok (form.Fen
 unfoldable pub form_at : ℕ → List Piece → Read Form
 form_at line pieces = do
   w ← word_here_at BadInstruction line pieces
-  found BadInstruction (mnemonic_of w.0) w.1 (λ m. operands_at m w.1 w.2)
+  found (fault_at BadInstruction w.1) (mnemonic_of w.0) (λ m. operands_at m w.1 w.2)

@@ -1,10 +1,12 @@
 -- Reading the lines before the initial block, with the first fault.
 use Rattle.std.specs.Prelude.{ℕ, ◌+◌, ◌==◌, Bool, true, false, if◌then◌else◌, List, length, Result, Ok}
 use Rattle.litmus_lexer.specs.declared.limits.TheConstants.{MOST_BYTES}
-use Rattle.litmus_lexer.specs.FirstLines.{title_of, before_line_feed, behind_line_feed, begins_block, is_header_line}
+use Rattle.text_lines.specs.Lines.{before_line_feed, behind_line_feed}
+use Rattle.litmus_lexer.specs.FirstLines.{title_of, begins_block, is_header_line}
 use Rattle.litmus_lexer.specs.declared.errors.Kind.TheVariants.{CutShort, BadHeader}
 use Rattle.litmus_lexer.specs.declared.errors.LitmusError.{LitmusError}
-use Rattle.litmus_lexer.specs.Reading.{◌>>=◌, fails, found, repeat_at}
+use Rattle.text_lines.specs.Reading.{◌>>=◌, found}
+use Rattle.litmus_lexer.specs.Reading.{fails, repeat_at, fault_at}
 
 -- the line and the bytes that are left
 abbrev pub Lines : Type 0
@@ -12,8 +14,10 @@ Lines = ℕ × List ℕ
 
 -- the name, and what is left
 unfoldable pub first_line_at : List ℕ → Result (List ℕ × Lines) LitmusError
-first_line_at text = if length text == 0 then fails CutShort 1 else found BadHeader (title_of (before_line_feed text))
-    1 (λ name. Ok (name, (2, behind_line_feed text)))
+first_line_at text =
+    if length text == 0 then fails CutShort 1
+    else found (fault_at BadHeader 1) (title_of (before_line_feed text))
+    (λ name. Ok (name, (2, behind_line_feed text)))
 
 unfoldable pub header_line_at : Lines → Result (Bool × Lines) LitmusError
 header_line_at at =

@@ -9,7 +9,8 @@ use Rattle.litmus_lexer.specs.Spelling.{is_number, number_of, small_of, register
 use Rattle.litmus_lexer.specs.declared.errors.Kind.{Kind}
 use Rattle.litmus_lexer.specs.declared.errors.Kind.TheVariants.{TooLarge, BadInitial, ValueRange}
 use Rattle.litmus_lexer.specs.declared.errors.LitmusError.{LitmusError}
-use Rattle.litmus_lexer.specs.Reading.{◌>>=◌, Read, fails, found, word_at, expect_at}
+use Rattle.text_lines.specs.Reading.{◌>>=◌, found}
+use Rattle.litmus_lexer.specs.Reading.{Read, fails, word_at, expect_at, fault_at}
 use Rattle.litmus_parser.specs.Names.{Names}
 use Rattle.litmus_parser.specs.declared.syntax.Name.TheVariants.{Register, Location}
 use Rattle.litmus_parser.specs.declared.syntax.Setting.{Setting}
@@ -49,7 +50,7 @@ unfoldable pub register_item_at : ℕ → Names → ℕ → List Piece → Read 
 register_item_at thread names line pieces = do
   colon ← expect_at COLON BadInitial line pieces
   w ← word_at BadInitial colon.0 colon.1
-  found BadInitial (register_of w.0) w.1 (λ register.
+  found (fault_at BadInitial w.1) (register_of w.0) (λ register.
       if register == 0 then fails BadInitial w.1 else (do
         equals ← expect_at EQUALS BadInitial w.1 w.2
         v ← setting_at names equals.0 equals.1

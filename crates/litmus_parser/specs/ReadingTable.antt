@@ -7,7 +7,8 @@ use Rattle.litmus_lexer.specs.Pieces.{Piece, Word, Sign, LineEnd}
 use Rattle.litmus_lexer.specs.Spelling.{thread_named}
 use Rattle.litmus_lexer.specs.declared.errors.Kind.TheVariants.{TooLarge, BadTable}
 use Rattle.litmus_lexer.specs.declared.errors.LitmusError.{LitmusError}
-use Rattle.litmus_lexer.specs.Reading.{◌>>=◌, Read, fails, here_at, word_here_at, start_at, end_line_at, repeat_at}
+use Rattle.text_lines.specs.Reading.{◌>>=◌}
+use Rattle.litmus_lexer.specs.Reading.{Read, fails, here_at, word_here_at, start_at, end_line_at, repeat_at}
 use Rattle.litmus_parser.specs.Names.{is_there}
 use Rattle.litmus_parser.specs.Keywords.{quantifier_of}
 use Rattle.litmus_parser.specs.ReadingRows.{row_at}

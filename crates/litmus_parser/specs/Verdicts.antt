@@ -4,7 +4,8 @@ use Rattle.litmus_lexer.specs.declared.limits.TheConstants.{MOST_ORI, VALUE_BOUN
 use Rattle.litmus_lexer.specs.declared.errors.Kind.TheVariants.{MixedWidth, ValueRange, AddressAsValue}
 use Rattle.litmus_lexer.specs.declared.errors.Kind.TheVariants.{ValueAsAddress}
 use Rattle.litmus_lexer.specs.declared.errors.LitmusError.{LitmusError}
-use Rattle.litmus_lexer.specs.Reading.{◌>>=◌, fails}
+use Rattle.text_lines.specs.Reading.{◌>>=◌}
+use Rattle.litmus_lexer.specs.Reading.{fails}
 use Rattle.litmus_parser.specs.Names.{address_of, is_there}
 use Rattle.litmus_parser.specs.declared.syntax.Width.{Width}
 use Rattle.litmus_parser.specs.declared.syntax.Width.TheVariants.{Single, Double}

@@ -6,8 +6,9 @@ ghost use Rattle.litmus_lexer.specs.Reading.{Gives};
 ghost use Rattle.litmus_parser.specs.ReadingHeader.{first_line_at, header_line_at, header_at, preamble_at};
 
 use litmus_lexer::{
-    HeaderLines, Kind, MOST_BYTES, ReadError, begins_block, is_header_line, read_title, split_line,
+    HeaderLines, Kind, MOST_BYTES, ReadError, begins_block, is_header_line, read_title,
 };
+use text_lines::split_line;
 
 /// The name in the first line, and the second line.
 #[tactic(auto, unfolding(crate::specs::ReadingHeader::first_line_at))]

@@ -4,13 +4,14 @@ use Rattle.std.proofs.Common.{None, Result, Ok, Err, refl, sym, ap, subst, â—Œâˆ
 use Rattle.std.specs.List.{AllByRecursion}
 use Rattle.std.proofs.lemmas.Bool.{cases_Bool, eqb-true, eqb-false, leb-true, both_ways}
 use Rattle.litmus_lexer.specs.Pieces.{Piece, pieces_of}
-use Rattle.litmus_lexer.specs.FirstLines.{IsTitle, title_of, is_header_line, begins_block, before_line_feed}
-use Rattle.litmus_lexer.specs.FirstLines.{behind_line_feed}
+use Rattle.text_lines.specs.Lines.{before_line_feed, behind_line_feed}
+use Rattle.litmus_lexer.specs.FirstLines.{IsTitle, title_of, is_header_line, begins_block}
 use Rattle.litmus_lexer.specs.declared.errors.Kind.{Kind}
 use Rattle.litmus_lexer.specs.declared.errors.Kind.TheVariants.{BadHeader, BadInitial, CutShort}
 use Rattle.litmus_lexer.specs.declared.errors.LitmusError.{LitmusError}
 use Rattle.litmus_lexer.specs.Reading.{fails}
-use Rattle.litmus_lexer.proofs.Lemmas.{title-takes, title-again, header_line-no_block, length-behind_line_feed}
+use Rattle.text_lines.proofs.Lemmas.{length-behind_line_feed}
+use Rattle.litmus_lexer.proofs.Lemmas.{title-takes, title-again, header_line-no_block}
 use Rattle.litmus_lexer.proofs.Lemmas.{length-pieces}
 use Rattle.litmus_parser.specs.Names.{Names}
 use Rattle.litmus_parser.specs.Trees.{Tree}

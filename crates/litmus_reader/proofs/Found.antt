@@ -5,11 +5,12 @@ use Rattle.std.specs.Prelude.{IfOk}
 use Rattle.std.specs.List.{list_all, prefix_len, AllByRecursion}
 use Rattle.std.proofs.lemmas.Bool.{eqb-true, ltb-false, leb-false}
 use Rattle.litmus_lexer.specs.Pieces.{Piece, pieces_of}
-use Rattle.litmus_lexer.specs.FirstLines.{IsTitle, title_of, is_header_line, begins_block, before_line_feed}
-use Rattle.litmus_lexer.specs.FirstLines.{behind_line_feed}
+use Rattle.text_lines.specs.Lines.{before_line_feed, behind_line_feed}
+use Rattle.litmus_lexer.specs.FirstLines.{IsTitle, title_of, is_header_line, begins_block}
 use Rattle.litmus_lexer.specs.declared.errors.Kind.TheVariants.{CutShort, BadHeader, BadByte}
 use Rattle.litmus_lexer.specs.declared.errors.LitmusError.{LitmusError}
-use Rattle.litmus_lexer.specs.Reading.{◌>>=◌, fails, found}
+use Rattle.text_lines.specs.Reading.{◌>>=◌, found}
+use Rattle.litmus_lexer.specs.Reading.{fails, fault_at}
 use Rattle.litmus_lexer.proofs.Lemmas.{repeat-takes, title-takes, whole-front}
 use Rattle.litmus_parser.specs.ReadingHeader.{Lines, first_line_at, header_line_at, cut_short, preamble_at}
 use Rattle.litmus_parser.specs.ReadingHeader as heads
@@ -70,7 +71,7 @@ opening_takes : (text : List ℕ) (x : List ℕ × Lines) → preamble_at text �
 unfolding preamble_at first_line_at
 opening_takes text x e =
     let first = bind_ok (first_line_at text) (λ first. heads.header_at first.1 >>= λ body. Ok (first.0, body)) x e in
-    let some = else_ok (eqb (length text) 0) _ (found BadHeader (title_of (before_line_feed text)) 1
+    let some = else_ok (eqb (length text) 0) _ (found (fault_at BadHeader 1) (title_of (before_line_feed text))
     (λ name. Ok (name, (2, behind_line_feed text)))) first.0 first.1 in
     let name = found_ok BadHeader (title_of (before_line_feed text)) 1 (λ name. Ok (name, (2, behind_line_feed text)))
     first.0 some.1 in

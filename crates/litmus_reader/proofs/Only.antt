@@ -4,12 +4,13 @@ use Rattle.std.proofs.Common.{None, Result, Ok, refl, subst, arith}
 use Rattle.std.specs.List.{prefix_len, AllByRecursion}
 use Rattle.std.proofs.lemmas.Bool.{ne_eqb, eq-eqb, le-ltb, lt-leb}
 use Rattle.litmus_lexer.specs.Pieces.{Piece, Word, pieces_of}
-use Rattle.litmus_lexer.specs.FirstLines.{IsTitle, title_of, is_header_line, begins_block, before_line_feed}
-use Rattle.litmus_lexer.specs.FirstLines.{behind_line_feed}
+use Rattle.text_lines.specs.Lines.{before_line_feed, behind_line_feed}
+use Rattle.litmus_lexer.specs.FirstLines.{IsTitle, title_of, is_header_line, begins_block}
 use Rattle.litmus_lexer.specs.declared.errors.LitmusError.{LitmusError}
 use Rattle.litmus_lexer.specs.Reading.{repeat_at}
 use Rattle.litmus_lexer.proofs.Lemmas.{front-whole, title-again, header_line-no_block, block-some}
-use Rattle.litmus_lexer.proofs.Lemmas.{length-behind_line_feed, length-pieces, repeat-more, repeat-last}
+use Rattle.text_lines.proofs.Lemmas.{length-behind_line_feed}
+use Rattle.litmus_lexer.proofs.Lemmas.{length-pieces, repeat-more, repeat-last}
 use Rattle.litmus_parser.specs.ReadingHeader.{Lines, first_line_at, header_line_at, cut_short, preamble_at}
 use Rattle.litmus_parser.specs.ReadingHeader as heads
 use Rattle.litmus_parser.specs.ReadingTable.{is_absent, absent_line, quantifier_next}

@@ -3,7 +3,8 @@ use Rattle.std.specs.Prelude.{◌≡◌, ◌≢◌, ℕ, ◌+◌, ◌<◌, ◌�
 use Rattle.std.specs.List.{list_all, AllByRecursion}
 use Rattle.litmus_lexer.specs.declared.limits.TheConstants.{MOST_BYTES}
 use Rattle.litmus_lexer.specs.Pieces.{Piece, pieces_of}
-use Rattle.litmus_lexer.specs.FirstLines.{IsTitle, is_header_line, begins_block, before_line_feed, behind_line_feed}
+use Rattle.text_lines.specs.Lines.{before_line_feed, behind_line_feed}
+use Rattle.litmus_lexer.specs.FirstLines.{IsTitle, is_header_line, begins_block}
 use Rattle.litmus_lexer.specs.declared.errors.Kind.{Kind}
 use Rattle.litmus_lexer.specs.declared.errors.Kind.TheVariants.{TooLarge, BadByte, BadHeader, BadInitial, CutShort}
 use Rattle.litmus_parser.specs.Names.{Names}

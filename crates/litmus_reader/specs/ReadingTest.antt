@@ -6,7 +6,8 @@ use Rattle.litmus_lexer.specs.Pieces.{Piece, pieces_of}
 use Rattle.litmus_lexer.specs.declared.errors.Kind.{Kind}
 use Rattle.litmus_lexer.specs.declared.errors.Kind.TheVariants.{NoMemory, TooLarge, BadInitial, CutShort}
 use Rattle.litmus_lexer.specs.declared.errors.LitmusError.{LitmusError}
-use Rattle.litmus_lexer.specs.Reading.{◌>>=◌, fails}
+use Rattle.text_lines.specs.Reading.{◌>>=◌}
+use Rattle.litmus_lexer.specs.Reading.{fails}
 use Rattle.litmus_parser.specs.ReadingHeader.{preamble_at}
 use Rattle.litmus_parser.specs.ReadingBlock.{block_at}
 use Rattle.litmus_parser.specs.ReadingTable.{header_at, absent_line, rows_at}

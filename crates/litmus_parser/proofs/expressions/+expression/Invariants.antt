@@ -1,5 +1,6 @@
 use Rattle.std.proofs.Common.{◌≡◌, ◌+◌, ◌-◌, ◌*◌}
-use Rattle.litmus_lexer.specs.Reading.{◌>>=◌, repeat_at}
+use Rattle.text_lines.specs.Reading.{◌>>=◌}
+use Rattle.litmus_lexer.specs.Reading.{repeat_at}
 use Rattle.litmus_parser.specs.ReadingCondition.{chain_at, next_part_at, too_many_parts, chain_result}
 use Rattle.litmus_parser.specs.TreeViews.{tree_of}
 use Rattle.litmus_parser.proofs.Chains.{level}

@@ -6,10 +6,11 @@ use Rattle.std.proofs.lemmas.Bool.{cases_Bool}
 use Rattle.std.proofs.lemmas.List.{length-drop}
 use Rattle.text_lines.specs.Lines.{is_within_line, before_line_feed, behind_line_feed, begun, lines_of}
 
-drop-one_more : (n b : ℕ) (bytes : List ℕ) → drop (1 + n + 1) (b ∷ bytes) ≡ drop (n + 1) bytes
-drop-one_more n b bytes = let e : 1 + n + 1 ≡ suc (n + 1) = omega arith in rw e refl
+-- with one more byte in front, one more is taken, or passed
+pub drop-one_more : (n b : ℕ) (bytes : List ℕ) → drop (1 + n) (b ∷ bytes) ≡ drop n bytes
+drop-one_more n b bytes = let e : 1 + n ≡ suc n = omega arith in rw e refl
 
-take-one_more : (n b : ℕ) (bytes : List ℕ) → take (1 + n) (b ∷ bytes) ≡ b ∷ take n bytes
+pub take-one_more : (n b : ℕ) (bytes : List ℕ) → take (1 + n) (b ∷ bytes) ≡ b ∷ take n bytes
 take-one_more n b bytes = let e : 1 + n ≡ suc n = omega arith in rw e refl
 
 lines-cut : (b : ℕ) (bytes : List ℕ) → (b == 10) ≡ true → lines_of (b ∷ bytes) ≡ [] ∷ lines_of bytes
@@ -29,12 +30,9 @@ lines-longer : (b : ℕ) (bytes : List ℕ) → (b == 10) ≡ false →
     begun b (lines_of bytes) ≡ (b ∷ before_line_feed bytes) ∷ lines_of (behind_line_feed bytes) →
     lines_of (b ∷ bytes) ≡ before_line_feed (b ∷ bytes) ∷ lines_of (behind_line_feed (b ∷ bytes))
 lines-longer b bytes e known =
-    rw (
-      e,
-      take-one_more (prefix_len is_within_line bytes) b bytes,
-      drop-one_more (prefix_len is_within_line bytes) b
-          bytes,
-    ) (lines-more b bytes e ∙ known)
+    let n : ℕ = prefix_len is_within_line bytes in
+    let passed : 1 + n + 1 ≡ 1 + (n + 1) = omega arith in
+    rw (e, passed, take-one_more n b bytes, drop-one_more (n + 1) b bytes) (lines-more b bytes e ∙ known)
 
 pub lines-first : (text : List ℕ) → 0 < length text →
     lines_of text ≡ before_line_feed text ∷ lines_of (behind_line_feed text)

@@ -1,20 +1,15 @@
 -- How the fields of bytes begin.
-use Rattle.std.proofs.Common.{◌≡◌, ℕ, suc, ◌+◌, ◌<◌, Bool, true, false}
+use Rattle.std.proofs.Common.{◌≡◌, ℕ, ◌+◌, ◌<◌, Bool, true, false}
 use Rattle.std.proofs.Common.{List, [], ◌∷◌, take, drop, length, refl, sym, ap, subst, ◌∙◌}
 use Rattle.std.proofs.Common.{arith, inl, inr}
 use Rattle.std.specs.Prelude.{not}
 use Rattle.std.proofs.lemmas.Bool.{cases_Bool, false_from_ne_true, both_ways}
 use Rattle.std.specs.List.{prefix_len}
+use Rattle.text_lines.proofs.Lemmas.{take-one_more, drop-one_more}
 use Rattle.trace_lines.specs.Fields.{is_blank, is_joined, grown, parted}
 
 abbrev pub is_field_byte : ℕ → Bool
 is_field_byte b = not (is_blank b)
-
-drop-one_more : (n b : ℕ) (bytes : List ℕ) → drop (1 + n) (b ∷ bytes) ≡ drop n bytes
-drop-one_more n b bytes = let e : 1 + n ≡ suc n = omega arith in rw e refl
-
-take-one_more : (n b : ℕ) (bytes : List ℕ) → take (1 + n) (b ∷ bytes) ≡ b ∷ take n bytes
-take-one_more n b bytes = let e : 1 + n ≡ suc n = omega arith in rw e refl
 
 parted-blank : (b : ℕ) (bytes : List ℕ) → is_blank b ≡ true → parted (b ∷ bytes) ≡ parted bytes
 unfolding parted

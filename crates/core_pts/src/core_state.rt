@@ -1,8 +1,7 @@
 //! A core and what it does by itself: it takes an operation, attempts it, raises its time and evicts copies.
-ghost use Rattle.std.specs.Prelude.{◌≡◌, ◌≢◌, ◌⊎◌, ◌<◌, ◌≤◌, ◌%◌, ◌^◌, IfOk, IfSome, IsPermutation, IsSorted, IsSome};
+ghost use Rattle.std.specs.Prelude.{◌≡◌, ◌≢◌, ◌⊎◌, ◌<◌, ◌≤◌, ◌%◌, ◌^◌, IfOk, IfSome, IsSome};
 ghost use Rattle.std.specs.Prelude.{IsTrue, is_some, length, not, true, option_copied, option_map, slice_get, Some};
 ghost use Rattle.std.specs.Prelude.{IsOk, OnErr, OnOk};
-ghost use Rattle.std.specs.Ordering.{nat_cmp};
 ghost use Rattle.std.specs.Result.{result_ok};
 ghost use Rattle.line_sets.specs.Geometry.{IsGeometry};
 ghost use Rattle.line_sets.specs.Rising.{risen};
@@ -140,10 +139,8 @@ impl Core {
 
     /// The lines of all copies, rising.
     pub fn lines(&self) -> Result<Vec<LineNo>, AllocError>
-        ensures lines { IfOk result (λ lines. IsPermutation (all_listed (λ _. true)
-            self.now.cache.sets)
-            lines.items) }
-        ensures rising { IfOk result (λ lines. IsSorted nat_cmp lines.items) }
+        ensures { IfOk result (λ lines. lines.items ≡ risen (all_listed (λ _. true)
+            self.now.cache.sets)) }
     {
         self.cache.lines()
     }

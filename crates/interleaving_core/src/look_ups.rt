@@ -1,6 +1,5 @@
 //! What is looked up in a machine.
-ghost use Rattle.std.specs.Prelude.{◌≡◌, ◌<◌, IfOk, IsPermutation, IsSorted, length, map, slice_get, Some};
-ghost use Rattle.std.specs.Ordering.{nat_cmp};
+ghost use Rattle.std.specs.Prelude.{◌≡◌, ◌<◌, IfOk, length, map, slice_get, Some};
 ghost use Rattle.network.specs.NumberedMessages.{IsRising};
 ghost use Rattle.line_sets.specs.Rising.{risen};
 ghost use Rattle.interleaving_core.specs.LookUps.{copies, entries, free_copies, is_request, make_room, open_op};
@@ -62,8 +61,7 @@ impl MachineState {
 
     // The lines of a core's copies, rising.
     pub(crate) fn copies(&self, core: u32) -> Result<Vec<LineNo>, AllocError>
-        ensures lines { IfOk result (λ lines. IsPermutation (copies self.now core) lines.items) }
-        ensures rising { IfOk result (λ lines. IsSorted nat_cmp lines.items) }
+        ensures { IfOk result (λ lines. lines.items ≡ risen (copies self.now core)) }
     {
         match self.cores.get(core as usize) {
             Some(core) => core.lines(),
@@ -73,8 +71,7 @@ impl MachineState {
 
     // The lines that a bank has and that nothing is under way for, rising.
     pub(crate) fn entries(&self, bank: u32) -> Result<Vec<LineNo>, AllocError>
-        ensures lines { IfOk result (λ lines. IsPermutation (entries self.now bank) lines.items) }
-        ensures rising { IfOk result (λ lines. IsSorted nat_cmp lines.items) }
+        ensures { IfOk result (λ lines. lines.items ≡ risen (entries self.now bank)) }
     {
         match self.banks.get(bank as usize) {
             Some(bank) => bank.lines(),

@@ -1,8 +1,7 @@
 //! The machine that users drive, and what is always true of it.
 ghost use Rattle.std.specs.Prelude.{◌≡◌, ◌≢◌, ◌≤◌, ◌<◌, ◌++◌, ◌∷◌, vec_capacity, [], false, true, IfOk, IfErr};
-ghost use Rattle.std.specs.Prelude.{IfSome, IsSome, IsTrue, OnErr, OnOk, IsPermutation, IsSorted, length, map};
+ghost use Rattle.std.specs.Prelude.{IfSome, IsSome, IsTrue, OnErr, OnOk, length, map};
 ghost use Rattle.std.specs.Prelude.{slice_get, slice_index_or, List, Some, ℕ};
-ghost use Rattle.std.specs.Ordering.{nat_cmp};
 ghost use Rattle.physiological_order.specs.Order.{flat, Legal, Arrangement, of_core, replay_end};
 ghost use Rattle.physiological_order.specs.StaleHits.{RisesByNumber};
 ghost use Rattle.physiological_order.specs.declared.operation.Record.{Record};
@@ -238,16 +237,14 @@ impl System {
 
     /// The lines of a core's copies, rising; none for a core that isn't there.
     pub fn copies(&self, core: u32) -> Result<Vec<LineNo>, AllocError>
-        ensures lines { IfOk result (λ lines. IsPermutation (copies self.now core) lines.items) }
-        ensures rising { IfOk result (λ lines. IsSorted nat_cmp lines.items) }
+        ensures { IfOk result (λ lines. lines.items ≡ risen (copies self.now core)) }
     {
         self.state.copies(core)
     }
 
     /// The lines that a bank has Shared or Exclusive, rising; none for a bank that isn't there.
     pub fn entries(&self, bank: u32) -> Result<Vec<LineNo>, AllocError>
-        ensures lines { IfOk result (λ lines. IsPermutation (entries self.now bank) lines.items) }
-        ensures rising { IfOk result (λ lines. IsSorted nat_cmp lines.items) }
+        ensures { IfOk result (λ lines. lines.items ≡ risen (entries self.now bank)) }
     {
         self.state.entries(bank)
     }

@@ -1,4 +1,3 @@
-mod LineNumbers
 mod ListedCounts
 mod ListedSums
 mod ListedTallies

@@ -1,9 +1,8 @@
 //! A table of sets of lines in order of use, whose memory is all taken when it is made.
-ghost use Rattle.std.specs.Prelude.{◌≡◌, ◌<◌, ◌≤◌, IfOk, IsOk, IsPermutation, IsSorted, IsTrue, length, OnErr, OnOk};
+ghost use Rattle.std.specs.Prelude.{◌≡◌, ◌<◌, ◌≤◌, IfOk, IsOk, IsTrue, length, OnErr, OnOk};
 ghost use Rattle.std.specs.Prelude.{slice_get, Some, ◌++◌, ℕ};
 ghost use Rattle.std.specs.Option.{option_copied};
 ghost use Rattle.line_sets.specs.Order.{first_where, is_there, listed, oldest, IsDistinct};
-ghost use Rattle.std.specs.Ordering.{nat_cmp};
 ghost use Rattle.line_sets.specs.Geometry.{IsGeometry};
 ghost use Rattle.line_sets.specs.Rising.{all_but, risen};
 ghost use Rattle.line_sets.specs.SetTable.{all_listed, drop_line, empty_sets, has_place, has_room, look, put};
@@ -263,7 +262,6 @@ impl<V: Copy + Listed> LineSets<V> {
     pub fn keep_order(&mut self)
         ensures { self.new ≡ self.old }
     {
-        sorted_is_risen();
         let Ok(mut numbers) = self.numbers() else {
             return;
         };
@@ -282,20 +280,17 @@ impl<V: Copy + Listed> LineSets<V> {
 
     /// The lines of all sets whose values are listed, rising.
     pub fn lines(&self) -> Result<Vec<LineNo>, AllocError>
-        ensures lines { IfOk result (λ lines. IsPermutation (all_listed V.is_listed self.now.sets)
-            lines.items) }
-        ensures rising { IfOk result (λ lines. IsSorted nat_cmp lines.items) }
+        ensures { IfOk result (λ lines. lines.items ≡ risen (all_listed V.is_listed self.now.sets)) }
     {
         let numbers = self.numbers()?;
         line_numbers(numbers)
     }
 
-    // The numbers of these lines.
+    // The numbers of these lines, rising.
     fn numbers(&self) -> Result<Vec<u64>, AllocError>
-        ensures lines { IfOk result (λ lines. IsPermutation (all_listed V.is_listed self.now.sets)
-            lines.items) }
-        ensures rising { IfOk result (λ lines. IsSorted nat_cmp lines.items) }
+        ensures { IfOk result (λ lines. lines.items ≡ risen (all_listed V.is_listed self.now.sets)) }
     {
+        sorted_is_risen();
         let mut lines = self.gathered()?;
         lines.sort_unstable();
         Ok(lines)

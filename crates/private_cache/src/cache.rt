@@ -1,7 +1,6 @@
 //! A private cache, whose memory is all taken when it is made.
-ghost use Rattle.std.specs.Prelude.{◌≡◌, ◌≤◌, ◌<◌, length, IfOk, IfSome, IsPermutation, IsSorted, IsSome, IsTrue};
+ghost use Rattle.std.specs.Prelude.{◌≡◌, ◌≤◌, ◌<◌, length, IfOk, IfSome, IsSome, IsTrue};
 ghost use Rattle.std.specs.Prelude.{is_some, not, slice_get, true, IsOk, OnErr, OnOk, Some};
-ghost use Rattle.std.specs.Ordering.{nat_cmp};
 ghost use Rattle.std.specs.Option.{option_copied};
 ghost use Rattle.line_sets.specs.Geometry.{IsGeometry};
 ghost use Rattle.line_sets.specs.Rising.{risen};
@@ -236,9 +235,7 @@ impl Cache {
 
     /// The lines of all copies, rising.
     pub fn lines(&self) -> Result<Vec<LineNo>, AllocError>
-        ensures lines { IfOk result (λ lines. IsPermutation (all_listed (λ _. true) self.now.sets)
-            lines.items) }
-        ensures rising { IfOk result (λ lines. IsSorted nat_cmp lines.items) }
+        ensures { IfOk result (λ lines. lines.items ≡ risen (all_listed (λ _. true) self.now.sets)) }
     {
         self.table.lines()
     }

@@ -1,9 +1,7 @@
 -- What comes of seats that threads drove: the seats in order, what each core's program was told, and the end.
-use Rattle.std.specs.Prelude.{◌≡◌, ◌≢◌, ◌⊎◌, ℕ, ◌+◌, ◌<◌, ◌≤◌, List, [], ◌∷◌, ◌++◌, length, map, cond}
-use Rattle.std.specs.Prelude.{Option, Some, None, slice_get}
+use Rattle.std.specs.Prelude.{◌≡◌, ◌≢◌, ℕ, ◌+◌, ◌<◌, ◌≤◌, List, [], ◌∷◌, ◌++◌, length, cond}
+use Rattle.std.specs.Prelude.{Some, None, slice_get}
 use Rattle.physiological_order.specs.declared.operation.Record.{Record}
-use Rattle.physiological_order.specs.Order.{Follows}
-use Rattle.protocol.specs.Issued.{listed}
 use Rattle.run_ends.specs.declared.ends.End.{End}
 use Rattle.run_ends.specs.declared.ends.End.TheVariants as end
 use Rattle.mailboxes.specs.declared.machine.Machine.{Machine}
@@ -11,8 +9,7 @@ use Rattle.mailboxes.specs.declared.core_seat.CoreSeat.{CoreSeat}
 use Rattle.mailboxes.specs.declared.bank_seat.BankSeat.{BankSeat}
 use Rattle.mailboxes.specs.Seats.{IsCoreSeat, IsBankSeat}
 use Rattle.worker_driver.specs.Acts.{Acts}
-use Rattle.worker_driver.specs.Service.{Performs}
-use Rattle.seat_turns.specs.Playing.{IsAhead}
+use Rattle.worker_driver.specs.Service.{IsServed}
 
 -- the seats of all cores of the machine, in order
 pub record AreCoresInOrder (m : Machine) (cores : List CoreSeat) : Type 0 where
@@ -42,16 +39,12 @@ abbrev pub stopped : List CoreSeat → List BankSeat → ℕ
 stopped cores banks = stopped_cores cores + stopped_banks banks
 
 module _ {P : Type 0} (acts : Acts P) where
-  -- A core's seat that had no open operation, and its program: the core was issued its program's operations. The
-  -- records that were added are of the first of them, in their order, and the program was told of each. One that is
-  -- still open is the program's next.
-  pub record IsServed (p : CoreSeat) (before : P) (q : CoreSeat) (after : P) : Type 0 where
+  -- A core's seat and its program, before and after: the core was served, with the records that were added. It is said
+  -- of a seat that had no open operation.
+  pub record IsSeatServed (p : CoreSeat) (before : P) (q : CoreSeat) (after : P) : Type 0 where
     pub added : List Record
     pub records : q.records.items ≡ p.records.items ++ added
-    pub issued : q.issued.items ≡ p.issued.items ++ (map (λ r. r.op) added ++ listed q.part.core.open_op)
-    pub in_order : Follows (length p.issued.items) q.issued.items added
-    pub performs : Performs acts added before after
-    pub ahead : IsAhead acts q after
+    pub served : IsServed acts p.issued.items q.issued.items added q.part.core.open_op before after
 
   -- that is so of each core's seat and its program, by index
   pub record AreServed (cores : List CoreSeat) (programs : List P) (cores' : List CoreSeat) (programs' : List P) :
@@ -59,7 +52,7 @@ module _ {P : Type 0} (acts : Acts P) where
     pub long : length programs' ≡ length programs
     pub each : (i : ℕ) (p : CoreSeat) (a : P) (q : CoreSeat) (b : P) →
         slice_get cores i ≡ Some p → slice_get programs i ≡ Some a →
-        slice_get cores' i ≡ Some q → slice_get programs' i ≡ Some b → IsServed p a q b
+        slice_get cores' i ≡ Some q → slice_get programs' i ≡ Some b → IsSeatServed p a q b
 
   -- no core has an open operation, and no program a next step
   abbrev pub AreOver : List CoreSeat → List P → Type 0

@@ -1,19 +1,18 @@
 -- What a core's seat was issued by a shift, and what its program was told.
-use Rattle.std.proofs.Common.{◌≡◌, ℕ, ◌+◌, List, [], ◌∷◌, ◌++◌, length, map, Option, Some, None, refl, sym, ap, subst, ◌∙◌}
+use Rattle.std.proofs.Common.{◌≡◌, ℕ, ◌+◌, List, [], ◌∷◌, ◌++◌, length, map, Option, None, sym, ap, subst, ◌∙◌}
 use Rattle.std.proofs.Common.{append-nil, append_assoc, arith}
 use Rattle.std.proofs.lemmas.List.{length-map, map-append}
 use Rattle.physiological_order.specs.declared.operation.Op.{Op}
 use Rattle.physiological_order.specs.declared.operation.Record.{Record}
 use Rattle.physiological_order.specs.Order.{Follows}
 use Rattle.protocol.specs.Issued.{listed}
-use Rattle.std.specs.Prelude.{slice_get}
 use Rattle.mailboxes.specs.declared.machine.Machine.{Machine}
 use Rattle.mailboxes.specs.declared.core_seat.CoreSeat.{CoreSeat}
 use Rattle.mailboxes.specs.Seats.{IsCoreSeat}
 use Rattle.worker_driver.specs.Acts.{Acts}
 use Rattle.seat_turns.specs.Playing.{Plays}
 use Rattle.seat_turns.proofs.Lemmas.{IssuedLaw, issued_here}
-use Rattle.shifts.specs.Shifts.{IsServed}
+use Rattle.shifts.specs.Shifts.{IsSeatServed}
 
 -- behind the first of the records
 behind : (rs more : List Record) (k : ℕ) (ops : List Op) → Follows k ops (rs ++ more) → Follows (k + length rs) ops more
@@ -26,7 +25,7 @@ behind (r ∷ rs) more k ops follows =
 
 module _ {P : Type 0} (acts : Acts P) (m : Machine) (law : IssuedLaw) where
   pub served : (p : CoreSeat) (a : P) (q : CoreSeat) (b : P) → IsCoreSeat m p → IsCoreSeat m q →
-      p.part.core.open_op ≡ None → Plays acts p a q b → IsServed acts p a q b
+      p.part.core.open_op ≡ None → Plays acts p a q b → IsSeatServed acts p a q b
   served p a q b is_p is_q none plays =
       let before = issued_here m law p is_p in
       let after = issued_here m law q is_q in
@@ -37,18 +36,20 @@ module _ {P : Type 0} (acts : Acts P) (m : Machine) (law : IssuedLaw) where
       record {
         added = plays.added;
         records = plays.records;
-        issued =
-            after.all
-            ∙ ap (λ (rs : List Record). ops rs ++ tail) plays.records
-            ∙ ap (λ (os : List Op). os ++ tail) (map-append (λ (r : Record). r.op) p.records.items plays.added)
-            ∙ append_assoc (ops p.records.items) (ops plays.added) tail
-            ∙ ap (λ (os : List Op). os ++ (ops plays.added ++ tail)) (sym first);
-        in_order =
-            let count : 0 + length p.records.items ≡ length p.issued.items =
-            omega (arith, ap length first, length-map {B = Op} p.records.items (λ (r : Record). r.op)) in
-            subst (λ (n : ℕ). Follows n q.issued.items plays.added) count
-            (behind p.records.items plays.added 0 q.issued.items
-            (subst (Follows 0 q.issued.items) plays.records after.in_order));
-        performs = plays.performs;
-        ahead = plays.ahead;
+        served = record {
+          issued =
+              after.all
+              ∙ ap (λ (rs : List Record). ops rs ++ tail) plays.records
+              ∙ ap (λ (os : List Op). os ++ tail) (map-append (λ (r : Record). r.op) p.records.items plays.added)
+              ∙ append_assoc (ops p.records.items) (ops plays.added) tail
+              ∙ ap (λ (os : List Op). os ++ (ops plays.added ++ tail)) (sym first);
+          in_order =
+              let count : 0 + length p.records.items ≡ length p.issued.items =
+              omega (arith, ap length first, length-map {B = Op} p.records.items (λ (r : Record). r.op)) in
+              subst (λ (n : ℕ). Follows n q.issued.items plays.added) count
+              (behind p.records.items plays.added 0 q.issued.items
+              (subst (Follows 0 q.issued.items) plays.records after.in_order));
+          performs = plays.performs;
+          ahead = plays.ahead;
+        };
       }

@@ -1,17 +1,12 @@
 -- The seats of a closed machine: what the machine that it shows has of each.
-use Rattle.std.proofs.Common.{◌≡◌, ℕ, ◌<◌, List, [], map, Option, Some, None, IfSome, refl, sym, ap, ◌∙◌, subst}
+use Rattle.std.proofs.Common.{◌≡◌, ℕ, ◌<◌, List, [], map, Option, Some, None, refl, sym, ap, ◌∙◌, subst}
 use Rattle.std.specs.Prelude.{slice_get, option_map, Bool}
 use Rattle.std.proofs.lemmas.Option.{slice_get-map}
 use Rattle.physiological_order.specs.declared.operation.Op.{Op}
 use Rattle.physiological_order.specs.Order.{of_core}
-use Rattle.core_pts.specs.CoreTable.{CoreState}
 use Rattle.seat_rule.specs.declared.views.Hold.{Hold}
 use Rattle.machine_table.specs.Machine.{operation_of}
-use Rattle.protocol.specs.Issued.{listed}
 use Rattle.interleaving_core.specs.LookUps.{open_op, open_op_of}
-use Rattle.trace_lines.specs.declared.steps.Step.{Step}
-use Rattle.trace_lines.specs.declared.steps.Step.TheVariants as step
-use Rattle.worker_driver.specs.Service.{still_open}
 use Rattle.mailboxes.specs.declared.machine.Machine.{Machine}
 use Rattle.mailboxes.specs.declared.core_seat.CoreSeat.{CoreSeat}
 use Rattle.mailboxes.specs.declared.run.Run.{Run}
@@ -30,11 +25,6 @@ new_records m j p is = sym p.tied.records ∙ ap (λ (a : Hold). a.records) is.2
 abbrev with_request : Bool → Op → Op × Bool
 with_request is_out op = (op, is_out)
 
-is_ahead : (o : Option Op) (is_out : Bool) (next : Option Step) → IfSome o (λ op. next ≡ Some (step.Op op)) →
-    IfSome (option_map (with_request is_out) o) (λ x. next ≡ Some (step.Op x.0))
-is_ahead None is_out next is = tt
-is_ahead (Some op) is_out next is = is
-
 nothing_open : (o : Option Op) (is_out : Bool) → o ≡ None → option_map (with_request is_out) o ≡ None
 nothing_open None is_out is = refl
 nothing_open (Some op) is_out is = absurd cc
@@ -42,14 +32,6 @@ nothing_open (Some op) is_out is = absurd cc
 nothing_there : (o : Option Op) (is_out : Bool) → option_map (with_request is_out) o ≡ None → o ≡ None
 nothing_there None is_out is = refl
 nothing_there (Some op) is_out is = absurd cc
-
-listed_open : (o : Option Op) (is_out : Bool) → listed o ≡ still_open (option_map (with_request is_out) o)
-listed_open None is_out = refl
-listed_open (Some op) is_out = refl
-
-pub same_open : (o : Option CoreState) → listed (operation_of o) ≡ still_open (open_op_of o)
-same_open None = refl
-same_open (Some core) = listed_open core.open_op core.is_out
 
 module _ (run : Run) (parts : Parts run) (cores : List CoreSeat) (left : run.cores.items ≡ map core_part cores)
     (c : ℕ) (q : CoreSeat) (here : slice_get cores c ≡ Some q) (number : q.mail.number ≡ c) where
@@ -69,11 +51,8 @@ module _ (run : Run) (parts : Parts run) (cores : List CoreSeat) (left : run.cor
     core_there : slice_get (machine_of run parts).cores c ≡ Some q.part.core
     core_there = first_at (λ i. (parts.seats i).core) run.set_up.config.cores c below ∙ ap Some of_seat.core
 
-    pub ahead_there : (next : Option Step) → IfSome q.part.core.open_op (λ op. next ≡ Some (step.Op op)) →
-        IfSome (open_op (machine_of run parts) c) (λ x. next ≡ Some (step.Op x.0))
-    ahead_there next is =
-        subst (λ (o : Option CoreState). IfSome (open_op_of o) (λ x. next ≡ Some (step.Op x.0))) (sym core_there)
-        (is_ahead q.part.core.open_op q.part.core.is_out next is)
+    pub operation_there : operation_of (slice_get (machine_of run parts).cores c) ≡ q.part.core.open_op
+    operation_there = ap operation_of core_there
 
     pub none_open : q.part.core.open_op ≡ None → open_op (machine_of run parts) c ≡ None
     none_open is = ap open_op_of core_there ∙ nothing_open q.part.core.open_op q.part.core.is_out is

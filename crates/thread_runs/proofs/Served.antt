@@ -1,5 +1,5 @@
 -- The cores of a closed machine were issued what their programs gave.
-use Rattle.std.proofs.Common.{◌≡◌, ℕ, zero, suc, ◌+◌, ◌<◌, List, [], ◌∷◌, ◌++◌, length, map, Some, IfSome}
+use Rattle.std.proofs.Common.{◌≡◌, ℕ, zero, suc, ◌+◌, ◌<◌, List, [], ◌∷◌, ◌++◌, length, map, Option, Some, IfSome}
 use Rattle.std.proofs.Common.{refl, sym, ap, ◌∙◌, subst, arith}
 use Rattle.std.specs.List.{AllByRecursion}
 use Rattle.trace_lines.specs.declared.steps.Step.TheVariants as step
@@ -12,9 +12,8 @@ use Rattle.machine_table.specs.Machine.{operation_of}
 use Rattle.machine_table.specs.Opening.{at_start}
 use Rattle.machine_theorem.specs.Consistency.{IsConsistent}
 use Rattle.protocol.specs.Issued.{listed}
-use Rattle.interleaving_core.specs.LookUps.{open_op}
 use Rattle.worker_driver.specs.Acts.{Acts}
-use Rattle.worker_driver.specs.Service.{AreServed, Performs, still_open}
+use Rattle.worker_driver.specs.Service.{AreServed, IsServed, Performs}
 use Rattle.mailboxes.specs.declared.machine.Machine.{Machine}
 use Rattle.mailboxes.specs.declared.core_seat.CoreSeat.{CoreSeat}
 use Rattle.mailboxes.specs.declared.run.Run.{Run}
@@ -25,7 +24,7 @@ use Rattle.shifts.specs.Shifts as shifts
 use Rattle.thread_runs.specs.ThreadRuns.{machine_of}
 use Rattle.thread_runs.proofs.Numbered.{index_past, nothing_issued}
 use Rattle.thread_runs.proofs.OwnRecords.{all_below, no_record}
-use Rattle.thread_runs.proofs.Seats.{ahead_there, new_records, own_records, same_open}
+use Rattle.thread_runs.proofs.Seats.{new_records, operation_there, own_records}
 
 -- a value at each index below the length
 pub there : {A : Type 0} (xs : List A) (i : ℕ) → i < length xs → (x : A) × (slice_get xs i ≡ Some x)
@@ -49,13 +48,12 @@ module _ {P : Type 0} (acts : Acts P) (m : Machine) (run : Run) (parts : Parts r
 
   issued : (c : ℕ) → slice_index_or (machine_of run parts).issued c [] ≡
       slice_index_or start.issued c [] ++ (map (λ r. r.op) (of_core c run.records.items)
-      ++ still_open (open_op (machine_of run parts) c))
+      ++ listed (operation_of (slice_get (machine_of run parts).cores c)))
   issued c =
       (consistent.issued c).all
-      ∙ ap (λ ops. map (λ r. r.op) (of_core c run.records.items) ++ ops)
-      (same_open (slice_get (machine_of run parts).cores c))
       ∙ sym (ap (λ (ops : List Op). ops ++ (map (λ r. r.op) (of_core c run.records.items)
-      ++ still_open (open_op (machine_of run parts) c))) (nothing_issued run.set_up.config.cores c))
+      ++ listed (operation_of (slice_get (machine_of run parts).cores c))))
+      (nothing_issued run.set_up.config.cores c))
 
   in_order : (c : ℕ) → Follows (length (slice_index_or start.issued c [])) (slice_index_or
       (machine_of run parts).issued c []) (of_core c run.records.items)
@@ -63,10 +61,11 @@ module _ {P : Type 0} (acts : Acts P) (m : Machine) (run : Run) (parts : Parts r
       subst (λ (ops : List Op). Follows (length ops) (slice_index_or (machine_of run parts).issued c [])
       (of_core c run.records.items)) (sym (nothing_issued run.set_up.config.cores c)) (consistent.issued c).in_order
 
-  told : (c : ℕ) → c < run.set_up.config.cores → (a : P) → slice_get before c ≡ Some a →
-      (b : P) × (slice_get after c ≡ Some b) × Performs acts (of_core c run.records.items) a b ×
-      IfSome (open_op (machine_of run parts) c) (λ o. acts.next b ≡ Some (step.Op o.0))
-  told c below a is =
+  core_served : (c : ℕ) (a : P) → c < run.set_up.config.cores → slice_get before c ≡ Some a →
+      (b : P) × (slice_get after c ≡ Some b) × IsServed acts (slice_index_or start.issued c [])
+      (slice_index_or (machine_of run parts).issued c []) (of_core c run.records.items)
+      (operation_of (slice_get (machine_of run parts).cores c)) a b
+  core_served c a below is =
       let p = there cores c (omega (arith, below, many)) in
       let q = there ended c (omega (arith, below, all)) in
       let b = there after c (let long = served.long in omega (arith, below, long, programs, many)) in
@@ -76,8 +75,13 @@ module _ {P : Type 0} (acts : Acts P) (m : Machine) (run : Run) (parts : Parts r
       let own = own_records run parts ended left c q.0 q.1 number ∙ s.records ∙ ap (λ rs. rs ++ s.added) none in (
         b.0,
         b.1,
-        subst (λ rs. Performs acts rs a b.0) (sym own) s.performs,
-        ahead_there run parts ended left c q.0 q.1 number below (acts.next b.0) s.ahead,
+        record {
+          issued = issued c;
+          in_order = in_order c;
+          performs = subst (λ rs. Performs acts rs a b.0) (sym own) s.served.performs;
+          ahead = subst (λ (o : Option Op). IfSome o (λ op. acts.next b.0 ≡ Some (step.Op op)))
+              (sym (operation_there run parts ended left c q.0 q.1 number below)) s.served.ahead;
+        },
       )
 
   pub all_served : AreServed acts start (machine_of run parts) before after
@@ -85,5 +89,5 @@ module _ {P : Type 0} (acts : Acts P) (m : Machine) (run : Run) (parts : Parts r
     added = run.records.items;
     records = refl;
     there = all_there;
-    each = λ c below none. record { issued = issued c; in_order = in_order c; told = told c below };
+    each = λ c a below is none. core_served c a below is;
   }

@@ -1,6 +1,6 @@
 -- The records of a run of a trace are a legal history of the trace's operations, and such as a text can tell.
 use Rattle.std.proofs.Common.{◌≡◌, ℕ, zero, suc, ◌+◌, ◌<◌, ◌≤◌, Bool, cond, List, [], ◌∷◌, ◌++◌, map}
-use Rattle.std.proofs.Common.{length, replicate, Option, Some, None, refl, sym, ap, subst, ◌∙◌, arith, inl, inr}
+use Rattle.std.proofs.Common.{length, replicate, Option, Some, None, IfSome, refl, sym, ap, subst, ◌∙◌, arith, inl, inr}
 use Rattle.std.proofs.Common.{append_assoc}
 use Rattle.std.proofs.lemmas.Bool.{cases_lt, ne_eqb}
 use Rattle.std.proofs.lemmas.List.Elements.{All-from_recursion, recursion_from_All}
@@ -17,18 +17,19 @@ use Rattle.physiological_order.specs.Order.{of_core, replay, replay_end}
 use Rattle.physiological_order.specs.StaleHits.{RisesByNumber}
 use Rattle.physiological_order.proofs.Lemmas.{Follows-issued}
 use Rattle.machine_table.specs.declared.config.Config.{Config}
-use Rattle.machine_table.specs.Machine.{Machine}
+use Rattle.machine_table.specs.Machine.{Machine, operation_of}
+use Rattle.protocol.specs.Issued.{listed}
 use Rattle.machine_table.specs.Opening.{at_start, cores_from}
 use Rattle.machine_theorem.specs.Coherence.{coherent}
 use Rattle.machine_theorem.specs.Consistency.{IsConsistent}
-use Rattle.interleaving_core.specs.LookUps.{open_op, open_op_of}
+use Rattle.interleaving_core.specs.LookUps.{open_op_of}
 use Rattle.record_text.specs.Text.{AreComplete, HasItsValue}
 use Rattle.report_parts.specs.Orders.{LeadsTo}
 use Rattle.run_ends.specs.declared.ends.End.{End}
 use Rattle.trace_lines.specs.declared.steps.Step.{Step}
 use Rattle.trace_lines.specs.declared.steps.Step.TheVariants as step
 use Rattle.trace_reader.specs.Steps.{lane, ops_of}
-use Rattle.worker_driver.specs.Service.{AreServed, Performs, rests, advances, does, still_open}
+use Rattle.worker_driver.specs.Service.{AreServed, Performs, rests, advances, does}
 use Rattle.worker_driver.specs.declared.policy.Policy.{Policy}
 use Rattle.trace_report.specs.Runs.{IsRun, core_count, issued_in, programs_below, step_acts}
 use Rattle.trace_report.proofs.CoreCounts.{programs_count}
@@ -142,26 +143,25 @@ module _ (lanes : List (List Step)) (config : Config) (m : Machine) (programs : 
   there = subst (AllByRecursion (λ (r : Record). r.core < config.cores)) (sym served.records) served.there
 
   -- what is left of the trace behind what a core was issued
-  opened : (core : ℕ) (o : Option (Op × Bool)) (q : List Step) →
-      Rattle.std.specs.Prelude.IfSome o (λ x. step_acts.next q ≡ Some (step.Op x.0)) →
-      (rest : List Op) × (ops_of q ≡ still_open o ++ rest)
-  opened core None q next = (ops_of q, refl)
-  opened core (Some x) q next = (ops_of (step_acts.done q None), with_op q x.0 None next)
+  opened : (o : Option Op) (q : List Step) → IfSome o (λ op. step_acts.next q ≡ Some (step.Op op)) →
+      (rest : List Op) × (ops_of q ≡ listed o ++ rest)
+  opened None q next = (ops_of q, refl)
+  opened (Some op) q next = (ops_of (step_acts.done q None), with_op q op None next)
 
   in_lane : (core : ℕ) → core < config.cores → (rest : List Op) × (ops_of (lane lanes core) ≡ issued_to core ++ rest)
   in_lane core below =
-      let s = served.each core below (nothing_open config 0 config.cores core) in
-      let told = s.told (lane lanes core) (lane_there lanes (core_count lanes) core
-      (subst (λ (n : ℕ). core < n) cores below)) in
-      let left = opened core (open_op m core) told.0 told.3 in
+      let told = served.each core (lane lanes core) below (lane_there lanes (core_count lanes) core
+      (subst (λ (n : ℕ). core < n) cores below)) (nothing_open config 0 config.cores core) in
+      let s = told.2 in
+      let now_open = operation_of (slice_get m.cores core) in
+      let left = opened now_open told.0 s.ahead in
       let done = map (λ (r : Record). r.op) (of_core core served.added) in
-      let issued : issued_to core ≡ done ++ still_open (open_op m core) =
-      s.issued ∙ ap (λ (ops : List Op). ops ++ (done ++ still_open (open_op m core)))
-      (nothing_issued config.cores core) in (
+      let issued : issued_to core ≡ done ++ listed now_open =
+      s.issued ∙ ap (λ (ops : List Op). ops ++ (done ++ listed now_open)) (nothing_issued config.cores core) in (
         left.0,
-        performed (lane lanes core) told.0 (of_core core served.added) told.2
+        performed (lane lanes core) told.0 (of_core core served.added) s.performs
             ∙ ap (λ (ops : List Op). done ++ ops) left.1
-            ∙ sym (append_assoc done (still_open (open_op m core)) left.0)
+            ∙ sym (append_assoc done (listed now_open) left.0)
             ∙ ap (λ (ops : List Op). ops ++ left.0) (sym issued),
       )
 

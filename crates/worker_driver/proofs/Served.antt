@@ -1,6 +1,6 @@
 -- Whatever the end of a run, each core was issued what its program gave, and the program was told of each record.
 use Rattle.std.proofs.Common.{◌≡◌, ℕ, ◌+◌, ◌<◌, ◌==◌, Bool, true, false, ◌||◌, ◌&&◌, not, List, [], ◌++◌, length}
-use Rattle.std.proofs.Common.{map, get_or, Option, Some, None, IfSome, refl, sym, ap, ◌∙◌, subst, ⊎_elim, arith}
+use Rattle.std.proofs.Common.{map, get_or, Option, Some, None, refl, sym, ap, ◌∙◌, subst, ⊎_elim, arith}
 use Rattle.std.proofs.Common.{append-nil, append_assoc}
 use Rattle.std.specs.Prelude.{slice_get, option_map}
 use Rattle.std.proofs.lemmas.Bool.{cond_both, true≢false}
@@ -10,7 +10,6 @@ use Rattle.std.proofs.lemmas.List.Elements.{filter-append}
 use Rattle.physiological_order.specs.declared.operation.Op.{Op}
 use Rattle.physiological_order.specs.declared.operation.Record.{Record}
 use Rattle.physiological_order.specs.Order.{Follows as Stand, of_core}
-use Rattle.trace_lines.specs.declared.steps.Step.TheVariants as step
 use Rattle.core_pts.specs.CoreTable.{CoreState}
 use Rattle.machine_table.specs.declared.event.Event.{Event}
 use Rattle.machine_table.specs.declared.event.Event.TheVariants.{Issue, Attempt, Deliver, EvictCache, EvictBank}
@@ -31,7 +30,7 @@ use Rattle.worker_driver.specs.Runs.{Makes, Moves, Ends, next, next_at, begin, c
 use Rattle.worker_driver.specs.Runs.{does, tries, delivers, advances, evicts, onward, told, at_stage}
 use Rattle.worker_driver.specs.Runs.{answered, victim_for, is_progress, is_exhausted, is_advanced, is_no_room, are_over}
 use Rattle.worker_driver.specs.RunEvents.{Follows, stays, moves, makes, Ended}
-use Rattle.worker_driver.specs.Service.{still_open, AreServed, GivesSteps}
+use Rattle.worker_driver.specs.Service.{AreServed, GivesSteps}
 use Rattle.worker_driver.proofs.InProgram.{behind}
 use Rattle.worker_driver.proofs.TableSteps.{op_of, op_at, IsQuiet, Opens, IsDone, is_completion}
 use Rattle.worker_driver.proofs.TableSteps.{not_completed, issue_does, attempt_does, advance_stays, delivery_stays}
@@ -46,18 +45,7 @@ has_core : (cores : List CoreState) (c : ℕ) (o : Option CoreState) (op : Op) �
 has_core cores c None op at is = absurd (cc)
 has_core cores c (Some core) op at is = slice_get_within cores c core at
 
--- the open operation, with and without whether its request is out
-opens_same : (m : Machine) (core : ℕ) → still_open (open_op m core) ≡ listed (op_at m core)
-opens_same m core = by_core (slice_get m.cores core)
-  where
-    by_op : (out : Bool) (o : Option Op) → still_open (option_map (λ op. (op, out)) o) ≡ listed o
-    by_op out None = refl
-    by_op out (Some op) = refl
-
-    by_core : (o : Option CoreState) → still_open (open_op_of o) ≡ listed (op_of o)
-    by_core None = refl
-    by_core (Some state) = by_op state.is_out state.open_op
-
+-- no open operation, with and without whether its request is out
 none_open : (m : Machine) (core : ℕ) → open_op m core ≡ None → op_at m core ≡ None
 none_open m core none = by_core (slice_get m.cores core) none
   where
@@ -68,18 +56,6 @@ none_open m core none = by_core (slice_get m.cores core) none
     by_core : (o : Option CoreState) → open_op_of o ≡ None → op_of o ≡ None
     by_core None none = refl
     by_core (Some state) none = by_op state.is_out state.open_op none
-
-if_open : (m : Machine) (core : ℕ) (K : Op → Type 0) → IfSome (op_at m core) K → IfSome (open_op m core) (λ o. K o.0)
-if_open m core K is = by_core (slice_get m.cores core) is
-  where
-    by_op : (out : Bool) (o : Option Op) → IfSome o K → IfSome {T = Op × Bool} (option_map (λ op. (op, out)) o)
-        (λ x. K x.0)
-    by_op out None is = tt
-    by_op out (Some op) is = is
-
-    by_core : (o : Option CoreState) → IfSome (op_of o) K → IfSome (open_op_of o) (λ x. K x.0)
-    by_core None is = tt
-    by_core (Some state) is = by_op state.is_out state.open_op is
 
 -- each core of a machine was issued the operations of its records, and the open one
 abbrev pub Issues : Machine → Type 0
@@ -96,7 +72,7 @@ module _ (m after : Machine) (s : Issues m) (t : Issues after) (added : List Rec
       ∙ append-nil (map (λ r. r.op) (of_core core m.records))
 
   issued_more : get_or after.issued core [] ≡ get_or m.issued core [] ++ (map (λ r. r.op) (of_core core added)
-      ++ still_open (open_op after core))
+      ++ listed (op_at after core))
   issued_more =
       (t core).all
       ∙ ap (λ (rs : List Record). map (λ r. r.op) rs ++ listed (op_at after core)) parts
@@ -105,8 +81,6 @@ module _ (m after : Machine) (s : Issues m) (t : Issues after) (added : List Rec
       ∙ append_assoc (map (λ r. r.op) (of_core core m.records)) (map (λ r. r.op) (of_core core added))
       (listed (op_at after core))
       ∙ ap (λ (os : List Op). os ++ (map (λ r. r.op) (of_core core added) ++ listed (op_at after core))) (sym first)
-      ∙ ap (λ (os : List Op). get_or m.issued core [] ++ (map (λ r. r.op) (of_core core added) ++ os))
-      (sym (opens_same after core))
 
   added_in_order : Stand (length (get_or m.issued core [])) (get_or after.issued core []) (of_core core added)
   added_in_order =
@@ -335,13 +309,16 @@ module _ {P S : Type 0} (plan : Plan P S) (gives : GivesSteps plan.acts plan.sch
         added = kept.added;
         records = kept.records;
         there = kept.there;
-        each = λ core below none.
+        each = λ core p below at none.
             let closed = none_open start.machine core none in
-            record {
-              issued = issued_more start.machine m issued issued_after kept.added kept.records core closed;
-              in_order = added_in_order start.machine m issued issued_after kept.added kept.records core closed;
-              told = λ p at.
-                  let gone = kept.gone core closed p at in
-                  (gone.0, gone.1, gone.2, if_open m core (λ op. plan.acts.next gone.0 ≡ Some (step.Op op)) gone.3);
-            };
+            let gone = kept.gone core closed p at in (
+              gone.0,
+              gone.1,
+              record {
+                issued = issued_more start.machine m issued issued_after kept.added kept.records core closed;
+                in_order = added_in_order start.machine m issued issued_after kept.added kept.records core closed;
+                performs = gone.2;
+                ahead = gone.3;
+              },
+            );
       }

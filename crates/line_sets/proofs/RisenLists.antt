@@ -6,7 +6,9 @@ use Rattle.std.specs.List.{slice_get, sum_by}
 use Rattle.std.specs.List.Sorted.{IsSplitAround, IsNonDecreasing}
 use Rattle.std.specs.Ordering.{nat_cmp}
 use Rattle.std.proofs.lemmas.Bool.{cases_lt, cond_both, eq-eqb, ltb-false, ltb-true, ne_eqb}
-use Rattle.std.proofs.lemmas.List.Sorted.{sum_by-IsPermutation, IsNonDecreasingBy-from_sort}
+use Rattle.std.proofs.lemmas.List.Sorted.{sum_by-IsPermutation, IsNonDecreasingBy-from_sort, IsPermutation-refl}
+use Rattle.std.proofs.lemmas.List.Sorted.{IsPermutation-cons, IsPermutation-middle, IsPermutation-sym}
+use Rattle.std.proofs.lemmas.List.Sorted.{IsPermutation-trans}
 use Rattle.std.proofs.lemmas.List.Sums.{sum_by-cons}
 use Rattle.std.proofs.lemmas.Map.Keys.{ge_from_not_lt}
 use Rattle.line_sets.specs.Rising.{all_but, put_in, risen, tally, AllFrom, Rises}
@@ -78,6 +80,20 @@ pub rises-risen : (xs : List ℕ) → Rises (risen xs)
 rises-risen [] = tt
 rises-risen (x ∷ xs) = rises-put_in x (risen xs) (rises-risen xs)
 
+-- and has the same numbers
+permuted-put_in : (x : ℕ) (ys : List ℕ) → IsPermutation (x ∷ ys) (put_in x ys)
+permuted-put_in x [] = IsPermutation-refl (x ∷ [])
+permuted-put_in x (y ∷ ys) = cond_both (ltb y x) (y ∷ put_in x ys) (x ∷ y ∷ ys) (IsPermutation (x ∷ y ∷ ys))
+    (λ e. IsPermutation-trans (x ∷ y ∷ ys) (y ∷ x ∷ ys) (y ∷ put_in x ys)
+    (IsPermutation-sym (y ∷ x ∷ ys) (x ∷ y ∷ ys) (IsPermutation-middle (y ∷ []) x ys))
+    (IsPermutation-cons y (x ∷ ys) (put_in x ys) (permuted-put_in x ys)))
+    (λ e. IsPermutation-refl (x ∷ y ∷ ys))
+
+pub permuted-risen : (xs : List ℕ) → IsPermutation xs (risen xs)
+permuted-risen [] = IsPermutation-refl []
+permuted-risen (x ∷ xs) = IsPermutation-trans (x ∷ xs) (x ∷ risen xs) (put_in x (risen xs))
+    (IsPermutation-cons x xs (risen xs) (permuted-risen xs)) (permuted-put_in x (risen xs))
+
 -- a number below all isn't there
 pub tally-none : (c : ℕ) (xs : List ℕ) (b : ℕ) → c < b → AllFrom b xs → tally c xs ≡ 0
 tally-none c [] b lt h = refl
@@ -134,7 +150,7 @@ rises-ordered (y ∷ ys) h = (
   rises-ordered ys (λ i j d le lt. h (suc i) (suc j) d (omega (arith, le)) (omega (arith, lt))),
 )
 
-pub rises-sorted : (ys : List ℕ) → IsSorted nat_cmp ys → Rises ys
+rises-sorted : (ys : List ℕ) → IsSorted nat_cmp ys → Rises ys
 rises-sorted ys s = rises-ordered ys (IsNonDecreasingBy-from_sort (λ y. y) ys s)
 
 pub sorted-risen : (xs ys : List ℕ) → IsPermutation xs ys → IsSorted nat_cmp ys → ys ≡ risen xs

@@ -1,9 +1,15 @@
-//! A law of rising lists, for callers. The function does nothing: its contract is the law.
+//! Laws of rising lists, for callers. The functions do nothing: their contracts are the laws.
 ghost use Rattle.std.specs.Prelude.{◌≡◌, IsPermutation, IsSorted, List, ℕ};
 ghost use Rattle.std.specs.Ordering.{nat_cmp};
-ghost use Rattle.line_sets.specs.Rising.{risen};
+ghost use Rattle.line_sets.specs.Rising.{risen, Rises};
 
 /// A sorted list of the same numbers is the list in rising order.
 pub fn sorted_is_risen()
     ensures { (xs ys : List ℕ) → IsPermutation xs ys → IsSorted nat_cmp ys → ys ≡ risen xs }
+{}
+
+/// A list in rising order has the numbers of the list, each as often, and none stands behind a greater one.
+pub fn risen_is_sorted()
+    ensures same { (xs : List ℕ) → IsPermutation xs (risen xs) }
+    ensures rises { (xs : List ℕ) → Rises (risen xs) }
 {}

@@ -50,3 +50,6 @@ lines-first (b ∷ c ∷ bytes) lt =
 
 pub length-behind_line_feed : (text : List ℕ) → length (behind_line_feed text) ≤ length text - 1
 length-behind_line_feed text = omega (arith, length-drop (prefix_len is_within_line text + 1) text)
+
+pub lines-shorter : (text : List ℕ) → 0 < length text → length (behind_line_feed text) < length text
+lines-shorter text lt = let less = length-behind_line_feed text in omega (arith, lt, less)

@@ -1,4 +1,4 @@
-use Rattle.std.proofs.Common.{ap, subst, sym}
+use Rattle.std.proofs.Common.{subst}
 use Rattle.std.specs.Prelude.{List, ℕ, IsPermutation}
 use Rattle.line_sets.specs.SetTable.{all_listed}
 use Rattle.line_sets.proofs.sets.LineSets.numbers.Goals as goal

@@ -109,6 +109,7 @@ impl Core {
     }
 
     /// The open operation, and whether its request is out.
+    #[inline(always)]
     pub fn open_op(&self) -> Option<(Op, bool)>
         ensures { result ≡ option_map (λ op. (op, self.now.is_out)) self.now.open_op }
     {
@@ -184,6 +185,7 @@ impl Core {
     }
 
     // The line of an operation's word.
+    #[inline(always)]
     fn line_of_word(&self, op: &Op) -> LineNo
         ensures { result ≡ line_of self.now op.now }
     {
@@ -191,6 +193,7 @@ impl Core {
     }
 
     // The index in its line of an operation's word.
+    #[inline(always)]
     fn index_of(&self, op: &Op) -> usize
         ensures value { result ≡ index_of self.now op.now }
         ensures bound { result < 8 }
@@ -199,6 +202,7 @@ impl Core {
     }
 
     /// A message of the core about a line to the line's bank, one of the banks that there are.
+    #[inline(always)]
     pub fn to_bank(&self, line: LineNo, body: Body) -> Message
         ensures message { result ≡ to_bank self.now line body }
         ensures bank { line % self.now.banks < self.now.banks }
@@ -212,6 +216,7 @@ impl Core {
     }
 
     // The bank of a line.
+    #[inline(always)]
     pub(crate) fn bank_of(&self, line: LineNo) -> Node
         ensures node { result ≡ Node.Bank (line % self.now.banks) }
         ensures below { line % self.now.banks < self.now.banks }
@@ -227,6 +232,7 @@ impl Core {
     }
 
     // The line of the open operation.
+    #[inline(always)]
     fn pinned_line(&self) -> Option<LineNo>
         ensures { result ≡ pinned_line self.now }
     {
@@ -237,6 +243,7 @@ impl Core {
     }
 
     /// Whether the open operation is on a line.
+    #[inline(always)]
     pub fn is_pinned(&self, line: LineNo) -> bool
         ensures { result ≡ is_pinned (pinned_line self.now) line }
     {
@@ -261,6 +268,7 @@ impl Core {
 
     /// Attempts to complete the open operation. The core is unchanged unless the answer is Completed. Exhausted
     /// exactly when the operation's time would be a sum that does not fit.
+    #[inline(always)]
     pub fn attempt(&mut self) -> Result<Attempt, Exhausted>
         ensures { (result_ok result, self.new) ≡ attempt self.old }
     {
@@ -281,6 +289,7 @@ impl Core {
     }
 
     // The answer to an attempt without a copy.
+    #[inline(always)]
     fn answer_without(&self, op: &Op, line: LineNo) -> Attempt
         requires { line ≡ line_of self.now op.now }
         ensures { result ≡ attempt_without self.now op.now }
@@ -295,6 +304,7 @@ impl Core {
     }
 
     // The answer to an attempt on a copy of a version that doesn't serve the operation.
+    #[inline(always)]
     fn answer_unserved(&self, op: &Op, version: u64) -> Attempt
         ensures { result ≡ attempt_unserved self.now op.now version }
     {
@@ -305,6 +315,7 @@ impl Core {
     }
 
     // Completes an operation, on the copy of its line, at a time.
+    #[inline(always)]
     fn complete(&mut self, op: &Op, copy: &LineCopy, ts: u64) -> Attempt
         requires { copy_of self.old.cache (line_of self.old op.now) ≡ Some copy.now }
         ensures { (Some result, self.new) ≡ completed_at self.old op.now copy.now (Some ts) }

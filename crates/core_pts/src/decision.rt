@@ -1,5 +1,5 @@
 //! What a message does with a core's copy of one line: a decision, which changes nothing.
-ghost use Rattle.std.specs.Prelude.{◌≡◌};
+ghost use Rattle.std.specs.Prelude.{◌≡◌, option_copied};
 ghost use Rattle.private_cache.specs.CopyTable.{renewed, upgraded};
 ghost use Rattle.core_pts.specs.OnCopy.{at_core, flushed, with_copy, written_back};
 
@@ -28,8 +28,9 @@ pub enum CoreReaction {
 }
 
 // A reply leases the copy that is there up to a time.
-fn renewed(copy: Option<LineCopy>, rts: u64) -> CoreReaction
-    ensures { result ≡ with_copy (renewed rts) copy }
+#[inline(always)]
+fn renewed(copy: Option<&LineCopy>, rts: u64) -> CoreReaction
+    ensures { result ≡ with_copy (renewed rts) (option_copied copy.entry) }
 {
     match copy {
         Some(copy) => CoreReaction::Grants(copy.renewed(rts)),
@@ -38,8 +39,9 @@ fn renewed(copy: Option<LineCopy>, rts: u64) -> CoreReaction
 }
 
 // A reply grants the line of the copy that is there, which others may read up to a time.
-fn upgraded(copy: Option<LineCopy>, rts: u64) -> CoreReaction
-    ensures { result ≡ with_copy (upgraded rts) copy }
+#[inline(always)]
+fn upgraded(copy: Option<&LineCopy>, rts: u64) -> CoreReaction
+    ensures { result ≡ with_copy (upgraded rts) (option_copied copy.entry) }
 {
     match copy {
         Some(copy) => CoreReaction::Grants(copy.upgraded(rts)),
@@ -48,8 +50,9 @@ fn upgraded(copy: Option<LineCopy>, rts: u64) -> CoreReaction
 }
 
 // A line is asked back, of which no copy stays.
-fn flushed(copy: Option<LineCopy>) -> CoreReaction
-    ensures { result ≡ flushed copy }
+#[inline(always)]
+fn flushed(copy: Option<&LineCopy>) -> CoreReaction
+    ensures { result ≡ flushed (option_copied copy.entry) }
 {
     let Some(copy) = copy else {
         return CoreReaction::Drops;
@@ -59,13 +62,14 @@ fn flushed(copy: Option<LineCopy>) -> CoreReaction
     }
     CoreReaction::Returns {
         kept: None,
-        sent: Body::FlushRep(words_of_copy(&copy)),
+        sent: Body::FlushRep(words_of_copy(copy)),
     }
 }
 
 // A line is asked back, of which a copy stays to be read at least up to a time.
-fn written_back(lease: u64, until: u64, copy: Option<LineCopy>) -> CoreReaction
-    ensures { result ≡ written_back lease until copy }
+#[inline(always)]
+fn written_back(lease: u64, until: u64, copy: Option<&LineCopy>) -> CoreReaction
+    ensures { result ≡ written_back lease until (option_copied copy.entry) }
 {
     let Some(copy) = copy else {
         return CoreReaction::Drops;
@@ -85,8 +89,14 @@ fn written_back(lease: u64, until: u64, copy: Option<LineCopy>) -> CoreReaction
 
 /// What a core with this lease does at a message with this body about a line that it has this copy of. `is_open` says
 /// whether its open operation is on the line.
-pub(crate) fn decide(lease: u64, is_open: bool, copy: Option<LineCopy>, body: &Body) -> CoreReaction
-    ensures { result ≡ at_core lease is_open copy body.now }
+#[inline(always)]
+pub(crate) fn decide(
+    lease: u64,
+    is_open: bool,
+    copy: Option<&LineCopy>,
+    body: &Body,
+) -> CoreReaction
+    ensures { result ≡ at_core lease is_open (option_copied copy.entry) body.now }
 {
     match *body {
         Body::ShRep(timed) => CoreReaction::Arrives(LineCopy::arrived(CopyState::Shared, timed)),

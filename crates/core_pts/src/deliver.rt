@@ -12,6 +12,7 @@ use private_cache::LineCopy;
 
 impl Core {
     // What the core does at a message.
+    #[inline(always)]
     fn decided(&self, message: &Message) -> CoreReaction
         requires { IsTrue (core_has_case self.now message.now) }
         ensures decision { result ≡ decided self.now message.now.line message.now.body }
@@ -22,12 +23,13 @@ impl Core {
         decide(
             self.lease(),
             self.is_pinned(line),
-            self.cache.find(line).copied(),
+            self.cache.find(line),
             &message.body,
         )
     }
 
     // This copy stays of a line that goes back, if any.
+    #[inline(always)]
     fn keep(&mut self, line: LineNo, kept: Option<LineCopy>)
         requires { IsSome (copy_of self.old.cache line) }
         ensures { self.new ≡ record self.old { cache = kept_in self.old line kept } }

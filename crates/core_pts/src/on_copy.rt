@@ -8,6 +8,7 @@ use physiological_order::Op;
 use private_cache::{CopyState, LineCopy};
 
 // Whether a copy is one that its core owns.
+#[inline(always)]
 pub(crate) fn is_exclusive(state: CopyState) -> bool
     ensures { result ≡ is_exclusive state }
 {
@@ -18,6 +19,7 @@ pub(crate) fn is_exclusive(state: CopyState) -> bool
 }
 
 // Whether a copy serves an operation at the core's time.
+#[inline(always)]
 pub(crate) fn serves(op: &Op, pts: u64, copy: &LineCopy) -> bool
     ensures { result ≡ serves op.now pts copy.now }
 {
@@ -29,6 +31,7 @@ pub(crate) fn serves(op: &Op, pts: u64, copy: &LineCopy) -> bool
 }
 
 // The time of a store or swap, or nothing if it doesn't fit.
+#[inline(always)]
 fn write_time(private_write: bool, pts: u64, copy: &LineCopy) -> Option<u64>
     ensures { result ≡ write_time private_write pts copy.now }
 {
@@ -42,6 +45,7 @@ fn write_time(private_write: bool, pts: u64, copy: &LineCopy) -> Option<u64>
 }
 
 // The time of an operation that a copy serves, or nothing if it doesn't fit.
+#[inline(always)]
 pub(crate) fn time_of(private_write: bool, pts: u64, op: &Op, copy: &LineCopy) -> Option<u64>
     ensures { result ≡ time_of private_write pts op.now copy.now }
 {
@@ -53,6 +57,7 @@ pub(crate) fn time_of(private_write: bool, pts: u64, op: &Op, copy: &LineCopy) -
 }
 
 // What an operation receives, if its word is at this index of the line.
+#[inline(always)]
 pub(crate) fn received_at(index: usize, op: &Op, copy: &LineCopy) -> Option<u64>
     requires { index < 8 }
     ensures { result ≡ received_at index op.now copy.now }
@@ -65,6 +70,7 @@ pub(crate) fn received_at(index: usize, op: &Op, copy: &LineCopy) -> Option<u64>
 }
 
 // A copy whose word was written at a time.
+#[inline(always)]
 fn written_at(index: usize, ts: u64, value: u64, copy: &LineCopy) -> LineCopy
     requires { index < 8 }
     ensures { result ≡ written_at index ts value copy.now }
@@ -81,6 +87,7 @@ fn written_at(index: usize, ts: u64, value: u64, copy: &LineCopy) -> LineCopy
 }
 
 // The copy after an operation at a time.
+#[inline(always)]
 pub(crate) fn copy_after(index: usize, ts: u64, op: &Op, copy: &LineCopy) -> LineCopy
     requires { index < 8 }
     ensures { result ≡ copy_after index ts op.now copy.now }
@@ -93,6 +100,7 @@ pub(crate) fn copy_after(index: usize, ts: u64, op: &Op, copy: &LineCopy) -> Lin
 }
 
 // The copy after a load at a time: an owner's lease goes on to it.
+#[inline(always)]
 fn after_load(ts: u64, copy: &LineCopy) -> LineCopy
     ensures { result ≡ read_at ts copy.now }
 {
@@ -106,6 +114,7 @@ fn after_load(ts: u64, copy: &LineCopy) -> LineCopy
 }
 
 // A copy's words and times.
+#[inline(always)]
 pub(crate) fn words_of_copy(copy: &LineCopy) -> TimedLine
     ensures { result ≡ words_of_copy copy.now }
 {

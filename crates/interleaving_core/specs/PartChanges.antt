@@ -8,6 +8,8 @@ use Rattle.machine_table.specs.declared.event.Answer.{Answer}
 use Rattle.machine_table.specs.declared.event.Answer.TheVariants as answer
 use Rattle.machine_table.specs.declared.event.Refusal.TheVariants.{Exhausted, NetworkFull}
 use Rattle.machine_table.specs.Change as change
+use Rattle.interleaving_core.specs.declared.delivery.Delivery.{Delivery}
+use Rattle.interleaving_core.specs.declared.delivery.Delivery.TheVariants as delivery
 use Rattle.machine_table.specs.Change.{Change, Keeps, Exhausts, Drops, Makes, Completes}
 
 -- the answer, and the part and the messages in flight afterwards
@@ -27,6 +29,14 @@ with_record records _ = records
 abbrev pub stops : Answer → Bool
 stops (answer.Refused Exhausted) = true
 stops _ = false
+
+-- the answer to the delivery of a message
+abbrev pub delivered : Delivery → Answer
+delivered delivery.Done = answer.Delivered
+delivered delivery.Dropped = answer.Dropped
+delivered delivery.Held = answer.Held
+delivered delivery.Started = answer.Started
+delivered (delivery.Refused why) = answer.Refused why
 
 -- what an attempt is answered that needs a request, by whether it was sent
 abbrev pub requested : Bool → Answer

@@ -2,6 +2,7 @@
 //! docs/PROTOCOL.md has the order of refusals.
 #![tactic(auto)]
 
+mod delivery;
 mod kept_orders;
 pub mod laws;
 mod line_words;

@@ -5,28 +5,31 @@ ghost use Rattle.network.specs.NumberedMessages.{at_number};
 ghost use Rattle.network.specs.Routes.{has_endpoints};
 ghost use Rattle.network.specs.Sends.{sent_by, sent_in};
 ghost use Rattle.machine_table.specs.Change.{can_send, reacted};
-ghost use Rattle.interleaving_core.specs.PartChanges.{IsQuiet, applied, settled};
+ghost use Rattle.interleaving_core.specs.PartChanges.{IsQuiet, applied, delivered, settled};
 ghost use Rattle.interleaving_core.specs.Endpoints.{ReactionHasEndpoints, SendsWithEndpoints};
 
-use machine_table::{Answer, Refusal};
+use crate::delivery::Delivery;
+use machine_table::Refusal;
 use network::{InFlight, Message, MsgNo, Node, Part, PartError, Reaction};
 use std::alloc::AllocError;
 
 /// Hands a message to its part. NetworkFull, if what the part would send can't be sent, and Exhausted leave the part
 /// and the messages unchanged; an error does so too, and comes only if a message would be sent.
+#[inline(always)]
 pub(crate) fn react<P: Part>(
     part: &mut P,
     flight: &mut InFlight,
     number: MsgNo,
     message: &Message,
-) -> Result<Answer, AllocError>
+) -> Result<Delivery, AllocError>
     requires there { at_number number flight.old.mail.messages ≡ Some message.now }
     requires case { IsTrue (P.has_case part.old message.now) }
     requires quiet { IsQuiet part.old (P.table part.old message.now) }
     requires endpoints { IsTrue (can_send flight.old.capacity flight.old.mail
         (sent_by (P.table part.old message.now))) → ReactionHasEndpoints flight.old.cores
         flight.old.banks (P.table part.old message.now) }
-    ensures done { IfOk result (λ answer. (answer, part.new, flight.new.mail) ≡ applied part.old
+    ensures done { IfOk result (λ delivery.
+        (delivered delivery, part.new, flight.new.mail) ≡ applied part.old
         flight.old.mail (reacted flight.old.capacity flight.old.mail number
         (P.table part.old message.now))) }
     ensures memory { OnErr result
@@ -44,20 +47,21 @@ pub(crate) fn react<P: Part>(
     ensures kept { OnErr result (flight.new.mail ≡ flight.old.mail) }
 {
     if !can_answer(part, flight, message) {
-        return Ok(Answer::Refused(Refusal::NetworkFull));
+        return Ok(Delivery::Refused(Refusal::NetworkFull));
     }
     match part.deliver(message) {
-        Err(PartError::Exhausted) => Ok(Answer::Refused(Refusal::Exhausted)),
+        Err(PartError::Exhausted) => Ok(Delivery::Refused(Refusal::Exhausted)),
         Err(PartError::NoMemory) => Err(AllocError),
         Ok(reaction) => {
-            let answer = answer_to(&reaction);
+            let delivery = delivery_of(&reaction);
             settle(flight, number, reaction);
-            Ok(answer)
+            Ok(delivery)
         }
     }
 }
 
 // Whether what a part would send can be sent. Where one more message can be sent, the part isn't asked what it would.
+#[inline(always)]
 fn can_answer<P: Part>(part: &P, flight: &InFlight, message: &Message) -> bool
     requires { IsTrue (P.has_case part.now message.now) }
     ensures { result ≡ can_send flight.now.capacity flight.now.mail
@@ -70,6 +74,7 @@ fn can_answer<P: Part>(part: &P, flight: &InFlight, message: &Message) -> bool
 }
 
 // Whether what a part would send can be sent: an answer takes the place of the delivered message.
+#[inline(always)]
 fn can_send(flight: &InFlight, sends: Option<(Node, bool)>) -> bool
     ensures { result ≡ can_send flight.now.capacity flight.now.mail sends }
 {
@@ -81,18 +86,20 @@ fn can_send(flight: &InFlight, sends: Option<(Node, bool)>) -> bool
 }
 
 // What a reaction to a delivered message is answered.
-fn answer_to(reaction: &Reaction) -> Answer
-    ensures { (mail : Mail) (n : ℕ) → result ≡ (settled mail n reaction.now).0 }
+#[inline(always)]
+fn delivery_of(reaction: &Reaction) -> Delivery
+    ensures { (mail : Mail) (n : ℕ) → delivered result ≡ (settled mail n reaction.now).0 }
 {
     match reaction {
-        Reaction::Held => Answer::Held,
-        Reaction::Dropped => Answer::Dropped,
-        Reaction::Done(_) => Answer::Delivered,
-        Reaction::HeldAfter(_) => Answer::Started,
+        Reaction::Held => Delivery::Held,
+        Reaction::Dropped => Delivery::Dropped,
+        Reaction::Done(_) => Delivery::Done,
+        Reaction::HeldAfter(_) => Delivery::Started,
     }
 }
 
 // What becomes of the messages in flight after a reaction to a delivered one.
+#[inline(always)]
 fn settle(flight: &mut InFlight, number: MsgNo, reaction: Reaction)
     requires there { IsSome (at_number number flight.old.mail.messages) }
     requires endpoints { SendsWithEndpoints flight.old.cores flight.old.banks reaction }
@@ -115,6 +122,7 @@ fn settle(flight: &mut InFlight, number: MsgNo, reaction: Reaction)
 }
 
 /// Sends a message for which there is capacity.
+#[inline(always)]
 pub(crate) fn send(flight: &mut InFlight, message: Message)
     requires endpoints { IsTrue (has_endpoints flight.old.cores flight.old.banks message) }
     requires capacity { IsTrue (has_capacity flight.old.capacity flight.old.mail) }
@@ -132,6 +140,7 @@ pub(crate) fn send(flight: &mut InFlight, message: Message)
 }
 
 // Takes a message that is in flight.
+#[inline(always)]
 fn take(flight: &mut InFlight, number: MsgNo)
     ensures { flight.new ≡ record flight.old {
       slots = flight.new.slots;
@@ -140,10 +149,11 @@ fn take(flight: &mut InFlight, number: MsgNo)
       mail = taken flight.old.mail number;
     } }
 {
-    let _message = flight.take(number);
+    let _there = flight.remove(number);
 }
 
 // Takes a message that is in flight, and sends another in its place.
+#[inline(always)]
 fn answer(flight: &mut InFlight, number: MsgNo, message: Message)
     requires there { IsSome (at_number number flight.old.mail.messages) }
     requires endpoints { IsTrue (has_endpoints flight.old.cores flight.old.banks message) }

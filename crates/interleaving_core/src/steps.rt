@@ -4,8 +4,10 @@ ghost use Rattle.network.specs.NumberedMessages.{at_number};
 ghost use Rattle.machine_table.specs.Transition.{advance_at, attempt_at, deliver_core, deliver_bank, deliver_dram};
 ghost use Rattle.machine_table.specs.Transition.{deliver_message, evict_copy, evict_entry, issue_at, transition};
 ghost use Rattle.machine_theorem.specs.Kept.{Invariant};
+ghost use Rattle.interleaving_core.specs.PartChanges.{delivered};
 ghost use Rattle.interleaving_core.specs.StepAnswers.{Stepped, TakesMemory, asks_memory, delivery_asks, is_first_store};
 
+use crate::delivery::{Delivery, answer_of, stop_after};
 use crate::machine_state::MachineState;
 use crate::operations;
 use crate::reactions::react;
@@ -58,6 +60,7 @@ impl MachineState {
     }
 
     // A core's time goes on by one.
+    #[inline(always)]
     fn advance(&mut self, core: u32) -> Answer
         ensures { (result, self.new) ≡ advance_at self.old core (slice_get self.old.cores core) }
     {
@@ -101,10 +104,10 @@ impl MachineState {
     }
 
     // A message in flight is delivered.
-    fn deliver(&mut self, number: MsgNo) -> Result<Answer, AllocError>
+    fn deliver(&mut self, number: MsgNo) -> Result<Delivery, AllocError>
         requires { Invariant self.old }
-        ensures done { IfOk result (λ answer. (answer, self.new) ≡ deliver_message self.old number
-            (at_number number self.old.mail.messages)) }
+        ensures done { IfOk result (λ delivery. (delivered delivery, self.new) ≡
+            deliver_message self.old number (at_number number self.old.mail.messages)) }
         ensures refused { OnErr result (self.new ≡ self.old) }
         ensures wanted { OnErr result
             (TakesMemory self.old (deliver_message self.old number
@@ -113,7 +116,7 @@ impl MachineState {
             (IsTrue (delivery_asks self.old (at_number number self.old.mail.messages))) }
     {
         let Some(message) = self.flight.look(number).copied() else {
-            return Ok(Answer::Refused(Refusal::NoSuch));
+            return Ok(Delivery::Refused(Refusal::NoSuch));
         };
         match message.to {
             Node::Core(core) => self.deliver_core(number, &message, core),
@@ -123,17 +126,18 @@ impl MachineState {
     }
 
     // A message reaches a core.
+    #[inline(always)]
     fn deliver_core(
         &mut self,
         number: MsgNo,
         message: &Message,
         core: u32,
-    ) -> Result<Answer, AllocError>
+    ) -> Result<Delivery, AllocError>
         requires invariant { Invariant self.old }
         requires there { at_number number self.old.mail.messages ≡ Some message.now }
         requires to { message.now.to ≡ Node.Core core }
-        ensures done { IfOk result (λ answer. (answer, self.new) ≡ deliver_core self.old number
-            message.now core (slice_get self.old.cores core)) }
+        ensures done { IfOk result (λ delivery. (delivered delivery, self.new) ≡
+            deliver_core self.old number message.now core (slice_get self.old.cores core)) }
         ensures refused { OnErr result (self.new ≡ self.old) }
         ensures wanted { OnErr result (TakesMemory self.old (deliver_core self.old number
             message.now core
@@ -142,25 +146,26 @@ impl MachineState {
     {
         let at = core as usize;
         if at >= self.cores.len() {
-            return Ok(Answer::Refused(Refusal::NoSuch));
+            return Ok(Delivery::Refused(Refusal::NoSuch));
         }
-        let answer = react(&mut self.cores[at], &mut self.flight, number, message)?;
-        stop(&mut self.is_stopped, &answer);
-        Ok(answer)
+        let delivery = react(&mut self.cores[at], &mut self.flight, number, message)?;
+        stop_after(&mut self.is_stopped, delivery);
+        Ok(delivery)
     }
 
     // A message reaches a bank.
+    #[inline(always)]
     fn deliver_bank(
         &mut self,
         number: MsgNo,
         message: &Message,
         bank: u32,
-    ) -> Result<Answer, AllocError>
+    ) -> Result<Delivery, AllocError>
         requires invariant { Invariant self.old }
         requires there { at_number number self.old.mail.messages ≡ Some message.now }
         requires to { message.now.to ≡ Node.Bank bank }
-        ensures done { IfOk result (λ answer. (answer, self.new) ≡ deliver_bank self.old number
-            message.now bank (slice_get self.old.banks bank)) }
+        ensures done { IfOk result (λ delivery. (delivered delivery, self.new) ≡
+            deliver_bank self.old number message.now bank (slice_get self.old.banks bank)) }
         ensures refused { OnErr result (self.new ≡ self.old) }
         ensures wanted { OnErr result (TakesMemory self.old (deliver_bank self.old number
             message.now bank
@@ -169,25 +174,26 @@ impl MachineState {
     {
         let at = bank as usize;
         if at >= self.banks.len() {
-            return Ok(Answer::Refused(Refusal::NoSuch));
+            return Ok(Delivery::Refused(Refusal::NoSuch));
         }
-        let answer = react(&mut self.banks[at], &mut self.flight, number, message)?;
-        stop(&mut self.is_stopped, &answer);
-        Ok(answer)
+        let delivery = react(&mut self.banks[at], &mut self.flight, number, message)?;
+        stop_after(&mut self.is_stopped, delivery);
+        Ok(delivery)
     }
 
     // A message reaches the DRAM behind a bank.
+    #[inline(always)]
     fn deliver_dram(
         &mut self,
         number: MsgNo,
         message: &Message,
         bank: u32,
-    ) -> Result<Answer, AllocError>
+    ) -> Result<Delivery, AllocError>
         requires invariant { Invariant self.old }
         requires there { at_number number self.old.mail.messages ≡ Some message.now }
         requires to { message.now.to ≡ Node.Dram bank }
-        ensures done { IfOk result (λ answer. (answer, self.new) ≡ deliver_dram self.old number
-            message.now bank (slice_get self.old.drams bank)) }
+        ensures done { IfOk result (λ delivery. (delivered delivery, self.new) ≡
+            deliver_dram self.old number message.now bank (slice_get self.old.drams bank)) }
         ensures refused { OnErr result (self.new ≡ self.old) }
         ensures wanted { OnErr result (TakesMemory self.old (deliver_dram self.old number
             message.now bank
@@ -197,14 +203,15 @@ impl MachineState {
     {
         let at = bank as usize;
         if at >= self.drams.len() {
-            return Ok(Answer::Refused(Refusal::NoSuch));
+            return Ok(Delivery::Refused(Refusal::NoSuch));
         }
-        let answer = react(&mut self.drams[at], &mut self.flight, number, message)?;
-        stop(&mut self.is_stopped, &answer);
-        Ok(answer)
+        let delivery = react(&mut self.drams[at], &mut self.flight, number, message)?;
+        stop_after(&mut self.is_stopped, delivery);
+        Ok(delivery)
     }
 
     // What the table answers to an event, if there is memory for it.
+    #[inline(always)]
     fn answer(&mut self, event: Event) -> Result<Answer, AllocError>
         requires { Invariant self.old }
         ensures done { IfOk result (λ answer. (answer, self.new) ≡ transition self.old event) }
@@ -218,7 +225,10 @@ impl MachineState {
         match event {
             Event::Issue(core, op) => self.issue(core, op),
             Event::Attempt(core) => Ok(self.attempt(core)),
-            Event::Deliver(number) => self.deliver(number),
+            Event::Deliver(number) => match self.deliver(number) {
+                Ok(delivery) => Ok(answer_of(delivery)),
+                Err(error) => Err(error),
+            },
             Event::EvictCache(core, line) => Ok(self.evict_cache(core, line)),
             Event::EvictBank(bank, line) => Ok(self.evict_bank(bank, line)),
             Event::Advance(core) => Ok(self.advance(core)),
@@ -227,6 +237,7 @@ impl MachineState {
 
     /// One event. The answer and the machine afterwards are those of the machine's table, or, where the table issues an
     /// operation, or answers a DRAM's first store of a line, the answer is NoMemory and the machine is as it was.
+    #[inline(always)]
     pub(crate) fn step(&mut self, event: Event) -> Answer
         requires { Invariant self.old }
         ensures stepped { Stepped self.old event result self.new }

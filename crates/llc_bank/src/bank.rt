@@ -96,6 +96,7 @@ impl Bank {
     }
 
     // The set that a line belongs to.
+    #[inline(always)]
     fn set_of(&self, line: LineNo) -> usize
         ensures set { result ≡ set_of self.now line }
         ensures below { result < length self.now.table.sets }
@@ -122,6 +123,7 @@ impl Bank {
     }
 
     // Sets the entry of a line that is there, or has room, and makes it the most recently used of its set.
+    #[inline(always)]
     fn use_entry(&mut self, line: LineNo, entry: Entry)
         requires { IsTrue (has_place self.old.table (set_of self.old line) line) }
         ensures { self.new ≡ with_used self.old line entry }
@@ -131,6 +133,7 @@ impl Bank {
     }
 
     // Changes the entry of a line that is there, and keeps the order of use.
+    #[inline(always)]
     fn change_entry(&mut self, line: LineNo, entry: Entry)
         requires { IsSome (entry_of self.old line) }
         ensures { self.new ≡ with_changed self.old line entry }
@@ -140,6 +143,7 @@ impl Bank {
     }
 
     // Takes out the entry of a line.
+    #[inline(always)]
     fn drop_entry(&mut self, line: LineNo)
         ensures { self.new ≡ without_entry self.old line }
     {
@@ -148,6 +152,7 @@ impl Bank {
     }
 
     // A message of the bank about a line.
+    #[inline(always)]
     fn from_bank(&self, line: LineNo, to: Node, body: Body) -> Message
         ensures { result ≡ from_bank self.now line to body }
     {
@@ -160,6 +165,7 @@ impl Bank {
     }
 
     // A message of the bank to the DRAM behind it.
+    #[inline(always)]
     fn to_dram(&self, line: LineNo, body: Body) -> Message
         ensures { result ≡ to_dram self.now line body }
     {
@@ -167,6 +173,7 @@ impl Bank {
     }
 
     // What the bank does at a message.
+    #[inline(always)]
     fn decided(&self, message: &Message) -> Decision
         ensures decision { result ≡ decided self.now message.now }
         ensures way { IsTrue (finds_place (is_some (entry_of self.now message.now.line)) (has_room
@@ -177,7 +184,7 @@ impl Bank {
             self.memory_time(),
             self.table.has_room(self.set_of(message.line)),
             core_of(message.from),
-            self.entry(message.line).copied(),
+            self.entry(message.line),
             &message.body,
         )
     }
@@ -189,7 +196,7 @@ impl Bank {
     pub fn evict(&mut self, line: LineNo) -> Result<Evict, EvictError>
         ensures { (result, self.new) ≡ evict self.old line }
     {
-        match decide_eviction(self.entry(line).copied()) {
+        match decide_eviction(self.entry(line)) {
             Eviction::NotThere => Err(EvictError::NotHere),
             Eviction::IsBusy => Err(EvictError::Busy),
             Eviction::Drops { rts } => {
@@ -214,7 +221,7 @@ impl Bank {
     pub fn evicts(&self, line: LineNo) -> Result<Option<Node>, EvictError>
         ensures { result ≡ evict_sends (evict self.now line).0 }
     {
-        match decide_eviction(self.entry(line).copied()) {
+        match decide_eviction(self.entry(line)) {
             Eviction::NotThere => Err(EvictError::NotHere),
             Eviction::IsBusy => Err(EvictError::Busy),
             Eviction::Drops { .. } => Ok(None),

@@ -1,5 +1,6 @@
 //! What a message and an eviction do with a bank's entry of one line: decisions, which change nothing.
 ghost use Rattle.std.specs.Prelude.{◌≡◌, IsTrue, is_some};
+ghost use Rattle.std.specs.Option.{option_copied};
 ghost use Rattle.std.specs.Result.{result_ok};
 ghost use Rattle.llc_bank.specs.OnEntry.{asked_back, at_bank, evicted, exclusive_request, filled, finds_place};
 ghost use Rattle.llc_bank.specs.OnEntry.{given_back, leased, loaded, read_answer, shared_request, stored};
@@ -67,6 +68,7 @@ fn read_answer(renews: bool, line: &TimedLine) -> Body
 }
 
 // A reader is given a line that is leased so.
+#[inline(always)]
 fn granted_to_read(dirty: bool, renews: bool, line: TimedLine) -> Decision
     ensures { result ≡ Decision.Grants (Entry.Shared dirty line) (read_answer renews line) }
 {
@@ -76,8 +78,9 @@ fn granted_to_read(dirty: bool, renews: bool, line: TimedLine) -> Decision
 }
 
 // A reader of a line is given this lease; whether it has the version comes with it.
-fn leased(dirty: bool, line: TimedLine, lease: Result<(u64, bool), Exhausted>) -> Decision
-    ensures { result ≡ leased dirty line (result_ok lease) }
+#[inline(always)]
+fn leased(dirty: bool, line: &TimedLine, lease: Result<(u64, bool), Exhausted>) -> Decision
+    ensures { result ≡ leased dirty line.now (result_ok lease) }
 {
     let Ok((rts, renews)) = lease else {
         return Decision::TooLate;
@@ -104,30 +107,32 @@ fn asked_back(owner: u32, until: Result<u64, Exhausted>) -> Decision
 }
 
 // A request to read.
+#[inline(always)]
 fn shared_request(
     lease: u64,
     room: bool,
     pts: u64,
     version: Option<u64>,
-    entry: Option<Entry>,
+    entry: Option<&Entry>,
 ) -> Decision
-    ensures { result ≡ shared_request lease room pts version entry }
+    ensures { result ≡ shared_request lease room pts version (option_copied entry.entry) }
 {
     match entry {
         None => loaded(room),
         Some(Entry::Shared { dirty, line }) => leased(
-            dirty,
+            *dirty,
             line,
             on_shared(line.wts, line.rts, pts, version, lease),
         ),
-        Some(Entry::Exclusive { owner }) => asked_back(owner, recall_until(pts, lease)),
+        Some(Entry::Exclusive { owner }) => asked_back(*owner, recall_until(pts, lease)),
         Some(Entry::Loading | Entry::Recalling { .. } | Entry::Storing) => Decision::Waits,
     }
 }
 
 // A request to own, by a core.
-fn exclusive_request(room: bool, core: u32, version: Option<u64>, entry: Option<Entry>) -> Decision
-    ensures { result ≡ exclusive_request room core version entry }
+#[inline(always)]
+fn exclusive_request(room: bool, core: u32, version: Option<u64>, entry: Option<&Entry>) -> Decision
+    ensures { result ≡ exclusive_request room core version (option_copied entry.entry) }
 {
     match entry {
         None => loaded(room),
@@ -135,7 +140,7 @@ fn exclusive_request(room: bool, core: u32, version: Option<u64>, entry: Option<
             let sent = if on_exclusive(line.wts, version) {
                 Body::UpgradeRep { rts: line.rts }
             } else {
-                Body::ExRep(line)
+                Body::ExRep(*line)
             };
             Decision::Grants {
                 entry: Entry::Exclusive { owner: core },
@@ -143,7 +148,7 @@ fn exclusive_request(room: bool, core: u32, version: Option<u64>, entry: Option<
             }
         }
         Some(Entry::Exclusive { owner }) => Decision::Recalls {
-            owner,
+            owner: *owner,
             sent: Body::FlushReq,
         },
         Some(Entry::Loading | Entry::Recalling { .. } | Entry::Storing) => Decision::Waits,
@@ -151,8 +156,9 @@ fn exclusive_request(room: bool, core: u32, version: Option<u64>, entry: Option<
 }
 
 // The owner gives the line back.
-fn given_back(line: TimedLine, entry: Option<Entry>) -> Decision
-    ensures { result ≡ given_back line entry }
+#[inline(always)]
+fn given_back(line: TimedLine, entry: Option<&Entry>) -> Decision
+    ensures { result ≡ given_back line (option_copied entry.entry) }
 {
     let returned = Entry::Shared { dirty: true, line };
     match entry {
@@ -162,8 +168,9 @@ fn given_back(line: TimedLine, entry: Option<Entry>) -> Decision
 }
 
 // The words come from DRAM.
-fn filled(mts: u64, words: Words, entry: Option<Entry>) -> Decision
-    ensures { result ≡ filled mts words entry }
+#[inline(always)]
+fn filled(mts: u64, words: Words, entry: Option<&Entry>) -> Decision
+    ensures { result ≡ filled mts words (option_copied entry.entry) }
 {
     match entry {
         Some(Entry::Loading) => Decision::Becomes(Entry::Shared {
@@ -179,8 +186,8 @@ fn filled(mts: u64, words: Words, entry: Option<Entry>) -> Decision
 }
 
 // DRAM has the words.
-fn stored(entry: Option<Entry>) -> Decision
-    ensures { result ≡ stored entry }
+fn stored(entry: Option<&Entry>) -> Decision
+    ensures { result ≡ stored (option_copied entry.entry) }
 {
     match entry {
         Some(Entry::Storing) => Decision::Leaves,
@@ -190,16 +197,17 @@ fn stored(entry: Option<Entry>) -> Decision
 
 /// What a bank with this lease and memory time does at a message with this body about a line that it has this entry of,
 /// and whose set has room or not. A request comes from `core`.
+#[inline(always)]
 pub(crate) fn decide(
     lease: u64,
     mts: u64,
     room: bool,
     core: u32,
-    entry: Option<Entry>,
+    entry: Option<&Entry>,
     body: &Body,
 ) -> Decision
-    ensures decision { result ≡ at_bank lease mts room core entry body.now }
-    ensures way { IsTrue (finds_place (is_some entry) room result) }
+    ensures decision { result ≡ at_bank lease mts room core (option_copied entry.entry) body.now }
+    ensures way { IsTrue (finds_place (is_some entry.entry) room result) }
 {
     match *body {
         Body::ShReq { pts, version } => shared_request(lease, room, pts, version, entry),
@@ -212,8 +220,8 @@ pub(crate) fn decide(
 }
 
 /// What an eviction of a line that a bank has this entry of does.
-pub(crate) fn decide_eviction(entry: Option<Entry>) -> Eviction
-    ensures decision { result ≡ evicted entry }
+pub(crate) fn decide_eviction(entry: Option<&Entry>) -> Eviction
+    ensures decision { result ≡ evicted (option_copied entry.entry) }
 {
     match entry {
         None => Eviction::NotThere,
@@ -222,7 +230,7 @@ pub(crate) fn decide_eviction(entry: Option<Entry>) -> Eviction
             rts: line.rts,
             words: line.words,
         },
-        Some(Entry::Exclusive { owner }) => Eviction::AsksBack { owner },
+        Some(Entry::Exclusive { owner }) => Eviction::AsksBack { owner: *owner },
         Some(Entry::Loading | Entry::Recalling { .. } | Entry::Storing) => Eviction::IsBusy,
     }
 }

@@ -26,22 +26,21 @@ impl Counts {
         }
     }
 
-    // The counts after a message that says this was sent.
-    pub(crate) fn with(self, body: &Body) -> Counts
-        requires renewals { self.renewals < 2 ^ 64 }
-        requires upgrades { self.upgrades < 2 ^ 64 }
-        requires flushes { self.flushes < 2 ^ 64 }
-        requires write_backs { self.write_backs < 2 ^ 64 }
-        ensures { result ≡ counted self body.now }
+    // A message that says this was sent.
+    #[inline(always)]
+    pub(crate) fn count(&mut self, body: &Body)
+        requires renewals { self.old.renewals < 2 ^ 64 }
+        requires upgrades { self.old.upgrades < 2 ^ 64 }
+        requires flushes { self.old.flushes < 2 ^ 64 }
+        requires write_backs { self.old.write_backs < 2 ^ 64 }
+        ensures { self.new ≡ counted self.old body.now }
     {
-        let mut counts = self;
         match body {
-            Body::RenewRep { .. } => counts.renewals += 1,
-            Body::UpgradeRep { .. } => counts.upgrades += 1,
-            Body::FlushRep(_) => counts.flushes += 1,
-            Body::WbRep(_) => counts.write_backs += 1,
+            Body::RenewRep { .. } => self.renewals += 1,
+            Body::UpgradeRep { .. } => self.upgrades += 1,
+            Body::FlushRep(_) => self.flushes += 1,
+            Body::WbRep(_) => self.write_backs += 1,
             _ => (),
         }
-        counts
     }
 }

@@ -3,6 +3,7 @@
 ghost use Rattle.std.specs.Prelude.{◌≡◌, ◌<◌, ◌/◌, ◌%◌};
 
 /// How often a number above 0 goes into another one.
+#[inline(always)]
 pub fn quotient(number: u64, by: u64) -> u64
     requires { 0 < by }
     ensures { result ≡ number / by }
@@ -15,6 +16,7 @@ pub fn quotient(number: u64, by: u64) -> u64
 }
 
 /// What is left of a number over another one, which is above 0.
+#[inline(always)]
 pub fn remainder(number: u64, by: u64) -> u64
     requires { 0 < by }
     ensures { result ≡ number % by }

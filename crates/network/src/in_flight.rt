@@ -1,7 +1,7 @@
 //! The messages in flight, by number.
 ghost use Rattle.std.specs.Prelude.{◌≡◌, ◌+◌, ◌*◌, ◌<◌, ◌≤◌, ◌^◌, ◌++◌, ◌∷◌, [], false, IsTrue, IfOk, IfErr, IfSome};
 ghost use Rattle.std.specs.Prelude.{OnOk, OnErr, IsOk, Option, None, Some, option_copied, option_map, length, map};
-ghost use Rattle.std.specs.Prelude.{slice_get, vec_capacity};
+ghost use Rattle.std.specs.Prelude.{is_some, slice_get, vec_capacity};
 ghost use Rattle.network.specs.SetUp.{IsInRange};
 ghost use Rattle.network.specs.NumberedMessages.{IsRising, at_number};
 ghost use Rattle.network.specs.Routes.{has_endpoints};
@@ -98,6 +98,7 @@ impl InFlight {
     }
 
     /// Whether the numbers are not used up: the last one, 2^64 - 1, is given to no message.
+    #[inline(always)]
     pub fn has_number(&self) -> bool
         ensures { result ≡ has_number self.now.mail }
     {
@@ -105,6 +106,7 @@ impl InFlight {
     }
 
     /// Whether one more message can be sent. Never are more in flight than may be.
+    #[inline(always)]
     pub fn has_capacity(&self) -> bool
         ensures value { result ≡ has_capacity self.now.capacity self.now.mail }
         ensures bound { length self.now.mail.messages ≤ self.now.capacity }
@@ -113,6 +115,7 @@ impl InFlight {
     }
 
     /// The message with this number, if it is in flight.
+    #[inline(always)]
     pub fn look(&self, number: MsgNo) -> Option<&Message>
         ensures value { option_copied result ≡ at_number number self.now.mail.messages }
         ensures endpoints { IfSome result
@@ -133,6 +136,7 @@ impl InFlight {
 
     /// Sends a message, which has the endpoints of its kind: it gets the next number. Else the message is given back,
     /// and nothing changes. This takes no memory: NoMemory is never answered.
+    #[inline(always)]
     pub fn send(&mut self, message: Message) -> Result<MsgNo, (SendError, Message)>
         requires { IsTrue (has_endpoints self.old.cores self.old.banks message) }
         ensures number { IfOk result (λ number. number ≡ self.old.mail.next) }
@@ -157,10 +161,8 @@ impl InFlight {
         if self.linked.next() == u64::MAX {
             return Err((SendError::Full, message));
         }
-        let counts = self.counts.with(&message.body);
-        let number = self.linked.push(message);
-        self.counts = counts;
-        Ok(MsgNo(number))
+        self.counts.count(&message.body);
+        Ok(MsgNo(self.linked.push(message)))
     }
 
     /// Takes the message with this number, if it is in flight. This takes no memory, and keeps what is reserved.
@@ -176,7 +178,25 @@ impl InFlight {
         ensures endpoints { IfSome result
             (λ message. IsTrue (has_endpoints self.old.cores self.old.banks message)) }
     {
-        self.linked.take(number.0)
+        let message = self.linked.look(number.0).copied();
+        let _there = self.linked.remove(number.0);
+        message
+    }
+
+    /// Takes the message with this number away, and answers whether it was in flight. It is as `take`, and moves no
+    /// message.
+    #[inline(always)]
+    pub fn remove(&mut self, number: MsgNo) -> bool
+        ensures value { result ≡ is_some (at_number number self.old.mail.messages) }
+        ensures after { self.new ≡ record self.old {
+          slots = self.new.slots;
+          reserved =
+              self.new.reserved;
+          mail = taken self.old.mail number;
+        } }
+        ensures reserved { self.old.reserved ≤ self.new.reserved }
+    {
+        self.linked.remove(number.0)
     }
 
     /// How many slots are kept: one for each message in flight, and those of taken messages that weren't given back
@@ -225,6 +245,7 @@ impl InFlight {
     }
 
     /// How many messages are in flight.
+    #[inline(always)]
     pub fn count(&self) -> u32
         ensures { result ≡ length self.now.mail.messages }
     {

@@ -1,6 +1,7 @@
 //! The messages in flight as they lie in memory: each with its number on the list of its link.
 ghost use Rattle.std.specs.Prelude.{◌≡◌, ◌+◌, ◌-◌, ◌*◌, ◌<◌, ◌≤◌, ◌^◌, ◌++◌, ◌∷◌, [], IsTrue, IfOk, IfSome};
-ghost use Rattle.std.specs.Prelude.{get_or, length, map, option_copied, option_map, slice_get, OnErr, OnOk, vec_capacity};
+ghost use Rattle.std.specs.Prelude.{get_or, is_some, length, map, option_copied, option_map, slice_get, OnErr, OnOk};
+ghost use Rattle.std.specs.Prelude.{vec_capacity};
 ghost use Rattle.network.specs.SetUp.{IsInRange};
 ghost use Rattle.network.specs.NumberedMessages.{IsRising, at_number, given, still_there, without_number};
 ghost use Rattle.network.specs.Requests.{is_wanted};
@@ -189,6 +190,7 @@ impl LinkedMessages {
     }
 
     /// The number that the next message gets.
+    #[inline(always)]
     pub(crate) fn next(&self) -> u64
         ensures { result ≡ self.now.next }
     {
@@ -196,6 +198,7 @@ impl LinkedMessages {
     }
 
     /// How many messages there are. Never are there more than there is room for.
+    #[inline(always)]
     pub(crate) fn count(&self) -> u32
         ensures value { result ≡ length self.now.messages }
         ensures bound { result ≤ self.now.capacity }
@@ -214,6 +217,7 @@ impl LinkedMessages {
     }
 
     /// The message with a number, if it is there.
+    #[inline(always)]
     pub(crate) fn look(&self, number: u64) -> Option<&Message>
         ensures value { option_copied result ≡ at_number number self.now.messages }
         ensures endpoints { IfSome result
@@ -224,6 +228,7 @@ impl LinkedMessages {
     }
 
     /// Puts a message at the end of the list of its link, and gives it the next number.
+    #[inline(always)]
     pub(crate) fn push(&mut self, message: Message) -> u64
         requires endpoints { IsTrue (has_endpoints self.old.cores self.old.banks message) }
         requires number { self.old.next < 2 ^ 64 - 1 }
@@ -249,25 +254,26 @@ impl LinkedMessages {
         number
     }
 
-    /// Takes the message with a number off its list, if it is there.
-    pub(crate) fn take(&mut self, number: u64) -> Option<Message>
-        ensures value { result ≡ at_number number self.old.messages }
+    /// Takes the message with a number off its list, and answers whether it was there.
+    #[inline(always)]
+    pub(crate) fn remove(&mut self, number: u64) -> bool
+        ensures value { result ≡ is_some (at_number number self.old.messages) }
         ensures after { self.new ≡ record self.old {
           slots = self.new.slots;
           messages = without_number number self.old.messages;
         } }
         ensures slots { self.new.slots ≤ self.old.slots }
-        ensures endpoints { IfSome result
-            (λ message. IsTrue (has_endpoints self.old.cores self.old.banks message)) }
     {
         looked_up::<(u64, Message)>();
         taken_off::<(u64, Message)>();
         let _lists = self.arena.lists();
-        let cell = take_cell(&mut self.slots, number)?;
-        let (_, message) = self.arena.unlink(Cell(cell));
+        let Some(cell) = take_cell(&mut self.slots, number) else {
+            return false;
+        };
+        let _message = self.arena.unlink(Cell(cell));
         self.count -= 1;
         drop_empty(&mut self.slots, self.count as usize);
-        Some(message)
+        true
     }
 
     /// The number of the first message from the one node to the other.

@@ -14,6 +14,7 @@ pub(crate) fn count_links(cores: u32, banks: u32) -> u32
 }
 
 /// The number of the link from the one node to the other, if there is one.
+#[inline(always)]
 pub(crate) fn link_of(cores: u32, banks: u32, from: Node, to: Node) -> Option<u32>
     requires cores { cores ≤ 64 }
     requires banks { banks ≤ 8 }

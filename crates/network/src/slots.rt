@@ -20,6 +20,7 @@ pub(crate) fn with_room(alloc: Global, capacity: u32) -> Result<Vec<Slot>, Alloc
 }
 
 /// The first index whose slot's number is not below `number`, found by halving.
+#[inline(always)]
 pub(crate) fn first_from(slots: &[Slot], number: u64) -> usize
     requires { IsRising 0 slots.now (2 ^ 64) }
     ensures within { result ≤ length slots.now }
@@ -40,6 +41,7 @@ pub(crate) fn first_from(slots: &[Slot], number: u64) -> usize
 }
 
 /// The index of the slot with the number, or `None` where there is none.
+#[inline(always)]
 pub(crate) fn slot_of(slots: &[Slot], number: u64) -> Option<usize>
     requires { IsRising 0 slots.now (2 ^ 64) }
     ensures found { IfSome result (λ at. slice_get slots.now at ≡ Some
@@ -57,6 +59,7 @@ pub(crate) fn slot_of(slots: &[Slot], number: u64) -> Option<usize>
 }
 
 /// The cell of the number, or `None` where there is none.
+#[inline(always)]
 pub(crate) fn cell_of(slots: &[Slot], number: u64) -> Option<u32>
     requires { IsRising 0 slots.now (2 ^ 64) }
     ensures { result ≡ at_number number (still_there slots.now) }
@@ -66,6 +69,7 @@ pub(crate) fn cell_of(slots: &[Slot], number: u64) -> Option<u32>
 }
 
 /// Takes the cell out of the slot at an index, which stays empty.
+#[inline(always)]
 fn empty_slot(slots: &mut Vec<Slot>, at: usize, number: u64) -> Option<u32>
     requires rising { IsRising 0 slots.old.items (2 ^ 64) }
     requires here { slice_get slots.old.items at ≡ Some
@@ -100,6 +104,7 @@ pub(crate) fn drop_empty(slots: &mut Vec<Slot>, count: usize)
 }
 
 /// Takes the cell of the number, if it is there. Its slot stays empty.
+#[inline(always)]
 pub(crate) fn take_cell(slots: &mut Vec<Slot>, number: u64) -> Option<u32>
     requires { IsRising 0 slots.old.items (2 ^ 64) }
     ensures value { result ≡ at_number number (still_there slots.old.items) }

@@ -7,6 +7,7 @@ use Rattle.machine_table.specs.Machine.{Machine}
 use Rattle.machine_table.specs.Change.{reacted}
 use Rattle.machine_table.specs.Transition.{deliver_core}
 use Rattle.interleaving_core.specs.contracts.machine_state.MachineState.{the_view}
+use Rattle.interleaving_core.specs.PartChanges.{delivered}
 use Rattle.interleaving_core.proofs.ChangedParts.{event_done, event_wanted, set_same}
 use Rattle.interleaving_core.proofs.Endpoints.{core_delivers, core_endpoints, core_has, fitted_reaction, still_fitted}
 use Rattle.interleaving_core.proofs.Only.{SameOpen, core_only, core_quiet, kept_open}
@@ -42,12 +43,12 @@ invariant_of-self-2 c =
     let part = c.index_mut.result.now in
     let here = slice_get_read c.self.inside.cores.items (length c.self.inside.cores.items) c.args.core part refl
     (omega (arith, c.if-at-len.false, c.len.ensures)) c.index_mut.ensures.value in
-    let kept = subst (λ (x : Answer × CoreState × Mail). x.1.open_op ≡ part.open_op) (sym c.in_ok-answer.ensures.done)
+    let kept = subst (λ (x : Answer × CoreState × Mail). x.1.open_op ≡ part.open_op) (sym c.in_ok-delivery.ensures.done)
     (kept_open part m.mail _ (core_only part c.args.message.now c.self.inside.flight.capacity
     m.mail c.args.number)) in
     let same = owed_kept m.cores c.args.core part c.react.new.part here kept in
     still_fitted m.config c.self.inside.flight c.self.inside.cores.items c.self.inside.records.items _
-    c.self.invariant _ _ _ _ c.in_ok-answer.ensures.set_up (omega (arith, same, c.self.invariant.reserved))
+    c.self.invariant _ _ _ _ c.in_ok-delivery.ensures.set_up (omega (arith, same, c.self.invariant.reserved))
 
 pub returns-clause-done : goal.returns-clause-done
 returns-clause-done c =
@@ -63,11 +64,11 @@ returns-clause-done c =
     c.args.message.now c.args.core (slice_get n.cores c.args.core))
     (core_delivers m _ c.self.view_is c.requires.invariant c.args.number c.args.message.now c.requires.there
     c.args.core c.requires.to part here)
-    c.in_ok-answer.answer c.react.new.part c.react.new.flight.mail c.stop.new.is_stopped
-    c.in_ok-answer.ensures.done c.stop.ensures
+    (delivered c.in_ok-delivery.delivery) c.react.new.part c.react.new.flight.mail c.stop_after.new.is_stopped
+    c.in_ok-delivery.ensures.done c.stop_after.ensures
 
-pub returns-in_err-answer-clause-wanted : goal.returns-in_err-answer-clause-wanted
-returns-in_err-answer-clause-wanted c =
+pub returns-in_err-delivery-clause-wanted : goal.returns-in_err-delivery-clause-wanted
+returns-in_err-delivery-clause-wanted c =
     let m : Machine = the_view c.self.inside in
     let part = c.index_mut.result.now in
     let here = slice_get_read c.self.inside.cores.items (length c.self.inside.cores.items) c.args.core part refl
@@ -80,4 +81,4 @@ returns-in_err-answer-clause-wanted c =
     c.args.message.now c.args.core (slice_get n.cores c.args.core))
     (core_delivers m _ c.self.view_is c.requires.invariant c.args.number c.args.message.now c.requires.there
     c.args.core c.requires.to part here)
-    _ c.in_err-answer.ensures.memory
+    _ c.in_err-delivery.ensures.memory

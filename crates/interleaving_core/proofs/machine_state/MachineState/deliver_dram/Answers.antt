@@ -5,6 +5,7 @@ use Rattle.machine_table.specs.Machine.{Machine}
 use Rattle.machine_table.specs.Change.{reacted}
 use Rattle.machine_table.specs.Transition.{deliver_dram}
 use Rattle.interleaving_core.specs.contracts.machine_state.MachineState.{the_view}
+use Rattle.interleaving_core.specs.PartChanges.{delivered}
 use Rattle.interleaving_core.proofs.ChangedParts.{event_done, event_wanted, set_same}
 use Rattle.interleaving_core.proofs.Endpoints.{dram_delivers, dram_endpoints, dram_has, fitted_reaction}
 use Rattle.interleaving_core.proofs.Only.{Any, dram_quiet, reacted_only}
@@ -47,11 +48,11 @@ returns-clause-done c =
     c.args.message.now c.args.bank (slice_get n.drams c.args.bank))
     (dram_delivers m _ c.self.view_is c.requires.invariant c.args.number c.args.message.now c.requires.there
     c.args.bank c.requires.to part here)
-    c.in_ok-answer.answer c.react.new.part c.react.new.flight.mail c.stop.new.is_stopped
-    c.in_ok-answer.ensures.done c.stop.ensures
+    (delivered c.in_ok-delivery.delivery) c.react.new.part c.react.new.flight.mail c.stop_after.new.is_stopped
+    c.in_ok-delivery.ensures.done c.stop_after.ensures
 
-pub returns-in_err-answer-clause-wanted : goal.returns-in_err-answer-clause-wanted
-returns-in_err-answer-clause-wanted c =
+pub returns-in_err-delivery-clause-wanted : goal.returns-in_err-delivery-clause-wanted
+returns-in_err-delivery-clause-wanted c =
     let m : Machine = the_view c.self.inside in
     let part = c.index_mut.result.now in
     let here = slice_get_read c.self.inside.drams.items (length c.self.inside.drams.items) c.args.bank part refl
@@ -64,4 +65,4 @@ returns-in_err-answer-clause-wanted c =
     c.args.message.now c.args.bank (slice_get n.drams c.args.bank))
     (dram_delivers m _ c.self.view_is c.requires.invariant c.args.number c.args.message.now c.requires.there
     c.args.bank c.requires.to part here)
-    _ c.in_err-answer.ensures.memory
+    _ c.in_err-delivery.ensures.memory

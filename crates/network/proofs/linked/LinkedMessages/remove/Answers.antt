@@ -1,11 +1,11 @@
 use Rattle.std.proofs.Common.{◌≡◌, ◌^◌, ◌∙◌, sym, ap, arith, is_some, refl, None}
 use Rattle.network.specs.NumberedMessages.{at_number, still_there}
 use Rattle.network.specs.Stored.{at_cell, messages_of}
-use Rattle.network.proofs.SlotChanges.{IsRising-higher, AllHaveEndpoints-at_number, length-without_number}
+use Rattle.network.proofs.SlotChanges.{IsRising-higher, length-without_number}
 use Rattle.network.proofs.SlotChanges.{without_number-none}
 use Rattle.network.proofs.StoredChanges.{stored-none, stored-taken}
 use Rattle.network.proofs.StoredMessages.{messages-at_number, placed-at, second-of}
-use Rattle.network.proofs.linked.LinkedMessages.take.Goals as goal
+use Rattle.network.proofs.linked.LinkedMessages.remove.Goals as goal
 
 pub take_cell-requires : goal.take_cell-requires
 take_cell-requires c =
@@ -14,21 +14,21 @@ take_cell-requires c =
 pub invariant_of-self : goal.invariant_of-self
 invariant_of-self c =
     let none = stored-none _ _ _ _ _ c.args.number c.self.inside.slots.items c.take_cell.new.slots.items
-    c.self.inside.arena c.self.invariant (sym c.in_err-cell.ensures.value) c.take_cell.ensures.after
+    c.self.inside.arena c.self.invariant (sym c.take_cell.ensures.value ∙ c.in_default.is) c.take_cell.ensures.after
     (c.take_cell.ensures.rising _ c.self.invariant.rising) c.take_cell.ensures.long in
     rw c.take_cell.ensures.capacity none.1
 
-pub returns-in_err-cell-clause-value : goal.returns-in_err-cell-clause-value
-returns-in_err-cell-clause-value c =
+pub returns-in_default-clause-value : goal.returns-in_default-clause-value
+returns-in_default-clause-value c =
     let ls = c.self.inside.arena.lists in let xs = still_there c.self.inside.slots.items in
-    let none : at_number c.args.number xs ≡ None = sym c.in_err-cell.ensures.value in
-    rw (← c.self.view_is, c.from_residual.ensures) (sym (messages-at_number c.args.number ls xs
-    c.self.invariant.linked.placed ∙ ap (at_cell ls) none))
+    let none : at_number c.args.number xs ≡ None = sym c.take_cell.ensures.value ∙ c.in_default.is in
+    rw (← c.self.view_is) (sym (ap is_some (messages-at_number c.args.number ls xs c.self.invariant.linked.placed
+    ∙ ap (at_cell ls) none)))
 
-pub returns-in_err-cell-clause-after : goal.returns-in_err-cell-clause-after
-returns-in_err-cell-clause-after c =
+pub returns-in_default-clause-after : goal.returns-in_default-clause-after
+returns-in_default-clause-after c =
     let ls = c.self.inside.arena.lists in let xs = still_there c.self.inside.slots.items in
-    let none : at_number c.args.number xs ≡ None = sym c.in_err-cell.ensures.value in
+    let none : at_number c.args.number xs ≡ None = sym c.take_cell.ensures.value ∙ c.in_default.is in
     let stored = stored-none _ _ _ _ _ c.args.number c.self.inside.slots.items c.take_cell.new.slots.items
     c.self.inside.arena c.self.invariant none c.take_cell.ensures.after
     (c.take_cell.ensures.rising _ c.self.invariant.rising) c.take_cell.ensures.long in
@@ -39,23 +39,23 @@ returns-in_err-cell-clause-after c =
 pub unlink-message-requires : goal.unlink-message-requires
 unlink-message-requires c =
     let ls = c.self.inside.arena.lists in let xs = still_there c.self.inside.slots.items in
-    ap is_some (placed-at c.args.number c.in_ok-cell.cell ls xs c.self.invariant.linked.placed
-    (sym c.in_ok-cell.ensures.value)).1
+    ap is_some (placed-at c.args.number c.in-Some.cell ls xs c.self.invariant.linked.placed
+    (sym c.take_cell.ensures.value ∙ c.in-Some.is)).1
 
 pub drop_empty-requires : goal.drop_empty-requires
 drop_empty-requires c =
     let xs = still_there c.self.inside.slots.items in
-    let less = length-without_number c.args.number c.in_ok-cell.cell xs (sym c.in_ok-cell.ensures.value) in
+    let less = length-without_number c.args.number c.in-Some.cell xs (sym c.take_cell.ensures.value ∙ c.in-Some.is) in
     rw c.take_cell.ensures.after (omega (arith, less, c.self.invariant.counted))
 
 pub invariant_of-self-2 : goal.invariant_of-self-2
 invariant_of-self-2 c =
     let ls = c.self.inside.arena.lists in let xs = still_there c.self.inside.slots.items in
-    let there = placed-at c.args.number c.in_ok-cell.cell ls xs c.self.invariant.linked.placed
-    (sym c.in_ok-cell.ensures.value) in
-    let new = stored-taken _ _ _ _ _ c.args.number c.in_ok-cell.cell there.0 c.self.inside.slots.items
+    let there = placed-at c.args.number c.in-Some.cell ls xs c.self.invariant.linked.placed
+    (sym c.take_cell.ensures.value ∙ c.in-Some.is) in
+    let new = stored-taken _ _ _ _ _ c.args.number c.in-Some.cell there.0 c.self.inside.slots.items
     c.drop_empty.new.slots.items c.self.inside.arena c.self.invariant c.looked_up.ensures c.taken_off.ensures
-    c.lists-lists.ensures.once (sym c.in_ok-cell.ensures.value) there.1
+    c.lists-lists.ensures.once (sym c.take_cell.ensures.value ∙ c.in-Some.is) there.1
     (c.drop_empty.ensures.same ∙ c.take_cell.ensures.after)
     (c.drop_empty.ensures.rising _ (c.take_cell.ensures.rising _ c.self.invariant.rising))
     (omega (arith, c.drop_empty.ensures.few)) in
@@ -64,17 +64,18 @@ invariant_of-self-2 c =
 pub returns-clause-value : goal.returns-clause-value
 returns-clause-value c =
     let ls = c.self.inside.arena.lists in let xs = still_there c.self.inside.slots.items in
-    rw (← c.self.view_is) (sym (messages-at_number c.args.number ls xs c.self.invariant.linked.placed
-    ∙ ap (at_cell ls) (sym c.in_ok-cell.ensures.value) ∙ second-of _ _ c.unlink-message.ensures.value))
+    rw (← c.self.view_is) (sym (ap is_some (messages-at_number c.args.number ls xs c.self.invariant.linked.placed
+    ∙ ap (at_cell ls) (sym c.take_cell.ensures.value ∙ c.in-Some.is)
+    ∙ second-of _ _ c.unlink-message.ensures.value)))
 
 pub returns-clause-after : goal.returns-clause-after
 returns-clause-after c =
     let ls = c.self.inside.arena.lists in let xs = still_there c.self.inside.slots.items in
-    let there = placed-at c.args.number c.in_ok-cell.cell ls xs c.self.invariant.linked.placed
-    (sym c.in_ok-cell.ensures.value) in
-    let new = stored-taken _ _ _ _ _ c.args.number c.in_ok-cell.cell there.0 c.self.inside.slots.items
+    let there = placed-at c.args.number c.in-Some.cell ls xs c.self.invariant.linked.placed
+    (sym c.take_cell.ensures.value ∙ c.in-Some.is) in
+    let new = stored-taken _ _ _ _ _ c.args.number c.in-Some.cell there.0 c.self.inside.slots.items
     c.drop_empty.new.slots.items c.self.inside.arena c.self.invariant c.looked_up.ensures c.taken_off.ensures
-    c.lists-lists.ensures.once (sym c.in_ok-cell.ensures.value) there.1
+    c.lists-lists.ensures.once (sym c.take_cell.ensures.value ∙ c.in-Some.is) there.1
     (c.drop_empty.ensures.same ∙ c.take_cell.ensures.after)
     (c.drop_empty.ensures.rising _ (c.take_cell.ensures.rising _ c.self.invariant.rising))
     (omega (arith, c.drop_empty.ensures.few)) in
@@ -84,10 +85,3 @@ returns-clause-after c =
       c.take_cell.ensures.capacity,
       c.unlink-message.ensures.after,
     ) (rw new.are refl)
-
-pub returns-clause-endpoints : goal.returns-clause-endpoints
-returns-clause-endpoints c =
-    let ls = c.self.inside.arena.lists in let xs = still_there c.self.inside.slots.items in
-    rw (← c.self.view_is) (AllHaveEndpoints-at_number _ _ c.args.number c.unlink-message.result.1 (messages_of ls xs)
-    c.self.invariant.linked.endpoints (messages-at_number c.args.number ls xs c.self.invariant.linked.placed
-    ∙ ap (at_cell ls) (sym c.in_ok-cell.ensures.value) ∙ second-of _ _ c.unlink-message.ensures.value))

@@ -72,12 +72,11 @@ module _ (test : Litmus) (config : Config) (m : Machine) (threads : List Thread)
   abbrev pub issued_to : ℕ → List Op
   issued_to core = slice_index_or m.issued core []
 
-  of_thread : (t : ℕ) → t < test.threads → (q : Thread) × (slice_get threads t ≡ Some q) × IsServed thread_acts
+  of_thread : (t : ℕ) → t < test.threads → IsServed thread_acts
       (slice_index_or (at_start config (words_opened test.items empty)).issued t []) (issued_to t)
-      (of_core t served.added) (operation_of (slice_get m.cores t)) (started test t) q
-  of_thread t below = served.each t (started test t) (subst (λ n. t < n) (sym cores) below)
-      (thread_from test 0 test.threads t below ∙ ap (λ i. Some (started test i)) (omega arith))
-      (nothing_open config 0 config.cores t)
+      (of_core t served.added) (operation_of (slice_get m.cores t)) (slice_get (threads_from test 0 test.threads) t)
+      (slice_get threads t)
+  of_thread t below = served.each t (subst (λ n. t < n) (sym cores) below) (nothing_open config 0 config.cores t)
 
   -- each thread was performed to its end
   performed : ((core : ℕ) → core < config.cores → (open_op m core ≡ None) ×
@@ -88,13 +87,13 @@ module _ (test : Litmus) (config : Config) (m : Machine) (threads : List Thread)
     in_order = λ t below.
         subst (λ rs. Follows 0 (issued_to t) (of_core t rs)) (sym served.records)
         (subst (λ (ops : List Op). Follows (length ops) (issued_to t) (of_core t served.added))
-        (nothing_issued config.cores t) (of_thread t below).2.in_order);
+        (nothing_issued config.cores t) (of_thread t below).in_order);
     performed = λ t below.
-        let told = of_thread t below in (
+        let told = (of_thread t below).told (started test t) (thread_from test 0 test.threads t below
+        ∙ ap (λ i. Some (started test i)) (omega arith)) in (
           told.0,
           told.1,
-          subst (λ rs. Performs thread_acts (of_core t rs) (started test t) told.0) (sym served.records)
-              told.2.performs,
+          subst (λ rs. Performs thread_acts (of_core t rs) (started test t) told.0) (sym served.records) told.2,
           next_there threads t told.0 told.1 (done t (subst (λ n. t < n) (sym cores) below)).1,
         );
   }

@@ -44,7 +44,7 @@ module _ {P : Type 0} (acts : Acts P) where
   pub record IsSeatServed (p : CoreSeat) (before : P) (q : CoreSeat) (after : P) : Type 0 where
     pub added : List Record
     pub records : q.records.items ≡ p.records.items ++ added
-    pub served : IsServed acts p.issued.items q.issued.items added q.part.core.open_op before after
+    pub served : IsServed acts p.issued.items q.issued.items added q.part.core.open_op (Some before) (Some after)
 
   -- that is so of each core's seat and its program, by index
   pub record AreServed (cores : List CoreSeat) (programs : List P) (cores' : List CoreSeat) (programs' : List P) :

@@ -13,7 +13,7 @@ use Rattle.machine_table.specs.Opening.{at_start}
 use Rattle.machine_theorem.specs.Consistency.{IsConsistent}
 use Rattle.protocol.specs.Issued.{listed}
 use Rattle.worker_driver.specs.Acts.{Acts}
-use Rattle.worker_driver.specs.Service.{AreServed, IsServed, Performs}
+use Rattle.worker_driver.specs.Service.{AreServed, Performs}
 use Rattle.mailboxes.specs.declared.machine.Machine.{Machine}
 use Rattle.mailboxes.specs.declared.core_seat.CoreSeat.{CoreSeat}
 use Rattle.mailboxes.specs.declared.run.Run.{Run}
@@ -44,7 +44,8 @@ module _ {P : Type 0} (acts : Acts P) (m : Machine) (run : Run) (parts : Parts r
   all_there : AllByRecursion (λ (r : Record). r.core < run.set_up.config.cores) run.records.items
   all_there = all_below run.set_up.config.cores run.records.items (λ core past.
       no_record (of_core core run.records.items) (listed (operation_of (slice_get (machine_of run parts).cores core)))
-      (sym (consistent.issued core).all ∙ index_past (λ c. (parts.seats c).issued) run.set_up.config.cores core [] past))
+      (sym (consistent.issued core).all
+      ∙ index_past (λ c. (parts.seats c).issued) run.set_up.config.cores core [] past))
 
   issued : (c : ℕ) → slice_index_or (machine_of run parts).issued c [] ≡
       slice_index_or start.issued c [] ++ (map (λ r. r.op) (of_core c run.records.items)
@@ -61,27 +62,23 @@ module _ {P : Type 0} (acts : Acts P) (m : Machine) (run : Run) (parts : Parts r
       subst (λ (ops : List Op). Follows (length ops) (slice_index_or (machine_of run parts).issued c [])
       (of_core c run.records.items)) (sym (nothing_issued run.set_up.config.cores c)) (consistent.issued c).in_order
 
-  core_served : (c : ℕ) (a : P) → c < run.set_up.config.cores → slice_get before c ≡ Some a →
-      (b : P) × (slice_get after c ≡ Some b) × IsServed acts (slice_index_or start.issued c [])
-      (slice_index_or (machine_of run parts).issued c []) (of_core c run.records.items)
-      (operation_of (slice_get (machine_of run parts).cores c)) a b
-  core_served c a below is =
+  told : (c : ℕ) → c < run.set_up.config.cores → (a : P) → slice_get before c ≡ Some a →
+      (b : P) × (slice_get after c ≡ Some b) × Performs acts (of_core c run.records.items) a b ×
+      IfSome (operation_of (slice_get (machine_of run parts).cores c)) (λ op. acts.next b ≡ Some (step.Op op))
+  told c below a is =
       let p = there cores c (omega (arith, below, many)) in
       let q = there ended c (omega (arith, below, all)) in
       let b = there after c (let long = served.long in omega (arith, below, long, programs, many)) in
       let s = served.each c p.0 a q.0 b.0 p.1 is q.1 b.1 in
+      let t = s.served.told a refl in
       let number = (order.each c q.0 q.1).1 in
       let none = new_records m (0 + c) p.0 (new c p.0 p.1) in
       let own = own_records run parts ended left c q.0 q.1 number ∙ s.records ∙ ap (λ rs. rs ++ s.added) none in (
-        b.0,
-        b.1,
-        record {
-          issued = issued c;
-          in_order = in_order c;
-          performs = subst (λ rs. Performs acts rs a b.0) (sym own) s.served.performs;
-          ahead = subst (λ (o : Option Op). IfSome o (λ op. acts.next b.0 ≡ Some (step.Op op)))
-              (sym (operation_there run parts ended left c q.0 q.1 number below)) s.served.ahead;
-        },
+        t.0,
+        b.1 ∙ t.1,
+        subst (λ rs. Performs acts rs a t.0) (sym own) t.2,
+        subst (λ (o : Option Op). IfSome o (λ op. acts.next t.0 ≡ Some (step.Op op)))
+            (sym (operation_there run parts ended left c q.0 q.1 number below)) t.3,
       )
 
   pub all_served : AreServed acts start (machine_of run parts) before after
@@ -89,5 +86,5 @@ module _ {P : Type 0} (acts : Acts P) (m : Machine) (run : Run) (parts : Parts r
     added = run.records.items;
     records = refl;
     there = all_there;
-    each = λ c a below is none. core_served c a below is;
+    each = λ c below none. record { issued = issued c; in_order = in_order c; told = told c below };
   }

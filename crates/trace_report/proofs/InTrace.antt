@@ -150,16 +150,16 @@ module _ (lanes : List (List Step)) (config : Config) (m : Machine) (programs : 
 
   in_lane : (core : ℕ) → core < config.cores → (rest : List Op) × (ops_of (lane lanes core) ≡ issued_to core ++ rest)
   in_lane core below =
-      let told = served.each core (lane lanes core) below (lane_there lanes (core_count lanes) core
-      (subst (λ (n : ℕ). core < n) cores below)) (nothing_open config 0 config.cores core) in
-      let s = told.2 in
+      let s = served.each core below (nothing_open config 0 config.cores core) in
+      let told = s.told (lane lanes core) (lane_there lanes (core_count lanes) core
+      (subst (λ (n : ℕ). core < n) cores below)) in
       let now_open = operation_of (slice_get m.cores core) in
-      let left = opened now_open told.0 s.ahead in
+      let left = opened now_open told.0 told.3 in
       let done = map (λ (r : Record). r.op) (of_core core served.added) in
       let issued : issued_to core ≡ done ++ listed now_open =
       s.issued ∙ ap (λ (ops : List Op). ops ++ (done ++ listed now_open)) (nothing_issued config.cores core) in (
         left.0,
-        performed (lane lanes core) told.0 (of_core core served.added) s.performs
+        performed (lane lanes core) told.0 (of_core core served.added) told.2
             ∙ ap (λ (ops : List Op). done ++ ops) left.1
             ∙ sym (append_assoc done (listed now_open) left.0)
             ∙ ap (λ (ops : List Op). ops ++ left.0) (sym issued),

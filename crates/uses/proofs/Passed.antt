@@ -1,5 +1,6 @@
 -- A thread that ended received its message in a legal history.
-use Rattle.std.proofs.Common.{◌≡◌, ℕ, zero, suc, List, [], ◌∷◌, subst, sym, refl, arith, Option, Some, None, IfSome, ◌∙◌}
+use Rattle.std.proofs.Common.{◌≡◌, ℕ, zero, suc, List, [], ◌∷◌, subst, sym, refl, arith, Option, Some, None, IfSome}
+use Rattle.std.proofs.Common.{◌∙◌}
 use Rattle.std.specs.Prelude.{slice_get, slice_index_or}
 use Rattle.std.specs.FinMap.{empty}
 use Rattle.physiological_order.specs.declared.operation.Record.{Record}
@@ -25,8 +26,8 @@ pub passed : (m : Machine) (threads : List Thread) (message : Option ℕ) (other
     Legal (flat empty) (λ core. slice_index_or m.issued core []) m.records → IfSome message IsPassed
 passed m threads None other served ended legal = tt
 passed m threads (Some message) other served ended legal =
-    let first = served.each 0 StoreMessage (omega arith) refl refl in
-    let second = served.each 1 LoadFlag (omega arith) refl refl in
+    let first = (served.each 0 (omega arith) refl).told StoreMessage refl in
+    let second = (served.each 1 (omega arith) refl).told LoadFlag refl in
     let is : second.0 ≡ Over (Some message) = sym (found threads 1 second.0 other second.1) ∙ ended in
     record {
       issued = λ core. slice_index_or m.issued core [];
@@ -34,8 +35,8 @@ passed m threads (Some message) other served ended legal =
       legal = legal;
       writer = first.0;
       written = subst (λ (rs : List Record). Performs thread_acts (of_core 0 rs) StoreMessage first.0)
-          (sym served.records) first.2.performs;
+          (sym served.records) first.2;
       received = subst (λ (rs : List Record). Performs thread_acts (of_core 1 rs) LoadFlag (Over (Some message)))
           (sym served.records)
-          (subst (λ (q : Thread). Performs thread_acts (of_core 1 served.added) LoadFlag q) is second.2.performs);
+          (subst (λ (q : Thread). Performs thread_acts (of_core 1 served.added) LoadFlag q) is second.2);
     }

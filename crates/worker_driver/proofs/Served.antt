@@ -16,7 +16,7 @@ use Rattle.machine_table.specs.declared.event.Event.TheVariants.{Issue, Attempt,
 use Rattle.machine_table.specs.declared.event.Event.TheVariants.{Advance}
 use Rattle.machine_table.specs.declared.event.Answer.{Answer}
 use Rattle.machine_table.specs.declared.event.Answer.TheVariants as answer
-use Rattle.machine_table.specs.Machine.{Machine}
+use Rattle.machine_table.specs.Machine.{Machine, operation_of}
 use Rattle.machine_table.specs.Transition.{transition}
 use Rattle.protocol.specs.Issued.{IsIssued, listed}
 use Rattle.machine_theorem.proofs.Lemmas.{after_all_same}
@@ -32,7 +32,7 @@ use Rattle.worker_driver.specs.Runs.{answered, victim_for, is_progress, is_exhau
 use Rattle.worker_driver.specs.RunEvents.{Follows, stays, moves, makes, Ended}
 use Rattle.worker_driver.specs.Service.{AreServed, GivesSteps}
 use Rattle.worker_driver.proofs.InProgram.{behind}
-use Rattle.worker_driver.proofs.TableSteps.{op_of, op_at, IsQuiet, Opens, IsDone, is_completion}
+use Rattle.worker_driver.proofs.TableSteps.{op_at, IsQuiet, Opens, IsDone, is_completion}
 use Rattle.worker_driver.proofs.TableSteps.{not_completed, issue_does, attempt_does, advance_stays, delivery_stays}
 use Rattle.worker_driver.proofs.TableSteps.{cache_eviction_stays, bank_eviction_stays}
 use Rattle.worker_driver.proofs.ServiceSteps.{Serving, served_none, served_quiet, served_issue, served_done}
@@ -41,7 +41,7 @@ use Rattle.worker_driver.proofs.RunLaws.{moves_keeps, made_by}
 
 -- a core that isn't there has no open operation
 has_core : (cores : List CoreState) (c : ℕ) (o : Option CoreState) (op : Op) → slice_get cores c ≡ o →
-    op_of o ≡ Some op → c < length cores
+    operation_of o ≡ Some op → c < length cores
 has_core cores c None op at is = absurd (cc)
 has_core cores c (Some core) op at is = slice_get_within cores c core at
 
@@ -53,7 +53,7 @@ none_open m core none = by_core (slice_get m.cores core) none
     by_op out None none = refl
     by_op out (Some op) none = absurd (cc)
 
-    by_core : (o : Option CoreState) → open_op_of o ≡ None → op_of o ≡ None
+    by_core : (o : Option CoreState) → open_op_of o ≡ None → operation_of o ≡ None
     by_core None none = refl
     by_core (Some state) none = by_op state.is_out state.open_op none
 
@@ -309,16 +309,11 @@ module _ {P S : Type 0} (plan : Plan P S) (gives : GivesSteps plan.acts plan.sch
         added = kept.added;
         records = kept.records;
         there = kept.there;
-        each = λ core p below at none.
+        each = λ core below none.
             let closed = none_open start.machine core none in
-            let gone = kept.gone core closed p at in (
-              gone.0,
-              gone.1,
-              record {
-                issued = issued_more start.machine m issued issued_after kept.added kept.records core closed;
-                in_order = added_in_order start.machine m issued issued_after kept.added kept.records core closed;
-                performs = gone.2;
-                ahead = gone.3;
-              },
-            );
+            record {
+              issued = issued_more start.machine m issued issued_after kept.added kept.records core closed;
+              in_order = added_in_order start.machine m issued issued_after kept.added kept.records core closed;
+              told = kept.gone core closed;
+            };
       }

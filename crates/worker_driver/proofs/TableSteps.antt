@@ -46,11 +46,12 @@ use Rattle.machine_table.specs.declared.event.Answer.TheVariants as answer
 use Rattle.machine_table.specs.declared.event.Refusal.TheVariants as refusal
 use Rattle.network.specs.declared.message.Body.{Body}
 use Rattle.network.specs.Mail.{has_capacity, has_number, sent}
-use Rattle.machine_table.specs.Machine.{Machine, with_core, with_bank, with_dram}
+use Rattle.machine_table.specs.Machine.{Machine, operation_of, with_core, with_bank, with_dram}
 use Rattle.machine_table.specs.Change.{Change, Keeps, Makes, record_of, attempt_open, attempted_op, requests, reacted}
 use Rattle.machine_table.specs.Change.{advanced, copy_evicted, entry_evicted}
-use Rattle.machine_table.specs.Transition.{advance_at, changed, refused, issued, issue_at, attempt_at, deliver_core, deliver_bank}
-use Rattle.machine_table.specs.Transition.{deliver_dram, deliver_to, deliver_message, evict_copy, evict_entry}
+use Rattle.machine_table.specs.Transition.{advance_at, changed, refused, issued, issue_at, attempt_at, deliver_core}
+use Rattle.machine_table.specs.Transition.{deliver_bank, deliver_dram, deliver_to, deliver_message, evict_copy}
+use Rattle.machine_table.specs.Transition.{evict_entry}
 use Rattle.machine_table.specs.Transition.{on_event, transition}
 use Rattle.machine_table.specs.Answered.{Answered}
 use Rattle.machine_table.proofs.Lemmas.{every_answer}
@@ -58,12 +59,8 @@ use Rattle.machine_theorem.proofs.Lemmas.{get-set_same, get-set_other}
 use Rattle.interleaving_core.proofs.Lemmas.{Closes, attempt_closes}
 
 -- a core's open operation
-abbrev pub op_of : Option CoreState → Option Op
-op_of None = None
-op_of (Some core) = core.open_op
-
 abbrev pub op_at : Machine → ℕ → Option Op
-op_at m core = op_of (slice_get m.cores core)
+op_at m core = operation_of (slice_get m.cores core)
 
 -- the open operations and the records stay
 pub record IsQuiet (m after : Machine) : Type 0 where
@@ -134,19 +131,19 @@ module _ (m : Machine) where
   module _ (c : ℕ) (core : CoreState) (at : slice_get m.cores c ≡ Some core) (new : CoreState) where
     opened : (o : Option Op) → new.open_op ≡ o → IsOpen m c o (with_core m c new)
     opened o is = record {
-      here = ap op_of (get-set_same m.cores c new core at) ∙ is;
+      here = ap operation_of (get-set_same m.cores c new core at) ∙ is;
       there =
-          λ j other. ap op_of (get-set_other m.cores c j new other);
+          λ j other. ap operation_of (get-set_other m.cores c j new other);
     }
 
     kept : new.open_op ≡ core.open_op → IsQuiet m (with_core m c new)
     kept is =
         record {
           ops = λ j. ⊎_elim
-              (λ (here : j ≡ c). subst (λ (i : ℕ). op_of (slice_get (set m.cores c new) i) ≡ op_of
+              (λ (here : j ≡ c). subst (λ (i : ℕ). operation_of (slice_get (set m.cores c new) i) ≡ operation_of
               (slice_get m.cores i)) (sym here)
-              (ap op_of (get-set_same m.cores c new core at) ∙ is ∙ sym (ap op_of at)))
-              (λ (other : j ≡ c → ⊥). ap op_of (get-set_other m.cores c j new other))
+              (ap operation_of (get-set_same m.cores c new core at) ∙ is ∙ sym (ap operation_of at)))
+              (λ (other : j ≡ c → ⊥). ap operation_of (get-set_other m.cores c j new other))
               (cases_eq j c);
           records = refl;
         }
@@ -323,7 +320,7 @@ module _ (m : Machine) where
         refl,
         record {
           core = refl;
-          op = ap op_of at
+          op = ap operation_of at
               ∙ opens;
           closed = record { here = is.here; there = is.there };
           records = refl;

@@ -24,24 +24,27 @@ pub data Performs {P : Type 0} (acts : Acts P) : List Record → P → P → Typ
       Performs acts rs (acts.done p r.received) q → Performs acts (r ∷ rs) p q
 
 -- What a core was issued in all, earlier and later; the records that it got in between; the operation that is still
--- open; and its program, before and after. It is said of a core that had no open operation. The core was issued its
--- program's operations: the records are of the first of them, in their order, and the program was told of each. One
--- that is still open is the program's next.
+-- open; and its program, before and after, if it has one. It is said of a core that had no open operation. `issued` and
+-- `in_order` hold whatever programs there are; `told` is of its program.
 pub record IsServed {P : Type 0} (acts : Acts P) (earlier later : List Op) (added : List Record)
-    (still_open : Option Op) (before after : P) : Type 0 where
+    (still_open : Option Op) (before after : Option P) : Type 0 where
+  -- in between it was issued the operations of the records, in their order, and then the one that is still open
   pub issued : later ≡ earlier ++ (map (λ r. r.op) added ++ listed still_open)
+  -- each record has the next place in what the core was issued, and the operation there
   pub in_order : Follows (length earlier) later added
-  pub performs : Performs acts added before after
-  pub ahead : IfSome still_open (λ op. acts.next after ≡ Some (step.Op op))
+  -- a program that it had gave the records' operations, and was told of each; the one that is still open is its next
+  pub told : (p : P) → before ≡ Some p → (q : P) × (after ≡ Some q) × Performs acts added p q
+      × IfSome still_open (λ op. acts.next q ≡ Some (step.Op op))
 
--- the records added are of cores that there are, and each core that has a program and had no open operation was served
+-- the records added are of cores that there are, and each core that had no open operation was served, with its program
+-- if it has one
 pub record AreServed {P : Type 0} (acts : Acts P) (m after : Machine) (before programs : List P) : Type 0 where
   pub added : List Record
   pub records : after.records ≡ m.records ++ added
   pub there : AllByRecursion (λ r. r.core < m.config.cores) added
-  pub each : (core : ℕ) (p : P) → core < m.config.cores → slice_get before core ≡ Some p → open_op m core ≡ None →
-      (q : P) × (slice_get programs core ≡ Some q) × IsServed acts (slice_index_or m.issued core [])
-      (slice_index_or after.issued core []) (of_core core added) (operation_of (slice_get after.cores core)) p q
+  pub each : (core : ℕ) → core < m.config.cores → open_op m core ≡ None →
+      IsServed acts (slice_index_or m.issued core []) (slice_index_or after.issued core []) (of_core core added)
+      (operation_of (slice_get after.cores core)) (slice_get before core) (slice_get programs core)
 
 -- a schedule issues a core without an open operation what its program gives next, and advances it as that says
 pub record GivesSteps {P S : Type 0} (acts : Acts P) (schedule : Schedule P S) : Type 0 where

@@ -24,6 +24,7 @@ impl MachineState {
     }
 
     // The open operation of a core, and whether its request is out.
+    #[inline(always)]
     pub(crate) fn open_op(&self, core: u32) -> Option<(Op, bool)>
         ensures { result ≡ open_op self.now core }
     {

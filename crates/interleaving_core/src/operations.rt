@@ -19,6 +19,7 @@ use private_cache::{CacheError, CopyState};
 use timestamp_manager::Exhausted;
 
 /// A core of this number attempts its open operation, where so many operations were completed before.
+#[inline(always)]
 pub(crate) fn attempt(core: &mut Core, flight: &mut InFlight, number: u32, count: usize) -> Answer
     requires number { core.old.number < flight.old.cores }
     requires banks { core.old.banks ≡ flight.old.banks }
@@ -59,6 +60,7 @@ pub(crate) fn attempt(core: &mut Core, flight: &mut InFlight, number: u32, count
 }
 
 // What an attempt is answered that needs a request, by whether it was sent.
+#[inline(always)]
 fn answer_to(sent: bool) -> Answer
     ensures { result ≡ requested sent }
 {
@@ -69,6 +71,7 @@ fn answer_to(sent: bool) -> Answer
 }
 
 /// A core asks the bank of an operation's line, if there is capacity for the request.
+#[inline(always)]
 fn request(core: &mut Core, flight: &mut InFlight, op: &Op, body: Body) -> bool
     requires request { IsTrue (is_request body) }
     requires number { core.old.number < flight.old.cores }
@@ -92,6 +95,7 @@ fn request(core: &mut Core, flight: &mut InFlight, op: &Op, body: Body) -> bool
 }
 
 /// A core's time goes on by one.
+#[inline(always)]
 pub(crate) fn advance(core: &mut Core) -> Answer
     ensures { (mail : Mail) → (result, core.new, mail) ≡ applied core.old mail
         (advanced mail (advance core.old)) }
@@ -103,6 +107,7 @@ pub(crate) fn advance(core: &mut Core) -> Answer
 }
 
 /// A copy of a line leaves a core's cache. A copy that the core owns is sent back.
+#[inline(always)]
 pub(crate) fn evict_copy(core: &mut Core, flight: &mut InFlight, line: LineNo) -> Answer
     requires endpoints { BackHasEndpoints flight.old.cores flight.old.banks
         (evict core.old line).0 }
@@ -133,6 +138,7 @@ pub(crate) fn evict_copy(core: &mut Core, flight: &mut InFlight, line: LineNo) -
 }
 
 /// A line leaves a bank, or its owner is asked to give it back for that.
+#[inline(always)]
 pub(crate) fn evict_entry(bank: &mut Bank, flight: &mut InFlight, line: LineNo) -> Answer
     requires endpoints { EvictedHasEndpoints flight.old.cores flight.old.banks
         (bank_table.evict bank.old line).0 }

@@ -16,6 +16,7 @@ pub(crate) fn reserve(records: &mut Vec<Record>, more: usize) -> Result<(), Allo
 }
 
 /// Adds the record of a completion, for which there is capacity.
+#[inline(always)]
 pub(crate) fn keep(records: &mut Vec<Record>, answer: &Answer)
     requires { length (with_record records.old.items answer.now) ≤ vec_capacity records.old }
     ensures records { records.new.items ≡ with_record records.old.items answer.now }
@@ -41,6 +42,7 @@ pub(crate) fn clear(records: &mut Vec<Record>)
 }
 
 /// Stops the machine where times are exhausted.
+#[inline(always)]
 pub(crate) fn stop(is_stopped: &mut bool, answer: &Answer)
     ensures { is_stopped.new ≡ (stops answer.now || is_stopped.old) }
 {

@@ -93,6 +93,7 @@ impl System {
     /// answer is NoMemory, and the machine is unchanged. That comes only if the table issues an operation, or a DRAM's
     /// first store of a line is delivered to it: nothing else takes memory. A message in flight always finds its part,
     /// with a case for it: its delivery is never answered NoSuch.
+    #[inline(always)]
     pub fn step(&mut self, event: Event) -> Answer
         ensures stepped { Stepped self.old event result self.new }
         ensures set_up { SetUpAs self.old self.new }
@@ -212,6 +213,7 @@ impl System {
     }
 
     /// A core's open operation, and whether its request is out.
+    #[inline(always)]
     pub fn open_op(&self, core: u32) -> Option<(Op, bool)>
         ensures { result ≡ open_op self.now core }
     {

@@ -89,6 +89,7 @@ impl<T> Arena<T> {
     }
 
     /// Puts a value into a free cell at the end of a list. The value comes back as Err exactly if no cell is free.
+    #[inline(always)]
     pub fn push_back(&mut self, list: u32, item: T) -> Result<Cell, T>
         requires { list < length self.old.lists }
         ensures after { IfOk result (λ cell. self.new ≡ pushed list (cell, item) self.old) }
@@ -106,6 +107,7 @@ impl<T> Arena<T> {
     }
 
     /// Takes a cell off its list and gives its value. The cell is free then.
+    #[inline(always)]
     pub fn unlink(&mut self, cell: Cell) -> T
         requires { IsSome (look_up cell self.old.lists) }
         ensures value { look_up cell self.old.lists ≡ Some result }
@@ -117,6 +119,7 @@ impl<T> Arena<T> {
     }
 
     /// Moves a cell with its value to the end of a list, which may be its own. The value stays where it lies.
+    #[inline(always)]
     pub fn move_to_back(&mut self, list: u32, cell: Cell)
         requires list { list < length self.old.lists }
         requires cell { IsSome (look_up cell self.old.lists) }
@@ -137,6 +140,7 @@ impl<T> Arena<T> {
     }
 
     /// The first cell of a list, if it has one.
+    #[inline(always)]
     pub fn front(&self, list: u32) -> Option<Cell>
         requires { list < length self.now.lists }
         ensures { result ≡ first_cell (get_or self.now.lists list []) }
@@ -148,6 +152,7 @@ impl<T> Arena<T> {
     }
 
     /// The cell after this one on its list, if this one isn't the last.
+    #[inline(always)]
     pub fn next(&self, cell: Cell) -> Option<Cell>
         requires { IsSome (look_up cell self.now.lists) }
         ensures { result ≡ next_cell cell self.now.lists }
@@ -160,6 +165,7 @@ impl<T> Arena<T> {
     }
 
     /// The value of a cell.
+    #[inline(always)]
     pub fn get(&self, cell: Cell) -> &T
         requires { IsSome (look_up cell self.now.lists) }
         ensures { look_up cell self.now.lists ≡ Some result.now }
@@ -168,6 +174,7 @@ impl<T> Arena<T> {
     }
 
     /// The value of a cell, to be written to.
+    #[inline(always)]
     pub fn get_mut(&mut self, cell: Cell) -> &mut T
         requires { IsSome (look_up cell self.old.lists) }
         ensures* writes_back { sem 𝓛 (lends_value T.row self.entry cell result) }
@@ -177,6 +184,7 @@ impl<T> Arena<T> {
     }
 
     /// How many cells a list has.
+    #[inline(always)]
     pub fn len(&self, list: u32) -> u32
         requires { list < length self.now.lists }
         ensures { result ≡ length (get_or self.now.lists list []) }

@@ -66,6 +66,7 @@ impl<T> Block<T> {
     }
 
     /// Moves a value into an empty place.
+    #[inline(always)]
     pub(crate) fn put(&mut self, index: usize, item: T)
         requires within { index < length self.old }
         requires empty { get_or self.old index None ≡ None }
@@ -75,6 +76,7 @@ impl<T> Block<T> {
     }
 
     /// Moves the value of a place out.
+    #[inline(always)]
     pub(crate) fn take(&mut self, index: usize) -> T
         requires { IsFilled self.old index }
         ensures value { get_or self.old index None ≡ Some result }
@@ -84,6 +86,7 @@ impl<T> Block<T> {
     }
 
     /// The value of a place.
+    #[inline(always)]
     pub(crate) fn get(&self, index: usize) -> &T
         requires { IsFilled self.now index }
         ensures { get_or self.now index None ≡ Some result.now }
@@ -92,6 +95,7 @@ impl<T> Block<T> {
     }
 
     /// The value of a place, to be written to.
+    #[inline(always)]
     pub(crate) fn get_mut(&mut self, index: usize) -> &mut T
         requires { IsFilled self.old index }
         ensures* writes_back { sem 𝓛 (lends_place T.row self.entry index result) }

@@ -27,6 +27,7 @@ pub struct Chains<T> {
 }
 
 /// `inside` if the place is a cell, and `outside` if it is the end of a list.
+#[inline(always)]
 fn choose(place: u32, capacity: u32, inside: u32, outside: u32) -> u32
     ensures { result ≡ (if nat_lt place capacity then inside else outside) }
 {
@@ -34,6 +35,7 @@ fn choose(place: u32, capacity: u32, inside: u32, outside: u32) -> u32
 }
 
 /// Writes the next cell of a cell. The end of a list has none.
+#[inline(always)]
 fn set_next<T>(block: &mut Block<Node<T>>, capacity: u32, cell: u32, to: u32)
     requires { cell < capacity → IsFilled block.old cell }
     ensures { block.new ≡ edit capacity (with_next to) block.old cell }
@@ -44,6 +46,7 @@ fn set_next<T>(block: &mut Block<Node<T>>, capacity: u32, cell: u32, to: u32)
 }
 
 /// Writes the cell before a cell. The end of a list has none.
+#[inline(always)]
 fn set_prev<T>(block: &mut Block<Node<T>>, capacity: u32, cell: u32, to: u32)
     requires { cell < capacity → IsFilled block.old cell }
     ensures { block.new ≡ edit capacity (with_prev to) block.old cell }
@@ -54,6 +57,7 @@ fn set_prev<T>(block: &mut Block<Node<T>>, capacity: u32, cell: u32, to: u32)
 }
 
 /// Writes all links of a cell.
+#[inline(always)]
 fn set_links<T>(block: &mut Block<Node<T>>, cell: u32, prev: u32, next: u32, list: u32)
     requires { IsFilled block.old cell }
     ensures { block.new ≡ slice_set block.old cell
@@ -168,6 +172,7 @@ impl<T> Chains<T> {
     }
 
     /// Takes a cell off its list. The node stays in the block, with what it holds.
+    #[inline(always)]
     fn unhook(&mut self, cell: u32)
         requires tied { IsTied self.old }
         requires cell { IsFilled self.old.block cell }
@@ -191,6 +196,7 @@ impl<T> Chains<T> {
     }
 
     /// Puts a cell whose node is on no list at the end of one. The node stays in the block, with what it holds.
+    #[inline(always)]
     fn hook(&mut self, list: u32, cell: u32)
         requires tied { IsTied (emptied cell self.old) }
         requires list { list < length self.old.heads.items }
@@ -216,6 +222,7 @@ impl<T> Chains<T> {
     }
 
     /// Takes a used cell off its list, and its item out of it.
+    #[inline(always)]
     pub(crate) fn lift(&mut self, spare: u32, cell: u32) -> Option<T>
         requires arena { IsArena spare self.old }
         requires cell { IsFilled self.old.block cell }
@@ -229,6 +236,7 @@ impl<T> Chains<T> {
     }
 
     /// Writes a cell that is on no list, with this item, and puts it at the end of a list.
+    #[inline(always)]
     pub(crate) fn fill(&mut self, spare: u32, list: u32, cell: u32, item: Option<T>)
         requires lacks { Lacks spare cell self.old }
         requires list { list ≤ spare }
@@ -249,6 +257,7 @@ impl<T> Chains<T> {
     }
 
     /// Moves a cell with its value from its list to the end of one of the caller's.
+    #[inline(always)]
     pub(crate) fn relink(&mut self, spare: u32, list: u32, cell: u32)
         requires arena { IsArena spare self.old }
         requires list { list < spare }
@@ -265,6 +274,7 @@ impl<T> Chains<T> {
     }
 
     /// Where a used cell is.
+    #[inline(always)]
     fn position(&self, cell: u32) -> Position
         requires { IsFilled self.now.block cell }
         ensures { get_or self.now.block cell None
@@ -314,6 +324,7 @@ impl<T> Chains<T> {
     }
 
     /// A free cell, if there is one.
+    #[inline(always)]
     pub(crate) fn take_free(&mut self, spare: u32) -> Option<u32>
         requires { IsArena spare self.old }
         ensures lacks { IfSome result (λ x. Lacks spare x self.new) }
@@ -333,6 +344,7 @@ impl<T> Chains<T> {
     }
 
     /// How many cells a list has.
+    #[inline(always)]
     pub(crate) fn count(&self, list: u32) -> u32
         requires { list < length self.now.heads.items }
         ensures { result ≡ (get_or self.now.heads.items list no_head).count }
@@ -341,6 +353,7 @@ impl<T> Chains<T> {
     }
 
     /// The first cell of a list, or the number of its end.
+    #[inline(always)]
     pub(crate) fn first(&self, list: u32) -> u32
         requires { list < length self.now.heads.items }
         ensures { result ≡ (get_or self.now.heads.items list no_head).first }
@@ -349,6 +362,7 @@ impl<T> Chains<T> {
     }
 
     /// The cell after a used one, or the number of the end of its list.
+    #[inline(always)]
     pub(crate) fn next(&self, cell: u32) -> u32
         requires { IsFilled self.now.block cell }
         ensures { (n : Node T) → get_or self.now.block cell None ≡ Some n → result ≡ n.next }
@@ -366,6 +380,7 @@ impl<T> Chains<T> {
     }
 
     /// The value of a cell that has one.
+    #[inline(always)]
     pub(crate) fn value(&self, cell: u32) -> &T
         requires { (n : Node T) × (v : T) × (get_or self.now.block cell None ≡ Some n) ×
             (n.item ≡ Some v) }
@@ -376,6 +391,7 @@ impl<T> Chains<T> {
     }
 
     /// The value of a cell that has one, to write to.
+    #[inline(always)]
     pub(crate) fn value_mut(&mut self, cell: u32) -> &mut T
         requires { (n : Node T) × (v : T) × (get_or self.old.block cell None ≡ Some n) ×
             (n.item ≡ Some v) }

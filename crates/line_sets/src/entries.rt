@@ -22,6 +22,7 @@ impl Model for Row {
 }
 
 /// The index of a line.
+#[inline(always)]
 fn index_of(entries: &[(u64, u32)], line: u64) -> Option<usize>
     ensures { result ≡ position (λ (p : ℕ × ℕ). p.0 == line) entries.now }
 {
@@ -29,6 +30,7 @@ fn index_of(entries: &[(u64, u32)], line: u64) -> Option<usize>
 }
 
 /// The cell of a line.
+#[inline(always)]
 fn find_cell(entries: &[(u64, u32)], line: u64) -> Option<u32>
     ensures { result ≡ find entries.now line }
 {
@@ -63,6 +65,7 @@ impl Row {
     }
 
     /// The cell of a line.
+    #[inline(always)]
     pub(crate) fn find(&self, line: u64) -> Option<u32>
         ensures { result ≡ find self.now line }
     {
@@ -79,6 +82,7 @@ impl Row {
     }
 
     /// Takes a line out, if it is there, and gives its cell.
+    #[inline(always)]
     pub(crate) fn take(&mut self, line: u64) -> Option<u32>
         requires { IsDistinct self.old }
         ensures value { result ≡ find self.old line }

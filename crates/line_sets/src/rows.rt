@@ -66,6 +66,7 @@ impl Rows {
     }
 
     /// The cell of a line in a set.
+    #[inline(always)]
     pub(crate) fn find(&self, set: usize, line: u64) -> Option<u32>
         requires { set < length self.now }
         ensures { result ≡ find (set_at self.now set) line }
@@ -95,6 +96,7 @@ impl Rows {
     }
 
     /// Takes a line out of the row of its set, if it is there, and gives its cell.
+    #[inline(always)]
     pub(crate) fn take(&mut self, set: usize, line: u64) -> Option<u32>
         requires in_table { set < length self.old }
         requires distinct { IsDistinct (set_at self.old set) }

@@ -98,6 +98,7 @@ impl<V: Copy + Listed> LineSets<V> {
     }
 
     /// The number of sets.
+    #[inline(always)]
     pub fn sets(&self) -> usize
         ensures { result ≡ length self.now.sets }
     {
@@ -112,6 +113,7 @@ impl<V: Copy + Listed> LineSets<V> {
     }
 
     /// What is kept of a line in a set.
+    #[inline(always)]
     pub fn find(&self, set: usize, line: u64) -> Option<&V>
         requires { set < length self.now.sets }
         ensures { option_copied result ≡ look self.now.sets set line }
@@ -125,6 +127,7 @@ impl<V: Copy + Listed> LineSets<V> {
     }
 
     /// Whether a set has fewer lines than ways.
+    #[inline(always)]
     pub fn has_room(&self, set: usize) -> bool
         requires { set < length self.now.sets }
         ensures { result ≡ has_room self.now set }
@@ -169,6 +172,7 @@ impl<V: Copy + Listed> LineSets<V> {
     }
 
     /// Puts a line that is in the set, or has room there, with this value, and makes it the most recently used one.
+    #[inline(always)]
     pub fn insert(&mut self, set: usize, line: u64, value: V)
         requires in_table { set < length self.old.sets }
         requires way { IsTrue (has_place self.old set line) }
@@ -198,6 +202,7 @@ impl<V: Copy + Listed> LineSets<V> {
     }
 
     /// Changes what is kept of a line that is in the set, and keeps the order of use.
+    #[inline(always)]
     pub fn replace(&mut self, set: usize, line: u64, value: V)
         requires in_table { set < length self.old.sets }
         requires there { IsTrue (is_there (set_at self.old.sets set) line) }
@@ -215,6 +220,7 @@ impl<V: Copy + Listed> LineSets<V> {
     }
 
     /// Takes a line out of its set and gives what was kept of it, or nothing if it isn't there.
+    #[inline(always)]
     pub fn remove(&mut self, set: usize, line: u64) -> Option<V>
         requires { set < length self.old.sets }
         ensures value { result ≡ look self.old.sets set line }
@@ -280,7 +286,8 @@ impl<V: Copy + Listed> LineSets<V> {
 
     /// The lines of all sets whose values are listed, rising.
     pub fn lines(&self) -> Result<Vec<LineNo>, AllocError>
-        ensures { IfOk result (λ lines. lines.items ≡ risen (all_listed V.is_listed self.now.sets)) }
+        ensures { IfOk result (λ lines.
+            lines.items ≡ risen (all_listed V.is_listed self.now.sets)) }
     {
         let numbers = self.numbers()?;
         line_numbers(numbers)
@@ -288,7 +295,8 @@ impl<V: Copy + Listed> LineSets<V> {
 
     // The numbers of these lines, rising.
     fn numbers(&self) -> Result<Vec<u64>, AllocError>
-        ensures { IfOk result (λ lines. lines.items ≡ risen (all_listed V.is_listed self.now.sets)) }
+        ensures { IfOk result (λ lines.
+            lines.items ≡ risen (all_listed V.is_listed self.now.sets)) }
     {
         sorted_is_risen();
         let mut lines = self.gathered()?;

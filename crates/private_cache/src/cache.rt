@@ -97,6 +97,7 @@ impl Cache {
     }
 
     // The set that a line belongs to.
+    #[inline(always)]
     fn set_of(&self, line: LineNo) -> usize
         ensures set { result ≡ set_of self.now line }
         ensures below { result < length self.now.sets }
@@ -105,6 +106,7 @@ impl Cache {
     }
 
     /// The copy of a line.
+    #[inline(always)]
     pub fn find(&self, line: LineNo) -> Option<&LineCopy>
         ensures { option_copied result ≡ copy_of self.now line }
     {
@@ -112,6 +114,7 @@ impl Cache {
     }
 
     /// Whether there is a copy of the line, or room for one in its set.
+    #[inline(always)]
     pub fn place(&self, line: LineNo) -> bool
         ensures { result ≡ place_for self.now line }
     {
@@ -172,6 +175,7 @@ impl Cache {
     }
 
     /// Puts a copy of a line that has a copy, or room for one, and makes it the most recently used of its set.
+    #[inline(always)]
     pub fn put(&mut self, line: LineNo, copy: LineCopy)
         requires { IsTrue (place_for self.old line) }
         ensures { self.new ≡ with_used self.old line copy }
@@ -181,6 +185,7 @@ impl Cache {
     }
 
     /// Changes the copy of a line that has one, and keeps the order of use.
+    #[inline(always)]
     pub fn change(&mut self, line: LineNo, copy: LineCopy)
         requires { IsSome (copy_of self.old line) }
         ensures { self.new ≡ with_changed self.old line copy }
@@ -235,7 +240,8 @@ impl Cache {
 
     /// The lines of all copies, rising.
     pub fn lines(&self) -> Result<Vec<LineNo>, AllocError>
-        ensures { IfOk result (λ lines. lines.items ≡ risen (all_listed (λ _. true) self.now.sets)) }
+        ensures { IfOk result (λ lines.
+            lines.items ≡ risen (all_listed (λ _. true) self.now.sets)) }
     {
         self.table.lines()
     }

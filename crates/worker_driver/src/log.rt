@@ -113,6 +113,7 @@ impl Log {
     }
 
     // Reserves memory for one more event.
+    #[inline(always)]
     fn reserve(&mut self) -> Result<(), AllocError>
         ensures events { self.new.events ≡ self.old.events }
         ensures progressed { self.new.has_progressed ≡ self.old.has_progressed }
@@ -126,6 +127,7 @@ impl Log {
     }
 
     // An event is added if events are kept; memory was reserved for it.
+    #[inline(always)]
     fn keep(&mut self, event: &Event)
         requires { 0 < self.old.reserved }
         ensures events { self.new.events ≡ option_map (λ events. events ++ event.now ∷ []) self.old.events }
@@ -140,6 +142,7 @@ impl Log {
     }
 
     // An answered event is noted, for which memory was reserved.
+    #[inline(always)]
     fn note(&mut self, event: &Event, answer: &Answer)
         requires { 0 < self.old.reserved }
         ensures events { self.new.events ≡ option_map (λ events. events ++ event.now ∷ []) self.old.events }
@@ -153,6 +156,7 @@ impl Log {
 
 // Gives the machine an event and notes it. An error ends the run: Exhausted, where the event is noted, or NoMemory,
 // where nothing changed and it isn't. That comes only if the event asks for memory, or is to be kept.
+#[inline(always)]
 pub(crate) fn step(log: &mut Log, system: &mut System, event: &Event) -> Result<Answer, End>
     ensures { Noted system.old log.old event.now result system.new log.new }
 {

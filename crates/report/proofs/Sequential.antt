@@ -23,7 +23,7 @@ use Rattle.run_ends.specs.declared.ends.End.TheVariants.{AllDone, Stalled, Turns
 use Rattle.sequential_machine.specs.SequentialMachine.{IsOutcome, memory_opened}
 use Rattle.sequential_machine.specs.Performed.{ArePerformed, thread_acts}
 use Rattle.worker_driver.specs.Acts.{as_step, next_in}
-use Rattle.worker_driver.specs.Service.{AreServed, IsServed, Performs}
+use Rattle.worker_driver.specs.Service.{AreServed, IsServed, Performs, Told}
 use Rattle.report.specs.Runs.{started, state_at, threads_from, values_from}
 
 -- ---- rows of threads, values and cores, by number
@@ -89,12 +89,14 @@ module _ (test : Litmus) (config : Config) (m : Machine) (threads : List Thread)
         (subst (λ (ops : List Op). Follows (length ops) (issued_to t) (of_core t served.added))
         (nothing_issued config.cores t) (of_thread t below).in_order);
     performed = λ t below.
-        let told = (of_thread t below).told (started test t) (thread_from test 0 test.threads t below
-        ∙ ap (λ i. Some (started test i)) (omega arith)) in (
-          told.0,
-          told.1,
-          subst (λ rs. Performs thread_acts (of_core t rs) (started test t) told.0) (sym served.records) told.2,
-          next_there threads t told.0 told.1 (done t (subst (λ n. t < n) (sym cores) below)).1,
+        let told = subst (λ (o : Option Thread). Told thread_acts (of_core t served.added)
+        (operation_of (slice_get m.cores t)) o (slice_get threads t)) (thread_from test 0 test.threads t below
+        ∙ ap (λ i. Some (started test i)) (omega arith)) (of_thread t below).told in (
+          told.now,
+          told.is_now,
+          subst (λ rs. Performs thread_acts (of_core t rs) (started test t) told.now) (sym served.records)
+              told.performs,
+          next_there threads t told.now told.is_now (done t (subst (λ n. t < n) (sym cores) below)).1,
         );
   }
 

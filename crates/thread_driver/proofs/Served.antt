@@ -2,7 +2,6 @@
 use Rattle.std.proofs.Common.{◌≡◌, ℕ, ◌+◌, List, [], ◌∷◌, ◌++◌, length, map, Option, None, refl, sym, ap, subst, ◌∙◌}
 use Rattle.std.proofs.Common.{append-nil, append_assoc, arith}
 use Rattle.std.proofs.lemmas.List.{length-map, map-append}
-use Rattle.std.proofs.lemmas.Option.{same_Some}
 use Rattle.physiological_order.specs.declared.operation.Op.{Op}
 use Rattle.physiological_order.specs.declared.operation.Record.{Record}
 use Rattle.physiological_order.specs.Order.{Follows}
@@ -11,7 +10,6 @@ use Rattle.mailboxes.specs.declared.machine.Machine.{Machine}
 use Rattle.mailboxes.specs.declared.core_seat.CoreSeat.{CoreSeat}
 use Rattle.mailboxes.specs.Seats.{IsCoreSeat}
 use Rattle.worker_driver.specs.Acts.{Acts}
-use Rattle.worker_driver.specs.Service.{Performs}
 use Rattle.seat_turns.specs.Playing.{Plays}
 use Rattle.seat_turns.proofs.Lemmas.{IssuedLaw, issued_here}
 use Rattle.shifts.specs.Shifts.{IsSeatServed}
@@ -51,11 +49,6 @@ module _ {P : Type 0} (acts : Acts P) (m : Machine) (law : IssuedLaw) where
               subst (λ (n : ℕ). Follows n q.issued.items plays.added) count
               (behind p.records.items plays.added 0 q.issued.items
               (subst (Follows 0 q.issued.items) plays.records after.in_order));
-          told = λ x is. (
-            b,
-            refl,
-            subst (λ (y : P). Performs acts plays.added y b) (same_Some a x is) plays.performs,
-            plays.ahead,
-          );
+          told = record { now = b; is_now = refl; performs = plays.performs; ahead = plays.ahead };
         };
       }

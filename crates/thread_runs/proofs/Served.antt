@@ -1,8 +1,7 @@
 -- The cores of a closed machine were issued what their programs gave.
-use Rattle.std.proofs.Common.{◌≡◌, ℕ, zero, suc, ◌+◌, ◌<◌, List, [], ◌∷◌, ◌++◌, length, map, Option, Some, IfSome}
+use Rattle.std.proofs.Common.{◌≡◌, ℕ, zero, suc, ◌+◌, ◌<◌, List, [], ◌∷◌, ◌++◌, length, map, Option, Some}
 use Rattle.std.proofs.Common.{refl, sym, ap, ◌∙◌, subst, arith}
 use Rattle.std.specs.List.{AllByRecursion}
-use Rattle.trace_lines.specs.declared.steps.Step.TheVariants as step
 use Rattle.std.specs.Prelude.{slice_get, slice_index_or}
 use Rattle.physiological_order.specs.declared.operation.Op.{Op}
 use Rattle.physiological_order.specs.declared.operation.Record.{Record}
@@ -13,7 +12,7 @@ use Rattle.machine_table.specs.Opening.{at_start}
 use Rattle.machine_theorem.specs.Consistency.{IsConsistent}
 use Rattle.protocol.specs.Issued.{listed}
 use Rattle.worker_driver.specs.Acts.{Acts}
-use Rattle.worker_driver.specs.Service.{AreServed, Performs}
+use Rattle.worker_driver.specs.Service.{AreServed, Told}
 use Rattle.mailboxes.specs.declared.machine.Machine.{Machine}
 use Rattle.mailboxes.specs.declared.core_seat.CoreSeat.{CoreSeat}
 use Rattle.mailboxes.specs.declared.run.Run.{Run}
@@ -62,24 +61,24 @@ module _ {P : Type 0} (acts : Acts P) (m : Machine) (run : Run) (parts : Parts r
       subst (λ (ops : List Op). Follows (length ops) (slice_index_or (machine_of run parts).issued c [])
       (of_core c run.records.items)) (sym (nothing_issued run.set_up.config.cores c)) (consistent.issued c).in_order
 
-  told : (c : ℕ) → c < run.set_up.config.cores → (a : P) → slice_get before c ≡ Some a →
-      (b : P) × (slice_get after c ≡ Some b) × Performs acts (of_core c run.records.items) a b ×
-      IfSome (operation_of (slice_get (machine_of run parts).cores c)) (λ op. acts.next b ≡ Some (step.Op op))
-  told c below a is =
+  told : (c : ℕ) → c < run.set_up.config.cores →
+      Told acts (of_core c run.records.items) (operation_of (slice_get (machine_of run parts).cores c))
+      (slice_get before c) (slice_get after c)
+  told c below =
       let p = there cores c (omega (arith, below, many)) in
       let q = there ended c (omega (arith, below, all)) in
+      let a = there before c (omega (arith, below, programs, many)) in
       let b = there after c (let long = served.long in omega (arith, below, long, programs, many)) in
-      let s = served.each c p.0 a q.0 b.0 p.1 is q.1 b.1 in
-      let t = s.served.told a refl in
+      let s = served.each c p.0 a.0 q.0 b.0 p.1 a.1 q.1 b.1 in
       let number = (order.each c q.0 q.1).1 in
       let none = new_records m (0 + c) p.0 (new c p.0 p.1) in
-      let own = own_records run parts ended left c q.0 q.1 number ∙ s.records ∙ ap (λ rs. rs ++ s.added) none in (
-        t.0,
-        b.1 ∙ t.1,
-        subst (λ rs. Performs acts rs a t.0) (sym own) t.2,
-        subst (λ (o : Option Op). IfSome o (λ op. acts.next t.0 ≡ Some (step.Op op)))
-            (sym (operation_there run parts ended left c q.0 q.1 number below)) t.3,
-      )
+      let own = own_records run parts ended left c q.0 q.1 number ∙ s.records ∙ ap (λ rs. rs ++ s.added) none in
+      let now_open = operation_of (slice_get (machine_of run parts).cores c) in
+      let still : now_open ≡ q.0.part.core.open_op = operation_there run parts ended left c q.0 q.1 number below in
+      subst (λ (o : Option P). Told acts (of_core c run.records.items) now_open o (slice_get after c)) (sym a.1)
+      (subst (λ (o : Option P). Told acts (of_core c run.records.items) now_open (Some a.0) o) (sym b.1)
+      (subst (λ (o : Option Op). Told acts (of_core c run.records.items) o (Some a.0) (Some b.0)) (sym still)
+      (subst (λ rs. Told acts rs q.0.part.core.open_op (Some a.0) (Some b.0)) (sym own) s.served.told)))
 
   pub all_served : AreServed acts start (machine_of run parts) before after
   all_served = record {

@@ -29,7 +29,7 @@ use Rattle.run_ends.specs.declared.ends.End.{End}
 use Rattle.trace_lines.specs.declared.steps.Step.{Step}
 use Rattle.trace_lines.specs.declared.steps.Step.TheVariants as step
 use Rattle.trace_reader.specs.Steps.{lane, ops_of}
-use Rattle.worker_driver.specs.Service.{AreServed, Performs, rests, advances, does}
+use Rattle.worker_driver.specs.Service.{AreServed, Performs, Told, rests, advances, does}
 use Rattle.worker_driver.specs.declared.policy.Policy.{Policy}
 use Rattle.trace_report.specs.Runs.{IsRun, core_count, issued_in, programs_below, step_acts}
 use Rattle.trace_report.proofs.CoreCounts.{programs_count}
@@ -151,15 +151,16 @@ module _ (lanes : List (List Step)) (config : Config) (m : Machine) (programs : 
   in_lane : (core : ℕ) → core < config.cores → (rest : List Op) × (ops_of (lane lanes core) ≡ issued_to core ++ rest)
   in_lane core below =
       let s = served.each core below (nothing_open config 0 config.cores core) in
-      let told = s.told (lane lanes core) (lane_there lanes (core_count lanes) core
-      (subst (λ (n : ℕ). core < n) cores below)) in
       let now_open = operation_of (slice_get m.cores core) in
-      let left = opened now_open told.0 told.3 in
+      let told = subst (λ (o : Option (List Step)). Told step_acts (of_core core served.added) now_open o
+      (slice_get programs core)) (lane_there lanes (core_count lanes) core (subst (λ (n : ℕ). core < n) cores below))
+      s.told in
+      let left = opened now_open told.now told.ahead in
       let done = map (λ (r : Record). r.op) (of_core core served.added) in
       let issued : issued_to core ≡ done ++ listed now_open =
       s.issued ∙ ap (λ (ops : List Op). ops ++ (done ++ listed now_open)) (nothing_issued config.cores core) in (
         left.0,
-        performed (lane lanes core) told.0 (of_core core served.added) told.2
+        performed (lane lanes core) told.now (of_core core served.added) told.performs
             ∙ ap (λ (ops : List Op). done ++ ops) left.1
             ∙ sym (append_assoc done (listed now_open) left.0)
             ∙ ap (λ (ops : List Op). ops ++ left.0) (sym issued),

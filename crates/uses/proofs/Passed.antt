@@ -26,17 +26,17 @@ pub passed : (m : Machine) (threads : List Thread) (message : Option ℕ) (other
     Legal (flat empty) (λ core. slice_index_or m.issued core []) m.records → IfSome message IsPassed
 passed m threads None other served ended legal = tt
 passed m threads (Some message) other served ended legal =
-    let first = (served.each 0 (omega arith) refl).told StoreMessage refl in
-    let second = (served.each 1 (omega arith) refl).told LoadFlag refl in
-    let is : second.0 ≡ Over (Some message) = sym (found threads 1 second.0 other second.1) ∙ ended in
+    let first = (served.each 0 (omega arith) refl).told in
+    let second = (served.each 1 (omega arith) refl).told in
+    let is : second.now ≡ Over (Some message) = sym (found threads 1 second.now other second.is_now) ∙ ended in
     record {
       issued = λ core. slice_index_or m.issued core [];
       records = m.records;
       legal = legal;
-      writer = first.0;
-      written = subst (λ (rs : List Record). Performs thread_acts (of_core 0 rs) StoreMessage first.0)
-          (sym served.records) first.2;
+      writer = first.now;
+      written = subst (λ (rs : List Record). Performs thread_acts (of_core 0 rs) StoreMessage first.now)
+          (sym served.records) first.performs;
       received = subst (λ (rs : List Record). Performs thread_acts (of_core 1 rs) LoadFlag (Over (Some message)))
           (sym served.records)
-          (subst (λ (q : Thread). Performs thread_acts (of_core 1 served.added) LoadFlag q) is second.2);
+          (subst (λ (q : Thread). Performs thread_acts (of_core 1 served.added) LoadFlag q) is second.performs);
     }

@@ -314,6 +314,6 @@ module _ {P S : Type 0} (plan : Plan P S) (gives : GivesSteps plan.acts plan.sch
             record {
               issued = issued_more start.machine m issued issued_after kept.added kept.records core closed;
               in_order = added_in_order start.machine m issued issued_after kept.added kept.records core closed;
-              told = kept.gone core closed;
+              told = kept.told core closed;
             };
       }

@@ -1,4 +1,5 @@
--- What a run keeps of its start: each program was told of its core's records, and gives next what is still open.
+-- What a run keeps of its start: each program was told of its core's records, and gives next what is still open; a core
+-- without a program has neither.
 use Rattle.std.proofs.Common.{◌≡◌, ◌≢◌, ◌⊎◌, inl, inr, ℕ, ◌<◌, List, [], ◌∷◌, ◌++◌, Option, Some, None, IfSome, refl}
 use Rattle.std.proofs.Common.{sym, ap, ◌∙◌, subst, append-nil, append_assoc}
 use Rattle.std.specs.Prelude.{slice_get}
@@ -12,7 +13,7 @@ use Rattle.trace_lines.specs.declared.steps.Step.TheVariants as step
 use Rattle.machine_table.specs.Machine.{Machine}
 use Rattle.machine_theorem.proofs.Lemmas.{get-set_same, get-set_other}
 use Rattle.worker_driver.specs.Acts.{Acts, next_of, next_in, done_of, done_in}
-use Rattle.worker_driver.specs.Service.{Performs, rests, advances, does}
+use Rattle.worker_driver.specs.Service.{Performs, Told, rests, advances, does}
 use Rattle.worker_driver.proofs.InProgram.{of_core-own, of_core-other}
 use Rattle.worker_driver.proofs.TableSteps.{op_at, IsQuiet, Opens, IsDone}
 
@@ -47,18 +48,23 @@ module _ {P : Type 0} (acts : Acts P) where
       by_program None = refl
       by_program (Some q) = get-set_other programs c k (acts.done q received) other
 
-  -- a program is where it was told of these records, and gives next what is open
-  abbrev pub Gone : P → List Record → Option Op → Option P → Type 0
-  Gone p rs open_op now =
-      (q : P) × (now ≡ Some q) × Performs acts rs p q × IfSome open_op (λ op. acts.next q ≡ Some (step.Op op))
+  -- nothing was told yet
+  untold : (o : Option P) (still_open : Option Op) → still_open ≡ None → Told acts [] still_open o o
+  untold None still_open none = (refl, none, refl)
+  untold (Some p) still_open none = record {
+    now = p;
+    is_now = refl;
+    performs = rests;
+    ahead = subst (λ (o : Option Op). IfSome o (λ op. acts.next p ≡ Some (step.Op op))) (sym none) tt;
+  }
 
   module _ (start : Machine) (before : List P) where
     pub record Serving (m : Machine) (programs : List P) : Type 0 where
       pub added : List Record
       pub records : m.records ≡ start.records ++ added
       pub there : AllByRecursion (λ r. r.core < start.config.cores) added
-      pub gone : (core : ℕ) → op_at start core ≡ None → (p : P) → slice_get before core ≡ Some p →
-          Gone p (of_core core added) (op_at m core) (slice_get programs core)
+      pub told : (core : ℕ) → op_at start core ≡ None →
+          Told acts (of_core core added) (op_at m core) (slice_get before core) (slice_get programs core)
 
     pub served_none : Serving start before
     served_none =
@@ -66,13 +72,7 @@ module _ {P : Type 0} (acts : Acts P) where
           added = [];
           records = sym (append-nil start.records);
           there = tt;
-          gone = λ core none p at. (
-            p,
-            at,
-            rests,
-            subst (λ (o : Option Op). IfSome o (λ op. acts.next p ≡ Some (step.Op op)))
-                (sym none) tt,
-          );
+          told = λ core none. untold (slice_get before core) (op_at start core) none;
         }
 
     module _ (m after : Machine) (programs : List P) (so_far : Serving m programs) where
@@ -82,9 +82,9 @@ module _ {P : Type 0} (acts : Acts P) where
             added = so_far.added;
             records = quiet.records ∙ so_far.records;
             there = so_far.there;
-            gone = λ core none p at.
-                subst (λ (o : Option Op). Gone p (of_core core so_far.added) o (slice_get programs core))
-                (sym (quiet.ops core)) (so_far.gone core none p at);
+            told = λ core none.
+                subst (λ (o : Option Op). Told acts (of_core core so_far.added) o (slice_get before core)
+                (slice_get programs core)) (sym (quiet.ops core)) (so_far.told core none);
           }
 
       pub served_issue : (c : ℕ) (op : Op) → next_in acts programs c ≡ Some (step.Op op) → Opens m c op after →
@@ -94,25 +94,27 @@ module _ {P : Type 0} (acts : Acts P) where
             added = so_far.added;
             records = opens.records ∙ so_far.records;
             there = so_far.there;
-            gone = λ core none p at. by_core core p (cases_eq core c) (so_far.gone core none p at);
+            told = λ core none. by_core core (slice_get before core) (cases_eq core c) (so_far.told core none);
           }
         where
-          by_core : (core : ℕ) (p : P) → (core ≡ c) ⊎ (core ≡ c → ⊥) → Gone p (of_core core so_far.added)
-              (op_at m core) (slice_get programs core) →
-              Gone p (of_core core so_far.added) (op_at after core) (slice_get programs core)
-          by_core core p (inl here) gone =
+          by_core : (core : ℕ) (b : Option P) → (core ≡ c) ⊎ (core ≡ c → ⊥) →
+              Told acts (of_core core so_far.added) (op_at m core) b (slice_get programs core) →
+              Told acts (of_core core so_far.added) (op_at after core) b (slice_get programs core)
+          by_core core None (inl here) was = absurd (let e : None ≡ Some (step.Op op) =
+              sym (ap (next_of acts) was.2) ∙ ap (next_in acts programs) here ∙ next in cc)
+          by_core core (Some p) (inl here) was =
               let open_now : op_at after core ≡ Some op = ap (op_at after) here ∙ opens.opened.here in
-              let gives : acts.next gone.0 ≡ Some (step.Op op) =
-              sym (ap (next_of acts) gone.1) ∙ ap (next_in acts programs) here ∙ next in (
-                gone.0,
-                gone.1,
-                gone.2,
-                subst (λ (o : Option Op). IfSome o (λ x. acts.next gone.0 ≡ Some (step.Op x)))
-                    (sym open_now) gives,
-              )
-          by_core core p (inr other) gone =
-              subst (λ (o : Option Op). Gone p (of_core core so_far.added) o (slice_get programs core))
-              (sym (opens.opened.there core other)) gone
+              let gives : acts.next was.now ≡ Some (step.Op op) =
+              sym (ap (next_of acts) was.is_now) ∙ ap (next_in acts programs) here ∙ next in record {
+                now = was.now;
+                is_now = was.is_now;
+                performs = was.performs;
+                ahead = subst (λ (o : Option Op). IfSome o (λ x. acts.next was.now ≡ Some (step.Op x)))
+                    (sym open_now) gives;
+              }
+          by_core core b (inr other) was =
+              subst (λ (o : Option Op). Told acts (of_core core so_far.added) o b (slice_get programs core))
+              (sym (opens.opened.there core other)) was
 
       pub served_done : (c : ℕ) (done : Record) → c < start.config.cores → IsDone m c done after →
           Serving after (done_in acts programs c done.received)
@@ -123,39 +125,39 @@ module _ {P : Type 0} (acts : Acts P) where
                 so_far.added (done ∷ []);
             there = each_push (λ r. r.core < start.config.cores) so_far.added done so_far.there
                 (subst (λ (k : ℕ). k < start.config.cores) (sym is.core) below);
-            gone = λ core none p at. by_core core p (cases_eq core c) (so_far.gone core none p at);
+            told = λ core none. by_core core (slice_get before core) (cases_eq core c) (so_far.told core none);
           }
         where
-          by_core : (core : ℕ) (p : P) → (core ≡ c) ⊎ (core ≡ c → ⊥) → Gone p (of_core core so_far.added)
-              (op_at m core) (slice_get programs core) →
-              Gone p (of_core core (so_far.added ++ done ∷ [])) (op_at after core)
+          by_core : (core : ℕ) (b : Option P) → (core ≡ c) ⊎ (core ≡ c → ⊥) →
+              Told acts (of_core core so_far.added) (op_at m core) b (slice_get programs core) →
+              Told acts (of_core core (so_far.added ++ done ∷ [])) (op_at after core) b
               (slice_get (done_in acts programs c done.received) core)
-          by_core core p (inl here) gone =
-              let was : op_at m core ≡ Some done.op = ap (op_at m) here ∙ is.op in
-              let gives : acts.next gone.0 ≡ Some (step.Op done.op) =
-              subst (λ (o : Option Op). IfSome o (λ x. acts.next gone.0 ≡ Some (step.Op x))) was gone.3 in
+          by_core core None (inl here) was = absurd (let e : None ≡ Some done.op =
+              sym was.1 ∙ ap (op_at m) here ∙ is.op in cc)
+          by_core core (Some p) (inl here) was =
+              let open_was : op_at m core ≡ Some done.op = ap (op_at m) here ∙ is.op in
+              let gives : acts.next was.now ≡ Some (step.Op done.op) =
+              subst (λ (o : Option Op). IfSome o (λ x. acts.next was.now ≡ Some (step.Op x))) open_was was.ahead in
               let closed : op_at after core ≡ None = ap (op_at after) here ∙ is.closed.here in
-              let program : slice_get programs c ≡ Some gone.0 = ap (slice_get programs) (sym here) ∙ gone.1 in
-              let now : slice_get (done_in acts programs c done.received) core ≡ Some
-              (acts.done gone.0 done.received) =
-              ap (slice_get (done_in acts programs c done.received)) here ∙ done_here programs c done.received
-              gone.0 program in (
-                acts.done gone.0 done.received,
-                now,
-                subst (λ (rs : List Record). Performs acts rs p (acts.done gone.0 done.received))
+              let program : slice_get programs c ≡ Some was.now = ap (slice_get programs) (sym here) ∙ was.is_now in
+              record {
+                now = acts.done was.now done.received;
+                is_now = ap (slice_get (done_in acts programs c done.received)) here ∙ done_here programs c
+                    done.received was.now program;
+                performs = subst (λ (rs : List Record). Performs acts rs p (acts.done was.now done.received))
                     (sym (of_core-own core so_far.added done (is.core ∙ sym here)))
-                    (performs_more (of_core core so_far.added) p gone.0 done gone.2 gives),
-                subst (λ (o : Option Op). IfSome o (λ x. acts.next (acts.done gone.0 done.received) ≡ Some (step.Op x)))
-                    (sym closed) tt,
-              )
-          by_core core p (inr other) gone =
-              subst (λ (rs : List Record). Gone p rs (op_at after core)
+                    (performs_more (of_core core so_far.added) p was.now done was.performs gives);
+                ahead = subst (λ (o : Option Op). IfSome o (λ x. acts.next (acts.done was.now done.received) ≡ Some
+                    (step.Op x))) (sym closed) tt;
+              }
+          by_core core b (inr other) was =
+              subst (λ (rs : List Record). Told acts rs (op_at after core) b
               (slice_get (done_in acts programs c done.received) core))
               (sym (of_core-other core so_far.added done (λ e. other (sym e ∙ is.core))))
-              (subst (λ (o : Option Op). Gone p (of_core core so_far.added) o
+              (subst (λ (o : Option Op). Told acts (of_core core so_far.added) o b
               (slice_get (done_in acts programs c done.received) core)) (sym (is.closed.there core other))
-              (subst (λ (o : Option P). Gone p (of_core core so_far.added) (op_at m core) o)
-              (sym (done_there programs c done.received core other)) gone))
+              (subst (λ (o : Option P). Told acts (of_core core so_far.added) (op_at m core) b o)
+              (sym (done_there programs c done.received core other)) was))
 
       -- a core without an open operation advances, and its program is told
       pub served_advance : (c : ℕ) → op_at m c ≡ None → next_in acts programs c ≡ Some step.Advance →
@@ -165,25 +167,28 @@ module _ {P : Type 0} (acts : Acts P) where
             added = so_far.added;
             records = quiet.records ∙ so_far.records;
             there = so_far.there;
-            gone = λ core none p at. by_core core p (cases_eq core c) (so_far.gone core none p at);
+            told = λ core none. by_core core (slice_get before core) (cases_eq core c) (so_far.told core none);
           }
         where
-          by_core : (core : ℕ) (p : P) → (core ≡ c) ⊎ (core ≡ c → ⊥) → Gone p (of_core core so_far.added)
-              (op_at m core) (slice_get programs core) →
-              Gone p (of_core core so_far.added) (op_at after core) (slice_get (done_in acts programs c None) core)
-          by_core core p (inl here) gone =
+          by_core : (core : ℕ) (b : Option P) → (core ≡ c) ⊎ (core ≡ c → ⊥) →
+              Told acts (of_core core so_far.added) (op_at m core) b (slice_get programs core) →
+              Told acts (of_core core so_far.added) (op_at after core) b (slice_get (done_in acts programs c None) core)
+          by_core core None (inl here) was = absurd (let e : None ≡ Some step.Advance =
+              sym (ap (next_of acts) was.2) ∙ ap (next_in acts programs) here ∙ next in cc)
+          by_core core (Some p) (inl here) was =
               let still : op_at after core ≡ None = quiet.ops core ∙ ap (op_at m) here ∙ free in
-              let gives : acts.next gone.0 ≡ Some step.Advance =
-              sym (ap (next_of acts) gone.1) ∙ ap (next_in acts programs) here ∙ next in
-              let program : slice_get programs c ≡ Some gone.0 = ap (slice_get programs) (sym here) ∙ gone.1 in (
-                acts.done gone.0 None,
-                ap (slice_get (done_in acts programs c None)) here ∙ done_here programs c None gone.0 program,
-                advances_more (of_core core so_far.added) p gone.0 gone.2 gives,
-                subst (λ (o : Option Op). IfSome o (λ x. acts.next (acts.done gone.0 None) ≡ Some (step.Op x)))
-                    (sym still) tt,
-              )
-          by_core core p (inr other) gone =
-              subst (λ (o : Option Op). Gone p (of_core core so_far.added) o
+              let gives : acts.next was.now ≡ Some step.Advance =
+              sym (ap (next_of acts) was.is_now) ∙ ap (next_in acts programs) here ∙ next in
+              let program : slice_get programs c ≡ Some was.now = ap (slice_get programs) (sym here) ∙ was.is_now in
+              record {
+                now = acts.done was.now None;
+                is_now = ap (slice_get (done_in acts programs c None)) here ∙ done_here programs c None was.now program;
+                performs = advances_more (of_core core so_far.added) p was.now was.performs gives;
+                ahead = subst (λ (o : Option Op). IfSome o (λ x. acts.next (acts.done was.now None) ≡ Some
+                    (step.Op x))) (sym still) tt;
+              }
+          by_core core b (inr other) was =
+              subst (λ (o : Option Op). Told acts (of_core core so_far.added) o b
               (slice_get (done_in acts programs c None) core)) (sym (quiet.ops core))
-              (subst (λ (o : Option P). Gone p (of_core core so_far.added) (op_at m core) o)
-              (sym (done_there programs c None core other)) gone)
+              (subst (λ (o : Option P). Told acts (of_core core so_far.added) (op_at m core) b o)
+              (sym (done_there programs c None core other)) was)

@@ -23,18 +23,31 @@ pub data Performs {P : Type 0} (acts : Acts P) : List Record → P → P → Typ
   does : {p q : P} {r : Record} {rs : List Record} → acts.next p ≡ Some (step.Op r.op) →
       Performs acts rs (acts.done p r.received) q → Performs acts (r ∷ rs) p q
 
+-- What a program was told: it gave the operations of these records, was told of each, and is now another one. If an
+-- operation is still open, that is its next.
+pub record IsTold {P : Type 0} (acts : Acts P) (added : List Record) (still_open : Option Op) (before : P)
+    (after : Option P) : Type 0 where
+  pub now : P
+  pub is_now : after ≡ Some now
+  pub performs : Performs acts added before now
+  pub ahead : IfSome still_open (λ op. acts.next now ≡ Some (step.Op op))
+
+-- The program of a core, if it has one, was told of the core's records. A core without a program has none, and nothing
+-- that is still open.
+abbrev pub Told : {P : Type 0} → Acts P → List Record → Option Op → Option P → Option P → Type 0
+Told acts added still_open None after = (added ≡ []) × (still_open ≡ None) × (after ≡ None)
+Told acts added still_open (Some before) after = IsTold acts added still_open before after
+
 -- What a core was issued in all, earlier and later; the records that it got in between; the operation that is still
--- open; and its program, before and after, if it has one. It is said of a core that had no open operation. `issued` and
--- `in_order` hold whatever programs there are; `told` is of its program.
+-- open; and its program, before and after, if it has one. It is said of a core that had no open operation.
 pub record IsServed {P : Type 0} (acts : Acts P) (earlier later : List Op) (added : List Record)
     (still_open : Option Op) (before after : Option P) : Type 0 where
   -- in between it was issued the operations of the records, in their order, and then the one that is still open
   pub issued : later ≡ earlier ++ (map (λ r. r.op) added ++ listed still_open)
   -- each record has the next place in what the core was issued, and the operation there
   pub in_order : Follows (length earlier) later added
-  -- a program that it had gave the records' operations, and was told of each; the one that is still open is its next
-  pub told : (p : P) → before ≡ Some p → (q : P) × (after ≡ Some q) × Performs acts added p q
-      × IfSome still_open (λ op. acts.next q ≡ Some (step.Op op))
+  -- its program gave them
+  pub told : Told acts added still_open before after
 
 -- the records added are of cores that there are, and each core that had no open operation was served, with its program
 -- if it has one

@@ -30,13 +30,13 @@ abbrev pub stops : Answer → Bool
 stops (answer.Refused Exhausted) = true
 stops _ = false
 
--- the answer to the delivery of a message
-abbrev pub delivered : Delivery → Answer
-delivered delivery.Done = answer.Delivered
-delivered delivery.Dropped = answer.Dropped
-delivered delivery.Held = answer.Held
-delivered delivery.Started = answer.Started
-delivered (delivery.Refused why) = answer.Refused why
+-- a delivery's answer
+abbrev pub answer_of : Delivery → Answer
+answer_of delivery.Delivered = answer.Delivered
+answer_of delivery.Dropped = answer.Dropped
+answer_of delivery.Held = answer.Held
+answer_of delivery.Started = answer.Started
+answer_of (delivery.Refused why) = answer.Refused why
 
 -- what an attempt is answered that needs a request, by whether it was sent
 abbrev pub requested : Bool → Answer

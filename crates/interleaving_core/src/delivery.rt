@@ -1,30 +1,32 @@
 //! What the delivery of a message is answered.
 ghost use Rattle.std.specs.Prelude.{◌≡◌, ◌||◌};
-ghost use Rattle.interleaving_core.specs.PartChanges.{delivered, stops};
+ghost use Rattle.interleaving_core.specs.PartChanges.{answer_of, stops};
 
+use crate::records::stop;
 use machine_table::{Answer, Refusal};
 
-/// What the delivery of a message is answered: one of few answers, which takes few bytes.
+/// The answers that a delivery can have. It takes two bytes, where an `Answer`, which may have a record, takes 72.
 #[derive(Clone, Copy)]
 pub(crate) enum Delivery {
     /// The message is consumed.
-    Done,
+    Delivered,
     /// The message is consumed and has no effect.
     Dropped,
-    /// The message waits.
+    /// The message stays in flight, and nothing changes.
     Held,
-    /// The message waits for one that was sent on its behalf.
+    /// The message stays in flight, and another one was sent on its behalf.
     Started,
+    /// Nothing changes, or the machine is stopped if times are exhausted.
     Refused(Refusal),
 }
 
-/// The answer.
+/// A delivery's answer.
 #[inline(always)]
 pub(crate) fn answer_of(delivery: Delivery) -> Answer
-    ensures { result ≡ delivered delivery }
+    ensures { result ≡ answer_of delivery }
 {
     match delivery {
-        Delivery::Done => Answer::Delivered,
+        Delivery::Delivered => Answer::Delivered,
         Delivery::Dropped => Answer::Dropped,
         Delivery::Held => Answer::Held,
         Delivery::Started => Answer::Started,
@@ -35,9 +37,7 @@ pub(crate) fn answer_of(delivery: Delivery) -> Answer
 /// Stops the machine where times are exhausted.
 #[inline(always)]
 pub(crate) fn stop_after(is_stopped: &mut bool, delivery: Delivery)
-    ensures { is_stopped.new ≡ (stops (delivered delivery) || is_stopped.old) }
+    ensures { is_stopped.new ≡ (stops (answer_of delivery) || is_stopped.old) }
 {
-    if let Delivery::Refused(Refusal::Exhausted) = delivery {
-        *is_stopped = true;
-    }
+    stop(is_stopped, &answer_of(delivery));
 }

@@ -5,7 +5,7 @@ ghost use Rattle.network.specs.NumberedMessages.{at_number};
 ghost use Rattle.network.specs.Routes.{has_endpoints};
 ghost use Rattle.network.specs.Sends.{sent_by, sent_in};
 ghost use Rattle.machine_table.specs.Change.{can_send, reacted};
-ghost use Rattle.interleaving_core.specs.PartChanges.{IsQuiet, applied, delivered, settled};
+ghost use Rattle.interleaving_core.specs.PartChanges.{IsQuiet, answer_of, applied, settled};
 ghost use Rattle.interleaving_core.specs.Endpoints.{ReactionHasEndpoints, SendsWithEndpoints};
 
 use crate::delivery::Delivery;
@@ -29,7 +29,7 @@ pub(crate) fn react<P: Part>(
         (sent_by (P.table part.old message.now))) → ReactionHasEndpoints flight.old.cores
         flight.old.banks (P.table part.old message.now) }
     ensures done { IfOk result (λ delivery.
-        (delivered delivery, part.new, flight.new.mail) ≡ applied part.old
+        (answer_of delivery, part.new, flight.new.mail) ≡ applied part.old
         flight.old.mail (reacted flight.old.capacity flight.old.mail number
         (P.table part.old message.now))) }
     ensures memory { OnErr result
@@ -88,12 +88,12 @@ fn can_send(flight: &InFlight, sends: Option<(Node, bool)>) -> bool
 // What a reaction to a delivered message is answered.
 #[inline(always)]
 fn delivery_of(reaction: &Reaction) -> Delivery
-    ensures { (mail : Mail) (n : ℕ) → delivered result ≡ (settled mail n reaction.now).0 }
+    ensures { (mail : Mail) (n : ℕ) → answer_of result ≡ (settled mail n reaction.now).0 }
 {
     match reaction {
         Reaction::Held => Delivery::Held,
         Reaction::Dropped => Delivery::Dropped,
-        Reaction::Done(_) => Delivery::Done,
+        Reaction::Done(_) => Delivery::Delivered,
         Reaction::HeldAfter(_) => Delivery::Started,
     }
 }

@@ -4,7 +4,7 @@ ghost use Rattle.network.specs.NumberedMessages.{at_number};
 ghost use Rattle.machine_table.specs.Transition.{advance_at, attempt_at, deliver_core, deliver_bank, deliver_dram};
 ghost use Rattle.machine_table.specs.Transition.{deliver_message, evict_copy, evict_entry, issue_at, transition};
 ghost use Rattle.machine_theorem.specs.Kept.{Invariant};
-ghost use Rattle.interleaving_core.specs.PartChanges.{delivered};
+ghost use Rattle.interleaving_core.specs.PartChanges.{answer_of};
 ghost use Rattle.interleaving_core.specs.StepAnswers.{Stepped, TakesMemory, asks_memory, delivery_asks, is_first_store};
 
 use crate::delivery::{Delivery, answer_of, stop_after};
@@ -106,7 +106,7 @@ impl MachineState {
     // A message in flight is delivered.
     fn deliver(&mut self, number: MsgNo) -> Result<Delivery, AllocError>
         requires { Invariant self.old }
-        ensures done { IfOk result (λ delivery. (delivered delivery, self.new) ≡
+        ensures done { IfOk result (λ delivery. (answer_of delivery, self.new) ≡
             deliver_message self.old number (at_number number self.old.mail.messages)) }
         ensures refused { OnErr result (self.new ≡ self.old) }
         ensures wanted { OnErr result
@@ -136,7 +136,7 @@ impl MachineState {
         requires invariant { Invariant self.old }
         requires there { at_number number self.old.mail.messages ≡ Some message.now }
         requires to { message.now.to ≡ Node.Core core }
-        ensures done { IfOk result (λ delivery. (delivered delivery, self.new) ≡
+        ensures done { IfOk result (λ delivery. (answer_of delivery, self.new) ≡
             deliver_core self.old number message.now core (slice_get self.old.cores core)) }
         ensures refused { OnErr result (self.new ≡ self.old) }
         ensures wanted { OnErr result (TakesMemory self.old (deliver_core self.old number
@@ -164,7 +164,7 @@ impl MachineState {
         requires invariant { Invariant self.old }
         requires there { at_number number self.old.mail.messages ≡ Some message.now }
         requires to { message.now.to ≡ Node.Bank bank }
-        ensures done { IfOk result (λ delivery. (delivered delivery, self.new) ≡
+        ensures done { IfOk result (λ delivery. (answer_of delivery, self.new) ≡
             deliver_bank self.old number message.now bank (slice_get self.old.banks bank)) }
         ensures refused { OnErr result (self.new ≡ self.old) }
         ensures wanted { OnErr result (TakesMemory self.old (deliver_bank self.old number
@@ -192,7 +192,7 @@ impl MachineState {
         requires invariant { Invariant self.old }
         requires there { at_number number self.old.mail.messages ≡ Some message.now }
         requires to { message.now.to ≡ Node.Dram bank }
-        ensures done { IfOk result (λ delivery. (delivered delivery, self.new) ≡
+        ensures done { IfOk result (λ delivery. (answer_of delivery, self.new) ≡
             deliver_dram self.old number message.now bank (slice_get self.old.drams bank)) }
         ensures refused { OnErr result (self.new ≡ self.old) }
         ensures wanted { OnErr result (TakesMemory self.old (deliver_dram self.old number

@@ -8,8 +8,8 @@ pub fn sorted_is_risen()
     ensures { (xs ys : List ℕ) → IsPermutation xs ys → IsSorted nat_cmp ys → ys ≡ risen xs }
 {}
 
-/// A list in rising order has the numbers of the list, each as often, and none stands behind a greater one.
-pub fn risen_is_sorted()
+/// `risen` of a list has the list's numbers, each as often, and none of them stands behind a greater one.
+pub fn risen_rises()
     ensures same { (xs : List ℕ) → IsPermutation xs (risen xs) }
     ensures rises { (xs : List ℕ) → Rises (risen xs) }
 {}

@@ -1,6 +1,6 @@
 //! What a seat sends by.
 ghost use Rattle.std.specs.Prelude.{◌≡◌, ◌+◌, ◌-◌, ◌<◌, ◌≤◌, ◌^◌, nat_eq, length, IfOk};
-ghost use Rattle.network.specs.Mail.{AreCounts, counted};
+ghost use Rattle.network.specs.Mail.{AreCounts};
 ghost use Rattle.machine_theorem.specs.Bags.{weigh};
 ghost use Rattle.machine_moves.specs.Ownership.{ownership_in};
 ghost use Rattle.serving.specs.Queues.{values_of};
@@ -8,7 +8,7 @@ ghost use Rattle.mailboxes.specs.Sending.{can_send, can_send_out, has_place, no_
 
 use crate::run_owners::grants_of;
 use machine_table::Counts;
-use network::{Body, LineNo, Message};
+use network::{LineNo, Message};
 use serving::Queue;
 use std::alloc::{AllocError, Global};
 use std::marker::Model;
@@ -120,7 +120,7 @@ impl Outbox {
         requires number { self.old.sent < 2 ^ 64 - 1 }
         ensures { self.new ≡ sent_out self.old message }
     {
-        count(&mut self.counts, &message.body);
+        self.counts.count(&message.body);
         self.sent += 1;
         self.queue.push(message);
     }
@@ -130,24 +130,7 @@ impl Outbox {
         requires { self.old.sent < 2 ^ 64 - 1 }
         ensures { self.new ≡ noted self.old message.now }
     {
-        count(&mut self.counts, &message.body);
+        self.counts.count(&message.body);
         self.sent += 1;
-    }
-}
-
-// Counts a message that says this, if its kind is counted.
-fn count(counts: &mut Counts, body: &Body)
-    requires renewals { counts.old.renewals < 2 ^ 64 }
-    requires upgrades { counts.old.upgrades < 2 ^ 64 }
-    requires flushes { counts.old.flushes < 2 ^ 64 }
-    requires write_backs { counts.old.write_backs < 2 ^ 64 }
-    ensures { counts.new ≡ counted counts.old body.now }
-{
-    match body {
-        Body::RenewRep { .. } => counts.renewals += 1,
-        Body::UpgradeRep { .. } => counts.upgrades += 1,
-        Body::FlushRep(_) => counts.flushes += 1,
-        Body::WbRep(_) => counts.write_backs += 1,
-        _ => (),
     }
 }

@@ -26,9 +26,9 @@ impl Counts {
         }
     }
 
-    // A message that says this was sent.
+    /// Counts a message that says this, if its kind is counted. None of the counts has more than 64 bits yet.
     #[inline(always)]
-    pub(crate) fn count(&mut self, body: &Body)
+    pub fn count(&mut self, body: &Body)
         requires renewals { self.old.renewals < 2 ^ 64 }
         requires upgrades { self.old.upgrades < 2 ^ 64 }
         requires flushes { self.old.flushes < 2 ^ 64 }

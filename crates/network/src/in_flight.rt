@@ -183,11 +183,12 @@ impl InFlight {
         message
     }
 
-    /// Takes the message with this number away, and answers whether it was in flight. It is as `take`, and moves no
-    /// message.
+    /// Takes the message with this number away, and answers whether it was in flight; if it wasn't, nothing changes. As
+    /// `take`, but the message isn't given. This takes no memory, and keeps what is reserved.
     #[inline(always)]
     pub fn remove(&mut self, number: MsgNo) -> bool
         ensures value { result ≡ is_some (at_number number self.old.mail.messages) }
+        ensures absent { result ≡ false → self.new ≡ self.old }
         ensures after { self.new ≡ record self.old {
           slots = self.new.slots;
           reserved =

@@ -1,7 +1,7 @@
 //! The messages in flight as they lie in memory: each with its number on the list of its link.
 ghost use Rattle.std.specs.Prelude.{◌≡◌, ◌+◌, ◌-◌, ◌*◌, ◌<◌, ◌≤◌, ◌^◌, ◌++◌, ◌∷◌, [], IsTrue, IfOk, IfSome};
 ghost use Rattle.std.specs.Prelude.{get_or, is_some, length, map, option_copied, option_map, slice_get, OnErr, OnOk};
-ghost use Rattle.std.specs.Prelude.{vec_capacity};
+ghost use Rattle.std.specs.Prelude.{false, vec_capacity};
 ghost use Rattle.network.specs.SetUp.{IsInRange};
 ghost use Rattle.network.specs.NumberedMessages.{IsRising, at_number, given, still_there, without_number};
 ghost use Rattle.network.specs.Requests.{is_wanted};
@@ -258,6 +258,7 @@ impl LinkedMessages {
     #[inline(always)]
     pub(crate) fn remove(&mut self, number: u64) -> bool
         ensures value { result ≡ is_some (at_number number self.old.messages) }
+        ensures absent { result ≡ false → self.new ≡ self.old }
         ensures after { self.new ≡ record self.old {
           slots = self.new.slots;
           messages = without_number number self.old.messages;

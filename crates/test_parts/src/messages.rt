@@ -124,8 +124,9 @@ fn takes_once(flight: &mut InFlight) -> bool
 {
     let taken = flight.take(MsgNo(1)) == Some(grant());
     let again = flight.take(MsgNo(1)) == None;
+    let removed = flight.remove(MsgNo(1));
     let gone = is_found(flight.look(MsgNo(1)), None);
-    taken && again && gone && is_found(flight.look(MsgNo(2)), Some(store()))
+    taken && again && !removed && gone && is_found(flight.look(MsgNo(2)), Some(store()))
 }
 
 // One is taken, and another one sent.
@@ -158,7 +159,7 @@ fn slots_after_another(flight: &mut InFlight) -> usize
     ensures banks { flight.new.banks ≡ 1 }
 {
     if let Ok(number) = flight.send(request()) {
-        let _taken = flight.take(number);
+        let _there = flight.remove(number);
     }
     flight.slots()
 }

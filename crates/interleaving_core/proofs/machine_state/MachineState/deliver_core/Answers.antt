@@ -7,7 +7,7 @@ use Rattle.machine_table.specs.Machine.{Machine}
 use Rattle.machine_table.specs.Change.{reacted}
 use Rattle.machine_table.specs.Transition.{deliver_core}
 use Rattle.interleaving_core.specs.contracts.machine_state.MachineState.{the_view}
-use Rattle.interleaving_core.specs.PartChanges.{delivered}
+use Rattle.interleaving_core.specs.PartChanges.{answer_of}
 use Rattle.interleaving_core.proofs.ChangedParts.{event_done, event_wanted, set_same}
 use Rattle.interleaving_core.proofs.Endpoints.{core_delivers, core_endpoints, core_has, fitted_reaction, still_fitted}
 use Rattle.interleaving_core.proofs.Only.{SameOpen, core_only, core_quiet, kept_open}
@@ -64,7 +64,7 @@ returns-clause-done c =
     c.args.message.now c.args.core (slice_get n.cores c.args.core))
     (core_delivers m _ c.self.view_is c.requires.invariant c.args.number c.args.message.now c.requires.there
     c.args.core c.requires.to part here)
-    (delivered c.in_ok-delivery.delivery) c.react.new.part c.react.new.flight.mail c.stop_after.new.is_stopped
+    (answer_of c.in_ok-delivery.delivery) c.react.new.part c.react.new.flight.mail c.stop_after.new.is_stopped
     c.in_ok-delivery.ensures.done c.stop_after.ensures
 
 pub returns-in_err-delivery-clause-wanted : goal.returns-in_err-delivery-clause-wanted

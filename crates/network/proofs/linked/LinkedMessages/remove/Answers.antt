@@ -36,6 +36,13 @@ returns-in_default-clause-after c =
     (messages-at_number c.args.number ls xs c.self.invariant.linked.placed ∙ ap (at_cell ls) none) in
     rw (← c.self.view_is, c.take_cell.ensures.capacity) (rw (stored.0, same) refl)
 
+pub returns-in_default-clause-absent : goal.returns-in_default-clause-absent
+returns-in_default-clause-absent c = λ none.
+    let stored = stored-none _ _ _ _ _ c.args.number c.self.inside.slots.items c.take_cell.new.slots.items
+    c.self.inside.arena c.self.invariant (sym c.take_cell.ensures.value ∙ c.in_default.is) c.take_cell.ensures.after
+    (c.take_cell.ensures.rising _ c.self.invariant.rising) c.take_cell.ensures.long in
+    rw (← c.self.view_is, c.take_cell.ensures.capacity) (rw (stored.0, c.take_cell.ensures.long) refl)
+
 pub unlink-message-requires : goal.unlink-message-requires
 unlink-message-requires c =
     let ls = c.self.inside.arena.lists in let xs = still_there c.self.inside.slots.items in

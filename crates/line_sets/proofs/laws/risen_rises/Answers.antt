@@ -1,5 +1,5 @@
 use Rattle.line_sets.proofs.RisenLists.{permuted-risen, rises-risen}
-use Rattle.line_sets.proofs.laws.risen_is_sorted.Goals as goal
+use Rattle.line_sets.proofs.laws.risen_rises.Goals as goal
 
 pub returns-clause-same : goal.returns-clause-same
 returns-clause-same c = permuted-risen

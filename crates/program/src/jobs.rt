@@ -21,8 +21,8 @@ pub(crate) fn run_job<R: Threads + Sync, F: Files, K: Sink>(
     job: &Job<'_>,
     out: &mut K,
 ) -> Result<Done, RunError>
-    ensures { Does (devices F.File.remaining F.File.failures K.contents K.failures) (F.opens files.now)
-        job.now out.old out.new result }
+    ensures { Does (devices F.File.remaining F.File.failures K.contents K.failures)
+        (F.opens files.now) job.now out.old out.new result }
 {
     match job {
         Job::Litmus(options, name) => litmus_of(rt, alloc, files.open(name), options, out),
@@ -123,7 +123,8 @@ fn check_on<S: Source + Drop, K: Sink>(
     records: S,
     out: &mut K,
 ) -> Result<Done, RunError>
-    ensures { (trace' records' : S) × ChecksOn (devices S.remaining S.failures K.contents K.failures)
+    ensures { (trace' records' : S) ×
+        ChecksOn (devices S.remaining S.failures K.contents K.failures)
         trace records trace' records' out.old out.new result }
 {
     let mut first = trace;

@@ -28,7 +28,8 @@ pub fn a_yes_shows_an_outcome()
         AllByRecursion (HasOutcome test) runs →
         is_yes Exists (held test runs) (ended AllDone runs) ≡ true →
         (last : State) × Steps (initial test) last
-        × ((t : ℕ) → t < test.threads → last.left t ≡ []) × (holds (value_at last) test.tree ≡ true) }
+        × ((t : ℕ) → t < test.threads → last.left t ≡ [])
+        × (holds (value_at last) test.tree ≡ true) }
 {}
 
 /// A run has as many turns as its options allow, up to 4,294,967,295.
@@ -45,12 +46,14 @@ pub fn turns_are_those_of_the_options()
 pub fn workers_show_in_no_run()
     ensures runs { (test : Litmus) (config : Config) (first : Policy) (limit : ℕ)
         (runs others : List RunEnd) (place : ℕ) (run other : RunEnd) →
-        AreFrom test config (Some first) limit 0 runs → AreFrom test config (Some first) limit 0 others →
+        AreFrom test config (Some first) limit 0 runs →
+        AreFrom test config (Some first) limit 0 others →
         slice_get runs place ≡ Some run → slice_get others place ≡ Some other →
         run.end ≢ NoMemory → other.end ≢ NoMemory → run ≡ other }
     ensures lists { (test : Litmus) (config : Config) (first : Policy) (limit : ℕ)
         (runs others : List RunEnd) →
-        AreFrom test config (Some first) limit 0 runs → AreFrom test config (Some first) limit 0 others →
+        AreFrom test config (Some first) limit 0 runs →
+        AreFrom test config (Some first) limit 0 others →
         length runs ≡ length others → AreMade runs → AreMade others → runs ≡ others }
     ensures refused { (test : Litmus) (config : Config) (policy : Option Policy) (limit : ℕ)
         (run : RunEnd) → IsRun test config policy limit run →

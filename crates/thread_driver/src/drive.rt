@@ -24,9 +24,9 @@ use worker_driver::program::Program;
 
 /// Gives the seats of a machine turns, by 1 to 16 workers: the calling thread, and others that end within the call.
 /// Seat i, where cores come before banks, belongs to worker i modulo their number. Each turn is between the calls of
-/// the gate. docs/SCHEDULES.md has the order within a turn. A program a core gives it its steps. Whatever the end, each
-/// core was issued what its program gave, in order, and the program was told what each completed operation received, in
-/// order.
+/// the gate. docs/SCHEDULES.md has the order within a turn. Each core has a program, which gives it its steps. Whatever
+/// the end, each core was issued what its program gave, in order, and the program was told what each completed
+/// operation received, in order. An operation that is still open is the program's next.
 ///
 /// A worker goes on until all programs are done, each of its seats had `turn_limit` turns, or some seat wanted memory
 /// or stopped. If there is no memory for the workers, no turn is made, all is as it was given, and the end is NoMemory.

@@ -19,7 +19,8 @@ pub fn written_records_are_legal()
         options.records ≡ true → IsTraceReport options (Some trace) all_done text →
         IsCheckReport (Some trace) (Some text) legal line →
         (legal ≡ true) × (line ≡ check_text Legal) }
-    ensures accepted { (options : TraceOptions) (trace text : List ℕ) (all_done : Bool) (e : RunError) →
+    ensures accepted { (options : TraceOptions) (trace text : List ℕ)
+        (all_done : Bool) (e : RunError) →
         options.records ≡ true → IsTraceReport options (Some trace) all_done text →
         HasNoVerdict (Some trace) (Some text) e → e ≡ NoMemory }
 {

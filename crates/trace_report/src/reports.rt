@@ -106,7 +106,8 @@ fn told<R: Threads + Sync>(
 ) -> Result<Report, AllocError>
     requires good { is_good config ≡ true }
     requires config { config ≡ config_of options.now.run.machine (core_count trace.now) }
-    ensures { IfOk result (λ report. Tells options.now trace.now report.all_done report.text.items) }
+    ensures { IfOk result (λ report.
+        Tells options.now trace.now report.all_done report.text.items) }
 {
     match policy_of(&options.run) {
         Some(policy) => told_by_policy(alloc, trace, config, policy, options),
@@ -125,7 +126,8 @@ fn told_by_policy(
     requires good { is_good config ≡ true }
     requires config { config ≡ config_of options.now.run.machine (core_count trace.now) }
     requires policy { policy_of options.now.run ≡ Some policy }
-    ensures { IfOk result (λ report. Tells options.now trace.now report.all_done report.text.items) }
+    ensures { IfOk result (λ report.
+        Tells options.now trace.now report.all_done report.text.items) }
 {
     let ran = run_by_policy(alloc, trace, config, policy, limit_of(&options.run))?;
     report_on(alloc, trace, &ran, options.records)
@@ -142,7 +144,8 @@ fn told_by_threads<R: Threads + Sync>(
     requires good { is_good config ≡ true }
     requires config { config ≡ config_of options.now.run.machine (core_count trace.now) }
     requires policy { policy_of options.now.run ≡ None }
-    ensures { IfOk result (λ report. Tells options.now trace.now report.all_done report.text.items) }
+    ensures { IfOk result (λ report.
+        Tells options.now trace.now report.all_done report.text.items) }
 {
     let (limit, workers) = (limit_of(&options.run), workers_of(&options.run));
     let ran = run_by_threads(rt, alloc, trace, config, limit, workers)?;

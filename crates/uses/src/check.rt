@@ -27,7 +27,14 @@ pub fn check_message(alloc: Global, message: u64) -> Result<Verdict, AllocError>
 
 // A record at time 1: the core, the operation's place in its program, what it received, and the completion number.
 fn record(core: u32, place: u32, op: Op, received: Option<u64>, number: u64) -> Record
-    ensures { result ≡ record { core = core; place = place; op = op; received = received; ts = 1; number = number } }
+    ensures { result ≡ record {
+      core = core;
+      place = place;
+      op = op;
+      received = received;
+      ts = 1;
+      number = number;
+    } }
 {
     Record {
         core,

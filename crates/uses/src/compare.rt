@@ -8,8 +8,8 @@ use physiological_order::{Memory, Op};
 use std::alloc::Global;
 use worker_driver::{End, Policy, Step, StepProgram, run_to_end};
 
-/// How many renewals these steps of one core take by rounds, with this lease; `None` if they aren't all done after 1,000
-/// rounds. A run by rounds has no choice, so the count is that of the configuration.
+/// How many renewals these steps of one core take by rounds, with this lease; `None` if they aren't all done after
+/// 1,000 rounds. A run by rounds has no choice, so the count is that of the configuration.
 pub fn renewals(alloc: Global, steps: &[Step], lease: u64) -> Result<Option<u128>, OpenError>
     ensures { IfOk result (λ renewals. IfSome renewals (AreRenewals steps.now lease)) }
 {

@@ -25,7 +25,11 @@ impl Model for Log {
 
     ghost Value = { Log };
 
-    ghost view = { λ a. record { events = if a.keeps then Some a.events.items else None; has_progressed = a.has_progressed; reserved = if a.keeps then vec_capacity a.events - vec_len a.events else 1 } };
+    ghost view = { λ a. record {
+      events = if a.keeps then Some a.events.items else None;
+      has_progressed = a.has_progressed;
+      reserved = if a.keeps then vec_capacity a.events - vec_len a.events else 1;
+    } };
 }
 
 // Whether an answer is more than Waiting, Held or a refusal.
@@ -130,7 +134,8 @@ impl Log {
     #[inline(always)]
     fn keep(&mut self, event: &Event)
         requires { 0 < self.old.reserved }
-        ensures events { self.new.events ≡ option_map (λ events. events ++ event.now ∷ []) self.old.events }
+        ensures events { self.new.events ≡
+            option_map (λ events. events ++ event.now ∷ []) self.old.events }
         ensures progressed { self.new.has_progressed ≡ self.old.has_progressed }
     {
         // The check finds the parts of an event only where the function names an operation's type.
@@ -145,7 +150,8 @@ impl Log {
     #[inline(always)]
     fn note(&mut self, event: &Event, answer: &Answer)
         requires { 0 < self.old.reserved }
-        ensures events { self.new.events ≡ option_map (λ events. events ++ event.now ∷ []) self.old.events }
+        ensures events { self.new.events ≡
+            option_map (λ events. events ++ event.now ∷ []) self.old.events }
         ensures progressed { self.new.has_progressed ≡ (self.old.has_progressed
             || is_progress answer.now) }
     {

@@ -68,7 +68,8 @@ trait Holder {
 
     fn line(system: &System, holder: u32, at: usize) -> Result<LineNo, AllocError>
         requires { at < length (lines system.now holder) }
-        ensures { IfOk result (λ line. slice_get (risen (lines system.now holder)) at ≡ Some line) };
+        ensures { IfOk result (λ line.
+            slice_get (risen (lines system.now holder)) at ≡ Some line) };
 
     fn eviction(holder: u32, line: LineNo) -> Event
         ensures { result ≡ eviction holder line };
@@ -158,7 +159,8 @@ fn line_count<H: Holder>(system: &System) -> u128
 
 // The eviction of a line.
 fn evict<H: Holder>(system: &System, b: u32) -> Result<Choice, AllocError>
-    ensures { PicksOne (entry (line_events H.eviction (H.lines system.now) (H.holders system.now)) b) result }
+    ensures { PicksOne (entry
+        (line_events H.eviction (H.lines system.now) (H.holders system.now)) b) result }
 {
     let total = line_count::<H>(system);
     if total == 0 {

@@ -45,7 +45,8 @@ fn attempt<P: Program, S: Schedule<P>>(
     requires ready { S.ready schedule.old }
     ensures led { Led P.acts S.rule (at system.old programs.old log.old schedule.old Within) result
         (at system.new programs.new log.new schedule.new Within) }
-    ensures passed { OnOk result ((full : Bool) × (schedule.new ≡ S.rule.behind full schedule.old)) }
+    ensures passed { OnOk result
+        ((full : Bool) × (schedule.new ≡ S.rule.behind full schedule.old)) }
 {
     let answer = step(log, system, &Event::Attempt(core))?;
     if is_no_room(&answer) {

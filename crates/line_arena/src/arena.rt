@@ -118,6 +118,20 @@ impl<T> Arena<T> {
         item.unwrap()
     }
 
+    /// Takes a cell off its list, gives its value, and puts it with another one at the end of a list, which may be its
+    /// own. Which cells are free doesn't change.
+    #[inline(always)]
+    pub fn refill(&mut self, list: u32, cell: Cell, item: T) -> T
+        requires list { list < length self.old.lists }
+        requires cell { IsSome (look_up cell self.old.lists) }
+        ensures value { look_up cell self.old.lists ≡ Some result }
+        ensures after { self.new ≡ pushed list (cell, item) (unlinked cell self.old) }
+    {
+        let before = self.chains.lift(self.lists, cell.0);
+        self.chains.fill(self.lists, list, cell.0, Some(item));
+        before.unwrap()
+    }
+
     /// Moves a cell with its value to the end of a list, which may be its own. The value stays where it lies.
     #[inline(always)]
     pub fn move_to_back(&mut self, list: u32, cell: Cell)

@@ -165,9 +165,11 @@ impl InFlight {
         Ok(MsgNo(self.linked.push(message)))
     }
 
-    /// Takes the message with this number, if it is in flight. This takes no memory, and keeps what is reserved.
+    /// Takes the message with this number, if it is in flight; if it isn't, nothing changes. This takes no memory, and
+    /// keeps what is reserved.
     pub fn take(&mut self, number: MsgNo) -> Option<Message>
         ensures value { result ≡ at_number number self.old.mail.messages }
+        ensures absent { result ≡ None → self.new ≡ self.old }
         ensures after { self.new ≡ record self.old {
           slots = self.new.slots;
           reserved =

@@ -15,7 +15,8 @@ unwrap-requires c =
 
 pub push_back-pushed-requires : goal.push_back-pushed-requires
 push_back-pushed-requires c =
-    let low = link-low c.self.inside.cores c.self.inside.banks _ _ c.unwrap.result (sym c.link_of-link.ensures ∙ c.unwrap.ensures) in
+    let low = link-low c.self.inside.cores c.self.inside.banks _ _ c.unwrap.result
+    (sym c.link_of-link.ensures ∙ c.unwrap.ensures) in
     omega (arith, low, c.self.invariant.linked.many)
 
 pub unwrap-cell-requires : goal.unwrap-cell-requires

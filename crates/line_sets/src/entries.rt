@@ -1,6 +1,6 @@
 //! One row: lines, each with the cell where it is kept.
-ghost use Rattle.std.specs.Prelude.{◌≡◌, ◌==◌, ◌<◌, ◌≤◌, ◌++◌, ◌∷◌, [], length, position, remove, take, ℕ, ◌-◌};
-ghost use Rattle.line_sets.specs.Order.{find, without, IsDistinct};
+ghost use Rattle.std.specs.Prelude.{◌≡◌, ◌<◌, ◌≤◌, ◌++◌, ◌∷◌, [], length, remove, take, ◌-◌, IfSome};
+ghost use Rattle.line_sets.specs.Order.{find, without, IsDistinct, IsIndexOf};
 
 use std::marker::Model;
 
@@ -21,17 +21,27 @@ impl Model for Row {
     ghost invariant = { λ row. row.count ≤ 16 };
 }
 
-/// The index of a line.
+/// The index of a line. The last lines are looked at first: those that came last are asked for most often.
 #[inline(always)]
 fn index_of(entries: &[(u64, u32)], line: u64) -> Option<usize>
-    ensures { result ≡ position (λ (p : ℕ × ℕ). p.0 == line) entries.now }
+    requires { IsDistinct entries.now }
+    ensures index { IsIndexOf entries.now line result }
+    ensures below { IfSome result (λ at. at < length entries.now) }
 {
-    entries.iter().position(|entry| entry.0 == line)
+    let mut left = entries.len();
+    while left > 0 {
+        left -= 1;
+        if entries[left].0 == line {
+            return Some(left);
+        }
+    }
+    None
 }
 
 /// The cell of a line.
 #[inline(always)]
 fn find_cell(entries: &[(u64, u32)], line: u64) -> Option<u32>
+    requires { IsDistinct entries.now }
     ensures { result ≡ find entries.now line }
 {
     match index_of(entries, line) {
@@ -67,6 +77,7 @@ impl Row {
     /// The cell of a line.
     #[inline(always)]
     pub(crate) fn find(&self, line: u64) -> Option<u32>
+        requires { IsDistinct self.now }
         ensures { result ≡ find self.now line }
     {
         find_cell(&self.entries[..self.count as usize], line)

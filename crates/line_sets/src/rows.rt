@@ -68,7 +68,8 @@ impl Rows {
     /// The cell of a line in a set.
     #[inline(always)]
     pub(crate) fn find(&self, set: usize, line: u64) -> Option<u32>
-        requires { set < length self.now }
+        requires in_table { set < length self.now }
+        requires distinct { IsDistinct (set_at self.now set) }
         ensures { result ≡ find (set_at self.now set) line }
     {
         match self.places[set] {

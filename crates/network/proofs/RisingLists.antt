@@ -1,5 +1,5 @@
 -- Lists by rising number: what two places say of one another, and what has a number.
-use Rattle.std.proofs.Common.{◌≡◌, ℕ, zero, suc, ◌+◌, ◌<◌, ◌≤◌, List, [], ◌∷◌, length, get_or, Option, Some, None}
+use Rattle.std.proofs.Common.{◌≡◌, ℕ, zero, suc, ◌+◌, ◌-◌, ◌<◌, ◌≤◌, List, [], ◌∷◌, length, get_or, Option, Some, None}
 use Rattle.std.proofs.Common.{refl, sym, ap, ◌∙◌, inl, inr, ◌⊎◌, arith}
 use Rattle.std.specs.Prelude.{slice_get}
 use Rattle.std.proofs.lemmas.Bool.Decides.{nat_tests}
@@ -130,3 +130,10 @@ module _ {X : Type 0} where
   number_at-slice_get [] k n x here = cc
   number_at-slice_get (y ∷ ys) zero n x here = let same : y ≡ (n, x) = cc in ap (λ (z : ℕ × X). z.0) same
   number_at-slice_get (y ∷ ys) (suc k) n x here = number_at-slice_get ys k n x here
+
+  -- where the last number is below `n`, nothing has that number
+  pub at_number-above : (n high : ℕ) (x : ℕ × Option X) (xs : List (ℕ × Option X)) → IsRising 0 xs high →
+      0 < length xs → (get_or xs (length xs - 1) x).0 < n → at_number n (still_there xs) ≡ None
+  at_number-above n high x xs rising some above = at_number-none n xs (λ k within same.
+      let less = passes_middle xs 0 high (length xs - 1) n x rising (omega (arith, some)) above k
+      (omega (arith, within)) in omega (arith, less, same))

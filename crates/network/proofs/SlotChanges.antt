@@ -1,7 +1,7 @@
 -- What sending and taking do to the slots, and to what is still there.
 use Rattle.std.proofs.Common.{◌≡◌, ℕ, zero, suc, ◌+◌, ◌≤◌, ◌++◌, List, [], ◌∷◌, length, filter, Bool, true, false}
 use Rattle.std.proofs.Common.{is_some, Option, Some, None, refl, sym, ap, ◌∙◌, subst, nat_eq, cond, IfSome}
-use Rattle.std.proofs.Common.{option_copied, Bor, arith}
+use Rattle.std.proofs.Common.{option_copied, Bor, arith, length-append}
 use Rattle.std.specs.Prelude.{slice_get, slice_set, IsTrue}
 use Rattle.std.proofs.lemmas.Bool.Decides.{nat_tests}
 use Rattle.std.proofs.lemmas.Option.{slice_get_within}
@@ -100,6 +100,21 @@ module _ {X : Type 0} where
       let is = number_at-slice_get ys k n o here in
       ap (given y.0 y.1) rest ∙ sym (without_number-given_other n y.0 y.1 (still_there ys)
       (λ e. omega (arith, above.0, is)))
+
+  -- another is sent after one is taken: what is there then, which is as many as before
+  pub still_there-answered : (n next : ℕ) (x : X) (xs left : List (ℕ × Option X)) →
+      still_there left ≡ without_number n (still_there xs) →
+      still_there (left ++ (next, Some x) ∷ []) ≡ without_number n (still_there xs) ++ (next, x) ∷ []
+  still_there-answered n next x xs left taken =
+      still_there-append next x left ∙ ap (λ ys. ys ++ (next, x) ∷ []) taken
+
+  pub length-answered : (n next : ℕ) (x : X) (xs left : List (ℕ × Option X)) → at_number n (still_there xs) ≡ Some x →
+      still_there left ≡ without_number n (still_there xs) →
+      length (still_there (left ++ (next, Some x) ∷ [])) ≡ length (still_there xs)
+  length-answered n next x xs left some taken =
+      let fewer = length-without_number n x (still_there xs) some in
+      let more = length-append (without_number n (still_there xs)) ((next, x) ∷ []) in
+      ap length (still_there-answered n next x xs left taken) ∙ omega (arith, fewer, more)
 
   -- slots that are empty leave no trace
   pub still_there-filter : (xs : List (ℕ × Option X)) → still_there (filter (λ x. is_some x.1) xs) ≡ still_there xs

@@ -1,6 +1,6 @@
 -- What is stored after a message is sent or taken, or empty slots are dropped.
 use Rattle.std.proofs.Common.{◌≡◌, ℕ, ◌+◌, ◌-◌, ◌*◌, ◌<◌, ◌≤◌, ◌^◌, ◌++◌, List, [], ◌∷◌, length, length-append}
-use Rattle.std.proofs.Common.{Option, Some, None, Result, Ok, Err, IsOk, IsErr, IfOk, IsTrue, refl, sym, ◌∙◌, arith}
+use Rattle.std.proofs.Common.{Option, Some, None, Result, Ok, Err, IsOk, IsErr, IfOk, IsTrue, refl, sym, ap, ◌∙◌, arith}
 use Rattle.line_arena.specs.Arenas.{Lists, pushed, unlinked, free_cells, IsOnce}
 use Rattle.line_arena.specs.CellLists.{look_up}
 use Rattle.line_arena.specs.ListLaws.{LookUpLaws, AppendLaws, WithoutLaws}
@@ -12,7 +12,8 @@ use Rattle.network.specs.Stored.{IsStored, messages_of}
 use Rattle.network.proofs.LinkLaws.{link-low}
 use Rattle.network.proofs.SlotChanges.{still_there-append, IsRising-append, IsRising-still_there}
 use Rattle.network.proofs.SlotChanges.{length-without_number, without_number-none}
-use Rattle.network.proofs.StoredMessages.{messages-length, linked-sent, linked-cut}
+use Rattle.network.proofs.SlotChanges.{still_there-answered, length-answered}
+use Rattle.network.proofs.StoredMessages.{messages-length, placed-at, linked-sent, linked-cut}
 
 pub is-ok : {A B : Type 0} (r : Result A B) → (IsErr r → ⊥) → IsOk r
 is-ok (Ok x) never = refl
@@ -100,15 +101,15 @@ pub record Takes (cores banks next count places n : ℕ) (slots : List (ℕ × O
   pub stored : IsStored cores banks next (count - 1) places slots arena
   pub are : messages_of arena.lists (still_there slots) ≡ without_number n messages
 
-pub stored-taken : (cores banks next count places n c : ℕ) (m : Message) (slots new : List (ℕ × Option ℕ))
+pub stored-taken : (cores banks next count places n c : ℕ) (slots new : List (ℕ × Option ℕ))
     (arena : Lists (ℕ × Message)) → IsStored cores banks next count places slots arena → LookUpLaws (ℕ × Message) →
     WithoutLaws (ℕ × Message) → IsOnce arena.lists → at_number n (still_there slots) ≡ Some c →
-    look_up c arena.lists ≡ Some (n, m) → still_there new ≡ without_number n (still_there slots) →
-    IsRising 0 new next → length new ≤ 2 * (count - 1) + 1 →
+    still_there new ≡ without_number n (still_there slots) → IsRising 0 new next → length new ≤ 2 * (count - 1) + 1 →
     Takes cores banks next count places n new (unlinked c arena) (messages_of arena.lists (still_there slots))
-stored-taken cores banks next count places n c m slots new arena stored finds laws once e is after rising few =
-    let cut = linked-cut cores banks n c next m arena.lists (still_there slots) stored.linked
-    (IsRising-still_there 0 next slots stored.rising) e is finds laws once in
+stored-taken cores banks next count places n c slots new arena stored finds laws once e after rising few =
+    let there = placed-at n c arena.lists (still_there slots) stored.linked.placed e in
+    let cut = linked-cut cores banks n c next there.0 arena.lists (still_there slots) stored.linked
+    (IsRising-still_there 0 next slots stored.rising) e there.1 finds laws once in
     let less = length-without_number n c (still_there slots) e in
     record {
       stored = record {
@@ -124,4 +125,45 @@ stored-taken cores banks next count places n c m slots new arena stored finds la
         linked = rw after cut.linked;
       };
       are = rw after cut.are;
+    }
+
+-- a message is taken, and another one is put into its cell
+pub record Answers (cores banks next count places n : ℕ) (m : Message) (slots : List (ℕ × Option ℕ))
+    (arena : Lists (ℕ × Message)) (messages : List (ℕ × Message)) : Type 0 where
+  pub stored : IsStored cores banks (next + 1) count places slots arena
+  pub are : messages_of arena.lists (still_there slots) ≡ without_number n messages ++ (next, m) ∷ []
+
+pub stored-answered : (cores banks next count places n l c : ℕ) (m : Message) (slots left new : List (ℕ × Option ℕ))
+    (arena : Lists (ℕ × Message)) → IsStored cores banks next count places slots arena → LookUpLaws (ℕ × Message) →
+    WithoutLaws (ℕ × Message) → AppendLaws (ℕ × Message) → IsOnce arena.lists →
+    IsTrue (has_endpoints cores banks m) → next < 2 ^ 64 - 1 → at_number n (still_there slots) ≡ Some c →
+    link_of cores banks m.from m.to ≡ Some l → still_there left ≡ without_number n (still_there slots) →
+    still_there new ≡ still_there (left ++ (next, Some c) ∷ []) → IsRising 0 new (next + 1) →
+    length new ≤ 2 * count + 1 →
+    Answers cores banks next count places n m new (pushed l (c, (next, m)) (unlinked c arena))
+    (messages_of arena.lists (still_there slots))
+stored-answered cores banks next count places n l c m slots left new arena stored finds laws appends once here number e
+    link taken same rising few =
+    let xs : List (ℕ × ℕ) = still_there slots in
+    let there = placed-at n c arena.lists xs stored.linked.placed e in
+    let cut = linked-cut cores banks n c next there.0 arena.lists xs stored.linked
+    (IsRising-still_there 0 next slots stored.rising) e there.1 finds laws once in
+    let low = link-low cores banks m.from m.to l link in
+    let sent = linked-sent cores banks l c next m (unlinked c arena).lists (without_number n xs) cut.linked appends
+    (laws.gone arena.lists c) link (omega (arith, low, cut.linked.many)) here in
+    let after = same ∙ still_there-answered n next c slots left taken in
+    record {
+      stored = record {
+        most_cores = stored.most_cores;
+        most_banks = stored.most_banks;
+        most_cells = stored.most_cells;
+        rising = rising;
+        numbered = omega (arith, number);
+        counted = stored.counted ∙ sym (ap length same ∙ length-answered n next c slots left e taken);
+        bounded = stored.bounded;
+        few = few;
+        room = stored.room;
+        linked = rw after sent.linked;
+      };
+      are = rw after (sent.are ∙ ap (λ ms. ms ++ (next, m) ∷ []) cut.are);
     }

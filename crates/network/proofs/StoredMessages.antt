@@ -1,7 +1,7 @@
 -- What is true of messages in the cells of lists, and what sending and taking do to it.
 use Rattle.std.proofs.Common.{◌≡◌, ◌≢◌, ℕ, suc, ◌+◌, ◌<◌, ◌++◌, List, [], ◌∷◌, length, map, filter}
 use Rattle.std.proofs.Common.{get_or, sum_by, Bool, true, false, cond, nat_eq, if◌then◌else◌, Option, Some, None}
-use Rattle.std.proofs.Common.{is_some, refl, sym, ap, ◌∙◌, inl, inr, arith, length-append, IsTrue, option_map}
+use Rattle.std.proofs.Common.{IsSome, is_some, refl, sym, ap, ◌∙◌, inl, inr, arith, length-append, IsTrue, option_map}
 use Rattle.std.proofs.lemmas.Bool.{cases_eq, eq-eqb, ne_eqb}
 use Rattle.std.proofs.Common.{set, length-set, get_or-set_same, get_or-set_other}
 use Rattle.std.proofs.lemmas.List.{append-nil, map_push, ext_get_or}
@@ -58,6 +58,16 @@ messages-at_number n ls (x ∷ xs) all = let f = front ls x xs all in
       | true ↦ sym (ap (option_map (λ (p : ℕ × Message). p.1)) all.0.1)
       | false ↦ rest
     ]
+
+some-cell : (ls : Lists) (o : Option ℕ) → IsSome (at_cell ls o) → IsSome o
+some-cell ls None none = none
+some-cell ls (Some c) some = refl
+
+-- where a number has a message, it has a cell
+pub placed-some : (n : ℕ) (ls : Lists) (xs : List (ℕ × ℕ)) → ArePlaced ls xs →
+    IsSome (at_number n (messages_of ls xs)) → IsSome (at_number n xs)
+placed-some n ls xs all some =
+    some-cell ls (at_number n xs) (sym (ap is_some (messages-at_number n ls xs all)) ∙ some)
 
 -- the cell of a number has it with a message
 pub placed-at : (n c : ℕ) (ls : Lists) (xs : List (ℕ × ℕ)) → ArePlaced ls xs → at_number n xs ≡ Some c →

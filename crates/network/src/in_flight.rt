@@ -1,13 +1,13 @@
 //! The messages in flight, by number.
 ghost use Rattle.std.specs.Prelude.{◌≡◌, ◌+◌, ◌*◌, ◌<◌, ◌≤◌, ◌^◌, ◌++◌, ◌∷◌, [], false, IsTrue, IfOk, IfErr, IfSome};
 ghost use Rattle.std.specs.Prelude.{OnOk, OnErr, IsOk, Option, None, Some, option_copied, option_map, length, map};
-ghost use Rattle.std.specs.Prelude.{is_some, slice_get, vec_capacity};
+ghost use Rattle.std.specs.Prelude.{IsSome, is_some, slice_get, vec_capacity};
 ghost use Rattle.network.specs.SetUp.{IsInRange};
 ghost use Rattle.network.specs.NumberedMessages.{IsRising, at_number};
 ghost use Rattle.network.specs.Routes.{has_endpoints};
 ghost use Rattle.network.specs.Search.{count_messages, first_message, is_between, is_ownership_of, is_store_of};
 ghost use Rattle.network.specs.ErrorNumbers.{send_number};
-ghost use Rattle.network.specs.Mail.{has_capacity, has_number, no_mail, sent, taken};
+ghost use Rattle.network.specs.Mail.{answered, has_capacity, has_number, no_mail, sent, taken};
 
 use crate::counts::Counts;
 use crate::criteria::Wanted;
@@ -165,9 +165,11 @@ impl InFlight {
         Ok(MsgNo(self.linked.push(message)))
     }
 
-    /// Takes the message with this number, if it is in flight. This takes no memory, and keeps what is reserved.
+    /// Takes the message with this number, if it is in flight; if it isn't, nothing changes. This takes no memory, and
+    /// keeps what is reserved.
     pub fn take(&mut self, number: MsgNo) -> Option<Message>
         ensures value { result ≡ at_number number self.old.mail.messages }
+        ensures absent { result ≡ None → self.new ≡ self.old }
         ensures after { self.new ≡ record self.old {
           slots = self.new.slots;
           reserved =
@@ -198,6 +200,28 @@ impl InFlight {
         ensures reserved { self.old.reserved ≤ self.new.reserved }
     {
         self.linked.remove(number.0)
+    }
+
+    /// Takes the message with this number, which is in flight, and sends another in its place: that gets the next
+    /// number. There always is room for it. This takes no memory: it uses up at most what is reserved for one message,
+    /// and leaves some.
+    #[inline(always)]
+    pub fn answer(&mut self, number: MsgNo, message: Message) -> MsgNo
+        requires there { IsSome (at_number number self.old.mail.messages) }
+        requires endpoints { IsTrue (has_endpoints self.old.cores self.old.banks message) }
+        requires number { IsTrue (has_number self.old.mail) }
+        ensures number { result ≡ self.old.mail.next }
+        ensures after { self.new ≡ record self.old {
+          slots = self.new.slots;
+          reserved =
+              self.new.reserved;
+          mail = answered self.old.mail number message;
+        } }
+        ensures reserved { self.old.reserved ≤ self.new.reserved + 1 }
+        ensures room { 0 < self.new.reserved }
+    {
+        self.counts.count(&message.body);
+        MsgNo(self.linked.answer(number.0, message))
     }
 
     /// How many slots are kept: one for each message in flight, and those of taken messages that weren't given back

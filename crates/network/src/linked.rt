@@ -1,7 +1,7 @@
 //! The messages in flight as they lie in memory: each with its number on the list of its link.
 ghost use Rattle.std.specs.Prelude.{◌≡◌, ◌+◌, ◌-◌, ◌*◌, ◌<◌, ◌≤◌, ◌^◌, ◌++◌, ◌∷◌, [], IsTrue, IfOk, IfSome};
 ghost use Rattle.std.specs.Prelude.{get_or, is_some, length, map, option_copied, option_map, slice_get, OnErr, OnOk};
-ghost use Rattle.std.specs.Prelude.{false, vec_capacity};
+ghost use Rattle.std.specs.Prelude.{false, IsSome, vec_capacity};
 ghost use Rattle.network.specs.SetUp.{IsInRange};
 ghost use Rattle.network.specs.NumberedMessages.{IsRising, at_number, given, still_there, without_number};
 ghost use Rattle.network.specs.Requests.{is_wanted};
@@ -275,6 +275,39 @@ impl LinkedMessages {
         self.count -= 1;
         drop_empty(&mut self.slots, self.count as usize);
         true
+    }
+
+    /// Takes the message with a number, which is there, off its list, and puts another one into its cell, at the end of
+    /// the list of its own link. That one gets the next number.
+    #[inline(always)]
+    pub(crate) fn answer(&mut self, number: u64, reply: Message) -> u64
+        requires there { IsSome (at_number number self.old.messages) }
+        requires endpoints { IsTrue (has_endpoints self.old.cores self.old.banks reply) }
+        requires number { self.old.next < 2 ^ 64 - 1 }
+        ensures number { result ≡ self.old.next }
+        ensures after { self.new ≡ record self.old {
+          slots = self.new.slots;
+          next = self.old.next + 1;
+          messages =
+              without_number number self.old.messages ++ (self.old.next, reply) ∷ [];
+        } }
+        ensures slots { self.new.slots ≤ self.old.slots + 1 }
+        ensures room { self.new.slots < self.new.room }
+    {
+        looked_up::<(u64, Message)>();
+        taken_off::<(u64, Message)>();
+        appended::<(u64, Message)>();
+        let _lists = self.arena.lists();
+        let _body: Body = reply.body;
+        let next = self.next;
+        let link = link_of(self.cores, self.banks, reply.from, reply.to);
+        let taken = take_cell(&mut self.slots, number);
+        let cell = taken.unwrap();
+        let _before = self.arena.refill(link.unwrap(), Cell(cell), (next, reply));
+        self.slots.push_reserved((next, Some(cell)));
+        self.next = next + 1;
+        drop_empty(&mut self.slots, self.count as usize);
+        next
     }
 
     /// The number of the first message from the one node to the other.

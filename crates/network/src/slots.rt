@@ -20,8 +20,7 @@ pub(crate) fn with_room(alloc: Global, capacity: u32) -> Result<Vec<Slot>, Alloc
 }
 
 /// The first index whose slot's number is not below `number`, found by halving.
-#[inline(always)]
-pub(crate) fn first_from(slots: &[Slot], number: u64) -> usize
+fn first_from(slots: &[Slot], number: u64) -> usize
     requires { IsRising 0 slots.now (2 ^ 64) }
     ensures within { result ≤ length slots.now }
     ensures before { (k : ℕ) → k < result → number_at slots.now k < number }
@@ -40,9 +39,10 @@ pub(crate) fn first_from(slots: &[Slot], number: u64) -> usize
     low
 }
 
-/// The index of the slot with the number, or `None` where there is none.
-#[inline(always)]
-pub(crate) fn slot_of(slots: &[Slot], number: u64) -> Option<usize>
+/// The index of the slot with the number, or `None` where there is none, found by halving.
+#[cold]
+#[inline(never)]
+fn halved_slot_of(slots: &[Slot], number: u64) -> Option<usize>
     requires { IsRising 0 slots.now (2 ^ 64) }
     ensures found { IfSome result (λ at. slice_get slots.now at ≡ Some
         (number, at_number number (still_there slots.now))) }
@@ -56,6 +56,33 @@ pub(crate) fn slot_of(slots: &[Slot], number: u64) -> Option<usize>
         return None;
     }
     Some(at)
+}
+
+/// The index of the slot with the number, or `None` where there is none. Most numbers near the last one have a slot: so
+/// the slot is tried first that is as far before the last one as the number is below that one's.
+#[inline(always)]
+pub(crate) fn slot_of(slots: &[Slot], number: u64) -> Option<usize>
+    requires { IsRising 0 slots.now (2 ^ 64) }
+    ensures found { IfSome result (λ at. slice_get slots.now at ≡ Some
+        (number, at_number number (still_there slots.now))) }
+    ensures absent { IfNone result (at_number number (still_there slots.now) ≡ None) }
+{
+    let count = slots.len();
+    if count == 0 {
+        return None;
+    }
+    let last = slots[count - 1].0;
+    if number > last {
+        return None;
+    }
+    let back = last - number;
+    if back < count as u64 {
+        let at = count - 1 - back as usize;
+        if slots[at].0 == number {
+            return Some(at);
+        }
+    }
+    halved_slot_of(slots, number)
 }
 
 /// The cell of the number, or `None` where there is none.

@@ -1,19 +1,11 @@
 use Rattle.std.proofs.Common.{◌^◌, ◌∙◌, sym, arith}
-use Rattle.network.proofs.RisingLists.{at_number-absent, slice_get-at_number, number_at-get_or}
+use Rattle.network.proofs.RisingLists.{at_number-above, slice_get-at_number, number_at-get_or}
 use Rattle.network.proofs.slots.slot_of.Goals as goal
 
-pub returns-clause-found : goal.returns-clause-found
-returns-clause-found c = slice_get-at_number c.args.number 0 (2 ^ 64) c.first_from-at.result c.args.slots.now
-    c.requires (omega arith) (sym (number_at-get_or c.args.slots.now c.first_from-at.result _
-    (omega arith)) ∙ c.if-slots-at.false)
+pub returns-then-number-last-clause-absent : goal.returns-then-number-last-clause-absent
+returns-then-number-last-clause-absent c =
+    at_number-above c.args.number (2 ^ 64) _ c.args.slots.now c.requires (omega arith) c.if-number-last.true
 
-pub returns-then-at-slots-clause-absent : goal.returns-then-at-slots-clause-absent
-returns-then-at-slots-clause-absent c = at_number-absent c.args.number (2 ^ 64) c.first_from-at.result
-    c.args.slots.now c.requires c.first_from-at.ensures.before c.first_from-at.ensures.after
-    (λ h. absurd (omega arith))
-
-pub returns-then-slots-at-clause-absent : goal.returns-then-slots-at-clause-absent
-returns-then-slots-at-clause-absent c = at_number-absent c.args.number (2 ^ 64) c.first_from-at.result
-    c.args.slots.now c.requires c.first_from-at.ensures.before c.first_from-at.ensures.after
-    (λ within same. c.if-slots-at.true (number_at-get_or c.args.slots.now c.first_from-at.result
-    _ within ∙ same))
+pub returns-then-slots-at-clause-found : goal.returns-then-slots-at-clause-found
+returns-then-slots-at-clause-found c = slice_get-at_number c.args.number 0 (2 ^ 64) _ c.args.slots.now c.requires
+    (omega arith) (sym (number_at-get_or c.args.slots.now _ _ (omega arith)) ∙ c.if-slots-at.true)

@@ -57,12 +57,9 @@ drop_empty-requires c =
 
 pub invariant_of-self-2 : goal.invariant_of-self-2
 invariant_of-self-2 c =
-    let ls = c.self.inside.arena.lists in let xs = still_there c.self.inside.slots.items in
-    let there = placed-at c.args.number c.in-Some.cell ls xs c.self.invariant.linked.placed
-    (sym c.take_cell.ensures.value ∙ c.in-Some.is) in
-    let new = stored-taken _ _ _ _ _ c.args.number c.in-Some.cell there.0 c.self.inside.slots.items
+    let new = stored-taken _ _ _ _ _ c.args.number c.in-Some.cell c.self.inside.slots.items
     c.drop_empty.new.slots.items c.self.inside.arena c.self.invariant c.looked_up.ensures c.taken_off.ensures
-    c.lists-lists.ensures.once (sym c.take_cell.ensures.value ∙ c.in-Some.is) there.1
+    c.lists-lists.ensures.once (sym c.take_cell.ensures.value ∙ c.in-Some.is)
     (c.drop_empty.ensures.same ∙ c.take_cell.ensures.after)
     (c.drop_empty.ensures.rising _ (c.take_cell.ensures.rising _ c.self.invariant.rising))
     (omega (arith, c.drop_empty.ensures.few)) in
@@ -77,12 +74,9 @@ returns-clause-value c =
 
 pub returns-clause-after : goal.returns-clause-after
 returns-clause-after c =
-    let ls = c.self.inside.arena.lists in let xs = still_there c.self.inside.slots.items in
-    let there = placed-at c.args.number c.in-Some.cell ls xs c.self.invariant.linked.placed
-    (sym c.take_cell.ensures.value ∙ c.in-Some.is) in
-    let new = stored-taken _ _ _ _ _ c.args.number c.in-Some.cell there.0 c.self.inside.slots.items
+    let new = stored-taken _ _ _ _ _ c.args.number c.in-Some.cell c.self.inside.slots.items
     c.drop_empty.new.slots.items c.self.inside.arena c.self.invariant c.looked_up.ensures c.taken_off.ensures
-    c.lists-lists.ensures.once (sym c.take_cell.ensures.value ∙ c.in-Some.is) there.1
+    c.lists-lists.ensures.once (sym c.take_cell.ensures.value ∙ c.in-Some.is)
     (c.drop_empty.ensures.same ∙ c.take_cell.ensures.after)
     (c.drop_empty.ensures.rising _ (c.take_cell.ensures.rising _ c.self.invariant.rising))
     (omega (arith, c.drop_empty.ensures.few)) in

@@ -1,14 +1,14 @@
 //! A core and what it does by itself: it takes an operation, attempts it, raises its time and evicts copies.
 ghost use Rattle.std.specs.Prelude.{◌≡◌, ◌≢◌, ◌⊎◌, ◌<◌, ◌≤◌, ◌%◌, ◌^◌, IfOk, IfSome, IsSome};
-ghost use Rattle.std.specs.Prelude.{IsTrue, is_some, length, not, true, option_copied, option_map, slice_get, Some};
-ghost use Rattle.std.specs.Prelude.{IsOk, OnErr, OnOk};
+ghost use Rattle.std.specs.Prelude.{IsTrue, is_some, length, not, true, false, option_copied, option_map, slice_get};
+ghost use Rattle.std.specs.Prelude.{IsOk, OnErr, OnOk, None, Some};
 ghost use Rattle.std.specs.Result.{result_ok};
 ghost use Rattle.line_sets.specs.Geometry.{IsGeometry};
 ghost use Rattle.line_sets.specs.Rising.{risen};
 ghost use Rattle.line_sets.specs.SetTable.{all_listed};
-ghost use Rattle.private_cache.specs.CopyTable.{copy_of, place_for, victim_for, without_copy};
+ghost use Rattle.private_cache.specs.CopyTable.{copy_of, place_for, victim_for, with_used, without_copy};
 ghost use Rattle.core_pts.specs.SetUp.{IsInRange};
-ghost use Rattle.core_pts.specs.CoreTable.{advance, attempt, attempt_unserved, attempt_without, completed_at, evict};
+ghost use Rattle.core_pts.specs.CoreTable.{advance, attempt, attempt_unserved, attempt_without, evict};
 ghost use Rattle.core_pts.specs.FreeCopies.{free_copies};
 ghost use Rattle.core_pts.specs.CoreTable.{index_of, is_pinned, issue, line_of, need, opened, pinned_line, to_bank};
 
@@ -102,6 +102,7 @@ impl Core {
     }
 
     /// How many operations the core was issued.
+    #[inline(always)]
     pub fn issued(&self) -> u32
         ensures { result ≡ self.now.issued }
     {
@@ -120,6 +121,7 @@ impl Core {
     }
 
     /// The copy of a line.
+    #[inline(always)]
     pub fn copy(&self, line: LineNo) -> Option<&LineCopy>
         ensures { option_copied result ≡ copy_of self.now.cache line }
     {
@@ -178,6 +180,7 @@ impl Core {
     }
 
     /// The line of an operation's word.
+    #[inline(always)]
     pub fn line_of(&self, op: Op) -> LineNo
         ensures { result ≡ line_of self.now op }
     {
@@ -225,6 +228,7 @@ impl Core {
     }
 
     // How far a lease goes on from a time.
+    #[inline(always)]
     pub(crate) fn lease(&self) -> u64
         ensures { result ≡ self.now.lease }
     {
@@ -252,6 +256,7 @@ impl Core {
 
     /// Opens an operation. On an error the core is unchanged: Busy exactly when an operation is open, else TooMany
     /// exactly when the core was issued 4,294,967,295 operations.
+    #[inline(always)]
     pub fn issue(&mut self, op: Op) -> Result<(), IssueError>
         ensures { (result, self.new) ≡ issue self.old op }
     {
@@ -276,16 +281,20 @@ impl Core {
             return Ok(Attempt::Idle);
         };
         let line = self.line_of_word(&op);
-        let Some(copy) = self.cache.find(line).copied() else {
+        let Some(copy) = self.cache.find(line) else {
             return Ok(self.answer_without(&op, line));
         };
-        if !serves(&op, self.pts, &copy) {
+        if !serves(&op, self.pts, copy) {
             return Ok(self.answer_unserved(&op, copy.wts));
         }
-        match time_of(self.config.private_write, self.pts, &op, &copy) {
-            Some(ts) => Ok(self.complete(&op, &copy, ts)),
-            None => Err(Exhausted),
-        }
+        let Some(ts) = time_of(self.config.private_write, self.pts, &op, copy) else {
+            return Err(Exhausted);
+        };
+        let index = self.index_of(&op);
+        let received = received_at(index, &op, copy);
+        let after = copy_after(index, ts, &op, copy);
+        self.complete(line, after, ts);
+        Ok(Attempt::Completed(received, ts))
     }
 
     // The answer to an attempt without a copy.
@@ -314,23 +323,26 @@ impl Core {
         need(self.pts, op, Some(version))
     }
 
-    // Completes an operation, on the copy of its line, at a time.
+    // Closes the open operation at a time: it leaves this copy of its line.
     #[inline(always)]
-    fn complete(&mut self, op: &Op, copy: &LineCopy, ts: u64) -> Attempt
-        requires { copy_of self.old.cache (line_of self.old op.now) ≡ Some copy.now }
-        ensures { (Some result, self.new) ≡ completed_at self.old op.now copy.now (Some ts) }
+    fn complete(&mut self, line: LineNo, copy: LineCopy, ts: u64)
+        requires { IsSome (copy_of self.old.cache line) }
+        ensures { self.new ≡ record self.old {
+          pts = ts;
+          open_op = None;
+          is_out = false;
+          cache =
+              with_used self.old.cache line copy;
+        } }
     {
-        let index = self.index_of(op);
-        let line = self.line_of_word(op);
-        let received = received_at(index, op, copy);
-        self.cache.put(line, copy_after(index, ts, op, copy));
+        self.cache.put(line, copy);
         self.pts = ts;
         self.open_op = None;
         self.is_out = false;
-        Attempt::Completed(received, ts)
     }
 
     /// Marks the request of the open operation out.
+    #[inline(always)]
     pub fn requested(&mut self)
         ensures { self.new ≡ record self.old { is_out = true } }
     {
@@ -339,6 +351,7 @@ impl Core {
 
     /// Raises the core's time by 1. Exhausted exactly when that does not fit; the core is then
     /// unchanged.
+    #[inline(always)]
     pub fn advance(&mut self) -> Result<(), Exhausted>
         ensures { (result_ok result, self.new) ≡ advance self.old }
     {
@@ -366,6 +379,7 @@ impl Core {
 }
 
 // The request that an operation needs, by the version of the copy.
+#[inline(always)]
 fn need(pts: u64, op: &Op, version: Option<u64>) -> Attempt
     ensures { result ≡ need pts op.now version }
 {

@@ -1,14 +1,12 @@
 -- A part that has changed, put back among the others.
-use Rattle.std.proofs.Common.{◌≡◌, ℕ, zero, suc, ◌<◌, ◌≤◌, ◌||◌, Bool, true, false, List, [], ◌∷◌, length, set}
-use Rattle.std.proofs.Common.{Option, Some, None, IsSome, IsTrue, OnErr, Result, Ok, Err, refl, sym, ap, ◌∙◌, inr}
-use Rattle.std.proofs.Common.{subst, arith}
+use Rattle.std.proofs.Common.{◌≡◌, ℕ, zero, suc, ◌<◌, ◌||◌, Bool, true, false, List, [], ◌∷◌, set}
+use Rattle.std.proofs.Common.{Option, Some, None, IsSome, OnErr, Result, Ok, Err, refl, sym, ap, ◌∙◌, inr}
+use Rattle.std.proofs.Common.{subst}
 use Rattle.std.specs.List.{slice_get}
 use Rattle.std.specs.Ordering.{nat_cmp}
 use Rattle.std.specs.FinMap.{FinMap}
 use Rattle.physiological_order.specs.declared.operation.Record.{Record}
-use Rattle.network.specs.Mail.{Mail, has_capacity, has_number, taken}
-use Rattle.network.specs.NumberedMessages.{at_number}
-use Rattle.network.proofs.Lemmas.{length-without_number}
+use Rattle.network.specs.Mail.{Mail}
 use Rattle.core_pts.specs.CoreTable.{CoreState}
 use Rattle.llc_bank.specs.BankTable.{BankState}
 use Rattle.machine_table.specs.declared.event.Answer.{Answer}
@@ -166,11 +164,3 @@ module _ {S : Type 0} (m : Machine) (cores : S → List CoreState) (banks : S �
 pub had : {X : Type 0} (o : Option X) → IsSome o → (x : X) × (o ≡ Some x)
 had None h = absurd (let z : false ≡ true = h in cc)
 had (Some x) h = (x, refl)
-
--- after a message is taken there is capacity for another
-pub capacity_of_taken : (capacity : ℕ) (mail : Mail) (n : ℕ) → IsSome (at_number n mail.messages) →
-    length mail.messages ≤ capacity → IsTrue (has_number mail) → IsTrue (has_capacity capacity (taken mail n))
-capacity_of_taken capacity mail n there most left =
-    let found = had (at_number n mail.messages) there in
-    let fewer = length-without_number n found.0 mail.messages found.1 in
-    grind (arith, fewer, most, left)

@@ -1,5 +1,5 @@
 -- A machine that is well set up has at most 64 cores.
-use Rattle.std.proofs.Common.{◌≡◌, ℕ, ◌≤◌, ◌&&◌, leb, leb-true, Bool, true, false, refl}
+use Rattle.std.proofs.Common.{◌≡◌, ◌≤◌, ◌&&◌, leb, leb-true, Bool, true, false, refl}
 use Rattle.std.proofs.lemmas.Bool.{false≢true}
 use Rattle.machine_table.specs.declared.config.Config.{Config}
 use Rattle.machine_table.specs.SetUp.{is_good, is_within}

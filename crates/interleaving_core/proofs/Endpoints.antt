@@ -1,6 +1,6 @@
 -- What parts send goes between nodes of its kind, and messages in flight find their part.
 use Rattle.std.proofs.Common.{◌≡◌, ℕ, ◌+◌, ◌<◌, ◌≤◌, ◌%◌, ◌++◌, Bool, true, false, cond, List, [], ◌∷◌, length}
-use Rattle.std.proofs.Common.{Option, Some, None, Ok, Err, IsTrue, refl, sym, ap, ◌∙◌, subst, arith}
+use Rattle.std.proofs.Common.{Option, Some, None, Result, Ok, Err, OnErr, IsTrue, refl, sym, ap, ◌∙◌, subst, arith}
 use Rattle.std.specs.List.{slice_get, AllByRecursion as Each}
 use Rattle.std.specs.Ordering.{nat_cmp}
 use Rattle.std.specs.FinMap.{FinMap}
@@ -9,6 +9,7 @@ use Rattle.std.proofs.Math.Nat.{mod-lt}
 use Rattle.std.proofs.lemmas.Option.{slice_get_within}
 use Rattle.physiological_order.specs.declared.operation.Record.{Record}
 use Rattle.network.specs.declared.message.Message.{Message}
+use Rattle.network.specs.declared.message.Node.{Node}
 use Rattle.network.specs.declared.message.Node.TheVariants as node
 use Rattle.network.specs.declared.message.Body.TheVariants.{FlushRep}
 use Rattle.network.specs.declared.part.Reaction.{Reaction}
@@ -28,20 +29,22 @@ use Rattle.llc_bank.specs.declared.entry.Entry.TheVariants as entry
 use Rattle.llc_bank.specs.OnEntry.{evicted}
 use Rattle.llc_bank.specs.BankTable as bank_table
 use Rattle.llc_bank.specs.BankTable.{BankState}
-use Rattle.dram_mts.specs.Table.{dram_has_case, dram_table}
+use Rattle.dram_mts.specs.Table.{dram_has_case, dram_table, needs_memory}
 use Rattle.network.specs.Mail.{Mail, sent, taken, answered}
 use Rattle.machine_table.specs.declared.config.Config.{Config}
 use Rattle.machine_table.specs.Machine.{Machine, with_core, with_bank, with_dram}
 use Rattle.machine_table.specs.Change.{Keeps, Makes, can_send, reacted}
 use Rattle.machine_table.specs.Transition.{changed, refused, deliver_core, deliver_bank, deliver_dram}
+use Rattle.machine_table.specs.Transition.{deliver_message, deliver_to}
 use Rattle.machine_table.specs.declared.event.Answer.TheVariants.{Delivered, Refused, Started}
 use Rattle.machine_table.specs.declared.event.Refusal.TheVariants.{NetworkFull, NoSuch}
 use Rattle.machine_theorem.specs.Cases.{core_case, bank_case, dram_case, has_case_at, has_case}
 use Rattle.machine_theorem.specs.Shape.{GoesHome, IsOwnedBelow, IsWhole}
 use Rattle.machine_theorem.specs.Kept.{Invariant}
 use Rattle.machine_theorem.proofs.Lemmas.{each_at_number, messages_find_cases, both, core_and_bank, any_core_delivery}
-use Rattle.machine_theorem.proofs.Lemmas.{any_bank_delivery, any_dram_delivery}
+use Rattle.machine_theorem.proofs.Lemmas.{any_bank_delivery}
 use Rattle.interleaving_core.specs.Reservation.{IsFitted, owed}
+use Rattle.interleaving_core.specs.StepAnswers.{delivery_asks, is_first_store, is_first_store_at}
 use Rattle.interleaving_core.specs.Endpoints.{BackHasEndpoints, EvictedHasEndpoints, ReactionHasEndpoints}
 
 each_last : {X : Type 0} (P : X → Type 0) (xs : List X) (x : X) → Each P (xs ++ x ∷ []) → P x
@@ -119,6 +122,11 @@ module _ (m seen : Machine) (is_view : m ≡ seen) (holds : Invariant seen) (n :
   found_case = each_at_number (λ x. has_case m x.1 ≡ true) n m.mail.messages message found
       (messages_find_cases m invariant) (λ k p. p)
 
+  -- it is delivered to the node that it goes to
+  delivers_there : (k : Node) → message.to ≡ k → deliver_to m n message k ≡ deliver_message m n
+      (at_number n m.mail.messages)
+  delivers_there k to = sym (ap (deliver_message m n) found ∙ ap (deliver_to m n message) to)
+
   -- a message that goes to a core
   module _ (c : ℕ) (to : message.to ≡ node.Core c) (core : CoreState) (here : slice_get m.cores c ≡ Some core) where
     pub core_has : core_table.core_has_case core message ≡ true
@@ -136,9 +144,10 @@ module _ (m seen : Machine) (is_view : m ≡ seen) (holds : Invariant seen) (n :
         (slice_get m.cores c) refl)))
 
     pub core_delivers : changed m (with_core m c) (reacted m.config.messages m.mail n
-        (core_table.core_table core message)) ≡ deliver_core m n message c (slice_get m.cores c)
+        (core_table.core_table core message)) ≡ deliver_message m n (at_number n m.mail.messages)
     core_delivers = sym (with_case (core_table.core_has_case core message) _ _ core_has)
         ∙ ap (deliver_core m n message c) (sym here)
+        ∙ delivers_there (node.Core c) to
 
   -- a message that goes to a bank
   module _ (b : ℕ) (to : message.to ≡ node.Bank b) (bank : BankState) (here : slice_get m.banks b ≡ Some bank) where
@@ -157,9 +166,10 @@ module _ (m seen : Machine) (is_view : m ≡ seen) (holds : Invariant seen) (n :
         message found b to)))
 
     pub bank_delivers : changed m (with_bank m b) (reacted m.config.messages m.mail n
-        (bank_table.bank_table bank message)) ≡ deliver_bank m n message b (slice_get m.banks b)
+        (bank_table.bank_table bank message)) ≡ deliver_message m n (at_number n m.mail.messages)
     bank_delivers = sym (with_case (bank_table.bank_has_case bank message) _ _ bank_has)
         ∙ ap (deliver_bank m n message b) (sym here)
+        ∙ delivers_there (node.Bank b) to
 
   -- a message that goes to a DRAM
   module _ (b : ℕ) (to : message.to ≡ node.Dram b) (lines : FinMap nat_cmp (List ℕ))
@@ -168,20 +178,21 @@ module _ (m seen : Machine) (is_view : m ≡ seen) (holds : Invariant seen) (n :
     dram_has = subst (λ o. dram_case o message ≡ true) here
         (subst (λ k. has_case_at m message k ≡ true) to found_case)
 
-    pub dram_endpoints : can_send m.config.messages m.mail (sent_by (dram_table lines message)) ≡ true →
-        ReactionHasEndpoints m.config.cores m.config.banks (dram_table lines message)
-    dram_endpoints = reaction_endpoints m n (with_dram m b) (λ x. refl) (dram_table lines message)
-        (subst (λ t.
-        Invariant (cond t
-        (changed m (with_dram m b) (reacted m.config.messages m.mail n (dram_table lines message)))
-        (refused m NoSuch)).1) dram_has
-        (subst (λ o. Invariant (deliver_dram m n message b o).1) here (any_dram_delivery m invariant n
-        message found b to)))
-
     pub dram_delivers : changed m (with_dram m b) (reacted m.config.messages m.mail n (dram_table lines message)) ≡
-        deliver_dram m n message b (slice_get m.drams b)
+        deliver_message m n (at_number n m.mail.messages)
     dram_delivers = sym (with_case (dram_has_case lines message) _ _ dram_has)
         ∙ ap (deliver_dram m n message b) (sym here)
+        ∙ delivers_there (node.Dram b) to
+
+    -- a store of a line that the DRAM doesn't have yet asks for memory
+    pub dram_asks : {X E : Type 0} (result : Result X E) → needs_memory lines message ≡ true →
+        OnErr result (IsTrue (delivery_asks seen (at_number n seen.mail.messages)))
+    dram_asks (Ok x) takes = tt
+    dram_asks (Err e) takes =
+        subst (λ o. delivery_asks seen o ≡ true) (sym there)
+        (subst (λ k. is_first_store_at seen message k ≡ true) (sym to)
+        (subst (λ (k : Machine). is_first_store (slice_get k.drams b) message ≡ true) is_view
+        (subst (λ o. is_first_store o message ≡ true) (sym here) takes)))
 
 -- what a core sends back goes to a bank
 module _ (m : Machine) (whole : IsWhole m) (c : ℕ) (core : CoreState) (here : slice_get m.cores c ≡ Some core) where

@@ -1,11 +1,8 @@
 -- What the changes of each event answer, and what parts they make.
 use Rattle.std.proofs.Common.{◌≡◌, ℕ, ◌+◌, Bool, true, false, cond, List, [], ◌∷◌, length, length-append, Option}
 use Rattle.std.proofs.Common.{Some, None, Ok, Err, refl, ap, ◌∙◌, arith}
-use Rattle.std.specs.Ordering.{nat_cmp}
-use Rattle.std.specs.FinMap.{FinMap}
 use Rattle.physiological_order.specs.declared.operation.Op.{Op}
 use Rattle.physiological_order.specs.declared.operation.Record.{Record}
-use Rattle.network.specs.declared.message.Body.{Body}
 use Rattle.network.specs.declared.message.Body.TheVariants as body
 use Rattle.network.specs.declared.message.Message.{Message}
 use Rattle.network.specs.declared.part.Reaction.{Reaction}
@@ -23,20 +20,17 @@ use Rattle.core_pts.specs.declared.decision.CoreReaction.TheVariants.{Arrives, G
 use Rattle.core_pts.specs.declared.decision.CoreReaction.TheVariants.{Holds, TooLate, NoCase}
 use Rattle.core_pts.specs.CoreTable as core_table
 use Rattle.core_pts.specs.CoreTable.{CoreState, core_table, pinned_line, sent_back, to_bank}
-use Rattle.llc_bank.specs.declared.decision.Decision.{Decision}
-use Rattle.llc_bank.specs.declared.decision.Decision.TheVariants as decision
 use Rattle.llc_bank.specs.declared.decision.Eviction.{Eviction}
 use Rattle.llc_bank.specs.declared.decision.Eviction.TheVariants as eviction
 use Rattle.llc_bank.specs.OnEntry.{evicted}
 use Rattle.llc_bank.specs.BankTable as bank_table
 use Rattle.llc_bank.specs.BankTable.{BankState, bank_table}
-use Rattle.dram_mts.specs.Table.{dram_case, dram_table}
 use Rattle.machine_table.specs.declared.event.Answer.{Answer}
 use Rattle.machine_table.specs.declared.event.Answer.TheVariants as answer
 use Rattle.machine_table.specs.declared.event.Refusal.TheVariants as refusal
 use Rattle.machine_table.specs.Change.{Change, Keeps, Exhausts, Drops, Makes, Completes, attempt, attempt_open}
 use Rattle.machine_table.specs.Change.{attempted_op, reacted, copy_evicted, entry_evicted, advanced}
-use Rattle.interleaving_core.specs.PartChanges.{IsQuiet, applied, stops, with_record}
+use Rattle.interleaving_core.specs.PartChanges.{applied, stops, with_record}
 use Rattle.interleaving_core.specs.Reservation.{owed_for}
 use Rattle.interleaving_core.proofs.ClosedOps.{Closes, attempt_closes}
 
@@ -148,20 +142,6 @@ module _ (core : CoreState) where
 
   -- a message reaches the core
   module _ (message : Message) where
-    pub core_quiet : IsQuiet core (core_table core message)
-    core_quiet = quiet (at_core core.lease (is_pinned (pinned_line core) message.line) (copy_of core.cache
-        message.line)
-        message.body)
-      where
-        quiet : (r : CoreReaction) → IsQuiet core (core_table.after_reaction core message.line r)
-        quiet (Arrives copy) = tt
-        quiet (Grants copy) = tt
-        quiet (Returns kept back) = tt
-        quiet DropsThere = refl
-        quiet Holds = refl
-        quiet TooLate = tt
-        quiet NoCase = refl
-
     pub core_only : (capacity : ℕ) (mail : Mail) (n : ℕ) → Only SameOpen (λ after. ⊥)
         (reacted capacity mail n (core_table core message))
     core_only capacity mail n = by_reaction (at_core core.lease (is_pinned (pinned_line core) message.line)
@@ -209,35 +189,3 @@ module _ (bank : BankState) where
           only_tested Any (λ after. ⊥) (has_capacity capacity mail) _ (((λ records. refl), refl), tt)
       by_eviction (eviction.AsksBack owner) =
           only_tested Any (λ after. ⊥) (has_capacity capacity mail) _ (((λ records. refl), refl), tt)
-
-  pub bank_quiet : (message : Message) → IsQuiet bank (bank_table bank message)
-  bank_quiet message = quiet (bank_table.decided bank message)
-    where
-      quiet : (d : Decision) → IsQuiet bank (bank_table.after_decision bank message d)
-      quiet decision.Waits = refl
-      quiet decision.Loads = tt
-      quiet (decision.Recalls owner asks_back) = tt
-      quiet (decision.Grants entry granted) = tt
-      quiet (decision.Becomes entry) = tt
-      quiet decision.Leaves = tt
-      quiet decision.TooLate = tt
-      quiet decision.NoCase = refl
-
-pub dram_quiet : (lines : FinMap nat_cmp (List ℕ)) (message : Message) → IsQuiet lines (dram_table lines message)
-dram_quiet lines message = quiet message.body
-  where
-    quiet : (x : Body) → IsQuiet lines (dram_case lines message x)
-    quiet (body.ShReq pts version) = refl
-    quiet (body.ExReq version) = refl
-    quiet (body.ShRep y) = refl
-    quiet (body.ExRep y) = refl
-    quiet (body.RenewRep rts) = refl
-    quiet (body.UpgradeRep rts) = refl
-    quiet body.FlushReq = refl
-    quiet (body.WbReq rts) = refl
-    quiet (body.FlushRep y) = refl
-    quiet (body.WbRep y) = refl
-    quiet body.DramLd = tt
-    quiet (body.DramLdRep words) = refl
-    quiet (body.DramSt words) = tt
-    quiet body.DramStRep = refl

@@ -1,11 +1,13 @@
 -- What a change of one part makes of the part and the messages in flight, and what its answer makes of the machine.
 use Rattle.std.specs.Prelude.{◌≡◌, ℕ, Bool, true, false, List, [], ◌∷◌, ◌++◌, Option, Some, None}
+use Rattle.std.specs.Prelude.{Result, Ok, Err}
 use Rattle.physiological_order.specs.declared.operation.Record.{Record}
 use Rattle.network.specs.declared.part.Reaction.{Reaction}
 use Rattle.network.specs.declared.part.Reaction.TheVariants.{Done, Dropped, Held, HeldAfter}
 use Rattle.network.specs.Mail.{Mail}
 use Rattle.machine_table.specs.declared.event.Answer.{Answer}
 use Rattle.machine_table.specs.declared.event.Answer.TheVariants as answer
+use Rattle.machine_table.specs.declared.event.Refusal.{Refusal}
 use Rattle.machine_table.specs.declared.event.Refusal.TheVariants.{Exhausted, NetworkFull}
 use Rattle.machine_table.specs.Change as change
 use Rattle.interleaving_core.specs.declared.delivery.Delivery.{Delivery}
@@ -46,6 +48,15 @@ requested false = answer.Refused NetworkFull
 -- what a reaction to a delivered message is answered, and the messages in flight afterwards: the same at every part
 abbrev pub settled : Mail → ℕ → Reaction → Answer × Mail
 settled mail n reaction = let x = applied {S = Unit {0}} tt mail (change.settled mail n reaction tt) in (x.0, x.2)
+
+-- what a part's response to a delivered message is answered, and the messages in flight afterwards
+abbrev pub concluded : Mail → ℕ → Result Reaction Refusal → Answer × Mail
+concluded mail n (Ok reaction) = settled mail n reaction
+concluded mail n (Err why) = (answer.Refused why, mail)
+
+-- so with the part
+abbrev pub responded : {S : Type 0} → Mail → ℕ → Result Reaction Refusal → S → Answer × S × Mail
+responded mail n response part = let x = concluded mail n response in (x.0, part, x.1)
 
 -- a message that is held or dropped leaves the part unchanged
 abbrev pub IsQuiet : {S : Type 0} → S → Option (Reaction × S) → Type 0

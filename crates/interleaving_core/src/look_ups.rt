@@ -39,6 +39,7 @@ impl MachineState {
     }
 
     // The line to evict from a bank so that a request that waits for room there finds it.
+    #[inline(always)]
     pub(crate) fn make_room(&self, number: MsgNo) -> Option<(u32, LineNo)>
         ensures { result ≡ make_room self.now number }
     {
@@ -50,6 +51,7 @@ impl MachineState {
     }
 
     // The line to evict from a bank for a line that waits for room there.
+    #[inline(always)]
     fn room_at(&self, line: LineNo, to: Node) -> Option<(u32, LineNo)>
         ensures { result ≡ room_at self.now line to }
     {
@@ -125,6 +127,7 @@ impl MachineState {
 }
 
 // Whether a message asks for a line.
+#[inline(always)]
 fn is_request(body: &Body) -> bool
     ensures { result ≡ is_request body.now }
 {

@@ -1,61 +1,85 @@
 //! A message in flight is handed to the part that it goes to.
-ghost use Rattle.std.specs.Prelude.{◌≡◌, ◌<◌, ◌≤◌, ℕ, IfOk, IsSome, IsTrue, OnErr, Some};
+ghost use Rattle.std.specs.Prelude.{◌≡◌, ◌<◌, ◌||◌, ℕ, IfOk, IsSome, IsTrue, OnErr};
 ghost use Rattle.network.specs.Mail.{Mail, answered, has_capacity, has_number, sent, taken};
 ghost use Rattle.network.specs.NumberedMessages.{at_number};
 ghost use Rattle.network.specs.Routes.{has_endpoints};
 ghost use Rattle.network.specs.Sends.{sent_by, sent_in};
 ghost use Rattle.machine_table.specs.Change.{can_send, reacted};
-ghost use Rattle.interleaving_core.specs.PartChanges.{IsQuiet, answer_of, applied, settled};
-ghost use Rattle.interleaving_core.specs.Endpoints.{ReactionHasEndpoints, SendsWithEndpoints};
+ghost use Rattle.interleaving_core.specs.PartChanges.{IsQuiet, answer_of, applied, concluded, responded, settled};
+ghost use Rattle.interleaving_core.specs.PartChanges.{stops};
+ghost use Rattle.interleaving_core.specs.Endpoints.{CanConclude, ReactionHasEndpoints, SendsWithEndpoints};
 
-use crate::delivery::Delivery;
+use crate::delivery::{Delivery, stop_after};
 use machine_table::Refusal;
 use network::{InFlight, Message, MsgNo, Node, Part, PartError, Reaction};
 use std::alloc::AllocError;
 
-/// Hands a message to its part. NetworkFull, if what the part would send can't be sent, and Exhausted leave the part
-/// and the messages unchanged; an error does so too, and comes only if a message would be sent.
+/// What a part makes of a message: its reaction, or why there is none. NetworkFull, if what the part would send can't
+/// be sent, and Exhausted leave the part unchanged; an error does so too, and comes only if a message would be sent.
 #[inline(always)]
-pub(crate) fn react<P: Part>(
+pub(crate) fn respond<P: Part>(
     part: &mut P,
-    flight: &mut InFlight,
-    number: MsgNo,
+    flight: &InFlight,
     message: &Message,
-) -> Result<Delivery, AllocError>
-    requires there { at_number number flight.old.mail.messages ≡ Some message.now }
+) -> Result<Result<Reaction, Refusal>, AllocError>
     requires case { IsTrue (P.has_case part.old message.now) }
     requires quiet { IsQuiet part.old (P.table part.old message.now) }
-    requires endpoints { IsTrue (can_send flight.old.capacity flight.old.mail
-        (sent_by (P.table part.old message.now))) → ReactionHasEndpoints flight.old.cores
-        flight.old.banks (P.table part.old message.now) }
-    ensures done { IfOk result (λ delivery.
-        (answer_of delivery, part.new, flight.new.mail) ≡ applied part.old
-        flight.old.mail (reacted flight.old.capacity flight.old.mail number
+    requires endpoints { IsTrue (can_send flight.now.capacity flight.now.mail
+        (sent_by (P.table part.old message.now))) → ReactionHasEndpoints flight.now.cores
+        flight.now.banks (P.table part.old message.now) }
+    ensures done { IfOk result (λ response. (number : ℕ) →
+        responded flight.now.mail number response part.new ≡ applied part.old
+        flight.now.mail (reacted flight.now.capacity flight.now.mail number
         (P.table part.old message.now))) }
-    ensures memory { OnErr result
-        (flight.old.mail.next < (applied part.old flight.old.mail
-        (reacted flight.old.capacity flight.old.mail number
+    ensures sent { IfOk result (λ response. CanConclude flight.now response) }
+    ensures memory { OnErr result ((number : ℕ) →
+        flight.now.mail.next < (applied part.old flight.now.mail
+        (reacted flight.now.capacity flight.now.mail number
         (P.table part.old message.now))).2.next) }
     ensures sure { OnErr result (IsTrue (P.takes_memory part.old message.now)) }
     ensures refused { OnErr result (part.new ≡ part.old) }
+{
+    if !can_answer(part, flight, message) {
+        return Ok(Err(Refusal::NetworkFull));
+    }
+    match part.deliver(message) {
+        Err(PartError::Exhausted) => Ok(Err(Refusal::Exhausted)),
+        Err(PartError::NoMemory) => Err(AllocError),
+        Ok(reaction) => Ok(Ok(reaction)),
+    }
+}
+
+/// What a delivery is answered after a part's response, and what becomes of the messages in flight. Exhausted times
+/// stop the machine.
+#[inline(always)]
+pub(crate) fn conclude(
+    flight: &mut InFlight,
+    is_stopped: &mut bool,
+    number: MsgNo,
+    response: Result<Reaction, Refusal>,
+) -> Delivery
+    requires there { IsSome (at_number number flight.old.mail.messages) }
+    requires sent { CanConclude flight.old response }
+    ensures done { (answer_of result, flight.new.mail) ≡ concluded flight.old.mail number
+        response }
+    ensures stop { is_stopped.new ≡ (stops (answer_of result) || is_stopped.old) }
     ensures set_up { flight.new ≡ record flight.old {
       slots = flight.new.slots;
       reserved =
           flight.new.reserved;
       mail = flight.new.mail;
     } }
-    ensures kept { OnErr result (flight.new.mail ≡ flight.old.mail) }
 {
-    if !can_answer(part, flight, message) {
-        return Ok(Delivery::Refused(Refusal::NetworkFull));
-    }
-    match part.deliver(message) {
-        Err(PartError::Exhausted) => Ok(Delivery::Refused(Refusal::Exhausted)),
-        Err(PartError::NoMemory) => Err(AllocError),
+    match response {
+        Err(why) => {
+            stop_after(is_stopped, Delivery::Refused(why));
+            Delivery::Refused(why)
+        }
         Ok(reaction) => {
             let delivery = delivery_of(&reaction);
             settle(flight, number, reaction);
-            Ok(delivery)
+            stop_after(is_stopped, delivery);
+            delivery
         }
     }
 }
@@ -165,7 +189,5 @@ fn answer(flight: &mut InFlight, number: MsgNo, message: Message)
       mail = answered flight.old.mail number message;
     } }
 {
-    let _more = flight.has_capacity();
-    take(flight, number);
-    send(flight, message);
+    let _number = flight.answer(number, message);
 }

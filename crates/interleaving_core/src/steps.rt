@@ -1,19 +1,19 @@
 //! One event of the machine.
-ghost use Rattle.std.specs.Prelude.{◌≡◌, ◌≢◌, ℕ, IfOk, IfSome, IsOk, IsTrue, OnErr, Some, slice_get};
+ghost use Rattle.std.specs.Prelude.{◌≡◌, ◌≢◌, ℕ, IfOk, IsTrue, OnErr, slice_get};
 ghost use Rattle.network.specs.NumberedMessages.{at_number};
-ghost use Rattle.machine_table.specs.Transition.{advance_at, attempt_at, deliver_core, deliver_bank, deliver_dram};
-ghost use Rattle.machine_table.specs.Transition.{deliver_message, evict_copy, evict_entry, issue_at, transition};
+ghost use Rattle.machine_table.specs.Transition.{advance_at, attempt_at, deliver_message, evict_copy};
+ghost use Rattle.machine_table.specs.Transition.{evict_entry, issue_at, transition};
 ghost use Rattle.machine_theorem.specs.Kept.{Invariant};
 ghost use Rattle.interleaving_core.specs.PartChanges.{answer_of};
-ghost use Rattle.interleaving_core.specs.StepAnswers.{Stepped, TakesMemory, asks_memory, delivery_asks, is_first_store};
+ghost use Rattle.interleaving_core.specs.StepAnswers.{Stepped, TakesMemory, asks_memory, delivery_asks};
 
-use crate::delivery::{Delivery, answer_of, stop_after};
+use crate::delivery::{Delivery, answer_of};
 use crate::machine_state::MachineState;
 use crate::operations;
-use crate::reactions::react;
+use crate::reactions::{conclude, respond};
 use crate::records::{keep, reserve, stop};
 use machine_table::{Answer, Event, Refusal};
-use network::{LineNo, Message, MsgNo, Node};
+use network::{LineNo, MsgNo, Node};
 use physiological_order::Op;
 use std::alloc::AllocError;
 
@@ -115,99 +115,35 @@ impl MachineState {
         ensures store { OnErr result
             (IsTrue (delivery_asks self.old (at_number number self.old.mail.messages))) }
     {
-        let Some(message) = self.flight.look(number).copied() else {
+        let Some(message) = self.flight.look(number) else {
             return Ok(Delivery::Refused(Refusal::NoSuch));
         };
         match message.to {
-            Node::Core(core) => self.deliver_core(number, &message, core),
-            Node::Bank(bank) => self.deliver_bank(number, &message, bank),
-            Node::Dram(bank) => self.deliver_dram(number, &message, bank),
+            Node::Core(core) => {
+                let at = core as usize;
+                if at >= self.cores.len() {
+                    return Ok(Delivery::Refused(Refusal::NoSuch));
+                }
+                let response = respond(&mut self.cores[at], &self.flight, message)?;
+                Ok(conclude(&mut self.flight, &mut self.is_stopped, number, response))
+            }
+            Node::Bank(bank) => {
+                let at = bank as usize;
+                if at >= self.banks.len() {
+                    return Ok(Delivery::Refused(Refusal::NoSuch));
+                }
+                let response = respond(&mut self.banks[at], &self.flight, message)?;
+                Ok(conclude(&mut self.flight, &mut self.is_stopped, number, response))
+            }
+            Node::Dram(bank) => {
+                let at = bank as usize;
+                if at >= self.drams.len() {
+                    return Ok(Delivery::Refused(Refusal::NoSuch));
+                }
+                let response = respond(&mut self.drams[at], &self.flight, message)?;
+                Ok(conclude(&mut self.flight, &mut self.is_stopped, number, response))
+            }
         }
-    }
-
-    // A message reaches a core.
-    #[inline(always)]
-    fn deliver_core(
-        &mut self,
-        number: MsgNo,
-        message: &Message,
-        core: u32,
-    ) -> Result<Delivery, AllocError>
-        requires invariant { Invariant self.old }
-        requires there { at_number number self.old.mail.messages ≡ Some message.now }
-        requires to { message.now.to ≡ Node.Core core }
-        ensures done { IfOk result (λ delivery. (answer_of delivery, self.new) ≡
-            deliver_core self.old number message.now core (slice_get self.old.cores core)) }
-        ensures refused { OnErr result (self.new ≡ self.old) }
-        ensures wanted { OnErr result (TakesMemory self.old (deliver_core self.old number
-            message.now core
-            (slice_get self.old.cores core))) }
-        ensures sure { IsOk result }
-    {
-        let at = core as usize;
-        if at >= self.cores.len() {
-            return Ok(Delivery::Refused(Refusal::NoSuch));
-        }
-        let delivery = react(&mut self.cores[at], &mut self.flight, number, message)?;
-        stop_after(&mut self.is_stopped, delivery);
-        Ok(delivery)
-    }
-
-    // A message reaches a bank.
-    #[inline(always)]
-    fn deliver_bank(
-        &mut self,
-        number: MsgNo,
-        message: &Message,
-        bank: u32,
-    ) -> Result<Delivery, AllocError>
-        requires invariant { Invariant self.old }
-        requires there { at_number number self.old.mail.messages ≡ Some message.now }
-        requires to { message.now.to ≡ Node.Bank bank }
-        ensures done { IfOk result (λ delivery. (answer_of delivery, self.new) ≡
-            deliver_bank self.old number message.now bank (slice_get self.old.banks bank)) }
-        ensures refused { OnErr result (self.new ≡ self.old) }
-        ensures wanted { OnErr result (TakesMemory self.old (deliver_bank self.old number
-            message.now bank
-            (slice_get self.old.banks bank))) }
-        ensures sure { IsOk result }
-    {
-        let at = bank as usize;
-        if at >= self.banks.len() {
-            return Ok(Delivery::Refused(Refusal::NoSuch));
-        }
-        let delivery = react(&mut self.banks[at], &mut self.flight, number, message)?;
-        stop_after(&mut self.is_stopped, delivery);
-        Ok(delivery)
-    }
-
-    // A message reaches the DRAM behind a bank.
-    #[inline(always)]
-    fn deliver_dram(
-        &mut self,
-        number: MsgNo,
-        message: &Message,
-        bank: u32,
-    ) -> Result<Delivery, AllocError>
-        requires invariant { Invariant self.old }
-        requires there { at_number number self.old.mail.messages ≡ Some message.now }
-        requires to { message.now.to ≡ Node.Dram bank }
-        ensures done { IfOk result (λ delivery. (answer_of delivery, self.new) ≡
-            deliver_dram self.old number message.now bank (slice_get self.old.drams bank)) }
-        ensures refused { OnErr result (self.new ≡ self.old) }
-        ensures wanted { OnErr result (TakesMemory self.old (deliver_dram self.old number
-            message.now bank
-            (slice_get self.old.drams bank))) }
-        ensures store { OnErr result
-            (IsTrue (is_first_store (slice_get self.old.drams bank) message.now)) }
-    {
-        let at = bank as usize;
-        if at >= self.drams.len() {
-            return Ok(Delivery::Refused(Refusal::NoSuch));
-        }
-        let delivery = react(&mut self.drams[at], &mut self.flight, number, message)?;
-        stop_after(&mut self.is_stopped, delivery);
-        Ok(delivery)
     }
 
     // What the table answers to an event, if there is memory for it.
@@ -225,10 +161,7 @@ impl MachineState {
         match event {
             Event::Issue(core, op) => self.issue(core, op),
             Event::Attempt(core) => Ok(self.attempt(core)),
-            Event::Deliver(number) => match self.deliver(number) {
-                Ok(delivery) => Ok(answer_of(delivery)),
-                Err(error) => Err(error),
-            },
+            Event::Deliver(number) => Ok(answer_of(self.deliver(number)?)),
             Event::EvictCache(core, line) => Ok(self.evict_cache(core, line)),
             Event::EvictBank(bank, line) => Ok(self.evict_bank(bank, line)),
             Event::Advance(core) => Ok(self.advance(core)),

@@ -231,6 +231,7 @@ impl System {
     /// The bank and the line to evict from it so that this message, a request that is held for want of room, finds
     /// room: the least recently used line of the set that no core owns, else the least recently used one. None where
     /// the bank has the line or room for it, and where a line of the set is being loaded, recalled or stored.
+    #[inline(always)]
     pub fn make_room(&self, number: MsgNo) -> Option<(u32, LineNo)>
         ensures { result ≡ make_room self.now number }
     {

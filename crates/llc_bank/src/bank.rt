@@ -10,7 +10,7 @@ ghost use Rattle.llc_bank.specs.OnEntry.{finds_place};
 ghost use Rattle.llc_bank.specs.Settled.{is_settled};
 ghost use Rattle.llc_bank.specs.BankTable.{core_of};
 
-use crate::choice::{all_settled, choose};
+use crate::choice::settled_choice;
 use crate::config::BankConfig;
 use crate::decision::{Decision, Eviction, decide, decide_eviction};
 use crate::entry::{Entry, Evict, EvictError};
@@ -108,6 +108,7 @@ impl Bank {
     }
 
     /// What the bank keeps of a line, `None` if it does not have it.
+    #[inline(always)]
     pub fn entry(&self, line: LineNo) -> Option<&Entry>
         ensures value { option_copied result ≡ entry_of self.now line }
         ensures sound { IsSound self.now.banks self.now.table }
@@ -116,6 +117,7 @@ impl Bank {
     }
 
     /// The time from which a line that comes from DRAM now would be valid.
+    #[inline(always)]
     pub fn memory_time(&self) -> u64
         ensures { result ≡ self.now.mts }
     {
@@ -233,6 +235,7 @@ impl Bank {
     /// The line to evict for a request of a line that waits for room: `None` if the bank has the line, if its set
     /// has room, and if a line of the set is being loaded, recalled or stored. Else the least recently used line of
     /// the set that no core owns, or the least recently used one if cores own them all; its eviction is not refused.
+    #[inline(always)]
     pub fn make_room(&self, line: LineNo) -> Option<LineNo>
         ensures line { result ≡ make_room self.now line }
         ensures same_set { IfSome result (λ victim. set_of self.now victim ≡ set_of self.now line) }
@@ -242,6 +245,7 @@ impl Bank {
     }
 
     // The line that make_room gives.
+    #[inline(always)]
     fn line_in_the_way(&self, line: LineNo) -> Option<LineNo>
         ensures line { result ≡ make_room self.now line }
         ensures sound { IsSound self.now.banks self.now.table }
@@ -250,10 +254,7 @@ impl Bank {
         if self.entry(line).is_some() || self.table.has_room(set) {
             return None;
         }
-        if !all_settled(&self.table, set) {
-            return None;
-        }
-        choose(&self.table, set)
+        settled_choice(&self.table, set)
     }
 
     /// The lines that are Shared or Exclusive, rising.
@@ -299,6 +300,7 @@ impl Bank {
 }
 
 // The core that a node is, 0 if it is none.
+#[inline(always)]
 fn core_of(node: Node) -> u32
     ensures { result ≡ core_of node }
 {

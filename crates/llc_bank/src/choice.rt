@@ -1,5 +1,5 @@
 //! Which line of a full set makes room.
-ghost use Rattle.std.specs.Prelude.{◌≡◌, ◌<◌, length};
+ghost use Rattle.std.specs.Prelude.{◌≡◌, ◌<◌, None, if◌then◌else◌, length, not};
 ghost use Rattle.line_sets.specs.SetTable.{set_at};
 ghost use Rattle.llc_bank.specs.BankTable.{all_settled, chosen};
 ghost use Rattle.llc_bank.specs.Settled.{passes};
@@ -32,16 +32,29 @@ impl LineTest<Entry> for EntryTest {
     }
 }
 
-/// Whether nothing is under way for any line of a set.
-pub(crate) fn all_settled(table: &LineSets<Entry>, set: usize) -> bool
+/// The line of a full set to evict to make room, if nothing is under way for any line of the set.
+#[inline(never)]
+pub(crate) fn settled_choice(table: &LineSets<Entry>, set: usize) -> Option<LineNo>
+    requires { set < length table.now.sets }
+    ensures { result ≡ (if not (all_settled (set_at table.now.sets set)) then None else chosen
+        (set_at table.now.sets set)) }
+{
+    if !all_settled(table, set) {
+        return None;
+    }
+    choose(table, set)
+}
+
+// Whether nothing is under way for any line of a set.
+fn all_settled(table: &LineSets<Entry>, set: usize) -> bool
     requires { set < length table.now.sets }
     ensures { result ≡ all_settled (set_at table.now.sets set) }
 {
     table.first_where(set, &EntryTest::UnderWay).is_none()
 }
 
-/// The line of a set to evict to make room.
-pub(crate) fn choose(table: &LineSets<Entry>, set: usize) -> Option<LineNo>
+// The line of a set to evict to make room.
+fn choose(table: &LineSets<Entry>, set: usize) -> Option<LineNo>
     requires { set < length table.now.sets }
     ensures { result ≡ chosen (set_at table.now.sets set) }
 {

@@ -1,5 +1,4 @@
-use Rattle.std.proofs.Common.{◌≡◌, ℕ, ◌+◌, ap, sym, subst, refl, ◌∙◌, arith, length, set, slice_get, IfSome, IsOk}
-use Rattle.std.proofs.Common.{IsTrue, OnErr}
+use Rattle.std.proofs.Common.{◌≡◌, ℕ, ◌+◌, ap, sym, subst, refl, ◌∙◌, arith, length, set, slice_get}
 use Rattle.std.proofs.lemmas.Option.{slice_get_read}
 use Rattle.network.specs.Mail.{Mail}
 use Rattle.core_pts.specs.CoreTable.{CoreState}
@@ -10,9 +9,8 @@ use Rattle.machine_table.specs.Transition.{attempt_at}
 use Rattle.machine_theorem.specs.Kept.{Invariant}
 use Rattle.interleaving_core.specs.contracts.machine_state.MachineState.{the_view}
 use Rattle.interleaving_core.specs.PartChanges.{applied, with_record}
-use Rattle.interleaving_core.specs.Reservation.{completes, owed_for}
-use Rattle.interleaving_core.specs.StepAnswers.{TakesMemory}
-use Rattle.interleaving_core.proofs.ChangedParts.{made_so, sending_takes, set_same}
+use Rattle.interleaving_core.specs.Reservation.{owed_for}
+use Rattle.interleaving_core.proofs.ChangedParts.{made_so, set_same}
 use Rattle.interleaving_core.proofs.Only.{OneLess, SameOpen, attempt_only, balanced}
 use Rattle.interleaving_core.proofs.OpenCounts.{owed_set}
 use Rattle.interleaving_core.proofs.Endpoints.{still_fitted}

@@ -300,13 +300,14 @@ impl Core {
     // The answer to an attempt without a copy.
     #[inline(always)]
     fn answer_without(&self, op: &Op, line: LineNo) -> Attempt
-        requires { line ≡ line_of self.now op.now }
+        requires line { line ≡ line_of self.now op.now }
+        requires absent { copy_of self.now.cache line ≡ None }
         ensures { result ≡ attempt_without self.now op.now }
     {
         if self.is_out {
             return Attempt::Waiting;
         }
-        if !self.cache.place(line) {
+        if !self.cache.has_room(line) {
             return Attempt::NoRoom;
         }
         need(self.pts, op, None)

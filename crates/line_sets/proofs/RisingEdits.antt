@@ -3,7 +3,8 @@ use Rattle.std.proofs.Common.{◌≡◌, ◌≢◌, ℕ, zero, suc, ◌+◌, ◌
 use Rattle.std.proofs.Common.{◌∷◌, leb-true, not, Bool, length, get_or, inl, inr, Option, None, Some, refl, sym, ap, ◌∙◌, arith}
 use Rattle.std.specs.List.{insert, prefix_len, remove, slice_get}
 use Rattle.std.specs.List.Sorted.{IsNonDecreasing, IsPartitionPoint}
-use Rattle.std.proofs.lemmas.Bool.{cases_Bool, cases_eq, cases_lt, cond_both, eq-eqb, le-leb, lt-ltb, ltb-true, ne_eqb}
+use Rattle.std.proofs.lemmas.Bool.{cases_Bool, cases_eq, cases_lt, cond_both, eq-eqb, le-leb, lt-ltb, ltb-true}
+use Rattle.std.proofs.lemmas.Bool.{ltb-false, ne_eqb}
 use Rattle.std.proofs.lemmas.List.Sums.{prefix_len_is}
 use Rattle.line_sets.specs.Rising.{all_but, is_but, put_in, risen, take_out, tally, AllFrom, IsExchanged, IsOrderOf, Rises}
 use Rattle.line_sets.proofs.RisenLists.{one-risen, rises-put_in, rises-risen, tally-none, tally-put_in}
@@ -134,7 +135,7 @@ from-take_out b x [] h = tt
 from-take_out b x (y ∷ ys) h = cond_both (ltb y x) (y ∷ take_out x ys) ys (AllFrom b)
     (λ e. (h.0, from-take_out b x ys h.1)) (λ e. h.1)
 
-pub rises-take_out : (x : ℕ) (ys : List ℕ) → Rises ys → Rises (take_out x ys)
+rises-take_out : (x : ℕ) (ys : List ℕ) → Rises ys → Rises (take_out x ys)
 rises-take_out x [] h = tt
 rises-take_out x (y ∷ ys) h = cond_both (ltb y x) (y ∷ take_out x ys) ys Rises
     (λ e. (from-take_out y x ys h.0, rises-take_out x ys h.1)) (λ e. h.1)
@@ -194,17 +195,30 @@ pub order-kept : (o : Option (List ℕ)) (line n m : ℕ) (xs zs : List ℕ) →
 order-kept None line n m xs zs e h f = tt
 order-kept (Some ys) line n m xs zs e h f = order-same line m xs zs ys h (rw e at f)
 
-pub order-more : (o : Option (List ℕ)) (line n m : ℕ) (xs zs ys : List ℕ) → n ≢ m → n ≤ m → m ≤ 1 → o ≡ Some ys →
+order-more : (o : Option (List ℕ)) (line n m : ℕ) (xs zs ys : List ℕ) → n ≢ m → n ≤ m → m ≤ 1 → o ≡ Some ys →
     IsOrderOf o xs → IsExchanged line n m xs zs → put_in line ys ≡ risen zs
 order-more o line n m xs zs ys ne le one e h f =
     let low : n ≡ 0 = omega (arith, ne, le, one) in let high : m ≡ 1 = omega (arith, ne, le, one) in
     order-entered line xs zs ys (order-some o ys xs e h) (rw high at (rw low at f))
 
-pub order-fewer : (o : Option (List ℕ)) (line n m : ℕ) (xs zs ys : List ℕ) → m < n → n ≤ 1 → o ≡ Some ys →
+order-fewer : (o : Option (List ℕ)) (line n m : ℕ) (xs zs ys : List ℕ) → m < n → n ≤ 1 → o ≡ Some ys →
     IsOrderOf o xs → IsExchanged line n m xs zs → take_out line ys ≡ risen zs
 order-fewer o line n m xs zs ys lt one e h f =
     let low : m ≡ 0 = omega (arith, lt, one) in let high : n ≡ 1 = omega (arith, lt, one) in
     order-left line xs zs ys (order-some o ys xs e h) (rw high at (rw low at f))
+
+pub order-exchanged : (o : Option (List ℕ)) (line n m : ℕ) (xs zs ys : List ℕ) → n ≢ m → n ≤ 1 → m ≤ 1 →
+    o ≡ Some ys → IsOrderOf o xs → IsExchanged line n m xs zs →
+    cond (ltb m n) (take_out line ys) (put_in line ys) ≡ risen zs
+order-exchanged o line n m xs zs ys ne before after e h f =
+    cond_both (ltb m n) (take_out line ys) (put_in line ys) (λ us. us ≡ risen zs)
+    (λ t. order-fewer o line n m xs zs ys (ltb-true m n t) before e h f)
+    (λ t. let le = ltb-false m n t in order-more o line n m xs zs ys ne le after e h f)
+
+pub rises-exchanged : (goes : Bool) (x : ℕ) (ys : List ℕ) → Rises ys →
+    Rises (cond goes (take_out x ys) (put_in x ys))
+rises-exchanged goes x ys h =
+    cond_both goes (take_out x ys) (put_in x ys) Rises (λ _. rises-take_out x ys h) (λ _. rises-put_in x ys h)
 
 -- a rising list but one number
 from-all_but : (b : ℕ) (but : Option ℕ) (ys : List ℕ) → AllFrom b ys → AllFrom b (all_but but ys)

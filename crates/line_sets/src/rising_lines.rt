@@ -63,6 +63,20 @@ fn take_out(numbers: &mut Vec<u64>, number: u64)
     }
 }
 
+/// A number goes out of a rising list, or comes into it; false where memory for that is refused, and then nothing has
+/// changed.
+fn exchange(numbers: &mut Vec<u64>, number: u64, goes: bool) -> bool
+    requires { Rises numbers.old.items }
+    ensures { numbers.new.items ≡ (if result then (if goes then take_out number numbers.old.items else
+        put_in number numbers.old.items) else numbers.old.items) }
+{
+    if goes {
+        take_out(numbers, number);
+        return true;
+    }
+    put_in(numbers, number)
+}
+
 /// Where the number stands in a rising list that comes after so many others but one number.
 fn index_but(numbers: &[u64], but: Option<LineNo>, at: usize) -> usize
     requires rises { Rises numbers.now }
@@ -98,6 +112,7 @@ impl RisingLines {
 
     /// A line comes, goes or stays: there were so many of it, none or one, and now there are so many. Where memory is
     /// refused nothing is kept from now on.
+    #[inline(always)]
     pub(crate) fn change(&mut self, line: u64, before: usize, after: usize)
         requires before { before ≤ 1 }
         requires after { after ≤ 1 }
@@ -110,11 +125,7 @@ impl RisingLines {
         let Some(numbers) = &mut self.numbers else {
             return;
         };
-        if after < before {
-            take_out(numbers, line);
-            return;
-        }
-        if !put_in(numbers, line) {
+        if !exchange(numbers, line, after < before) {
             self.numbers = None;
         }
     }

@@ -219,11 +219,12 @@ impl<V: Copy + Listed> LineSets<V> {
         }
     }
 
-    /// Takes a line out of its set and gives what was kept of it, or nothing if it isn't there.
+    /// Takes a line out of its set and gives what was kept of it, or nothing if it isn't there; nothing changes then.
     #[inline(always)]
     pub fn remove(&mut self, set: usize, line: u64) -> Option<V>
         requires { set < length self.old.sets }
         ensures value { result ≡ look self.old.sets set line }
+        ensures absent { result ≡ None → self.new ≡ self.old }
         ensures after { self.new ≡ record self.old { sets = drop_line self.old.sets set line } }
     {
         looked_up::<(u64, V)>();

@@ -115,7 +115,20 @@ fn empty_slot(slots: &mut Vec<Slot>, at: usize, number: u64) -> Option<u32>
     cell
 }
 
+/// Drops all empty slots.
+fn drop_all_empty(slots: &mut Vec<Slot>)
+    ensures long { length slots.new.items ≡ length (still_there slots.old.items) }
+    ensures same { still_there slots.new.items ≡ still_there slots.old.items }
+    ensures rising { (high : ℕ) → IsRising 0 slots.old.items high →
+        IsRising 0 slots.new.items high }
+    ensures capacity { vec_capacity slots.new ≡ vec_capacity slots.old }
+    ensures len { vec_len slots.new ≤ vec_len slots.old }
+{
+    slots.retain(|slot| slot.1.is_some());
+}
+
 /// Drops the empty slots where they are more than the others by two or more. So many slots have a cell.
+#[inline(always)]
 pub(crate) fn drop_empty(slots: &mut Vec<Slot>, count: usize)
     requires { count ≡ length (still_there slots.old.items) }
     ensures few { length slots.new.items ≤ 2 * count + 1 }
@@ -126,7 +139,7 @@ pub(crate) fn drop_empty(slots: &mut Vec<Slot>, count: usize)
     ensures len { vec_len slots.new ≤ vec_len slots.old }
 {
     if slots.len() / 2 > count {
-        slots.retain(|slot| slot.1.is_some());
+        drop_all_empty(slots);
     }
 }
 

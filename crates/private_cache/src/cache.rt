@@ -4,7 +4,7 @@ ghost use Rattle.std.specs.Prelude.{is_some, not, slice_get, true, IsOk, OnErr, 
 ghost use Rattle.std.specs.Option.{option_copied};
 ghost use Rattle.line_sets.specs.Geometry.{IsGeometry};
 ghost use Rattle.line_sets.specs.Rising.{risen};
-ghost use Rattle.line_sets.specs.SetTable.{all_listed, empty_sets};
+ghost use Rattle.line_sets.specs.SetTable.{all_listed, empty_sets, has_room};
 ghost use Rattle.private_cache.specs.CopyTable.{is_pinned};
 ghost use Rattle.private_cache.specs.FreeLines.{free_lines};
 
@@ -113,12 +113,20 @@ impl Cache {
         self.table.find(self.set_of(line), line.0)
     }
 
+    /// Whether the set of a line has room for one more copy.
+    #[inline(always)]
+    pub fn has_room(&self, line: LineNo) -> bool
+        ensures { result ≡ has_room self.now (set_of self.now line) }
+    {
+        self.table.has_room(self.set_of(line))
+    }
+
     /// Whether there is a copy of the line, or room for one in its set.
     #[inline(always)]
     pub fn place(&self, line: LineNo) -> bool
         ensures { result ≡ place_for self.now line }
     {
-        self.find(line).is_some() || self.table.has_room(self.set_of(line))
+        self.find(line).is_some() || self.has_room(line)
     }
 
     /// Takes in a line that arrives, not written yet and now the most recently used of its set. NoRoom exactly when
@@ -211,15 +219,17 @@ impl Cache {
     pub fn evict(&mut self, line: LineNo, pinned: Option<LineNo>) -> Result<LineCopy, CacheError>
         ensures { (result, self.new) ≡ evicted self.old line pinned (copy_of self.old line) }
     {
-        let Some(copy) = self.find(line).copied() else {
-            return Err(CacheError::NotHere);
-        };
         if pinned == Some(line) {
+            if self.find(line).is_none() {
+                return Err(CacheError::NotHere);
+            }
             return Err(CacheError::Pinned);
         }
         let set = self.set_of(line);
-        let _gone = self.table.remove(set, line.0);
-        Ok(copy)
+        match self.table.remove(set, line.0) {
+            Some(copy) => Ok(copy),
+            None => Err(CacheError::NotHere),
+        }
     }
 
     /// The copy to evict to make room for a line: the least recently used one of its set, exactly when there is no

@@ -69,6 +69,14 @@ fn moved(arena: &mut Arena<u32>, list: u32, cell: Cell) -> bool {
     is_there
 }
 
+/// Fills a cell anew at the end of a list, if both are there, and gives the value that it had.
+fn filled_again(arena: &mut Arena<u32>, list: u32, cell: Cell, value: u32) -> Option<u32> {
+    if list >= arena.lists() || !arena.holds(cell) {
+        return None;
+    }
+    Some(arena.refill(list, cell, value))
+}
+
 /// Takes a cell off its list, if it is on one, and gives its value.
 fn taken(arena: &mut Arena<u32>, cell: Cell) -> Option<u32> {
     if !arena.holds(cell) {
@@ -129,6 +137,26 @@ fn two_lists(rt: HostRuntime) -> Result<(), Fail> {
     assert!(rt; is_used_again(&mut arena, ten, twelve));
     assert!(rt; written(&mut arena, ten, 15) && has(&arena, 1, &[15]));
     arena_is_send(&arena);
+    Ok(())
+}
+
+/// Whether the first cell goes to the other list with another value, and then to the end of that list with a third one,
+/// where no cell is free.
+fn is_filled_again(arena: &mut Arena<u32>, ten: Cell) -> bool {
+    filled_again(arena, 1, ten, 13) == Some(10)
+        && has(arena, 0, &[11])
+        && has(arena, 1, &[12, 13])
+        && filled_again(arena, 1, ten, 14) == Some(13)
+        && has(arena, 1, &[12, 14])
+        && arena.free() == 0
+}
+
+#[test]
+fn a_cell_filled_again(rt: HostRuntime) -> Result<(), Fail> {
+    let mut arena = three_values(&rt).expect(&rt, "memory and room");
+    let ten = front(&arena, 0).expect(&rt, "a cell");
+    assert!(rt; is_filled_again(&mut arena, ten));
+    assert_eq!(rt; value(&arena, front(&arena, 0)), Some(11));
     Ok(())
 }
 

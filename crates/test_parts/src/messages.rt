@@ -72,6 +72,8 @@ fn sends_three(flight: &mut InFlight) -> bool
 fn is_full(flight: &mut InFlight) -> bool
     requires cores { flight.old.cores ≡ 2 }
     requires banks { flight.old.banks ≡ 1 }
+    ensures cores { flight.new.cores ≡ 2 }
+    ensures banks { flight.new.banks ≡ 1 }
 {
     let no_place = flight.has_number() && !flight.has_capacity();
     no_place && flight.send(request()) == Err((SendError::Full, request()))
@@ -149,6 +151,32 @@ fn has_three(flight: &InFlight) -> Result<bool, AllocError> {
             && flight.oldest(bank, core) == None
             && numbers.as_slice() == [MsgNo(0), MsgNo(2), MsgNo(3)].as_slice(),
     )
+}
+
+// Whether the second of three messages is answered by a request, which has the next number and takes its place.
+fn answers_once(flight: &mut InFlight) -> bool
+    requires cores { flight.old.cores ≡ 2 }
+    requires banks { flight.old.banks ≡ 1 }
+    ensures cores { flight.new.cores ≡ 2 }
+    ensures banks { flight.new.banks ≡ 1 }
+{
+    if flight.look(MsgNo(1)).is_none() || !flight.has_number() {
+        return false;
+    }
+    let number = flight.answer(MsgNo(1), request());
+    let gone = is_found(flight.look(MsgNo(1)), None);
+    let there = is_found(flight.look(MsgNo(3)), Some(request()));
+    number == MsgNo(3) && gone && there && flight.count() == 3
+}
+
+// No more messages may be in flight than the three that are, and one of them is answered.
+#[test]
+fn answers_a_message_in_its_place(rt: HostRuntime) -> Result<(), Fail> {
+    let mut flight = three_sent(rt.alloc())?;
+    let full = is_full(&mut flight);
+    let answered = answers_once(&mut flight);
+    assert!(rt; full && answered && has_three(&flight)?);
+    Ok(())
 }
 
 // One more message is sent and taken: how many slots are kept then.

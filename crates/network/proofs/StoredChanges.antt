@@ -74,8 +74,8 @@ stored-sent cores banks next count places l c m slots arena stored laws here num
     }
 
 -- nothing is there to be taken
-pub stored-none : (cores banks next count places n : ℕ) (slots new : List (ℕ × Option ℕ)) (arena : Lists (ℕ × Message)) →
-    IsStored cores banks next count places slots arena → at_number n (still_there slots) ≡ None →
+pub stored-none : (cores banks next count places n : ℕ) (slots new : List (ℕ × Option ℕ))
+    (arena : Lists (ℕ × Message)) → IsStored cores banks next count places slots arena → at_number n (still_there slots) ≡ None →
     still_there new ≡ without_number n (still_there slots) → IsRising 0 new next → length new ≡ length slots →
     (still_there new ≡ still_there slots) × IsStored cores banks next count places new arena
 stored-none cores banks next count places n slots new arena stored none after rising long =

@@ -27,8 +27,8 @@ flight_of capacity counts linked =
           record { messages = linked.messages; next = linked.next; counts = counts };
     }
 
--- what is true of all that is kept: there is room for as many messages as may be in flight, the numbers are below 2 ^ 64,
--- and the counts are not above the next number
+-- what is true of all that is kept: there is room for as many messages as may be in flight, the numbers are below
+-- 2 ^ 64, and the counts are not above the next number
 pub record IsKept (capacity : ℕ) (counts : Counts) (linked : Linked) : Type 0 where
   pub fits : capacity ≡ linked.capacity
   pub numbered : linked.next < 2 ^ 64

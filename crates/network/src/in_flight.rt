@@ -82,9 +82,9 @@ impl InFlight {
         })
     }
 
-    /// Drops all messages, and counts and numbers from 0 again, as a new one does. No memory is taken or given back. The
-    /// time grows with the slots that are kept, and with the most messages that were in flight at once since the memory
-    /// was taken or this was called last.
+    /// Drops all messages, and counts and numbers from 0 again, as a new one does. No memory is taken or given back.
+    /// The time grows with the slots that are kept, and with the most messages that were in flight at once since the
+    /// memory was taken or this was called last.
     pub fn clear(&mut self)
         ensures { self.new ≡ record self.old {
           slots = 0;

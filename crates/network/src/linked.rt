@@ -141,7 +141,8 @@ fn earlier<'a>(
 }
 
 impl LinkedMessages {
-    /// No message, and room for so many. All memory is taken here, and none of it is written but the heads of the lists.
+    /// No message, and room for so many. All memory is taken here, and none of it is written but the heads of the
+    /// lists.
     pub(crate) fn new(
         alloc: Global,
         cores: u32,

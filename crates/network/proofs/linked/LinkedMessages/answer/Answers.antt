@@ -1,9 +1,12 @@
-use Rattle.std.proofs.Common.{◌^◌, ◌∙◌, sym, ap, arith, is_some, refl}
+use Rattle.std.proofs.Common.{vec_capacity, ◌^◌, ◌∙◌, sym, ap, arith, is_some, refl}
+use Rattle.line_arena.specs.Arenas.{pushed, unlinked}
 use Rattle.network.specs.NumberedMessages.{still_there}
+use Rattle.network.specs.Stored.{messages_of}
 use Rattle.network.proofs.LinkLaws.{link-low}
 use Rattle.network.proofs.SlotChanges.{IsRising-append, IsRising-higher, length-answered}
-use Rattle.network.proofs.StoredChanges.{stored-answered}
+use Rattle.network.proofs.StoredChanges.{Answers, stored-answered}
 use Rattle.network.proofs.StoredMessages.{placed-at, placed-some}
+use Rattle.network.proofs.linked.LinkedMessages.answer.Goals.{After-drop_empty}
 use Rattle.network.proofs.linked.LinkedMessages.answer.Goals as goal
 
 pub take_cell-taken-requires : goal.take_cell-taken-requires
@@ -34,35 +37,34 @@ drop_empty-requires c =
     c.unwrap-cell.result c.self.inside.slots.items c.take_cell-taken.new.slots.items
     (sym c.take_cell-taken.ensures.value ∙ c.unwrap-cell.ensures) c.take_cell-taken.ensures.after))
 
-pub invariant_of-self : goal.invariant_of-self
-invariant_of-self c =
+-- what is stored when the empty slots are dropped
+answered : (c : After-drop_empty) → Answers c.self.inside.cores c.self.inside.banks c.self.inside.next
+    c.self.inside.count (vec_capacity c.self.inside.slots) c.args.number c.args.reply c.drop_empty.new.slots.items
+    (pushed c.unwrap.result (c.unwrap-cell.result, (c.self.inside.next, c.args.reply))
+    (unlinked c.unwrap-cell.result c.self.inside.arena))
+    (messages_of c.self.inside.arena.lists (still_there c.self.inside.slots.items))
+answered c =
     let here = rw (← c.self.view_is) at c.requires.endpoints in
     let number = rw (← c.self.view_is) at c.requires.number in
-    let new = stored-answered _ _ _ _ _ c.args.number c.unwrap.result c.unwrap-cell.result c.args.reply
-    c.self.inside.slots.items c.take_cell-taken.new.slots.items c.drop_empty.new.slots.items c.self.inside.arena
-    c.self.invariant c.looked_up.ensures c.taken_off.ensures c.appended.ensures c.lists-lists.ensures.once here number
+    stored-answered _ _ _ _ _ c.args.number c.unwrap.result c.unwrap-cell.result c.args.reply c.self.inside.slots.items
+    c.take_cell-taken.new.slots.items c.drop_empty.new.slots.items c.self.inside.arena c.self.invariant
+    c.looked_up.ensures c.taken_off.ensures c.appended.ensures c.lists-lists.ensures.once here number
     (sym c.take_cell-taken.ensures.value ∙ c.unwrap-cell.ensures) (sym c.link_of-link.ensures ∙ c.unwrap.ensures)
     c.take_cell-taken.ensures.after (rw (← c.push_reserved.ensures.items) c.drop_empty.ensures.same)
     (c.drop_empty.ensures.rising _ (rw c.push_reserved.ensures.items (IsRising-append 0 _ _ _
-    (c.take_cell-taken.ensures.rising _ c.self.invariant.rising)))) c.drop_empty.ensures.few in
-    rw (
-      c.drop_empty.ensures.capacity,
-      c.push_reserved.ensures.capacity,
-      c.take_cell-taken.ensures.capacity,
-      c.refill-before.ensures.after,
-    ) new.stored
+    (c.take_cell-taken.ensures.rising _ c.self.invariant.rising)))) c.drop_empty.ensures.few
+
+pub invariant_of-self : goal.invariant_of-self
+invariant_of-self c = rw (
+  c.drop_empty.ensures.capacity,
+  c.push_reserved.ensures.capacity,
+  c.take_cell-taken.ensures.capacity,
+  c.refill-before.ensures.after,
+) (answered (goal.at.invariant_of-self c).After-drop_empty).stored
 
 pub returns-clause-after : goal.returns-clause-after
 returns-clause-after c =
-    let here = rw (← c.self.view_is) at c.requires.endpoints in
-    let number = rw (← c.self.view_is) at c.requires.number in
-    let new = stored-answered _ _ _ _ _ c.args.number c.unwrap.result c.unwrap-cell.result c.args.reply
-    c.self.inside.slots.items c.take_cell-taken.new.slots.items c.drop_empty.new.slots.items c.self.inside.arena
-    c.self.invariant c.looked_up.ensures c.taken_off.ensures c.appended.ensures c.lists-lists.ensures.once here number
-    (sym c.take_cell-taken.ensures.value ∙ c.unwrap-cell.ensures) (sym c.link_of-link.ensures ∙ c.unwrap.ensures)
-    c.take_cell-taken.ensures.after (rw (← c.push_reserved.ensures.items) c.drop_empty.ensures.same)
-    (c.drop_empty.ensures.rising _ (rw c.push_reserved.ensures.items (IsRising-append 0 _ _ _
-    (c.take_cell-taken.ensures.rising _ c.self.invariant.rising)))) c.drop_empty.ensures.few in
+    let new = answered (goal.at.returns-clause-after c).After-drop_empty in
     rw (
       ← c.self.view_is,
       c.drop_empty.ensures.capacity,

@@ -12,7 +12,8 @@ cell_of-requires c = rw c.deref.ensures.value (IsRising-higher 0 c.self.inside.n
 pub returns-in_err-cell-clause-value : goal.returns-in_err-cell-clause-value
 returns-in_err-cell-clause-value c =
     let ls = c.self.inside.arena.lists in let xs = still_there c.self.inside.slots.items in
-    let none : at_number c.args.number xs ≡ None = rw (← c.deref.ensures.value) (sym c.cell_of.ensures ∙ c.in_err-cell.was) in
+    let none : at_number c.args.number xs ≡ None =
+    rw (← c.deref.ensures.value) (sym c.cell_of.ensures ∙ c.in_err-cell.was) in
     rw (← c.self.view_is, c.from_residual.ensures) (sym (messages-at_number c.args.number ls xs
     c.self.invariant.linked.placed ∙ ap (at_cell ls) none))
 

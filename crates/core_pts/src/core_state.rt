@@ -75,8 +75,8 @@ impl Core {
         })
     }
 
-    /// The core as `new` makes it, set up so. If its cache has that shape, no memory is taken, and the time grows with the
-    /// copies that the core had. Where memory is refused nothing changes.
+    /// The core as `new` makes it, set up so. If its cache has that shape, no memory is taken, and the time grows with
+    /// the copies that the core had. Where memory is refused nothing changes.
     pub fn reopen(&mut self, config: CoreConfig, geometry: Geometry) -> Result<(), AllocError>
         requires config { IsInRange config }
         requires geometry { IsGeometry geometry.sets geometry.ways }
@@ -163,9 +163,9 @@ impl Core {
         self.cache.free_copy(self.pinned_line(), at)
     }
 
-    /// Keeps the lines of all copies in rising order from now on, so that `free_copy` finds a line by a binary search and
-    /// takes no memory. That takes 8 bytes for each copy that there may be, and moves at most as many bytes each time a
-    /// copy comes or goes. Where the memory is refused nothing is kept, and the answers are the same.
+    /// Keeps the lines of all copies in rising order from now on, so that `free_copy` finds a line by a binary search
+    /// and takes no memory. That takes 8 bytes for each copy that there may be, and moves at most as many bytes each
+    /// time a copy comes or goes. Where the memory is refused nothing is kept, and the answers are the same.
     pub fn keep_order(&mut self)
         ensures { self.new ≡ self.old }
     {

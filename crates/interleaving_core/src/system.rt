@@ -76,9 +76,9 @@ impl System {
         }
     }
 
-    /// The machine that `new` makes of its configuration and this memory. Its parts keep the memory that they have: more
-    /// is taken only for lines of DRAM beyond those that it had, and for the list of words. The time grows with what
-    /// was touched since the machine was made or opened again last. If memory is refused the machine is given up.
+    /// The machine that `new` makes of its configuration and this memory. Its parts keep the memory that they have:
+    /// more is taken only for lines of DRAM beyond those that it had, and for the list of words. The time grows with
+    /// what was touched since the machine was made or opened again last. If memory is refused the machine is given up.
     pub fn reopen(self, memory: Memory) -> Result<System, AllocError>
         ensures { IfOk result (λ system. system ≡ at_start self.config memory) }
     {
@@ -288,9 +288,9 @@ impl System {
 
     /// Each core and each bank keeps its lines in rising order from now on, so that `free_copy` and `entry` find a line
     /// by a binary search and take no memory. That takes 8 bytes for each copy and each entry that there may be, and
-    /// moves at most as many bytes of a core or a bank each time a line comes to it or leaves it. A core or bank that is
-    /// refused the memory goes on without, and all answers are the same. If the machine keeps them so already, this does
-    /// nothing.
+    /// moves at most as many bytes of a core or a bank each time a line comes to it or leaves it. A core or bank that
+    /// is refused the memory goes on without, and all answers are the same. If the machine keeps them so already, this
+    /// does nothing.
     pub fn keep_order(&mut self)
         ensures { self.new ≡ self.old }
     {

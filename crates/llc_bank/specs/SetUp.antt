@@ -1,5 +1,5 @@
 -- What a bank may be set up with.
-use Rattle.std.specs.Prelude.{◌^◌, ℕ, ◌<◌, ◌≤◌}
+use Rattle.std.specs.Prelude.{◌^◌, ◌<◌, ◌≤◌}
 use Rattle.llc_bank.specs.declared.config.BankConfig.{BankConfig}
 
 -- the ranges of what a bank is made with: the banks, its number among them, and the lease

@@ -70,8 +70,8 @@ impl Bank {
         })
     }
 
-    /// The bank as `new` makes it, set up so. If its table has that shape, no memory is taken, and the time grows with the
-    /// entries that the bank had. Where memory is refused nothing changes.
+    /// The bank as `new` makes it, set up so. If its table has that shape, no memory is taken, and the time grows with
+    /// the entries that the bank had. Where memory is refused nothing changes.
     pub fn reopen(&mut self, config: BankConfig) -> Result<(), AllocError>
         requires config { IsInRange config }
         requires geometry { IsGeometry config.sets config.ways }

@@ -189,12 +189,11 @@ pub(crate) fn nth_number(slots: &[Slot], at: u32) -> Option<MsgNo>
 {
     let mut left = at;
     for slot in slots {
-        if slot.1.is_some() {
-            if left == 0 {
-                return Some(MsgNo(slot.0));
-            }
-            left -= 1;
+        let here = u32::from(slot.1.is_some());
+        if left < here {
+            return Some(MsgNo(slot.0));
         }
+        left -= here;
     }
     None
 }

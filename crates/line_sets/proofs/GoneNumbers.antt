@@ -216,8 +216,8 @@ most-less b (y ∷ ys) = elim (cases_lt y (suc b)) [
 ]
 
 -- a number that is not gone comes after so many that are left as it stands higher than there are gone ones below it
-pub found-left : (v : ℕ) (ys xs : List ℕ) (index at d : ℕ) → IsKept ys xs → index < length ys → get_or ys index d ≡ v → less v xs ≡ most v xs → index ≡ at + most v xs →
-    slice_get (left ys xs) at ≡ Some v
+pub found-left : (v : ℕ) (ys xs : List ℕ) (index at d : ℕ) → IsKept ys xs → index < length ys →
+    get_or ys index d ≡ v → less v xs ≡ most v xs → index ≡ at + most v xs → slice_get (left ys xs) at ≡ Some v
 found-left v ys xs index at d kept inside is same higher =
     let r = kept.0 in let s = kept.1 in let w = kept.2 in
     let low = at-from v ys index d inside (omega (arith, is)) in

@@ -1,6 +1,7 @@
 mod ListedCounts
 mod ListedSums
 mod ListedTallies
+mod GoneNumbers
 mod Indices
 mod OrderLaws
 mod RisenLists

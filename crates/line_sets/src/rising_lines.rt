@@ -1,27 +1,49 @@
 //! The numbers of lines in rising order, where they are kept so.
-ghost use Rattle.std.specs.Prelude.{◌≡◌, ◌≤◌, ◌<◌, IfSome, List, None, Some, length, nat_le, nat_lt, slice_get, ℕ};
+ghost use Rattle.std.specs.Prelude.{◌≡◌, ◌≤◌, ◌<◌, IfSome, List, None, Some, [], length, nat_le, nat_lt, slice_get, ℕ};
 ghost use Rattle.std.specs.Prelude.{if◌then◌else◌};
 ghost use Rattle.std.specs.List.{prefix_len};
-ghost use Rattle.line_sets.specs.Rising.{all_but, put_in, risen, take_out, IsExchanged, IsOrderOf, Rises};
+ghost use Rattle.line_sets.specs.Rising.{all_but, left, put_in, risen, take_out, tally, IsExchanged, IsKept};
+ghost use Rattle.line_sets.specs.Rising.{IsOrderOf, Rises};
 
 use network::LineNo;
 use std::marker::Model;
 
+/// So many gone numbers are noted, at most, before they are taken out of all numbers.
+pub(crate) const MOST_GONE: usize = 64;
+
+/// Numbers in rising order. One that goes stays where it is and is noted in a second, short list: most come again soon,
+/// and then only the few noted ones are moved. Contracts see the numbers that are not gone.
+#[derive(Drop)]
+struct KeptNumbers {
+    // All numbers, the gone ones too.
+    numbers: Vec<u64>,
+    // The gone ones, rising too, each of them also among all numbers.
+    gone: Vec<u64>,
+}
+
+impl Model for KeptNumbers {
+    ghost use Rattle.std.specs.Prelude.{List, ℕ};
+    ghost use Rattle.line_sets.specs.Rising.{left, IsKept};
+
+    ghost Value = { List ℕ };
+
+    ghost view = { λ kept. left kept.numbers.items kept.gone.items };
+
+    ghost invariant = { λ kept. IsKept kept.numbers.items kept.gone.items };
+}
+
 /// Numbers of lines in rising order, or nothing. Contracts see the list, if there is one.
 #[derive(Drop)]
 pub struct RisingLines {
-    numbers: Option<Vec<u64>>,
+    kept: Option<KeptNumbers>,
 }
 
 impl Model for RisingLines {
-    ghost use Rattle.std.specs.Prelude.{Option, List, ℕ, option_map, IfSome};
-    ghost use Rattle.line_sets.specs.Rising.{Rises};
+    ghost use Rattle.std.specs.Prelude.{Option, List, ℕ};
 
     ghost Value = { Option (List ℕ) };
 
-    ghost view = { λ lines. option_map (λ numbers. numbers.items) lines.numbers };
-
-    ghost invariant = { λ lines. IfSome lines.numbers (λ numbers. Rises numbers.items) };
+    ghost view = { λ lines. lines.kept };
 }
 
 /// How many numbers of a rising list are below a number.
@@ -63,18 +85,22 @@ fn take_out(numbers: &mut Vec<u64>, number: u64)
     }
 }
 
-/// A number goes out of a rising list, or comes into it; false where memory for that is refused, and then nothing has
-/// changed.
-fn exchange(numbers: &mut Vec<u64>, number: u64, goes: bool) -> bool
-    requires { Rises numbers.old.items }
-    ensures { numbers.new.items ≡ (if result then (if goes then take_out number numbers.old.items else
-        put_in number numbers.old.items) else numbers.old.items) }
+/// How often a number is in a rising list.
+fn count(numbers: &[u64], number: u64) -> usize
+    requires { Rises numbers.now }
+    ensures { result ≡ tally number numbers.now }
 {
-    if goes {
-        take_out(numbers, number);
-        return true;
+    up_to(numbers, number) - below(numbers, number)
+}
+
+/// Takes each of the gone numbers out of a rising list.
+fn settle(numbers: &mut Vec<u64>, gone: &[u64])
+    requires { Rises numbers.old.items }
+    ensures { numbers.new.items ≡ left numbers.old.items gone.now }
+{
+    for at in 0..gone.len() {
+        take_out(numbers, gone[at]);
     }
-    put_in(numbers, number)
 }
 
 /// Where the number stands in a rising list that comes after so many others but one number.
@@ -92,21 +118,121 @@ fn index_but(numbers: &[u64], but: Option<LineNo>, at: usize) -> usize
     at + (up_to(numbers, but.0) - below(numbers, but.0))
 }
 
+/// The number of a rising list that comes after so many others but one number.
+fn nth_but(numbers: &[u64], but: Option<LineNo>, at: usize) -> Option<u64>
+    requires { Rises numbers.now }
+    ensures { IfSome result (λ number. slice_get (all_but but numbers.now) at ≡ Some number) }
+{
+    if at >= numbers.len() {
+        return None;
+    }
+    let index = index_but(numbers, but, at);
+    if index >= numbers.len() {
+        return None;
+    }
+    Some(numbers[index])
+}
+
+/// The number of a rising list that comes after so many others once the gone ones are left out. Each guess is the index
+/// and as many more as there are gone numbers up to the number at the last guess; a guess that stays is right.
+fn nth_left(numbers: &[u64], gone: &[u64], at: usize) -> Option<u64>
+    requires { IsKept numbers.now gone.now }
+    ensures { IfSome result (λ number. slice_get (left numbers.now gone.now) at ≡ Some number) }
+{
+    if at >= numbers.len() {
+        return None;
+    }
+    let mut index = at;
+    for _ in 0..gone.len() + 1 {
+        if index >= numbers.len() {
+            return None;
+        }
+        let number = numbers[index];
+        let passed = up_to(gone, number);
+        if at + passed == index && below(gone, number) == passed {
+            return Some(number);
+        }
+        index = at + passed;
+    }
+    None
+}
+
+impl KeptNumbers {
+    // Takes the gone numbers out of all numbers once there are as many as may be noted.
+    fn make_room(&mut self)
+        ensures { self.new ≡ self.old }
+    {
+        if self.gone.len() < MOST_GONE {
+            return;
+        }
+        settle(&mut self.numbers, &self.gone);
+        self.gone.clear();
+    }
+
+    /// A number goes; false where it isn't there, or where memory is refused, and then nothing has changed.
+    fn leave(&mut self, number: u64) -> bool
+        ensures { self.new ≡ (if result then take_out number self.old else self.old) }
+    {
+        self.make_room();
+        if count(&self.gone, number) >= count(&self.numbers, number) {
+            return false;
+        }
+        put_in(&mut self.gone, number)
+    }
+
+    /// A number comes; false where memory is refused, and then nothing has changed.
+    fn enter(&mut self, number: u64) -> bool
+        ensures { self.new ≡ (if result then put_in number self.old else self.old) }
+    {
+        if count(&self.gone, number) == 0 {
+            return put_in(&mut self.numbers, number);
+        }
+        take_out(&mut self.gone, number);
+        true
+    }
+
+    /// A number goes or comes; false where it isn't there, or where memory is refused, and then nothing has changed.
+    fn exchange(&mut self, number: u64, goes: bool) -> bool
+        ensures { self.new ≡ (if result then (if goes then take_out number self.old else
+            put_in number self.old) else self.old) }
+    {
+        if goes {
+            return self.leave(number);
+        }
+        self.enter(number)
+    }
+
+    /// The number that comes after so many others but one number. There is no answer where that one is to be left out
+    /// while others are gone.
+    fn nth(&self, but: Option<LineNo>, at: usize) -> Option<u64>
+        ensures { IfSome result (λ number. slice_get (all_but but self.now) at ≡ Some number) }
+    {
+        if self.gone.is_empty() {
+            return nth_but(&self.numbers, but, at);
+        }
+        if but.is_some() {
+            return None;
+        }
+        nth_left(&self.numbers, &self.gone, at)
+    }
+}
+
 impl RisingLines {
     /// Nothing is kept.
     pub(crate) fn none() -> RisingLines
         ensures { result ≡ None }
     {
-        RisingLines { numbers: None }
+        RisingLines { kept: None }
     }
 
-    /// A list that rises is kept.
-    pub(crate) fn of(numbers: Vec<u64>) -> RisingLines
-        requires { Rises numbers.items }
+    /// A list that rises is kept, and beside it an empty one for the numbers that are gone.
+    pub(crate) fn of(numbers: Vec<u64>, gone: Vec<u64>) -> RisingLines
+        requires rises { Rises numbers.items }
+        requires none_gone { gone.items ≡ [] }
         ensures { result ≡ Some numbers.items }
     {
         RisingLines {
-            numbers: Some(numbers),
+            kept: Some(KeptNumbers { numbers, gone }),
         }
     }
 
@@ -122,11 +248,11 @@ impl RisingLines {
         if before == after {
             return;
         }
-        let Some(numbers) = &mut self.numbers else {
+        let Some(kept) = &mut self.kept else {
             return;
         };
-        if !exchange(numbers, line, after < before) {
-            self.numbers = None;
+        if !kept.exchange(line, after < before) {
+            self.kept = None;
         }
     }
 
@@ -135,16 +261,9 @@ impl RisingLines {
         ensures { (xs : List ℕ) → IsOrderOf self.now xs → at < length (all_but but.now xs) →
             IfSome result (λ line. slice_get (risen (all_but but.now xs)) at ≡ Some line) }
     {
-        let Some(numbers) = &self.numbers else {
+        let Some(kept) = &self.kept else {
             return None;
         };
-        if at >= numbers.len() {
-            return None;
-        }
-        let at = index_but(numbers, *but, at);
-        if at >= numbers.len() {
-            return None;
-        }
-        Some(numbers[at])
+        kept.nth(*but, at)
     }
 }

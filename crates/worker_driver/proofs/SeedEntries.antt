@@ -1,23 +1,26 @@
 -- The entry of a seeded turn's list that is made.
 use Rattle.std.proofs.Common.{◌≡◌, ◌+◌, ◌%◌, ◌<◌, ℕ, suc, nat_lt, Bool, true, false, List, [], ◌∷◌, ◌++◌}
 use Rattle.std.proofs.Common.{length, map, get_or, Option, Some, None, refl, sym, ap, ◌∙◌, arith}
-use Rattle.std.proofs.Common.{◌≢◌, inl, inr, set, get_or-set_same, get_or-set_other}
-use Rattle.std.specs.Prelude.{slice_get, is_some}
+use Rattle.std.proofs.Common.{◌≢◌}
+use Rattle.std.specs.Prelude.{◌≤◌, slice_get}
 use Rattle.std.proofs.Math.Nat.{mod-lt}
-use Rattle.std.proofs.lemmas.Bool.{cases_eq, cond_both, false≢true}
+use Rattle.std.proofs.lemmas.Bool.{cond_both, false≢true}
 use Rattle.std.proofs.lemmas.List.{length-map, length-append, get_or_append_left, get_or-append-add, get_or-map, get_or_past}
 use Rattle.std.proofs.lemmas.List.FromFn.{get_or-map-range_with_len, length-map-range_with_len}
 use Rattle.std.proofs.lemmas.Option.{get_or_from_slice_get, slice_get_within, slice_get-get_or}
 use Rattle.interleaving_core.specs.LookUps.{open_op}
-use Rattle.worker_driver.specs.declared.schedule.Choice.{Choice as Chosen}
+use Rattle.physiological_order.specs.declared.operation.Op.{Op}
+use Rattle.trace_lines.specs.declared.steps.Step.{Step}
+use Rattle.trace_lines.specs.declared.steps.Step.TheVariants as step
 use Rattle.machine_table.specs.declared.event.Event.{Event}
 use Rattle.machine_table.specs.declared.event.Event.TheVariants as event
 use Rattle.machine_table.specs.Machine.{Machine}
 use Rattle.line_sets.specs.Rising.{put_in, risen}
+use Rattle.worker_driver.specs.declared.schedule.Choice.{Choice as Chosen}
 use Rattle.worker_driver.specs.Acts.{Acts, next_in}
 use Rattle.worker_driver.specs.Schedules.{Choice, Does, Delivers, Over}
 use Rattle.worker_driver.specs.SeedSchedule.{Seeded, advances, core_step, core_steps, entry, line_events}
-use Rattle.worker_driver.specs.SeedViews.{AreReady, Picks, PicksAny}
+use Rattle.worker_driver.specs.SeedViews.{Picks}
 use Rattle.worker_driver.proofs.Pieces.{at_piece, length_more}
 
 is_end : Choice Seeded → Bool
@@ -86,77 +89,34 @@ module _ (eviction : ℕ → ℕ → Event) (lines : ℕ → List ℕ) where
       false≢true (ap is_end (sym is ∙ over))
 
 -- cores' steps, of which each core has one or none
-counted_one : (choices : List (Choice Seeded)) (o : Option Chosen) → PicksAny choices o → is_some o ≡ true →
-    length choices ≡ 1
-counted_one choices None picks some = absurd (false≢true some)
-counted_one choices (Some choice) picks some = ap length picks.1
-
-counted_none : (choices : List (Choice Seeded)) (o : Option Chosen) → PicksAny choices o → is_some o ≡ false →
-    length choices ≡ 0
-counted_none choices None picks none = ap length picks
-counted_none choices (Some choice) picks none = absurd (false≢true (sym none))
+pub one_at_most : (core : ℕ) (o : Option (Op × Bool)) (next : Option Step) → length (core_step core o next) ≤ 1
+one_at_most core None None = omega arith
+one_at_most core None (Some (step.Op op)) = omega arith
+one_at_most core None (Some step.Advance) = omega arith
+one_at_most core (Some (op, true)) next = omega arith
+one_at_most core (Some (op, false)) next = omega arith
 
 module _ {P : Type 0} (acts : Acts P) (m : Machine) (programs : List P) where
   abbrev step_of : ℕ → List (Choice Seeded)
   step_of core = core_step core (open_op m core) (next_in acts programs core)
 
-  pub one_core_more : (core : ℕ) (o : Option Chosen) → PicksAny (step_of core) o → is_some o ≡ true →
-      length (core_steps acts m programs (core + 1)) ≡ length (core_steps acts m programs core) + 1
-  one_core_more core o picks some =
-      length_more step_of core
-      ∙ ap (λ k. length (core_steps acts m programs core) + k) (counted_one (step_of core) o picks some)
+  pub one_core_more : (core : ℕ) → length (core_steps acts m programs (core + 1)) ≡
+      length (core_steps acts m programs core) + length (step_of core)
+  one_core_more core = length_more step_of core
 
-  pub no_core_more : (core : ℕ) (o : Option Chosen) → PicksAny (step_of core) o → is_some o ≡ false →
-      length (core_steps acts m programs (core + 1)) ≡ length (core_steps acts m programs core) + 0
-  no_core_more core o picks none =
-      length_more step_of core
-      ∙ ap (λ k. length (core_steps acts m programs core) + k) (counted_none (step_of core) o picks none)
-
-  pub step_found : (cores core place : ℕ) (next : Choice Seeded) → core < cores → step_of core ≡ next ∷ [] →
-      length (core_steps acts m programs core) + 0 ≡ place → place < length (core_steps acts m programs cores) →
-      slice_get (core_steps acts m programs cores) place ≡ Some next
-  step_found cores core place next below is here within =
-      let inside : 0 < length (step_of core) = rw is (omega arith) in
-      slice_get-get_or (core_steps acts m programs cores) place Over within
-      ∙ ap Some (ap (λ k. get_or (core_steps acts m programs cores) k Over) (sym here)
-      ∙ at_piece step_of cores core 0 Over below inside ∙ ap (λ xs. get_or xs 0 Over) is)
-
-  -- cores that are kept with a place each
-  pub ready_same : (core : ℕ) (ready : List ℕ) (count : ℕ) → AreReady acts m programs core ready count →
-      AreReady acts m programs (core + 1) ready count
-  ready_same core ready count kept k lt =
-      let at = kept k lt in (let below = at.0 in omega (arith, below), at.1, at.2)
-
-  pub ready_more : (core : ℕ) (ready : List ℕ) (count : ℕ) (o : Option Chosen) →
-      AreReady acts m programs core ready count → count ≡ length (core_steps acts m programs core) →
-      PicksAny (step_of core) o → is_some o ≡ true → count < length ready →
-      AreReady acts m programs (core + 1) (set ready count core) (count + 1)
-  ready_more core ready count o kept counted picks some room k lt = elim (cases_eq k count) [
-    | inl e ↦
-        let here : get_or (set ready count core) k 0 ≡ core =
-        ap (λ n. get_or (set ready count core) n 0) e ∙ get_or-set_same ready count core 0 room in
-        rw here (omega arith, sym counted ∙ sym e, counted_one (step_of core) o picks some)
-    | inr ne ↦
-        let there : get_or (set ready count core) k 0 ≡ get_or ready k 0 = get_or-set_other ready count k core 0 ne in
-        let at = kept k (omega (arith, lt, ne)) in rw there (let below = at.0 in omega (arith, below), at.1, at.2)
-  ]
-
-  pub ready_found : (cores place : ℕ) (ready : List ℕ) (count : ℕ) (choice : Chosen) →
-      AreReady acts m programs cores ready count → count ≡ length (core_steps acts m programs cores) → place < count →
-      PicksAny (step_of (get_or ready place 0)) (Some choice) →
+  -- what a core does stands behind what the cores below it do
+  pub step_found : (cores core place left : ℕ) (choice : Chosen) → core < cores →
+      ((next : Choice Seeded) × (step_of core ≡ next ∷ []) × Picks next choice) →
+      left < length (step_of core) → length (core_steps acts m programs core) + left ≡ place →
+      place < length (core_steps acts m programs cores) →
       (next : Choice Seeded) × (slice_get (core_steps acts m programs cores) place ≡ Some next) × Picks next choice
-  ready_found cores place ready count choice kept counted lt picks =
-      let at = kept place lt in (
-        picks.0,
-        step_found cores (get_or ready place 0) place picks.0 at.0 picks.1 (let here = at.1 in omega (arith, here))
-            (omega (arith, lt, counted)),
-        picks.2,
-      )
-
-  pub ready_none : (cores place : ℕ) (ready : List ℕ) (count : ℕ) → AreReady acts m programs cores ready count →
-      place < count → PicksAny (step_of (get_or ready place 0)) None → ⊥
-  ready_none cores place ready count kept lt picks =
-      absurd (let one = (kept place lt).2 in let none = ap length picks in omega (arith, one, none))
+  step_found cores core place left choice below (next, is, picks) within here inside =
+      let none : left ≡ 0 = let one = ap length is in omega (arith, one, within) in
+      let at : get_or (core_steps acts m programs cores) place Over ≡ next =
+      ap (λ k. get_or (core_steps acts m programs cores) k Over) (sym here)
+      ∙ at_piece step_of cores core left Over below within
+      ∙ ap (λ k. get_or (step_of core) k Over) none ∙ ap (λ xs. get_or xs 0 Over) is in
+      (next, slice_get-get_or (core_steps acts m programs cores) place Over inside ∙ ap Some at, picks)
 
 -- an entry of the front, and one of the deliveries behind it
 pub front_entry : (xs ys : List (Choice Seeded)) (b at : ℕ) (next : Choice Seeded) → at ≡ b % length (xs ++ ys) →

@@ -1,13 +1,10 @@
 -- How many steps are left in a seeded turn, and how an entry that is picked stands for what the schedule has next.
-use Rattle.std.specs.Prelude.{◌≡◌, ◌≢◌, ◌<◌, ℕ, List, [], ◌∷◌, length, get_or, Option, Some, None, IsSome}
+use Rattle.std.specs.Prelude.{◌≡◌, ◌≢◌, ℕ, List, [], ◌∷◌, Option, Some, None, IsSome}
 use Rattle.std.specs.Prelude.{Result, Ok, Err}
-use Rattle.machine_table.specs.Machine.{Machine}
-use Rattle.interleaving_core.specs.LookUps.{open_op}
-use Rattle.worker_driver.specs.Acts.{Acts, next_in}
 use Rattle.worker_driver.specs.declared.schedule.Choice.{Choice as Chosen}
 use Rattle.worker_driver.specs.declared.schedule.Choice.TheVariants as chosen
 use Rattle.worker_driver.specs.Schedules.{Choice, Does, Tries, Delivers, Advances, Over}
-use Rattle.worker_driver.specs.SeedSchedule.{Seeded, core_step, core_steps}
+use Rattle.worker_driver.specs.SeedSchedule.{Seeded}
 
 -- one step, while the words of the turn are there
 abbrev pub left_with : Option (ℕ × ℕ) → ℕ
@@ -38,10 +35,3 @@ PicksOne next (Err e) = next ≢ Over
 abbrev pub PicksAny : List (Choice Seeded) → Option Chosen → Type 0
 PicksAny choices None = choices ≡ []
 PicksAny choices (Some choice) = (next : Choice Seeded) × (choices ≡ next ∷ []) × Picks next choice
-
--- so many cores, each below a number, with a step, and behind as many steps of cores below it as stand before it
-abbrev pub AreReady : {P : Type 0} → Acts P → Machine → List P → ℕ → List ℕ → ℕ → Type 0
-AreReady acts m programs cores ready count =
-    (k : ℕ) → k < count → (get_or ready k 0 < cores)
-    × (length (core_steps acts m programs (get_or ready k 0)) ≡ k)
-    × (length (core_step (get_or ready k 0) (open_op m (get_or ready k 0)) (next_in acts programs (get_or ready k 0))) ≡ 1)

@@ -1,11 +1,11 @@
 //! The seeded schedule: each turn draws two words, the first for a list of events, the second for the entry of it that
 //! is made. No list is built: entries are counted, and the one that is wanted is looked up.
-ghost use Rattle.std.specs.Prelude.{◌≡◌, ◌<◌, ◌≤◌, ◌+◌, ◌*◌, ◌^◌, ℕ, List, length, IfOk, Some, slice_get};
+ghost use Rattle.std.specs.Prelude.{◌≡◌, ◌∷◌, [], ◌<◌, ◌≤◌, ◌+◌, ◌%◌, ◌*◌, ◌^◌, ℕ, List, length, IfOk, Some, slice_get};
 ghost use Rattle.interleaving_core.specs.LookUps.{entries, free_copies, open_op};
 ghost use Rattle.line_sets.specs.Rising.{risen};
 ghost use Rattle.worker_driver.specs.Acts.{next_in};
 ghost use Rattle.worker_driver.specs.SeedSchedule.{advances, core_step, core_steps, entry, line_events, of_seed, steps};
-ghost use Rattle.worker_driver.specs.SeedViews.{AreReady, Picks, PicksAny, PicksOne};
+ghost use Rattle.worker_driver.specs.SeedViews.{Picks, PicksAny, PicksOne};
 
 use crate::look_ups::next_in;
 use crate::program::Program;
@@ -146,6 +146,18 @@ fn advance(system: &System, b: u32) -> Choice
     Choice::Does(Event::Advance(b % cores))
 }
 
+// The place that a word draws among so many entries. The division is one of 32 bits, which is cheap.
+#[inline(always)]
+fn place_in(b: u32, total: u128) -> u32
+    requires { 0 < total }
+    ensures { result ≡ b % total }
+{
+    if u128::from(b) < total {
+        return b;
+    }
+    b % total as u32
+}
+
 // How many lines all holders have.
 fn line_count<H: Holder>(system: &System) -> u128
     ensures { result ≡ length (line_events H.eviction (H.lines system.now) (H.holders system.now)) }
@@ -166,11 +178,11 @@ fn evict<H: Holder>(system: &System, b: u32) -> Result<Choice, AllocError>
     if total == 0 {
         return Ok(Choice::Over);
     }
-    let mut at = u128::from(b) % total;
+    let mut at = place_in(b, total) as usize;
     for holder in 0..H::holders(system) {
-        let count = H::count(system, holder) as u128;
+        let count = H::count(system, holder);
         if at < count {
-            return match H::line(system, holder, at as usize) {
+            return match H::line(system, holder, at) {
                 Ok(line) => Ok(Choice::Does(H::eviction(holder, line))),
                 Err(error) => Err(error),
             };
@@ -181,6 +193,7 @@ fn evict<H: Holder>(system: &System, b: u32) -> Result<Choice, AllocError>
 }
 
 // What a core does next, if it does something.
+#[inline(always)]
 fn core_step<P: Program>(system: &System, programs: &mut [P], core: u32) -> Option<Choice>
     ensures step { PicksAny (core_step core (open_op system.now core)
         (next_in P.acts programs.old core)) result }
@@ -200,49 +213,66 @@ fn core_step<P: Program>(system: &System, programs: &mut [P], core: u32) -> Opti
     }
 }
 
-// The cores that do something next: so many, in rising order.
-#[derive(Clone, Copy)]
-struct Ready {
-    count: u32,
-    cores: [u32; 64],
-}
-
-// The cores that do something next. A machine has at most 64.
-fn ready_cores<P: Program>(system: &System, programs: &mut [P]) -> Ready
-    ensures count { result.count ≡ length (core_steps P.acts system.now programs.old
-        system.now.config.cores) }
-    ensures bound { result.count ≤ 64 }
-    ensures ready { AreReady P.acts system.now programs.old system.now.config.cores result.cores
-        result.count }
+// How many steps a core does next: one, or none.
+#[inline(always)]
+fn steps_next<P: Program>(system: &System, programs: &mut [P], core: u32) -> u32
+    ensures step { result ≡ length (core_step core (open_op system.now core)
+        (next_in P.acts programs.old core)) }
     ensures same { programs.new ≡ programs.old }
 {
-    let mut cores = [0; 64];
-    let mut count = 0;
-    for core in 0..system.cores() {
-        if core_step(system, programs, core).is_some() {
-            cores[count as usize] = core;
-            count += 1;
-        }
+    let _inside: Option<Op> = None;
+    if let Some((_op, is_out)) = system.open_op(core) {
+        return u32::from(!is_out);
     }
-    Ready { count, cores }
+    u32::from(next_in(programs, core).is_some())
 }
 
-// What the core at a place among those does.
-fn step_at<P: Program>(system: &System, programs: &mut [P], ready: &Ready, place: u32) -> Choice
-    requires inside { place < ready.now.count }
-    requires bound { ready.now.count ≤ 64 }
-    requires count { ready.now.count ≡ length (core_steps P.acts system.now programs.old
+// How many cores do something next. A machine has at most 64.
+fn count_ready<P: Program>(system: &System, programs: &mut [P]) -> u32
+    ensures count { result ≡ length (core_steps P.acts system.now programs.old
         system.now.config.cores) }
-    requires ready { AreReady P.acts system.now programs.old system.now.config.cores
-        ready.now.cores ready.now.count }
+    ensures bound { result ≤ 64 }
+    ensures same { programs.new ≡ programs.old }
+{
+    let mut count = 0;
+    for core in 0..system.cores() {
+        count += steps_next(system, programs, core);
+    }
+    count
+}
+
+// What a core does next that does something.
+#[inline(always)]
+fn sure_step<P: Program>(system: &System, programs: &mut [P], core: u32) -> Choice
+    requires some { 0 < length (core_step core (open_op system.now core)
+        (next_in P.acts programs.old core)) }
+    ensures step { (next : _) × (core_step core (open_op system.now core)
+        (next_in P.acts programs.old core) ≡ next ∷ []) × Picks next result }
+    ensures same { programs.new ≡ programs.old }
+{
+    match core_step(system, programs, core) {
+        Some(choice) => choice,
+        None => unreachable!(),
+    }
+}
+
+// What the core does next that comes after so many others that do something.
+fn step_at<P: Program>(system: &System, programs: &mut [P], place: u32) -> Choice
+    requires inside { place < length (core_steps P.acts system.now programs.old
+        system.now.config.cores) }
     ensures step { (next : _) × (slice_get (core_steps P.acts system.now programs.old
         system.now.config.cores) place ≡ Some next) × Picks next result }
     ensures same { programs.new ≡ programs.old }
 {
-    match core_step(system, programs, ready.cores[place as usize]) {
-        Some(choice) => choice,
-        None => unreachable!(),
+    let mut left = place;
+    for core in 0..system.cores() {
+        let steps = steps_next(system, programs, core);
+        if left < steps {
+            return sure_step(system, programs, core);
+        }
+        left -= steps;
     }
+    unreachable!()
 }
 
 // A step of a core, or the delivery of a message.
@@ -250,16 +280,16 @@ fn step<P: Program>(system: &System, programs: &mut [P], b: u32) -> Choice
     ensures step { Picks (entry (steps P.acts system.now programs.old) b) result }
     ensures same { programs.new ≡ programs.old }
 {
-    let ready = ready_cores(system, programs);
-    let total = u64::from(ready.count) + u64::from(system.messages());
+    let ready = count_ready(system, programs);
+    let total = u128::from(ready) + u128::from(system.messages());
     if total == 0 {
         return Choice::Over;
     }
-    let at = (u64::from(b) % total) as u32;
-    if at < ready.count {
-        return step_at(system, programs, &ready, at);
+    let at = place_in(b, total);
+    if at < ready {
+        return step_at(system, programs, at);
     }
-    match system.message(at - ready.count) {
+    match system.message(at - ready) {
         Some(number) => Choice::Delivers(number),
         None => unreachable!(),
     }

@@ -5,6 +5,7 @@ mod Coherence
 mod Endpoints
 mod DramWords
 mod InOrder
+mod LastRecord
 mod MemoryAnswers
 mod OpenedOps
 mod Only

@@ -1,6 +1,6 @@
 -- What a change of one part makes of the part and the messages in flight, and what its answer makes of the machine.
 use Rattle.std.specs.Prelude.{◌≡◌, ℕ, Bool, true, false, List, [], ◌∷◌, ◌++◌, Option, Some, None}
-use Rattle.std.specs.Prelude.{Result, Ok, Err}
+use Rattle.std.specs.Prelude.{◌-◌, Result, Ok, Err, length, slice_get}
 use Rattle.physiological_order.specs.declared.operation.Record.{Record}
 use Rattle.network.specs.declared.part.Reaction.{Reaction}
 use Rattle.network.specs.declared.part.Reaction.TheVariants.{Done, Dropped, Held, HeldAfter}
@@ -10,8 +10,8 @@ use Rattle.machine_table.specs.declared.event.Answer.TheVariants as answer
 use Rattle.machine_table.specs.declared.event.Refusal.{Refusal}
 use Rattle.machine_table.specs.declared.event.Refusal.TheVariants.{Exhausted, NetworkFull}
 use Rattle.machine_table.specs.Change as change
-use Rattle.interleaving_core.specs.declared.delivery.Delivery.{Delivery}
-use Rattle.interleaving_core.specs.declared.delivery.Delivery.TheVariants as delivery
+use Rattle.interleaving_core.specs.declared.plain_answer.PlainAnswer.{PlainAnswer}
+use Rattle.interleaving_core.specs.declared.plain_answer.PlainAnswer.TheVariants as plain
 use Rattle.machine_table.specs.Change.{Change, Keeps, Exhausts, Drops, Makes, Completes}
 
 -- the answer, and the part and the messages in flight afterwards
@@ -32,13 +32,46 @@ abbrev pub stops : Answer → Bool
 stops (answer.Refused Exhausted) = true
 stops _ = false
 
--- a delivery's answer
-abbrev pub answer_of : Delivery → Answer
-answer_of delivery.Delivered = answer.Delivered
-answer_of delivery.Dropped = answer.Dropped
-answer_of delivery.Held = answer.Held
-answer_of delivery.Started = answer.Started
-answer_of (delivery.Refused why) = answer.Refused why
+-- a plain answer as an answer
+abbrev pub answer_of : PlainAnswer → Answer
+answer_of plain.Issued = answer.Issued
+answer_of plain.Requested = answer.Requested
+answer_of plain.Waiting = answer.Waiting
+answer_of plain.Idle = answer.Idle
+answer_of plain.Delivered = answer.Delivered
+answer_of plain.Dropped = answer.Dropped
+answer_of plain.Held = answer.Held
+answer_of plain.Started = answer.Started
+answer_of plain.Evicted = answer.Evicted
+answer_of plain.Recalled = answer.Recalled
+answer_of plain.Advanced = answer.Advanced
+answer_of (plain.Refused why) = answer.Refused why
+
+-- an answer without a record; none, if it has one
+abbrev pub plain_of : Answer → Option PlainAnswer
+plain_of answer.Issued = Some plain.Issued
+plain_of (answer.Completed done) = None
+plain_of answer.Requested = Some plain.Requested
+plain_of answer.Waiting = Some plain.Waiting
+plain_of answer.Idle = Some plain.Idle
+plain_of answer.Delivered = Some plain.Delivered
+plain_of answer.Dropped = Some plain.Dropped
+plain_of answer.Held = Some plain.Held
+plain_of answer.Started = Some plain.Started
+plain_of answer.Evicted = Some plain.Evicted
+plain_of answer.Recalled = Some plain.Recalled
+plain_of answer.Advanced = Some plain.Advanced
+plain_of (answer.Refused why) = Some (plain.Refused why)
+
+-- what a completion is answered whose record this is
+abbrev pub completed_by : Option Record → Answer
+completed_by None = answer.Idle
+completed_by (Some done) = answer.Completed done
+
+-- the answer of a machine with these records: without a plain one the last of them was completed
+abbrev pub answer_in : List Record → Option PlainAnswer → Answer
+answer_in records None = completed_by (slice_get records (length records - 1))
+answer_in records (Some plain) = answer_of plain
 
 -- what an attempt is answered that needs a request, by whether it was sent
 abbrev pub requested : Bool → Answer

@@ -2,7 +2,6 @@
 //! docs/PROTOCOL.md has the order of refusals.
 #![tactic(auto)]
 
-mod delivery;
 mod kept_orders;
 pub mod laws;
 mod line_words;
@@ -11,6 +10,7 @@ mod machine_state;
 mod op_list;
 mod opening;
 mod operations;
+mod plain_answer;
 mod reactions;
 mod records;
 mod reopening;

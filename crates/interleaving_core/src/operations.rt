@@ -6,9 +6,10 @@ ghost use Rattle.network.specs.Mail.{Mail};
 ghost use Rattle.llc_bank.specs.BankTable as bank_table;
 ghost use Rattle.interleaving_core.specs.LookUps.{is_request};
 ghost use Rattle.machine_table.specs.Change.{advanced, attempt, copy_evicted, entry_evicted, requests};
-ghost use Rattle.interleaving_core.specs.PartChanges.{applied, requested};
+ghost use Rattle.interleaving_core.specs.PartChanges.{answer_of, applied, requested};
 ghost use Rattle.interleaving_core.specs.Endpoints.{BackHasEndpoints, EvictedHasEndpoints, is_sent_back};
 
+use crate::plain_answer::PlainAnswer;
 use crate::reactions::send;
 use core_pts::{Attempt, Core, nothing_completed_keeps};
 use llc_bank::{Bank, Evict, EvictError};
@@ -96,22 +97,22 @@ fn request(core: &mut Core, flight: &mut InFlight, op: &Op, body: Body) -> bool
 
 /// A core's time goes on by one.
 #[inline(always)]
-pub(crate) fn advance(core: &mut Core) -> Answer
-    ensures { (mail : Mail) → (result, core.new, mail) ≡ applied core.old mail
+pub(crate) fn advance(core: &mut Core) -> PlainAnswer
+    ensures { (mail : Mail) → (answer_of result, core.new, mail) ≡ applied core.old mail
         (advanced mail (advance core.old)) }
 {
     match core.advance() {
-        Err(Exhausted) => Answer::Refused(Refusal::Exhausted),
-        Ok(()) => Answer::Advanced,
+        Err(Exhausted) => PlainAnswer::Refused(Refusal::Exhausted),
+        Ok(()) => PlainAnswer::Advanced,
     }
 }
 
 /// A copy of a line leaves a core's cache. A copy that the core owns is sent back.
 #[inline(always)]
-pub(crate) fn evict_copy(core: &mut Core, flight: &mut InFlight, line: LineNo) -> Answer
+pub(crate) fn evict_copy(core: &mut Core, flight: &mut InFlight, line: LineNo) -> PlainAnswer
     requires endpoints { BackHasEndpoints flight.old.cores flight.old.banks
         (evict core.old line).0 }
-    ensures done { (result, core.new, flight.new.mail) ≡ applied core.old
+    ensures done { (answer_of result, core.new, flight.new.mail) ≡ applied core.old
         flight.old.mail (copy_evicted flight.old.capacity flight.old.mail (evict core.old line)) }
     ensures set_up { flight.new ≡ record flight.old {
       slots = flight.new.slots;
@@ -122,27 +123,27 @@ pub(crate) fn evict_copy(core: &mut Core, flight: &mut InFlight, line: LineNo) -
 {
     if !flight.has_capacity() {
         if sends_back(core, line) {
-            return Answer::Refused(Refusal::NetworkFull);
+            return PlainAnswer::Refused(Refusal::NetworkFull);
         }
     }
     match core.evict(line) {
-        Err(CacheError::NotHere) => Answer::Refused(Refusal::NoSuch),
-        Err(CacheError::NoRoom) => Answer::Refused(Refusal::NoSuch),
-        Err(CacheError::Pinned) => Answer::Refused(Refusal::Pinned),
-        Ok(None) => Answer::Evicted,
+        Err(CacheError::NotHere) => PlainAnswer::Refused(Refusal::NoSuch),
+        Err(CacheError::NoRoom) => PlainAnswer::Refused(Refusal::NoSuch),
+        Err(CacheError::Pinned) => PlainAnswer::Refused(Refusal::Pinned),
+        Ok(None) => PlainAnswer::Evicted,
         Ok(Some(back)) => {
             send(flight, back);
-            Answer::Evicted
+            PlainAnswer::Evicted
         }
     }
 }
 
 /// A line leaves a bank, or its owner is asked to give it back for that.
 #[inline(always)]
-pub(crate) fn evict_entry(bank: &mut Bank, flight: &mut InFlight, line: LineNo) -> Answer
+pub(crate) fn evict_entry(bank: &mut Bank, flight: &mut InFlight, line: LineNo) -> PlainAnswer
     requires endpoints { EvictedHasEndpoints flight.old.cores flight.old.banks
         (bank_table.evict bank.old line).0 }
-    ensures done { (result, bank.new, flight.new.mail) ≡ applied bank.old
+    ensures done { (answer_of result, bank.new, flight.new.mail) ≡ applied bank.old
         flight.old.mail (entry_evicted flight.old.capacity flight.old.mail
         (bank_table.evict bank.old line)) }
     ensures set_up { flight.new ≡ record flight.old {
@@ -154,20 +155,20 @@ pub(crate) fn evict_entry(bank: &mut Bank, flight: &mut InFlight, line: LineNo) 
 {
     if !flight.has_capacity() {
         if let Ok(Some(_)) = bank.evicts(line) {
-            return Answer::Refused(Refusal::NetworkFull);
+            return PlainAnswer::Refused(Refusal::NetworkFull);
         }
     }
     match bank.evict(line) {
-        Err(EvictError::NotHere) => Answer::Refused(Refusal::NoSuch),
-        Err(EvictError::Busy) => Answer::Refused(Refusal::Busy),
-        Ok(Evict::Clean) => Answer::Evicted,
+        Err(EvictError::NotHere) => PlainAnswer::Refused(Refusal::NoSuch),
+        Err(EvictError::Busy) => PlainAnswer::Refused(Refusal::Busy),
+        Ok(Evict::Clean) => PlainAnswer::Evicted,
         Ok(Evict::Stored(store)) => {
             send(flight, store);
-            Answer::Evicted
+            PlainAnswer::Evicted
         }
         Ok(Evict::Recalled(recall)) => {
             send(flight, recall);
-            Answer::Recalled
+            PlainAnswer::Recalled
         }
     }
 }

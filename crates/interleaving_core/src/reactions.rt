@@ -9,7 +9,7 @@ ghost use Rattle.interleaving_core.specs.PartChanges.{IsQuiet, answer_of, applie
 ghost use Rattle.interleaving_core.specs.PartChanges.{stops};
 ghost use Rattle.interleaving_core.specs.Endpoints.{CanConclude, ReactionHasEndpoints, SendsWithEndpoints};
 
-use crate::delivery::{Delivery, stop_after};
+use crate::plain_answer::{PlainAnswer, stop_after};
 use machine_table::Refusal;
 use network::{InFlight, Message, MsgNo, Node, Part, PartError, Reaction};
 use std::alloc::AllocError;
@@ -57,7 +57,7 @@ pub(crate) fn conclude(
     is_stopped: &mut bool,
     number: MsgNo,
     response: Result<Reaction, Refusal>,
-) -> Delivery
+) -> PlainAnswer
     requires there { IsSome (at_number number flight.old.mail.messages) }
     requires sent { CanConclude flight.old response }
     ensures done { (answer_of result, flight.new.mail) ≡ concluded flight.old.mail number
@@ -72,8 +72,8 @@ pub(crate) fn conclude(
 {
     match response {
         Err(why) => {
-            stop_after(is_stopped, Delivery::Refused(why));
-            Delivery::Refused(why)
+            stop_after(is_stopped, PlainAnswer::Refused(why));
+            PlainAnswer::Refused(why)
         }
         Ok(reaction) => {
             let delivery = delivery_of(&reaction);
@@ -111,14 +111,14 @@ fn can_send(flight: &InFlight, sends: Option<(Node, bool)>) -> bool
 
 // What a reaction to a delivered message is answered.
 #[inline(always)]
-fn delivery_of(reaction: &Reaction) -> Delivery
+fn delivery_of(reaction: &Reaction) -> PlainAnswer
     ensures { (mail : Mail) (n : ℕ) → answer_of result ≡ (settled mail n reaction.now).0 }
 {
     match reaction {
-        Reaction::Held => Delivery::Held,
-        Reaction::Dropped => Delivery::Dropped,
-        Reaction::Done(_) => Delivery::Delivered,
-        Reaction::HeldAfter(_) => Delivery::Started,
+        Reaction::Held => PlainAnswer::Held,
+        Reaction::Dropped => PlainAnswer::Dropped,
+        Reaction::Done(_) => PlainAnswer::Delivered,
+        Reaction::HeldAfter(_) => PlainAnswer::Started,
     }
 }
 

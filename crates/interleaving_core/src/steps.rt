@@ -4,12 +4,12 @@ ghost use Rattle.network.specs.NumberedMessages.{at_number};
 ghost use Rattle.machine_table.specs.Transition.{advance_at, attempt_at, deliver_message, evict_copy};
 ghost use Rattle.machine_table.specs.Transition.{evict_entry, issue_at, transition};
 ghost use Rattle.machine_theorem.specs.Kept.{Invariant};
-ghost use Rattle.interleaving_core.specs.PartChanges.{answer_of};
+ghost use Rattle.interleaving_core.specs.PartChanges.{answer_in, answer_of};
 ghost use Rattle.interleaving_core.specs.StepAnswers.{Stepped, TakesMemory, asks_memory, delivery_asks};
 
-use crate::delivery::{Delivery, answer_of};
 use crate::machine_state::MachineState;
 use crate::operations;
+use crate::plain_answer::{PlainAnswer, answer_in, answer_of, plain_of, stop_after};
 use crate::reactions::{conclude, respond};
 use crate::records::{keep, reserve, stop};
 use machine_table::{Answer, Event, Refusal};
@@ -19,9 +19,9 @@ use std::alloc::AllocError;
 
 impl MachineState {
     // An operation is opened at a core. Capacity for its record is reserved here.
-    fn issue(&mut self, core: u32, op: Op) -> Result<Answer, AllocError>
+    fn issue(&mut self, core: u32, op: Op) -> Result<PlainAnswer, AllocError>
         requires { Invariant self.old }
-        ensures done { IfOk result (λ answer. (answer, self.new) ≡ issue_at self.old core op
+        ensures done { IfOk result (λ plain. (answer_of plain, self.new) ≡ issue_at self.old core op
             (slice_get self.old.cores core)) }
         ensures refused { OnErr result (self.new ≡ self.old) }
         ensures wanted { OnErr result
@@ -29,84 +29,86 @@ impl MachineState {
     {
         let at = core as usize;
         if at >= self.cores.len() {
-            return Ok(Answer::Refused(Refusal::NoSuch));
+            return Ok(PlainAnswer::Refused(Refusal::NoSuch));
         }
         if self.cores[at].open_op().is_some() {
-            return Ok(Answer::Refused(Refusal::Busy));
+            return Ok(PlainAnswer::Refused(Refusal::Busy));
         }
         if self.cores[at].issued() >= u32::MAX {
-            return Ok(Answer::Refused(Refusal::TooMany));
+            return Ok(PlainAnswer::Refused(Refusal::TooMany));
         }
         reserve(&mut self.records, self.cores.len())?;
         self.issued[at].push(&op)?;
         let _issued = self.cores[at].issue(op);
-        Ok(Answer::Issued)
+        Ok(PlainAnswer::Issued)
     }
 
-    // A core tries to complete its open operation.
-    fn attempt(&mut self, core: u32) -> Answer
+    // A core tries to complete its open operation. Where it is completed there is no plain answer: its record is the
+    // last one.
+    fn attempt(&mut self, core: u32) -> Option<PlainAnswer>
         requires { Invariant self.old }
-        ensures { (result, self.new) ≡ attempt_at self.old core (slice_get self.old.cores core) }
+        ensures { (answer_in self.new.records result, self.new) ≡ attempt_at self.old core
+            (slice_get self.old.cores core) }
     {
         let at = core as usize;
         if at >= self.cores.len() {
-            return Answer::Refused(Refusal::NoSuch);
+            return Some(PlainAnswer::Refused(Refusal::NoSuch));
         }
         let count = self.records.len();
         let answer = operations::attempt(&mut self.cores[at], &mut self.flight, core, count);
         keep(&mut self.records, &answer);
         stop(&mut self.is_stopped, &answer);
-        answer
+        plain_of(&answer)
     }
 
     // A core's time goes on by one.
     #[inline(always)]
-    fn advance(&mut self, core: u32) -> Answer
-        ensures { (result, self.new) ≡ advance_at self.old core (slice_get self.old.cores core) }
+    fn advance(&mut self, core: u32) -> PlainAnswer
+        ensures { (answer_of result, self.new) ≡ advance_at self.old core (slice_get self.old.cores core) }
     {
         let at = core as usize;
         if at >= self.cores.len() {
-            return Answer::Refused(Refusal::NoSuch);
+            return PlainAnswer::Refused(Refusal::NoSuch);
         }
-        let answer = operations::advance(&mut self.cores[at]);
-        stop(&mut self.is_stopped, &answer);
-        answer
+        let plain = operations::advance(&mut self.cores[at]);
+        stop_after(&mut self.is_stopped, plain);
+        plain
     }
 
     // A copy of a line leaves a core's cache.
-    fn evict_cache(&mut self, core: u32, line: LineNo) -> Answer
+    fn evict_cache(&mut self, core: u32, line: LineNo) -> PlainAnswer
         requires { Invariant self.old }
-        ensures { (result, self.new) ≡ evict_copy self.old core line
+        ensures { (answer_of result, self.new) ≡ evict_copy self.old core line
             (slice_get self.old.cores core) }
     {
         let at = core as usize;
         if at >= self.cores.len() {
-            return Answer::Refused(Refusal::NoSuch);
+            return PlainAnswer::Refused(Refusal::NoSuch);
         }
-        let answer = operations::evict_copy(&mut self.cores[at], &mut self.flight, line);
-        stop(&mut self.is_stopped, &answer);
-        answer
+        let plain = operations::evict_copy(&mut self.cores[at], &mut self.flight, line);
+        stop_after(&mut self.is_stopped, plain);
+        plain
     }
 
     // A line leaves a bank, or is recalled for that.
-    fn evict_bank(&mut self, bank: u32, line: LineNo) -> Answer
+    fn evict_bank(&mut self, bank: u32, line: LineNo) -> PlainAnswer
         requires { Invariant self.old }
-        ensures { (result, self.new) ≡ evict_entry self.old bank line
+        ensures { (answer_of result, self.new) ≡ evict_entry self.old bank line
             (slice_get self.old.banks bank) }
     {
         let at = bank as usize;
         if at >= self.banks.len() {
-            return Answer::Refused(Refusal::NoSuch);
+            return PlainAnswer::Refused(Refusal::NoSuch);
         }
-        let answer = operations::evict_entry(&mut self.banks[at], &mut self.flight, line);
-        stop(&mut self.is_stopped, &answer);
-        answer
+        let plain = operations::evict_entry(&mut self.banks[at], &mut self.flight, line);
+        stop_after(&mut self.is_stopped, plain);
+        plain
     }
 
     // A message in flight is delivered.
-    fn deliver(&mut self, number: MsgNo) -> Result<Delivery, AllocError>
+    fn deliver(&mut self, number: MsgNo) -> Result<PlainAnswer, AllocError>
         requires { Invariant self.old }
-        ensures done { IfOk result (λ delivery. (answer_of delivery, self.new) ≡
+        ensures done { IfOk result (λ plain. (answer_of plain, self.new) ≡
             deliver_message self.old number (at_number number self.old.mail.messages)) }
         ensures refused { OnErr result (self.new ≡ self.old) }
         ensures wanted { OnErr result
@@ -116,13 +118,13 @@ impl MachineState {
             (IsTrue (delivery_asks self.old (at_number number self.old.mail.messages))) }
     {
         let Some(message) = self.flight.look(number) else {
-            return Ok(Delivery::Refused(Refusal::NoSuch));
+            return Ok(PlainAnswer::Refused(Refusal::NoSuch));
         };
         match message.to {
             Node::Core(core) => {
                 let at = core as usize;
                 if at >= self.cores.len() {
-                    return Ok(Delivery::Refused(Refusal::NoSuch));
+                    return Ok(PlainAnswer::Refused(Refusal::NoSuch));
                 }
                 let response = respond(&mut self.cores[at], &self.flight, message)?;
                 Ok(conclude(&mut self.flight, &mut self.is_stopped, number, response))
@@ -130,7 +132,7 @@ impl MachineState {
             Node::Bank(bank) => {
                 let at = bank as usize;
                 if at >= self.banks.len() {
-                    return Ok(Delivery::Refused(Refusal::NoSuch));
+                    return Ok(PlainAnswer::Refused(Refusal::NoSuch));
                 }
                 let response = respond(&mut self.banks[at], &self.flight, message)?;
                 Ok(conclude(&mut self.flight, &mut self.is_stopped, number, response))
@@ -138,7 +140,7 @@ impl MachineState {
             Node::Dram(bank) => {
                 let at = bank as usize;
                 if at >= self.drams.len() {
-                    return Ok(Delivery::Refused(Refusal::NoSuch));
+                    return Ok(PlainAnswer::Refused(Refusal::NoSuch));
                 }
                 let response = respond(&mut self.drams[at], &self.flight, message)?;
                 Ok(conclude(&mut self.flight, &mut self.is_stopped, number, response))
@@ -159,12 +161,15 @@ impl MachineState {
             return Ok(Answer::Refused(Refusal::Stopped));
         }
         match event {
-            Event::Issue(core, op) => self.issue(core, op),
-            Event::Attempt(core) => Ok(self.attempt(core)),
+            Event::Issue(core, op) => Ok(answer_of(self.issue(core, op)?)),
+            Event::Attempt(core) => {
+                let plain = self.attempt(core);
+                Ok(answer_in(&self.records, plain))
+            }
             Event::Deliver(number) => Ok(answer_of(self.deliver(number)?)),
-            Event::EvictCache(core, line) => Ok(self.evict_cache(core, line)),
-            Event::EvictBank(bank, line) => Ok(self.evict_bank(bank, line)),
-            Event::Advance(core) => Ok(self.advance(core)),
+            Event::EvictCache(core, line) => Ok(answer_of(self.evict_cache(core, line))),
+            Event::EvictBank(bank, line) => Ok(answer_of(self.evict_bank(bank, line))),
+            Event::Advance(core) => Ok(answer_of(self.advance(core))),
         }
     }
 

@@ -6,6 +6,7 @@ use Rattle.machine_table.specs.declared.event.Answer.{Answer}
 use Rattle.machine_table.specs.Machine.{Machine}
 use Rattle.machine_table.specs.Transition.{advance_at}
 use Rattle.interleaving_core.specs.contracts.machine_state.MachineState.{the_view}
+use Rattle.interleaving_core.specs.PartChanges.{answer_of}
 use Rattle.interleaving_core.proofs.ChangedParts.{made_without, set_same}
 use Rattle.interleaving_core.proofs.Only.{SameOpen, advance_only, kept_open}
 use Rattle.interleaving_core.proofs.OpenCounts.{owed_kept}
@@ -18,8 +19,8 @@ invariant_of-self c =
     let here = slice_get_read c.self.inside.cores.items (length c.self.inside.cores.items) c.args.core
     c.index_mut.result.now refl (omega (arith, c.if-at-len.false, c.len.ensures)) c.index_mut.ensures.value in
     let kept = subst (λ (x : Answer × CoreState × Mail). x.1.open_op ≡ core.open_op)
-    (sym (c.advance-answer.ensures mail)) (kept_open core mail _ (advance_only core mail)) in
-    let same = owed_kept c.self.inside.cores.items c.args.core core c.advance-answer.new.core here kept in
+    (sym (c.advance-plain.ensures mail)) (kept_open core mail _ (advance_only core mail)) in
+    let same = owed_kept c.self.inside.cores.items c.args.core core c.advance-plain.new.core here kept in
     record {
       cores_are = c.self.invariant.cores_are;
       banks_are = c.self.invariant.banks_are;
@@ -35,7 +36,7 @@ returns c =
     c.index_mut.result.now refl (omega (arith, c.if-at-len.false, c.len.ensures)) c.index_mut.ensures.value in
     made_without m (λ x. set m.cores c.args.core x) (λ x. m.banks) (λ x. m.drams) core
     (set_same m.cores c.args.core core here) refl refl
-    (SameOpen core) _ (advance_only core m.mail) c.advance-answer.result c.advance-answer.new.core m.mail
-    c.stop.new.is_stopped (c.advance-answer.ensures m.mail) c.stop.ensures
+    (SameOpen core) _ (advance_only core m.mail) (answer_of c.advance-plain.result) c.advance-plain.new.core m.mail
+    c.stop_after.new.is_stopped (c.advance-plain.ensures m.mail) c.stop_after.ensures
     ∙ ap (advance_at m c.args.core) (sym here)
     ∙ ap (λ (n : Machine). advance_at n c.args.core (slice_get n.cores c.args.core)) c.self.view_is

@@ -11,6 +11,7 @@ use Rattle.interleaving_core.specs.contracts.machine_state.MachineState.{the_vie
 use Rattle.interleaving_core.specs.PartChanges.{applied, with_record}
 use Rattle.interleaving_core.specs.Reservation.{owed_for}
 use Rattle.interleaving_core.proofs.ChangedParts.{made_so, set_same}
+use Rattle.interleaving_core.proofs.LastRecord.{told_in}
 use Rattle.interleaving_core.proofs.Only.{OneLess, SameOpen, attempt_only, balanced}
 use Rattle.interleaving_core.proofs.OpenCounts.{owed_set}
 use Rattle.interleaving_core.proofs.Endpoints.{still_fitted}
@@ -74,11 +75,12 @@ returns c =
     ∙ ap (λ (n : ℕ). applied core m.mail (attempt c.args.core n c.self.inside.flight.capacity m.mail core)) counted
     ∙ ap (λ (n : ℕ). applied core m.mail (attempt c.args.core (length m.records) n m.mail core))
     c.self.invariant.capacity_is in
-    made_so m (λ x. set m.cores c.args.core x) (λ x. m.banks) (λ x. m.drams) core
+    told_in _ m.records c.attempt-answer.result c.plain_of.result _ c.plain_of.ensures c.keep.ensures.records
+    (made_so m (λ x. set m.cores c.args.core x) (λ x. m.banks) (λ x. m.drams) core
     (set_same m.cores c.args.core core here) refl refl
     (SameOpen core) (OneLess core) _ (attempt_only core c.args.core (length m.records) m.config.messages m.mail)
     c.attempt-answer.result c.attempt-answer.new.core c.attempt-answer.new.flight.mail
     c.keep.new.records.items c.stop.new.is_stopped
     done c.keep.ensures.records c.stop.ensures
     ∙ ap (attempt_at m c.args.core) (sym here)
-    ∙ ap (λ (n : Machine). attempt_at n c.args.core (slice_get n.cores c.args.core)) c.self.view_is
+    ∙ ap (λ (n : Machine). attempt_at n c.args.core (slice_get n.cores c.args.core)) c.self.view_is)

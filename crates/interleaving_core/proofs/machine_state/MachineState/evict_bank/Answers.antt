@@ -6,14 +6,15 @@ use Rattle.machine_table.specs.Change.{entry_evicted}
 use Rattle.machine_table.specs.Transition.{evict_entry}
 use Rattle.machine_theorem.specs.Kept.{Invariant}
 use Rattle.interleaving_core.specs.contracts.machine_state.MachineState.{the_view}
+use Rattle.interleaving_core.specs.PartChanges.{answer_of}
 use Rattle.interleaving_core.specs.Endpoints.{EvictedHasEndpoints}
 use Rattle.interleaving_core.proofs.ChangedParts.{event_done, set_same}
 use Rattle.interleaving_core.proofs.Endpoints.{evicted_endpoints, fitted_ends}
 use Rattle.interleaving_core.proofs.Only.{Any, entry_only}
 use Rattle.interleaving_core.proofs.machine_state.MachineState.evict_bank.Goals as goal
 
-pub evict_entry-answer-requires : goal.evict_entry-answer-requires
-evict_entry-answer-requires c =
+pub evict_entry-plain-requires : goal.evict_entry-plain-requires
+evict_entry-plain-requires c =
     let m : Machine = the_view c.self.inside in
     let part = c.index_mut.result.now in
     let here = slice_get_read c.self.inside.banks.items (length c.self.inside.banks.items) c.args.bank part refl
@@ -38,5 +39,5 @@ returns c =
     c.self.inside.flight.capacity c.self.invariant.capacity_is _ c.self.view_is
     (λ n. evict_entry n c.args.bank c.args.line (slice_get n.banks c.args.bank))
     (ap (evict_entry m c.args.bank c.args.line) (sym here))
-    c.evict_entry-answer.result c.evict_entry-answer.new.bank c.evict_entry-answer.new.flight.mail c.stop.new.is_stopped
-    c.evict_entry-answer.ensures.done c.stop.ensures
+    (answer_of c.evict_entry-plain.result) c.evict_entry-plain.new.bank c.evict_entry-plain.new.flight.mail c.stop_after.new.is_stopped
+    c.evict_entry-plain.ensures.done c.stop_after.ensures

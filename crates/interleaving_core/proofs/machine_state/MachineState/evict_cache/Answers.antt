@@ -9,6 +9,7 @@ use Rattle.machine_table.specs.Change.{copy_evicted}
 use Rattle.machine_table.specs.Transition.{evict_copy}
 use Rattle.machine_theorem.specs.Kept.{Invariant}
 use Rattle.interleaving_core.specs.contracts.machine_state.MachineState.{the_view}
+use Rattle.interleaving_core.specs.PartChanges.{answer_of}
 use Rattle.interleaving_core.specs.Endpoints.{BackHasEndpoints}
 use Rattle.interleaving_core.proofs.ChangedParts.{event_done, set_same}
 use Rattle.interleaving_core.proofs.Endpoints.{back_endpoints, fitted_ends, still_fitted}
@@ -16,8 +17,8 @@ use Rattle.interleaving_core.proofs.Only.{SameOpen, evict_only, kept_open}
 use Rattle.interleaving_core.proofs.OpenCounts.{owed_kept}
 use Rattle.interleaving_core.proofs.machine_state.MachineState.evict_cache.Goals as goal
 
-pub evict_copy-answer-requires : goal.evict_copy-answer-requires
-evict_copy-answer-requires c =
+pub evict_copy-plain-requires : goal.evict_copy-plain-requires
+evict_copy-plain-requires c =
     let m : Machine = the_view c.self.inside in
     let part = c.index_mut.result.now in
     let here = slice_get_read c.self.inside.cores.items (length c.self.inside.cores.items) c.args.core part refl
@@ -36,11 +37,11 @@ invariant_of-self c =
     let here = slice_get_read c.self.inside.cores.items (length c.self.inside.cores.items) c.args.core part refl
     (omega (arith, c.if-at-len.false, c.len.ensures)) c.index_mut.ensures.value in
     let kept = subst (λ (x : Answer × CoreState × Mail). x.1.open_op ≡ part.open_op)
-    (sym c.evict_copy-answer.ensures.done)
+    (sym c.evict_copy-plain.ensures.done)
     (kept_open part m.mail _ (evict_only part c.self.inside.flight.capacity m.mail c.args.line)) in
-    let same = owed_kept m.cores c.args.core part c.evict_copy-answer.new.core here kept in
+    let same = owed_kept m.cores c.args.core part c.evict_copy-plain.new.core here kept in
     still_fitted m.config c.self.inside.flight c.self.inside.cores.items c.self.inside.records.items _
-    c.self.invariant _ _ _ _ c.evict_copy-answer.ensures.set_up (omega (arith, same, c.self.invariant.reserved))
+    c.self.invariant _ _ _ _ c.evict_copy-plain.ensures.set_up (omega (arith, same, c.self.invariant.reserved))
 
 pub returns : goal.returns
 returns c =
@@ -55,5 +56,5 @@ returns c =
     c.self.inside.flight.capacity c.self.invariant.capacity_is _ c.self.view_is
     (λ n. evict_copy n c.args.core c.args.line (slice_get n.cores c.args.core))
     (ap (evict_copy m c.args.core c.args.line) (sym here))
-    c.evict_copy-answer.result c.evict_copy-answer.new.core c.evict_copy-answer.new.flight.mail c.stop.new.is_stopped
-    c.evict_copy-answer.ensures.done c.stop.ensures
+    (answer_of c.evict_copy-plain.result) c.evict_copy-plain.new.core c.evict_copy-plain.new.flight.mail c.stop_after.new.is_stopped
+    c.evict_copy-plain.ensures.done c.stop_after.ensures

@@ -1,14 +1,15 @@
 -- Rising lists of which some numbers are gone, by how often each number is there.
-use Rattle.std.proofs.Common.{◌≡◌, ℕ, zero, suc, ◌+◌, ◌<◌, ◌≤◌, cond, eqb, ltb, List, [], ◌∷◌, length, get_or, inl, inr}
-use Rattle.std.proofs.Common.{Bool, true, false, Option, None, Some, refl, sym, ap, ◌∙◌, arith}
+use Rattle.std.proofs.Common.{◌≡◌, ℕ, zero, suc, ◌+◌, ◌-◌, ◌<◌, ◌≤◌, cond, eqb, ltb, List, [], ◌∷◌, length, get_or}
+use Rattle.std.proofs.Common.{inl, inr}
+use Rattle.std.proofs.Common.{Bool, true, false, Some, refl, sym, ap, ◌∙◌, arith}
 use Rattle.std.specs.List.{slice_get}
-use Rattle.std.specs.Option.{is_some}
-use mathlib.Core.Bool.{true≢false}
+use Rattle.std.proofs.lemmas.Option.{get_or_from_slice_get, slice_get_within}
 use Rattle.std.proofs.lemmas.Bool.{cases_eq, cases_lt, eq-eqb, lt-ltb, ne_eqb}
 use Rattle.line_sets.specs.Rising.{all_but, left, put_in, take_out, tally, AllFrom, IsKept, IsWithin, Rises}
-use Rattle.line_sets.proofs.RisenLists.{all_but-none, from-weaker, one-risen, rises-put_in, tally-first, tally-none}
+use Rattle.line_sets.proofs.RisenLists.{from-weaker, one-risen, rises-put_in, tally-first, tally-none}
 use Rattle.line_sets.proofs.RisenLists.{tally-put_in}
-use Rattle.line_sets.proofs.RisingEdits.{at-from, at-less, from-take_out, ge-ltb, less, less-more, less-none, most}
+use Rattle.line_sets.proofs.RisingEdits.{at-from, at-less, before-but, from-but, from-take_out, ge-ltb, less}
+use Rattle.line_sets.proofs.RisingEdits.{less-more, less-none, most}
 use Rattle.line_sets.proofs.RisingEdits.{most-more, most-none, none-below, rises-take_out, take-here, take-later}
 use Rattle.line_sets.proofs.RisingEdits.{tally-take_out}
 
@@ -108,11 +109,6 @@ pub new-or-same : (b : Bool) (x : ℕ) (xs ys vs : List ℕ) → IsKept ys xs �
     left ys xs ≡ vs → left (cond b (put_in x ys) ys) xs ≡ cond b (put_in x vs) vs
 new-or-same true x xs ys vs kept e = left-new x xs ys kept.0 kept.2 ∙ ap (put_in x) e
 new-or-same false x xs ys vs kept e = e
-
--- no number is left out where none is to be
-pub all_but-no : (but : Option ℕ) (xs : List ℕ) → is_some but ≡ false → all_but but xs ≡ xs
-all_but-no None xs e = all_but-none xs
-all_but-no (Some b) xs e = absurd (true≢false e)
 
 -- a number is there so often as there are more numbers up to it than below it
 pub counted : (x : ℕ) (ys : List ℕ) → Rises ys → most x ys ≡ less x ys + tally x ys
@@ -227,3 +223,20 @@ found-left v ys xs index at d kept inside is same higher =
     let under = less-left v ys xs r s w in let often = tally-left v ys xs r w in
     at-found v (left ys xs) at (rises-left ys xs r) (omega (arith, low, under, same, higher))
     (omega (arith, high, most_is, all, gone, under, often, same, higher))
+
+-- the same once one more number is left out
+pub before-left : (b at v : ℕ) (ys : List ℕ) → Rises ys → slice_get ys at ≡ Some v → v < b →
+    slice_get (all_but (Some b) ys) at ≡ Some v
+before-left b at v ys r e lt =
+    let is = get_or_from_slice_get ys at v 0 e in
+    sym (before-but b ys at (at-less b ys at 0 r (slice_get_within ys at v e) (omega (arith, is, lt)))) ∙ e
+
+pub from-left : (b at v n : ℕ) (ys xs : List ℕ) → IsKept ys xs → slice_get (left ys xs) at ≡ Some v → b ≤ v →
+    n + tally b xs ≡ tally b ys → slice_get (left ys xs) (at + n) ≡ slice_get (all_but (Some b) (left ys xs)) at
+from-left b at v n ys xs kept e le often =
+    let zs = left ys xs in let r = rises-left ys xs kept.0 in
+    let is = get_or_from_slice_get zs at v 0 e in
+    let all = counted b zs r in let here = tally-left b ys xs kept.0 kept.2 in
+    let same : at + n ≡ at + (most b zs - less b zs) = omega (arith, all, here, often) in
+    ap (slice_get zs) same
+    ∙ from-but b zs at r (at-from b zs at 0 (slice_get_within zs at v e) (omega (arith, is, le)))

@@ -60,15 +60,6 @@ most-more b y ys le = ap (λ t. cond t (1 + most b ys) 0) (le-leb y b le) ∙ om
 pub most-none : (b y : ℕ) (ys : List ℕ) → b < y → most b (y ∷ ys) ≡ 0
 most-none b y ys lt = ap (λ t. cond t (1 + most b ys) 0) (gt-leb y b lt)
 
-pub less-most : (b : ℕ) (ys : List ℕ) → less b ys ≤ most b ys
-less-most b [] = omega arith
-less-most b (y ∷ ys) = elim (cases_lt y b) [
-  | inl lt ↦
-      let one = less-more b y ys lt in let two = most-more b y ys (omega (arith, lt)) in
-      let later = less-most b ys in omega (arith, one, two, later)
-  | inr ge ↦ (let none = less-none b y ys ge in omega (arith, none))
-]
-
 -- the number at an index is below one exactly where so many are
 pub at-less : (b : ℕ) (ys : List ℕ) (at d : ℕ) → Rises ys → at < length ys → get_or ys at d < b → at < less b ys
 at-less b [] at d r in_list lt = absurd (omega (arith, in_list))
@@ -214,11 +205,6 @@ order-exchanged o line n m xs zs ys ne before after e h f =
     cond_both (ltb m n) (take_out line ys) (put_in line ys) (λ us. us ≡ risen zs)
     (λ t. order-fewer o line n m xs zs ys (ltb-true m n t) before e h f)
     (λ t. let le = ltb-false m n t in order-more o line n m xs zs ys ne le after e h f)
-
-pub rises-exchanged : (goes : Bool) (x : ℕ) (ys : List ℕ) → Rises ys →
-    Rises (cond goes (take_out x ys) (put_in x ys))
-rises-exchanged goes x ys h =
-    cond_both goes (take_out x ys) (put_in x ys) Rises (λ _. rises-take_out x ys h) (λ _. rises-put_in x ys h)
 
 -- a rising list but one number
 from-all_but : (b : ℕ) (but : Option ℕ) (ys : List ℕ) → AllFrom b ys → AllFrom b (all_but but ys)

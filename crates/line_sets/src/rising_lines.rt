@@ -88,7 +88,8 @@ fn take_out(numbers: &mut Vec<u64>, number: u64)
 /// How often a number is in a rising list.
 fn count(numbers: &[u64], number: u64) -> usize
     requires { Rises numbers.now }
-    ensures { result ≡ tally number numbers.now }
+    ensures bound { result ≤ length numbers.now }
+    ensures count { result ≡ tally number numbers.now }
 {
     up_to(numbers, number) - below(numbers, number)
 }
@@ -101,36 +102,6 @@ fn settle(numbers: &mut Vec<u64>, gone: &[u64])
     for at in 0..gone.len() {
         take_out(numbers, gone[at]);
     }
-}
-
-/// Where the number stands in a rising list that comes after so many others but one number.
-fn index_but(numbers: &[u64], but: Option<LineNo>, at: usize) -> usize
-    requires rises { Rises numbers.now }
-    requires inside { at < length numbers.now }
-    ensures { slice_get numbers.now result ≡ slice_get (all_but but numbers.now) at }
-{
-    let Some(but) = but else {
-        return at;
-    };
-    if numbers[at] < but.0 {
-        return at;
-    }
-    at + (up_to(numbers, but.0) - below(numbers, but.0))
-}
-
-/// The number of a rising list that comes after so many others but one number.
-fn nth_but(numbers: &[u64], but: Option<LineNo>, at: usize) -> Option<u64>
-    requires { Rises numbers.now }
-    ensures { IfSome result (λ number. slice_get (all_but but numbers.now) at ≡ Some number) }
-{
-    if at >= numbers.len() {
-        return None;
-    }
-    let index = index_but(numbers, but, at);
-    if index >= numbers.len() {
-        return None;
-    }
-    Some(numbers[index])
 }
 
 /// The number of a rising list that comes after so many others once the gone ones are left out. Each guess is the index
@@ -155,6 +126,31 @@ fn nth_left(numbers: &[u64], gone: &[u64], at: usize) -> Option<u64>
         index = at + passed;
     }
     None
+}
+
+/// The number of a rising list that comes after so many others once the gone ones and one more are left out.
+fn nth_but(numbers: &[u64], gone: &[u64], but: Option<LineNo>, at: usize) -> Option<u64>
+    requires { IsKept numbers.now gone.now }
+    ensures { IfSome result (λ number.
+        slice_get (all_but but (left numbers.now gone.now)) at ≡ Some number) }
+{
+    if at >= numbers.len() {
+        return None;
+    }
+    let Some(number) = nth_left(numbers, gone, at) else {
+        return None;
+    };
+    let Some(but) = but else {
+        return Some(number);
+    };
+    if number < but.0 {
+        return Some(number);
+    }
+    nth_left(
+        numbers,
+        gone,
+        at + (count(numbers, but.0) - count(gone, but.0)),
+    )
 }
 
 impl KeptNumbers {
@@ -202,18 +198,11 @@ impl KeptNumbers {
         self.enter(number)
     }
 
-    /// The number that comes after so many others but one number. There is no answer where that one is to be left out
-    /// while others are gone.
+    /// The number that comes after so many others but one number.
     fn nth(&self, but: Option<LineNo>, at: usize) -> Option<u64>
         ensures { IfSome result (λ number. slice_get (all_but but self.now) at ≡ Some number) }
     {
-        if self.gone.is_empty() {
-            return nth_but(&self.numbers, but, at);
-        }
-        if but.is_some() {
-            return None;
-        }
-        nth_left(&self.numbers, &self.gone, at)
+        nth_but(&self.numbers, &self.gone, but, at)
     }
 }
 

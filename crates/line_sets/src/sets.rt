@@ -263,11 +263,11 @@ impl<V: Copy + Listed> LineSets<V> {
         Ok(LineNo(number_at(&mut numbers, at)))
     }
 
-    /// Keeps the listed lines in rising order from now on, so that `nth_listed` finds a line by a few binary searches,
-    /// and takes no memory unless it leaves out a line while others have left the listed ones. That takes 8 bytes for
-    /// each line that there may be, and 1,024 besides. At most 512 bytes are moved when a line leaves the listed ones
-    /// or is soon listed again, and 8 for each line when another one comes; every 64th line that leaves them may move
-    /// 64 times as much. Where the memory is refused nothing is kept, and the answers are the same.
+    /// Keeps the listed lines in rising order from now on, so that `nth_listed` finds a line by a few binary searches
+    /// and takes no memory. That takes 8 bytes for each line that there may be, and 1,024 besides. At most 512 bytes
+    /// are moved when a line leaves the listed ones or is soon listed again, and 8 for each line when another one comes;
+    /// every 64th line that leaves them may move 64 times as much. Where the memory is refused nothing is kept, and the
+    /// answers are the same.
     pub fn keep_order(&mut self)
         ensures { self.new ≡ self.old }
     {

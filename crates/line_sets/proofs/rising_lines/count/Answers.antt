@@ -7,7 +7,7 @@ overflow_sub-result c =
     let low = c.below.ensures.count in let high = c.up_to.ensures.count in
     let all = counted c.args.number c.args.numbers.now c.requires in omega (arith, low, high, all)
 
-pub returns : goal.returns
-returns c =
+pub returns-clause-count : goal.returns-clause-count
+returns-clause-count c =
     let low = c.below.ensures.count in let high = c.up_to.ensures.count in
     let all = counted c.args.number c.args.numbers.now c.requires in omega (arith, low, high, all)

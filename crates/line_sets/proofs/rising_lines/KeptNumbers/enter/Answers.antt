@@ -6,7 +6,7 @@ use Rattle.line_sets.proofs.rising_lines.KeptNumbers.enter.Goals as goal
 
 there : (c : After-take_out) → 1 ≤ tally c.args.number c.self.inside.gone.items
 there c =
-    let some = c.if-count-eq0.false in let often = rw c.deref.ensures.value at c.count.ensures in
+    let some = c.if-count-eq0.false in let often = rw c.deref.ensures.value at c.count.ensures.count in
     omega (arith, some, often)
 
 pub invariant_of-self : goal.invariant_of-self

@@ -7,8 +7,8 @@ use Rattle.line_sets.proofs.rising_lines.KeptNumbers.leave.Goals as goal
 there : (c : After-put_in) →
     tally c.args.number c.self.inside.gone.items < tally c.args.number c.self.inside.numbers.items
 there c =
-    let gone = rw c.deref.ensures.value at c.count.ensures in
-    let all = rw c.deref-2.ensures.value at c.count-2.ensures in
+    let gone = rw c.deref.ensures.value at c.count.ensures.count in
+    let all = rw c.deref-2.ensures.value at c.count-2.ensures.count in
     let more = c.if-count.false in omega (arith, gone, all, more)
 
 pub invariant_of-self : goal.invariant_of-self

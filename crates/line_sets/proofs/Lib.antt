@@ -1,7 +1,6 @@
 mod ListedCounts
 mod ListedSums
 mod ListedTallies
-mod GoneNumbers
 mod Indices
 mod OrderLaws
 mod RisenLists

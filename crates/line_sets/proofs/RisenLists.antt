@@ -102,7 +102,7 @@ tally-none c (x ∷ xs) b lt h =
     let here : ◌≡◌ {A = ℕ} (cond (eqb x c) 1 0) 0 = ap (λ t. cond t 1 0) (ne_eqb x c ne) in
     let later = tally-none c xs b lt h.1 in omega (arith, here, later)
 
-pub tally-first : (x : ℕ) (xs : List ℕ) → 1 ≤ tally x (x ∷ xs)
+tally-first : (x : ℕ) (xs : List ℕ) → 1 ≤ tally x (x ∷ xs)
 tally-first x xs =
     let here : ◌≡◌ {A = ℕ} (cond (eqb x x) 1 0) 1 = ap (λ t. cond t 1 0) (eq-eqb x x refl) in omega (arith, here)
 

@@ -36,7 +36,7 @@ less b ys = prefix_len (λ y. ltb y b) ys
 abbrev pub most : ℕ → List ℕ → ℕ
 most b ys = prefix_len (λ y. leb y b) ys
 
-pub ge-ltb : (y x : ℕ) → x ≤ y → ltb y x ≡ false
+ge-ltb : (y x : ℕ) → x ≤ y → ltb y x ≡ false
 ge-ltb y x le = elim (cases_Bool (ltb y x)) [
   | inl e ↦ absurd (let lt = ltb-true y x e in omega (arith, lt, le))
   | inr e ↦ e
@@ -48,17 +48,26 @@ gt-leb y x lt = elim (cases_Bool (leb y x)) [
   | inr e ↦ e
 ]
 
-pub less-more : (b y : ℕ) (ys : List ℕ) → y < b → less b (y ∷ ys) ≡ suc (less b ys)
+less-more : (b y : ℕ) (ys : List ℕ) → y < b → less b (y ∷ ys) ≡ suc (less b ys)
 less-more b y ys lt = ap (λ t. cond t (1 + less b ys) 0) (lt-ltb y b lt) ∙ omega arith
 
-pub less-none : (b y : ℕ) (ys : List ℕ) → b ≤ y → less b (y ∷ ys) ≡ 0
+less-none : (b y : ℕ) (ys : List ℕ) → b ≤ y → less b (y ∷ ys) ≡ 0
 less-none b y ys le = ap (λ t. cond t (1 + less b ys) 0) (ge-ltb y b le)
 
-pub most-more : (b y : ℕ) (ys : List ℕ) → y ≤ b → most b (y ∷ ys) ≡ suc (most b ys)
+most-more : (b y : ℕ) (ys : List ℕ) → y ≤ b → most b (y ∷ ys) ≡ suc (most b ys)
 most-more b y ys le = ap (λ t. cond t (1 + most b ys) 0) (le-leb y b le) ∙ omega arith
 
-pub most-none : (b y : ℕ) (ys : List ℕ) → b < y → most b (y ∷ ys) ≡ 0
+most-none : (b y : ℕ) (ys : List ℕ) → b < y → most b (y ∷ ys) ≡ 0
 most-none b y ys lt = ap (λ t. cond t (1 + most b ys) 0) (gt-leb y b lt)
+
+pub less-most : (b : ℕ) (ys : List ℕ) → less b ys ≤ most b ys
+less-most b [] = omega arith
+less-most b (y ∷ ys) = elim (cases_lt y b) [
+  | inl lt ↦
+      let one = less-more b y ys lt in let two = most-more b y ys (omega (arith, lt)) in
+      let later = less-most b ys in omega (arith, one, two, later)
+  | inr ge ↦ (let none = less-none b y ys ge in omega (arith, none))
+]
 
 -- the number at an index is below one exactly where so many are
 pub at-less : (b : ℕ) (ys : List ℕ) (at d : ℕ) → Rises ys → at < length ys → get_or ys at d < b → at < less b ys
@@ -89,10 +98,10 @@ put-later x y ys lt = ap (λ t. cond t (y ∷ put_in x ys) (x ∷ y ∷ ys)) (lt
 put-here : (x y : ℕ) (ys : List ℕ) → x ≤ y → put_in x (y ∷ ys) ≡ x ∷ y ∷ ys
 put-here x y ys le = ap (λ t. cond t (y ∷ put_in x ys) (x ∷ y ∷ ys)) (ge-ltb y x le)
 
-pub take-later : (x y : ℕ) (ys : List ℕ) → y < x → take_out x (y ∷ ys) ≡ y ∷ take_out x ys
+take-later : (x y : ℕ) (ys : List ℕ) → y < x → take_out x (y ∷ ys) ≡ y ∷ take_out x ys
 take-later x y ys lt = ap (λ t. cond t (y ∷ take_out x ys) ys) (lt-ltb y x lt)
 
-pub take-here : (x y : ℕ) (ys : List ℕ) → x ≤ y → take_out x (y ∷ ys) ≡ ys
+take-here : (x y : ℕ) (ys : List ℕ) → x ≤ y → take_out x (y ∷ ys) ≡ ys
 take-here x y ys le = ap (λ t. cond t (y ∷ take_out x ys) ys) (ge-ltb y x le)
 
 pub inserted : (x : ℕ) (ys : List ℕ) → insert ys (less x ys) x ≡ put_in x ys
@@ -121,18 +130,18 @@ none-removed x (y ∷ ys) le = elim (cases_lt y x) [
 ]
 
 -- what is left rises
-pub from-take_out : (b x : ℕ) (ys : List ℕ) → AllFrom b ys → AllFrom b (take_out x ys)
+from-take_out : (b x : ℕ) (ys : List ℕ) → AllFrom b ys → AllFrom b (take_out x ys)
 from-take_out b x [] h = tt
 from-take_out b x (y ∷ ys) h = cond_both (ltb y x) (y ∷ take_out x ys) ys (AllFrom b)
     (λ e. (h.0, from-take_out b x ys h.1)) (λ e. h.1)
 
-pub rises-take_out : (x : ℕ) (ys : List ℕ) → Rises ys → Rises (take_out x ys)
+rises-take_out : (x : ℕ) (ys : List ℕ) → Rises ys → Rises (take_out x ys)
 rises-take_out x [] h = tt
 rises-take_out x (y ∷ ys) h = cond_both (ltb y x) (y ∷ take_out x ys) ys Rises
     (λ e. (from-take_out y x ys h.0, rises-take_out x ys h.1)) (λ e. h.1)
 
 -- a number that is there is taken out once
-pub tally-take_out : (c x : ℕ) (ys : List ℕ) → Rises ys → 1 ≤ tally x ys →
+tally-take_out : (c x : ℕ) (ys : List ℕ) → Rises ys → 1 ≤ tally x ys →
     tally c (take_out x ys) + cond (eqb x c) 1 0 ≡ tally c ys
 tally-take_out c x [] r there = absurd (omega (arith, there))
 tally-take_out c x (y ∷ ys) r there = elim (cases_lt y x) [
@@ -206,6 +215,11 @@ order-exchanged o line n m xs zs ys ne before after e h f =
     (λ t. order-fewer o line n m xs zs ys (ltb-true m n t) before e h f)
     (λ t. let le = ltb-false m n t in order-more o line n m xs zs ys ne le after e h f)
 
+pub rises-exchanged : (goes : Bool) (x : ℕ) (ys : List ℕ) → Rises ys →
+    Rises (cond goes (take_out x ys) (put_in x ys))
+rises-exchanged goes x ys h =
+    cond_both goes (take_out x ys) (put_in x ys) Rises (λ _. rises-take_out x ys h) (λ _. rises-put_in x ys h)
+
 -- a rising list but one number
 from-all_but : (b : ℕ) (but : Option ℕ) (ys : List ℕ) → AllFrom b ys → AllFrom b (all_but but ys)
 from-all_but b but [] h = tt
@@ -251,7 +265,7 @@ all_but-above b x (y ∷ ys) lt h =
     let other : eqb b y ≡ false = ne_eqb b y (λ e. absurd (omega (arith, e, first, lt))) in
     rw other (ap (λ zs. y ∷ zs) (all_but-above b x ys lt h.1))
 
-pub none-below : (b : ℕ) (ys : List ℕ) → AllFrom b ys → prefix_len (λ y. ltb y b) ys ≡ 0
+none-below : (b : ℕ) (ys : List ℕ) → AllFrom b ys → prefix_len (λ y. ltb y b) ys ≡ 0
 none-below b [] h = refl
 none-below b (y ∷ ys) h = rw (ge-ltb y b h.0) refl
 

@@ -31,11 +31,6 @@ abbrev pub AllFrom : ℕ → List ℕ → Type 0
 AllFrom x [] = Unit {0}
 AllFrom x (y ∷ ys) = (x ≤ y) × AllFrom x ys
 
--- a list without each number of a second one, once for each time that it is there
-abbrev pub left : List ℕ → List ℕ → List ℕ
-left ys [] = ys
-left ys (x ∷ xs) = left (take_out x ys) xs
-
 -- each number is at most those after it
 abbrev pub Rises : List ℕ → Type 0
 Rises [] = Unit {0}
@@ -45,14 +40,6 @@ Rises (x ∷ xs) = AllFrom x xs × Rises xs
 abbrev pub tally : ℕ → List ℕ → ℕ
 tally c [] = 0
 tally c (y ∷ ys) = (if y == c then 1 else 0) + tally c ys
-
--- no number is more often in the first list than in the second
-abbrev pub IsWithin : List ℕ → List ℕ → Type 0
-IsWithin xs ys = (c : ℕ) → tally c xs ≤ tally c ys
-
--- both lists rise, and the second has numbers of the first one alone
-abbrev pub IsKept : List ℕ → List ℕ → Type 0
-IsKept ys xs = Rises ys × Rises xs × IsWithin xs ys
 
 -- the second list has a line so many times where the first one has it so many, and all else as often
 abbrev pub IsExchanged : ℕ → ℕ → ℕ → List ℕ → List ℕ → Type 0

@@ -10,7 +10,7 @@ ghost use Rattle.line_sets.specs.SetTable.{put_within, set_at};
 
 use crate::laws::sorted_is_risen;
 use crate::listed::{LineTest, Listed, count_of, line_numbers};
-use crate::rising_lines::{MOST_GONE, RisingLines};
+use crate::rising_lines::RisingLines;
 use crate::rows::Rows;
 use crate::selection::{leave_out, number_at};
 use line_arena::laws::{looked_up, taken_off};
@@ -263,23 +263,18 @@ impl<V: Copy + Listed> LineSets<V> {
         Ok(LineNo(number_at(&mut numbers, at)))
     }
 
-    /// Keeps the listed lines in rising order from now on, so that `nth_listed` finds a line by a few binary searches
-    /// and takes no memory. That takes 8 bytes for each line that there may be, and 1,024 besides. At most 512 bytes
-    /// are moved when a line leaves the listed ones or is soon listed again, and 8 for each line when another one comes;
-    /// every 64th line that leaves them may move 64 times as much. Where the memory is refused nothing is kept, and the
-    /// answers are the same.
+    /// Keeps the listed lines in rising order from now on, so that `nth_listed` finds a line by a binary search and takes
+    /// no memory. That takes 8 bytes for each line that there may be, and moves at most as many bytes each time a line
+    /// comes to the listed ones or leaves them. Where the memory is refused nothing is kept, and the answers are the same.
     pub fn keep_order(&mut self)
         ensures { self.new ≡ self.old }
     {
         let Ok(mut numbers) = self.numbers() else {
             return;
         };
-        let Ok(gone) = Vec::with_capacity(self.rows.allocator(), MOST_GONE) else {
-            return;
-        };
         let cells = self.sets() * self.ways;
-        if numbers.reserve(cells + MOST_GONE).is_ok() {
-            self.order = RisingLines::of(numbers, gone);
+        if numbers.reserve(cells).is_ok() {
+            self.order = RisingLines::of(numbers);
         }
     }
 

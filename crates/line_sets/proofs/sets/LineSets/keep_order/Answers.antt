@@ -2,7 +2,7 @@ use Rattle.line_sets.proofs.RisenLists.{rises-risen}
 use Rattle.line_sets.specs.SetTable.{all_listed}
 use Rattle.line_sets.proofs.sets.LineSets.keep_order.Goals as goal
 
-pub of-requires-clause-rises : goal.of-requires-clause-rises
-of-requires-clause-rises g c =
+pub of-requires : goal.of-requires
+of-requires g c =
     rw c.reserve.ensures.items
     (rw c.in-Ok.ensures (rises-risen (all_listed g.V.Listed.is_listed c.args.self.now.sets)))

@@ -9,7 +9,7 @@ ghost use Rattle.interleaving_core.specs.StepAnswers.{Stepped, TakesMemory, asks
 
 use crate::machine_state::MachineState;
 use crate::operations;
-use crate::plain_answer::{PlainAnswer, answer_in, answer_of, plain_of, stop_after};
+use crate::plain_answer::{Outcome, PlainAnswer, answer_in, answer_of, plain_of, stop_after};
 use crate::reactions::{conclude, respond};
 use crate::records::{keep, reserve, stop};
 use machine_table::{Answer, Event, Refusal};
@@ -40,7 +40,7 @@ impl MachineState {
         reserve(&mut self.records, self.cores.len())?;
         self.issued[at].push(&op)?;
         let _issued = self.cores[at].issue(op);
-        Ok(PlainAnswer::Issued)
+        Ok(PlainAnswer::Said(Outcome::Issued))
     }
 
     // A core tries to complete its open operation. Where it is completed there is no plain answer: its record is the
@@ -64,7 +64,8 @@ impl MachineState {
     // A core's time goes on by one.
     #[inline(always)]
     fn advance(&mut self, core: u32) -> PlainAnswer
-        ensures { (answer_of result, self.new) ≡ advance_at self.old core (slice_get self.old.cores core) }
+        ensures { (answer_of result, self.new) ≡ advance_at self.old core
+            (slice_get self.old.cores core) }
     {
         let at = core as usize;
         if at >= self.cores.len() {

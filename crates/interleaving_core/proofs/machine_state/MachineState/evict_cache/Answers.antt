@@ -56,5 +56,5 @@ returns c =
     c.self.inside.flight.capacity c.self.invariant.capacity_is _ c.self.view_is
     (λ n. evict_copy n c.args.core c.args.line (slice_get n.cores c.args.core))
     (ap (evict_copy m c.args.core c.args.line) (sym here))
-    (answer_of c.evict_copy-plain.result) c.evict_copy-plain.new.core c.evict_copy-plain.new.flight.mail c.stop_after.new.is_stopped
-    c.evict_copy-plain.ensures.done c.stop_after.ensures
+    (answer_of c.evict_copy-plain.result) c.evict_copy-plain.new.core c.evict_copy-plain.new.flight.mail
+    c.stop_after.new.is_stopped c.evict_copy-plain.ensures.done c.stop_after.ensures

@@ -12,7 +12,7 @@ use Rattle.std.proofs.lemmas.Bool.{cases_eq, cases_lt, cond_both, le-leb, lt-ltb
 use Rattle.line_sets.specs.Rising.{all_below, all_but, is_but, put_in, take_out, AllFrom, Rises}
 use Rattle.line_sets.specs.Blocked.{block_at, joined, Filled}
 use Rattle.line_sets.proofs.RisenLists.{from-weaker, rises-put_in}
-use Rattle.line_sets.proofs.RisingEdits.{at-from, at-less, ge-ltb}
+use Rattle.line_sets.proofs.RisingEdits.{at-from, at-less, ge-ltb, less-most}
 use Rattle.line_sets.proofs.RisingEdits.{all_but-above, but-gone, but-kept, gt-leb, less, less-more, less-none, most}
 use Rattle.line_sets.proofs.RisingEdits.{most-more, most-none, none-below, put-here, put-later, take-here, take-later}
 
@@ -339,6 +339,23 @@ length-all_but b (y ∷ ys) r = elim (cases_lt y b) [
         let rest = ap length (all_but-above b y ys lt r.0) in omega (arith, low, high, keep, rest)
   ]
 ]
+
+pub all-below : (b : ℕ) (ys : List ℕ) → Rises ys → get_or ys (length ys - 1) 0 < b → 0 < length ys →
+    length ys ≡ length (all_but (Some b) ys)
+all-below b ys r lt some =
+    let more = at-less b ys (length ys - 1) 0 r (omega (arith, some)) lt in
+    let order = less-most b ys in let within = most-length b ys in let long = length-all_but b ys r in
+    omega (arith, some, more, order, within, long)
+
+pub all-above : (b : ℕ) (ys : List ℕ) → Rises ys → b < get_or ys 0 0 → length ys ≡ length (all_but (Some b) ys)
+all-above b [] r lt = refl
+all-above b (y ∷ ys) r lt =
+    let none = most-none b y ys lt in let order = less-most b (y ∷ ys) in
+    let long = length-all_but b (y ∷ ys) r in omega (arith, none, order, long)
+
+pub but-length : (but : Option ℕ) (b n : ℕ) (ys : List ℕ) → but ≡ Some b → n ≡ length (all_but (Some b) ys) →
+    n ≡ length (all_but but ys)
+but-length but b n ys e long = long ∙ ap (λ o. length (all_but o ys)) (sym e)
 
 pub all_but-length : (but : Option ℕ) (ys : List ℕ) → length (all_but but ys) ≤ length ys
 all_but-length but [] = omega arith

@@ -60,7 +60,9 @@ pub(crate) fn index_but(numbers: &[u64], but: Option<LineNo>, at: usize) -> usiz
     at + (up_to(numbers, but.0) - below(numbers, but.0))
 }
 
-/// How many numbers of a rising list there are but one number.
+/// How many numbers of a rising list there are but one number. A list that ends below it, or begins above, is searched
+/// no further.
+#[inline(always)]
 pub(crate) fn kept(numbers: &[u64], but: Option<LineNo>) -> usize
     requires { Rises numbers.now }
     ensures { result ≡ length (all_but but numbers.now) }
@@ -68,7 +70,17 @@ pub(crate) fn kept(numbers: &[u64], but: Option<LineNo>) -> usize
     let Some(but) = but else {
         return numbers.len();
     };
-    numbers.len() - (up_to(numbers, but.0) - below(numbers, but.0))
+    let count = numbers.len();
+    if count == 0 {
+        return count;
+    }
+    if numbers[count - 1] < but.0 {
+        return count;
+    }
+    if but.0 < numbers[0] {
+        return count;
+    }
+    count - (up_to(numbers, but.0) - below(numbers, but.0))
 }
 
 /// Whether the last number of a rising list is below a number, and so all are.

@@ -2,7 +2,7 @@ use Rattle.std.proofs.Common.{◌≡◌, ◌-◌, length, Some, sym, ap, ◌∙�
 use Rattle.line_sets.specs.Rising.{all_but}
 use Rattle.line_sets.proofs.RisenLists.{all_but-none}
 use Rattle.line_sets.proofs.RisingEdits.{less, less-most, most}
-use Rattle.line_sets.proofs.BlockedLists.{length-all_but}
+use Rattle.line_sets.proofs.BlockedLists.{all-above, all-below, but-length, length-all_but}
 use Rattle.line_sets.proofs.rising_list.kept.Goals as goal
 
 pub returns-in_default : goal.returns-in_default
@@ -14,6 +14,16 @@ pub overflow_sub-result : goal.overflow_sub-result
 overflow_sub-result c =
     let low = c.below.ensures.count in let high = c.up_to.ensures.count in
     let le = less-most c.but.inside.0 c.args.numbers.now in omega (arith, low, high, le)
+
+pub returns-then-numbers-count : goal.returns-then-numbers-count
+returns-then-numbers-count c =
+    but-length c.args.but c.but.inside.0 _ c.args.numbers.now (c.in-Some.is ∙ ap Some (sym c.but.view_is))
+    (all-below c.but.inside.0 c.args.numbers.now c.requires c.if-numbers-count.true (omega arith))
+
+pub returns-then-but-numbers : goal.returns-then-but-numbers
+returns-then-but-numbers c =
+    but-length c.args.but c.but.inside.0 _ c.args.numbers.now (c.in-Some.is ∙ ap Some (sym c.but.view_is))
+    (all-above c.but.inside.0 c.args.numbers.now c.requires c.if-but-numbers.true)
 
 pub returns : goal.returns
 returns c =

@@ -104,8 +104,8 @@ fn put_at(blocks: &mut Vec<Vec<u64>>, at: usize, number: u64) -> bool
     requires inside { at < length blocks.old.items }
     requires behind { at ≤ block_at number blocks.old.items }
     requires first { at + 1 < length blocks.old.items → at ≡ block_at number blocks.old.items }
-    ensures put { joined blocks.new.items ≡ (if result then put_in number (joined blocks.old.items) else
-        joined blocks.old.items) }
+    ensures put { joined blocks.new.items ≡
+        (if result then put_in number (joined blocks.old.items) else joined blocks.old.items) }
     ensures filled { Filled blocks.new.items }
 {
     put_in(&mut blocks[at], number)
@@ -174,8 +174,8 @@ impl Blocks {
         Ok(Blocks { blocks })
     }
 
-    /// Puts a number into its place; false where memory for it is refused, and then nothing has changed. A block that is
-    /// full is split before.
+    /// Puts a number into its place; false where memory for it is refused, and then nothing has changed. A block that
+    /// is full is split before.
     pub(crate) fn put_in(&mut self, number: u64) -> bool
         ensures { self.new ≡ (if result then put_in number self.old else self.old) }
     {

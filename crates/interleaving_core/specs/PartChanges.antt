@@ -69,7 +69,7 @@ plain_of answer.Recalled = Some (plain.Said outcome.Recalled)
 plain_of answer.Advanced = Some (plain.Said outcome.Advanced)
 plain_of (answer.Refused why) = Some (plain.Refused why)
 
--- what a completion is answered whose record this is
+-- what a completion is answered whose record this is; there always is one
 abbrev pub completed_by : Option Record → Answer
 completed_by None = answer.Idle
 completed_by (Some done) = answer.Completed done

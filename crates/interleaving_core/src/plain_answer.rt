@@ -9,6 +9,7 @@ use physiological_order::Record;
 /// The answers that have neither a record nor a refusal.
 #[derive(Clone, Copy)]
 pub(crate) enum Outcome {
+    /// The operation is open.
     Issued,
     /// A request was sent.
     Requested,
@@ -28,10 +29,11 @@ pub(crate) enum Outcome {
     Evicted,
     /// The owner is asked to give the line back; the line stays.
     Recalled,
+    /// The core's time went on.
     Advanced,
 }
 
-/// The answers that have no record. It takes two bytes, where an `Answer`, which may have a record, takes 72. Outcomes
+/// The answers that have no record. They take two bytes, where an `Answer`, which may have a record, takes 72. Outcomes
 /// are an enum of their own so that the compiler turns one into an answer by a table and not by jumps.
 #[derive(Clone, Copy)]
 pub(crate) enum PlainAnswer {
@@ -93,7 +95,7 @@ pub(crate) fn plain_of(answer: &Answer) -> Option<PlainAnswer>
     }
 }
 
-/// The answer of a machine with these records: without a plain one the last of them was completed.
+/// The answer of a machine with these records: without a plain one the last of them was completed, and there is one.
 #[inline(always)]
 pub(crate) fn answer_in(records: &[Record], plain: Option<PlainAnswer>) -> Answer
     ensures { result ≡ answer_in records.now plain }

@@ -286,11 +286,11 @@ impl System {
         self.state.entry(bank, at)
     }
 
-    /// Each core and each bank keeps its lines in rising order from now on, so that `free_copy` and `entry` find a line
-    /// by a binary search and take no memory. That takes 8 bytes for each copy and each entry that there may be, and
-    /// moves at most as many bytes of a core or a bank each time a line comes to it or leaves it. A core or bank that
-    /// is refused the memory goes on without, and all answers are the same. If the machine keeps them so already, this
-    /// does nothing.
+    /// Each core and each bank keeps its lines in rising order from now on, in blocks of at most 128, so that
+    /// `free_copy` and `entry` go over the blocks of one core or bank and take no memory. A block takes 1,024 bytes. A
+    /// line that comes to a core or bank, or leaves it, moves at most as many, and one that comes may take a new block.
+    /// A core or bank that is refused memory, now or later, goes on without, and all answers are the same. If the
+    /// machine keeps them so already, this does nothing.
     pub fn keep_order(&mut self)
         ensures { self.new ≡ self.old }
     {

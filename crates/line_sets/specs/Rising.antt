@@ -1,6 +1,6 @@
 -- Numbers in rising order, and lists without one number.
-use Rattle.std.specs.Prelude.{◌≡◌, ℕ, ◌+◌, ◌≤◌, ◌==◌, nat_le, nat_lt, length, Bool, false, not, List, [], ◌∷◌, filter, Option, Some}
-use Rattle.std.specs.Prelude.{None, if◌then◌else◌}
+use Rattle.std.specs.Prelude.{◌≡◌, ℕ, ◌+◌, ◌≤◌, ◌==◌, nat_le, nat_lt, length, Bool, false, not, List, [], ◌∷◌}
+use Rattle.std.specs.Prelude.{filter, Option, Some, None, if◌then◌else◌}
 use Rattle.std.specs.List.{prefix_len}
 
 -- a number put into its place in a rising list

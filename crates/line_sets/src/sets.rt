@@ -69,8 +69,8 @@ impl<V: Copy + Listed> LineSets<V> {
         }
     }
 
-    /// Takes all lines out. No memory is taken, and only that for the rising order is given back. The time grows with how
-    /// many sets had a line since the table was made or cleared, and with the most lines that it had at once.
+    /// Takes all lines out. No memory is taken, and only that for the rising order is given back. The time grows with
+    /// how many sets had a line since the table was made or cleared, and with the most lines that it had at once.
     pub fn clear(&mut self)
         ensures { self.new ≡ empty_sets (length self.old.sets) self.old.ways }
     {

@@ -169,6 +169,27 @@ fn answers_once(flight: &mut InFlight) -> bool
     number == MsgNo(3) && gone && there && flight.count() == 3
 }
 
+// How many upgrades were sent once an upgrade answers the first of three messages.
+fn upgrades_after_an_answer(flight: &mut InFlight) -> u128
+    requires cores { flight.old.cores ≡ 2 }
+    requires banks { flight.old.banks ≡ 1 }
+{
+    if flight.look(MsgNo(0)).is_none() || !flight.has_number() {
+        return 0;
+    }
+    let _number = flight.answer(MsgNo(0), grant());
+    flight.counts().upgrades
+}
+
+// One upgrade was sent among three messages, and another one as an answer.
+#[test]
+fn counts_an_answer(rt: HostRuntime) -> Result<(), Fail> {
+    let mut flight = three_sent(rt.alloc())?;
+    assert_eq!(rt; flight.counts().upgrades, 1);
+    assert_eq!(rt; upgrades_after_an_answer(&mut flight), 2);
+    Ok(())
+}
+
 // No more messages may be in flight than the three that are, and one of them is answered.
 #[test]
 fn answers_a_message_in_its_place(rt: HostRuntime) -> Result<(), Fail> {

@@ -12,6 +12,7 @@ use crate::operations;
 use crate::plain_answer::{Outcome, PlainAnswer, answer_in, answer_of, plain_of, stop_after};
 use crate::reactions::{conclude, respond};
 use crate::records::{keep, reserve, stop};
+use crate::status::note;
 use machine_table::{Answer, Event, Refusal};
 use network::{LineNo, MsgNo, Node};
 use physiological_order::Op;
@@ -40,6 +41,7 @@ impl MachineState {
         reserve(&mut self.records, self.cores.len())?;
         self.issued[at].push(&op)?;
         let _issued = self.cores[at].issue(op);
+        note(&mut self.statuses, at, &self.cores[at]);
         Ok(PlainAnswer::Said(Outcome::Issued))
     }
 
@@ -56,6 +58,7 @@ impl MachineState {
         }
         let count = self.records.len();
         let answer = operations::attempt(&mut self.cores[at], &mut self.flight, core, count);
+        note(&mut self.statuses, at, &self.cores[at]);
         keep(&mut self.records, &answer);
         stop(&mut self.is_stopped, &answer);
         plain_of(&answer)
@@ -72,6 +75,7 @@ impl MachineState {
             return PlainAnswer::Refused(Refusal::NoSuch);
         }
         let plain = operations::advance(&mut self.cores[at]);
+        note(&mut self.statuses, at, &self.cores[at]);
         stop_after(&mut self.is_stopped, plain);
         plain
     }
@@ -87,6 +91,7 @@ impl MachineState {
             return PlainAnswer::Refused(Refusal::NoSuch);
         }
         let plain = operations::evict_copy(&mut self.cores[at], &mut self.flight, line);
+        note(&mut self.statuses, at, &self.cores[at]);
         stop_after(&mut self.is_stopped, plain);
         plain
     }
@@ -128,6 +133,7 @@ impl MachineState {
                     return Ok(PlainAnswer::Refused(Refusal::NoSuch));
                 }
                 let response = respond(&mut self.cores[at], &self.flight, message)?;
+                note(&mut self.statuses, at, &self.cores[at]);
                 Ok(conclude(&mut self.flight, &mut self.is_stopped, number, response))
             }
             Node::Bank(bank) => {

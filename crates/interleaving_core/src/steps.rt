@@ -58,10 +58,11 @@ impl MachineState {
         }
         let count = self.records.len();
         let answer = operations::attempt(&mut self.cores[at], &mut self.flight, core, count);
-        note(&mut self.statuses, at, &self.cores[at]);
         keep(&mut self.records, &answer);
         stop(&mut self.is_stopped, &answer);
-        plain_of(&answer)
+        let plain = plain_of(&answer);
+        note(&mut self.statuses, at, &self.cores[at]);
+        plain
     }
 
     // A core's time goes on by one.
@@ -75,8 +76,8 @@ impl MachineState {
             return PlainAnswer::Refused(Refusal::NoSuch);
         }
         let plain = operations::advance(&mut self.cores[at]);
-        note(&mut self.statuses, at, &self.cores[at]);
         stop_after(&mut self.is_stopped, plain);
+        note(&mut self.statuses, at, &self.cores[at]);
         plain
     }
 
@@ -91,8 +92,8 @@ impl MachineState {
             return PlainAnswer::Refused(Refusal::NoSuch);
         }
         let plain = operations::evict_copy(&mut self.cores[at], &mut self.flight, line);
-        note(&mut self.statuses, at, &self.cores[at]);
         stop_after(&mut self.is_stopped, plain);
+        note(&mut self.statuses, at, &self.cores[at]);
         plain
     }
 
@@ -133,8 +134,9 @@ impl MachineState {
                     return Ok(PlainAnswer::Refused(Refusal::NoSuch));
                 }
                 let response = respond(&mut self.cores[at], &self.flight, message)?;
+                let plain = conclude(&mut self.flight, &mut self.is_stopped, number, response);
                 note(&mut self.statuses, at, &self.cores[at]);
-                Ok(conclude(&mut self.flight, &mut self.is_stopped, number, response))
+                Ok(plain)
             }
             Node::Bank(bank) => {
                 let at = bank as usize;

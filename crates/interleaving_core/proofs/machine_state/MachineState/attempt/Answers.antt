@@ -79,7 +79,7 @@ returns c =
     ∙ ap (λ (n : ℕ). applied core m.mail (attempt c.args.core n c.self.inside.flight.capacity m.mail core)) counted
     ∙ ap (λ (n : ℕ). applied core m.mail (attempt c.args.core (length m.records) n m.mail core))
     c.self.invariant.0.capacity_is in
-    told_in _ m.records c.attempt-answer.result c.plain_of.result _ c.plain_of.ensures c.keep.ensures.records
+    told_in _ m.records c.attempt-answer.result c.plain_of-plain.result _ c.plain_of-plain.ensures c.keep.ensures.records
     (made_so m (λ x. set m.cores c.args.core x) (λ x. m.banks) (λ x. m.drams) core
     (set_same m.cores c.args.core core here) refl refl
     (SameOpen core) (OneLess core) _ (attempt_only core c.args.core (length m.records) m.config.messages m.mail)

@@ -57,7 +57,7 @@ invariant_of-self-in-Core c =
     (kept_open part m.mail _ (core_only part message c.self.inside.flight.capacity m.mail c.args.number)) in
     let same = owed_kept m.cores c.in-Core.core part c.respond.new.part here kept in (
       still_fitted m.config c.self.inside.flight c.self.inside.cores.items c.self.inside.records.items _
-          c.self.invariant.0 _ _ _ _ c.conclude.ensures.set_up (omega (arith, same, c.self.invariant.0.reserved)),
+          c.self.invariant.0 _ _ _ _ c.conclude-plain.ensures.set_up (omega (arith, same, c.self.invariant.0.reserved)),
       c.note.ensures ∙ noted _ _ c.self.invariant.1 c.in-Core.core c.respond.new.part _
           (omega (arith, c.if-at-len.false, c.len.ensures)) c.index.ensures,
     )
@@ -134,10 +134,10 @@ returns-in_ok-response-in-Core-clause-done c =
     c.self.inside.flight.capacity c.self.invariant.0.capacity_is _ c.self.view_is
     (λ n. deliver_message n c.args.number (at_number c.args.number n.mail.messages))
     (core_delivers m _ c.self.view_is c.requires c.args.number message there c.in-Core.core c.in-Core.is part here)
-    (answer_of c.conclude.result) c.respond.new.part c.conclude.new.flight.mail
-    c.conclude.new.is_stopped
-    (ap (λ (x : Answer × Mail). (x.0, c.respond.new.part, x.1)) c.conclude.ensures.done
-    ∙ c.in_ok-response-in-Core.ensures.done c.args.number) c.conclude.ensures.stop
+    (answer_of c.conclude-plain.result) c.respond.new.part c.conclude-plain.new.flight.mail
+    c.conclude-plain.new.is_stopped
+    (ap (λ (x : Answer × Mail). (x.0, c.respond.new.part, x.1)) c.conclude-plain.ensures.done
+    ∙ c.in_ok-response-in-Core.ensures.done c.args.number) c.conclude-plain.ensures.stop
 
 pub returns-in_ok-response-in-Bank-clause-done : goal.returns-in_ok-response-in-Bank-clause-done
 returns-in_ok-response-in-Bank-clause-done c =
@@ -155,10 +155,10 @@ returns-in_ok-response-in-Bank-clause-done c =
     c.self.inside.flight.capacity c.self.invariant.0.capacity_is _ c.self.view_is
     (λ n. deliver_message n c.args.number (at_number c.args.number n.mail.messages))
     (bank_delivers m _ c.self.view_is c.requires c.args.number message there c.in-Bank.bank c.in-Bank.is part here)
-    (answer_of c.conclude-in-Bank.result) c.respond-in-Bank.new.part c.conclude-in-Bank.new.flight.mail
-    c.conclude-in-Bank.new.is_stopped
-    (ap (λ (x : Answer × Mail). (x.0, c.respond-in-Bank.new.part, x.1)) c.conclude-in-Bank.ensures.done
-    ∙ c.in_ok-response-in-Bank.ensures.done c.args.number) c.conclude-in-Bank.ensures.stop
+    (answer_of c.conclude.result) c.respond-in-Bank.new.part c.conclude.new.flight.mail
+    c.conclude.new.is_stopped
+    (ap (λ (x : Answer × Mail). (x.0, c.respond-in-Bank.new.part, x.1)) c.conclude.ensures.done
+    ∙ c.in_ok-response-in-Bank.ensures.done c.args.number) c.conclude.ensures.stop
 
 pub returns-in_ok-response-in-Dram-clause-done : goal.returns-in_ok-response-in-Dram-clause-done
 returns-in_ok-response-in-Dram-clause-done c =

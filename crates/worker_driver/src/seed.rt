@@ -217,11 +217,10 @@ fn steps_next<P: Program>(status: Status, programs: &mut [P], core: u32) -> u32
     ensures same { programs.new ≡ programs.old }
 {
     let _inside: Option<Op> = None;
-    match status {
-        Status::Waiting => 0,
-        Status::Trying => 1,
-        Status::Idle => u32::from(next_in(programs, core).is_some()),
+    if matches!(status, Status::Idle) {
+        return u32::from(next_in(programs, core).is_some());
     }
+    u32::from(matches!(status, Status::Trying))
 }
 
 // How many cores do something next. A machine has at most 64.

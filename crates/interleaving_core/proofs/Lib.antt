@@ -13,6 +13,7 @@ mod PartRows
 mod OpenCounts
 mod Parts
 mod RunSteps
+mod Statuses
 mod Runs
 mod Throughout
 mod Told

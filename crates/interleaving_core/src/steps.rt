@@ -12,6 +12,7 @@ use crate::operations;
 use crate::plain_answer::{Outcome, PlainAnswer, answer_in, answer_of, plain_of, stop_after};
 use crate::reactions::{conclude, respond};
 use crate::records::{keep, reserve, stop};
+use crate::status::note;
 use machine_table::{Answer, Event, Refusal};
 use network::{LineNo, MsgNo, Node};
 use physiological_order::Op;
@@ -40,6 +41,7 @@ impl MachineState {
         reserve(&mut self.records, self.cores.len())?;
         self.issued[at].push(&op)?;
         let _issued = self.cores[at].issue(op);
+        note(&mut self.statuses, at, &self.cores[at]);
         Ok(PlainAnswer::Said(Outcome::Issued))
     }
 
@@ -58,7 +60,9 @@ impl MachineState {
         let answer = operations::attempt(&mut self.cores[at], &mut self.flight, core, count);
         keep(&mut self.records, &answer);
         stop(&mut self.is_stopped, &answer);
-        plain_of(&answer)
+        let plain = plain_of(&answer);
+        note(&mut self.statuses, at, &self.cores[at]);
+        plain
     }
 
     // A core's time goes on by one.
@@ -73,6 +77,7 @@ impl MachineState {
         }
         let plain = operations::advance(&mut self.cores[at]);
         stop_after(&mut self.is_stopped, plain);
+        note(&mut self.statuses, at, &self.cores[at]);
         plain
     }
 
@@ -88,6 +93,7 @@ impl MachineState {
         }
         let plain = operations::evict_copy(&mut self.cores[at], &mut self.flight, line);
         stop_after(&mut self.is_stopped, plain);
+        note(&mut self.statuses, at, &self.cores[at]);
         plain
     }
 
@@ -128,7 +134,9 @@ impl MachineState {
                     return Ok(PlainAnswer::Refused(Refusal::NoSuch));
                 }
                 let response = respond(&mut self.cores[at], &self.flight, message)?;
-                Ok(conclude(&mut self.flight, &mut self.is_stopped, number, response))
+                let plain = conclude(&mut self.flight, &mut self.is_stopped, number, response);
+                note(&mut self.statuses, at, &self.cores[at]);
+                Ok(plain)
             }
             Node::Bank(bank) => {
                 let at = bank as usize;

@@ -13,12 +13,14 @@ ghost use Rattle.machine_table.specs.Opening.{at_start};
 ghost use Rattle.protocol.specs.Issued.{IsIssued};
 ghost use Rattle.machine_theorem.specs.Coherence.{owners, coherent};
 ghost use Rattle.machine_theorem.specs.Kept.{Invariant};
-ghost use Rattle.interleaving_core.specs.LookUps.{copies, entries, free_copies, make_room, open_op, victim};
+ghost use Rattle.interleaving_core.specs.LookUps.{copies, entries, free_copies, make_room, open_op};
+ghost use Rattle.interleaving_core.specs.LookUps.{status_of, victim};
 ghost use Rattle.interleaving_core.specs.Reservation.{completes};
 ghost use Rattle.interleaving_core.specs.Midway.{IsMidway};
 ghost use Rattle.interleaving_core.specs.StepAnswers.{Stepped, Ran, asks_memory};
 
 use crate::machine_state::MachineState;
+use crate::status::Status;
 use machine_table::{Answer, Config, Counts, Event, OpenError, Refusal};
 use network::{LineNo, MsgNo};
 use physiological_order::{Memory, Op, Record, WordAddr};
@@ -218,6 +220,14 @@ impl System {
         ensures { result ≡ open_op self.now core }
     {
         self.state.open_op(core)
+    }
+
+    /// What each core is at, by number: whether it has an open operation, and whether its request is out.
+    #[inline(always)]
+    pub fn statuses(&self) -> &[Status]
+        ensures { result.now ≡ map status_of self.now.cores }
+    {
+        self.state.statuses()
     }
 
     /// The copy to evict from a core's cache to make a place for a line, where there is none: the least recently used

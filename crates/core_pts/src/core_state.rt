@@ -163,10 +163,9 @@ impl Core {
         self.cache.free_copy(self.pinned_line(), at)
     }
 
-    /// Keeps the lines of all copies in rising order from now on, in blocks of at most 128, so that `free_copy` goes
-    /// over the blocks, searches one of them and takes no memory. A block takes 1,024 bytes. A copy that comes or goes
-    /// moves at most as many, and one that comes may take a new block. Where memory is refused, now or later, nothing
-    /// is kept, and the answers are the same.
+    /// Keeps the lines of all copies in rising order from now on, so that `free_copy` finds a line by a binary search
+    /// and takes no memory. That takes 8 bytes for each copy that there may be, and moves at most as many bytes each
+    /// time a copy comes or goes. Where the memory is refused nothing is kept, and the answers are the same.
     pub fn keep_order(&mut self)
         ensures { self.new ≡ self.old }
     {

@@ -13,7 +13,6 @@ mod PartRows
 mod OpenCounts
 mod Parts
 mod RunSteps
-mod Statuses
 mod Runs
 mod Throughout
 mod Told

@@ -23,7 +23,7 @@ abbrev pub ReactionHasEndpoints : {S : Type 0} → ℕ → ℕ → Option (React
 ReactionHasEndpoints cores banks None = Unit {0}
 ReactionHasEndpoints cores banks (Some reaction) = SendsWithEndpoints cores banks reaction.0
 
--- a part's response can be concluded: what it sends has its endpoints, and can be sent
+-- by a part's response: it can be sent, too
 abbrev pub CanConclude : Flight → Result Reaction Refusal → Type 0
 CanConclude flight (Ok reaction) =
     SendsWithEndpoints flight.cores flight.banks reaction

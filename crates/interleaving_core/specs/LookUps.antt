@@ -1,5 +1,5 @@
 -- What is looked up in a machine. A core or a bank that isn't there has nothing.
-use Rattle.std.specs.Prelude.{ℕ, Bool, true, false, List, [], Option, Some, None, map, option_map, slice_get}
+use Rattle.std.specs.Prelude.{ℕ, Bool, true, false, List, [], Option, Some, None, option_map, slice_get}
 use Rattle.std.specs.Prelude.{if◌then◌else◌}
 use Rattle.line_sets.specs.SetTable.{all_listed}
 use Rattle.physiological_order.specs.declared.operation.Op.{Op}
@@ -16,8 +16,6 @@ use Rattle.llc_bank.specs.BankTable as bank_table
 use Rattle.llc_bank.specs.BankTable.{BankState}
 use Rattle.llc_bank.specs.Settled.{is_settled}
 use Rattle.machine_table.specs.Machine.{Machine}
-use Rattle.interleaving_core.specs.declared.status.Status.{Status}
-use Rattle.interleaving_core.specs.declared.status.Status.TheVariants.{Idle, Trying, Waiting}
 
 -- a core's open operation, and whether its request is out
 abbrev pub open_op_of : Option CoreState → Option (Op × Bool)
@@ -26,18 +24,6 @@ open_op_of (Some core) = option_map (λ op. (op, core.is_out)) core.open_op
 
 abbrev pub open_op : Machine → ℕ → Option (Op × Bool)
 open_op m core = open_op_of (slice_get m.cores core)
-
--- what a core is at with such an open operation
-abbrev pub status_with : Option (Op × Bool) → Status
-status_with None = Idle
-status_with (Some (op, false)) = Trying
-status_with (Some (op, true)) = Waiting
-
-abbrev pub status_of : CoreState → Status
-status_of core = status_with (open_op_of (Some core))
-
-abbrev pub statuses_of : List CoreState → List Status
-statuses_of cores = map status_of cores
 
 -- the copy that leaves a core's cache to make a place for a line, where there is none: the least recently used one
 abbrev pub victim_of : ℕ → Option CoreState → Option ℕ

@@ -10,8 +10,6 @@ use Rattle.machine_table.specs.declared.event.Answer.TheVariants as answer
 use Rattle.machine_table.specs.declared.event.Refusal.{Refusal}
 use Rattle.machine_table.specs.declared.event.Refusal.TheVariants.{Exhausted, NetworkFull}
 use Rattle.machine_table.specs.Change as change
-use Rattle.interleaving_core.specs.declared.plain_answer.Outcome.{Outcome}
-use Rattle.interleaving_core.specs.declared.plain_answer.Outcome.TheVariants as outcome
 use Rattle.interleaving_core.specs.declared.plain_answer.PlainAnswer.{PlainAnswer}
 use Rattle.interleaving_core.specs.declared.plain_answer.PlainAnswer.TheVariants as plain
 use Rattle.machine_table.specs.Change.{Change, Keeps, Exhausts, Drops, Makes, Completes}
@@ -34,42 +32,38 @@ abbrev pub stops : Answer → Bool
 stops (answer.Refused Exhausted) = true
 stops _ = false
 
--- an outcome as an answer
-abbrev pub said : Outcome → Answer
-said outcome.Issued = answer.Issued
-said outcome.Requested = answer.Requested
-said outcome.Waiting = answer.Waiting
-said outcome.Idle = answer.Idle
-said outcome.Delivered = answer.Delivered
-said outcome.Dropped = answer.Dropped
-said outcome.Held = answer.Held
-said outcome.Started = answer.Started
-said outcome.Evicted = answer.Evicted
-said outcome.Recalled = answer.Recalled
-said outcome.Advanced = answer.Advanced
-
 -- a plain answer as an answer
 abbrev pub answer_of : PlainAnswer → Answer
-answer_of (plain.Said outcome) = said outcome
+answer_of plain.Issued = answer.Issued
+answer_of plain.Requested = answer.Requested
+answer_of plain.Waiting = answer.Waiting
+answer_of plain.Idle = answer.Idle
+answer_of plain.Delivered = answer.Delivered
+answer_of plain.Dropped = answer.Dropped
+answer_of plain.Held = answer.Held
+answer_of plain.Started = answer.Started
+answer_of plain.Evicted = answer.Evicted
+answer_of plain.Recalled = answer.Recalled
+answer_of plain.Advanced = answer.Advanced
 answer_of (plain.Refused why) = answer.Refused why
 
 -- an answer without a record; none, if it has one
 abbrev pub plain_of : Answer → Option PlainAnswer
-plain_of answer.Issued = Some (plain.Said outcome.Issued)
+plain_of answer.Issued = Some plain.Issued
 plain_of (answer.Completed done) = None
-plain_of answer.Requested = Some (plain.Said outcome.Requested)
-plain_of answer.Waiting = Some (plain.Said outcome.Waiting)
-plain_of answer.Idle = Some (plain.Said outcome.Idle)
-plain_of answer.Delivered = Some (plain.Said outcome.Delivered)
-plain_of answer.Dropped = Some (plain.Said outcome.Dropped)
-plain_of answer.Held = Some (plain.Said outcome.Held)
-plain_of answer.Started = Some (plain.Said outcome.Started)
-plain_of answer.Evicted = Some (plain.Said outcome.Evicted)
-plain_of answer.Recalled = Some (plain.Said outcome.Recalled)
-plain_of answer.Advanced = Some (plain.Said outcome.Advanced)
+plain_of answer.Requested = Some plain.Requested
+plain_of answer.Waiting = Some plain.Waiting
+plain_of answer.Idle = Some plain.Idle
+plain_of answer.Delivered = Some plain.Delivered
+plain_of answer.Dropped = Some plain.Dropped
+plain_of answer.Held = Some plain.Held
+plain_of answer.Started = Some plain.Started
+plain_of answer.Evicted = Some plain.Evicted
+plain_of answer.Recalled = Some plain.Recalled
+plain_of answer.Advanced = Some plain.Advanced
 plain_of (answer.Refused why) = Some (plain.Refused why)
 
--- what a completion is answered whose record this is; there always is one
+-- what a completion is answered whose record this is
 abbrev pub completed_by : Option Record → Answer
 completed_by None = answer.Idle
 completed_by (Some done) = answer.Completed done

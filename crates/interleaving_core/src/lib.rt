@@ -14,12 +14,10 @@ mod plain_answer;
 mod reactions;
 mod records;
 mod reopening;
-mod status;
 mod steps;
 pub mod system;
 
 pub use machine_table::{Answer, Config, Counts, Event, OpenError, Refusal};
 pub use network::{Body, LineNo, Message, MsgNo, Node, TimedLine, Words};
 pub use op_list::OpList;
-pub use status::Status;
 pub use system::System;

@@ -3,10 +3,9 @@ ghost use Rattle.std.specs.Prelude.{◌≡◌, ◌<◌, IfOk, length, map, slice
 ghost use Rattle.network.specs.NumberedMessages.{IsRising};
 ghost use Rattle.line_sets.specs.Rising.{risen};
 ghost use Rattle.interleaving_core.specs.LookUps.{copies, entries, free_copies, is_request, make_room, open_op};
-ghost use Rattle.interleaving_core.specs.LookUps.{room_at, status_of, victim};
+ghost use Rattle.interleaving_core.specs.LookUps.{room_at, victim};
 
 use crate::machine_state::MachineState;
-use crate::status::Status;
 use network::{Body, LineNo, Message, MsgNo, Node};
 use physiological_order::{Op, Record};
 use std::alloc::{AllocError, Global};
@@ -30,14 +29,6 @@ impl MachineState {
         ensures { result ≡ open_op self.now core }
     {
         self.cores.get(core as usize)?.open_op()
-    }
-
-    // What each core is at, by number.
-    #[inline(always)]
-    pub(crate) fn statuses(&self) -> &[Status]
-        ensures { result.now ≡ map status_of self.now.cores }
-    {
-        &self.statuses
     }
 
     // The copy to evict from a core's cache to make a place for a line, where there is none.

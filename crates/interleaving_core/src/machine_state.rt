@@ -2,7 +2,6 @@
 ghost use Rattle.std.specs.Prelude.{◌≡◌};
 
 use crate::op_list::OpList;
-use crate::status::Status;
 use core_pts::Core;
 use dram_mts::Dram;
 use llc_bank::Bank;
@@ -17,8 +16,6 @@ pub(crate) struct MachineState {
     pub(crate) config: Config,
     pub(crate) opening: Memory,
     pub(crate) cores: Vec<Core>,
-    // What each core is at, by number.
-    pub(crate) statuses: Vec<Status>,
     pub(crate) banks: Vec<Bank>,
     pub(crate) drams: Vec<Dram>,
     pub(crate) flight: InFlight,
@@ -28,12 +25,11 @@ pub(crate) struct MachineState {
 }
 
 impl Model for MachineState {
-    ghost use Rattle.std.specs.Prelude.{◌≡◌, vec_capacity};
+    ghost use Rattle.std.specs.Prelude.{vec_capacity};
     ghost use Rattle.std.specs.Coded.{codes, coded_ℕ, coded_list};
     ghost use Rattle.std.specs.FinMap as map;
     ghost use Rattle.std.specs.Ordering.{nat_cmp};
     ghost use Rattle.machine_table.specs.Machine.{Machine};
-    ghost use Rattle.interleaving_core.specs.LookUps.{statuses_of};
     ghost use Rattle.interleaving_core.specs.Reservation.{IsFitted};
 
     ghost Value = { Machine };
@@ -42,8 +38,6 @@ impl Model for MachineState {
 
     ghost view = { λ a. record { config = a.config; opening = a.opening; cores = a.cores.items; banks = a.banks.items; drams = a.drams.items; mail = a.flight.mail; issued = a.issued.items; records = a.records.items; is_stopped = a.is_stopped } };
 
-    // The messages in flight are those of this machine, and there is capacity for the record of each open operation;
-    // each core's status is what the core is at.
-    ghost invariant = { λ a. IsFitted a.config a.flight a.cores.items a.records.items (vec_capacity a.records)
-        × (a.statuses.items ≡ statuses_of a.cores.items) };
+    // The messages in flight are those of this machine, and there is capacity for the record of each open operation.
+    ghost invariant = { λ a. IsFitted a.config a.flight a.cores.items a.records.items (vec_capacity a.records) };
 }

@@ -8,7 +8,6 @@ ghost use Rattle.interleaving_core.specs.OpeningWords.{word_set};
 
 use crate::machine_state::MachineState;
 use crate::op_list::OpList;
-use crate::status::all_idle;
 use core_pts::{Core, CoreConfig};
 use dram_mts::Dram;
 use llc_bank::{Bank, BankConfig};
@@ -34,12 +33,10 @@ impl MachineState {
         let drams = open_drams(alloc, config, &memory)?;
         let issued = no_operations(alloc, config.cores)?;
         let flight = InFlight::new(alloc, config.cores, config.banks, config.messages)?;
-        let statuses = all_idle(alloc, config.cores)?;
         Ok(MachineState {
             config,
             opening: memory,
             cores,
-            statuses,
             banks,
             drams,
             flight,

@@ -9,7 +9,7 @@ ghost use Rattle.machine_table.specs.Change.{advanced, attempt, copy_evicted, en
 ghost use Rattle.interleaving_core.specs.PartChanges.{answer_of, applied, requested};
 ghost use Rattle.interleaving_core.specs.Endpoints.{BackHasEndpoints, EvictedHasEndpoints, is_sent_back};
 
-use crate::plain_answer::{Outcome, PlainAnswer};
+use crate::plain_answer::PlainAnswer;
 use crate::reactions::send;
 use core_pts::{Attempt, Core, nothing_completed_keeps};
 use llc_bank::{Bank, Evict, EvictError};
@@ -103,7 +103,7 @@ pub(crate) fn advance(core: &mut Core) -> PlainAnswer
 {
     match core.advance() {
         Err(Exhausted) => PlainAnswer::Refused(Refusal::Exhausted),
-        Ok(()) => PlainAnswer::Said(Outcome::Advanced),
+        Ok(()) => PlainAnswer::Advanced,
     }
 }
 
@@ -130,10 +130,10 @@ pub(crate) fn evict_copy(core: &mut Core, flight: &mut InFlight, line: LineNo) -
         Err(CacheError::NotHere) => PlainAnswer::Refused(Refusal::NoSuch),
         Err(CacheError::NoRoom) => PlainAnswer::Refused(Refusal::NoSuch),
         Err(CacheError::Pinned) => PlainAnswer::Refused(Refusal::Pinned),
-        Ok(None) => PlainAnswer::Said(Outcome::Evicted),
+        Ok(None) => PlainAnswer::Evicted,
         Ok(Some(back)) => {
             send(flight, back);
-            PlainAnswer::Said(Outcome::Evicted)
+            PlainAnswer::Evicted
         }
     }
 }
@@ -161,14 +161,14 @@ pub(crate) fn evict_entry(bank: &mut Bank, flight: &mut InFlight, line: LineNo) 
     match bank.evict(line) {
         Err(EvictError::NotHere) => PlainAnswer::Refused(Refusal::NoSuch),
         Err(EvictError::Busy) => PlainAnswer::Refused(Refusal::Busy),
-        Ok(Evict::Clean) => PlainAnswer::Said(Outcome::Evicted),
+        Ok(Evict::Clean) => PlainAnswer::Evicted,
         Ok(Evict::Stored(store)) => {
             send(flight, store);
-            PlainAnswer::Said(Outcome::Evicted)
+            PlainAnswer::Evicted
         }
         Ok(Evict::Recalled(recall)) => {
             send(flight, recall);
-            PlainAnswer::Said(Outcome::Recalled)
+            PlainAnswer::Recalled
         }
     }
 }

@@ -9,7 +9,7 @@ ghost use Rattle.interleaving_core.specs.PartChanges.{IsQuiet, answer_of, applie
 ghost use Rattle.interleaving_core.specs.PartChanges.{stops};
 ghost use Rattle.interleaving_core.specs.Endpoints.{CanConclude, ReactionHasEndpoints, SendsWithEndpoints};
 
-use crate::plain_answer::{Outcome, PlainAnswer, stop_after};
+use crate::plain_answer::{PlainAnswer, stop_after};
 use machine_table::Refusal;
 use network::{InFlight, Message, MsgNo, Node, Part, PartError, Reaction};
 use std::alloc::AllocError;
@@ -115,10 +115,10 @@ fn delivery_of(reaction: &Reaction) -> PlainAnswer
     ensures { (mail : Mail) (n : ℕ) → answer_of result ≡ (settled mail n reaction.now).0 }
 {
     match reaction {
-        Reaction::Held => PlainAnswer::Said(Outcome::Held),
-        Reaction::Dropped => PlainAnswer::Said(Outcome::Dropped),
-        Reaction::Done(_) => PlainAnswer::Said(Outcome::Delivered),
-        Reaction::HeldAfter(_) => PlainAnswer::Said(Outcome::Started),
+        Reaction::Held => PlainAnswer::Held,
+        Reaction::Dropped => PlainAnswer::Dropped,
+        Reaction::Done(_) => PlainAnswer::Delivered,
+        Reaction::HeldAfter(_) => PlainAnswer::Started,
     }
 }
 

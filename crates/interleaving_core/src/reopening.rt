@@ -8,7 +8,6 @@ use crate::machine_state::MachineState;
 use crate::op_list::OpList;
 use crate::opening::{bank_config, core_config, fill_drams, geometry};
 use crate::records::clear;
-use crate::status::make_idle;
 use core_pts::Core;
 use dram_mts::Dram;
 use llc_bank::Bank;
@@ -29,8 +28,6 @@ impl MachineState {
         let config = self.config;
         let mut cores = self.cores;
         reopen_cores(&mut cores, config)?;
-        let mut statuses = self.statuses;
-        make_idle(&mut statuses);
         let mut banks = self.banks;
         reopen_banks(&mut banks, config)?;
         let mut drams = self.drams;
@@ -46,7 +43,6 @@ impl MachineState {
             config,
             opening: memory,
             cores,
-            statuses,
             banks,
             drams,
             flight,

@@ -1,5 +1,5 @@
 //! One event of the machine.
-ghost use Rattle.std.specs.Prelude.{◌≡◌, IfOk, IsTrue, OnErr, slice_get};
+ghost use Rattle.std.specs.Prelude.{◌≡◌, ◌≢◌, ℕ, IfOk, IsTrue, OnErr, slice_get};
 ghost use Rattle.network.specs.NumberedMessages.{at_number};
 ghost use Rattle.machine_table.specs.Transition.{advance_at, attempt_at, deliver_message, evict_copy};
 ghost use Rattle.machine_table.specs.Transition.{evict_entry, issue_at, transition};
@@ -9,10 +9,9 @@ ghost use Rattle.interleaving_core.specs.StepAnswers.{Stepped, TakesMemory, asks
 
 use crate::machine_state::MachineState;
 use crate::operations;
-use crate::plain_answer::{Outcome, PlainAnswer, answer_in, answer_of, plain_of, stop_after};
+use crate::plain_answer::{PlainAnswer, answer_in, answer_of, plain_of, stop_after};
 use crate::reactions::{conclude, respond};
 use crate::records::{keep, reserve, stop};
-use crate::status::note;
 use machine_table::{Answer, Event, Refusal};
 use network::{LineNo, MsgNo, Node};
 use physiological_order::Op;
@@ -41,8 +40,7 @@ impl MachineState {
         reserve(&mut self.records, self.cores.len())?;
         self.issued[at].push(&op)?;
         let _issued = self.cores[at].issue(op);
-        note(&mut self.statuses, at, &self.cores[at]);
-        Ok(PlainAnswer::Said(Outcome::Issued))
+        Ok(PlainAnswer::Issued)
     }
 
     // A core tries to complete its open operation. Where it is completed there is no plain answer: its record is the
@@ -60,16 +58,13 @@ impl MachineState {
         let answer = operations::attempt(&mut self.cores[at], &mut self.flight, core, count);
         keep(&mut self.records, &answer);
         stop(&mut self.is_stopped, &answer);
-        let plain = plain_of(&answer);
-        note(&mut self.statuses, at, &self.cores[at]);
-        plain
+        plain_of(&answer)
     }
 
     // A core's time goes on by one.
     #[inline(always)]
     fn advance(&mut self, core: u32) -> PlainAnswer
-        ensures { (answer_of result, self.new) ≡ advance_at self.old core
-            (slice_get self.old.cores core) }
+        ensures { (answer_of result, self.new) ≡ advance_at self.old core (slice_get self.old.cores core) }
     {
         let at = core as usize;
         if at >= self.cores.len() {
@@ -77,7 +72,6 @@ impl MachineState {
         }
         let plain = operations::advance(&mut self.cores[at]);
         stop_after(&mut self.is_stopped, plain);
-        note(&mut self.statuses, at, &self.cores[at]);
         plain
     }
 
@@ -93,7 +87,6 @@ impl MachineState {
         }
         let plain = operations::evict_copy(&mut self.cores[at], &mut self.flight, line);
         stop_after(&mut self.is_stopped, plain);
-        note(&mut self.statuses, at, &self.cores[at]);
         plain
     }
 
@@ -134,9 +127,7 @@ impl MachineState {
                     return Ok(PlainAnswer::Refused(Refusal::NoSuch));
                 }
                 let response = respond(&mut self.cores[at], &self.flight, message)?;
-                let plain = conclude(&mut self.flight, &mut self.is_stopped, number, response);
-                note(&mut self.statuses, at, &self.cores[at]);
-                Ok(plain)
+                Ok(conclude(&mut self.flight, &mut self.is_stopped, number, response))
             }
             Node::Bank(bank) => {
                 let at = bank as usize;

@@ -13,14 +13,12 @@ ghost use Rattle.machine_table.specs.Opening.{at_start};
 ghost use Rattle.protocol.specs.Issued.{IsIssued};
 ghost use Rattle.machine_theorem.specs.Coherence.{owners, coherent};
 ghost use Rattle.machine_theorem.specs.Kept.{Invariant};
-ghost use Rattle.interleaving_core.specs.LookUps.{copies, entries, free_copies, make_room, open_op};
-ghost use Rattle.interleaving_core.specs.LookUps.{status_of, victim};
+ghost use Rattle.interleaving_core.specs.LookUps.{copies, entries, free_copies, make_room, open_op, victim};
 ghost use Rattle.interleaving_core.specs.Reservation.{completes};
 ghost use Rattle.interleaving_core.specs.Midway.{IsMidway};
 ghost use Rattle.interleaving_core.specs.StepAnswers.{Stepped, Ran, asks_memory};
 
 use crate::machine_state::MachineState;
-use crate::status::Status;
 use machine_table::{Answer, Config, Counts, Event, OpenError, Refusal};
 use network::{LineNo, MsgNo};
 use physiological_order::{Memory, Op, Record, WordAddr};
@@ -222,14 +220,6 @@ impl System {
         self.state.open_op(core)
     }
 
-    /// What each core is at, by number: whether it has an open operation, and whether its request is out.
-    #[inline(always)]
-    pub fn statuses(&self) -> &[Status]
-        ensures { result.now ≡ map status_of self.now.cores }
-    {
-        self.state.statuses()
-    }
-
     /// The copy to evict from a core's cache to make a place for a line, where there is none: the least recently used
     /// one of the line's set.
     pub fn victim(&self, core: u32, line: LineNo) -> Option<LineNo>
@@ -296,11 +286,11 @@ impl System {
         self.state.entry(bank, at)
     }
 
-    /// Each core and each bank keeps its lines in rising order from now on, in blocks of at most 128, so that
-    /// `free_copy` and `entry` go over the blocks of one core or bank and take no memory. A block takes 1,024 bytes. A
-    /// line that comes to a core or bank, or leaves it, moves at most as many, and one that comes may take a new block.
-    /// A core or bank that is refused memory, now or later, goes on without, and all answers are the same. If the
-    /// machine keeps them so already, this does nothing.
+    /// Each core and each bank keeps its lines in rising order from now on, so that `free_copy` and `entry` find a line
+    /// by a binary search and take no memory. That takes 8 bytes for each copy and each entry that there may be, and
+    /// moves at most as many bytes of a core or a bank each time a line comes to it or leaves it. A core or bank that
+    /// is refused the memory goes on without, and all answers are the same. If the machine keeps them so already, this
+    /// does nothing.
     pub fn keep_order(&mut self)
         ensures { self.new ≡ self.old }
     {

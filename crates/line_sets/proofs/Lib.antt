@@ -1,4 +1,3 @@
-mod BlockedLists
 mod ListedCounts
 mod ListedSums
 mod ListedTallies

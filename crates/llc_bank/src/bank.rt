@@ -281,10 +281,10 @@ impl Bank {
         self.table.nth_listed(None, at)
     }
 
-    /// Keeps the lines that are Shared or Exclusive in rising order from now on, in blocks of at most 128, so that
-    /// `settled_line` goes over the blocks and takes no memory. A block takes 1,024 bytes. A line that becomes Shared
-    /// or Exclusive, or is it no longer, moves at most as many, and one that becomes so may take a new block. Where
-    /// memory is refused, now or later, nothing is kept, and the answers are the same.
+    /// Keeps the lines that are Shared or Exclusive in rising order from now on, so that `settled_line` finds a line by
+    /// its index and takes no memory. That takes 8 bytes for each entry that there may be, and moves at most as many
+    /// bytes each time a line becomes Shared or Exclusive or is it no longer. Where the memory is refused nothing is
+    /// kept, and the answers are the same.
     pub fn keep_order(&mut self)
         ensures { self.new ≡ self.old }
     {

@@ -32,8 +32,7 @@ impl LineTest<Entry> for EntryTest {
     }
 }
 
-/// The line of a full set to evict to make room, if nothing is under way for any line of the set. It stays a function
-/// of its own: it is seldom asked, and what is asked before it is put into its callers.
+/// The line of a full set to evict to make room, if nothing is under way for any line of the set.
 #[inline(never)]
 pub(crate) fn settled_choice(table: &LineSets<Entry>, set: usize) -> Option<LineNo>
     requires { set < length table.now.sets }

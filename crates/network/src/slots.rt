@@ -39,8 +39,8 @@ fn first_from(slots: &[Slot], number: u64) -> usize
     low
 }
 
-/// The index of the slot with the number, or `None` where there is none, found by halving. It stays a function of its
-/// own, so that the quick look before it is put into its callers.
+/// The index of the slot with the number, or `None` where there is none, found by halving.
+#[cold]
 #[inline(never)]
 fn halved_slot_of(slots: &[Slot], number: u64) -> Option<usize>
     requires { IsRising 0 slots.now (2 ^ 64) }

@@ -1,7 +1,7 @@
 //! What a machine says of itself, against a line of an example.
 use crate::examples::{On, Step};
 use crate::happenings::{op, word};
-use interleaving_core::{Counts, Status, System};
+use interleaving_core::{Counts, System};
 use network::{LineNo, MsgNo};
 use physiological_order::{Op, Record, rises_by_number, stale_hits};
 use std::alloc::{AllocError, Global};
@@ -13,15 +13,6 @@ fn stale(alloc: Global, records: &[Record]) -> Result<Option<u64>, AllocError> {
     }
     let count = stale_hits(alloc, records)?;
     Ok(Some(count))
-}
-
-// Whether the list of what the cores are at says this of a core, or has nothing for a core that isn't there.
-fn is_at(statuses: &[Status], core: u32, pending: bool, is_out: bool) -> bool {
-    match statuses.get(core as usize) {
-        None | Some(Status::Idle) => !pending,
-        Some(Status::Trying) => pending && !is_out,
-        Some(Status::Waiting) => pending && is_out,
-    }
 }
 
 fn are_lines(lines: &[LineNo], numbers: &[u64]) -> bool {
@@ -197,8 +188,7 @@ fn has_waiting(alloc: Global, system: &System, step: &Step) -> Result<bool, Allo
         }
         Step::Room(number, room) => Ok(place_of(system.make_room(MsgNo(*number))) == *room),
         Step::Open(core, pending, is_out) => {
-            let opens = open_of(system.open_op(*core)) == (*pending, *is_out);
-            Ok(opens && is_at(system.statuses(), *core, *pending, *is_out))
+            Ok(open_of(system.open_op(*core)) == (*pending, *is_out))
         }
         _ => has_lists(alloc, system, step),
     }

@@ -1,17 +1,14 @@
 -- The entry of a seeded turn's list that is made.
 use Rattle.std.proofs.Common.{◌≡◌, ◌+◌, ◌%◌, ◌<◌, ℕ, suc, nat_lt, Bool, true, false, List, [], ◌∷◌, ◌++◌}
-use Rattle.std.proofs.Common.{length, map, get_or, Option, Some, None, option_map, refl, sym, ap, ◌∙◌, arith}
+use Rattle.std.proofs.Common.{length, map, get_or, Option, Some, None, refl, sym, ap, ◌∙◌, arith}
 use Rattle.std.proofs.Common.{◌≢◌}
 use Rattle.std.specs.Prelude.{◌≤◌, slice_get}
 use Rattle.std.proofs.Math.Nat.{mod-lt}
 use Rattle.std.proofs.lemmas.Bool.{cond_both, false≢true}
 use Rattle.std.proofs.lemmas.List.{length-map, length-append, get_or_append_left, get_or-append-add, get_or-map, get_or_past}
 use Rattle.std.proofs.lemmas.List.FromFn.{get_or-map-range_with_len, length-map-range_with_len}
-use Rattle.std.proofs.lemmas.Option.{get_or_from_slice_get, slice_get_within, slice_get-get_or, slice_get-map}
-use Rattle.core_pts.specs.CoreTable.{CoreState}
-use Rattle.interleaving_core.specs.LookUps.{open_op, open_op_of, status_of, status_with}
-use Rattle.interleaving_core.specs.declared.status.Status.{Status}
-use Rattle.interleaving_core.specs.declared.status.Status.TheVariants.{Idle}
+use Rattle.std.proofs.lemmas.Option.{get_or_from_slice_get, slice_get_within, slice_get-get_or}
+use Rattle.interleaving_core.specs.LookUps.{open_op}
 use Rattle.physiological_order.specs.declared.operation.Op.{Op}
 use Rattle.trace_lines.specs.declared.steps.Step.{Step}
 use Rattle.trace_lines.specs.declared.steps.Step.TheVariants as step
@@ -23,7 +20,7 @@ use Rattle.worker_driver.specs.declared.schedule.Choice.{Choice as Chosen}
 use Rattle.worker_driver.specs.Acts.{Acts, next_in}
 use Rattle.worker_driver.specs.Schedules.{Choice, Does, Delivers, Over}
 use Rattle.worker_driver.specs.SeedSchedule.{Seeded, advances, core_step, core_steps, entry, line_events}
-use Rattle.worker_driver.specs.SeedViews.{Picks, step_with}
+use Rattle.worker_driver.specs.SeedViews.{Picks}
 use Rattle.worker_driver.proofs.Pieces.{at_piece, length_more}
 
 is_end : Choice Seeded → Bool
@@ -90,34 +87,6 @@ module _ (eviction : ℕ → ℕ → Event) (lines : ℕ → List ℕ) where
       let is : entry (line_events eviction lines n) b ≡ Does (eviction holder line) =
       line_at n b holder at line below within (slice_get-get_or (risen (lines holder)) at 0 risen_inside) here in
       false≢true (ap is_end (sym is ∙ over))
-
--- a core does next what it does by what it is at
-step_with_open : (core : ℕ) (o : Option (Op × Bool)) (next : Option Step) → step_with core (status_with o) next ≡
-    core_step core o next
-step_with_open core None None = refl
-step_with_open core None (Some (step.Op op)) = refl
-step_with_open core None (Some step.Advance) = refl
-step_with_open core (Some (op, true)) next = refl
-step_with_open core (Some (op, false)) next = refl
-
-status_there : (o : Option CoreState) (status : Status) → option_map status_of o ≡ Some status →
-    status ≡ status_with (open_op_of o)
-status_there None status is = absurd (let e : None ≡ Some status = is in cc)
-status_there (Some core) status is = let e : Some (status_of core) ≡ Some status = is in cc
-
-module _ (m : Machine) (statuses : List Status) (are : statuses ≡ map status_of m.cores) where
-  -- each core has a place in the list
-  pub has_status : (core : ℕ) → core < length m.cores → core < length statuses
-  has_status core below = let one = ap length are in let same =
-      length-map m.cores status_of in omega (arith, one, same, below)
-
-  pub step_seen : (core : ℕ) (next : Option Step) → core < length m.cores →
-      step_with core (get_or statuses core Idle) next ≡ core_step core (open_op m core) next
-  step_seen core next below =
-      ap (λ (s : Status). step_with core s next) (status_there (slice_get m.cores core) (get_or statuses core Idle)
-      (sym (slice_get-map status_of m.cores core) ∙ ap (λ (s : List Status). slice_get s core) (sym are)
-      ∙ slice_get-get_or statuses core Idle (has_status core below)))
-      ∙ step_with_open core (open_op m core) next
 
 -- cores' steps, of which each core has one or none
 pub one_at_most : (core : ℕ) (o : Option (Op × Bool)) (next : Option Step) → length (core_step core o next) ≤ 1

@@ -1,11 +1,6 @@
 -- How many steps are left in a seeded turn, and how an entry that is picked stands for what the schedule has next.
 use Rattle.std.specs.Prelude.{◌≡◌, ◌≢◌, ℕ, List, [], ◌∷◌, Option, Some, None, IsSome}
 use Rattle.std.specs.Prelude.{Result, Ok, Err}
-use Rattle.trace_lines.specs.declared.steps.Step.{Step}
-use Rattle.trace_lines.specs.declared.steps.Step.TheVariants as step
-use Rattle.machine_table.specs.declared.event.Event.TheVariants as event
-use Rattle.interleaving_core.specs.declared.status.Status.{Status}
-use Rattle.interleaving_core.specs.declared.status.Status.TheVariants.{Idle, Trying, Waiting}
 use Rattle.worker_driver.specs.declared.schedule.Choice.{Choice as Chosen}
 use Rattle.worker_driver.specs.declared.schedule.Choice.TheVariants as chosen
 use Rattle.worker_driver.specs.Schedules.{Choice, Does, Tries, Delivers, Advances, Over}
@@ -40,11 +35,3 @@ PicksOne next (Err e) = next ≢ Over
 abbrev pub PicksAny : List (Choice Seeded) → Option Chosen → Type 0
 PicksAny choices None = choices ≡ []
 PicksAny choices (Some choice) = (next : Choice Seeded) × (choices ≡ next ∷ []) × Picks next choice
-
--- what a core has next, by what it is at
-abbrev pub step_with : ℕ → Status → Option Step → List (Choice Seeded)
-step_with core Idle None = []
-step_with core Idle (Some (step.Op op)) = Does (event.Issue core op) ∷ []
-step_with core Idle (Some step.Advance) = Advances core ∷ []
-step_with core Trying next = Tries core ∷ []
-step_with core Waiting next = []

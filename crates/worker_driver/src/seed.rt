@@ -1,16 +1,16 @@
 //! The seeded schedule: each turn draws two words, the first for a list of events, the second for the entry of it that
 //! is made. No list is built: entries are counted, and the one that is wanted is looked up.
 ghost use Rattle.std.specs.Prelude.{◌≡◌, ◌∷◌, [], ◌<◌, ◌≤◌, ◌+◌, ◌%◌, ◌*◌, ◌^◌, ℕ, List, length, IfOk, Some, slice_get};
-ghost use Rattle.interleaving_core.specs.LookUps.{entries, free_copies};
+ghost use Rattle.interleaving_core.specs.LookUps.{entries, free_copies, open_op};
 ghost use Rattle.line_sets.specs.Rising.{risen};
 ghost use Rattle.worker_driver.specs.Acts.{next_in};
-ghost use Rattle.worker_driver.specs.SeedSchedule.{advances, core_steps, entry, line_events, of_seed, steps};
-ghost use Rattle.worker_driver.specs.SeedViews.{Picks, PicksAny, PicksOne, step_with};
+ghost use Rattle.worker_driver.specs.SeedSchedule.{advances, core_step, core_steps, entry, line_events, of_seed, steps};
+ghost use Rattle.worker_driver.specs.SeedViews.{Picks, PicksAny, PicksOne};
 
 use crate::look_ups::next_in;
 use crate::program::Program;
 use crate::schedule::{Choice, Schedule};
-use interleaving_core::{Event, Status, System};
+use interleaving_core::{Event, System};
 use network::LineNo;
 use physiological_order::Op;
 use rand_core::SeedableRng;
@@ -192,35 +192,39 @@ fn evict<H: Holder>(system: &System, b: u32) -> Result<Choice, AllocError>
     Ok(Choice::Over)
 }
 
-// What a core does next that is at this, if it does something.
+// What a core does next, if it does something.
 #[inline(always)]
-fn core_step<P: Program>(status: Status, programs: &mut [P], core: u32) -> Option<Choice>
-    ensures step { PicksAny (step_with core status (next_in P.acts programs.old core)) result }
+fn core_step<P: Program>(system: &System, programs: &mut [P], core: u32) -> Option<Choice>
+    ensures step { PicksAny (core_step core (open_op system.now core)
+        (next_in P.acts programs.old core)) result }
     ensures same { programs.new ≡ programs.old }
 {
     let _inside: Option<Op> = None;
-    match status {
-        Status::Waiting => None,
-        Status::Trying => Some(Choice::Tries(core)),
-        Status::Idle => match next_in(programs, core) {
-            Some(Step::Op(op)) => Some(Choice::Does(Event::Issue(core, op))),
-            Some(Step::Advance) => Some(Choice::Advances(core)),
-            None => None,
-        },
+    if let Some((_op, is_out)) = system.open_op(core) {
+        if is_out {
+            return None;
+        }
+        return Some(Choice::Tries(core));
+    }
+    match next_in(programs, core) {
+        Some(Step::Op(op)) => Some(Choice::Does(Event::Issue(core, op))),
+        Some(Step::Advance) => Some(Choice::Advances(core)),
+        None => None,
     }
 }
 
-// How many steps a core does next that is at this: one, or none.
+// How many steps a core does next: one, or none.
 #[inline(always)]
-fn steps_next<P: Program>(status: Status, programs: &mut [P], core: u32) -> u32
-    ensures step { result ≡ length (step_with core status (next_in P.acts programs.old core)) }
+fn steps_next<P: Program>(system: &System, programs: &mut [P], core: u32) -> u32
+    ensures step { result ≡ length (core_step core (open_op system.now core)
+        (next_in P.acts programs.old core)) }
     ensures same { programs.new ≡ programs.old }
 {
     let _inside: Option<Op> = None;
-    if matches!(status, Status::Idle) {
-        return u32::from(next_in(programs, core).is_some());
+    if let Some((_op, is_out)) = system.open_op(core) {
+        return u32::from(!is_out);
     }
-    u32::from(matches!(status, Status::Trying))
+    u32::from(next_in(programs, core).is_some())
 }
 
 // How many cores do something next. A machine has at most 64.
@@ -230,24 +234,23 @@ fn count_ready<P: Program>(system: &System, programs: &mut [P]) -> u32
     ensures bound { result ≤ 64 }
     ensures same { programs.new ≡ programs.old }
 {
-    let statuses = system.statuses();
     let mut count = 0;
     for core in 0..system.cores() {
-        let status = statuses[core as usize];
-        count += steps_next(status, programs, core);
+        count += steps_next(system, programs, core);
     }
     count
 }
 
 // What a core does next that does something.
 #[inline(always)]
-fn sure_step<P: Program>(status: Status, programs: &mut [P], core: u32) -> Choice
-    requires some { 0 < length (step_with core status (next_in P.acts programs.old core)) }
-    ensures step { (next : _) × (step_with core status
+fn sure_step<P: Program>(system: &System, programs: &mut [P], core: u32) -> Choice
+    requires some { 0 < length (core_step core (open_op system.now core)
+        (next_in P.acts programs.old core)) }
+    ensures step { (next : _) × (core_step core (open_op system.now core)
         (next_in P.acts programs.old core) ≡ next ∷ []) × Picks next result }
     ensures same { programs.new ≡ programs.old }
 {
-    match core_step(status, programs, core) {
+    match core_step(system, programs, core) {
         Some(choice) => choice,
         None => unreachable!(),
     }
@@ -261,13 +264,11 @@ fn step_at<P: Program>(system: &System, programs: &mut [P], place: u32) -> Choic
         system.now.config.cores) place ≡ Some next) × Picks next result }
     ensures same { programs.new ≡ programs.old }
 {
-    let statuses = system.statuses();
     let mut left = place;
     for core in 0..system.cores() {
-        let status = statuses[core as usize];
-        let steps = steps_next(status, programs, core);
+        let steps = steps_next(system, programs, core);
         if left < steps {
-            return sure_step(status, programs, core);
+            return sure_step(system, programs, core);
         }
         left -= steps;
     }

@@ -1,7 +1,7 @@
-use Rattle.std.proofs.Common.{◌∙◌, ap, arith, length}
+use Rattle.std.proofs.Common.{arith}
 use Rattle.interleaving_core.specs.LookUps.{open_op}
 use Rattle.worker_driver.specs.Acts.{next_in}
-use Rattle.worker_driver.proofs.SeedEntries.{one_at_most, one_core_more, step_seen}
+use Rattle.worker_driver.proofs.SeedEntries.{one_at_most, one_core_more}
 use Rattle.worker_driver.proofs.seed.count_ready.Goals as goal
 
 pub loop-core-preserved : goal.loop-core-preserved
@@ -10,11 +10,8 @@ loop-core-preserved g c =
     let m = c.args.system.now in
     let more = one_core_more g.P.Program.acts m l.programs l.core in
     let most = one_at_most l.core (open_op m l.core) (next_in g.P.Program.acts l.programs l.core) in
-    let step = c.steps_next-count.ensures.step ∙ ap length (step_seen m _ c.statuses-statuses.ensures l.core
-    (next_in g.P.Program.acts l.programs l.core)
-    (omega (arith, c.loop-core-test.true, c.cores-core-end.ensures.count))) in
     rw c.steps_next-count.ensures.same record {
-      counted = omega (arith, more, l.invariant.counted, step);
-      bounded = omega (arith, most, l.invariant.bounded, step);
+      counted = omega (arith, more, l.invariant.counted, c.steps_next-count.ensures.step);
+      bounded = omega (arith, most, l.invariant.bounded, c.steps_next-count.ensures.step);
       same = l.invariant.same;
     }

@@ -10,7 +10,6 @@ use Rattle.interleaving_core.specs.PartChanges.{answer_of}
 use Rattle.interleaving_core.proofs.ChangedParts.{made_without, set_same}
 use Rattle.interleaving_core.proofs.Only.{SameOpen, advance_only, kept_open}
 use Rattle.interleaving_core.proofs.OpenCounts.{owed_kept}
-use Rattle.interleaving_core.proofs.Statuses.{noted}
 use Rattle.interleaving_core.proofs.machine_state.MachineState.advance.Goals as goal
 
 pub invariant_of-self : goal.invariant_of-self
@@ -21,16 +20,13 @@ invariant_of-self c =
     c.index_mut.result.now refl (omega (arith, c.if-at-len.false, c.len.ensures)) c.index_mut.ensures.value in
     let kept = subst (λ (x : Answer × CoreState × Mail). x.1.open_op ≡ core.open_op)
     (sym (c.advance-plain.ensures mail)) (kept_open core mail _ (advance_only core mail)) in
-    let same = owed_kept c.self.inside.cores.items c.args.core core c.advance-plain.new.core here kept in (
-      record {
-        cores_are = c.self.invariant.0.cores_are;
-        banks_are = c.self.invariant.0.banks_are;
-        capacity_is = c.self.invariant.0.capacity_is;
-        reserved = omega (arith, same, c.self.invariant.0.reserved);
-      },
-      c.note.ensures ∙ noted _ _ c.self.invariant.1 c.args.core c.advance-plain.new.core _
-          (omega (arith, c.if-at-len.false, c.len.ensures)) c.index.ensures,
-    )
+    let same = owed_kept c.self.inside.cores.items c.args.core core c.advance-plain.new.core here kept in
+    record {
+      cores_are = c.self.invariant.cores_are;
+      banks_are = c.self.invariant.banks_are;
+      capacity_is = c.self.invariant.capacity_is;
+      reserved = omega (arith, same, c.self.invariant.reserved);
+    }
 
 pub returns : goal.returns
 returns c =

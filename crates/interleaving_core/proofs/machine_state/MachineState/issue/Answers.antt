@@ -10,22 +10,18 @@ use Rattle.machine_theorem.specs.Kept.{Invariant}
 use Rattle.interleaving_core.specs.contracts.machine_state.MachineState.{the_view}
 use Rattle.interleaving_core.proofs.OpenedOps.{issue_changes}
 use Rattle.interleaving_core.proofs.OpenCounts.{no_open, owed_within}
-use Rattle.interleaving_core.proofs.Statuses.{noted}
 use Rattle.interleaving_core.proofs.machine_state.MachineState.issue.Goals as goal
 
 pub invariant_of-self-2 : goal.invariant_of-self-2
 invariant_of-self-2 c =
     let same = length-set c.self.inside.cores.items c.args.core c.issue-issued.new.self in
-    let most = owed_within (set c.self.inside.cores.items c.args.core c.issue-issued.new.self) in (
-      record {
-        cores_are = c.self.invariant.0.cores_are;
-        banks_are = c.self.invariant.0.banks_are;
-        capacity_is = c.self.invariant.0.capacity_is;
-        reserved = omega (arith, same, most, c.in_ok-reserve.ensures.ok, c.len-2.ensures);
-      },
-      c.note.ensures ∙ noted _ _ c.self.invariant.1 c.args.core c.issue-issued.new.self _
-          (omega (arith, c.if-at-len.false, c.len.ensures)) c.index-3.ensures,
-    )
+    let most = owed_within (set c.self.inside.cores.items c.args.core c.issue-issued.new.self) in
+    record {
+      cores_are = c.self.invariant.cores_are;
+      banks_are = c.self.invariant.banks_are;
+      capacity_is = c.self.invariant.capacity_is;
+      reserved = omega (arith, same, most, c.in_ok-reserve.ensures.ok, c.len-2.ensures);
+    }
 
 pub returns-clause-done : goal.returns-clause-done
 returns-clause-done c =

@@ -1,7 +1,7 @@
 use Rattle.std.proofs.Common.{sym, ap, ◌∙◌, ltb, if◌then◌else◌}
 use Rattle.std.specs.List.{insert, prefix_len}
 use Rattle.line_sets.proofs.RisingEdits.{inserted}
-use Rattle.line_sets.proofs.rising_list.put_in.Goals as goal
+use Rattle.line_sets.proofs.rising_lines.put_in.Goals as goal
 
 pub returns : goal.returns
 returns c =

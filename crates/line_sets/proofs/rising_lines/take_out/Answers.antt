@@ -1,7 +1,7 @@
 use Rattle.std.proofs.Common.{arith, ltb, ap, ◌∙◌}
 use Rattle.std.specs.List.{prefix_len, remove}
 use Rattle.line_sets.proofs.RisingEdits.{none-removed, removed}
-use Rattle.line_sets.proofs.rising_list.take_out.Goals as goal
+use Rattle.line_sets.proofs.rising_lines.take_out.Goals as goal
 
 pub returns-then-at-len : goal.returns-then-at-len
 returns-then-at-len c =

@@ -15,7 +15,7 @@ trap 'rm -rf "$folder"' EXIT
 plain=$folder/plain
 flags=(-O -C target-cpu=x86-64-v2 -C codegen-units=1 -C panic=abort --edition 2024)
 rustc "${flags[@]}" -o "$plain" "$top/bench/plain/main.rs"
-[ -n "${2:-}" ] || (cd "$top/crates/bench_driver" && rt run -- seed 2 64 50 >/dev/null 2>&1)
+[ -n "${2:-}" ] || (cd "$top/crates/bench_driver" && rt run -- seed 2 64 50 >/dev/null)
 
 load() {
     echo "load average: $(cut -d' ' -f1-3 /proc/loadavg)"

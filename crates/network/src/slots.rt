@@ -40,8 +40,6 @@ fn first_from(slots: &[Slot], number: u64) -> usize
 }
 
 /// The index of the slot with the number, or `None` where there is none, found by halving.
-#[cold]
-#[inline(never)]
 fn halved_slot_of(slots: &[Slot], number: u64) -> Option<usize>
     requires { IsRising 0 slots.now (2 ^ 64) }
     ensures found { IfSome result (λ at. slice_get slots.now at ≡ Some
@@ -58,8 +56,25 @@ fn halved_slot_of(slots: &[Slot], number: u64) -> Option<usize>
     Some(at)
 }
 
-/// The index of the slot with the number, or `None` where there is none. Most numbers near the last one have a slot: so
-/// the slot is tried first that is as far before the last one as the number is below that one's.
+/// The same, where eight slots from one on are looked at before. It is no part of each look, which stays short so.
+#[inline(never)]
+fn searched_slot_of(slots: &[Slot], from: usize, number: u64) -> Option<usize>
+    requires { IsRising 0 slots.now (2 ^ 64) }
+    ensures found { IfSome result (λ at. slice_get slots.now at ≡ Some
+        (number, at_number number (still_there slots.now))) }
+    ensures absent { IfNone result (at_number number (still_there slots.now) ≡ None) }
+{
+    for near in from..slots.len().min(from.saturating_add(8)) {
+        if slots[near].0 == number {
+            return Some(near);
+        }
+    }
+    halved_slot_of(slots, number)
+}
+
+/// The index of the slot with the number, or `None` where there is none. Numbers near the last one have a slot each: so
+/// the slot is tried first that is as far before the last one as the number is below that one's. The slots of older ones
+/// may be gone, and then the number's slot stands behind that one, mostly by a few.
 #[inline(always)]
 pub(crate) fn slot_of(slots: &[Slot], number: u64) -> Option<usize>
     requires { IsRising 0 slots.now (2 ^ 64) }
@@ -76,13 +91,14 @@ pub(crate) fn slot_of(slots: &[Slot], number: u64) -> Option<usize>
         return None;
     }
     let back = last - number;
-    if back < count as u64 {
-        let at = count - 1 - back as usize;
-        if slots[at].0 == number {
-            return Some(at);
-        }
+    if back >= count as u64 {
+        return searched_slot_of(slots, 0, number);
     }
-    halved_slot_of(slots, number)
+    let at = count - 1 - back as usize;
+    if slots[at].0 == number {
+        return Some(at);
+    }
+    searched_slot_of(slots, at, number)
 }
 
 /// The cell of the number, or `None` where there is none.

@@ -1,4 +1,4 @@
-use Rattle.std.proofs.Common.{◌≡◌, filter, is_some, rules, arith}
+use Rattle.std.proofs.Common.{◌≡◌, filter, is_some, rules}
 use Rattle.std.proofs.lemmas.Fn.{filter_same}
 use Rattle.network.proofs.SlotChanges.{still_there-filter, IsRising-filter, length-filter_full}
 use Rattle.network.proofs.slots.drop_all_empty.Goals as goal

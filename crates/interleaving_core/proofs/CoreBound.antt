@@ -1,4 +1,4 @@
--- A machine that is well set up has at most 64 cores.
+-- A machine that is well set up has at most 64 cores and eight banks.
 use Rattle.std.proofs.Common.{◌≡◌, ◌≤◌, ◌&&◌, leb, leb-true, Bool, true, false, refl}
 use Rattle.std.proofs.lemmas.Bool.{false≢true}
 use Rattle.machine_table.specs.declared.config.Config.{Config}
@@ -12,8 +12,14 @@ right : (a b : Bool) → (a && b) ≡ true → b ≡ true
 right true b h = h
 right false b h = absurd (false≢true h)
 
-pub most_cores : (c : Config) → is_good c ≡ true → c.cores ≤ 64
-most_cores c good =
-    leb-true c.cores 64 (right (leb 1 c.cores) (leb c.cores 64)
-    (left (is_within c.cores 64) _ (left (is_within c.cores 64 && is_within c.banks 8) _
-    (left _ _ (left _ _ (left _ _ (left _ _ good)))))))
+module _ (c : Config) (good : is_good c ≡ true) where
+  within : (is_within c.cores 64 && is_within c.banks 8) ≡ true
+  within = left (is_within c.cores 64 && is_within c.banks 8) _ (left _ _ (left _ _ (left _ _ (left _ _ good))))
+
+  pub most_cores : c.cores ≤ 64
+  most_cores = leb-true c.cores 64 (right (leb 1 c.cores) (leb c.cores 64)
+      (left (is_within c.cores 64) (is_within c.banks 8) within))
+
+  pub most_banks : c.banks ≤ 8
+  most_banks = leb-true c.banks 8 (right (leb 1 c.banks) (leb c.banks 8)
+      (right (is_within c.cores 64) (is_within c.banks 8) within))

@@ -139,9 +139,10 @@ impl System {
         self.state.config.cores
     }
 
-    /// How many banks there are: the machine has that many.
+    /// How many banks there are: the machine has that many, and never more than eight.
     pub fn banks(&self) -> u32
         ensures banks { result ≡ self.now.config.banks }
+        ensures most { result ≤ 8 }
         ensures count { length self.now.banks ≡ result }
     {
         self.state.config.banks

@@ -4,7 +4,8 @@ use Rattle.std.proofs.Common.{length, map, get_or, Option, Some, None, refl, sym
 use Rattle.std.proofs.Common.{◌≢◌}
 use Rattle.std.specs.Prelude.{◌≤◌, slice_get}
 use Rattle.std.proofs.Math.Nat.{mod-lt}
-use Rattle.std.proofs.lemmas.Bool.{cond_both, false≢true}
+use Rattle.std.proofs.Common.{inl, inr, set, get_or-set_same, get_or-set_other}
+use Rattle.std.proofs.lemmas.Bool.{cases_eq, cond_both, false≢true}
 use Rattle.std.proofs.lemmas.List.{length-map, length-append, get_or_append_left, get_or-append-add, get_or-map, get_or_past}
 use Rattle.std.proofs.lemmas.List.FromFn.{get_or-map-range_with_len, length-map-range_with_len}
 use Rattle.std.proofs.lemmas.Option.{get_or_from_slice_get, slice_get_within, slice_get-get_or}
@@ -87,6 +88,15 @@ module _ (eviction : ℕ → ℕ → Event) (lines : ℕ → List ℕ) where
       let is : entry (line_events eviction lines n) b ≡ Does (eviction holder line) =
       line_at n b holder at line below within (slice_get-get_or (risen (lines holder)) at 0 risen_inside) here in
       false≢true (ap is_end (sym is ∙ over))
+
+-- a list of counts, after that of one more holder was written
+pub one_count_more : (counts : List ℕ) (lengths : ℕ → ℕ) (n count : ℕ) → n < length counts → count ≡ lengths n →
+    ((i : ℕ) → i < n → get_or counts i 0 ≡ lengths i) →
+    (i : ℕ) → i < n + 1 → get_or (set counts n count) i 0 ≡ lengths i
+one_count_more counts lengths n count within is each i below = elim (cases_eq i n) [
+  | inl e ↦ ap (λ k. get_or (set counts n count) k 0) e ∙ get_or-set_same counts n count 0 within ∙ is ∙ ap lengths (sym e)
+  | inr other ↦ get_or-set_other counts n i count 0 other ∙ each i (omega (arith, other, below))
+]
 
 -- cores' steps, of which each core has one or none
 pub one_at_most : (core : ℕ) (o : Option (Op × Bool)) (next : Option Step) → length (core_step core o next) ≤ 1

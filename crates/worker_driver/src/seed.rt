@@ -61,7 +61,8 @@ trait Holder {
     ghost eviction: { ℕ → ℕ → Event };
 
     fn holders(system: &System) -> u32
-        ensures { result ≡ holders system.now };
+        ensures value { result ≡ holders system.now }
+        ensures bound { result ≤ 64 };
 
     fn count(system: &System, holder: u32) -> usize
         ensures { result ≡ length (lines system.now holder) };
@@ -158,29 +159,37 @@ fn place_in(b: u32, total: u128) -> u32
     b % total as u32
 }
 
-// How many lines all holders have.
-fn line_count<H: Holder>(system: &System) -> u128
-    ensures { result ≡ length (line_events H.eviction (H.lines system.now) (H.holders system.now)) }
+// How many lines each holder has, and all together.
+fn line_count<H: Holder>(system: &System, counts: &mut [usize]) -> u128
+    requires place_each { H.holders system.now ≤ length counts.old }
+    ensures each { (holder : ℕ) → holder < H.holders system.now →
+        slice_get counts.new holder ≡ Some (length (H.lines system.now holder)) }
+    ensures total { result ≡ length (line_events H.eviction (H.lines system.now)
+        (H.holders system.now)) }
 {
     let mut total = 0;
     for holder in 0..H::holders(system) {
-        total += H::count(system, holder) as u128;
+        let count = H::count(system, holder);
+        counts[holder as usize] = count;
+        total += count as u128;
     }
     total
 }
 
-// The eviction of a line.
+// The eviction of a line. A machine has at most 64 cores, and fewer banks. Each is asked once.
 fn evict<H: Holder>(system: &System, b: u32) -> Result<Choice, AllocError>
     ensures { PicksOne (entry
         (line_events H.eviction (H.lines system.now) (H.holders system.now)) b) result }
 {
-    let total = line_count::<H>(system);
+    let holders = H::holders(system);
+    let mut counts = [0; 64];
+    let total = line_count::<H>(system, &mut counts);
     if total == 0 {
         return Ok(Choice::Over);
     }
     let mut at = place_in(b, total) as usize;
-    for holder in 0..H::holders(system) {
-        let count = H::count(system, holder);
+    for holder in 0..holders {
+        let count = counts[holder as usize];
         if at < count {
             return match H::line(system, holder, at) {
                 Ok(line) => Ok(Choice::Does(H::eviction(holder, line))),

@@ -28,7 +28,8 @@ invariant_of-self c =
         capacity_is = c.self.invariant.0.capacity_is;
         reserved = omega (arith, same, c.self.invariant.0.reserved);
       },
-      marked_still _ _ _ c.self.invariant.1 c.args.core core c.advance-plain.new.core here (unmoved_waits core c.advance-plain.new.core kept),
+      marked_still _ _ _ c.self.invariant.1 c.args.core core c.advance-plain.new.core here
+          (unmoved_waits core c.advance-plain.new.core kept),
     )
 
 pub returns : goal.returns

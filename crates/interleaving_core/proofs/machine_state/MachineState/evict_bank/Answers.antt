@@ -39,5 +39,5 @@ returns c =
     c.self.inside.flight.capacity c.self.invariant.0.capacity_is _ c.self.view_is
     (λ n. evict_entry n c.args.bank c.args.line (slice_get n.banks c.args.bank))
     (ap (evict_entry m c.args.bank c.args.line) (sym here))
-    (answer_of c.evict_entry-plain.result) c.evict_entry-plain.new.bank c.evict_entry-plain.new.flight.mail c.stop_after.new.is_stopped
-    c.evict_entry-plain.ensures.done c.stop_after.ensures
+    (answer_of c.evict_entry-plain.result) c.evict_entry-plain.new.bank c.evict_entry-plain.new.flight.mail
+    c.stop_after.new.is_stopped c.evict_entry-plain.ensures.done c.stop_after.ensures

@@ -43,7 +43,8 @@ invariant_of-self c =
       still_fitted m.config c.self.inside.flight c.self.inside.cores.items c.self.inside.records.items _
           c.self.invariant.0 _ _ _ _ c.evict_copy-plain.ensures.set_up
           (omega (arith, same, c.self.invariant.0.reserved)),
-      marked_still _ _ _ c.self.invariant.1 c.args.core part c.evict_copy-plain.new.core here (unmoved_waits part c.evict_copy-plain.new.core kept),
+      marked_still _ _ _ c.self.invariant.1 c.args.core part c.evict_copy-plain.new.core here
+          (unmoved_waits part c.evict_copy-plain.new.core kept),
     )
 
 pub returns : goal.returns
@@ -59,5 +60,5 @@ returns c =
     c.self.inside.flight.capacity c.self.invariant.0.capacity_is _ c.self.view_is
     (λ n. evict_copy n c.args.core c.args.line (slice_get n.cores c.args.core))
     (ap (evict_copy m c.args.core c.args.line) (sym here))
-    (answer_of c.evict_copy-plain.result) c.evict_copy-plain.new.core c.evict_copy-plain.new.flight.mail c.stop_after.new.is_stopped
-    c.evict_copy-plain.ensures.done c.stop_after.ensures
+    (answer_of c.evict_copy-plain.result) c.evict_copy-plain.new.core c.evict_copy-plain.new.flight.mail
+    c.stop_after.new.is_stopped c.evict_copy-plain.ensures.done c.stop_after.ensures

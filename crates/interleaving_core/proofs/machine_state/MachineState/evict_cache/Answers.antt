@@ -1,4 +1,4 @@
-use Rattle.std.proofs.Common.{◌≡◌, ap, sym, subst, refl, arith, length, set, slice_get}
+use Rattle.std.proofs.Common.{ap, sym, subst, refl, arith, length, set, slice_get}
 use Rattle.std.proofs.lemmas.Option.{slice_get_read}
 use Rattle.network.specs.Mail.{Mail}
 use Rattle.core_pts.specs.CoreTable as core_table

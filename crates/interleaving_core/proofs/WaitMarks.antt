@@ -127,15 +127,6 @@ none_marked c cores good are = record {
       bit_at-zero i ∙ ap bit_of (sym (ap (λ (cs : List CoreState). waits_in cs i) are ∙ none_waits c 0 c.cores i));
 }
 
--- what a bit says
-pub is_clear : (b : Bool) → bit_of b ≡ 0 → b ≡ false
-is_clear true h = absurd (omega (arith, h))
-is_clear false h = refl
-
-pub is_set : (b : Bool) → bit_of b ≡ 1 → b ≡ true
-is_set true h = refl
-is_set false h = absurd (omega (arith, h))
-
 -- the first bit from a place on that isn't set
 module _ (mask from : ℕ) (fits : mask < 2 ^ 64) where
   abbrev behind : ℕ

@@ -1,6 +1,6 @@
 //! The machine that users drive, and what is always true of it.
 ghost use Rattle.std.specs.Prelude.{◌≡◌, ◌≢◌, ◌≤◌, ◌<◌, ◌++◌, ◌∷◌, vec_capacity, [], false, true, IfOk, IfErr};
-ghost use Rattle.std.specs.Prelude.{MatchOption, IfSome, IsSome, IsTrue, OnErr, OnOk, length, map};
+ghost use Rattle.std.specs.Prelude.{IfSome, IsSome, IsTrue, MatchOption, OnErr, OnOk, length, map};
 ghost use Rattle.std.specs.Prelude.{slice_get, slice_index_or, List, Some, ℕ};
 ghost use Rattle.physiological_order.specs.Order.{flat, Legal, Arrangement, of_core, replay_end};
 ghost use Rattle.physiological_order.specs.StaleHits.{RisesByNumber};

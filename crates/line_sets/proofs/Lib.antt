@@ -1,3 +1,4 @@
+mod BlockedLists
 mod ListedCounts
 mod ListedSums
 mod ListedTallies

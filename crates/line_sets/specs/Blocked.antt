@@ -1,0 +1,25 @@
+-- A list of numbers that is kept in blocks.
+use Rattle.std.specs.Prelude.{ℕ, zero, suc, ◌+◌, ◌<◌, List, [], ◌∷◌, ◌++◌, length, if◌then◌else◌}
+use Rattle.arrayvec.specs.ArrayVec.{ArrayVec}
+use Rattle.line_sets.specs.Rising.{all_below}
+
+-- the numbers of all blocks, block by block
+abbrev pub joined : List (ArrayVec ℕ) → List ℕ
+joined [] = []
+joined (b ∷ bs) = b.items ++ joined bs
+
+-- no block is empty
+abbrev pub Filled : List (ArrayVec ℕ) → Type 0
+Filled [] = Unit {0}
+Filled (b ∷ bs) = (0 < length b.items) × Filled bs
+
+-- how many blocks from the front on have no number but such below x
+abbrev pub block_at : ℕ → List (ArrayVec ℕ) → ℕ
+block_at x [] = 0
+block_at x (b ∷ bs) = if all_below x b.items then 1 + block_at x bs else 0
+
+-- how many numbers the k-th block has
+abbrev pub size_at : ℕ → List (ArrayVec ℕ) → ℕ
+size_at k [] = 0
+size_at zero (b ∷ bs) = length b.items
+size_at (suc k) (b ∷ bs) = size_at k bs

@@ -1,0 +1,266 @@
+//! A rising list of numbers in blocks, so that little is moved when a number comes or goes.
+ghost use Rattle.std.specs.Prelude.{◌≡◌, ◌≤◌, ◌<◌, ◌+◌, ◌++◌, ℕ, IfOk, List, None, Some, drop, length, slice_get};
+ghost use Rattle.std.specs.Prelude.{if◌then◌else◌};
+ghost use Rattle.line_sets.specs.Rising.{all_but, put_in, take_out, Rises};
+ghost use Rattle.line_sets.specs.Blocked.{block_at, joined, size_at, Filled};
+
+use crate::rising_list::{Block, ends_below, index_but, kept, put_in, take_out};
+use network::LineNo;
+use std::alloc::{AllocError, Global};
+use std::marker::Model;
+
+/// A rising list of numbers in blocks of at most 128. Contracts see the list.
+#[derive(Drop)]
+pub(crate) struct Blocks {
+    // No block is empty.
+    blocks: Vec<Block>,
+}
+
+impl Model for Blocks {
+    ghost use Rattle.std.specs.Prelude.{List, ℕ};
+    ghost use Rattle.line_sets.specs.Rising.{Rises};
+    ghost use Rattle.line_sets.specs.Blocked.{joined, Filled};
+
+    ghost Value = { List ℕ };
+
+    ghost view = { λ numbers. joined numbers.blocks.items };
+
+    ghost invariant = { λ numbers. Rises (joined numbers.blocks.items) × Filled numbers.blocks.items };
+}
+
+/// How many blocks from the front on have only numbers below one, by a binary search.
+fn block_at(blocks: &[Block], number: u64) -> usize
+    requires rises { Rises (joined blocks.now) }
+    requires filled { Filled blocks.now }
+    ensures bound { result ≤ length blocks.now }
+    ensures count { result ≡ block_at number blocks.now }
+{
+    let mut low = 0;
+    let mut high = blocks.len();
+    while low < high {
+        let middle = low + (high - low) / 2;
+        if ends_below(blocks[middle].as_slice(), number) {
+            low = middle + 1;
+        } else {
+            high = middle;
+        }
+    }
+    low
+}
+
+/// The block that a number belongs to: the first one that ends at it or above, else the last one.
+fn place(blocks: &[Block], number: u64) -> usize
+    requires rises { Rises (joined blocks.now) }
+    requires filled { Filled blocks.now }
+    requires some { 0 < length blocks.now }
+    ensures inside { result < length blocks.now }
+    ensures behind { result ≤ block_at number blocks.now }
+    ensures first { result + 1 < length blocks.now → result ≡ block_at number blocks.now }
+{
+    let at = block_at(blocks, number);
+    if at < blocks.len() {
+        at
+    } else {
+        blocks.len() - 1
+    }
+}
+
+/// How many numbers a block has.
+fn size(blocks: &[Block], at: usize) -> usize
+    requires { at < length blocks.now }
+    ensures count { result ≡ size_at at blocks.now }
+    ensures most { result ≤ 128 }
+{
+    blocks[at].len()
+}
+
+/// A block of at most 128 numbers.
+fn block_of(numbers: &[u64]) -> Block
+    requires { length numbers.now ≤ 128 }
+    ensures { result.items ≡ numbers.now }
+{
+    let mut block = Block::new();
+    let _fits = block.try_extend_from_slice(numbers);
+    block
+}
+
+/// Puts the numbers of a full block from the 64th on into a block of their own behind it; false where memory for that
+/// is refused, and then nothing has changed.
+fn split(blocks: &mut Vec<Block>, at: usize) -> bool
+    requires inside { at < length blocks.old.items }
+    requires full { size_at at blocks.old.items ≡ 128 }
+    ensures same { joined blocks.new.items ≡ joined blocks.old.items }
+    ensures filled { Filled blocks.old.items → Filled blocks.new.items }
+    ensures some { 0 < length blocks.new.items }
+{
+    let upper = block_of(&blocks[at].as_slice()[64..]);
+    if blocks.insert(at + 1, upper).is_err() {
+        return false;
+    }
+    blocks[at].truncate(64);
+    true
+}
+
+/// Puts a number into the block that it belongs to, which has room.
+fn put_at(blocks: &mut Vec<Block>, at: usize, number: u64)
+    requires rises { Rises (joined blocks.old.items) }
+    requires filled { Filled blocks.old.items }
+    requires inside { at < length blocks.old.items }
+    requires room { size_at at blocks.old.items < 128 }
+    requires behind { at ≤ block_at number blocks.old.items }
+    requires first { at + 1 < length blocks.old.items → at ≡ block_at number blocks.old.items }
+    ensures put { joined blocks.new.items ≡ put_in number (joined blocks.old.items) }
+    ensures filled { Filled blocks.new.items }
+{
+    put_in(&mut blocks[at], number);
+}
+
+/// Takes the first number that isn't below a number out of its block, and the block if it gets empty.
+fn take_at(blocks: &mut Vec<Block>, at: usize, number: u64)
+    requires rises { Rises (joined blocks.old.items) }
+    requires filled { Filled blocks.old.items }
+    requires inside { at < length blocks.old.items }
+    requires first { at ≡ block_at number blocks.old.items }
+    ensures taken { joined blocks.new.items ≡ take_out number (joined blocks.old.items) }
+    ensures filled { Filled blocks.new.items }
+{
+    if size(blocks, at) <= 1 {
+        let _block = blocks.remove(at);
+        return;
+    }
+    take_out(&mut blocks[at], number);
+}
+
+/// Puts numbers behind those of a block that has room for them.
+fn append(block: &mut Block, numbers: &[u64])
+    requires { length block.old.items + length numbers.now ≤ 128 }
+    ensures { block.new.items ≡ block.old.items ++ numbers.now }
+{
+    let _fits = block.try_extend_from_slice(numbers);
+}
+
+/// Joins a block with the next one, if there is one and they have at most 64 numbers together.
+fn join(blocks: &mut Vec<Block>, at: usize)
+    requires { at < length blocks.old.items }
+    ensures same { joined blocks.new.items ≡ joined blocks.old.items }
+    ensures filled { Filled blocks.old.items → Filled blocks.new.items }
+    ensures inside { at < length blocks.new.items }
+{
+    if at + 1 >= blocks.len() {
+        return;
+    }
+    let here = size(blocks, at);
+    let next = size(blocks, at + 1);
+    if here + next > 64 {
+        return;
+    }
+    let upper = blocks.remove(at + 1);
+    append(&mut blocks[at], upper.as_slice());
+}
+
+/// Joins a block that a number has left with the next one and with the one before, where they have at most 64 numbers
+/// together.
+fn level(blocks: &mut Vec<Block>, at: usize)
+    ensures same { joined blocks.new.items ≡ joined blocks.old.items }
+    ensures filled { Filled blocks.old.items → Filled blocks.new.items }
+{
+    if at >= blocks.len() {
+        return;
+    }
+    join(blocks, at);
+    if at > 0 {
+        join(blocks, at - 1);
+    }
+}
+
+/// The number of all blocks that comes after so many others but one number, if there is one.
+fn nth_within(blocks: &[Block], but: &Option<LineNo>, at: usize) -> Option<u64>
+    requires { Rises (joined blocks.now) }
+    ensures { result ≡ slice_get (all_but but.now (joined blocks.now)) at }
+{
+    let mut left = at;
+    for block in blocks {
+        let here = kept(block.as_slice(), *but);
+        if left < here {
+            let numbers = block.as_slice();
+            let index = index_but(numbers, *but, left);
+            if index >= numbers.len() {
+                return None;
+            }
+            return Some(numbers[index]);
+        }
+        left -= here;
+    }
+    None
+}
+
+/// Where a block ends that begins there: after 64 numbers, or with the last one.
+fn block_end(from: usize, count: usize) -> usize
+    requires { from < count }
+    ensures within { result ≤ count }
+    ensures more { from < result }
+    ensures few { result ≤ from + 64 }
+{
+    if count - from < 64 { count } else { from + 64 }
+}
+
+impl Blocks {
+    /// The numbers of a rising list, in blocks of 64, with room for so many numbers at most.
+    pub(crate) fn of(alloc: Global, numbers: &[u64], most: usize) -> Result<Blocks, AllocError>
+        requires { Rises numbers.now }
+        ensures { IfOk result (λ blocks. blocks ≡ numbers.now) }
+    {
+        // Two neighbours have more than 64 numbers together, so that there are at most most / 32 + 1 blocks.
+        let mut blocks: Vec<Block> = Vec::with_capacity(alloc, most / 32 + 2)?;
+        let mut from = 0;
+        while from < numbers.len() {
+            let to = block_end(from, numbers.len());
+            blocks.push(block_of(&numbers[from..to]))?;
+            from = to;
+        }
+        Ok(Blocks { blocks })
+    }
+
+    /// Puts a number into its place; false where memory for it is refused, and then nothing has changed. A block that
+    /// is full is split before.
+    pub(crate) fn put_in(&mut self, number: u64) -> bool
+        ensures { self.new ≡ (if result then put_in number self.old else self.old) }
+    {
+        if self.blocks.is_empty() {
+            return self.blocks.push(block_of(&[number])).is_ok();
+        }
+        let at = place(&self.blocks, number);
+        if size(&self.blocks, at) < 128 {
+            put_at(&mut self.blocks, at, number);
+            return true;
+        }
+        if !split(&mut self.blocks, at) {
+            return false;
+        }
+        let at = place(&self.blocks, number);
+        if size(&self.blocks, at) >= 128 {
+            return false;
+        }
+        put_at(&mut self.blocks, at, number);
+        true
+    }
+
+    /// Takes the first number that isn't below a number out.
+    pub(crate) fn take_out(&mut self, number: u64)
+        ensures { self.new ≡ take_out number self.old }
+    {
+        let at = block_at(&self.blocks, number);
+        if at >= self.blocks.len() {
+            return;
+        }
+        take_at(&mut self.blocks, at, number);
+        level(&mut self.blocks, at);
+    }
+
+    /// The number that comes after so many others but one number, if there is one.
+    pub(crate) fn nth(&self, but: &Option<LineNo>, at: usize) -> Option<u64>
+        ensures { result ≡ slice_get (all_but but.now self.now) at }
+    {
+        nth_within(&self.blocks, but, at)
+    }
+}

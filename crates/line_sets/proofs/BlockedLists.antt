@@ -9,7 +9,8 @@ use Rattle.std.proofs.lemmas.List.{length-drop, length-take-le}
 use mathlib.Core.Bool.{false≢true}
 use Rattle.std.proofs.lemmas.Bool.{cases_eq, cases_lt, cond_both, le-leb, lt-ltb}
 use Rattle.line_sets.specs.Rising.{all_below, all_but, is_but, put_in, take_out, AllFrom, Rises}
-use Rattle.line_sets.specs.Blocked.{block_at, joined, size_at, Filled}
+use Rattle.line_sets.specs.Blocked.{block_at, joined, size_at, Filled, Lacks, Spaced}
+use Rattle.line_sets.proofs.BlockNeighbours.{lacks-set, pair-before, pair-next, spaced-lacks, spaced-push, spaced-remove, spaced-set, split-spaced}
 use Rattle.line_sets.proofs.RisenLists.{from-weaker}
 use Rattle.line_sets.proofs.RisingEdits.{at-from, at-less, ge-ltb, less-most}
 use Rattle.line_sets.proofs.RisingEdits.{all_but-above, but-gone, but-kept, gt-leb, less, less-more, less-none, most}
@@ -137,7 +138,13 @@ drop-block x (b ∷ bs) (suc k) d lt same one = elim (block-cases x b bs) [
       ∙ sym (take-behind x b.items (joined bs) h.0)
 ]
 
-pub put-some : (x : ℕ) (ys : List ℕ) → 0 < length (put_in x ys)
+put-longer : (x : ℕ) (ys : List ℕ) → length ys ≤ length (put_in x ys)
+put-longer x [] = omega arith
+put-longer x (y ∷ ys) = let later = put-longer x ys in
+    cond_both (ltb y x) (y ∷ put_in x ys) (x ∷ y ∷ ys) (λ zs. suc (length ys) ≤ length zs)
+    (λ e. omega (arith, later)) (λ e. omega arith)
+
+put-some : (x : ℕ) (ys : List ℕ) → 0 < length (put_in x ys)
 put-some x [] = omega arith
 put-some x (y ∷ ys) = cond_both (ltb y x) (y ∷ put_in x ys) (x ∷ y ∷ ys) (λ zs. 0 < length zs)
     (λ e. omega arith) (λ e. omega arith)
@@ -493,6 +500,14 @@ module _ (n k : ℕ) (bs ns : List (ArrayVec ℕ)) (d e u w : ArrayVec ℕ) (ys 
       let bottom = ap length low ∙ length-take-le n (get_or bs k d).items (omega (arith, long, more)) in
       rw (sym next) at (split-filled bs k u w h (omega (arith, long, top, more)) (omega (arith, bottom, some)))
 
+  pub split-apart : 64 ≤ n → n + 64 ≤ length ys → Filled bs → Spaced 65 bs → Spaced 65 (set ns k w)
+  split-apart some more h s =
+      let long = ap length (same ∙ ap (λ (v : ArrayVec ℕ). v.items) read) in
+      let top = ap length high ∙ length-drop n (get_or bs k d).items in
+      let bottom = ap length low ∙ length-take-le n (get_or bs k d).items (omega (arith, long, more)) in
+      rw (sym next) at (split-spaced 65 bs k u w (omega arith) h (omega (arith, long, top, more))
+      (omega (arith, bottom, some)) lt s)
+
 pub stored : (b r : Bool) (ns us vs : List (ArrayVec ℕ)) → b ≡ not r → r ≡ false → ns ≡ cond b us vs → ns ≡ us
 stored b r ns us vs e f g = g ∙ ap (λ t. cond t us vs) (e ∙ ap not f)
 
@@ -518,6 +533,12 @@ pub placed-filled : (x : ℕ) (bs : List (ArrayVec ℕ)) (k : ℕ) (d w : ArrayV
     w.items ≡ put_in x d.items → Filled (set bs k w)
 placed-filled x bs k d w h e = filled-set bs k w h (rw (sym e) at (put-some x d.items))
 
+pub placed-spaced : (x : ℕ) (bs : List (ArrayVec ℕ)) (k : ℕ) (d w : ArrayVec ℕ) → d ≡ get_or bs k d →
+    w.items ≡ put_in x d.items → Spaced 65 bs → Spaced 65 (set bs k w)
+placed-spaced x bs k d w is e h =
+    let more = put-longer x d.items in let same = ap (λ (v : ArrayVec ℕ). length v.items) is in let long = ap length e in
+    spaced-set 65 bs k d w (omega (arith, more, same, long)) h
+
 pub took : (x : ℕ) (bs : List (ArrayVec ℕ)) (k : ℕ) (d w : ArrayVec ℕ) → k < length bs → k ≡ block_at x bs →
     d ≡ get_or bs k d → w.items ≡ take_out x d.items → joined (set bs k w) ≡ take_out x (joined bs)
 took x bs k d w lt at is e = take-block x bs k d w lt at (e ∙ ap (λ (v : ArrayVec ℕ). take_out x v.items) is)
@@ -527,6 +548,15 @@ pub took-filled : (x : ℕ) (bs : List (ArrayVec ℕ)) (k : ℕ) (d w : ArrayVec
 took-filled x bs k d w h lt is more e =
     let few = take-shorter x d.items in let long = ap length e in let same = sized k bs d lt is in
     filled-set bs k w h (omega (arith, few, long, more, same))
+
+pub took-lacks : (x : ℕ) (bs : List (ArrayVec ℕ)) (k : ℕ) (d w : ArrayVec ℕ) → k < length bs →
+    d ≡ get_or bs k d → w.items ≡ take_out x d.items → Spaced 65 bs → Lacks 1 1 65 k (set bs k w)
+took-lacks x bs k d w lt is e h =
+    let few = take-shorter x d.items in let long = ap length e in let same = sized k bs d lt is in
+    lacks-set 65 bs k w (omega (arith, few, long, same)) h
+
+pub went-lacks : (bs : List (ArrayVec ℕ)) (k : ℕ) → size_at k bs ≤ 1 → Spaced 65 bs → Lacks 1 1 65 k (remove bs k)
+went-lacks bs k few h = spaced-lacks 1 1 65 (remove bs k) k (spaced-remove 65 bs k few h)
 
 pub went : (x : ℕ) (bs : List (ArrayVec ℕ)) (k : ℕ) → k < length bs → k ≡ block_at x bs →
     size_at k bs ≤ 1 → joined (remove bs k) ≡ take_out x (joined bs)
@@ -580,7 +610,28 @@ module _ (bs ns : List (ArrayVec ℕ)) (k : ℕ) (u e w : ArrayVec ℕ) (ys : Li
       let same = ap (λ (v : ArrayVec ℕ). length v.items) beside in
       rw (sym rest) at (filled-set (remove bs (suc k)) k w (filled-remove bs (suc k) h) (omega (arith, long, some, same)))
 
+  both : w.items ≡ e.items ++ ys → length w.items ≡ size_at k bs + size_at (suc k) bs
+  both put =
+      let long = ap length put ∙ length-append e.items ys in
+      let here = sized k bs e (omega (arith, lt)) beside in
+      let next = sized (suc k) bs u (omega (arith, lt)) above in let same = ap length read in
+      omega (arith, long, here, next, same)
+
+  pub pair-opens : w.items ≡ e.items ++ ys → Lacks 1 1 65 k bs → Lacks 1 0 65 k (set ns k w)
+  pair-opens put h = rw (sym rest) at (pair-next 65 bs k w (omega (arith, lt)) (both put) h)
+
+  pub pair-closes : w.items ≡ e.items ++ ys → Lacks 1 0 65 (k + 1) bs → Spaced 65 (set ns k w)
+  pair-closes put h = let next : k + 1 ≡ suc k = omega arith in
+      rw (sym rest) at (pair-before 65 bs k w (omega (arith, lt)) (both put) (rw next at h))
+
 -- what a full block has
 pub full-length : (k : ℕ) (bs : List (ArrayVec ℕ)) (d : ArrayVec ℕ) (ys : List ℕ) → k < length bs →
     size_at k bs ≡ 128 → d ≡ get_or bs k d → ys ≡ d.items → length ys ≡ 128
 full-length k bs d ys lt full is e = ap length e ∙ sym (sized k bs d lt is) ∙ full
+
+-- a list in blocks, and one block more
+pub more-spaced : (t : ℕ) (xs : List ℕ) (bs cs : List (ArrayVec ℕ)) (b : ArrayVec ℕ) → cs ≡ bs ++ b ∷ [] →
+    Spaced 65 (bs ++ b ∷ []) → (t < length xs → 64 ≤ length b.items) →
+    (w : ArrayVec ℕ) → 0 < length w.items → t < length xs → Spaced 65 (cs ++ w ∷ [])
+more-spaced t xs bs cs b e h full w some lt = let le = full lt in
+    rw (sym e) at (spaced-push 65 bs b w (omega (arith, le, some)) h)

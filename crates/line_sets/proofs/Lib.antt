@@ -1,3 +1,4 @@
+mod BlockNeighbours
 mod BlockedLists
 mod ListedCounts
 mod ListedSums

@@ -23,3 +23,14 @@ abbrev pub size_at : ℕ → List (ArrayVec ℕ) → ℕ
 size_at k [] = 0
 size_at zero (b ∷ bs) = length b.items
 size_at (suc k) (b ∷ bs) = size_at k bs
+
+-- two neighbours have more than 64 numbers together; the block before the first one of the list has n
+abbrev pub Spaced : ℕ → List (ArrayVec ℕ) → Type 0
+Spaced n [] = Unit {0}
+Spaced n (b ∷ bs) = (64 < n + length b.items) × Spaced (length b.items) bs
+
+-- they would, had the k-th block i numbers more beside the one before it, and j more beside the next one
+abbrev pub Lacks : ℕ → ℕ → ℕ → ℕ → List (ArrayVec ℕ) → Type 0
+Lacks i j n k [] = Unit {0}
+Lacks i j n zero (b ∷ bs) = (64 < n + length b.items + i) × Spaced (length b.items + j) bs
+Lacks i j n (suc k) (b ∷ bs) = (64 < n + length b.items) × Lacks i j (length b.items) k bs

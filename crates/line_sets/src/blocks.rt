@@ -2,7 +2,7 @@
 ghost use Rattle.std.specs.Prelude.{◌≡◌, ◌≤◌, ◌<◌, ◌+◌, ◌++◌, ℕ, IfOk, List, None, Some, drop, length, slice_get};
 ghost use Rattle.std.specs.Prelude.{if◌then◌else◌};
 ghost use Rattle.line_sets.specs.Rising.{all_but, put_in, take_out, Rises};
-ghost use Rattle.line_sets.specs.Blocked.{block_at, joined, size_at, Filled};
+ghost use Rattle.line_sets.specs.Blocked.{block_at, joined, size_at, Filled, Lacks, Spaced};
 
 use crate::rising_list::{Block, ends_below, index_but, kept, put_in, take_out};
 use network::LineNo;
@@ -12,20 +12,20 @@ use std::marker::Model;
 /// A rising list of numbers in blocks of at most 128. Contracts see the list.
 #[derive(Drop)]
 pub(crate) struct Blocks {
-    // No block is empty.
+    // No block is empty, and two neighbours have more than 64 numbers together.
     blocks: Vec<Block>,
 }
 
 impl Model for Blocks {
     ghost use Rattle.std.specs.Prelude.{List, ℕ};
     ghost use Rattle.line_sets.specs.Rising.{Rises};
-    ghost use Rattle.line_sets.specs.Blocked.{joined, Filled};
+    ghost use Rattle.line_sets.specs.Blocked.{joined, Filled, Spaced};
 
     ghost Value = { List ℕ };
 
     ghost view = { λ numbers. joined numbers.blocks.items };
 
-    ghost invariant = { λ numbers. Rises (joined numbers.blocks.items) × Filled numbers.blocks.items };
+    ghost invariant = { λ numbers. Rises (joined numbers.blocks.items) × Filled numbers.blocks.items × Spaced 65 numbers.blocks.items };
 }
 
 /// How many blocks from the front on have only numbers below one, by a binary search.
@@ -91,6 +91,7 @@ fn split(blocks: &mut Vec<Block>, at: usize) -> bool
     requires full { size_at at blocks.old.items ≡ 128 }
     ensures same { joined blocks.new.items ≡ joined blocks.old.items }
     ensures filled { Filled blocks.old.items → Filled blocks.new.items }
+    ensures spaced { Filled blocks.old.items → Spaced 65 blocks.old.items → Spaced 65 blocks.new.items }
     ensures some { 0 < length blocks.new.items }
 {
     let upper = block_of(&blocks[at].as_slice()[64..]);
@@ -111,6 +112,7 @@ fn put_at(blocks: &mut Vec<Block>, at: usize, number: u64)
     requires first { at + 1 < length blocks.old.items → at ≡ block_at number blocks.old.items }
     ensures put { joined blocks.new.items ≡ put_in number (joined blocks.old.items) }
     ensures filled { Filled blocks.new.items }
+    ensures spaced { Spaced 65 blocks.old.items → Spaced 65 blocks.new.items }
 {
     put_in(&mut blocks[at], number);
 }
@@ -123,6 +125,7 @@ fn take_at(blocks: &mut Vec<Block>, at: usize, number: u64)
     requires first { at ≡ block_at number blocks.old.items }
     ensures taken { joined blocks.new.items ≡ take_out number (joined blocks.old.items) }
     ensures filled { Filled blocks.new.items }
+    ensures spaced { Spaced 65 blocks.old.items → Lacks 1 1 65 at blocks.new.items }
 {
     if size(blocks, at) <= 1 {
         let _block = blocks.remove(at);
@@ -144,6 +147,8 @@ fn join(blocks: &mut Vec<Block>, at: usize)
     requires { at < length blocks.old.items }
     ensures same { joined blocks.new.items ≡ joined blocks.old.items }
     ensures filled { Filled blocks.old.items → Filled blocks.new.items }
+    ensures next { Lacks 1 1 65 at blocks.old.items → Lacks 1 0 65 at blocks.new.items }
+    ensures before { Lacks 1 0 65 (at + 1) blocks.old.items → Spaced 65 blocks.new.items }
     ensures inside { at < length blocks.new.items }
 {
     if at + 1 >= blocks.len() {
@@ -163,14 +168,16 @@ fn join(blocks: &mut Vec<Block>, at: usize)
 fn level(blocks: &mut Vec<Block>, at: usize)
     ensures same { joined blocks.new.items ≡ joined blocks.old.items }
     ensures filled { Filled blocks.old.items → Filled blocks.new.items }
+    ensures spaced { Lacks 1 1 65 at blocks.old.items → Spaced 65 blocks.new.items }
 {
     if at >= blocks.len() {
         return;
     }
     join(blocks, at);
-    if at > 0 {
-        join(blocks, at - 1);
+    if at == 0 {
+        return;
     }
+    join(blocks, at - 1);
 }
 
 /// The number of all blocks that comes after so many others but one number, if there is one.
@@ -200,6 +207,7 @@ fn block_end(from: usize, count: usize) -> usize
     ensures within { result ≤ count }
     ensures more { from < result }
     ensures few { result ≤ from + 64 }
+    ensures whole { result < count → result ≡ from + 64 }
 {
     if count - from < 64 { count } else { from + 64 }
 }

@@ -12,4 +12,5 @@ pub invariant_of-self : goal.invariant_of-self
 invariant_of-self c = (
   rw (sym (c.level.ensures.same ∙ c.take_at.ensures.taken)) at (rises-take_out c.args.number _ c.self.invariant.0),
   c.level.ensures.filled c.take_at.ensures.filled,
+  c.level.ensures.spaced (c.take_at.ensures.spaced c.self.invariant.2),
 )

@@ -9,7 +9,7 @@ use Rattle.std.proofs.lemmas.List.{length-drop, length-take-le}
 use mathlib.Core.Bool.{false≢true}
 use Rattle.std.proofs.lemmas.Bool.{cases_eq, cases_lt, cond_both, le-leb, lt-ltb}
 use Rattle.line_sets.specs.Rising.{all_below, all_but, is_but, put_in, take_out, AllFrom, Rises}
-use Rattle.line_sets.specs.Blocked.{block_at, joined, size_at, Filled, Lacks, Spaced}
+use Rattle.line_sets.specs.Blocked.{block_at, joined, size_at, Filled, IsPlaceOf, Lacks, Spaced}
 use Rattle.line_sets.proofs.BlockNeighbours.{lacks-set, pair-before, pair-next, spaced-lacks, spaced-push, spaced-remove, spaced-set, split-spaced}
 use Rattle.line_sets.proofs.RisenLists.{from-weaker}
 use Rattle.line_sets.proofs.RisingEdits.{at-from, at-less, ge-ltb, less-most}
@@ -219,6 +219,104 @@ pub split-kept : (bs : List (ArrayVec ℕ)) (k : ℕ) (d : ArrayVec ℕ) (u : Ar
 split-kept [] k d u lt = absurd (omega (arith, lt))
 split-kept (b ∷ bs) zero d u lt = refl
 split-kept (b ∷ bs) (suc k) d u lt = split-kept bs k d u (omega (arith, lt))
+
+-- the halves that a number may belong to afterwards
+both-below : (x : ℕ) (fs bs : List ℕ) → length fs ≤ less x fs → length bs ≤ less x bs →
+    length (fs ++ bs) ≤ less x (fs ++ bs)
+both-below x [] bs low high = high
+both-below x (a ∷ fs) bs low high =
+    let later = both-below x fs bs (below-rest x a fs low) high in
+    let more = less-more x a (fs ++ bs) (below-first x a fs low) in omega (arith, later, more)
+
+split-later : (x : ℕ) (bs : List (ArrayVec ℕ)) (k : ℕ) (u w : ArrayVec ℕ) → k < length bs → k ≤ block_at x bs →
+    k ≤ block_at x (set (insert bs (suc k) u) k w)
+split-later x [] k u w lt le = absurd (omega (arith, lt))
+split-later x (b ∷ bs) zero u w lt le = omega arith
+split-later x (b ∷ bs) (suc k) u w lt le = elim (block-cases x b bs) [
+  | inl h ↦ absurd (let none = h.1 in omega (arith, none, le))
+  | inr h ↦
+      let at = h.1 in
+      let later = split-later x bs k u w (omega (arith, lt)) (omega (arith, le, at)) in
+      elim (block-cases x b (set (insert bs (suc k) u) k w)) [
+        | inl g ↦ absurd (let low = g.0 in let high = h.0 in omega (arith, low, high))
+        | inr g ↦ (let same = g.1 in omega (arith, same, later))
+      ]
+]
+
+split-near : (x : ℕ) (bs : List (ArrayVec ℕ)) (k : ℕ) (d u w : ArrayVec ℕ) → k < length bs → k ≡ block_at x bs →
+    w.items ++ u.items ≡ (get_or bs k d).items → block_at x (set (insert bs (suc k) u) k w) ≤ suc k
+split-near x [] k d u w lt same e = absurd (omega (arith, lt))
+split-near x (b ∷ bs) zero d u w lt same e = elim (block-cases x w (u ∷ bs)) [
+  | inl g ↦ (let at = g.1 in omega (arith, at))
+  | inr g ↦ elim (block-cases x u bs) [
+    | inl f ↦ (let at = g.1 in let next = f.1 in omega (arith, at, next))
+    | inr f ↦ elim (block-cases x b bs) [
+      | inl h ↦ absurd (let all = both-below x w.items u.items g.0 f.0 in let few = h.0 in
+          let long = ap length e in let below = ap (less x) e in omega (arith, all, few, long, below))
+      | inr h ↦ absurd (let at = h.1 in omega (arith, same, at))
+    ]
+  ]
+]
+split-near x (b ∷ bs) (suc k) d u w lt same e = elim (block-cases x b bs) [
+  | inl h ↦ absurd (let none = h.1 in omega (arith, none, same))
+  | inr h ↦
+      let at = h.1 in
+      let later = split-near x bs k d u w (omega (arith, lt)) (omega (arith, same, at)) e in
+      elim (block-cases x b (set (insert bs (suc k) u) k w)) [
+        | inl g ↦ (let none = g.1 in omega (arith, none))
+        | inr g ↦ (let more = g.1 in omega (arith, more, later))
+      ]
+]
+
+split-length : (bs : List (ArrayVec ℕ)) (k : ℕ) (u w : ArrayVec ℕ) → k < length bs →
+    length (set (insert bs (suc k) u) k w) ≡ suc (length bs)
+split-length [] k u w lt = absurd (omega (arith, lt))
+split-length (b ∷ bs) zero u w lt = refl
+split-length (b ∷ bs) (suc k) u w lt = ap suc (split-length bs k u w (omega (arith, lt)))
+
+split-lower : (bs : List (ArrayVec ℕ)) (k : ℕ) (u w : ArrayVec ℕ) → k < length bs →
+    size_at k (set (insert bs (suc k) u) k w) ≡ length w.items
+split-lower [] k u w lt = absurd (omega (arith, lt))
+split-lower (b ∷ bs) zero u w lt = refl
+split-lower (b ∷ bs) (suc k) u w lt = split-lower bs k u w (omega (arith, lt))
+
+split-upper : (bs : List (ArrayVec ℕ)) (k : ℕ) (u w : ArrayVec ℕ) → k < length bs →
+    size_at (suc k) (set (insert bs (suc k) u) k w) ≡ length u.items
+split-upper [] k u w lt = absurd (omega (arith, lt))
+split-upper (b ∷ bs) zero u w lt = refl
+split-upper (b ∷ bs) (suc k) u w lt = split-upper bs k u w (omega (arith, lt))
+
+half-place : (x : ℕ) (bs : List (ArrayVec ℕ)) (k j : ℕ) (d u w : ArrayVec ℕ) →
+    w.items ++ u.items ≡ (get_or bs k d).items → IsPlaceOf x k bs →
+    IsPlaceOf x j (set (insert bs (suc k) u) k w) → (j ≡ k) ⊎ (j ≡ suc k)
+half-place x bs k j d u w e here there =
+    let lt = here.0 in let in_list = there.0 in let before = there.1 in
+    let long = split-length bs k u w here.0 in
+    let later = split-later x bs k u w here.0 here.1 in
+    let most : j ≤ suc k = elim (cases_lt (suc k) (length bs)) [
+      | inl more ↦ (let near = split-near x bs k d u w here.0 (here.2 (omega (arith, more))) e in
+          omega (arith, before, near))
+      | inr last ↦ omega (arith, last, long, in_list)
+    ] in
+    let least : k ≤ j = elim (cases_lt (suc j) (length (set (insert bs (suc k) u) k w))) [
+      | inl more ↦ (let same = there.2 (omega (arith, more)) in omega (arith, same, later))
+      | inr last ↦ omega (arith, last, long, lt)
+    ] in
+    elim (cases_eq j k) [
+      | inl same ↦ inl same
+      | inr other ↦ inr (omega (arith, most, least, other))
+    ]
+
+half-room : (x : ℕ) (bs : List (ArrayVec ℕ)) (k j : ℕ) (d u w : ArrayVec ℕ) →
+    w.items ++ u.items ≡ (get_or bs k d).items → length w.items < 128 → length u.items < 128 →
+    IsPlaceOf x k bs → IsPlaceOf x j (set (insert bs (suc k) u) k w) →
+    size_at j (set (insert bs (suc k) u) k w) < 128
+half-room x bs k j d u w e low high here there = elim (half-place x bs k j d u w e here there) [
+  | inl same ↦ (let size = ap (λ i. size_at i (set (insert bs (suc k) u) k w)) same
+      ∙ split-lower bs k u w here.0 in omega (arith, size, low))
+  | inr same ↦ (let size = ap (λ i. size_at i (set (insert bs (suc k) u) k w)) same
+      ∙ split-upper bs k u w here.0 in omega (arith, size, high))
+]
 
 -- parts of a rising list rise
 from-front : (x : ℕ) (fs bs : List ℕ) → AllFrom x (fs ++ bs) → AllFrom x fs
@@ -499,6 +597,16 @@ module _ (n k : ℕ) (bs ns : List (ArrayVec ℕ)) (d e u w : ArrayVec ℕ) (ys 
       let top = ap length high ∙ length-drop n (get_or bs k d).items in
       let bottom = ap length low ∙ length-take-le n (get_or bs k d).items (omega (arith, long, more)) in
       rw (sym next) at (split-filled bs k u w h (omega (arith, long, top, more)) (omega (arith, bottom, some)))
+
+  pub split-room : 64 ≤ n → n < 128 → length ys ≤ 128 → n < length ys → (x j : ℕ) → IsPlaceOf x k bs →
+      IsPlaceOf x j (set ns k w) → size_at j (set ns k w) < 128
+  split-room some few most more x j here there =
+      let long = ap length (same ∙ ap (λ (v : ArrayVec ℕ). v.items) read) in
+      let top = ap length high ∙ length-drop n (get_or bs k d).items in
+      let bottom = ap length low ∙ length-take-le n (get_or bs k d).items (omega (arith, long, more)) in
+      let is = ap (λ cs. set cs k w) next in
+      rw (sym is) at (half-room x bs k j d u w (ap₂ (λ us vs. us ++ vs) low high ∙ halves n (get_or bs k d).items)
+      (omega (arith, bottom, few)) (omega (arith, long, top, most, some)) here (rw is at there))
 
   pub split-apart : 64 ≤ n → n + 64 ≤ length ys → Filled bs → Spaced 65 bs → Spaced 65 (set ns k w)
   split-apart some more h s =

@@ -1,5 +1,5 @@
 -- A list of numbers that is kept in blocks.
-use Rattle.std.specs.Prelude.{ℕ, zero, suc, ◌+◌, ◌<◌, List, [], ◌∷◌, ◌++◌, length, if◌then◌else◌}
+use Rattle.std.specs.Prelude.{◌≡◌, ℕ, zero, suc, ◌+◌, ◌<◌, ◌≤◌, List, [], ◌∷◌, ◌++◌, length, if◌then◌else◌}
 use Rattle.arrayvec.specs.ArrayVec.{ArrayVec}
 use Rattle.line_sets.specs.Rising.{all_below}
 
@@ -17,6 +17,10 @@ Filled (b ∷ bs) = (0 < length b.items) × Filled bs
 abbrev pub block_at : ℕ → List (ArrayVec ℕ) → ℕ
 block_at x [] = 0
 block_at x (b ∷ bs) = if all_below x b.items then 1 + block_at x bs else 0
+
+-- x belongs to the k-th block: the first one that ends at x or above, or else the last one
+abbrev pub IsPlaceOf : ℕ → ℕ → List (ArrayVec ℕ) → Type 0
+IsPlaceOf x k bs = (k < length bs) × (k ≤ block_at x bs) × (k + 1 < length bs → k ≡ block_at x bs)
 
 -- how many numbers the k-th block has
 abbrev pub size_at : ℕ → List (ArrayVec ℕ) → ℕ

@@ -1,8 +1,8 @@
 //! A rising list of numbers in blocks, so that little is moved when a number comes or goes.
-ghost use Rattle.std.specs.Prelude.{◌≡◌, ◌≤◌, ◌<◌, ◌+◌, ◌++◌, ℕ, IfOk, List, None, Some, drop, length, slice_get};
+ghost use Rattle.std.specs.Prelude.{◌≡◌, ◌≤◌, ◌<◌, ◌+◌, ◌++◌, ℕ, IfOk, IsTrue, List, None, Some, drop, length, slice_get};
 ghost use Rattle.std.specs.Prelude.{if◌then◌else◌};
 ghost use Rattle.line_sets.specs.Rising.{all_but, put_in, take_out, Rises};
-ghost use Rattle.line_sets.specs.Blocked.{block_at, joined, size_at, Filled, Lacks, Spaced};
+ghost use Rattle.line_sets.specs.Blocked.{block_at, joined, size_at, Filled, IsPlaceOf, Lacks, Spaced};
 
 use crate::rising_list::{Block, ends_below, index_but, kept, put_in, take_out};
 use network::LineNo;
@@ -53,9 +53,7 @@ fn place(blocks: &[Block], number: u64) -> usize
     requires rises { Rises (joined blocks.now) }
     requires filled { Filled blocks.now }
     requires some { 0 < length blocks.now }
-    ensures inside { result < length blocks.now }
-    ensures behind { result ≤ block_at number blocks.now }
-    ensures first { result + 1 < length blocks.now → result ≡ block_at number blocks.now }
+    ensures { IsPlaceOf number result blocks.now }
 {
     let at = block_at(blocks, number);
     if at < blocks.len() {
@@ -84,8 +82,8 @@ fn block_of(numbers: &[u64]) -> Block
     block
 }
 
-/// Puts the numbers of a full block from the 64th on into a block of their own behind it; false where memory for that
-/// is refused, and then nothing has changed.
+/// Puts the upper 64 numbers of a full block into a block of their own behind it, so that each number that belonged to
+/// it has room; false where memory for that is refused, and then nothing has changed.
 fn split(blocks: &mut Vec<Block>, at: usize) -> bool
     requires inside { at < length blocks.old.items }
     requires full { size_at at blocks.old.items ≡ 128 }
@@ -93,6 +91,8 @@ fn split(blocks: &mut Vec<Block>, at: usize) -> bool
     ensures filled { Filled blocks.old.items → Filled blocks.new.items }
     ensures spaced { Filled blocks.old.items → Spaced 65 blocks.old.items → Spaced 65 blocks.new.items }
     ensures some { 0 < length blocks.new.items }
+    ensures room { IsTrue result → (x k : ℕ) → IsPlaceOf x at blocks.old.items →
+        IsPlaceOf x k blocks.new.items → size_at k blocks.new.items < 128 }
 {
     let upper = block_of(&blocks[at].as_slice()[64..]);
     if blocks.insert(at + 1, upper).is_err() {
@@ -106,10 +106,8 @@ fn split(blocks: &mut Vec<Block>, at: usize) -> bool
 fn put_at(blocks: &mut Vec<Block>, at: usize, number: u64)
     requires rises { Rises (joined blocks.old.items) }
     requires filled { Filled blocks.old.items }
-    requires inside { at < length blocks.old.items }
+    requires place { IsPlaceOf number at blocks.old.items }
     requires room { size_at at blocks.old.items < 128 }
-    requires behind { at ≤ block_at number blocks.old.items }
-    requires first { at + 1 < length blocks.old.items → at ≡ block_at number blocks.old.items }
     ensures put { joined blocks.new.items ≡ put_in number (joined blocks.old.items) }
     ensures filled { Filled blocks.new.items }
     ensures spaced { Spaced 65 blocks.old.items → Spaced 65 blocks.new.items }
@@ -246,9 +244,6 @@ impl Blocks {
             return false;
         }
         let at = place(&self.blocks, number);
-        if size(&self.blocks, at) >= 128 {
-            return false;
-        }
         put_at(&mut self.blocks, at, number);
         true
     }

@@ -616,9 +616,6 @@ module _ (n k : ℕ) (bs ns : List (ArrayVec ℕ)) (d e u w : ArrayVec ℕ) (ys 
       rw (sym next) at (split-spaced 65 bs k u w (omega arith) h (omega (arith, long, top, more))
       (omega (arith, bottom, some)) lt s)
 
-pub stored : (b r : Bool) (ns us vs : List (ArrayVec ℕ)) → b ≡ not r → r ≡ false → ns ≡ cond b us vs → ns ≡ us
-stored b r ns us vs e f g = g ∙ ap (λ t. cond t us vs) (e ∙ ap not f)
-
 -- how many numbers a block has that was read or is borrowed
 pub size-is : (k : ℕ) (bs : List (ArrayVec ℕ)) (d : ArrayVec ℕ) → k < length bs →
     size_at k bs ≡ length (get_or bs k d).items

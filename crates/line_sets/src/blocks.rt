@@ -1,6 +1,6 @@
 //! A rising list of numbers in blocks, so that little is moved when a number comes or goes.
-ghost use Rattle.std.specs.Prelude.{◌≡◌, ◌≤◌, ◌<◌, ◌+◌, ◌++◌, ℕ, IfOk, IsTrue, List, None, Some, drop, length, slice_get};
-ghost use Rattle.std.specs.Prelude.{if◌then◌else◌};
+ghost use Rattle.std.specs.Prelude.{◌≡◌, ◌≤◌, ◌<◌, ◌+◌, ◌++◌, ℕ, IfOk, List, None, Some, drop, insert, length};
+ghost use Rattle.std.specs.Prelude.{if◌then◌else◌, slice_get, vec_capacity};
 ghost use Rattle.line_sets.specs.Rising.{all_but, put_in, take_out, Rises};
 ghost use Rattle.line_sets.specs.Blocked.{block_at, joined, size_at, Filled, IsPlaceOf, Lacks, Spaced};
 
@@ -82,24 +82,32 @@ fn block_of(numbers: &[u64]) -> Block
     block
 }
 
+/// Puts a block between others, in the room that there is for it.
+fn put_block(blocks: &mut Vec<Block>, at: usize, block: Block)
+    requires inside { at ≤ length blocks.old.items }
+    requires room { length blocks.old.items < vec_capacity blocks.old }
+    ensures { blocks.new.items ≡ insert blocks.old.items at block }
+{
+    let put: Result<_, _> = blocks.insert(at, block);
+    let _there = put.unwrap();
+}
+
 /// Puts the upper 64 numbers of a full block into a block of their own behind it, so that each number that belonged to
-/// it has room; false where memory for that is refused, and then nothing has changed.
-fn split(blocks: &mut Vec<Block>, at: usize) -> bool
+/// it has room.
+fn split(blocks: &mut Vec<Block>, at: usize)
     requires inside { at < length blocks.old.items }
     requires full { size_at at blocks.old.items ≡ 128 }
+    requires room { length blocks.old.items < vec_capacity blocks.old }
     ensures same { joined blocks.new.items ≡ joined blocks.old.items }
     ensures filled { Filled blocks.old.items → Filled blocks.new.items }
     ensures spaced { Filled blocks.old.items → Spaced 65 blocks.old.items → Spaced 65 blocks.new.items }
     ensures some { 0 < length blocks.new.items }
-    ensures room { IsTrue result → (x k : ℕ) → IsPlaceOf x at blocks.old.items →
-        IsPlaceOf x k blocks.new.items → size_at k blocks.new.items < 128 }
+    ensures halves { (x k : ℕ) → IsPlaceOf x at blocks.old.items → IsPlaceOf x k blocks.new.items →
+        size_at k blocks.new.items < 128 }
 {
     let upper = block_of(&blocks[at].as_slice()[64..]);
-    if blocks.insert(at + 1, upper).is_err() {
-        return false;
-    }
+    put_block(blocks, at + 1, upper);
     blocks[at].truncate(64);
-    true
 }
 
 /// Puts a number into the block that it belongs to, which has room.
@@ -227,22 +235,28 @@ impl Blocks {
         Ok(Blocks { blocks })
     }
 
-    /// Puts a number into its place; false where memory for it is refused, and then nothing has changed. A block that
-    /// is full is split before.
+    /// Puts a number into its place, and takes no memory; false where that wants a block more than there is room for, and
+    /// then nothing has changed. It never does while there are fewer numbers than there may be.
     pub(crate) fn put_in(&mut self, number: u64) -> bool
         ensures { self.new ≡ (if result then put_in number self.old else self.old) }
     {
+        let has_room = self.blocks.len() < self.blocks.capacity();
         if self.blocks.is_empty() {
-            return self.blocks.push(block_of(&[number])).is_ok();
+            if !has_room {
+                return false;
+            }
+            self.blocks.push_reserved(block_of(&[number]));
+            return true;
         }
         let at = place(&self.blocks, number);
         if size(&self.blocks, at) < 128 {
             put_at(&mut self.blocks, at, number);
             return true;
         }
-        if !split(&mut self.blocks, at) {
+        if !has_room {
             return false;
         }
+        split(&mut self.blocks, at);
         let at = place(&self.blocks, number);
         put_at(&mut self.blocks, at, number);
         true

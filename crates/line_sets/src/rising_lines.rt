@@ -25,6 +25,7 @@ impl Model for RisingLines {
 
 /// A number goes out of a rising list, or comes into it; false where memory for that is refused, and then nothing has
 /// changed.
+#[inline(never)]
 fn exchange(numbers: &mut Blocks, number: u64, goes: bool) -> bool
     ensures { numbers.new ≡ (if result then (if goes then take_out number numbers.old else
         put_in number numbers.old) else numbers.old) }

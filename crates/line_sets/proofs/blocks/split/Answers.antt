@@ -1,5 +1,5 @@
 use Rattle.std.proofs.Common.{arith}
-use Rattle.line_sets.proofs.BlockedLists.{full-length, split-apart, split-fills, split-room, split-same, stored}
+use Rattle.line_sets.proofs.BlockedLists.{full-length, split-apart, split-fills, split-room, split-same}
 use Rattle.line_sets.proofs.blocks.split.Goals as goal
 
 pub slice_bounds-block_of-count : goal.slice_bounds-block_of-count
@@ -14,39 +14,35 @@ slice_bounds-block_of-start c =
 
 pub returns-clause-same : goal.returns-clause-same
 returns-clause-same c =
-    split-same 64 c.args.at c.args.blocks.now.items c.insert.new.self.items c.index.result.now
+    split-same 64 c.args.at c.args.blocks.now.items c.put_block.new.blocks.items c.index.result.now
     c.index_mut.result.now c.block_of-upper.result c.truncate.new.self c.as_slice.result.now c.requires.inside
     c.index.ensures c.as_slice.ensures.value c.block_of-upper.ensures
-    (stored _ _ _ _ _ c.is_err.ensures.negation c.if-is_err.false c.insert.ensures.items)
-    c.index_mut.ensures.value c.truncate.ensures.items
+    c.put_block.ensures c.index_mut.ensures.value c.truncate.ensures.items
 
 pub returns-clause-filled : goal.returns-clause-filled
 returns-clause-filled c =
     let long = full-length c.args.at c.args.blocks.now.items c.index.result.now c.as_slice.result.now c.requires.inside
     c.requires.full c.index.ensures c.as_slice.ensures.value in
-    split-fills 64 c.args.at c.args.blocks.now.items c.insert.new.self.items c.index.result.now
+    split-fills 64 c.args.at c.args.blocks.now.items c.put_block.new.blocks.items c.index.result.now
     c.index_mut.result.now c.block_of-upper.result c.truncate.new.self c.as_slice.result.now c.requires.inside
     c.index.ensures c.as_slice.ensures.value c.block_of-upper.ensures
-    (stored _ _ _ _ _ c.is_err.ensures.negation c.if-is_err.false c.insert.ensures.items)
-    c.index_mut.ensures.value c.truncate.ensures.items (omega arith) (omega (arith, long))
+    c.put_block.ensures c.index_mut.ensures.value c.truncate.ensures.items (omega arith) (omega (arith, long))
 
 pub returns-clause-spaced : goal.returns-clause-spaced
 returns-clause-spaced c =
     let long = full-length c.args.at c.args.blocks.now.items c.index.result.now c.as_slice.result.now c.requires.inside
     c.requires.full c.index.ensures c.as_slice.ensures.value in
-    split-apart 64 c.args.at c.args.blocks.now.items c.insert.new.self.items c.index.result.now
+    split-apart 64 c.args.at c.args.blocks.now.items c.put_block.new.blocks.items c.index.result.now
     c.index_mut.result.now c.block_of-upper.result c.truncate.new.self c.as_slice.result.now c.requires.inside
     c.index.ensures c.as_slice.ensures.value c.block_of-upper.ensures
-    (stored _ _ _ _ _ c.is_err.ensures.negation c.if-is_err.false c.insert.ensures.items)
-    c.index_mut.ensures.value c.truncate.ensures.items (omega arith) (omega (arith, long))
+    c.put_block.ensures c.index_mut.ensures.value c.truncate.ensures.items (omega arith) (omega (arith, long))
 
-pub returns-clause-room : goal.returns-clause-room
-returns-clause-room c = λ t.
+pub returns-clause-halves : goal.returns-clause-halves
+returns-clause-halves c =
     let long = full-length c.args.at c.args.blocks.now.items c.index.result.now c.as_slice.result.now c.requires.inside
     c.requires.full c.index.ensures c.as_slice.ensures.value in
-    split-room 64 c.args.at c.args.blocks.now.items c.insert.new.self.items c.index.result.now
+    split-room 64 c.args.at c.args.blocks.now.items c.put_block.new.blocks.items c.index.result.now
     c.index_mut.result.now c.block_of-upper.result c.truncate.new.self c.as_slice.result.now c.requires.inside
     c.index.ensures c.as_slice.ensures.value c.block_of-upper.ensures
-    (stored _ _ _ _ _ c.is_err.ensures.negation c.if-is_err.false c.insert.ensures.items)
-    c.index_mut.ensures.value c.truncate.ensures.items (omega arith) (omega arith) (omega (arith, long))
+    c.put_block.ensures c.index_mut.ensures.value c.truncate.ensures.items (omega arith) (omega arith) (omega (arith, long))
     (omega (arith, long))

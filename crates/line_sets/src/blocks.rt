@@ -1,5 +1,5 @@
 //! A rising list of numbers in blocks, so that little is moved when a number comes or goes.
-ghost use Rattle.std.specs.Prelude.{◌≡◌, ◌≤◌, ◌<◌, ◌+◌, ◌++◌, ℕ, IfOk, List, None, Some, drop, insert, length};
+ghost use Rattle.std.specs.Prelude.{◌≡◌, ◌≤◌, ◌<◌, ◌+◌, ◌++◌, ◌*◌, ℕ, IfOk, IsTrue, List, None, Some, drop, insert, length};
 ghost use Rattle.std.specs.Prelude.{if◌then◌else◌, slice_get, vec_capacity};
 ghost use Rattle.line_sets.specs.Rising.{all_but, put_in, take_out, Rises};
 ghost use Rattle.line_sets.specs.Blocked.{block_at, joined, size_at, Filled, IsPlaceOf, Lacks, Spaced};
@@ -80,6 +80,16 @@ fn block_of(numbers: &[u64]) -> Block
     let mut block = Block::new();
     let _fits = block.try_extend_from_slice(numbers);
     block
+}
+
+/// Whether there is room for one more block. There is while there are fewer numbers than 32 for each block but one that
+/// there may be.
+fn has_room(blocks: &Vec<Block>) -> bool
+    requires { Spaced 65 blocks.now.items }
+    ensures sure { length (joined blocks.now.items) + 32 < vec_capacity blocks.now * 32 → IsTrue result }
+    ensures count { IsTrue result → length blocks.now.items < vec_capacity blocks.now }
+{
+    blocks.len() < blocks.capacity()
 }
 
 /// Puts a block between others, in the room that there is for it.
@@ -224,7 +234,7 @@ impl Blocks {
         requires { Rises numbers.now }
         ensures { IfOk result (λ blocks. blocks ≡ numbers.now) }
     {
-        // Two neighbours have more than 64 numbers together, so that there are at most most / 32 + 1 blocks.
+        // Two neighbours have more than 64 numbers together. So there are at most most / 32 + 1 blocks.
         let mut blocks: Vec<Block> = Vec::with_capacity(alloc, most / 32 + 2)?;
         let mut from = 0;
         while from < numbers.len() {
@@ -240,7 +250,7 @@ impl Blocks {
     pub(crate) fn put_in(&mut self, number: u64) -> bool
         ensures { self.new ≡ (if result then put_in number self.old else self.old) }
     {
-        let has_room = self.blocks.len() < self.blocks.capacity();
+        let has_room = has_room(&self.blocks);
         if self.blocks.is_empty() {
             if !has_room {
                 return false;

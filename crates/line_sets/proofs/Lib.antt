@@ -1,3 +1,5 @@
+mod BlockNeighbours
+mod BlockedLists
 mod ListedCounts
 mod ListedSums
 mod ListedTallies

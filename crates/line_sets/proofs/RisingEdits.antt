@@ -1,6 +1,7 @@
 -- Rising lists that a number is put into or taken out of, by index and by how often each number is there.
 use Rattle.std.proofs.Common.{◌≡◌, ◌≢◌, ℕ, zero, suc, ◌+◌, ◌-◌, ◌<◌, ◌≤◌, true, false, cond, eqb, leb, ltb, List, []}
 use Rattle.std.proofs.Common.{◌∷◌, leb-true, not, Bool, length, get_or, inl, inr, Option, None, Some, refl, sym, ap, ◌∙◌, arith}
+use Rattle.std.specs.Prelude.{IfSome}
 use Rattle.std.specs.List.{insert, prefix_len, remove, slice_get}
 use Rattle.std.specs.List.Sorted.{IsNonDecreasing, IsPartitionPoint}
 use Rattle.std.proofs.lemmas.Bool.{cases_Bool, cases_eq, cases_lt, cond_both, eq-eqb, le-leb, lt-ltb, ltb-true}
@@ -36,28 +37,28 @@ less b ys = prefix_len (λ y. ltb y b) ys
 abbrev pub most : ℕ → List ℕ → ℕ
 most b ys = prefix_len (λ y. leb y b) ys
 
-ge-ltb : (y x : ℕ) → x ≤ y → ltb y x ≡ false
+pub ge-ltb : (y x : ℕ) → x ≤ y → ltb y x ≡ false
 ge-ltb y x le = elim (cases_Bool (ltb y x)) [
   | inl e ↦ absurd (let lt = ltb-true y x e in omega (arith, lt, le))
   | inr e ↦ e
 ]
 
-gt-leb : (y x : ℕ) → x < y → leb y x ≡ false
+pub gt-leb : (y x : ℕ) → x < y → leb y x ≡ false
 gt-leb y x lt = elim (cases_Bool (leb y x)) [
   | inl e ↦ absurd (let le = leb-true y x e in omega (arith, lt, le))
   | inr e ↦ e
 ]
 
-less-more : (b y : ℕ) (ys : List ℕ) → y < b → less b (y ∷ ys) ≡ suc (less b ys)
+pub less-more : (b y : ℕ) (ys : List ℕ) → y < b → less b (y ∷ ys) ≡ suc (less b ys)
 less-more b y ys lt = ap (λ t. cond t (1 + less b ys) 0) (lt-ltb y b lt) ∙ omega arith
 
-less-none : (b y : ℕ) (ys : List ℕ) → b ≤ y → less b (y ∷ ys) ≡ 0
+pub less-none : (b y : ℕ) (ys : List ℕ) → b ≤ y → less b (y ∷ ys) ≡ 0
 less-none b y ys le = ap (λ t. cond t (1 + less b ys) 0) (ge-ltb y b le)
 
-most-more : (b y : ℕ) (ys : List ℕ) → y ≤ b → most b (y ∷ ys) ≡ suc (most b ys)
+pub most-more : (b y : ℕ) (ys : List ℕ) → y ≤ b → most b (y ∷ ys) ≡ suc (most b ys)
 most-more b y ys le = ap (λ t. cond t (1 + most b ys) 0) (le-leb y b le) ∙ omega arith
 
-most-none : (b y : ℕ) (ys : List ℕ) → b < y → most b (y ∷ ys) ≡ 0
+pub most-none : (b y : ℕ) (ys : List ℕ) → b < y → most b (y ∷ ys) ≡ 0
 most-none b y ys lt = ap (λ t. cond t (1 + most b ys) 0) (gt-leb y b lt)
 
 pub less-most : (b : ℕ) (ys : List ℕ) → less b ys ≤ most b ys
@@ -92,16 +93,16 @@ at-from b (y ∷ ys) at d in_list le = elim (cases_lt y b) [
         let more = less-more b y ys lt in let rest = later k d (omega (arith, h)) low in omega (arith, more, rest)
 
 -- a number is put in before the first that isn't below it, or that one is taken out
-put-later : (x y : ℕ) (ys : List ℕ) → y < x → put_in x (y ∷ ys) ≡ y ∷ put_in x ys
+pub put-later : (x y : ℕ) (ys : List ℕ) → y < x → put_in x (y ∷ ys) ≡ y ∷ put_in x ys
 put-later x y ys lt = ap (λ t. cond t (y ∷ put_in x ys) (x ∷ y ∷ ys)) (lt-ltb y x lt)
 
-put-here : (x y : ℕ) (ys : List ℕ) → x ≤ y → put_in x (y ∷ ys) ≡ x ∷ y ∷ ys
+pub put-here : (x y : ℕ) (ys : List ℕ) → x ≤ y → put_in x (y ∷ ys) ≡ x ∷ y ∷ ys
 put-here x y ys le = ap (λ t. cond t (y ∷ put_in x ys) (x ∷ y ∷ ys)) (ge-ltb y x le)
 
-take-later : (x y : ℕ) (ys : List ℕ) → y < x → take_out x (y ∷ ys) ≡ y ∷ take_out x ys
+pub take-later : (x y : ℕ) (ys : List ℕ) → y < x → take_out x (y ∷ ys) ≡ y ∷ take_out x ys
 take-later x y ys lt = ap (λ t. cond t (y ∷ take_out x ys) ys) (lt-ltb y x lt)
 
-take-here : (x y : ℕ) (ys : List ℕ) → x ≤ y → take_out x (y ∷ ys) ≡ ys
+pub take-here : (x y : ℕ) (ys : List ℕ) → x ≤ y → take_out x (y ∷ ys) ≡ ys
 take-here x y ys le = ap (λ t. cond t (y ∷ take_out x ys) ys) (ge-ltb y x le)
 
 pub inserted : (x : ℕ) (ys : List ℕ) → insert ys (less x ys) x ≡ put_in x ys
@@ -135,7 +136,7 @@ from-take_out b x [] h = tt
 from-take_out b x (y ∷ ys) h = cond_both (ltb y x) (y ∷ take_out x ys) ys (AllFrom b)
     (λ e. (h.0, from-take_out b x ys h.1)) (λ e. h.1)
 
-rises-take_out : (x : ℕ) (ys : List ℕ) → Rises ys → Rises (take_out x ys)
+pub rises-take_out : (x : ℕ) (ys : List ℕ) → Rises ys → Rises (take_out x ys)
 rises-take_out x [] h = tt
 rises-take_out x (y ∷ ys) h = cond_both (ltb y x) (y ∷ take_out x ys) ys Rises
     (λ e. (from-take_out y x ys h.0, rises-take_out x ys h.1)) (λ e. h.1)
@@ -187,7 +188,7 @@ order-left line xs zs ys e h = ap (take_out line) e
     let none : ◌≡◌ {A = ℕ} (cond (eqb line c) 0 0) 0 = cond_both (eqb line c) 0 0 (λ n. n ≡ 0) (λ e. refl) (λ e. refl) in
     omega (arith, first, second, both, taken, none)))
 
-order-some : (o : Option (List ℕ)) (ys xs : List ℕ) → o ≡ Some ys → IsOrderOf o xs → ys ≡ risen xs
+pub order-some : (o : Option (List ℕ)) (ys xs : List ℕ) → o ≡ Some ys → IsOrderOf o xs → ys ≡ risen xs
 order-some o ys xs e h = rw e at h
 
 pub order-kept : (o : Option (List ℕ)) (line n m : ℕ) (xs zs : List ℕ) → n ≡ m → IsOrderOf o xs →
@@ -258,21 +259,21 @@ risen-all_but but xs =
     ∙ ap (λ n. cond (not (is_but but c)) n 0) (sym (tally-risen c xs)) ∙ sym (tally-all_but c but (risen xs)))
 
 -- where the number stands that comes after so many others but that one
-all_but-above : (b x : ℕ) (ys : List ℕ) → b < x → AllFrom x ys → all_but (Some b) ys ≡ ys
+pub all_but-above : (b x : ℕ) (ys : List ℕ) → b < x → AllFrom x ys → all_but (Some b) ys ≡ ys
 all_but-above b x [] lt h = refl
 all_but-above b x (y ∷ ys) lt h =
     let first = h.0 in
     let other : eqb b y ≡ false = ne_eqb b y (λ e. absurd (omega (arith, e, first, lt))) in
     rw other (ap (λ zs. y ∷ zs) (all_but-above b x ys lt h.1))
 
-none-below : (b : ℕ) (ys : List ℕ) → AllFrom b ys → prefix_len (λ y. ltb y b) ys ≡ 0
+pub none-below : (b : ℕ) (ys : List ℕ) → AllFrom b ys → prefix_len (λ y. ltb y b) ys ≡ 0
 none-below b [] h = refl
 none-below b (y ∷ ys) h = rw (ge-ltb y b h.0) refl
 
-but-kept : (b y : ℕ) (ys : List ℕ) → b ≢ y → all_but (Some b) (y ∷ ys) ≡ y ∷ all_but (Some b) ys
+pub but-kept : (b y : ℕ) (ys : List ℕ) → b ≢ y → all_but (Some b) (y ∷ ys) ≡ y ∷ all_but (Some b) ys
 but-kept b y ys ne = ap (λ t. cond (not t) (y ∷ all_but (Some b) ys) (all_but (Some b) ys)) (ne_eqb b y ne)
 
-but-gone : (b y : ℕ) (ys : List ℕ) → b ≡ y → all_but (Some b) (y ∷ ys) ≡ all_but (Some b) ys
+pub but-gone : (b y : ℕ) (ys : List ℕ) → b ≡ y → all_but (Some b) (y ∷ ys) ≡ all_but (Some b) ys
 but-gone b y ys e = ap (λ t. cond (not t) (y ∷ all_but (Some b) ys) (all_but (Some b) ys)) (eq-eqb b y e)
 
 pub before-but : (b : ℕ) (ys : List ℕ) (at : ℕ) → at < less b ys →
@@ -333,3 +334,7 @@ looked-at o but at xs ys e h =
 
 pub if-true : (b : Bool) (zs us vs : List ℕ) → b ≡ true → zs ≡ cond b us vs → zs ≡ us
 if-true b zs us vs t e = rw t at e
+
+pub some-answer : (o p : Option ℕ) → p ≡ o → IfSome o (λ x. p ≡ Some x)
+some-answer None p e = tt
+some-answer (Some x) p e = e

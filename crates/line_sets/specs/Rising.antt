@@ -1,6 +1,7 @@
 -- Numbers in rising order, and lists without one number.
-use Rattle.std.specs.Prelude.{◌≡◌, ℕ, ◌+◌, ◌≤◌, ◌==◌, nat_lt, Bool, false, not, List, [], ◌∷◌, filter, Option, Some}
-use Rattle.std.specs.Prelude.{None, if◌then◌else◌}
+use Rattle.std.specs.Prelude.{◌≡◌, ℕ, ◌+◌, ◌≤◌, ◌==◌, nat_le, nat_lt, length, Bool, false, not, List, [], ◌∷◌}
+use Rattle.std.specs.Prelude.{filter, Option, Some, None, if◌then◌else◌}
+use Rattle.std.specs.List.{prefix_len}
 
 -- a number put into its place in a rising list
 abbrev pub put_in : ℕ → List ℕ → List ℕ
@@ -25,6 +26,10 @@ all_but but xs = filter (λ x. not (is_but but x)) xs
 abbrev pub take_out : ℕ → List ℕ → List ℕ
 take_out x [] = []
 take_out x (y ∷ ys) = if nat_lt y x then y ∷ take_out x ys else ys
+
+-- all numbers from the front on are below x
+abbrev pub all_below : ℕ → List ℕ → Bool
+all_below x ys = nat_le (length ys) (prefix_len (λ y. nat_lt y x) ys)
 
 -- no number is below x
 abbrev pub AllFrom : ℕ → List ℕ → Type 0

@@ -1,95 +1,40 @@
 //! The numbers of lines in rising order, where they are kept so.
-ghost use Rattle.std.specs.Prelude.{◌≡◌, ◌≤◌, ◌<◌, IfSome, List, None, Some, length, nat_le, nat_lt, slice_get, ℕ};
+ghost use Rattle.std.specs.Prelude.{◌≡◌, ◌≤◌, ◌<◌, IfOk, IfSome, List, None, Some, length, nat_le, nat_lt, slice_get, ℕ};
 ghost use Rattle.std.specs.Prelude.{if◌then◌else◌};
 ghost use Rattle.std.specs.List.{prefix_len};
 ghost use Rattle.line_sets.specs.Rising.{all_but, put_in, risen, take_out, IsExchanged, IsOrderOf, Rises};
 
+use crate::blocks::Blocks;
 use network::LineNo;
+use std::alloc::{AllocError, Global};
 use std::marker::Model;
 
 /// Numbers of lines in rising order, or nothing. Contracts see the list, if there is one.
 #[derive(Drop)]
 pub struct RisingLines {
-    numbers: Option<Vec<u64>>,
+    numbers: Option<Blocks>,
 }
 
 impl Model for RisingLines {
-    ghost use Rattle.std.specs.Prelude.{Option, List, ℕ, option_map, IfSome};
-    ghost use Rattle.line_sets.specs.Rising.{Rises};
+    ghost use Rattle.std.specs.Prelude.{Option, List, ℕ};
 
     ghost Value = { Option (List ℕ) };
 
-    ghost view = { λ lines. option_map (λ numbers. numbers.items) lines.numbers };
-
-    ghost invariant = { λ lines. IfSome lines.numbers (λ numbers. Rises numbers.items) };
-}
-
-/// How many numbers of a rising list are below a number.
-fn below(numbers: &[u64], number: u64) -> usize
-    requires { Rises numbers.now }
-    ensures bound { result ≤ length numbers.now }
-    ensures count { result ≡ prefix_len (λ y. nat_lt y number) numbers.now }
-{
-    numbers.partition_point(|y| *y < number)
-}
-
-/// How many numbers of a rising list are at most a number.
-fn up_to(numbers: &[u64], number: u64) -> usize
-    requires { Rises numbers.now }
-    ensures bound { result ≤ length numbers.now }
-    ensures count { result ≡ prefix_len (λ y. nat_le y number) numbers.now }
-{
-    numbers.partition_point(|y| *y <= number)
-}
-
-/// Puts a number into its place in a rising list; false where memory for it is refused, and then nothing has changed.
-fn put_in(numbers: &mut Vec<u64>, number: u64) -> bool
-    requires { Rises numbers.old.items }
-    ensures { numbers.new.items ≡ (if result then put_in number numbers.old.items else
-        numbers.old.items) }
-{
-    let at = below(numbers, number);
-    numbers.insert(at, number).is_ok()
-}
-
-/// Takes the first number that isn't below a number out of a rising list.
-fn take_out(numbers: &mut Vec<u64>, number: u64)
-    requires { Rises numbers.old.items }
-    ensures { numbers.new.items ≡ take_out number numbers.old.items }
-{
-    let at = below(numbers, number);
-    if at < numbers.len() {
-        let _number = numbers.remove(at);
-    }
+    ghost view = { λ lines. lines.numbers };
 }
 
 /// A number goes out of a rising list, or comes into it; false where memory for that is refused, and then nothing has
 /// changed.
-fn exchange(numbers: &mut Vec<u64>, number: u64, goes: bool) -> bool
-    requires { Rises numbers.old.items }
-    ensures { numbers.new.items ≡ (if result then (if goes then take_out number numbers.old.items else
-        put_in number numbers.old.items) else numbers.old.items) }
+#[inline(never)]
+fn exchange(numbers: &mut Blocks, number: u64, goes: bool) -> bool
+    ensures { numbers.new ≡ (if result then (if goes then take_out number numbers.old else
+        put_in number numbers.old) else numbers.old) }
 {
     if goes {
-        take_out(numbers, number);
+        numbers.take_out(number);
         return true;
     }
-    put_in(numbers, number)
-}
-
-/// Where the number stands in a rising list that comes after so many others but one number.
-fn index_but(numbers: &[u64], but: Option<LineNo>, at: usize) -> usize
-    requires rises { Rises numbers.now }
-    requires inside { at < length numbers.now }
-    ensures { slice_get numbers.now result ≡ slice_get (all_but but numbers.now) at }
-{
-    let Some(but) = but else {
-        return at;
-    };
-    if numbers[at] < but.0 {
-        return at;
-    }
-    at + (up_to(numbers, but.0) - below(numbers, but.0))
+    numbers.put_in(number)
 }
 
 impl RisingLines {
@@ -100,14 +45,15 @@ impl RisingLines {
         RisingLines { numbers: None }
     }
 
-    /// A list that rises is kept.
-    pub(crate) fn of(numbers: Vec<u64>) -> RisingLines
-        requires { Rises numbers.items }
-        ensures { result ≡ Some numbers.items }
+    /// The numbers of a list that rises are kept, with room for so many numbers at most.
+    pub(crate) fn of(alloc: Global, numbers: &[u64], most: usize) -> Result<RisingLines, AllocError>
+        requires { Rises numbers.now }
+        ensures { IfOk result (λ lines. lines ≡ Some numbers.now) }
     {
-        RisingLines {
-            numbers: Some(numbers),
-        }
+        let blocks = Blocks::of(alloc, numbers, most)?;
+        Ok(RisingLines {
+            numbers: Some(blocks),
+        })
     }
 
     /// A line comes, goes or stays: there were so many of it, none or one, and now there are so many. Where memory is
@@ -138,13 +84,6 @@ impl RisingLines {
         let Some(numbers) = &self.numbers else {
             return None;
         };
-        if at >= numbers.len() {
-            return None;
-        }
-        let at = index_but(numbers, *but, at);
-        if at >= numbers.len() {
-            return None;
-        }
-        Some(numbers[at])
+        numbers.nth(but, at)
     }
 }

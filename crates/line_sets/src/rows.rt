@@ -7,8 +7,8 @@ use crate::entries::Row;
 use std::alloc::{AllocError, Global};
 use std::marker::Model;
 
-/// A row of lines with their cells for each set, at most 16 each. A set has its row from its first line on, so no row is
-/// written before. Contracts see the list of rows, by set.
+/// A row of lines with their cells for each set, at most 16 each. A set has its row from its first line on, so no row
+/// is written before. Contracts see the list of rows, by set.
 #[derive(Drop)]
 pub struct Rows {
     // The number of the row of each set that had a line.

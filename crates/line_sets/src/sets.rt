@@ -69,8 +69,8 @@ impl<V: Copy + Listed> LineSets<V> {
         }
     }
 
-    /// Takes all lines out. No memory is taken, and only that for the rising order is given back. The time grows with how
-    /// many sets had a line since the table was made or cleared, and with the most lines that it had at once.
+    /// Takes all lines out. No memory is taken, and only that for the rising order is given back. The time grows with
+    /// how many sets had a line since the table was made or cleared, and with the most lines that it had at once.
     pub fn clear(&mut self)
         ensures { self.new ≡ empty_sets (length self.old.sets) self.old.ways }
     {
@@ -263,19 +263,23 @@ impl<V: Copy + Listed> LineSets<V> {
         Ok(LineNo(number_at(&mut numbers, at)))
     }
 
-    /// Keeps the listed lines in rising order from now on, so that `nth_listed` finds a line by a binary search and takes
-    /// no memory. That takes 8 bytes for each line that there may be, and moves at most as many bytes each time a line
-    /// comes to the listed ones or leaves them. Where the memory is refused nothing is kept, and the answers are the same.
+    /// Keeps the listed lines in rising order from now on, in blocks of at most 128, so that `nth_listed` goes over the
+    /// blocks, searches one of them and takes no memory. That takes 1,032 bytes for each 32 lines that there may be, and
+    /// 2,064 bytes more, all of it here, and a list of the lines for the time of the call. A line that comes to the
+    /// listed ones or leaves them moves at most 1,024 bytes. But at most once in 32 such changes, on the whole, a block is
+    /// split, joined with the next one or left empty, which moves the blocks behind it, too. Where the memory is refused
+    /// the order is kept or not kept as it was before the call, and the answers are the same.
     pub fn keep_order(&mut self)
         ensures { self.new ≡ self.old }
     {
-        let Ok(mut numbers) = self.numbers() else {
+        let Ok(numbers) = self.numbers() else {
             return;
         };
-        let cells = self.sets() * self.ways;
-        if numbers.reserve(cells).is_ok() {
-            self.order = RisingLines::of(numbers);
-        }
+        let most = self.sets() * self.ways;
+        let Ok(order) = RisingLines::of(self.rows.allocator(), &numbers, most) else {
+            return;
+        };
+        self.order = order;
     }
 
     /// Keeps the listed lines in rising order no longer, and gives the memory for that back.

@@ -1,4 +1,4 @@
-use Rattle.std.proofs.Common.{◌<◌, Some, None, sym, ap, ◌∙◌, arith, take, ℕ}
+use Rattle.std.proofs.Common.{◌<◌, Some, sym, ap, ◌∙◌, arith, take, ℕ}
 use Rattle.std.proofs.lemmas.List.{get_or-take}
 use Rattle.line_sets.proofs.Indices.{first-below, first-find, missing-find, missing-without, removed}
 use Rattle.line_sets.specs.Order.{IsFirstAt}

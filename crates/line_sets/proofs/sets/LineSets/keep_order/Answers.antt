@@ -4,5 +4,5 @@ use Rattle.line_sets.proofs.sets.LineSets.keep_order.Goals as goal
 
 pub of-requires : goal.of-requires
 of-requires g c =
-    rw c.reserve.ensures.items
+    rw c.deref.ensures.value
     (rw c.in-Ok.ensures (rises-risen (all_listed g.V.Listed.is_listed c.args.self.now.sets)))

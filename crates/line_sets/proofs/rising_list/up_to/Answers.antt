@@ -1,7 +1,7 @@
 use Rattle.std.proofs.Common.{leb, rules}
 use Rattle.std.proofs.lemmas.List.Sorted.{IsPartitionPoint-from_clause, IsPartitionedBy-leb}
 use Rattle.line_sets.proofs.RisingEdits.{ordered, searched-to}
-use Rattle.line_sets.proofs.rising_lines.up_to.Goals as goal
+use Rattle.line_sets.proofs.rising_list.up_to.Goals as goal
 
 pub returns-clause-count : goal.returns-clause-count
 returns-clause-count c =

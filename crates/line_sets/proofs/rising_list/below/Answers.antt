@@ -1,7 +1,7 @@
 use Rattle.std.proofs.Common.{ltb, rules}
 use Rattle.std.proofs.lemmas.List.Sorted.{IsPartitionPoint-from_clause, IsPartitionedBy-ltb}
 use Rattle.line_sets.proofs.RisingEdits.{ordered, searched-to}
-use Rattle.line_sets.proofs.rising_lines.below.Goals as goal
+use Rattle.line_sets.proofs.rising_list.below.Goals as goal
 
 pub returns-clause-count : goal.returns-clause-count
 returns-clause-count c =

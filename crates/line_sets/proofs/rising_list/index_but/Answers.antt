@@ -2,7 +2,7 @@ use Rattle.std.proofs.Common.{◌≡◌, arith, slice_get, Some, sym, ap, ◌∙
 use Rattle.line_sets.specs.Rising.{all_but}
 use Rattle.line_sets.proofs.RisenLists.{all_but-none}
 use Rattle.line_sets.proofs.RisingEdits.{at-from, at-less, before-but, from-but, less, less-most, most}
-use Rattle.line_sets.proofs.rising_lines.index_but.Goals as goal
+use Rattle.line_sets.proofs.rising_list.index_but.Goals as goal
 
 pub returns-in_default : goal.returns-in_default
 returns-in_default c =

@@ -1,0 +1,16 @@
+use Rattle.std.proofs.Common.{arith, sym, ◌∙◌}
+use Rattle.line_sets.proofs.RisingEdits.{rises-take_out}
+use Rattle.line_sets.proofs.BlockedLists.{take-none}
+use Rattle.line_sets.proofs.blocks.Blocks.take_out.Goals as goal
+
+pub returns-then-at-len : goal.returns-then-at-len
+returns-then-at-len c = rw (← c.self.view_is) (take-none c.args.number c.self.inside.blocks.items
+    (let le = c.if-at-len.true in let at = rw c.deref.ensures.value at c.block_at-at.ensures.count in
+    omega (arith, le, at)))
+
+pub invariant_of-self : goal.invariant_of-self
+invariant_of-self c = (
+  rw (sym (c.level.ensures.same ∙ c.take_at.ensures.taken)) at (rises-take_out c.args.number _ c.self.invariant.0),
+  c.level.ensures.filled c.take_at.ensures.filled,
+  c.level.ensures.spaced (c.take_at.ensures.spaced c.self.invariant.2),
+)

@@ -1,0 +1,96 @@
+//! One rising list of numbers: the places in it, and what is put in or taken out.
+ghost use Rattle.std.specs.Prelude.{◌≡◌, ◌≤◌, ◌<◌, length, nat_le, nat_lt, slice_get};
+ghost use Rattle.std.specs.List.{prefix_len};
+ghost use Rattle.line_sets.specs.Rising.{all_below, all_but, put_in, take_out, Rises};
+
+use arrayvec::ArrayVec;
+use network::LineNo;
+
+/// A list of at most 128 numbers, which lie in the value itself.
+pub(crate) type Block = ArrayVec<u64, 128>;
+
+/// How many numbers of a rising list are below a number.
+pub(crate) fn below(numbers: &[u64], number: u64) -> usize
+    requires { Rises numbers.now }
+    ensures bound { result ≤ length numbers.now }
+    ensures count { result ≡ prefix_len (λ y. nat_lt y number) numbers.now }
+{
+    numbers.partition_point(|y| *y < number)
+}
+
+/// How many numbers of a rising list are at most a number.
+pub(crate) fn up_to(numbers: &[u64], number: u64) -> usize
+    requires { Rises numbers.now }
+    ensures bound { result ≤ length numbers.now }
+    ensures count { result ≡ prefix_len (λ y. nat_le y number) numbers.now }
+{
+    numbers.partition_point(|y| *y <= number)
+}
+
+/// Puts a number into its place in a rising list that has room.
+pub(crate) fn put_in(numbers: &mut Block, number: u64)
+    requires rises { Rises numbers.old.items }
+    requires room { length numbers.old.items < 128 }
+    ensures { numbers.new.items ≡ put_in number numbers.old.items }
+{
+    let at = below(numbers.as_slice(), number);
+    numbers.insert(at, number);
+}
+
+/// Takes the first number that isn't below a number out of a rising list.
+pub(crate) fn take_out(numbers: &mut Block, number: u64)
+    requires { Rises numbers.old.items }
+    ensures { numbers.new.items ≡ take_out number numbers.old.items }
+{
+    let at = below(numbers.as_slice(), number);
+    if at < numbers.len() {
+        let _number = numbers.remove(at);
+    }
+}
+
+/// Where the number stands in a rising list that comes after so many others but one number.
+pub(crate) fn index_but(numbers: &[u64], but: Option<LineNo>, at: usize) -> usize
+    requires rises { Rises numbers.now }
+    requires inside { at < length numbers.now }
+    ensures { slice_get numbers.now result ≡ slice_get (all_but but numbers.now) at }
+{
+    let Some(but) = but else {
+        return at;
+    };
+    if numbers[at] < but.0 {
+        return at;
+    }
+    at + (up_to(numbers, but.0) - below(numbers, but.0))
+}
+
+/// How many numbers of a rising list there are but one number. A list that ends below it, or begins above, is searched
+/// no further.
+#[inline(always)]
+pub(crate) fn kept(numbers: &[u64], but: Option<LineNo>) -> usize
+    requires { Rises numbers.now }
+    ensures { result ≡ length (all_but but numbers.now) }
+{
+    let Some(but) = but else {
+        return numbers.len();
+    };
+    let count = numbers.len();
+    if count == 0 {
+        return count;
+    }
+    if numbers[count - 1] < but.0 {
+        return count;
+    }
+    if but.0 < numbers[0] {
+        return count;
+    }
+    count - (up_to(numbers, but.0) - below(numbers, but.0))
+}
+
+/// Whether the last number of a rising list is below a number, and so all are.
+pub(crate) fn ends_below(numbers: &[u64], number: u64) -> bool
+    requires rises { Rises numbers.now }
+    requires some { 0 < length numbers.now }
+    ensures { result ≡ all_below number numbers.now }
+{
+    numbers[numbers.len() - 1] < number
+}

@@ -20,4 +20,6 @@ mod messages;
 #[cfg(test)]
 mod number_maps;
 #[cfg(test)]
+mod orders;
+#[cfg(test)]
 mod sets;

@@ -10,7 +10,8 @@ use mathlib.Core.Bool.{false≢true}
 use Rattle.std.proofs.lemmas.Bool.{cases_eq, cases_lt, cond_both, le-leb, lt-ltb}
 use Rattle.line_sets.specs.Rising.{all_below, all_but, is_but, put_in, take_out, AllFrom, Rises}
 use Rattle.line_sets.specs.Blocked.{block_at, joined, size_at, Filled, IsPlaceOf, Lacks, Spaced}
-use Rattle.line_sets.proofs.BlockNeighbours.{lacks-set, pair-before, pair-next, spaced-lacks, spaced-push, spaced-remove, spaced-set, split-spaced}
+use Rattle.line_sets.proofs.BlockNeighbours.{lacks-set, pair-before, pair-next, spaced-lacks, spaced-push}
+use Rattle.line_sets.proofs.BlockNeighbours.{spaced-remove, spaced-set, split-spaced}
 use Rattle.line_sets.proofs.RisenLists.{from-weaker}
 use Rattle.line_sets.proofs.RisingEdits.{at-from, at-less, ge-ltb, less-most}
 use Rattle.line_sets.proofs.RisingEdits.{all_but-above, but-gone, but-kept, gt-leb, less, less-more, less-none, most}
@@ -641,7 +642,8 @@ placed-filled x bs k d w h e = filled-set bs k w h (rw (sym e) at (put-some x d.
 pub placed-spaced : (x : ℕ) (bs : List (ArrayVec ℕ)) (k : ℕ) (d w : ArrayVec ℕ) → d ≡ get_or bs k d →
     w.items ≡ put_in x d.items → Spaced 65 bs → Spaced 65 (set bs k w)
 placed-spaced x bs k d w is e h =
-    let more = put-longer x d.items in let same = ap (λ (v : ArrayVec ℕ). length v.items) is in let long = ap length e in
+    let more = put-longer x d.items in let same = ap (λ (v : ArrayVec ℕ). length v.items) is in
+    let long = ap length e in
     spaced-set 65 bs k d w (omega (arith, more, same, long)) h
 
 pub took : (x : ℕ) (bs : List (ArrayVec ℕ)) (k : ℕ) (d w : ArrayVec ℕ) → k < length bs → k ≡ block_at x bs →
@@ -713,7 +715,8 @@ module _ (bs ns : List (ArrayVec ℕ)) (k : ℕ) (u e w : ArrayVec ℕ) (ys : Li
       let long = ap length put ∙ length-append e.items ys in
       let some = filled-at bs k e h (omega (arith, lt)) in
       let same = ap (λ (v : ArrayVec ℕ). length v.items) beside in
-      rw (sym rest) at (filled-set (remove bs (suc k)) k w (filled-remove bs (suc k) h) (omega (arith, long, some, same)))
+      rw (sym rest)
+      at (filled-set (remove bs (suc k)) k w (filled-remove bs (suc k) h) (omega (arith, long, some, same)))
 
   both : w.items ≡ e.items ++ ys → length w.items ≡ size_at k bs + size_at (suc k) bs
   both put =

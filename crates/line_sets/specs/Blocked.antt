@@ -28,7 +28,8 @@ size_at k [] = 0
 size_at zero (b ∷ bs) = length b.items
 size_at (suc k) (b ∷ bs) = size_at k bs
 
--- two neighbours have more than 64 numbers together; the block before the first one of the list has n
+-- two neighbours have more than 64 numbers together; the block before the first one of the list has n, or is none and
+-- n is 65
 abbrev pub Spaced : ℕ → List (ArrayVec ℕ) → Type 0
 Spaced n [] = Unit {0}
 Spaced n (b ∷ bs) = (64 < n + length b.items) × Spaced (length b.items) bs

@@ -1,5 +1,5 @@
 //! A rising list of numbers in blocks, so that little is moved when a number comes or goes.
-ghost use Rattle.std.specs.Prelude.{◌≡◌, ◌≤◌, ◌<◌, ◌+◌, ◌++◌, ◌*◌, ℕ, IfOk, IsTrue, List, None, Some, drop, insert, length};
+ghost use Rattle.std.specs.Prelude.{◌≡◌, ◌≤◌, ◌<◌, ◌+◌, ◌++◌, ◌*◌, ℕ, IfOk, IsTrue, insert, length};
 ghost use Rattle.std.specs.Prelude.{if◌then◌else◌, slice_get, vec_capacity};
 ghost use Rattle.line_sets.specs.Rising.{all_but, put_in, take_out, Rises};
 ghost use Rattle.line_sets.specs.Blocked.{block_at, joined, size_at, Filled, IsPlaceOf, Lacks, Spaced};
@@ -12,7 +12,7 @@ use std::marker::Model;
 /// A rising list of numbers in blocks of at most 128. Contracts see the list.
 #[derive(Drop)]
 pub(crate) struct Blocks {
-    // No block is empty, and two neighbours have more than 64 numbers together.
+    // No block is empty, and two neighbours have more than 64 numbers together. So there are few.
     blocks: Vec<Block>,
 }
 
@@ -86,7 +86,8 @@ fn block_of(numbers: &[u64]) -> Block
 /// there may be.
 fn has_room(blocks: &Vec<Block>) -> bool
     requires { Spaced 65 blocks.now.items }
-    ensures sure { length (joined blocks.now.items) + 32 < vec_capacity blocks.now * 32 → IsTrue result }
+    ensures sure { length (joined blocks.now.items) + 32 < vec_capacity blocks.now * 32 →
+        IsTrue result }
     ensures count { IsTrue result → length blocks.now.items < vec_capacity blocks.now }
 {
     blocks.len() < blocks.capacity()
@@ -110,7 +111,8 @@ fn split(blocks: &mut Vec<Block>, at: usize)
     requires room { length blocks.old.items < vec_capacity blocks.old }
     ensures same { joined blocks.new.items ≡ joined blocks.old.items }
     ensures filled { Filled blocks.old.items → Filled blocks.new.items }
-    ensures spaced { Filled blocks.old.items → Spaced 65 blocks.old.items → Spaced 65 blocks.new.items }
+    ensures spaced { Filled blocks.old.items → Spaced 65 blocks.old.items →
+        Spaced 65 blocks.new.items }
     ensures some { 0 < length blocks.new.items }
     ensures halves { (x k : ℕ) → IsPlaceOf x at blocks.old.items → IsPlaceOf x k blocks.new.items →
         size_at k blocks.new.items < 128 }
@@ -245,8 +247,8 @@ impl Blocks {
         Ok(Blocks { blocks })
     }
 
-    /// Puts a number into its place, and takes no memory; false where that wants a block more than there is room for, and
-    /// then nothing has changed. It never does while there are fewer numbers than there may be.
+    /// Puts a number into its place, and takes no memory; false where that wants a block more than there is room for,
+    /// and then nothing has changed. It never does while there are fewer numbers than there may be.
     pub(crate) fn put_in(&mut self, number: u64) -> bool
         ensures { self.new ≡ (if result then put_in number self.old else self.old) }
     {

@@ -1,7 +1,6 @@
 //! The numbers of lines in rising order, where they are kept so.
-ghost use Rattle.std.specs.Prelude.{◌≡◌, ◌≤◌, ◌<◌, IfOk, IfSome, List, None, Some, length, nat_le, nat_lt, slice_get, ℕ};
+ghost use Rattle.std.specs.Prelude.{◌≡◌, ◌≤◌, ◌<◌, IfOk, IfSome, List, None, Some, length, slice_get, ℕ};
 ghost use Rattle.std.specs.Prelude.{if◌then◌else◌};
-ghost use Rattle.std.specs.List.{prefix_len};
 ghost use Rattle.line_sets.specs.Rising.{all_but, put_in, risen, take_out, IsExchanged, IsOrderOf, Rises};
 
 use crate::blocks::Blocks;
@@ -23,7 +22,7 @@ impl Model for RisingLines {
     ghost view = { λ lines. lines.numbers };
 }
 
-/// A number goes out of a rising list, or comes into it; false where memory for that is refused, and then nothing has
+/// A number goes out of a rising list, or comes into it; false where there is no room for it, and then nothing has
 /// changed.
 #[inline(never)]
 fn exchange(numbers: &mut Blocks, number: u64, goes: bool) -> bool
@@ -56,8 +55,8 @@ impl RisingLines {
         })
     }
 
-    /// A line comes, goes or stays: there were so many of it, none or one, and now there are so many. Where memory is
-    /// refused nothing is kept from now on.
+    /// A line comes, goes or stays: there were so many of it, none or one, and now there are so many. Where there
+    /// is no room for it nothing is kept from now on. No memory is taken.
     #[inline(always)]
     pub(crate) fn change(&mut self, line: u64, before: usize, after: usize)
         requires before { before ≤ 1 }

@@ -264,11 +264,11 @@ impl<V: Copy + Listed> LineSets<V> {
     }
 
     /// Keeps the listed lines in rising order from now on, in blocks of at most 128, so that `nth_listed` goes over the
-    /// blocks, searches one of them and takes no memory. That takes 1,032 bytes for each 32 lines that there may be, and
-    /// 2,064 bytes more, all of it here, and a list of the lines for the time of the call. A line that comes to the
-    /// listed ones or leaves them moves at most 1,024 bytes. But at most once in 32 such changes, on the whole, a block is
-    /// split, joined with the next one or left empty, which moves the blocks behind it, too. Where the memory is refused
-    /// the order is kept or not kept as it was before the call, and the answers are the same.
+    /// blocks, searches one of them and takes no memory. That takes 1,032 bytes for each 32 lines that there may be,
+    /// and 2,064 bytes more, all of it here, and a list of the lines for the time of the call. A line that comes to
+    /// the listed ones or leaves them moves at most 1,024 bytes. But at most once in 32 such changes, on the whole, a
+    /// block is split, joined with the next one or left empty, which moves the blocks behind it, too. Where the memory
+    /// is refused the order is kept or not kept as it was before the call, and the answers are the same.
     pub fn keep_order(&mut self)
         ensures { self.new ≡ self.old }
     {

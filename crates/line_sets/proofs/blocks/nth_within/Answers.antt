@@ -29,7 +29,8 @@ pub returns-then-index-numbers : goal.returns-then-index-numbers
 returns-then-index-numbers c =
     let less = c.if-left-here.true in
     let same = c.as_slice-numbers.ensures.value in
-    let long = c.kept-here.ensures ∙ ap (λ ys. length (all_but c.args.but.now ys)) (c.as_slice.ensures.value ∙ sym same) in
+    let long = c.kept-here.ensures
+    ∙ ap (λ ys. length (all_but c.args.but.now ys)) (c.as_slice.ensures.value ∙ sym same) in
     sym (ap (λ ys. slice_get ys c.index_but-index.result) same
     ∙ read-none c.block-item.result.items c.index_but-index.result (let behind = c.if-index-numbers.true in
     let count = ap length same in omega (arith, behind, count)))
@@ -42,7 +43,8 @@ pub returns-then-left-here : goal.returns-then-left-here
 returns-then-left-here c =
     let less = c.if-left-here.true in
     let same = c.as_slice-numbers.ensures.value in
-    let long = c.kept-here.ensures ∙ ap (λ ys. length (all_but c.args.but.now ys)) (c.as_slice.ensures.value ∙ sym same) in
+    let long = c.kept-here.ensures
+    ∙ ap (λ ys. length (all_but c.args.but.now ys)) (c.as_slice.ensures.value ∙ sym same) in
     sym (read-at c.as_slice-numbers.result.now c.index_but-index.result c.if-index-numbers.false)
     ∙ c.index_but-index.ensures
     ∙ sym (nth-here c.args.but.now c.args.blocks.now c.loop-block.block-index c.loop-block.left c.block-item.result

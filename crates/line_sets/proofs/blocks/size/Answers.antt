@@ -4,4 +4,5 @@ use Rattle.line_sets.proofs.blocks.size.Goals as goal
 
 pub returns-clause-count : goal.returns-clause-count
 returns-clause-count c =
-    c.len.ensures.value ∙ sym (sized c.args.at c.args.blocks.now c.index-blocks-at.result c.requires c.index-blocks-at.is)
+    c.len.ensures.value
+    ∙ sym (sized c.args.at c.args.blocks.now c.index-blocks-at.result c.requires c.index-blocks-at.is)

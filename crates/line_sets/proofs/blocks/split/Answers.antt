@@ -44,5 +44,5 @@ returns-clause-halves c =
     split-room 64 c.args.at c.args.blocks.now.items c.put_block.new.blocks.items c.index.result.now
     c.index_mut.result.now c.block_of-upper.result c.truncate.new.self c.as_slice.result.now c.requires.inside
     c.index.ensures c.as_slice.ensures.value c.block_of-upper.ensures
-    c.put_block.ensures c.index_mut.ensures.value c.truncate.ensures.items (omega arith) (omega arith) (omega (arith, long))
-    (omega (arith, long))
+    c.put_block.ensures c.index_mut.ensures.value c.truncate.ensures.items (omega arith) (omega arith)
+    (omega (arith, long)) (omega (arith, long))

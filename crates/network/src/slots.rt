@@ -73,8 +73,8 @@ fn searched_slot_of(slots: &[Slot], from: usize, number: u64) -> Option<usize>
 }
 
 /// The index of the slot with the number, or `None` where there is none. Numbers near the last one have a slot each: so
-/// the slot is tried first that is as far before the last one as the number is below that one's. The slots of older ones
-/// may be gone, and then the number's slot stands behind that one, mostly by a few.
+/// the slot is tried first that is as far before the last one as the number is below that one's. The slots of older
+/// numbers may be gone, and then the number's slot stands behind that one, mostly by a few.
 #[inline(always)]
 pub(crate) fn slot_of(slots: &[Slot], number: u64) -> Option<usize>
     requires { IsRising 0 slots.now (2 ^ 64) }

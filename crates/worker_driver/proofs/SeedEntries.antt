@@ -6,7 +6,8 @@ use Rattle.std.specs.Prelude.{◌≤◌, slice_get}
 use Rattle.std.proofs.Math.Nat.{mod-lt}
 use Rattle.std.proofs.Common.{inl, inr, set, get_or-set_same, get_or-set_other}
 use Rattle.std.proofs.lemmas.Bool.{cases_eq, cond_both, false≢true}
-use Rattle.std.proofs.lemmas.List.{length-map, length-append, get_or_append_left, get_or-append-add, get_or-map, get_or_past}
+use Rattle.std.proofs.lemmas.List.{length-map, length-append, get_or_append_left, get_or-append-add, get_or-map}
+use Rattle.std.proofs.lemmas.List.{get_or_past}
 use Rattle.std.proofs.lemmas.List.FromFn.{get_or-map-range_with_len, length-map-range_with_len}
 use Rattle.std.proofs.lemmas.Option.{get_or_from_slice_get, slice_get_within, slice_get-get_or}
 use Rattle.interleaving_core.specs.LookUps.{open_op}
@@ -95,7 +96,8 @@ pub one_count_more : (counts : List ℕ) (lengths : ℕ → ℕ) (n count : ℕ)
     ((i : ℕ) → i < n → get_or counts i 0 ≡ lengths i) →
     (i : ℕ) → i < n + 1 → get_or (set counts n count) i 0 ≡ lengths i
 one_count_more counts lengths n count within is each i below = elim (cases_eq i n) [
-  | inl e ↦ ap (λ k. get_or (set counts n count) k 0) e ∙ get_or-set_same counts n count 0 within ∙ is ∙ ap lengths (sym e)
+  | inl e ↦ ap (λ k. get_or (set counts n count) k 0) e ∙ get_or-set_same counts n count 0 within ∙ is
+      ∙ ap lengths (sym e)
   | inr other ↦ get_or-set_other counts n i count 0 other ∙ each i (omega (arith, other, below))
 ]
 

@@ -66,7 +66,8 @@ impl MachineState {
     // A core's time goes on by one.
     #[inline(always)]
     fn advance(&mut self, core: u32) -> PlainAnswer
-        ensures { (answer_of result, self.new) ≡ advance_at self.old core (slice_get self.old.cores core) }
+        ensures { (answer_of result, self.new) ≡ advance_at self.old core
+            (slice_get self.old.cores core) }
     {
         let at = core as usize;
         if at >= self.cores.len() {

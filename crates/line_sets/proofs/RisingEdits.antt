@@ -1,13 +1,15 @@
 -- Rising lists that a number is put into or taken out of, by index and by how often each number is there.
 use Rattle.std.proofs.Common.{◌≡◌, ◌≢◌, ℕ, zero, suc, ◌+◌, ◌-◌, ◌<◌, ◌≤◌, true, false, cond, eqb, leb, ltb, List, []}
-use Rattle.std.proofs.Common.{◌∷◌, leb-true, not, Bool, length, get_or, inl, inr, Option, None, Some, refl, sym, ap, ◌∙◌, arith}
+use Rattle.std.proofs.Common.{◌∷◌, leb-true, not, Bool, length, get_or, inl, inr, Option, None, Some, refl, sym, ap}
+use Rattle.std.proofs.Common.{◌∙◌, arith}
 use Rattle.std.specs.Prelude.{IfSome}
 use Rattle.std.specs.List.{insert, prefix_len, remove, slice_get}
 use Rattle.std.specs.List.Sorted.{IsNonDecreasing, IsPartitionPoint}
 use Rattle.std.proofs.lemmas.Bool.{cases_Bool, cases_eq, cases_lt, cond_both, eq-eqb, le-leb, lt-ltb, ltb-true}
 use Rattle.std.proofs.lemmas.Bool.{ltb-false, ne_eqb}
 use Rattle.std.proofs.lemmas.List.Sums.{prefix_len_is}
-use Rattle.line_sets.specs.Rising.{all_but, is_but, put_in, risen, take_out, tally, AllFrom, IsExchanged, IsOrderOf, Rises}
+use Rattle.line_sets.specs.Rising.{all_but, is_but, put_in, risen, take_out, tally, AllFrom, IsExchanged, IsOrderOf}
+use Rattle.line_sets.specs.Rising.{Rises}
 use Rattle.line_sets.proofs.RisenLists.{one-risen, rises-put_in, rises-risen, tally-none, tally-put_in}
 use Rattle.line_sets.proofs.RisenLists.{tally-risen}
 
@@ -172,7 +174,8 @@ order-entered line xs zs ys e h = ap (put_in line) e
     ∙ one-risen (put_in line (risen xs)) (risen zs) (rises-put_in line (risen xs) (rises-risen xs)) (rises-risen zs)
     (λ c. (let first = tally-risen c xs in let second = tally-risen c zs in let both = h c in
     let put = tally-put_in c line (risen xs) in
-    let none : ◌≡◌ {A = ℕ} (cond (eqb line c) 0 0) 0 = cond_both (eqb line c) 0 0 (λ n. n ≡ 0) (λ e. refl) (λ e. refl) in
+    let none : ◌≡◌ {A = ℕ} (cond (eqb line c) 0 0) 0 =
+    cond_both (eqb line c) 0 0 (λ n. n ≡ 0) (λ e. refl) (λ e. refl) in
     omega (arith, first, second, both, put, none)))
 
 pub order-left : (line : ℕ) (xs zs ys : List ℕ) → ys ≡ risen xs → IsExchanged line 1 0 xs zs →
@@ -185,7 +188,8 @@ order-left line xs zs ys e h = ap (take_out line) e
     let none : ◌≡◌ {A = ℕ} (cond (eqb line line) 0 0) 0 =
     cond_both (eqb line line) 0 0 (λ n. n ≡ 0) (λ e. refl) (λ e. refl) in omega (arith, same, at, here, none)) in
     let taken = tally-take_out c line (risen xs) (rises-risen xs) there in
-    let none : ◌≡◌ {A = ℕ} (cond (eqb line c) 0 0) 0 = cond_both (eqb line c) 0 0 (λ n. n ≡ 0) (λ e. refl) (λ e. refl) in
+    let none : ◌≡◌ {A = ℕ} (cond (eqb line c) 0 0) 0 =
+    cond_both (eqb line c) 0 0 (λ n. n ≡ 0) (λ e. refl) (λ e. refl) in
     omega (arith, first, second, both, taken, none)))
 
 pub order-some : (o : Option (List ℕ)) (ys xs : List ℕ) → o ≡ Some ys → IsOrderOf o xs → ys ≡ risen xs

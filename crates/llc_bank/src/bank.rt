@@ -77,8 +77,8 @@ impl Bank {
         requires geometry { IsGeometry config.sets config.ways }
         ensures opened { OnOk result (self.new ≡ empty_bank config) }
         ensures refused { OnErr result (self.new ≡ self.old) }
-        ensures kept { length self.old.table.sets ≡ config.sets → self.old.table.ways ≡ config.ways →
-            IsOk result }
+        ensures kept { length self.old.table.sets ≡ config.sets →
+            self.old.table.ways ≡ config.ways → IsOk result }
     {
         self.table.reopen(config.sets, config.ways)?;
         self.number = config.number;

@@ -1,7 +1,7 @@
 -- What the proofs of this crate give to the crates above: they import this file and no other of this folder.
 
--- The events of a bank and of a DRAM keep the invariant.
-pub use Rattle.machine_theorem.proofs.BankEvents.{any_bank_delivery, any_dram_delivery}
+-- A delivery to a bank keeps the invariant.
+pub use Rattle.machine_theorem.proofs.BankEvents.{any_bank_delivery}
 -- A delivery keeps the invariant.
 pub use Rattle.machine_theorem.proofs.Deliveries.{any_core_delivery}
 -- Any event and any list of events keep the invariant.

@@ -6,4 +6,3 @@ mod StoredMessages
 mod LinkLaws
 mod FirstMessages
 mod StoredChanges
-pub mod Lemmas

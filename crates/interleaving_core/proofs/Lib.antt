@@ -16,4 +16,5 @@ mod RunSteps
 mod Runs
 mod Throughout
 mod Told
+mod WaitMarks
 pub mod Lemmas

@@ -8,3 +8,4 @@ pub mod Midway
 pub mod Reservation
 pub mod SentMessages
 pub mod StepAnswers
+pub mod WaitMask

@@ -37,6 +37,7 @@ impl MachineState {
             config,
             opening: memory,
             cores,
+            waiting: 0,
             banks,
             drams,
             flight,

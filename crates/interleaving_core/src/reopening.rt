@@ -43,6 +43,7 @@ impl MachineState {
             config,
             opening: memory,
             cores,
+            waiting: 0,
             banks,
             drams,
             flight,

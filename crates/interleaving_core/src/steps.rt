@@ -12,6 +12,7 @@ use crate::operations;
 use crate::plain_answer::{PlainAnswer, answer_in, answer_of, plain_of, stop_after};
 use crate::reactions::{conclude, respond};
 use crate::records::{keep, reserve, stop};
+use crate::waiting::noted;
 use machine_table::{Answer, Event, Refusal};
 use network::{LineNo, MsgNo, Node};
 use physiological_order::Op;
@@ -58,6 +59,7 @@ impl MachineState {
         let answer = operations::attempt(&mut self.cores[at], &mut self.flight, core, count);
         keep(&mut self.records, &answer);
         stop(&mut self.is_stopped, &answer);
+        self.waiting = noted(self.waiting, core, &self.cores[at]);
         plain_of(&answer)
     }
 
@@ -127,6 +129,7 @@ impl MachineState {
                     return Ok(PlainAnswer::Refused(Refusal::NoSuch));
                 }
                 let response = respond(&mut self.cores[at], &self.flight, message)?;
+                self.waiting = noted(self.waiting, core, &self.cores[at]);
                 Ok(conclude(&mut self.flight, &mut self.is_stopped, number, response))
             }
             Node::Bank(bank) => {

@@ -3,6 +3,8 @@
 #![tactic(auto)]
 
 #[cfg(test)]
+mod awake;
+#[cfg(test)]
 mod candidates;
 #[cfg(test)]
 mod evictions;

@@ -1,4 +1,4 @@
-use Rattle.std.proofs.Common.{◌≡◌, ◌∙◌, Some, ap, sym, subst, refl, arith, length, set}
+use Rattle.std.proofs.Common.{◌≡◌, ◌∙◌, ap, sym, subst, refl, arith, length, set}
 use Rattle.std.proofs.lemmas.Option.{slice_get_read}
 use Rattle.network.specs.Mail.{Mail}
 use Rattle.network.specs.NumberedMessages.{at_number}
@@ -23,8 +23,7 @@ pub respond-requires-clause-case : goal.respond-requires-clause-case
 respond-requires-clause-case c =
     let m : Machine = the_view c.self.inside in
     let message = c.in-Some.message.now in
-    let there = subst (λ (k : Machine). at_number c.args.number k.mail.messages ≡ Some message) c.self.view_is
-    (sym c.in-Some.ensures.value) in
+    let there = c.in-Some.ensures.value in
     let part = c.index_mut.result.now in
     let here = slice_get_read c.self.inside.cores.items (length c.self.inside.cores.items) c.in-Core.core part refl
     (omega (arith, c.if-core-len.true, c.len.ensures)) c.index_mut.ensures.value in
@@ -34,8 +33,7 @@ pub respond-requires-clause-endpoints : goal.respond-requires-clause-endpoints
 respond-requires-clause-endpoints c =
     let m : Machine = the_view c.self.inside in
     let message = c.in-Some.message.now in
-    let there = subst (λ (k : Machine). at_number c.args.number k.mail.messages ≡ Some message) c.self.view_is
-    (sym c.in-Some.ensures.value) in
+    let there = c.in-Some.ensures.value in
     let part = c.index_mut.result.now in
     let here = slice_get_read c.self.inside.cores.items (length c.self.inside.cores.items) c.in-Core.core part refl
     (omega (arith, c.if-core-len.true, c.len.ensures)) c.index_mut.ensures.value in
@@ -47,8 +45,7 @@ pub invariant_of-self-then-core-len : goal.invariant_of-self-then-core-len
 invariant_of-self-then-core-len c =
     let m : Machine = the_view c.self.inside in
     let message = c.in-Some.message.now in
-    let there = subst (λ (k : Machine). at_number c.args.number k.mail.messages ≡ Some message) c.self.view_is
-    (sym c.in-Some.ensures.value) in
+    let there = c.in-Some.ensures.value in
     let part = c.index_mut.result.now in
     let here = slice_get_read c.self.inside.cores.items (length c.self.inside.cores.items) c.in-Core.core part refl
     (omega (arith, c.if-core-len.true, c.len.ensures)) c.index_mut.ensures.value in
@@ -66,8 +63,7 @@ pub respond-requires-in-Bank-clause-case : goal.respond-requires-in-Bank-clause-
 respond-requires-in-Bank-clause-case c =
     let m : Machine = the_view c.self.inside in
     let message = c.in-Some.message.now in
-    let there = subst (λ (k : Machine). at_number c.args.number k.mail.messages ≡ Some message) c.self.view_is
-    (sym c.in-Some.ensures.value) in
+    let there = c.in-Some.ensures.value in
     let part = c.index_mut-in-Bank.result.now in
     let here = slice_get_read c.self.inside.banks.items (length c.self.inside.banks.items) c.in-Bank.bank part refl
     (omega (arith, c.if-bank-len.true)) c.index_mut-in-Bank.ensures.value in
@@ -77,8 +73,7 @@ pub respond-requires-in-Bank-clause-endpoints : goal.respond-requires-in-Bank-cl
 respond-requires-in-Bank-clause-endpoints c =
     let m : Machine = the_view c.self.inside in
     let message = c.in-Some.message.now in
-    let there = subst (λ (k : Machine). at_number c.args.number k.mail.messages ≡ Some message) c.self.view_is
-    (sym c.in-Some.ensures.value) in
+    let there = c.in-Some.ensures.value in
     let part = c.index_mut-in-Bank.result.now in
     let here = slice_get_read c.self.inside.banks.items (length c.self.inside.banks.items) c.in-Bank.bank part refl
     (omega (arith, c.if-bank-len.true)) c.index_mut-in-Bank.ensures.value in
@@ -91,8 +86,7 @@ pub returns-in_err-response-in-Dram-clause-wanted :
 returns-in_err-response-in-Dram-clause-wanted c =
     let m : Machine = the_view c.self.inside in
     let message = c.in-Some.message.now in
-    let there = subst (λ (k : Machine). at_number c.args.number k.mail.messages ≡ Some message) c.self.view_is
-    (sym c.in-Some.ensures.value) in
+    let there = c.in-Some.ensures.value in
     let part = c.index_mut-in-Dram.result.now in
     let here = slice_get_read c.self.inside.drams.items (length c.self.inside.drams.items) c.in-Dram.bank part refl
     (omega (arith, c.if-bank-len-2.true)) c.index_mut-in-Dram.ensures.value in
@@ -110,8 +104,7 @@ pub returns-in_err-response-in-Dram-clause-store :
 returns-in_err-response-in-Dram-clause-store c =
     let m : Machine = the_view c.self.inside in
     let message = c.in-Some.message.now in
-    let there = subst (λ (k : Machine). at_number c.args.number k.mail.messages ≡ Some message) c.self.view_is
-    (sym c.in-Some.ensures.value) in
+    let there = c.in-Some.ensures.value in
     let part = c.index_mut-in-Dram.result.now in
     let here = slice_get_read c.self.inside.drams.items (length c.self.inside.drams.items) c.in-Dram.bank part refl
     (omega (arith, c.if-bank-len-2.true)) c.index_mut-in-Dram.ensures.value in
@@ -122,8 +115,7 @@ pub returns-in_ok-response-in-Core-clause-done : goal.returns-in_ok-response-in-
 returns-in_ok-response-in-Core-clause-done c =
     let m : Machine = the_view c.self.inside in
     let message = c.in-Some.message.now in
-    let there = subst (λ (k : Machine). at_number c.args.number k.mail.messages ≡ Some message) c.self.view_is
-    (sym c.in-Some.ensures.value) in
+    let there = c.in-Some.ensures.value in
     let part = c.index_mut.result.now in
     let here = slice_get_read c.self.inside.cores.items (length c.self.inside.cores.items) c.in-Core.core part refl
     (omega (arith, c.if-core-len.true, c.len.ensures)) c.index_mut.ensures.value in
@@ -143,8 +135,7 @@ pub returns-in_ok-response-in-Bank-clause-done : goal.returns-in_ok-response-in-
 returns-in_ok-response-in-Bank-clause-done c =
     let m : Machine = the_view c.self.inside in
     let message = c.in-Some.message.now in
-    let there = subst (λ (k : Machine). at_number c.args.number k.mail.messages ≡ Some message) c.self.view_is
-    (sym c.in-Some.ensures.value) in
+    let there = c.in-Some.ensures.value in
     let part = c.index_mut-in-Bank.result.now in
     let here = slice_get_read c.self.inside.banks.items (length c.self.inside.banks.items) c.in-Bank.bank part refl
     (omega (arith, c.if-bank-len.true)) c.index_mut-in-Bank.ensures.value in
@@ -164,8 +155,7 @@ pub returns-in_ok-response-in-Dram-clause-done : goal.returns-in_ok-response-in-
 returns-in_ok-response-in-Dram-clause-done c =
     let m : Machine = the_view c.self.inside in
     let message = c.in-Some.message.now in
-    let there = subst (λ (k : Machine). at_number c.args.number k.mail.messages ≡ Some message) c.self.view_is
-    (sym c.in-Some.ensures.value) in
+    let there = c.in-Some.ensures.value in
     let part = c.index_mut-in-Dram.result.now in
     let here = slice_get_read c.self.inside.drams.items (length c.self.inside.drams.items) c.in-Dram.bank part refl
     (omega (arith, c.if-bank-len-2.true)) c.index_mut-in-Dram.ensures.value in

@@ -111,12 +111,12 @@ module _ {S : Type 0} (m : Machine) (n : ℕ) (put : S → Machine) (config : (x
 
 -- messages in flight in a machine, which is seen as a model
 module _ (m seen : Machine) (is_view : m ≡ seen) (holds : Invariant seen) (n : ℕ) (message : Message)
-    (there : at_number n seen.mail.messages ≡ Some message) where
+    (there : Some message ≡ at_number n m.mail.messages) where
   invariant : Invariant m
   invariant = subst Invariant (sym is_view) holds
 
   found : at_number n m.mail.messages ≡ Some message
-  found = ap (λ (k : Machine). at_number n k.mail.messages) is_view ∙ there
+  found = sym there
 
   found_case : has_case m message ≡ true
   found_case = each_at_number (λ x. has_case m x.1 ≡ true) n m.mail.messages message found
@@ -189,7 +189,8 @@ module _ (m seen : Machine) (is_view : m ≡ seen) (holds : Invariant seen) (n :
         OnErr result (IsTrue (delivery_asks seen (at_number n seen.mail.messages)))
     dram_asks (Ok x) takes = tt
     dram_asks (Err e) takes =
-        subst (λ o. delivery_asks seen o ≡ true) (sym there)
+        subst (λ o. delivery_asks seen o ≡ true)
+        (there ∙ ap (λ (k : Machine). at_number n k.mail.messages) is_view)
         (subst (λ k. is_first_store_at seen message k ≡ true) (sym to)
         (subst (λ (k : Machine). is_first_store (slice_get k.drams b) message ≡ true) is_view
         (subst (λ o. is_first_store o message ≡ true) (sym here) takes)))

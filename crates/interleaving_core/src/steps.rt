@@ -124,31 +124,23 @@ impl MachineState {
             return Ok(PlainAnswer::Refused(Refusal::NoSuch));
         };
         match message.to {
-            Node::Core(core) => {
+            Node::Core(core) if (core as usize) < self.cores.len() => {
                 let at = core as usize;
-                if at >= self.cores.len() {
-                    return Ok(PlainAnswer::Refused(Refusal::NoSuch));
-                }
                 let response = respond(&mut self.cores[at], &self.flight, message)?;
                 self.waiting = noted(self.waiting, core, &self.cores[at]);
                 Ok(conclude(&mut self.flight, &mut self.is_stopped, number, response))
             }
-            Node::Bank(bank) => {
+            Node::Bank(bank) if (bank as usize) < self.banks.len() => {
                 let at = bank as usize;
-                if at >= self.banks.len() {
-                    return Ok(PlainAnswer::Refused(Refusal::NoSuch));
-                }
                 let response = respond(&mut self.banks[at], &self.flight, message)?;
                 Ok(conclude(&mut self.flight, &mut self.is_stopped, number, response))
             }
-            Node::Dram(bank) => {
+            Node::Dram(bank) if (bank as usize) < self.drams.len() => {
                 let at = bank as usize;
-                if at >= self.drams.len() {
-                    return Ok(PlainAnswer::Refused(Refusal::NoSuch));
-                }
                 let response = respond(&mut self.drams[at], &self.flight, message)?;
                 Ok(conclude(&mut self.flight, &mut self.is_stopped, number, response))
             }
+            _ => Ok(PlainAnswer::Refused(Refusal::NoSuch)),
         }
     }
 

@@ -1,4 +1,4 @@
-use Rattle.std.proofs.Common.{◌≡◌, ◌∙◌, Some, ap, sym, subst, refl, arith, length, set}
+use Rattle.std.proofs.Common.{◌≡◌, ◌∙◌, ap, sym, subst, refl, arith, length, set}
 use Rattle.std.proofs.lemmas.Option.{slice_get_read}
 use Rattle.network.specs.Mail.{Mail}
 use Rattle.network.specs.NumberedMessages.{at_number}
@@ -23,35 +23,32 @@ pub respond-requires-clause-case : goal.respond-requires-clause-case
 respond-requires-clause-case c =
     let m : Machine = the_view c.self.inside in
     let message = c.in-Some.message.now in
-    let there = subst (λ (k : Machine). at_number c.args.number k.mail.messages ≡ Some message) c.self.view_is
-    (sym c.in-Some.ensures.value) in
+    let there = c.in-Some.ensures.value in
     let part = c.index_mut.result.now in
     let here = slice_get_read c.self.inside.cores.items (length c.self.inside.cores.items) c.in-Core.core part refl
-    (omega (arith, c.if-at-len.false, c.len.ensures)) c.index_mut.ensures.value in
+    (omega (arith, c.if-core-len.true, c.len.ensures)) c.index_mut.ensures.value in
     core_has m _ c.self.view_is c.requires c.args.number message there c.in-Core.core c.in-Core.is part here
 
 pub respond-requires-clause-endpoints : goal.respond-requires-clause-endpoints
 respond-requires-clause-endpoints c =
     let m : Machine = the_view c.self.inside in
     let message = c.in-Some.message.now in
-    let there = subst (λ (k : Machine). at_number c.args.number k.mail.messages ≡ Some message) c.self.view_is
-    (sym c.in-Some.ensures.value) in
+    let there = c.in-Some.ensures.value in
     let part = c.index_mut.result.now in
     let here = slice_get_read c.self.inside.cores.items (length c.self.inside.cores.items) c.in-Core.core part refl
-    (omega (arith, c.if-at-len.false, c.len.ensures)) c.index_mut.ensures.value in
+    (omega (arith, c.if-core-len.true, c.len.ensures)) c.index_mut.ensures.value in
     fitted_reaction m.config c.self.inside.flight c.self.inside.cores.items c.self.inside.records.items _
     c.self.invariant.0 (core_table part message)
     (core_endpoints m _ c.self.view_is c.requires c.args.number message there c.in-Core.core c.in-Core.is part here)
 
-pub invariant_of-self-in-Core : goal.invariant_of-self-in-Core
-invariant_of-self-in-Core c =
+pub invariant_of-self-then-core-len : goal.invariant_of-self-then-core-len
+invariant_of-self-then-core-len c =
     let m : Machine = the_view c.self.inside in
     let message = c.in-Some.message.now in
-    let there = subst (λ (k : Machine). at_number c.args.number k.mail.messages ≡ Some message) c.self.view_is
-    (sym c.in-Some.ensures.value) in
+    let there = c.in-Some.ensures.value in
     let part = c.index_mut.result.now in
     let here = slice_get_read c.self.inside.cores.items (length c.self.inside.cores.items) c.in-Core.core part refl
-    (omega (arith, c.if-at-len.false, c.len.ensures)) c.index_mut.ensures.value in
+    (omega (arith, c.if-core-len.true, c.len.ensures)) c.index_mut.ensures.value in
     let kept = subst (λ (x : Answer × CoreState × Mail). x.1.open_op ≡ part.open_op)
     (sym (c.in_ok-response-in-Core.ensures.done c.args.number))
     (kept_open part m.mail _ (core_only part message c.self.inside.flight.capacity m.mail c.args.number)) in
@@ -66,22 +63,20 @@ pub respond-requires-in-Bank-clause-case : goal.respond-requires-in-Bank-clause-
 respond-requires-in-Bank-clause-case c =
     let m : Machine = the_view c.self.inside in
     let message = c.in-Some.message.now in
-    let there = subst (λ (k : Machine). at_number c.args.number k.mail.messages ≡ Some message) c.self.view_is
-    (sym c.in-Some.ensures.value) in
+    let there = c.in-Some.ensures.value in
     let part = c.index_mut-in-Bank.result.now in
     let here = slice_get_read c.self.inside.banks.items (length c.self.inside.banks.items) c.in-Bank.bank part refl
-    (omega (arith, c.if-at-len-2.false, c.len-in-Bank.ensures)) c.index_mut-in-Bank.ensures.value in
+    (omega (arith, c.if-bank-len.true)) c.index_mut-in-Bank.ensures.value in
     bank_has m _ c.self.view_is c.requires c.args.number message there c.in-Bank.bank c.in-Bank.is part here
 
 pub respond-requires-in-Bank-clause-endpoints : goal.respond-requires-in-Bank-clause-endpoints
 respond-requires-in-Bank-clause-endpoints c =
     let m : Machine = the_view c.self.inside in
     let message = c.in-Some.message.now in
-    let there = subst (λ (k : Machine). at_number c.args.number k.mail.messages ≡ Some message) c.self.view_is
-    (sym c.in-Some.ensures.value) in
+    let there = c.in-Some.ensures.value in
     let part = c.index_mut-in-Bank.result.now in
     let here = slice_get_read c.self.inside.banks.items (length c.self.inside.banks.items) c.in-Bank.bank part refl
-    (omega (arith, c.if-at-len-2.false, c.len-in-Bank.ensures)) c.index_mut-in-Bank.ensures.value in
+    (omega (arith, c.if-bank-len.true)) c.index_mut-in-Bank.ensures.value in
     fitted_reaction m.config c.self.inside.flight c.self.inside.cores.items c.self.inside.records.items _
     c.self.invariant.0 (bank_table part message)
     (bank_endpoints m _ c.self.view_is c.requires c.args.number message there c.in-Bank.bank c.in-Bank.is part here)
@@ -91,11 +86,10 @@ pub returns-in_err-response-in-Dram-clause-wanted :
 returns-in_err-response-in-Dram-clause-wanted c =
     let m : Machine = the_view c.self.inside in
     let message = c.in-Some.message.now in
-    let there = subst (λ (k : Machine). at_number c.args.number k.mail.messages ≡ Some message) c.self.view_is
-    (sym c.in-Some.ensures.value) in
+    let there = c.in-Some.ensures.value in
     let part = c.index_mut-in-Dram.result.now in
     let here = slice_get_read c.self.inside.drams.items (length c.self.inside.drams.items) c.in-Dram.bank part refl
-    (omega (arith, c.if-at-len-3.false, c.len-in-Dram.ensures)) c.index_mut-in-Dram.ensures.value in
+    (omega (arith, c.if-bank-len-2.true)) c.index_mut-in-Dram.ensures.value in
     event_wanted m (λ x. m.cores) (λ x. m.banks) (λ x. set m.drams c.in-Dram.bank x) part
     refl refl (set_same m.drams c.in-Dram.bank part here)
     Any (λ n. reacted n m.mail c.args.number (dram_table part message))
@@ -110,11 +104,10 @@ pub returns-in_err-response-in-Dram-clause-store :
 returns-in_err-response-in-Dram-clause-store c =
     let m : Machine = the_view c.self.inside in
     let message = c.in-Some.message.now in
-    let there = subst (λ (k : Machine). at_number c.args.number k.mail.messages ≡ Some message) c.self.view_is
-    (sym c.in-Some.ensures.value) in
+    let there = c.in-Some.ensures.value in
     let part = c.index_mut-in-Dram.result.now in
     let here = slice_get_read c.self.inside.drams.items (length c.self.inside.drams.items) c.in-Dram.bank part refl
-    (omega (arith, c.if-at-len-3.false, c.len-in-Dram.ensures)) c.index_mut-in-Dram.ensures.value in
+    (omega (arith, c.if-bank-len-2.true)) c.index_mut-in-Dram.ensures.value in
     dram_asks m _ c.self.view_is c.requires c.args.number message there c.in-Dram.bank c.in-Dram.is part here _
     c.in_err-response-in-Dram.ensures.sure
 
@@ -122,11 +115,10 @@ pub returns-in_ok-response-in-Core-clause-done : goal.returns-in_ok-response-in-
 returns-in_ok-response-in-Core-clause-done c =
     let m : Machine = the_view c.self.inside in
     let message = c.in-Some.message.now in
-    let there = subst (λ (k : Machine). at_number c.args.number k.mail.messages ≡ Some message) c.self.view_is
-    (sym c.in-Some.ensures.value) in
+    let there = c.in-Some.ensures.value in
     let part = c.index_mut.result.now in
     let here = slice_get_read c.self.inside.cores.items (length c.self.inside.cores.items) c.in-Core.core part refl
-    (omega (arith, c.if-at-len.false, c.len.ensures)) c.index_mut.ensures.value in
+    (omega (arith, c.if-core-len.true, c.len.ensures)) c.index_mut.ensures.value in
     event_done m (λ x. set m.cores c.in-Core.core x) (λ x. m.banks) (λ x. m.drams) part
     (set_same m.cores c.in-Core.core part here) refl refl
     (SameOpen part) (λ n. reacted n m.mail c.args.number (core_table part message))
@@ -143,11 +135,10 @@ pub returns-in_ok-response-in-Bank-clause-done : goal.returns-in_ok-response-in-
 returns-in_ok-response-in-Bank-clause-done c =
     let m : Machine = the_view c.self.inside in
     let message = c.in-Some.message.now in
-    let there = subst (λ (k : Machine). at_number c.args.number k.mail.messages ≡ Some message) c.self.view_is
-    (sym c.in-Some.ensures.value) in
+    let there = c.in-Some.ensures.value in
     let part = c.index_mut-in-Bank.result.now in
     let here = slice_get_read c.self.inside.banks.items (length c.self.inside.banks.items) c.in-Bank.bank part refl
-    (omega (arith, c.if-at-len-2.false, c.len-in-Bank.ensures)) c.index_mut-in-Bank.ensures.value in
+    (omega (arith, c.if-bank-len.true)) c.index_mut-in-Bank.ensures.value in
     event_done m (λ x. m.cores) (λ x. set m.banks c.in-Bank.bank x) (λ x. m.drams) part
     refl (set_same m.banks c.in-Bank.bank part here) refl
     Any (λ n. reacted n m.mail c.args.number (bank_table part message))
@@ -164,11 +155,10 @@ pub returns-in_ok-response-in-Dram-clause-done : goal.returns-in_ok-response-in-
 returns-in_ok-response-in-Dram-clause-done c =
     let m : Machine = the_view c.self.inside in
     let message = c.in-Some.message.now in
-    let there = subst (λ (k : Machine). at_number c.args.number k.mail.messages ≡ Some message) c.self.view_is
-    (sym c.in-Some.ensures.value) in
+    let there = c.in-Some.ensures.value in
     let part = c.index_mut-in-Dram.result.now in
     let here = slice_get_read c.self.inside.drams.items (length c.self.inside.drams.items) c.in-Dram.bank part refl
-    (omega (arith, c.if-at-len-3.false, c.len-in-Dram.ensures)) c.index_mut-in-Dram.ensures.value in
+    (omega (arith, c.if-bank-len-2.true)) c.index_mut-in-Dram.ensures.value in
     event_done m (λ x. m.cores) (λ x. m.banks) (λ x. set m.drams c.in-Dram.bank x) part
     refl refl (set_same m.drams c.in-Dram.bank part here)
     Any (λ n. reacted n m.mail c.args.number (dram_table part message))

@@ -16,5 +16,4 @@ mod RunSteps
 mod Runs
 mod Throughout
 mod Told
-mod WaitMarks
 pub mod Lemmas

@@ -57,10 +57,6 @@ module _ (core : CoreState) where
   abbrev pub SameOpen : CoreState → Type 0
   SameOpen after = after.open_op ≡ core.open_op
 
-  -- so is whether its request is out
-  abbrev pub Unmoved : CoreState → Type 0
-  Unmoved after = (after.open_op ≡ core.open_op) × (after.is_out ≡ core.is_out)
-
   abbrev pub OneLess : CoreState → Type 0
   OneLess after = owed_for after.open_op + 1 ≡ owed_for core.open_op
 
@@ -109,45 +105,37 @@ module _ (core : CoreState) where
   kept_open mail (Makes done after sent) only = only.1
   kept_open mail (Completes done after) only = absurd only
 
-  pub kept_unmoved : (mail : Mail) (change : Change CoreState) → Only Unmoved (λ after. ⊥) change →
-      Unmoved (applied core mail change).1
-  kept_unmoved mail (Keeps why) only = (refl, refl)
-  kept_unmoved mail Exhausts only = (refl, refl)
-  kept_unmoved mail (Drops left) only = (refl, refl)
-  kept_unmoved mail (Makes done after sent) only = only.1
-  kept_unmoved mail (Completes done after) only = absurd only
-
   -- the core's time goes on
-  pub advance_only : (mail : Mail) → Only Unmoved (λ after. ⊥) (advanced mail (core_table.advance core))
+  pub advance_only : (mail : Mail) → Only SameOpen (λ after. ⊥) (advanced mail (core_table.advance core))
   advance_only mail = by_test (fits (core.pts + 1))
     where
-      by_test : (b : Bool) → Only Unmoved (λ after. ⊥)
+      by_test : (b : Bool) → Only SameOpen (λ after. ⊥)
           (advanced mail (cond b (Some tt, record core { pts = core.pts + 1 }) (None, core)))
-      by_test true = (((λ records. refl), refl), (refl, refl))
+      by_test true = (((λ records. refl), refl), refl)
       by_test false = tt
 
   -- a copy leaves the core's cache
-  pub evict_only : (capacity : ℕ) (mail : Mail) (line : ℕ) → Only Unmoved (λ after. ⊥)
+  pub evict_only : (capacity : ℕ) (mail : Mail) (line : ℕ) → Only SameOpen (λ after. ⊥)
       (copy_evicted capacity mail (core_table.evict core line))
   evict_only capacity mail line = by_copy (copy_of core.cache line)
     where
-      by_state : (copy : LineCopy) (b : Bool) → Only Unmoved (λ after. ⊥)
+      by_state : (copy : LineCopy) (b : Bool) → Only SameOpen (λ after. ⊥)
           (copy_evicted capacity mail (
             Ok (cond b (Some (to_bank core line (body.FlushRep (words_of_copy copy))))
                 None),
             record core { cache = without_copy core.cache line },
           ))
       by_state copy true =
-          only_tested Unmoved (λ after. ⊥) (has_capacity capacity mail) _ (((λ records. refl), refl), (refl, refl))
-      by_state copy false = (((λ records. refl), refl), (refl, refl))
+          only_tested SameOpen (λ after. ⊥) (has_capacity capacity mail) _ (((λ records. refl), refl), refl)
+      by_state copy false = (((λ records. refl), refl), refl)
 
-      by_pin : (copy : LineCopy) (b : Bool) → Only Unmoved (λ after. ⊥)
+      by_pin : (copy : LineCopy) (b : Bool) → Only SameOpen (λ after. ⊥)
           (copy_evicted capacity mail
           (sent_back core line (cond b (Err not_left.Pinned, core.cache) (Ok copy, without_copy core.cache line))))
       by_pin copy true = ((λ records. refl), refl)
       by_pin copy false = by_state copy (is_exclusive copy.state)
 
-      by_copy : (o : Option LineCopy) → Only Unmoved (λ after. ⊥)
+      by_copy : (o : Option LineCopy) → Only SameOpen (λ after. ⊥)
           (copy_evicted capacity mail (sent_back core line (left_cache core.cache line (pinned_line core) o)))
       by_copy None = ((λ records. refl), refl)
       by_copy (Some copy) = by_pin copy (is_pinned (pinned_line core) line)

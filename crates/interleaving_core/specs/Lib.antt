@@ -8,4 +8,3 @@ pub mod Midway
 pub mod Reservation
 pub mod SentMessages
 pub mod StepAnswers
-pub mod WaitMask

@@ -16,7 +16,6 @@ mod records;
 mod reopening;
 mod steps;
 pub mod system;
-mod waiting;
 
 pub use machine_table::{Answer, Config, Counts, Event, OpenError, Refusal};
 pub use network::{Body, LineNo, Message, MsgNo, Node, TimedLine, Words};

@@ -1,13 +1,11 @@
 //! What is looked up in a machine.
-ghost use Rattle.std.specs.Prelude.{◌≡◌, ◌<◌, ◌≤◌, false, IfOk, IfSome, MatchOption, length, map, slice_get, Some};
+ghost use Rattle.std.specs.Prelude.{◌≡◌, ◌<◌, IfOk, length, map, slice_get, Some};
 ghost use Rattle.network.specs.NumberedMessages.{IsRising};
 ghost use Rattle.line_sets.specs.Rising.{risen};
 ghost use Rattle.interleaving_core.specs.LookUps.{copies, entries, free_copies, is_request, make_room, open_op};
 ghost use Rattle.interleaving_core.specs.LookUps.{room_at, victim};
-ghost use Rattle.interleaving_core.specs.WaitMask.{AllWait, waits_at};
 
 use crate::machine_state::MachineState;
-use crate::waiting::next_clear;
 use network::{Body, LineNo, Message, MsgNo, Node};
 use physiological_order::{Op, Record};
 use std::alloc::{AllocError, Global};
@@ -31,24 +29,6 @@ impl MachineState {
         ensures { result ≡ open_op self.now core }
     {
         self.cores.get(core as usize)?.open_op()
-    }
-
-    // The first core from this number on that doesn't wait for an answer to its request.
-    #[inline(always)]
-    pub(crate) fn next_awake(&self, from: u32) -> Option<u32>
-        ensures next { MatchOption result (AllWait self.now from self.now.config.cores) (λ core.
-            (from ≤ core) × (core < self.now.config.cores) × (waits_at self.now core ≡ false)
-            × AllWait self.now from core) }
-        ensures few { IfSome result (λ core. core < 64) }
-    {
-        if from >= self.config.cores {
-            return None;
-        }
-        let core = next_clear(self.waiting, from);
-        if core >= self.config.cores {
-            return None;
-        }
-        Some(core)
     }
 
     // The copy to evict from a core's cache to make a place for a line, where there is none.

@@ -16,8 +16,6 @@ pub(crate) struct MachineState {
     pub(crate) config: Config,
     pub(crate) opening: Memory,
     pub(crate) cores: Vec<Core>,
-    // A bit for each core that waits for an answer to its request.
-    pub(crate) waiting: u64,
     pub(crate) banks: Vec<Bank>,
     pub(crate) drams: Vec<Dram>,
     pub(crate) flight: InFlight,
@@ -33,7 +31,6 @@ impl Model for MachineState {
     ghost use Rattle.std.specs.Ordering.{nat_cmp};
     ghost use Rattle.machine_table.specs.Machine.{Machine};
     ghost use Rattle.interleaving_core.specs.Reservation.{IsFitted};
-    ghost use Rattle.interleaving_core.specs.WaitMask.{IsMask};
 
     ghost Value = { Machine };
 
@@ -41,8 +38,6 @@ impl Model for MachineState {
 
     ghost view = { λ a. record { config = a.config; opening = a.opening; cores = a.cores.items; banks = a.banks.items; drams = a.drams.items; mail = a.flight.mail; issued = a.issued.items; records = a.records.items; is_stopped = a.is_stopped } };
 
-    // The messages in flight are those of this machine, and there is capacity for the record of each open operation;
-    // the mask has the bits of the cores that wait.
-    ghost invariant = { λ a. IsFitted a.config a.flight a.cores.items a.records.items (vec_capacity a.records)
-        × IsMask a.config.cores a.cores.items a.waiting };
+    // The messages in flight are those of this machine, and there is capacity for the record of each open operation.
+    ghost invariant = { λ a. IsFitted a.config a.flight a.cores.items a.records.items (vec_capacity a.records) };
 }

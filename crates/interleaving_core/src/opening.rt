@@ -37,7 +37,6 @@ impl MachineState {
             config,
             opening: memory,
             cores,
-            waiting: 0,
             banks,
             drams,
             flight,

@@ -43,7 +43,6 @@ impl MachineState {
             config,
             opening: memory,
             cores,
-            waiting: 0,
             banks,
             drams,
             flight,

@@ -12,7 +12,6 @@ use crate::operations;
 use crate::plain_answer::{PlainAnswer, answer_in, answer_of, plain_of, stop_after};
 use crate::reactions::{conclude, respond};
 use crate::records::{keep, reserve, stop};
-use crate::waiting::noted;
 use machine_table::{Answer, Event, Refusal};
 use network::{LineNo, MsgNo, Node};
 use physiological_order::Op;
@@ -59,7 +58,6 @@ impl MachineState {
         let answer = operations::attempt(&mut self.cores[at], &mut self.flight, core, count);
         keep(&mut self.records, &answer);
         stop(&mut self.is_stopped, &answer);
-        self.waiting = noted(self.waiting, core, &self.cores[at]);
         plain_of(&answer)
     }
 
@@ -127,7 +125,6 @@ impl MachineState {
             Node::Core(core) if (core as usize) < self.cores.len() => {
                 let at = core as usize;
                 let response = respond(&mut self.cores[at], &self.flight, message)?;
-                self.waiting = noted(self.waiting, core, &self.cores[at]);
                 Ok(conclude(&mut self.flight, &mut self.is_stopped, number, response))
             }
             Node::Bank(bank) if (bank as usize) < self.banks.len() => {

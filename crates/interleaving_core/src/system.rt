@@ -1,6 +1,6 @@
 //! The machine that users drive, and what is always true of it.
 ghost use Rattle.std.specs.Prelude.{◌≡◌, ◌≢◌, ◌≤◌, ◌<◌, ◌++◌, ◌∷◌, vec_capacity, [], false, true, IfOk, IfErr};
-ghost use Rattle.std.specs.Prelude.{IfSome, IsSome, IsTrue, MatchOption, OnErr, OnOk, length, map};
+ghost use Rattle.std.specs.Prelude.{IfSome, IsSome, IsTrue, OnErr, OnOk, length, map};
 ghost use Rattle.std.specs.Prelude.{slice_get, slice_index_or, List, Some, ℕ};
 ghost use Rattle.physiological_order.specs.Order.{flat, Legal, Arrangement, of_core, replay_end};
 ghost use Rattle.physiological_order.specs.StaleHits.{RisesByNumber};
@@ -15,7 +15,6 @@ ghost use Rattle.machine_theorem.specs.Coherence.{owners, coherent};
 ghost use Rattle.machine_theorem.specs.Kept.{Invariant};
 ghost use Rattle.interleaving_core.specs.LookUps.{copies, entries, free_copies, make_room, open_op, victim};
 ghost use Rattle.interleaving_core.specs.Reservation.{completes};
-ghost use Rattle.interleaving_core.specs.WaitMask.{AllWait, waits_at};
 ghost use Rattle.interleaving_core.specs.Midway.{IsMidway};
 ghost use Rattle.interleaving_core.specs.StepAnswers.{Stepped, Ran, asks_memory};
 
@@ -220,18 +219,6 @@ impl System {
         ensures { result ≡ open_op self.now core }
     {
         self.state.open_op(core)
-    }
-
-    /// The first core from this number on that doesn't wait for an answer to its request: it has no open operation, or
-    /// one whose request isn't out. None, if all cores from that number on wait. No core is asked.
-    #[inline(always)]
-    pub fn next_awake(&self, from: u32) -> Option<u32>
-        ensures next { MatchOption result (AllWait self.now from self.now.config.cores) (λ core.
-            (from ≤ core) × (core < self.now.config.cores) × (waits_at self.now core ≡ false)
-            × AllWait self.now from core) }
-        ensures few { IfSome result (λ core. core < 64) }
-    {
-        self.state.next_awake(from)
     }
 
     /// The copy to evict from a core's cache to make a place for a line, where there is none: the least recently used

@@ -73,8 +73,6 @@ pub(crate) enum Step {
     Room(u64, Option<(u32, u64)>),
     /// A core has an open operation, and its request is out.
     Open(u32, bool, bool),
-    /// The first core from a number on that doesn't wait for an answer to its request.
-    Awake(u32, Option<u32>),
     /// The lines of a core's copies.
     Copies(u32, &'static [u64]),
     /// The lines of a core's copies that may be evicted, one by one.

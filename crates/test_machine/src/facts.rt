@@ -190,7 +190,6 @@ fn has_waiting(alloc: Global, system: &System, step: &Step) -> Result<bool, Allo
         Step::Open(core, pending, is_out) => {
             Ok(open_of(system.open_op(*core)) == (*pending, *is_out))
         }
-        Step::Awake(from, core) => Ok(system.next_awake(*from) == *core),
         _ => has_lists(alloc, system, step),
     }
 }

@@ -3,8 +3,6 @@
 #![tactic(auto)]
 
 #[cfg(test)]
-mod awake;
-#[cfg(test)]
 mod candidates;
 #[cfg(test)]
 mod evictions;

@@ -1,5 +1,5 @@
 -- The entry of a seeded turn's list that is made.
-use Rattle.std.proofs.Common.{◌≡◌, ◌+◌, ◌-◌, ◌%◌, ◌<◌, ℕ, zero, suc, nat_lt, Bool, true, false, List, [], ◌∷◌, ◌++◌}
+use Rattle.std.proofs.Common.{◌≡◌, ◌+◌, ◌%◌, ◌<◌, ℕ, suc, nat_lt, Bool, true, false, List, [], ◌∷◌, ◌++◌}
 use Rattle.std.proofs.Common.{length, map, get_or, Option, Some, None, refl, sym, ap, ◌∙◌, arith}
 use Rattle.std.proofs.Common.{◌≢◌}
 use Rattle.std.specs.Prelude.{◌≤◌, slice_get}
@@ -11,7 +11,6 @@ use Rattle.std.proofs.lemmas.List.{get_or_past}
 use Rattle.std.proofs.lemmas.List.FromFn.{get_or-map-range_with_len, length-map-range_with_len}
 use Rattle.std.proofs.lemmas.Option.{get_or_from_slice_get, slice_get_within, slice_get-get_or}
 use Rattle.interleaving_core.specs.LookUps.{open_op}
-use Rattle.interleaving_core.specs.WaitMask.{AllWait, is_sent}
 use Rattle.physiological_order.specs.declared.operation.Op.{Op}
 use Rattle.trace_lines.specs.declared.steps.Step.{Step}
 use Rattle.trace_lines.specs.declared.steps.Step.TheVariants as step
@@ -109,11 +108,6 @@ one_at_most core None (Some step.Advance) = omega arith
 one_at_most core (Some (op, true)) next = omega arith
 one_at_most core (Some (op, false)) next = omega arith
 
-no_step : (core : ℕ) (o : Option (Op × Bool)) (next : Option Step) → is_sent o ≡ true → core_step core o next ≡ []
-no_step core None next h = absurd (false≢true h)
-no_step core (Some (op, true)) next h = refl
-no_step core (Some (op, false)) next h = absurd (false≢true h)
-
 module _ {P : Type 0} (acts : Acts P) (m : Machine) (programs : List P) where
   abbrev step_of : ℕ → List (Choice Seeded)
   step_of core = core_step core (open_op m core) (next_in acts programs core)
@@ -121,28 +115,6 @@ module _ {P : Type 0} (acts : Acts P) (m : Machine) (programs : List P) where
   pub one_core_more : (core : ℕ) → length (core_steps acts m programs (core + 1)) ≡
       length (core_steps acts m programs core) + length (step_of core)
   one_core_more core = length_more step_of core
-
-  abbrev steps_below : ℕ → ℕ
-  steps_below cores = length (core_steps acts m programs cores)
-
-  -- cores that wait do nothing
-  waiting_add_none : (from more : ℕ) → AllWait m from (from + more) → steps_below (from + more) ≡ steps_below from
-  waiting_add_none from zero waits = ap steps_below (let e : from + 0 ≡ from = omega arith in e)
-  waiting_add_none from (suc more) waits =
-      let core : ℕ = from + more in
-      let here = waits core (omega arith) (omega arith) in
-      let none = ap length (no_step core (open_op m core) (next_in acts programs core) here) in
-      let one = one_core_more core in
-      let rest = waiting_add_none from more (λ c above below. waits c above (omega (arith, below))) in
-      let next : from + suc more ≡ core + 1 = omega arith in
-      ap steps_below next ∙ omega (arith, one, none, rest)
-
-  pub waiting_do_none : (from to : ℕ) → from ≤ to → AllWait m from to →
-      length (core_steps acts m programs to) ≡ length (core_steps acts m programs from)
-  waiting_do_none from to above waits =
-      let apart : from + (to - from) ≡ to = omega (arith, above) in
-      ap steps_below (sym apart)
-      ∙ waiting_add_none from (to - from) (λ c over below. waits c over (omega (arith, below, apart)))
 
   -- what a core does stands behind what the cores below it do
   pub step_found : (cores core place left : ℕ) (choice : Chosen) → core < cores →

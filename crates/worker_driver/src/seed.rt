@@ -236,7 +236,7 @@ fn steps_next<P: Program>(system: &System, programs: &mut [P], core: u32) -> u32
     u32::from(next_in(programs, core).is_some())
 }
 
-// How many cores do something next. A machine has at most 64. Those that wait for an answer are passed by.
+// How many cores do something next. A machine has at most 64.
 fn count_ready<P: Program>(system: &System, programs: &mut [P]) -> u32
     ensures count { result ≡ length (core_steps P.acts system.now programs.old
         system.now.config.cores) }
@@ -244,10 +244,8 @@ fn count_ready<P: Program>(system: &System, programs: &mut [P]) -> u32
     ensures same { programs.new ≡ programs.old }
 {
     let mut count = 0;
-    let mut from = 0;
-    while let Some(core) = system.next_awake(from) {
+    for core in 0..system.cores() {
         count += steps_next(system, programs, core);
-        from = core + 1;
     }
     count
 }
@@ -276,14 +274,12 @@ fn step_at<P: Program>(system: &System, programs: &mut [P], place: u32) -> Choic
     ensures same { programs.new ≡ programs.old }
 {
     let mut left = place;
-    let mut from = 0;
-    while let Some(core) = system.next_awake(from) {
+    for core in 0..system.cores() {
         let steps = steps_next(system, programs, core);
         if left < steps {
             return sure_step(system, programs, core);
         }
         left -= steps;
-        from = core + 1;
     }
     unreachable!()
 }

@@ -1,13 +1,9 @@
-use Rattle.std.proofs.Common.{◌≡◌, ◌≤◌, ◌+◌, ◌-◌, length}
+use Rattle.std.proofs.Common.{◌≡◌, ◌+◌, length}
 use Rattle.worker_driver.specs.SeedSchedule.{core_steps}
 use Rattle.worker_driver.proofs.seed.step_at.Given as goal
 
 abbrev pub invariant-loop-core : goal.invariant-loop-core
 invariant-loop-core g l = record {
-  passed : length (core_steps g.P.Program.acts l.system l.programs l.from) + l.left ≡ l.place;
-  inside : l.from ≤ l.system.config.cores;
+  passed : length (core_steps g.P.Program.acts l.system l.programs l.core) + l.left ≡ l.place;
   same : l.programs ≡ l.fn.programs;
 }
-
-abbrev pub decreases-loop-core : goal.decreases-loop-core
-decreases-loop-core g l = l.system.config.cores - l.from

@@ -16,7 +16,6 @@ use Rattle.interleaving_core.proofs.Only.{OneLess, SameOpen, attempt_only, balan
 use Rattle.interleaving_core.proofs.OpenCounts.{owed_set}
 use Rattle.interleaving_core.proofs.Endpoints.{still_fitted}
 use Rattle.interleaving_core.proofs.Parts.{core_below, core_banks}
-use Rattle.interleaving_core.proofs.WaitMarks.{marked_seen}
 use Rattle.interleaving_core.proofs.machine_state.MachineState.attempt.Goals as goal
 
 pub attempt-answer-requires-clause-number : goal.attempt-answer-requires-clause-number
@@ -26,7 +25,7 @@ attempt-answer-requires-clause-number c =
     c.index_mut.result.now refl (omega (arith, c.if-at-len.false, c.len.ensures)) c.index_mut.ensures.value in
     let below = core_below m (subst Invariant (sym c.self.view_is) c.requires).whole c.args.core
     c.index_mut.result.now here in
-    omega (arith, below, c.self.invariant.0.cores_are)
+    omega (arith, below, c.self.invariant.cores_are)
 
 pub attempt-answer-requires-clause-banks : goal.attempt-answer-requires-clause-banks
 attempt-answer-requires-clause-banks c =
@@ -34,7 +33,7 @@ attempt-answer-requires-clause-banks c =
     let here = slice_get_read c.self.inside.cores.items (length c.self.inside.cores.items) c.args.core
     c.index_mut.result.now refl (omega (arith, c.if-at-len.false, c.len.ensures)) c.index_mut.ensures.value in
     core_banks m (subst Invariant (sym c.self.view_is) c.requires).whole c.args.core c.index_mut.result.now here
-    ∙ sym c.self.invariant.0.banks_are
+    ∙ sym c.self.invariant.banks_are
 
 pub keep-requires : goal.keep-requires
 keep-requires c =
@@ -47,7 +46,7 @@ keep-requires c =
     (attempt_only c.index_mut.result.now c.args.core c.len-count.result c.self.inside.flight.capacity
     c.self.inside.flight.mail)) in
     let all = owed_set c.self.inside.cores.items c.args.core c.index_mut.result.now c.attempt-answer.new.core here in
-    omega (arith, count, all, c.self.invariant.0.reserved)
+    omega (arith, count, all, c.self.invariant.reserved)
 
 pub invariant_of-self : goal.invariant_of-self
 invariant_of-self c =
@@ -60,13 +59,10 @@ invariant_of-self c =
     (attempt_only c.index_mut.result.now c.args.core c.len-count.result c.self.inside.flight.capacity
     c.self.inside.flight.mail)) in
     let all = owed_set c.self.inside.cores.items c.args.core c.index_mut.result.now c.attempt-answer.new.core here in
-    let kept = ap length c.keep.ensures.records in (
-      still_fitted c.self.inside.config c.self.inside.flight c.self.inside.cores.items c.self.inside.records.items _
-          c.self.invariant.0 _ _ _ _ c.attempt-answer.ensures.set_up
-          (omega (arith, count, all, kept, c.keep.ensures.capacity, c.self.invariant.0.reserved)),
-      marked_seen _ _ _ c.self.invariant.1 c.args.core _ _ _ _ here c.index.ensures c.noted-self-inside.ensures.here
-          c.noted-self-inside.ensures.others,
-    )
+    let kept = ap length c.keep.ensures.records in
+    still_fitted c.self.inside.config c.self.inside.flight c.self.inside.cores.items c.self.inside.records.items _
+    c.self.invariant _ _ _ _ c.attempt-answer.ensures.set_up
+    (omega (arith, count, all, kept, c.keep.ensures.capacity, c.self.invariant.reserved))
 
 pub returns : goal.returns
 returns c =
@@ -78,7 +74,7 @@ returns c =
     let done = c.attempt-answer.ensures.done
     ∙ ap (λ (n : ℕ). applied core m.mail (attempt c.args.core n c.self.inside.flight.capacity m.mail core)) counted
     ∙ ap (λ (n : ℕ). applied core m.mail (attempt c.args.core (length m.records) n m.mail core))
-    c.self.invariant.0.capacity_is in
+    c.self.invariant.capacity_is in
     told_in _ m.records c.attempt-answer.result c.plain_of.result _ c.plain_of.ensures c.keep.ensures.records
     (made_so m (λ x. set m.cores c.args.core x) (λ x. m.banks) (λ x. m.drams) core
     (set_same m.cores c.args.core core here) refl refl

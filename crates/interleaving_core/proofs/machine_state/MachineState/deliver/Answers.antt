@@ -16,7 +16,6 @@ use Rattle.interleaving_core.proofs.Endpoints.{bank_delivers, bank_endpoints, ba
 use Rattle.interleaving_core.proofs.Endpoints.{core_has, dram_asks, dram_delivers, fitted_reaction, still_fitted}
 use Rattle.interleaving_core.proofs.Only.{Any, SameOpen, core_only, kept_open, reacted_only}
 use Rattle.interleaving_core.proofs.OpenCounts.{owed_kept}
-use Rattle.interleaving_core.proofs.WaitMarks.{marked_seen}
 use Rattle.interleaving_core.proofs.machine_state.MachineState.deliver.Goals as goal
 
 pub respond-requires-clause-case : goal.respond-requires-clause-case
@@ -38,7 +37,7 @@ respond-requires-clause-endpoints c =
     let here = slice_get_read c.self.inside.cores.items (length c.self.inside.cores.items) c.in-Core.core part refl
     (omega (arith, c.if-core-len.true, c.len.ensures)) c.index_mut.ensures.value in
     fitted_reaction m.config c.self.inside.flight c.self.inside.cores.items c.self.inside.records.items _
-    c.self.invariant.0 (core_table part message)
+    c.self.invariant (core_table part message)
     (core_endpoints m _ c.self.view_is c.requires c.args.number message there c.in-Core.core c.in-Core.is part here)
 
 pub invariant_of-self-then-core-len : goal.invariant_of-self-then-core-len
@@ -52,12 +51,9 @@ invariant_of-self-then-core-len c =
     let kept = subst (λ (x : Answer × CoreState × Mail). x.1.open_op ≡ part.open_op)
     (sym (c.in_ok-response-in-Core.ensures.done c.args.number))
     (kept_open part m.mail _ (core_only part message c.self.inside.flight.capacity m.mail c.args.number)) in
-    let same = owed_kept m.cores c.in-Core.core part c.respond.new.part here kept in (
-      still_fitted m.config c.self.inside.flight c.self.inside.cores.items c.self.inside.records.items _
-          c.self.invariant.0 _ _ _ _ c.conclude.ensures.set_up (omega (arith, same, c.self.invariant.0.reserved)),
-      marked_seen _ _ _ c.self.invariant.1 c.in-Core.core _ _ _ _ here c.index.ensures c.noted-self-inside.ensures.here
-          c.noted-self-inside.ensures.others,
-    )
+    let same = owed_kept m.cores c.in-Core.core part c.respond.new.part here kept in
+    still_fitted m.config c.self.inside.flight c.self.inside.cores.items c.self.inside.records.items _
+    c.self.invariant _ _ _ _ c.conclude.ensures.set_up (omega (arith, same, c.self.invariant.reserved))
 
 pub respond-requires-in-Bank-clause-case : goal.respond-requires-in-Bank-clause-case
 respond-requires-in-Bank-clause-case c =
@@ -78,7 +74,7 @@ respond-requires-in-Bank-clause-endpoints c =
     let here = slice_get_read c.self.inside.banks.items (length c.self.inside.banks.items) c.in-Bank.bank part refl
     (omega (arith, c.if-bank-len.true)) c.index_mut-in-Bank.ensures.value in
     fitted_reaction m.config c.self.inside.flight c.self.inside.cores.items c.self.inside.records.items _
-    c.self.invariant.0 (bank_table part message)
+    c.self.invariant (bank_table part message)
     (bank_endpoints m _ c.self.view_is c.requires c.args.number message there c.in-Bank.bank c.in-Bank.is part here)
 
 pub returns-in_err-response-in-Dram-clause-wanted :
@@ -94,7 +90,7 @@ returns-in_err-response-in-Dram-clause-wanted c =
     refl refl (set_same m.drams c.in-Dram.bank part here)
     Any (λ n. reacted n m.mail c.args.number (dram_table part message))
     (reacted_only m.config.messages m.mail c.args.number (dram_table part message))
-    c.self.inside.flight.capacity c.self.invariant.0.capacity_is _ c.self.view_is
+    c.self.inside.flight.capacity c.self.invariant.capacity_is _ c.self.view_is
     (λ n. deliver_message n c.args.number (at_number c.args.number n.mail.messages))
     (dram_delivers m _ c.self.view_is c.requires c.args.number message there c.in-Dram.bank c.in-Dram.is part here)
     _ (c.in_err-response-in-Dram.ensures.memory c.args.number)
@@ -123,7 +119,7 @@ returns-in_ok-response-in-Core-clause-done c =
     (set_same m.cores c.in-Core.core part here) refl refl
     (SameOpen part) (λ n. reacted n m.mail c.args.number (core_table part message))
     (core_only part message m.config.messages m.mail c.args.number)
-    c.self.inside.flight.capacity c.self.invariant.0.capacity_is _ c.self.view_is
+    c.self.inside.flight.capacity c.self.invariant.capacity_is _ c.self.view_is
     (λ n. deliver_message n c.args.number (at_number c.args.number n.mail.messages))
     (core_delivers m _ c.self.view_is c.requires c.args.number message there c.in-Core.core c.in-Core.is part here)
     (answer_of c.conclude.result) c.respond.new.part c.conclude.new.flight.mail
@@ -143,7 +139,7 @@ returns-in_ok-response-in-Bank-clause-done c =
     refl (set_same m.banks c.in-Bank.bank part here) refl
     Any (λ n. reacted n m.mail c.args.number (bank_table part message))
     (reacted_only m.config.messages m.mail c.args.number (bank_table part message))
-    c.self.inside.flight.capacity c.self.invariant.0.capacity_is _ c.self.view_is
+    c.self.inside.flight.capacity c.self.invariant.capacity_is _ c.self.view_is
     (λ n. deliver_message n c.args.number (at_number c.args.number n.mail.messages))
     (bank_delivers m _ c.self.view_is c.requires c.args.number message there c.in-Bank.bank c.in-Bank.is part here)
     (answer_of c.conclude-in-Bank.result) c.respond-in-Bank.new.part c.conclude-in-Bank.new.flight.mail
@@ -163,7 +159,7 @@ returns-in_ok-response-in-Dram-clause-done c =
     refl refl (set_same m.drams c.in-Dram.bank part here)
     Any (λ n. reacted n m.mail c.args.number (dram_table part message))
     (reacted_only m.config.messages m.mail c.args.number (dram_table part message))
-    c.self.inside.flight.capacity c.self.invariant.0.capacity_is _ c.self.view_is
+    c.self.inside.flight.capacity c.self.invariant.capacity_is _ c.self.view_is
     (λ n. deliver_message n c.args.number (at_number c.args.number n.mail.messages))
     (dram_delivers m _ c.self.view_is c.requires c.args.number message there c.in-Dram.bank c.in-Dram.is part here)
     (answer_of c.conclude-in-Dram.result) c.respond-in-Dram.new.part c.conclude-in-Dram.new.flight.mail

@@ -21,7 +21,7 @@ evict_entry-plain-requires c =
     (omega (arith, c.if-at-len.false, c.len.ensures)) c.index_mut.ensures.value in
     record {
       endpoints = fitted_ends m.config c.self.inside.flight c.self.inside.cores.items c.self.inside.records.items _
-          c.self.invariant.0 (λ a b. EvictedHasEndpoints a b (bank_table.evict part c.args.line).0)
+          c.self.invariant (λ a b. EvictedHasEndpoints a b (bank_table.evict part c.args.line).0)
           (evicted_endpoints m (subst Invariant (sym c.self.view_is) c.requires).whole c.args.bank
           part here c.args.line);
     }
@@ -36,8 +36,8 @@ returns c =
     (set_same m.banks c.args.bank part here) refl
     Any (λ n. entry_evicted n m.mail (bank_table.evict part c.args.line)) (entry_only part m.config.messages
     m.mail c.args.line)
-    c.self.inside.flight.capacity c.self.invariant.0.capacity_is _ c.self.view_is
+    c.self.inside.flight.capacity c.self.invariant.capacity_is _ c.self.view_is
     (λ n. evict_entry n c.args.bank c.args.line (slice_get n.banks c.args.bank))
     (ap (evict_entry m c.args.bank c.args.line) (sym here))
-    (answer_of c.evict_entry-plain.result) c.evict_entry-plain.new.bank c.evict_entry-plain.new.flight.mail
-    c.stop_after.new.is_stopped c.evict_entry-plain.ensures.done c.stop_after.ensures
+    (answer_of c.evict_entry-plain.result) c.evict_entry-plain.new.bank c.evict_entry-plain.new.flight.mail c.stop_after.new.is_stopped
+    c.evict_entry-plain.ensures.done c.stop_after.ensures

@@ -1,4 +1,4 @@
-use Rattle.std.proofs.Common.{ap, sym, subst, refl, arith, length, set, slice_get}
+use Rattle.std.proofs.Common.{◌≡◌, ap, sym, subst, refl, arith, length, set, slice_get}
 use Rattle.std.proofs.lemmas.Option.{slice_get_read}
 use Rattle.network.specs.Mail.{Mail}
 use Rattle.core_pts.specs.CoreTable as core_table
@@ -13,9 +13,8 @@ use Rattle.interleaving_core.specs.PartChanges.{answer_of}
 use Rattle.interleaving_core.specs.Endpoints.{BackHasEndpoints}
 use Rattle.interleaving_core.proofs.ChangedParts.{event_done, set_same}
 use Rattle.interleaving_core.proofs.Endpoints.{back_endpoints, fitted_ends, still_fitted}
-use Rattle.interleaving_core.proofs.Only.{Unmoved, evict_only, kept_unmoved}
+use Rattle.interleaving_core.proofs.Only.{SameOpen, evict_only, kept_open}
 use Rattle.interleaving_core.proofs.OpenCounts.{owed_kept}
-use Rattle.interleaving_core.proofs.WaitMarks.{marked_still, unmoved_waits}
 use Rattle.interleaving_core.proofs.machine_state.MachineState.evict_cache.Goals as goal
 
 pub evict_copy-plain-requires : goal.evict_copy-plain-requires
@@ -26,7 +25,7 @@ evict_copy-plain-requires c =
     (omega (arith, c.if-at-len.false, c.len.ensures)) c.index_mut.ensures.value in
     record {
       endpoints = fitted_ends m.config c.self.inside.flight c.self.inside.cores.items c.self.inside.records.items _
-          c.self.invariant.0 (λ a b. BackHasEndpoints a b (core_table.evict part c.args.line).0)
+          c.self.invariant (λ a b. BackHasEndpoints a b (core_table.evict part c.args.line).0)
           (back_endpoints m (subst Invariant (sym c.self.view_is) c.requires).whole c.args.core
           part here c.args.line);
     }
@@ -37,15 +36,12 @@ invariant_of-self c =
     let part = c.index_mut.result.now in
     let here = slice_get_read c.self.inside.cores.items (length c.self.inside.cores.items) c.args.core part refl
     (omega (arith, c.if-at-len.false, c.len.ensures)) c.index_mut.ensures.value in
-    let kept = subst (λ (x : Answer × CoreState × Mail). Unmoved part x.1) (sym c.evict_copy-plain.ensures.done)
-    (kept_unmoved part m.mail _ (evict_only part c.self.inside.flight.capacity m.mail c.args.line)) in
-    let same = owed_kept m.cores c.args.core part c.evict_copy-plain.new.core here kept.0 in (
-      still_fitted m.config c.self.inside.flight c.self.inside.cores.items c.self.inside.records.items _
-          c.self.invariant.0 _ _ _ _ c.evict_copy-plain.ensures.set_up
-          (omega (arith, same, c.self.invariant.0.reserved)),
-      marked_still _ _ _ c.self.invariant.1 c.args.core part c.evict_copy-plain.new.core here
-          (unmoved_waits part c.evict_copy-plain.new.core kept),
-    )
+    let kept = subst (λ (x : Answer × CoreState × Mail). x.1.open_op ≡ part.open_op)
+    (sym c.evict_copy-plain.ensures.done)
+    (kept_open part m.mail _ (evict_only part c.self.inside.flight.capacity m.mail c.args.line)) in
+    let same = owed_kept m.cores c.args.core part c.evict_copy-plain.new.core here kept in
+    still_fitted m.config c.self.inside.flight c.self.inside.cores.items c.self.inside.records.items _
+    c.self.invariant _ _ _ _ c.evict_copy-plain.ensures.set_up (omega (arith, same, c.self.invariant.reserved))
 
 pub returns : goal.returns
 returns c =
@@ -55,10 +51,10 @@ returns c =
     (omega (arith, c.if-at-len.false, c.len.ensures)) c.index_mut.ensures.value in
     event_done m (λ x. set m.cores c.args.core x) (λ x. m.banks) (λ x. m.drams) part
     (set_same m.cores c.args.core part here) refl refl
-    (Unmoved part) (λ n. copy_evicted n m.mail (core_table.evict part c.args.line))
+    (SameOpen part) (λ n. copy_evicted n m.mail (core_table.evict part c.args.line))
     (evict_only part m.config.messages m.mail c.args.line)
-    c.self.inside.flight.capacity c.self.invariant.0.capacity_is _ c.self.view_is
+    c.self.inside.flight.capacity c.self.invariant.capacity_is _ c.self.view_is
     (λ n. evict_copy n c.args.core c.args.line (slice_get n.cores c.args.core))
     (ap (evict_copy m c.args.core c.args.line) (sym here))
-    (answer_of c.evict_copy-plain.result) c.evict_copy-plain.new.core c.evict_copy-plain.new.flight.mail
-    c.stop_after.new.is_stopped c.evict_copy-plain.ensures.done c.stop_after.ensures
+    (answer_of c.evict_copy-plain.result) c.evict_copy-plain.new.core c.evict_copy-plain.new.flight.mail c.stop_after.new.is_stopped
+    c.evict_copy-plain.ensures.done c.stop_after.ensures

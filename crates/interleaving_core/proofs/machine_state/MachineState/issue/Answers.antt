@@ -10,33 +10,18 @@ use Rattle.machine_theorem.specs.Kept.{Invariant}
 use Rattle.interleaving_core.specs.contracts.machine_state.MachineState.{the_view}
 use Rattle.interleaving_core.proofs.OpenedOps.{issue_changes}
 use Rattle.interleaving_core.proofs.OpenCounts.{no_open, owed_within}
-use Rattle.interleaving_core.proofs.WaitMarks.{issued_waits, marked_still, none_out}
 use Rattle.interleaving_core.proofs.machine_state.MachineState.issue.Goals as goal
 
 pub invariant_of-self-2 : goal.invariant_of-self-2
 invariant_of-self-2 c =
     let same = length-set c.self.inside.cores.items c.args.core c.issue-issued.new.self in
     let most = owed_within (set c.self.inside.cores.items c.args.core c.issue-issued.new.self) in
-    let m : Machine = the_view c.self.inside in
-    let core = c.index_mut-2.result.now in
-    let within : c.args.core < length c.self.inside.cores.items = omega (arith, c.if-at-len.false, c.len.ensures) in
-    let here = slice_get_read c.self.inside.cores.items (length c.self.inside.cores.items) c.args.core core refl within
-    c.index_mut-2.ensures.value in
-    let tested : c.index.result.now ≡ core = let one = slice_get_read c.self.inside.cores.items
-    (length c.self.inside.cores.items) c.args.core c.index.result.now refl within c.index.ensures in let e =
-    sym one ∙ here in cc in
-    let free = ap (λ (x : CoreState). x.open_op) (sym tested) ∙ no_open c.index.result.now.open_op
-    c.index.result.now.is_out (ap is_some (sym c.open_op.ensures) ∙ sym c.is_some.ensures ∙ c.if-is_some.false) in
-    let idle = none_out m (subst Invariant (sym c.self.view_is) c.requires) c.args.core core here free in (
-      record {
-        cores_are = c.self.invariant.0.cores_are;
-        banks_are = c.self.invariant.0.banks_are;
-        capacity_is = c.self.invariant.0.capacity_is;
-        reserved = omega (arith, same, most, c.in_ok-reserve.ensures.ok, c.len-2.ensures);
-      },
-      marked_still _ _ _ c.self.invariant.1 c.args.core core c.issue-issued.new.self here
-          (issued_waits core c.args.op _ c.issue-issued.new.self idle c.issue-issued.ensures),
-    )
+    record {
+      cores_are = c.self.invariant.cores_are;
+      banks_are = c.self.invariant.banks_are;
+      capacity_is = c.self.invariant.capacity_is;
+      reserved = omega (arith, same, most, c.in_ok-reserve.ensures.ok, c.len-2.ensures);
+    }
 
 pub returns-clause-done : goal.returns-clause-done
 returns-clause-done c =

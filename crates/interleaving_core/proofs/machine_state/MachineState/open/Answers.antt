@@ -2,18 +2,15 @@ use Rattle.std.proofs.Common.{ap, ◌∙◌, arith, length}
 use Rattle.interleaving_core.specs.Reservation.{owed}
 use Rattle.network.specs.Flight.{Flight}
 use Rattle.interleaving_core.proofs.OpenCounts.{none_at_first}
-use Rattle.interleaving_core.proofs.WaitMarks.{none_marked}
 use Rattle.interleaving_core.proofs.machine_state.MachineState.open.Goals as goal
 
 pub invariant_of-result : goal.invariant_of-result
 invariant_of-result c =
     let none = ap owed c.in_ok-cores.ensures ∙ none_at_first c.args.config 0 c.args.config.cores in
-    let empty = ap length c.new-2.ensures.items in (
-      record {
-        cores_are = ap (λ (t : Flight). t.cores) c.in_ok-flight.ensures;
-        banks_are = ap (λ (t : Flight). t.banks) c.in_ok-flight.ensures;
-        capacity_is = ap (λ (t : Flight). t.capacity) c.in_ok-flight.ensures;
-        reserved = omega (arith, none, empty);
-      },
-      none_marked c.args.config _ c.requires c.in_ok-cores.ensures,
-    )
+    let empty = ap length c.new-2.ensures.items in
+    record {
+      cores_are = ap (λ (t : Flight). t.cores) c.in_ok-flight.ensures;
+      banks_are = ap (λ (t : Flight). t.banks) c.in_ok-flight.ensures;
+      capacity_is = ap (λ (t : Flight). t.capacity) c.in_ok-flight.ensures;
+      reserved = omega (arith, none, empty);
+    }

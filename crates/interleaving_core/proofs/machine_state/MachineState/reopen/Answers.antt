@@ -1,22 +1,16 @@
-use Rattle.std.proofs.Common.{◌≡◌, true, ap, subst, sym, ◌∙◌, arith, length}
-use Rattle.machine_table.specs.Machine.{Machine}
-use Rattle.machine_table.specs.SetUp.{is_good}
+use Rattle.std.proofs.Common.{ap, ◌∙◌, arith, length}
 use Rattle.interleaving_core.specs.Reservation.{owed}
 use Rattle.network.specs.Flight.{Flight}
 use Rattle.interleaving_core.proofs.OpenCounts.{none_at_first}
-use Rattle.interleaving_core.proofs.WaitMarks.{none_marked}
 use Rattle.interleaving_core.proofs.machine_state.MachineState.reopen.Goals as goal
 
 pub invariant_of-result : goal.invariant_of-result
 invariant_of-result c =
     let none = ap owed c.in_ok-reopen_cores.ensures ∙ none_at_first c.self.inside.config 0 c.self.inside.config.cores in
     let empty = ap length c.clear-2.ensures in
-    let good = subst (λ (m : Machine). is_good m.config ≡ true) (sym c.self.view_is) c.requires.good in (
-      record {
-        cores_are = ap (λ (t : Flight). t.cores) c.clear.ensures ∙ c.self.invariant.0.cores_are;
-        banks_are = ap (λ (t : Flight). t.banks) c.clear.ensures ∙ c.self.invariant.0.banks_are;
-        capacity_is = ap (λ (t : Flight). t.capacity) c.clear.ensures ∙ c.self.invariant.0.capacity_is;
-        reserved = omega (arith, none, empty);
-      },
-      none_marked c.self.inside.config _ good c.in_ok-reopen_cores.ensures,
-    )
+    record {
+      cores_are = ap (λ (t : Flight). t.cores) c.clear.ensures ∙ c.self.invariant.cores_are;
+      banks_are = ap (λ (t : Flight). t.banks) c.clear.ensures ∙ c.self.invariant.banks_are;
+      capacity_is = ap (λ (t : Flight). t.capacity) c.clear.ensures ∙ c.self.invariant.capacity_is;
+      reserved = omega (arith, none, empty);
+    }

@@ -4,7 +4,7 @@ use Rattle.std.proofs.Common.{length, map, get_or, Option, Some, None, refl, sym
 use Rattle.std.proofs.Common.{◌≢◌}
 use Rattle.std.specs.Prelude.{◌≤◌, slice_get}
 use Rattle.std.proofs.Math.Nat.{mod-lt}
-use Rattle.std.proofs.Common.{inl, inr, set, get_or-set_same, get_or-set_other}
+use Rattle.std.proofs.Common.{inl, inr, set, subst, get_or-set_same, get_or-set_other}
 use Rattle.std.proofs.lemmas.Bool.{cases_eq, cond_both, false≢true}
 use Rattle.std.proofs.lemmas.List.{length-map, length-append, get_or_append_left, get_or-append-add, get_or-map}
 use Rattle.std.proofs.lemmas.List.{get_or_past}
@@ -22,7 +22,7 @@ use Rattle.worker_driver.specs.declared.schedule.Choice.{Choice as Chosen}
 use Rattle.worker_driver.specs.Acts.{Acts, next_in}
 use Rattle.worker_driver.specs.Schedules.{Choice, Does, Delivers, Over}
 use Rattle.worker_driver.specs.SeedSchedule.{Seeded, advances, core_step, core_steps, entry, line_events}
-use Rattle.worker_driver.specs.SeedViews.{Picks}
+use Rattle.worker_driver.specs.SeedViews.{Picks, StepsAt}
 use Rattle.worker_driver.proofs.Pieces.{at_piece, length_more}
 
 is_end : Choice Seeded → Bool
@@ -115,6 +115,19 @@ module _ {P : Type 0} (acts : Acts P) (m : Machine) (programs : List P) where
   pub one_core_more : (core : ℕ) → length (core_steps acts m programs (core + 1)) ≡
       length (core_steps acts m programs core) + length (step_of core)
   one_core_more core = length_more step_of core
+
+  -- a list of cores that do something, after one more core was written behind them and counted if it does
+  pub one_listed_more : (ready : List ℕ) (core count steps : ℕ) → count < length ready → core < m.config.cores →
+      count ≡ length (core_steps acts m programs core) → steps ≡ length (step_of core) → steps ≤ 1 →
+      ((place : ℕ) → place < count → StepsAt acts m programs (get_or ready place 0) place) →
+      (place : ℕ) → place < count + steps → StepsAt acts m programs (get_or (set ready count core) place 0) place
+  one_listed_more ready core count steps within below is are most each place inside = elim (cases_eq place count) [
+    | inl e ↦ subst (λ k. StepsAt acts m programs k place)
+        (sym (ap (λ k. get_or (set ready count core) k 0) e ∙ get_or-set_same ready count core 0 within))
+        (below, sym is ∙ sym e, omega (arith, are, inside, e))
+    | inr other ↦ subst (λ k. StepsAt acts m programs k place)
+        (sym (get_or-set_other ready count place core 0 other)) (each place (omega (arith, other, inside, most)))
+  ]
 
   -- what a core does stands behind what the cores below it do
   pub step_found : (cores core place left : ℕ) (choice : Chosen) → core < cores →

@@ -1,11 +1,11 @@
 //! The seeded schedule: each turn draws two words, the first for a list of events, the second for the entry of it that
 //! is made. No list is built: entries are counted, and the one that is wanted is looked up.
-ghost use Rattle.std.specs.Prelude.{◌≡◌, ◌∷◌, [], ◌<◌, ◌≤◌, ◌+◌, ◌%◌, ◌*◌, ◌^◌, ℕ, List, length, IfOk, Some, slice_get};
+ghost use Rattle.std.specs.Prelude.{◌≡◌, ◌∷◌, [], ◌<◌, ◌≤◌, ◌+◌, ◌%◌, ◌*◌, ◌^◌, ℕ, List, length, IfOk, Some, slice_get, slice_index_or};
 ghost use Rattle.interleaving_core.specs.LookUps.{entries, free_copies, open_op};
 ghost use Rattle.line_sets.specs.Rising.{risen};
 ghost use Rattle.worker_driver.specs.Acts.{next_in};
 ghost use Rattle.worker_driver.specs.SeedSchedule.{advances, core_step, core_steps, entry, line_events, of_seed, steps};
-ghost use Rattle.worker_driver.specs.SeedViews.{Picks, PicksAny, PicksOne};
+ghost use Rattle.worker_driver.specs.SeedViews.{Picks, PicksAny, PicksOne, StepsAt};
 
 use crate::look_ups::next_in;
 use crate::program::Program;
@@ -236,15 +236,20 @@ fn steps_next<P: Program>(system: &System, programs: &mut [P], core: u32) -> u32
     u32::from(next_in(programs, core).is_some())
 }
 
-// How many cores do something next. A machine has at most 64.
-fn count_ready<P: Program>(system: &System, programs: &mut [P]) -> u32
+// The cores that do something next, in rising order, and how many they are. A machine has at most 64.
+fn list_ready<P: Program>(system: &System, programs: &mut [P], ready: &mut [u8]) -> u32
+    requires place_each { 64 ≤ length ready.old }
+    ensures each { (place : ℕ) → place < result → StepsAt P.acts system.now programs.old
+        (slice_index_or ready.new place 0) place }
     ensures count { result ≡ length (core_steps P.acts system.now programs.old
         system.now.config.cores) }
     ensures bound { result ≤ 64 }
+    ensures long { length ready.new ≡ length ready.old }
     ensures same { programs.new ≡ programs.old }
 {
     let mut count = 0;
     for core in 0..system.cores() {
+        ready[count as usize] = core as u8;
         count += steps_next(system, programs, core);
     }
     count
@@ -266,22 +271,16 @@ fn sure_step<P: Program>(system: &System, programs: &mut [P], core: u32) -> Choi
 }
 
 // What the core does next that comes after so many others that do something.
-fn step_at<P: Program>(system: &System, programs: &mut [P], place: u32) -> Choice
+fn step_at<P: Program>(system: &System, programs: &mut [P], ready: &[u8], place: u32) -> Choice
     requires inside { place < length (core_steps P.acts system.now programs.old
         system.now.config.cores) }
+    requires there { place < length ready.now }
+    requires core { StepsAt P.acts system.now programs.old (slice_index_or ready.now place 0) place }
     ensures step { (next : _) × (slice_get (core_steps P.acts system.now programs.old
         system.now.config.cores) place ≡ Some next) × Picks next result }
     ensures same { programs.new ≡ programs.old }
 {
-    let mut left = place;
-    for core in 0..system.cores() {
-        let steps = steps_next(system, programs, core);
-        if left < steps {
-            return sure_step(system, programs, core);
-        }
-        left -= steps;
-    }
-    unreachable!()
+    sure_step(system, programs, u32::from(ready[place as usize]))
 }
 
 // A step of a core, or the delivery of a message.
@@ -289,16 +288,17 @@ fn step<P: Program>(system: &System, programs: &mut [P], b: u32) -> Choice
     ensures step { Picks (entry (steps P.acts system.now programs.old) b) result }
     ensures same { programs.new ≡ programs.old }
 {
-    let ready = count_ready(system, programs);
-    let total = u128::from(ready) + u128::from(system.messages());
+    let mut ready = [0; 64];
+    let count = list_ready(system, programs, &mut ready);
+    let total = u128::from(count) + u128::from(system.messages());
     if total == 0 {
         return Choice::Over;
     }
     let at = place_in(b, total);
-    if at < ready {
-        return step_at(system, programs, at);
+    if at < count {
+        return step_at(system, programs, &ready, at);
     }
-    match system.message(at - ready) {
+    match system.message(at - count) {
         Some(number) => Choice::Delivers(number),
         None => unreachable!(),
     }

@@ -12,8 +12,13 @@ loop-holder-preserved g c =
       bounded = omega (arith, l.invariant.bounded);
       long = length-set l.counts l.holder c.count-count.result ∙ l.invariant.long;
       each = one_count_more l.counts (λ i. length (g.H.Holder.lines c.args.system.now i)) l.holder c.count-count.result
-          (omega (arith, l.invariant.long, c.requires.place_each, c.loop-holder-test.true,
-          c.holders-holder-end.ensures.value))
+          (omega (
+            arith,
+            l.invariant.long,
+            c.requires.place_each,
+            c.loop-holder-test.true,
+            c.holders-holder-end.ensures.value,
+          ))
           c.count-count.ensures l.invariant.each;
     }
 

@@ -275,7 +275,8 @@ fn step_at<P: Program>(system: &System, programs: &mut [P], ready: &[u8], place:
     requires inside { place < length (core_steps P.acts system.now programs.old
         system.now.config.cores) }
     requires there { place < length ready.now }
-    requires core { StepsAt P.acts system.now programs.old (slice_index_or ready.now place 0) place }
+    requires core { StepsAt P.acts system.now programs.old
+        (slice_index_or ready.now place 0) place }
     ensures step { (next : _) × (slice_get (core_steps P.acts system.now programs.old
         system.now.config.cores) place ≡ Some next) × Picks next result }
     ensures same { programs.new ≡ programs.old }

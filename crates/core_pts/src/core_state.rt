@@ -163,10 +163,9 @@ impl Core {
         self.cache.free_copy(self.pinned_line(), at)
     }
 
-    /// Keeps the lines of all copies in rising order from now on, in blocks, so that `free_copy` goes over the blocks,
-    /// searches one and takes no memory. That takes some 32 bytes for each copy that there may be, and 2 KB, all of it
-    /// here. A copy that comes or goes moves at most 1 KB, but for the few that split or join blocks, which move the
-    /// blocks behind them, too. Where the memory is refused nothing changes, and the answers are the same.
+    /// Keeps the lines of all copies in rising order from now on, so that `free_copy` takes no memory.
+    /// `LineSets::keep_order` tells what that takes and moves. Where the memory is refused nothing changes, and the
+    /// answers are the same.
     pub fn keep_order(&mut self)
         ensures { self.new ≡ self.old }
     {

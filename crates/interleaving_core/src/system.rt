@@ -287,12 +287,10 @@ impl System {
         self.state.entry(bank, at)
     }
 
-    /// Each core and each bank keeps its lines in rising order from now on, in blocks, so that `free_copy` and `entry`
-    /// go over the blocks, search one and take no memory. That takes some 32 bytes for each copy and each entry that
-    /// there may be, and 2 KB for each core and bank, all of it here. A line that comes or goes moves at most 1 KB, but
-    /// for the few that split or join blocks, which move the blocks behind them, too. A core or bank that is refused
-    /// the memory goes on as before, and all answers are the same. If the machine keeps them so already, this does
-    /// nothing.
+    /// Each core and each bank keeps its lines in rising order from now on, so that `free_copy` and `entry` take no
+    /// memory. `line_sets::LineSets::keep_order` tells what that takes of memory, for each core and each bank, and
+    /// what moves when a line comes or goes. A core or bank that is refused the memory goes on as before, and all
+    /// answers are the same. If the machine keeps them so already, this does nothing.
     pub fn keep_order(&mut self)
         ensures { self.new ≡ self.old }
     {

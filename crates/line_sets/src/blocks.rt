@@ -9,7 +9,7 @@ use network::LineNo;
 use std::alloc::{AllocError, Global};
 use std::marker::Model;
 
-/// A rising list of numbers in blocks of at most 128. Contracts see the list.
+/// A rising list of numbers in blocks of at most 128. Contracts see the list, and for how many blocks there is room.
 #[derive(Drop)]
 pub(crate) struct Blocks {
     // No block is empty, and two neighbours have more than 64 numbers together. So there are few.
@@ -17,13 +17,13 @@ pub(crate) struct Blocks {
 }
 
 impl Model for Blocks {
-    ghost use Rattle.std.specs.Prelude.{List, ℕ};
+    ghost use Rattle.std.specs.Prelude.{List, ℕ, vec_capacity};
     ghost use Rattle.line_sets.specs.Rising.{Rises};
     ghost use Rattle.line_sets.specs.Blocked.{joined, Filled, Spaced};
 
-    ghost Value = { List ℕ };
+    ghost Value = { List ℕ × ℕ };
 
-    ghost view = { λ numbers. joined numbers.blocks.items };
+    ghost view = { λ numbers. (joined numbers.blocks.items, vec_capacity numbers.blocks) };
 
     ghost invariant = { λ numbers. Rises (joined numbers.blocks.items) × Filled numbers.blocks.items × Spaced 65 numbers.blocks.items };
 }
@@ -97,7 +97,8 @@ fn has_room(blocks: &Vec<Block>) -> bool
 fn put_block(blocks: &mut Vec<Block>, at: usize, block: Block)
     requires inside { at ≤ length blocks.old.items }
     requires room { length blocks.old.items < vec_capacity blocks.old }
-    ensures { blocks.new.items ≡ insert blocks.old.items at block }
+    ensures items { blocks.new.items ≡ insert blocks.old.items at block }
+    ensures capacity { vec_capacity blocks.new ≡ vec_capacity blocks.old }
 {
     let put: Result<_, _> = blocks.insert(at, block);
     let _there = put.unwrap();
@@ -116,6 +117,7 @@ fn split(blocks: &mut Vec<Block>, at: usize)
     ensures some { 0 < length blocks.new.items }
     ensures halves { (x k : ℕ) → IsPlaceOf x at blocks.old.items → IsPlaceOf x k blocks.new.items →
         size_at k blocks.new.items < 128 }
+    ensures capacity { vec_capacity blocks.new ≡ vec_capacity blocks.old }
 {
     let upper = block_of(&blocks[at].as_slice()[64..]);
     put_block(blocks, at + 1, upper);
@@ -129,6 +131,7 @@ fn put_at(blocks: &mut Vec<Block>, at: usize, number: u64)
     requires place { IsPlaceOf number at blocks.old.items }
     requires room { size_at at blocks.old.items < 128 }
     ensures put { joined blocks.new.items ≡ put_in number (joined blocks.old.items) }
+    ensures capacity { vec_capacity blocks.new ≡ vec_capacity blocks.old }
     ensures filled { Filled blocks.new.items }
     ensures spaced { Spaced 65 blocks.old.items → Spaced 65 blocks.new.items }
 {
@@ -142,6 +145,7 @@ fn take_at(blocks: &mut Vec<Block>, at: usize, number: u64)
     requires inside { at < length blocks.old.items }
     requires first { at ≡ block_at number blocks.old.items }
     ensures taken { joined blocks.new.items ≡ take_out number (joined blocks.old.items) }
+    ensures capacity { vec_capacity blocks.new ≡ vec_capacity blocks.old }
     ensures filled { Filled blocks.new.items }
     ensures spaced { Spaced 65 blocks.old.items → Lacks 1 1 65 at blocks.new.items }
 {
@@ -168,6 +172,7 @@ fn join(blocks: &mut Vec<Block>, at: usize)
     ensures next { Lacks 1 1 65 at blocks.old.items → Lacks 1 0 65 at blocks.new.items }
     ensures before { Lacks 1 0 65 (at + 1) blocks.old.items → Spaced 65 blocks.new.items }
     ensures inside { at < length blocks.new.items }
+    ensures capacity { vec_capacity blocks.new ≡ vec_capacity blocks.old }
 {
     if at + 1 >= blocks.len() {
         return;
@@ -187,6 +192,7 @@ fn level(blocks: &mut Vec<Block>, at: usize)
     ensures same { joined blocks.new.items ≡ joined blocks.old.items }
     ensures filled { Filled blocks.old.items → Filled blocks.new.items }
     ensures spaced { Lacks 1 1 65 at blocks.old.items → Spaced 65 blocks.new.items }
+    ensures capacity { vec_capacity blocks.new ≡ vec_capacity blocks.old }
 {
     if at >= blocks.len() {
         return;
@@ -234,7 +240,8 @@ impl Blocks {
     /// The numbers of a rising list, in blocks of 64, with room for so many numbers at most.
     pub(crate) fn of(alloc: Global, numbers: &[u64], most: usize) -> Result<Blocks, AllocError>
         requires { Rises numbers.now }
-        ensures { IfOk result (λ blocks. blocks ≡ numbers.now) }
+        ensures numbers { IfOk result (λ blocks. blocks.0 ≡ numbers.now) }
+        ensures room { IfOk result (λ blocks. most + 32 < blocks.1 * 32) }
     {
         // Two neighbours have more than 64 numbers together. So there are at most most / 32 + 1 blocks.
         let mut blocks: Vec<Block> = Vec::with_capacity(alloc, most / 32 + 2)?;
@@ -250,7 +257,9 @@ impl Blocks {
     /// Puts a number into its place, and takes no memory; false where that wants a block more than there is room for,
     /// and then nothing has changed. It never does while there are fewer numbers than there may be.
     pub(crate) fn put_in(&mut self, number: u64) -> bool
-        ensures { self.new ≡ (if result then put_in number self.old else self.old) }
+        ensures numbers { self.new.0 ≡ (if result then put_in number self.old.0 else self.old.0) }
+        ensures room { self.new.1 ≡ self.old.1 }
+        ensures sure { length self.old.0 + 32 < self.old.1 * 32 → IsTrue result }
     {
         let has_room = has_room(&self.blocks);
         if self.blocks.is_empty() {
@@ -276,7 +285,8 @@ impl Blocks {
 
     /// Takes the first number that isn't below a number out.
     pub(crate) fn take_out(&mut self, number: u64)
-        ensures { self.new ≡ take_out number self.old }
+        ensures numbers { self.new.0 ≡ take_out number self.old.0 }
+        ensures room { self.new.1 ≡ self.old.1 }
     {
         let at = block_at(&self.blocks, number);
         if at >= self.blocks.len() {
@@ -288,7 +298,7 @@ impl Blocks {
 
     /// The number that comes after so many others but one number, if there is one.
     pub(crate) fn nth(&self, but: &Option<LineNo>, at: usize) -> Option<u64>
-        ensures { result ≡ slice_get (all_but but.now self.now) at }
+        ensures { result ≡ slice_get (all_but but.now self.now.0) at }
     {
         nth_within(&self.blocks, but, at)
     }

@@ -15,19 +15,19 @@ pub struct RisingLines {
 }
 
 impl Model for RisingLines {
-    ghost use Rattle.std.specs.Prelude.{Option, List, ℕ};
+    ghost use Rattle.std.specs.Prelude.{Option, List, ℕ, option_map};
 
     ghost Value = { Option (List ℕ) };
 
-    ghost view = { λ lines. lines.numbers };
+    ghost view = { λ lines. option_map (λ numbers. numbers.0) lines.numbers };
 }
 
 /// A number goes out of a rising list, or comes into it; false where there is no room for it, and then nothing has
 /// changed.
 #[inline(never)]
 fn exchange(numbers: &mut Blocks, number: u64, goes: bool) -> bool
-    ensures { numbers.new ≡ (if result then (if goes then take_out number numbers.old else
-        put_in number numbers.old) else numbers.old) }
+    ensures { numbers.new.0 ≡ (if result then (if goes then take_out number numbers.old.0 else
+        put_in number numbers.old.0) else numbers.old.0) }
 {
     if goes {
         numbers.take_out(number);

@@ -263,12 +263,13 @@ impl<V: Copy + Listed> LineSets<V> {
         Ok(LineNo(number_at(&mut numbers, at)))
     }
 
-    /// Keeps the listed lines in rising order from now on, in blocks of at most 128, so that `nth_listed` goes over the
-    /// blocks, searches one of them and takes no memory. That takes 1,032 bytes for each 32 lines that there may be,
-    /// and 2,064 bytes more, all of it here, and a list of the lines for the time of the call. A line that comes to
-    /// the listed ones or leaves them moves at most 1,024 bytes. But at most once in 32 such changes, on the whole, a
-    /// block is split, joined with the next one or left empty, which moves the blocks behind it, too. Where the memory
-    /// is refused the order is kept or not kept as it was before the call, and the answers are the same.
+    /// Keeps the listed lines in rising order from now on, in blocks of at most 128. `nth_listed` then goes over the
+    /// blocks, searches at most two of them and takes no memory. All memory is taken here: 1,032 bytes for each 32
+    /// lines that there may be, and 2,064 bytes more; and a list of the lines for the time of the call. A line that
+    /// comes to the listed ones or leaves them moves at most 1,024 bytes. If a block is split, joined with the next
+    /// one or left empty, the blocks behind it are moved, too. Of blocks before others that is at most once in 32
+    /// such changes, on the whole. Where the memory is refused the order is kept or not kept as it was before the
+    /// call, and the answers are the same.
     pub fn keep_order(&mut self)
         ensures { self.new ≡ self.old }
     {

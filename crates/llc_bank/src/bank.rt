@@ -281,11 +281,9 @@ impl Bank {
         self.table.nth_listed(None, at)
     }
 
-    /// Keeps the lines that are Shared or Exclusive in rising order from now on, in blocks, so that `settled_line` goes
-    /// over the blocks to the line and takes no memory. That takes some 32 bytes for each entry that there may be, and
-    /// 2 KB, all of it here. A line that becomes Shared or Exclusive, or is it no longer, moves at most 1 KB, but for
-    /// the few that split or join blocks, which move the blocks behind them, too. Where the memory is refused nothing
-    /// changes, and the answers are the same.
+    /// Keeps the lines that are Shared or Exclusive in rising order from now on, so that `settled_line` takes no
+    /// memory. `LineSets::keep_order` tells what that takes and moves. Where the memory is refused nothing changes,
+    /// and the answers are the same.
     pub fn keep_order(&mut self)
         ensures { self.new ≡ self.old }
     {

@@ -56,7 +56,8 @@ fn halved_slot_of(slots: &[Slot], number: u64) -> Option<usize>
     Some(at)
 }
 
-/// The same, where eight slots from one on are looked at before. It is no part of each look, which stays short so.
+/// The same, where eight slots from one on are looked at before. It is a call of its own, so that a look that finds its
+/// slot at once stays short.
 #[inline(never)]
 fn searched_slot_of(slots: &[Slot], from: usize, number: u64) -> Option<usize>
     requires { IsRising 0 slots.now (2 ^ 64) }

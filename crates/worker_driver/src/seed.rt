@@ -1,6 +1,8 @@
 //! The seeded schedule: each turn draws two words, the first for a list of events, the second for the entry of it that
-//! is made. No list is built: entries are counted, and the one that is wanted is looked up.
-ghost use Rattle.std.specs.Prelude.{◌≡◌, ◌∷◌, [], ◌<◌, ◌≤◌, ◌+◌, ◌%◌, ◌*◌, ◌^◌, ℕ, List, length, IfOk, Some, slice_get, slice_index_or};
+//! is made. No list of events is built: the cores that do something are listed, other entries are counted, and the one
+//! that is wanted is looked up.
+ghost use Rattle.std.specs.Prelude.{◌≡◌, ◌∷◌, [], ◌<◌, ◌≤◌, ◌+◌, ◌%◌, ◌*◌, ◌^◌, ℕ, List, length, IfOk, Some};
+ghost use Rattle.std.specs.Prelude.{slice_get, slice_index_or};
 ghost use Rattle.interleaving_core.specs.LookUps.{entries, free_copies, open_op};
 ghost use Rattle.line_sets.specs.Rising.{risen};
 ghost use Rattle.worker_driver.specs.Acts.{next_in};
@@ -176,7 +178,7 @@ fn line_count<H: Holder>(system: &System, counts: &mut [usize]) -> u128
     total
 }
 
-// The eviction of a line. A machine has at most 64 cores, and fewer banks. Each is asked once.
+// The eviction of a line. Each holder is asked once how many it has; there are at most 64 cores and eight banks.
 fn evict<H: Holder>(system: &System, b: u32) -> Result<Choice, AllocError>
     ensures { PicksOne (entry
         (line_events H.eviction (H.lines system.now) (H.holders system.now)) b) result }

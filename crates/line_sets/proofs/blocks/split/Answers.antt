@@ -17,7 +17,7 @@ returns-clause-same c =
     split-same 64 c.args.at c.args.blocks.now.items c.put_block.new.blocks.items c.index.result.now
     c.index_mut.result.now c.block_of-upper.result c.truncate.new.self c.as_slice.result.now c.requires.inside
     c.index.ensures c.as_slice.ensures.value c.block_of-upper.ensures
-    c.put_block.ensures c.index_mut.ensures.value c.truncate.ensures.items
+    c.put_block.ensures.items c.index_mut.ensures.value c.truncate.ensures.items
 
 pub returns-clause-filled : goal.returns-clause-filled
 returns-clause-filled c =
@@ -26,7 +26,7 @@ returns-clause-filled c =
     split-fills 64 c.args.at c.args.blocks.now.items c.put_block.new.blocks.items c.index.result.now
     c.index_mut.result.now c.block_of-upper.result c.truncate.new.self c.as_slice.result.now c.requires.inside
     c.index.ensures c.as_slice.ensures.value c.block_of-upper.ensures
-    c.put_block.ensures c.index_mut.ensures.value c.truncate.ensures.items (omega arith) (omega (arith, long))
+    c.put_block.ensures.items c.index_mut.ensures.value c.truncate.ensures.items (omega arith) (omega (arith, long))
 
 pub returns-clause-spaced : goal.returns-clause-spaced
 returns-clause-spaced c =
@@ -35,7 +35,7 @@ returns-clause-spaced c =
     split-apart 64 c.args.at c.args.blocks.now.items c.put_block.new.blocks.items c.index.result.now
     c.index_mut.result.now c.block_of-upper.result c.truncate.new.self c.as_slice.result.now c.requires.inside
     c.index.ensures c.as_slice.ensures.value c.block_of-upper.ensures
-    c.put_block.ensures c.index_mut.ensures.value c.truncate.ensures.items (omega arith) (omega (arith, long))
+    c.put_block.ensures.items c.index_mut.ensures.value c.truncate.ensures.items (omega arith) (omega (arith, long))
 
 pub returns-clause-halves : goal.returns-clause-halves
 returns-clause-halves c =
@@ -44,5 +44,5 @@ returns-clause-halves c =
     split-room 64 c.args.at c.args.blocks.now.items c.put_block.new.blocks.items c.index.result.now
     c.index_mut.result.now c.block_of-upper.result c.truncate.new.self c.as_slice.result.now c.requires.inside
     c.index.ensures c.as_slice.ensures.value c.block_of-upper.ensures
-    c.put_block.ensures c.index_mut.ensures.value c.truncate.ensures.items (omega arith) (omega arith)
+    c.put_block.ensures.items c.index_mut.ensures.value c.truncate.ensures.items (omega arith) (omega arith)
     (omega (arith, long)) (omega (arith, long))

@@ -1,4 +1,5 @@
-use Rattle.std.proofs.Common.{sym, ap, ◌∙◌, arith, length, drop, ◌-◌}
+use Rattle.std.proofs.Common.{sym, ap, ◌∙◌, ◌<◌, arith, length, drop, ◌-◌}
+use Rattle.std.proofs.Math.Nat.{mod-add-div, mod-lt}
 use Rattle.std.proofs.lemmas.List.{length-drop, length-take-le}
 use Rattle.line_sets.proofs.BlockedLists.{more-filled, more-joined, more-spaced}
 use Rattle.line_sets.proofs.blocks.Blocks.of.Goals as goal
@@ -18,7 +19,13 @@ loop-from-preserved c =
       filled = more-filled c.args.numbers.now c.loop-from.from c.block_end-to.result c.loop-from.blocks.items _
           c.block_of.result more within c.loop-from.invariant.filled c.in_ok-push.ensures.items c.block_of.ensures;
       spaced = rw (sym c.in_ok-push.ensures.items) at next;
+      room = omega (arith, c.loop-from.invariant.room, c.in_ok-push.ensures.capacity);
       ready = more-spaced c.block_end-to.result c.args.numbers.now c.loop-from.blocks.items _ c.block_of.result
           c.in_ok-push.ensures.items next (λ lt. (let whole = c.block_end-to.ensures.whole lt in
           omega (arith, long, whole)));
     }
+
+pub returns-clause-room : goal.returns-clause-room
+returns-clause-room c =
+    let some : 0 < 32 = omega arith in let whole = mod-add-div c.args.most 32 in let less = mod-lt c.args.most some in
+    omega (arith, whole, less, c.loop-from.invariant.room)

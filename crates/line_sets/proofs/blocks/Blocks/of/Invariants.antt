@@ -1,4 +1,5 @@
-use Rattle.std.proofs.Common.{ℕ, ◌≡◌, ◌≤◌, ◌<◌, ◌-◌, [], ◌∷◌, ◌++◌, length, take}
+use Rattle.std.proofs.Common.{ℕ, ◌≡◌, ◌≤◌, ◌<◌, ◌-◌, ◌+◌, ◌/◌, [], ◌∷◌, ◌++◌, length, take}
+use Rattle.std.specs.Prelude.{vec_capacity}
 use Rattle.arrayvec.specs.ArrayVec.{ArrayVec}
 use Rattle.line_sets.specs.Blocked.{joined, Filled, Spaced}
 use Rattle.line_sets.proofs.blocks.Blocks.of.Given as goal
@@ -9,6 +10,7 @@ invariant-loop-from l = record {
   done : joined l.blocks.items ≡ take l.from l.numbers;
   filled : Filled l.blocks.items;
   spaced : Spaced 65 l.blocks.items;
+  room : l.fn.most / 32 + 2 ≤ vec_capacity l.blocks;
   ready : (w : ArrayVec ℕ) → 0 < length w.items → l.from < length l.numbers → Spaced 65 (l.blocks.items ++ w ∷ []);
 }
 

@@ -1,12 +1,15 @@
-use Rattle.std.proofs.Common.{arith, sym, ◌∙◌}
+use Rattle.std.proofs.Common.{arith, refl, sym, ◌∙◌}
 use Rattle.line_sets.proofs.RisingEdits.{rises-take_out}
 use Rattle.line_sets.proofs.BlockedLists.{take-none}
 use Rattle.line_sets.proofs.blocks.Blocks.take_out.Goals as goal
 
 pub returns-then-at-len : goal.returns-then-at-len
-returns-then-at-len c = rw (← c.self.view_is) (take-none c.args.number c.self.inside.blocks.items
-    (let le = c.if-at-len.true in let at = rw c.deref.ensures.value at c.block_at-at.ensures.count in
-    omega (arith, le, at)))
+returns-then-at-len c = rw (← c.self.view_is) record {
+  numbers = take-none c.args.number c.self.inside.blocks.items
+      (let le = c.if-at-len.true in let at = rw c.deref.ensures.value at c.block_at-at.ensures.count in
+      omega (arith, le, at));
+  room = refl;
+}
 
 pub invariant_of-self : goal.invariant_of-self
 invariant_of-self c = (

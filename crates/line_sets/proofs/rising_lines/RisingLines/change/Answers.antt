@@ -1,4 +1,4 @@
-use Rattle.std.proofs.Common.{sym, ◌∙◌}
+use Rattle.std.proofs.Common.{ap, option_map, sym, ◌∙◌}
 use Rattle.line_sets.proofs.RisingEdits.{if-true, order-exchanged, order-kept}
 use Rattle.line_sets.proofs.rising_lines.RisingLines.change.Goals as goal
 
@@ -9,5 +9,6 @@ returns-then-before-after c = λ xs ys o h.
 pub returns-else-not-exchange : goal.returns-else-not-exchange
 returns-else-not-exchange c = λ xs ys o h.
     if-true c.exchange.result _ _ _ c.if-not-exchange.false c.exchange.ensures
-    ∙ order-exchanged c.args.self.now c.args.line c.args.before c.args.after xs ys c.in-Some.numbers
-    c.if-before-after.false c.requires.before c.requires.after (sym c.self.view_is ∙ c.in-Some.is) o h
+    ∙ order-exchanged c.args.self.now c.args.line c.args.before c.args.after xs ys c.in-Some.numbers.0
+    c.if-before-after.false c.requires.before c.requires.after
+    (sym c.self.view_is ∙ ap (option_map (λ n. n.0)) c.in-Some.is) o h

@@ -125,8 +125,8 @@ class Told:
     What may be told then is by the second program. A refusal that comes later ends a single run no earlier.
     """
 
-    def __init__(self, words):
-        self.texts, self.is_single, self.at = told_of(words), "--runs" not in words, 0
+    def __init__(self, words, is_alone=False):
+        self.texts, self.is_single, self.at = told_of(words, is_alone), "--runs" not in words, 0
 
     def __call__(self, ran):
         if ran.answer() == NO_MEMORY:
@@ -164,7 +164,7 @@ def growths(tester):
     Refused alone, some growths are those of a run, which is then told as one that ended for want of memory.
     """
     for what, words, usual in runs():
-        counted = tester.sweep(what, words, "growth", "", (0, usual, ""), Told(words))
+        counted = tester.sweep(what, words, "growth", "", (0, usual, ""), Told(words, is_alone=True))
         tester.expect(counted > 0, f"{what}: no refused run was told")
         tester.sweep(what, words, "growth", "+", (0, usual, ""), Told(words))
     with tempfile.TemporaryDirectory() as folder:

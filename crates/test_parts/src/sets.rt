@@ -7,7 +7,7 @@ use std::alloc::{AllocError, Global};
 
 // A value; odd ones are listed.
 #[derive(Clone, Copy, Debug, PartialEq, Eq)]
-pub(crate) struct Mark(pub(crate) u64);
+struct Mark(u64);
 
 impl Listed for Mark {
     ghost use Rattle.std.specs.Prelude.{◌==◌, ◌%◌};

@@ -5,7 +5,8 @@ of a line. Or it ends where the schedule lists something: the messages in flight
 the lines that may be evicted, if a seed drew an eviction. What is told then is what is told of the events before.
 
 A run by a seed keeps its lines in order, and then lists none for an eviction. It does only where memory for that order
-was refused. So if one growth is refused alone, no run ends before an eviction.
+was refused. So if one growth is refused alone, no run of a command ends before an eviction. (A driver that keeps the
+list of events may, since an event's place in that list may be refused.)
 """
 from itertools import product
 

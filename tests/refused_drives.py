@@ -1,9 +1,9 @@
 """Memory that is refused to drivers (`drive_round`, `drive_seed`): by the player crates/event_player, for
 tests/refusals.py.
 
-A driver that is refused memory ends the run so, before an event or where its schedule lists something. That is never an
-eviction, since each growth is refused alone (ended_runs.py). What is told is the run's beginning, and the machine as
-that leaves it; the next run goes on from there. All is by the second program, which is told how many events were made.
+A driver that is refused memory ends the run so, before an event or where its schedule lists something. What is told is
+the run's beginning, and the machine as that leaves it; the next run goes on from there. All is by the second program,
+which is told how many events were made.
 """
 import random
 from collections import Counter
@@ -28,8 +28,7 @@ def followed(seed, lines):
         drive = events.Drive(player)
         told = lines[at].split("|")[0].split("; ") if at < len(lines) else [""]
         if told[0] == "memory":
-            made = len(told) - 1
-            run, end = drive.make(lambda machine, programs: Watched(machine, programs, made, True), OutOfMemory)
+            run, end = drive.make(lambda machine, programs: Watched(machine, programs, len(told) - 1), OutOfMemory)
             wanted.append(drive.told(run, "memory"))
             ended["by a seed" if drive.seed is not None else "by rounds"] += end == "memory"
         else:

@@ -2,4 +2,5 @@ pub mod CoreLaws
 pub mod CoreTable
 pub mod FreeCopies
 pub mod OnCopy
+pub mod OpenCopy
 pub mod SetUp

@@ -32,11 +32,15 @@ pub struct Core {
     open_op: Option<Op>,
     pub(crate) is_out: bool,
     issued: u32,
+    // Whether there is a copy of the open operation's line.
+    pub(crate) has_copy: bool,
 }
 
 impl Model for Core {
     ghost use Rattle.core_pts.specs.CoreTable.{CoreState};
+    ghost use Rattle.std.specs.Prelude.{◌≡◌};
     ghost use Rattle.core_pts.specs.SetUp.{IsSetUp};
+    ghost use Rattle.core_pts.specs.OpenCopy.{has_open_copy};
 
     ghost Value = { CoreState };
 
@@ -53,7 +57,7 @@ impl Model for Core {
       issued = a.issued;
     } };
 
-    ghost invariant = { λ a. IsSetUp a.config.banks a.config.line_words };
+    ghost invariant = { λ a. IsSetUp a.config.banks a.config.line_words × (a.has_copy ≡ has_open_copy a.config.line_words a.cache a.open_op) };
 }
 
 impl Core {
@@ -72,6 +76,7 @@ impl Core {
             open_op: None,
             is_out: false,
             issued: 0,
+            has_copy: false,
         })
     }
 
@@ -91,6 +96,7 @@ impl Core {
         self.open_op = None;
         self.is_out = false;
         self.issued = 0;
+        self.has_copy = false;
         Ok(())
     }
 
@@ -118,6 +124,15 @@ impl Core {
             Some(op) => Some((op, self.is_out)),
             None => None,
         }
+    }
+
+    /// Whether an operation is open, and whether a request is out. It is as much as `open_op` tells but the operation,
+    /// and is read without a branch.
+    #[inline(always)]
+    pub fn open_status(&self) -> (bool, bool)
+        ensures { result ≡ (is_some self.now.open_op, self.now.is_out) }
+    {
+        (self.open_op.is_some(), self.is_out)
     }
 
     /// The copy of a line.
@@ -152,7 +167,8 @@ impl Core {
     pub fn free_copies(&self) -> usize
         ensures { result ≡ length (free_copies self.now) }
     {
-        self.cache.free_copies(self.pinned_line())
+        let copies = self.cache.count();
+        if self.has_copy { copies - 1 } else { copies }
     }
 
     /// The line that comes after so many others, once those of the copies that may be evicted are in rising order.
@@ -237,7 +253,7 @@ impl Core {
 
     // The line of the open operation.
     #[inline(always)]
-    fn pinned_line(&self) -> Option<LineNo>
+    pub(crate) fn pinned_line(&self) -> Option<LineNo>
         ensures { result ≡ pinned_line self.now }
     {
         match self.open_op {
@@ -266,6 +282,7 @@ impl Core {
         if self.issued >= u32::MAX {
             return Err(IssueError::TooMany);
         }
+        self.has_copy = self.copy(self.line_of_word(&op)).is_some();
         self.open_op = Some(op);
         self.issued += 1;
         Ok(())
@@ -340,6 +357,7 @@ impl Core {
         self.pts = ts;
         self.open_op = None;
         self.is_out = false;
+        self.has_copy = false;
     }
 
     /// Marks the request of the open operation out.
@@ -372,6 +390,7 @@ impl Core {
     {
         let pinned = self.pinned_line();
         let copy = self.cache.evict(line, pinned)?;
+        self.has_copy = self.cache.has_pinned(&pinned);
         if !is_exclusive(copy.state) {
             return Ok(None);
         }

@@ -34,12 +34,14 @@ impl Core {
         requires { IsSome (copy_of self.old.cache line) }
         ensures { self.new ≡ record self.old { cache = kept_in self.old line kept } }
     {
+        let pinned = self.pinned_line();
         match kept {
             Some(copy) => self.cache.change(line, copy),
             None => {
                 let _gone = self.cache.evict(line, None);
             }
         }
+        self.has_copy = self.cache.has_pinned(&pinned);
     }
 }
 
@@ -76,14 +78,17 @@ impl Part for Core {
         ensures sure { result ≢ Err PartError.NoMemory }
     {
         let line = message.line;
+        let pinned = self.pinned_line();
         match self.decided(message) {
             CoreReaction::Arrives(copy) => {
                 self.cache.put(line, copy);
+                self.has_copy = self.cache.has_pinned(&pinned);
                 self.is_out = false;
                 Ok(Reaction::Done(None))
             }
             CoreReaction::Grants(copy) => {
                 self.cache.change(line, copy);
+                self.has_copy = self.cache.has_pinned(&pinned);
                 self.is_out = false;
                 Ok(Reaction::Done(None))
             }

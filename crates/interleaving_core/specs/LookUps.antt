@@ -25,6 +25,14 @@ open_op_of (Some core) = option_map (λ op. (op, core.is_out)) core.open_op
 abbrev pub open_op : Machine → ℕ → Option (Op × Bool)
 open_op m core = open_op_of (slice_get m.cores core)
 
+-- whether a core has an open operation, and whether its request is out
+abbrev pub open_status_of : Option CoreState → Bool × Bool
+open_status_of None = (false, false)
+open_status_of (Some core) = (is_some core.open_op, core.is_out)
+
+abbrev pub open_status : Machine → ℕ → Bool × Bool
+open_status m core = open_status_of (slice_get m.cores core)
+
 -- the copy that leaves a core's cache to make a place for a line, where there is none: the least recently used one
 abbrev pub victim_of : ℕ → Option CoreState → Option ℕ
 victim_of line None = None

@@ -3,7 +3,7 @@ ghost use Rattle.std.specs.Prelude.{◌≡◌, ◌<◌, IfOk, length, map, slice
 ghost use Rattle.network.specs.NumberedMessages.{IsRising};
 ghost use Rattle.line_sets.specs.Rising.{risen};
 ghost use Rattle.interleaving_core.specs.LookUps.{copies, entries, free_copies, is_request, make_room, open_op};
-ghost use Rattle.interleaving_core.specs.LookUps.{room_at, victim};
+ghost use Rattle.interleaving_core.specs.LookUps.{open_status, room_at, victim};
 
 use crate::machine_state::MachineState;
 use network::{Body, LineNo, Message, MsgNo, Node};
@@ -29,6 +29,17 @@ impl MachineState {
         ensures { result ≡ open_op self.now core }
     {
         self.cores.get(core as usize)?.open_op()
+    }
+
+    // Whether a core has an open operation, and whether its request is out.
+    #[inline(always)]
+    pub(crate) fn open_status(&self, core: u32) -> (bool, bool)
+        ensures { result ≡ open_status self.now core }
+    {
+        match self.cores.get(core as usize) {
+            Some(core) => core.open_status(),
+            None => (false, false),
+        }
     }
 
     // The copy to evict from a core's cache to make a place for a line, where there is none.

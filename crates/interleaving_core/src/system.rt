@@ -13,7 +13,8 @@ ghost use Rattle.machine_table.specs.Opening.{at_start};
 ghost use Rattle.protocol.specs.Issued.{IsIssued};
 ghost use Rattle.machine_theorem.specs.Coherence.{owners, coherent};
 ghost use Rattle.machine_theorem.specs.Kept.{Invariant};
-ghost use Rattle.interleaving_core.specs.LookUps.{copies, entries, free_copies, make_room, open_op, victim};
+ghost use Rattle.interleaving_core.specs.LookUps.{copies, entries, free_copies, make_room, open_op};
+ghost use Rattle.interleaving_core.specs.LookUps.{open_status, victim};
 ghost use Rattle.interleaving_core.specs.Reservation.{completes};
 ghost use Rattle.interleaving_core.specs.Midway.{IsMidway};
 ghost use Rattle.interleaving_core.specs.StepAnswers.{Stepped, Ran, asks_memory};
@@ -219,6 +220,14 @@ impl System {
         ensures { result ≡ open_op self.now core }
     {
         self.state.open_op(core)
+    }
+
+    /// Whether a core has an open operation, and whether its request is out; neither for a core that isn't there.
+    #[inline(always)]
+    pub fn open_status(&self, core: u32) -> (bool, bool)
+        ensures { result ≡ open_status self.now core }
+    {
+        self.state.open_status(core)
     }
 
     /// The copy to evict from a core's cache to make a place for a line, where there is none: the least recently used

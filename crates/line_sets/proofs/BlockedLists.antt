@@ -9,9 +9,9 @@ use Rattle.std.proofs.lemmas.List.{length-drop, length-take-le}
 use mathlib.Core.Bool.{false≢true}
 use Rattle.std.proofs.lemmas.Bool.{cases_eq, cases_lt, cond_both, le-leb, lt-ltb}
 use Rattle.line_sets.specs.Rising.{all_below, all_but, is_but, put_in, take_out, AllFrom, Rises}
-use Rattle.line_sets.specs.Blocked.{block_at, joined, size_at, Filled, IsPlaceOf, Lacks, Spaced}
-use Rattle.line_sets.proofs.BlockNeighbours.{lacks-set, pair-before, pair-next, spaced-lacks, spaced-push}
-use Rattle.line_sets.proofs.BlockNeighbours.{spaced-remove, spaced-set, split-spaced}
+use Rattle.line_sets.specs.Blocked.{block_at, joined, size_at, Filled, IsPlaceOf, DenseBut, Dense}
+use Rattle.line_sets.proofs.BlockNeighbours.{dense-but-set, pair-before, pair-next, dense-dense-but, dense-push}
+use Rattle.line_sets.proofs.BlockNeighbours.{dense-remove, dense-set, split-dense}
 use Rattle.line_sets.proofs.RisenLists.{from-weaker}
 use Rattle.line_sets.proofs.RisingEdits.{at-from, at-less, ge-ltb, less-most}
 use Rattle.line_sets.proofs.RisingEdits.{all_but-above, but-gone, but-kept, gt-leb, less, less-more, less-none, most}
@@ -396,7 +396,7 @@ at-bound x (b ∷ bs) = let later = at-bound x bs in elim (block-cases x b bs) [
 ]
 
 -- how many numbers there are but one
-most-length : (b : ℕ) (ys : List ℕ) → most b ys ≤ length ys
+pub most-length : (b : ℕ) (ys : List ℕ) → most b ys ≤ length ys
 most-length b [] = omega arith
 most-length b (y ∷ ys) = let later = most-length b ys in elim (cases_lt b y) [
   | inl lt ↦ (let none = most-none b y ys lt in omega (arith, none))
@@ -609,12 +609,12 @@ module _ (n k : ℕ) (bs ns : List (ArrayVec ℕ)) (d e u w : ArrayVec ℕ) (ys 
       rw (sym is) at (half-room x bs k j d u w (ap₂ (λ us vs. us ++ vs) low high ∙ halves n (get_or bs k d).items)
       (omega (arith, bottom, few)) (omega (arith, long, top, most, some)) here (rw is at there))
 
-  pub split-apart : 64 ≤ n → n + 64 ≤ length ys → Filled bs → Spaced 65 bs → Spaced 65 (set ns k w)
+  pub split-apart : 64 ≤ n → n + 64 ≤ length ys → Filled bs → Dense 65 bs → Dense 65 (set ns k w)
   split-apart some more h s =
       let long = ap length (same ∙ ap (λ (v : ArrayVec ℕ). v.items) read) in
       let top = ap length high ∙ length-drop n (get_or bs k d).items in
       let bottom = ap length low ∙ length-take-le n (get_or bs k d).items (omega (arith, long, more)) in
-      rw (sym next) at (split-spaced 65 bs k u w (omega arith) h (omega (arith, long, top, more))
+      rw (sym next) at (split-dense 65 bs k u w (omega arith) h (omega (arith, long, top, more))
       (omega (arith, bottom, some)) lt s)
 
 -- how many numbers a block has that was read or is borrowed
@@ -639,12 +639,12 @@ pub placed-filled : (x : ℕ) (bs : List (ArrayVec ℕ)) (k : ℕ) (d w : ArrayV
     w.items ≡ put_in x d.items → Filled (set bs k w)
 placed-filled x bs k d w h e = filled-set bs k w h (rw (sym e) at (put-some x d.items))
 
-pub placed-spaced : (x : ℕ) (bs : List (ArrayVec ℕ)) (k : ℕ) (d w : ArrayVec ℕ) → d ≡ get_or bs k d →
-    w.items ≡ put_in x d.items → Spaced 65 bs → Spaced 65 (set bs k w)
-placed-spaced x bs k d w is e h =
+pub placed-dense : (x : ℕ) (bs : List (ArrayVec ℕ)) (k : ℕ) (d w : ArrayVec ℕ) → d ≡ get_or bs k d →
+    w.items ≡ put_in x d.items → Dense 65 bs → Dense 65 (set bs k w)
+placed-dense x bs k d w is e h =
     let more = put-longer x d.items in let same = ap (λ (v : ArrayVec ℕ). length v.items) is in
     let long = ap length e in
-    spaced-set 65 bs k d w (omega (arith, more, same, long)) h
+    dense-set 65 bs k d w (omega (arith, more, same, long)) h
 
 pub took : (x : ℕ) (bs : List (ArrayVec ℕ)) (k : ℕ) (d w : ArrayVec ℕ) → k < length bs → k ≡ block_at x bs →
     d ≡ get_or bs k d → w.items ≡ take_out x d.items → joined (set bs k w) ≡ take_out x (joined bs)
@@ -656,14 +656,14 @@ took-filled x bs k d w h lt is more e =
     let few = take-shorter x d.items in let long = ap length e in let same = sized k bs d lt is in
     filled-set bs k w h (omega (arith, few, long, more, same))
 
-pub took-lacks : (x : ℕ) (bs : List (ArrayVec ℕ)) (k : ℕ) (d w : ArrayVec ℕ) → k < length bs →
-    d ≡ get_or bs k d → w.items ≡ take_out x d.items → Spaced 65 bs → Lacks 1 1 65 k (set bs k w)
-took-lacks x bs k d w lt is e h =
+pub took-dense-but : (x : ℕ) (bs : List (ArrayVec ℕ)) (k : ℕ) (d w : ArrayVec ℕ) → k < length bs →
+    d ≡ get_or bs k d → w.items ≡ take_out x d.items → Dense 65 bs → DenseBut 1 1 65 k (set bs k w)
+took-dense-but x bs k d w lt is e h =
     let few = take-shorter x d.items in let long = ap length e in let same = sized k bs d lt is in
-    lacks-set 65 bs k w (omega (arith, few, long, same)) h
+    dense-but-set 65 bs k w (omega (arith, few, long, same)) h
 
-pub went-lacks : (bs : List (ArrayVec ℕ)) (k : ℕ) → size_at k bs ≤ 1 → Spaced 65 bs → Lacks 1 1 65 k (remove bs k)
-went-lacks bs k few h = spaced-lacks 1 1 65 (remove bs k) k (spaced-remove 65 bs k few h)
+pub went-dense-but : (bs : List (ArrayVec ℕ)) (k : ℕ) → size_at k bs ≤ 1 → Dense 65 bs → DenseBut 1 1 65 k (remove bs k)
+went-dense-but bs k few h = dense-dense-but 1 1 65 (remove bs k) k (dense-remove 65 bs k few h)
 
 pub went : (x : ℕ) (bs : List (ArrayVec ℕ)) (k : ℕ) → k < length bs → k ≡ block_at x bs →
     size_at k bs ≤ 1 → joined (remove bs k) ≡ take_out x (joined bs)
@@ -725,10 +725,10 @@ module _ (bs ns : List (ArrayVec ℕ)) (k : ℕ) (u e w : ArrayVec ℕ) (ys : Li
       let next = sized (suc k) bs u (omega (arith, lt)) above in let same = ap length read in
       omega (arith, long, here, next, same)
 
-  pub pair-opens : w.items ≡ e.items ++ ys → Lacks 1 1 65 k bs → Lacks 1 0 65 k (set ns k w)
+  pub pair-opens : w.items ≡ e.items ++ ys → DenseBut 1 1 65 k bs → DenseBut 1 0 65 k (set ns k w)
   pair-opens put h = rw (sym rest) at (pair-next 65 bs k w (omega (arith, lt)) (both put) h)
 
-  pub pair-closes : w.items ≡ e.items ++ ys → Lacks 1 0 65 (k + 1) bs → Spaced 65 (set ns k w)
+  pub pair-closes : w.items ≡ e.items ++ ys → DenseBut 1 0 65 (k + 1) bs → Dense 65 (set ns k w)
   pair-closes put h = let next : k + 1 ≡ suc k = omega arith in
       rw (sym rest) at (pair-before 65 bs k w (omega (arith, lt)) (both put) (rw next at h))
 
@@ -738,8 +738,8 @@ pub full-length : (k : ℕ) (bs : List (ArrayVec ℕ)) (d : ArrayVec ℕ) (ys : 
 full-length k bs d ys lt full is e = ap length e ∙ sym (sized k bs d lt is) ∙ full
 
 -- a list in blocks, and one block more
-pub more-spaced : (t : ℕ) (xs : List ℕ) (bs cs : List (ArrayVec ℕ)) (b : ArrayVec ℕ) → cs ≡ bs ++ b ∷ [] →
-    Spaced 65 (bs ++ b ∷ []) → (t < length xs → 64 ≤ length b.items) →
-    (w : ArrayVec ℕ) → 0 < length w.items → t < length xs → Spaced 65 (cs ++ w ∷ [])
-more-spaced t xs bs cs b e h full w some lt = let le = full lt in
-    rw (sym e) at (spaced-push 65 bs b w (omega (arith, le, some)) h)
+pub more-dense : (t : ℕ) (xs : List ℕ) (bs cs : List (ArrayVec ℕ)) (b : ArrayVec ℕ) → cs ≡ bs ++ b ∷ [] →
+    Dense 65 (bs ++ b ∷ []) → (t < length xs → 64 ≤ length b.items) →
+    (w : ArrayVec ℕ) → 0 < length w.items → t < length xs → Dense 65 (cs ++ w ∷ [])
+more-dense t xs bs cs b e h full w some lt = let le = full lt in
+    rw (sym e) at (dense-push 65 bs b w (omega (arith, le, some)) h)

@@ -72,6 +72,15 @@ less-most b (y ∷ ys) = elim (cases_lt y b) [
   | inr ge ↦ (let none = less-none b y ys ge in omega (arith, none))
 ]
 
+-- at most a number is below the next one
+pub less-next : (b : ℕ) (ys : List ℕ) → less (b + 1) ys ≡ most b ys
+less-next b [] = refl
+less-next b (y ∷ ys) = elim (cases_lt b y) [
+  | inl lt ↦ less-none (b + 1) y ys (omega (arith, lt)) ∙ sym (most-none b y ys lt)
+  | inr ge ↦
+      less-more (b + 1) y ys (omega (arith, ge)) ∙ ap suc (less-next b ys) ∙ sym (most-more b y ys (omega (arith, ge)))
+]
+
 -- the number at an index is below one exactly where so many are
 pub at-less : (b : ℕ) (ys : List ℕ) (at d : ℕ) → Rises ys → at < length ys → get_or ys at d < b → at < less b ys
 at-less b [] at d r in_list lt = absurd (omega (arith, in_list))

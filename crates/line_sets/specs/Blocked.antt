@@ -30,12 +30,12 @@ size_at (suc k) (b ∷ bs) = size_at k bs
 
 -- two neighbours have more than 64 numbers together; the block before the first one of the list has n, or is none and
 -- n is 65
-abbrev pub Spaced : ℕ → List (ArrayVec ℕ) → Type 0
-Spaced n [] = Unit {0}
-Spaced n (b ∷ bs) = (64 < n + length b.items) × Spaced (length b.items) bs
+abbrev pub Dense : ℕ → List (ArrayVec ℕ) → Type 0
+Dense n [] = Unit {0}
+Dense n (b ∷ bs) = (64 < n + length b.items) × Dense (length b.items) bs
 
 -- they would, had the k-th block i numbers more beside the one before it, and j more beside the next one
-abbrev pub Lacks : ℕ → ℕ → ℕ → ℕ → List (ArrayVec ℕ) → Type 0
-Lacks i j n k [] = Unit {0}
-Lacks i j n zero (b ∷ bs) = (64 < n + length b.items + i) × Spaced (length b.items + j) bs
-Lacks i j n (suc k) (b ∷ bs) = (64 < n + length b.items) × Lacks i j (length b.items) k bs
+abbrev pub DenseBut : ℕ → ℕ → ℕ → ℕ → List (ArrayVec ℕ) → Type 0
+DenseBut i j n k [] = Unit {0}
+DenseBut i j n zero (b ∷ bs) = (64 < n + length b.items + i) × Dense (length b.items + j) bs
+DenseBut i j n (suc k) (b ∷ bs) = (64 < n + length b.items) × DenseBut i j (length b.items) k bs

@@ -2,7 +2,7 @@
 ghost use Rattle.std.specs.Prelude.{◌≡◌, ◌≤◌, ◌<◌, ◌+◌, ◌++◌, ◌*◌, ℕ, IfOk, IsTrue, insert, length};
 ghost use Rattle.std.specs.Prelude.{if◌then◌else◌, slice_get, vec_capacity};
 ghost use Rattle.line_sets.specs.Rising.{all_but, put_in, take_out, Rises};
-ghost use Rattle.line_sets.specs.Blocked.{block_at, joined, size_at, Filled, IsPlaceOf, Lacks, Spaced};
+ghost use Rattle.line_sets.specs.Blocked.{block_at, joined, size_at, Filled, IsPlaceOf, DenseBut, Dense};
 
 use crate::rising_list::{Block, ends_below, index_but, kept, put_in, take_out};
 use network::LineNo;
@@ -19,13 +19,13 @@ pub(crate) struct Blocks {
 impl Model for Blocks {
     ghost use Rattle.std.specs.Prelude.{List, ℕ, vec_capacity};
     ghost use Rattle.line_sets.specs.Rising.{Rises};
-    ghost use Rattle.line_sets.specs.Blocked.{joined, Filled, Spaced};
+    ghost use Rattle.line_sets.specs.Blocked.{joined, Filled, Dense};
 
     ghost Value = { List ℕ × ℕ };
 
     ghost view = { λ numbers. (joined numbers.blocks.items, vec_capacity numbers.blocks) };
 
-    ghost invariant = { λ numbers. Rises (joined numbers.blocks.items) × Filled numbers.blocks.items × Spaced 65 numbers.blocks.items };
+    ghost invariant = { λ numbers. Rises (joined numbers.blocks.items) × Filled numbers.blocks.items × Dense 65 numbers.blocks.items };
 }
 
 /// How many blocks from the front on have only numbers below one, by a binary search.
@@ -85,7 +85,7 @@ fn block_of(numbers: &[u64]) -> Block
 /// Whether there is room for one more block. There is while there are fewer numbers than 32 for each block but one that
 /// there may be.
 fn has_room(blocks: &Vec<Block>) -> bool
-    requires { Spaced 65 blocks.now.items }
+    requires { Dense 65 blocks.now.items }
     ensures sure { length (joined blocks.now.items) + 32 < vec_capacity blocks.now * 32 →
         IsTrue result }
     ensures count { IsTrue result → length blocks.now.items < vec_capacity blocks.now }
@@ -112,8 +112,8 @@ fn split(blocks: &mut Vec<Block>, at: usize)
     requires room { length blocks.old.items < vec_capacity blocks.old }
     ensures same { joined blocks.new.items ≡ joined blocks.old.items }
     ensures filled { Filled blocks.old.items → Filled blocks.new.items }
-    ensures spaced { Filled blocks.old.items → Spaced 65 blocks.old.items →
-        Spaced 65 blocks.new.items }
+    ensures dense { Filled blocks.old.items → Dense 65 blocks.old.items →
+        Dense 65 blocks.new.items }
     ensures some { 0 < length blocks.new.items }
     ensures halves { (x k : ℕ) → IsPlaceOf x at blocks.old.items → IsPlaceOf x k blocks.new.items →
         size_at k blocks.new.items < 128 }
@@ -133,7 +133,7 @@ fn put_at(blocks: &mut Vec<Block>, at: usize, number: u64)
     ensures put { joined blocks.new.items ≡ put_in number (joined blocks.old.items) }
     ensures capacity { vec_capacity blocks.new ≡ vec_capacity blocks.old }
     ensures filled { Filled blocks.new.items }
-    ensures spaced { Spaced 65 blocks.old.items → Spaced 65 blocks.new.items }
+    ensures dense { Dense 65 blocks.old.items → Dense 65 blocks.new.items }
 {
     put_in(&mut blocks[at], number);
 }
@@ -147,7 +147,7 @@ fn take_at(blocks: &mut Vec<Block>, at: usize, number: u64)
     ensures taken { joined blocks.new.items ≡ take_out number (joined blocks.old.items) }
     ensures capacity { vec_capacity blocks.new ≡ vec_capacity blocks.old }
     ensures filled { Filled blocks.new.items }
-    ensures spaced { Spaced 65 blocks.old.items → Lacks 1 1 65 at blocks.new.items }
+    ensures dense { Dense 65 blocks.old.items → DenseBut 1 1 65 at blocks.new.items }
 {
     if size(blocks, at) <= 1 {
         let _block = blocks.remove(at);
@@ -169,8 +169,8 @@ fn join(blocks: &mut Vec<Block>, at: usize)
     requires { at < length blocks.old.items }
     ensures same { joined blocks.new.items ≡ joined blocks.old.items }
     ensures filled { Filled blocks.old.items → Filled blocks.new.items }
-    ensures next { Lacks 1 1 65 at blocks.old.items → Lacks 1 0 65 at blocks.new.items }
-    ensures before { Lacks 1 0 65 (at + 1) blocks.old.items → Spaced 65 blocks.new.items }
+    ensures next { DenseBut 1 1 65 at blocks.old.items → DenseBut 1 0 65 at blocks.new.items }
+    ensures before { DenseBut 1 0 65 (at + 1) blocks.old.items → Dense 65 blocks.new.items }
     ensures inside { at < length blocks.new.items }
     ensures capacity { vec_capacity blocks.new ≡ vec_capacity blocks.old }
 {
@@ -188,10 +188,10 @@ fn join(blocks: &mut Vec<Block>, at: usize)
 
 /// Joins a block that a number has left with the next one and with the one before, where they have at most 64 numbers
 /// together.
-fn level(blocks: &mut Vec<Block>, at: usize)
+fn rebalance(blocks: &mut Vec<Block>, at: usize)
     ensures same { joined blocks.new.items ≡ joined blocks.old.items }
     ensures filled { Filled blocks.old.items → Filled blocks.new.items }
-    ensures spaced { Lacks 1 1 65 at blocks.old.items → Spaced 65 blocks.new.items }
+    ensures dense { DenseBut 1 1 65 at blocks.old.items → Dense 65 blocks.new.items }
     ensures capacity { vec_capacity blocks.new ≡ vec_capacity blocks.old }
 {
     if at >= blocks.len() {
@@ -214,11 +214,7 @@ fn nth_within(blocks: &[Block], but: &Option<LineNo>, at: usize) -> Option<u64>
         let here = kept(block.as_slice(), *but);
         if left < here {
             let numbers = block.as_slice();
-            let index = index_but(numbers, *but, left);
-            if index >= numbers.len() {
-                return None;
-            }
-            return Some(numbers[index]);
+            return Some(numbers[index_but(numbers, *but, here, left)]);
         }
         left -= here;
     }
@@ -293,7 +289,7 @@ impl Blocks {
             return;
         }
         take_at(&mut self.blocks, at, number);
-        level(&mut self.blocks, at);
+        rebalance(&mut self.blocks, at);
     }
 
     /// The number that comes after so many others but one number, if there is one.

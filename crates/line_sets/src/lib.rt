@@ -8,6 +8,7 @@ pub mod listed;
 mod rising_lines;
 mod rising_list;
 mod rows;
+mod search;
 mod selection;
 pub mod sets;
 

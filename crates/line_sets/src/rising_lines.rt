@@ -1,6 +1,6 @@
 //! The numbers of lines in rising order, where they are kept so.
-ghost use Rattle.std.specs.Prelude.{◌≡◌, ◌≤◌, ◌<◌, IfOk, IfSome, List, None, Some, length, slice_get, ℕ};
-ghost use Rattle.std.specs.Prelude.{if◌then◌else◌};
+ghost use Rattle.std.specs.Prelude.{◌≡◌, ◌≤◌, ◌<◌, ◌+◌, ◌*◌, IfOk, IfSome, IsTrue, List, None, Some, length};
+ghost use Rattle.std.specs.Prelude.{if◌then◌else◌, slice_get, ℕ};
 ghost use Rattle.line_sets.specs.Rising.{all_but, put_in, risen, take_out, IsExchanged, IsOrderOf, Rises};
 
 use crate::blocks::Blocks;
@@ -23,10 +23,12 @@ impl Model for RisingLines {
 }
 
 /// A number goes out of a rising list, or comes into it; false where there is no room for it, and then nothing has
-/// changed.
+/// changed. There is room while there are fewer numbers than there may be.
 #[inline(never)]
 fn exchange(numbers: &mut Blocks, number: u64, goes: bool) -> bool
-    ensures { numbers.new.0 ≡ (if result then (if goes then take_out number numbers.old.0 else
+    ensures room { numbers.new.1 ≡ numbers.old.1 }
+    ensures sure { length numbers.old.0 + 32 < numbers.old.1 * 32 → IsTrue result }
+    ensures numbers { numbers.new.0 ≡ (if result then (if goes then take_out number numbers.old.0 else
         put_in number numbers.old.0) else numbers.old.0) }
 {
     if goes {

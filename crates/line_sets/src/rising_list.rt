@@ -3,29 +3,12 @@ ghost use Rattle.std.specs.Prelude.{◌≡◌, ◌≤◌, ◌<◌, length, nat_l
 ghost use Rattle.std.specs.List.{prefix_len};
 ghost use Rattle.line_sets.specs.Rising.{all_below, all_but, put_in, take_out, Rises};
 
+use crate::search::{below, up_to};
 use arrayvec::ArrayVec;
 use network::LineNo;
 
 /// A list of at most 128 numbers, which lie in the value itself.
 pub(crate) type Block = ArrayVec<u64, 128>;
-
-/// How many numbers of a rising list are below a number.
-pub(crate) fn below(numbers: &[u64], number: u64) -> usize
-    requires { Rises numbers.now }
-    ensures bound { result ≤ length numbers.now }
-    ensures count { result ≡ prefix_len (λ y. nat_lt y number) numbers.now }
-{
-    numbers.partition_point(|y| *y < number)
-}
-
-/// How many numbers of a rising list are at most a number.
-pub(crate) fn up_to(numbers: &[u64], number: u64) -> usize
-    requires { Rises numbers.now }
-    ensures bound { result ≤ length numbers.now }
-    ensures count { result ≡ prefix_len (λ y. nat_le y number) numbers.now }
-{
-    numbers.partition_point(|y| *y <= number)
-}
 
 /// Puts a number into its place in a rising list that has room.
 pub(crate) fn put_in(numbers: &mut Block, number: u64)
@@ -48,11 +31,16 @@ pub(crate) fn take_out(numbers: &mut Block, number: u64)
     }
 }
 
-/// Where the number stands in a rising list that comes after so many others but one number.
-pub(crate) fn index_but(numbers: &[u64], but: Option<LineNo>, at: usize) -> usize
+/// Where the number stands in a rising list that comes after so many others but one number, where there are so many
+/// numbers but that one.
+#[inline(always)]
+pub(crate) fn index_but(numbers: &[u64], but: Option<LineNo>, here: usize, at: usize) -> usize
     requires rises { Rises numbers.now }
-    requires inside { at < length numbers.now }
-    ensures { slice_get numbers.now result ≡ slice_get (all_but but numbers.now) at }
+    requires here { here ≡ length (all_but but numbers.now) }
+    requires most { here ≤ length numbers.now }
+    requires inside { at < here }
+    ensures within { result < length numbers.now }
+    ensures number { slice_get numbers.now result ≡ slice_get (all_but but numbers.now) at }
 {
     let Some(but) = but else {
         return at;
@@ -60,14 +48,15 @@ pub(crate) fn index_but(numbers: &[u64], but: Option<LineNo>, at: usize) -> usiz
     if numbers[at] < but.0 {
         return at;
     }
-    at + (up_to(numbers, but.0) - below(numbers, but.0))
+    at + (numbers.len() - here)
 }
 
 /// How many numbers of a rising list there are but one number. A list that ends below it, or begins above, is searched
 /// no further.
 #[inline(always)]
 pub(crate) fn kept(numbers: &[u64], but: Option<LineNo>) -> usize
-    requires { Rises numbers.now }
+    requires rises { Rises numbers.now }
+    requires few { length numbers.now ≤ 128 }
     ensures { result ≡ length (all_but but numbers.now) }
 {
     let Some(but) = but else {

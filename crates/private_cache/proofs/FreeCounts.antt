@@ -1,8 +1,7 @@
 -- How many copies there are, and how many of them may leave.
 use Rattle.std.proofs.Common.{◌≡◌, ◌≢◌, ℕ, zero, suc, ◌+◌, ◌%◌, true, false, not, cond, List, [], ◌∷◌, length}
 use Rattle.std.proofs.Common.{filter, inl, inr, Option, Some, None, refl, sym, ap, ◌∙◌, arith}
-use Rattle.std.specs.Borrow.{Bor}
-use Rattle.std.specs.Option.{is_some, option_copied}
+use Rattle.std.specs.Option.{is_some}
 use Rattle.std.proofs.lemmas.Bool.{cases_eq, eq-eqb, false_from_ne_true, ne_eqb}
 use Rattle.std.proofs.lemmas.List.{length-append}
 use Rattle.std.proofs.lemmas.List.Elements.{filter-append}
@@ -11,7 +10,7 @@ use Rattle.line_sets.specs.Rising.{all_but}
 use Rattle.line_sets.specs.SetTable.{Sets, all_listed, set_at}
 use Rattle.private_cache.specs.declared.line_copy.LineCopy.{LineCopy}
 use Rattle.private_cache.specs.CopyTable.{copy_of, is_pinned}
-use Rattle.private_cache.specs.FreeLines.{free_lines}
+use Rattle.private_cache.specs.FreeLines.{free_lines, has_pinned}
 use Rattle.private_cache.specs.OwnSets.{IsSound}
 
 -- the numbers but the pinned one
@@ -95,22 +94,10 @@ module _ (line : ℕ) where
   pinned-counted cache sound once = in-one cache.sets (line % length cache.sets)
       (λ i ne. false_from_ne_true _ (λ there. ne (sym (sound.own_sets i line there)))) once
 
-some-copied : (o : Option (Bor LineCopy)) → is_some (option_copied o) ≡ is_some o
-some-copied None = refl
-some-copied (Some copy) = refl
-
--- the count of all copies, by whether the pinned line has one
+-- those that may leave and that of the pinned line, if there is one, are all copies
 pub free-counted :
-    (table cache : Sets LineCopy) (pinned : Option ℕ) (line count : ℕ) (copy : Option (Bor LineCopy)) →
-    table ≡ cache → IsSound table → ((i : ℕ) → IsDistinct (set_at table.sets i)) →
-    count ≡ length (all_listed (λ copy. true) table.sets) → pinned ≡ Some line →
-    option_copied copy ≡ copy_of cache line → length (free_lines cache pinned) + cond (is_some copy) 1 0 ≡ count
-free-counted table cache pinned line count copy view sound once counted some found =
-    let whole = pinned-counted line table sound once in
-    let there : ◌≡◌ {A = ℕ} (cond (is_some copy) 1 0) (cond (is_some (copy_of cache line)) 1 0) =
-    ap (λ b. cond b 1 0) (sym (some-copied copy) ∙ ap is_some found) in
-    let free : length (free_lines cache pinned) ≡ length (free_lines table (Some line)) =
-    ap (λ p. length (free_lines cache p)) some ∙ ap (λ t. length (free_lines t (Some line))) (sym view) in
-    let same : ◌≡◌ {A = ℕ} (cond (is_some (copy_of cache line)) 1 0) (cond (is_some (copy_of table line)) 1 0) =
-    ap (λ t. cond (is_some (copy_of t line)) 1 0) (sym view) in
-    omega (arith, whole, there, free, same, counted)
+    (cache : Sets LineCopy) (pinned : Option ℕ) → IsSound cache → ((i : ℕ) → IsDistinct (set_at cache.sets i)) →
+    length (free_lines cache pinned) + cond (has_pinned cache pinned) 1 0
+    ≡ length (all_listed (λ copy. true) cache.sets)
+free-counted cache None sound once = omega (arith, all-free (all_listed (λ copy. true) cache.sets))
+free-counted cache (Some line) sound once = pinned-counted line cache sound once

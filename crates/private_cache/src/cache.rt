@@ -1,12 +1,13 @@
 //! A private cache, whose memory is all taken when it is made.
 ghost use Rattle.std.specs.Prelude.{◌≡◌, ◌≤◌, ◌<◌, length, IfOk, IfSome, IsSome, IsTrue};
-ghost use Rattle.std.specs.Prelude.{is_some, not, slice_get, true, IsOk, OnErr, OnOk, Some};
+ghost use Rattle.std.specs.Prelude.{◌+◌, if◌then◌else◌, is_some, not, slice_get, true, IsOk, OnErr, OnOk};
+ghost use Rattle.std.specs.Prelude.{Option, Some, ℕ};
 ghost use Rattle.std.specs.Option.{option_copied};
 ghost use Rattle.line_sets.specs.Geometry.{IsGeometry};
 ghost use Rattle.line_sets.specs.Rising.{risen};
 ghost use Rattle.line_sets.specs.SetTable.{all_listed, empty_sets, has_room};
 ghost use Rattle.private_cache.specs.CopyTable.{is_pinned};
-ghost use Rattle.private_cache.specs.FreeLines.{free_lines};
+ghost use Rattle.private_cache.specs.FreeLines.{free_lines, has_pinned};
 
 use crate::line_copy::{CopyState, LineCopy};
 use line_sets::LineSets;
@@ -256,18 +257,31 @@ impl Cache {
         self.table.lines()
     }
 
+    /// How many copies there are. All but that of the pinned line, if there is one, may leave.
+    pub fn count(&self) -> usize
+        ensures count { result ≡ length (all_listed (λ _. true) self.now.sets) }
+        ensures free { (pinned : Option ℕ) → length (free_lines self.now pinned)
+            + (if has_pinned self.now pinned then 1 else 0) ≡ result }
+    {
+        self.table.listed()
+    }
+
+    /// Whether there is a copy of the pinned line.
+    #[inline(always)]
+    pub fn has_pinned(&self, pinned: &Option<LineNo>) -> bool
+        ensures { result ≡ has_pinned self.now pinned.now }
+    {
+        match pinned {
+            Some(line) => self.find(*line).is_some(),
+            None => false,
+        }
+    }
+
     /// How many copies may leave: all but that of the pinned line.
     pub fn free_copies(&self, pinned: Option<LineNo>) -> usize
         ensures { result ≡ length (free_lines self.now pinned) }
     {
-        let copies = self.table.listed();
-        let Some(line) = pinned else {
-            return copies;
-        };
-        if self.find(line).is_none() {
-            return copies;
-        }
-        copies - 1
+        self.count() - usize::from(self.has_pinned(&pinned))
     }
 
     /// The line that comes after so many others, once the lines of all copies but the pinned one are in rising order.

@@ -188,7 +188,8 @@ fn has_waiting(alloc: Global, system: &System, step: &Step) -> Result<bool, Allo
         }
         Step::Room(number, room) => Ok(place_of(system.make_room(MsgNo(*number))) == *room),
         Step::Open(core, pending, is_out) => {
-            Ok(open_of(system.open_op(*core)) == (*pending, *is_out))
+            let wanted = (*pending, *is_out);
+            Ok(open_of(system.open_op(*core)) == wanted && system.open_status(*core) == wanted)
         }
         _ => has_lists(alloc, system, step),
     }

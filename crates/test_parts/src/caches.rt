@@ -146,9 +146,19 @@ fn first_free(cache: &Cache, pinned: u64) -> Result<Option<LineNo>, AllocError> 
     Ok(Some(cache.free_copy(pinned, 0)?))
 }
 
+// Whether a cache has copies of two lines and no others.
+fn counts_two(cache: &Cache, first: u64, second: u64) -> bool {
+    cache.count() == 2
+        && cache.free_copies(None) == 2
+        && cache.has_pinned(&Some(LineNo(first)))
+        && cache.has_pinned(&Some(LineNo(second)))
+        && !cache.has_pinned(&Some(LineNo(u64::MAX)))
+        && !cache.has_pinned(&None)
+}
+
 // Whether a cache has copies of two lines, this one and a greater one.
 fn has_two(cache: &Cache, first: u64, second: u64) -> Result<bool, AllocError> {
-    if cache.free_copies(None) != 2 || first_free(cache, first)? != Some(LineNo(second)) {
+    if !counts_two(cache, first, second) || first_free(cache, first)? != Some(LineNo(second)) {
         return Ok(false);
     }
     Ok(cache.lines()?.as_slice() == [LineNo(first), LineNo(second)].as_slice())

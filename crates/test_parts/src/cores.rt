@@ -273,7 +273,13 @@ fn goes(core: &mut Core, step: Step) -> Result<bool, AllocError> {
         Step::Hand(told, does) => Ok(hand(core, body(told)) == Some(wanted_of(does))),
         Step::Advance(wanted) => Ok(core.advance() == wanted),
         Step::Evict(line, wanted) => Ok(core.evict(line) == eviction(wanted)),
-        Step::OpenOp(wanted) => Ok(core.open_op() == pending(wanted)),
+        Step::OpenOp(wanted) => {
+            let is_out = wanted.is_some_and(|(_, is_out)| is_out);
+            Ok(
+                core.open_op() == pending(wanted)
+                    && core.open_status() == (wanted.is_some(), is_out),
+            )
+        }
         Step::CopyOfX(wanted) => Ok(core.copy(X).copied() == written_copy(wanted)),
         Step::Now(pts, issued) => Ok(core.pts() == pts && core.issued() == issued),
         Step::OneLine(line) => has_one(core, line),

@@ -224,18 +224,16 @@ fn core_step<P: Program>(system: &System, programs: &mut [P], core: u32) -> Opti
     }
 }
 
-// How many steps a core does next: one, or none.
+// How many steps a core does next: one, or none. All is read without a branch that could be guessed wrong.
 #[inline(always)]
 fn steps_next<P: Program>(system: &System, programs: &mut [P], core: u32) -> u32
     ensures step { result ≡ length (core_step core (open_op system.now core)
         (next_in P.acts programs.old core)) }
     ensures same { programs.new ≡ programs.old }
 {
-    let _inside: Option<Op> = None;
-    if let Some((_op, is_out)) = system.open_op(core) {
-        return u32::from(!is_out);
-    }
-    u32::from(next_in(programs, core).is_some())
+    let (is_open, is_out) = system.open_status(core);
+    let has_next = next_in(programs, core).is_some();
+    u32::from(is_open & !is_out | !is_open & has_next)
 }
 
 // The cores that do something next, in rising order, and how many they are. A machine has at most 64.

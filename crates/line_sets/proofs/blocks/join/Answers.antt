@@ -1,5 +1,5 @@
 use Rattle.std.proofs.Common.{◌+◌, arith}
-use Rattle.line_sets.proofs.BlockNeighbours.{lacks-past, last-next, stay-before, stay-next}
+use Rattle.line_sets.proofs.BlockNeighbours.{dense-but-past, last-next, stay-before, stay-next}
 use Rattle.line_sets.proofs.BlockedLists.{pair-closes, pair-filled, pair-fits, pair-opens, pair-same}
 use Rattle.line_sets.proofs.blocks.join.Goals as goal
 
@@ -29,7 +29,7 @@ returns-then-at-len-clause-next c = λ h. let le = c.if-at-len.true in
 
 pub returns-then-at-len-clause-before : goal.returns-then-at-len-clause-before
 returns-then-at-len-clause-before c = λ h. let le = c.if-at-len.true in
-    lacks-past 1 0 65 c.args.blocks.now.items (c.args.at + 1) (omega (arith, le)) h
+    dense-but-past 1 0 65 c.args.blocks.now.items (c.args.at + 1) (omega (arith, le)) h
 
 pub returns-then-here-next-gt64-clause-next : goal.returns-then-here-next-gt64-clause-next
 returns-then-here-next-gt64-clause-next c = λ h.

@@ -1,5 +1,5 @@
 use Rattle.std.proofs.Common.{arith, refl}
-use Rattle.line_sets.proofs.BlockedLists.{block-rises, placed, placed-filled, placed-spaced, sized}
+use Rattle.line_sets.proofs.BlockedLists.{block-rises, placed, placed-filled, placed-dense, sized}
 use Rattle.line_sets.proofs.blocks.put_at.Goals as goal
 
 pub put_in-requires-clause-rises : goal.put_in-requires-clause-rises
@@ -21,6 +21,6 @@ pub returns-clause-filled : goal.returns-clause-filled
 returns-clause-filled c = placed-filled c.args.number c.args.blocks.now.items c.args.at c.index_mut.result.now
     c.put_in.new.numbers c.requires.filled c.put_in.ensures
 
-pub returns-clause-spaced : goal.returns-clause-spaced
-returns-clause-spaced c = placed-spaced c.args.number c.args.blocks.now.items c.args.at c.index_mut.result.now
+pub returns-clause-dense : goal.returns-clause-dense
+returns-clause-dense c = placed-dense c.args.number c.args.blocks.now.items c.args.at c.index_mut.result.now
     c.put_in.new.numbers c.index_mut.ensures.value c.put_in.ensures

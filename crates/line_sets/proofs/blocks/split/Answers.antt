@@ -28,8 +28,8 @@ returns-clause-filled c =
     c.index.ensures c.as_slice.ensures.value c.block_of-upper.ensures
     c.put_block.ensures.items c.index_mut.ensures.value c.truncate.ensures.items (omega arith) (omega (arith, long))
 
-pub returns-clause-spaced : goal.returns-clause-spaced
-returns-clause-spaced c =
+pub returns-clause-dense : goal.returns-clause-dense
+returns-clause-dense c =
     let long = full-length c.args.at c.args.blocks.now.items c.index.result.now c.as_slice.result.now c.requires.inside
     c.requires.full c.index.ensures c.as_slice.ensures.value in
     split-apart 64 c.args.at c.args.blocks.now.items c.put_block.new.blocks.items c.index.result.now

@@ -1,6 +1,6 @@
 use Rattle.std.proofs.Common.{arith, refl, sym, ap, ◌∙◌}
 use Rattle.line_sets.specs.Blocked.{joined}
-use Rattle.line_sets.proofs.BlockedLists.{block-rises, filled-remove, took, took-filled, took-lacks, went, went-lacks}
+use Rattle.line_sets.proofs.BlockedLists.{block-rises, filled-remove, took, took-filled, took-dense-but, went, went-dense-but}
 use Rattle.line_sets.proofs.blocks.take_at.Goals as goal
 
 pub returns-then-size-le1-clause-taken : goal.returns-then-size-le1-clause-taken
@@ -28,12 +28,12 @@ returns-clause-filled c =
     took-filled c.args.number c.args.blocks.now.items c.args.at c.index_mut.result.now c.take_out.new.numbers
     c.requires.filled c.requires.inside c.index_mut.ensures.value (omega (arith, more, count)) c.take_out.ensures
 
-pub returns-then-size-le1-clause-spaced : goal.returns-then-size-le1-clause-spaced
-returns-then-size-le1-clause-spaced c = λ h.
+pub returns-then-size-le1-clause-dense : goal.returns-then-size-le1-clause-dense
+returns-then-size-le1-clause-dense c = λ h.
     let few = c.if-size-le1.true in let count = rw c.deref.ensures.value at c.size.ensures.count in
     rw (sym c.remove-block.ensures.items)
-    at (went-lacks c.args.blocks.now.items c.args.at (omega (arith, few, count)) h)
+    at (went-dense-but c.args.blocks.now.items c.args.at (omega (arith, few, count)) h)
 
-pub returns-clause-spaced : goal.returns-clause-spaced
-returns-clause-spaced c = took-lacks c.args.number c.args.blocks.now.items c.args.at c.index_mut.result.now
+pub returns-clause-dense : goal.returns-clause-dense
+returns-clause-dense c = took-dense-but c.args.number c.args.blocks.now.items c.args.at c.index_mut.result.now
     c.take_out.new.numbers c.requires.inside c.index_mut.ensures.value c.take_out.ensures

@@ -1,33 +1,32 @@
-use Rattle.std.proofs.Common.{◌≡◌, arith, slice_get, Some, sym, ap, ◌∙◌, ◌+◌, ◌-◌}
+use Rattle.std.proofs.Common.{◌≡◌, arith, length, slice_get, Some, sym, ap, ◌∙◌, ◌+◌, ◌-◌}
 use Rattle.line_sets.specs.Rising.{all_but}
 use Rattle.line_sets.proofs.RisenLists.{all_but-none}
 use Rattle.line_sets.proofs.RisingEdits.{at-from, at-less, before-but, from-but, less, less-most, most}
+use Rattle.line_sets.proofs.BlockedLists.{length-all_but, most-length}
 use Rattle.line_sets.proofs.rising_list.index_but.Goals as goal
 
-pub returns-in_default : goal.returns-in_default
-returns-in_default c =
+pub returns-in_default-clause-number : goal.returns-in_default-clause-number
+returns-in_default-clause-number c =
     sym (ap (λ but. slice_get (all_but but c.args.numbers.now) c.args.at) c.in_default.is
     ∙ ap (λ ys. slice_get ys c.args.at) (all_but-none c.args.numbers.now))
 
-pub returns-then-numbers-at : goal.returns-then-numbers-at
-returns-then-numbers-at c =
-    let b = c.but.inside.0 in
+pub returns-then-numbers-at-clause-number : goal.returns-then-numbers-at-clause-number
+returns-then-numbers-at-clause-number c =
+    let b = c.but.inside.0 in let within = c.requires.inside in let most = c.requires.most in
     before-but b c.args.numbers.now c.args.at
-    (at-less b c.args.numbers.now c.args.at 0 c.requires.rises c.requires.inside c.if-numbers-at.true)
+    (at-less b c.args.numbers.now c.args.at 0 c.requires.rises (omega (arith, within, most)) c.if-numbers-at.true)
     ∙ sym (ap (λ but. slice_get (all_but but c.args.numbers.now) c.args.at)
     (c.in-Some.is ∙ ap Some (sym c.but.view_is)))
 
-pub overflow_sub-result : goal.overflow_sub-result
-overflow_sub-result c =
-    let low = c.below.ensures.count in let high = c.up_to.ensures.count in
-    let le = less-most c.but.inside.0 c.args.numbers.now in omega (arith, low, high, le)
-
-pub returns : goal.returns
-returns c =
+pub returns-clause-number : goal.returns-clause-number
+returns-clause-number c =
     let ys = c.args.numbers.now in let b = c.but.inside.0 in
-    let low = c.below.ensures.count in let high = c.up_to.ensures.count in
-    let same : c.args.at + (c.up_to.result - c.below.result) ≡ c.args.at + (most b ys - less b ys) =
-    omega (arith, low, high) in
+    let within = c.requires.inside in let all = c.requires.most in
+    let is = c.in-Some.is ∙ ap Some (sym c.but.view_is) in
+    let here = c.requires.here ∙ ap (λ but. length (all_but but ys)) is ∙ length-all_but b ys c.requires.rises in
+    let le = less-most b ys in let most_in = most-length b ys in
+    let same : c.args.at + (length ys - c.args.here) ≡ c.args.at + (most b ys - less b ys) =
+    omega (arith, here, le, most_in) in
     ap (λ n. slice_get ys n) same
-    ∙ from-but b ys c.args.at c.requires.rises (at-from b ys c.args.at 0 c.requires.inside c.if-numbers-at.false)
-    ∙ sym (ap (λ but. slice_get (all_but but ys) c.args.at) (c.in-Some.is ∙ ap Some (sym c.but.view_is)))
+    ∙ from-but b ys c.args.at c.requires.rises (at-from b ys c.args.at 0 (omega (arith, within, all)) c.if-numbers-at.false)
+    ∙ sym (ap (λ but. slice_get (all_but but ys) c.args.at) is)

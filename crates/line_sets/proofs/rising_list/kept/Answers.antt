@@ -18,12 +18,12 @@ overflow_sub-result c =
 pub returns-then-numbers-count : goal.returns-then-numbers-count
 returns-then-numbers-count c =
     but-length c.args.but c.but.inside.0 _ c.args.numbers.now (c.in-Some.is ∙ ap Some (sym c.but.view_is))
-    (all-below c.but.inside.0 c.args.numbers.now c.requires c.if-numbers-count.true (omega arith))
+    (all-below c.but.inside.0 c.args.numbers.now c.requires.rises c.if-numbers-count.true (omega arith))
 
 pub returns-then-but-numbers : goal.returns-then-but-numbers
 returns-then-but-numbers c =
     but-length c.args.but c.but.inside.0 _ c.args.numbers.now (c.in-Some.is ∙ ap Some (sym c.but.view_is))
-    (all-above c.but.inside.0 c.args.numbers.now c.requires c.if-but-numbers.true)
+    (all-above c.but.inside.0 c.args.numbers.now c.requires.rises c.if-but-numbers.true)
 
 pub returns : goal.returns
 returns c =
@@ -31,5 +31,5 @@ returns c =
     let low = c.below.ensures.count in let high = c.up_to.ensures.count in
     let same : length ys - (c.up_to.result - c.below.result) ≡ length ys - (most b ys - less b ys) =
     omega (arith, low, high) in
-    same ∙ sym (length-all_but b ys c.requires)
+    same ∙ sym (length-all_but b ys c.requires.rises)
     ∙ sym (ap (λ but. length (all_but but ys)) (c.in-Some.is ∙ ap Some (sym c.but.view_is)))

@@ -1,7 +1,7 @@
 use Rattle.std.proofs.Common.{sym, ap, ◌∙◌, ◌<◌, arith, length, drop, ◌-◌}
 use Rattle.std.proofs.Math.Nat.{mod-add-div, mod-lt}
 use Rattle.std.proofs.lemmas.List.{length-drop, length-take-le}
-use Rattle.line_sets.proofs.BlockedLists.{more-filled, more-joined, more-spaced}
+use Rattle.line_sets.proofs.BlockedLists.{more-filled, more-joined, more-dense}
 use Rattle.line_sets.proofs.blocks.Blocks.of.Goals as goal
 
 pub loop-from-preserved : goal.loop-from-preserved
@@ -18,9 +18,9 @@ loop-from-preserved c =
           c.block_of.ensures;
       filled = more-filled c.args.numbers.now c.loop-from.from c.block_end-to.result c.loop-from.blocks.items _
           c.block_of.result more within c.loop-from.invariant.filled c.in_ok-push.ensures.items c.block_of.ensures;
-      spaced = rw (sym c.in_ok-push.ensures.items) at next;
+      dense = rw (sym c.in_ok-push.ensures.items) at next;
       room = omega (arith, c.loop-from.invariant.room, c.in_ok-push.ensures.capacity);
-      ready = more-spaced c.block_end-to.result c.args.numbers.now c.loop-from.blocks.items _ c.block_of.result
+      ready = more-dense c.block_end-to.result c.args.numbers.now c.loop-from.blocks.items _ c.block_of.result
           c.in_ok-push.ensures.items next (λ lt. (let whole = c.block_end-to.ensures.whole lt in
           omega (arith, long, whole)));
     }

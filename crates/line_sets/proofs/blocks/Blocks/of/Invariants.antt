@@ -1,7 +1,7 @@
 use Rattle.std.proofs.Common.{ℕ, ◌≡◌, ◌≤◌, ◌<◌, ◌-◌, ◌+◌, ◌/◌, [], ◌∷◌, ◌++◌, length, take}
 use Rattle.std.specs.Prelude.{vec_capacity}
 use Rattle.arrayvec.specs.ArrayVec.{ArrayVec}
-use Rattle.line_sets.specs.Blocked.{joined, Filled, Spaced}
+use Rattle.line_sets.specs.Blocked.{joined, Filled, Dense}
 use Rattle.line_sets.proofs.blocks.Blocks.of.Given as goal
 
 abbrev pub invariant-loop-from : goal.invariant-loop-from
@@ -9,9 +9,9 @@ invariant-loop-from l = record {
   within : l.from ≤ length l.numbers;
   done : joined l.blocks.items ≡ take l.from l.numbers;
   filled : Filled l.blocks.items;
-  spaced : Spaced 65 l.blocks.items;
+  dense : Dense 65 l.blocks.items;
   room : l.fn.most / 32 + 2 ≤ vec_capacity l.blocks;
-  ready : (w : ArrayVec ℕ) → 0 < length w.items → l.from < length l.numbers → Spaced 65 (l.blocks.items ++ w ∷ []);
+  ready : (w : ArrayVec ℕ) → 0 < length w.items → l.from < length l.numbers → Dense 65 (l.blocks.items ++ w ∷ []);
 }
 
 abbrev pub decreases-loop-from : goal.decreases-loop-from

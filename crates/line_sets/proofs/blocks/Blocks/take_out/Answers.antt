@@ -13,7 +13,7 @@ returns-then-at-len c = rw (← c.self.view_is) record {
 
 pub invariant_of-self : goal.invariant_of-self
 invariant_of-self c = (
-  rw (sym (c.level.ensures.same ∙ c.take_at.ensures.taken)) at (rises-take_out c.args.number _ c.self.invariant.0),
-  c.level.ensures.filled c.take_at.ensures.filled,
-  c.level.ensures.spaced (c.take_at.ensures.spaced c.self.invariant.2),
+  rw (sym (c.rebalance.ensures.same ∙ c.take_at.ensures.taken)) at (rises-take_out c.args.number _ c.self.invariant.0),
+  c.rebalance.ensures.filled c.take_at.ensures.filled,
+  c.rebalance.ensures.dense (c.take_at.ensures.dense c.self.invariant.2),
 )

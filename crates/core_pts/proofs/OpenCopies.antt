@@ -1,5 +1,5 @@
 -- The copy of the open operation's line, as the copies that may be evicted are counted.
-use Rattle.std.proofs.Common.{◌≡◌, ℕ, ◌+◌, ◌≤◌, cond, length, Bool, Option, None, Some, refl, sym, ap, ◌∙◌, arith}
+use Rattle.std.proofs.Common.{◌≡◌, ℕ, ◌+◌, cond, length, Bool, Option, None, Some, refl, sym, ap, ◌∙◌}
 use Rattle.physiological_order.specs.declared.operation.Op.{Op}
 use Rattle.private_cache.specs.FreeLines.{free_lines, has_pinned}
 use Rattle.core_pts.specs.CoreTable.{CoreState, line_of_open, pinned_line}

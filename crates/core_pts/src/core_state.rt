@@ -298,8 +298,11 @@ impl Core {
             return Ok(Attempt::Idle);
         };
         let line = self.line_of_word(&op);
-        let Some(copy) = self.cache.find(line) else {
+        if !self.has_copy {
             return Ok(self.answer_without(&op, line));
+        }
+        let Some(copy) = self.cache.find(line) else {
+            unreachable!();
         };
         if !serves(&op, self.pts, copy) {
             return Ok(self.answer_unserved(&op, copy.wts));

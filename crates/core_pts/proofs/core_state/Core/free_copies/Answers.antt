@@ -1,7 +1,5 @@
-use Rattle.std.proofs.Common.{◌≡◌, ℕ, ◌+◌, ◌≤◌, true, false, cond, length, arith, sym, ap, ◌∙◌}
-use Rattle.core_pts.specs.CoreTable.{CoreState}
+use Rattle.std.proofs.Common.{◌≡◌, ℕ, cond, arith, ap}
 use Rattle.core_pts.specs.contracts.core_state.Core.{the_view}
-use Rattle.core_pts.specs.FreeCopies.{free_copies}
 use Rattle.core_pts.proofs.OpenCopies.{copies-counted}
 use Rattle.core_pts.proofs.core_state.Core.free_copies.Goals as goal
 

@@ -1,4 +1,4 @@
-use Rattle.std.proofs.Common.{◌≡◌, ℕ, ◌+◌, cond, length, sym, ap, ◌∙◌}
+use Rattle.std.proofs.Common.{◌+◌, cond, length, sym, ap, ◌∙◌}
 use Rattle.line_sets.specs.SetTable.{Sets}
 use Rattle.private_cache.specs.declared.line_copy.LineCopy.{LineCopy}
 use Rattle.private_cache.specs.FreeLines.{free_lines, has_pinned}

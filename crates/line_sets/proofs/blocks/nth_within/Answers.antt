@@ -1,4 +1,4 @@
-use Rattle.std.proofs.Common.{arith, slice_get, sym, ap, ◌∙◌, length}
+use Rattle.std.proofs.Common.{arith, sym, ap, ◌∙◌, length}
 use Rattle.line_sets.specs.Rising.{all_but}
 use Rattle.line_sets.proofs.BlockedLists.{all_but-length, block-rises, nth-here, nth-later, read-at}
 use Rattle.line_sets.proofs.blocks.nth_within.Goals as goal

@@ -224,7 +224,8 @@ fn core_step<P: Program>(system: &System, programs: &mut [P], core: u32) -> Opti
     }
 }
 
-// How many steps a core does next: one, or none. All is read without a branch that could be guessed wrong.
+// How many steps a core does next: one, or none. The program is asked even while the core waits. So no branch depends
+// on which cores do something, and the processor guesses none of these wrong.
 #[inline(always)]
 fn steps_next<P: Program>(system: &System, programs: &mut [P], core: u32) -> u32
     ensures step { result ≡ length (core_step core (open_op system.now core)

@@ -1,6 +1,6 @@
 -- What is looked up in a machine. A core or a bank that isn't there has nothing.
 use Rattle.std.specs.Prelude.{ℕ, Bool, true, false, List, [], Option, Some, None, option_map, slice_get}
-use Rattle.std.specs.Prelude.{if◌then◌else◌}
+use Rattle.std.specs.Prelude.{if◌then◌else◌, is_some}
 use Rattle.line_sets.specs.SetTable.{all_listed}
 use Rattle.physiological_order.specs.declared.operation.Op.{Op}
 use Rattle.network.specs.declared.message.Body.{Body}

@@ -9,6 +9,7 @@ mod Deliveries
 mod GivenSteps
 mod RoundSteps
 mod SeedSteps
+mod StepCounts
 mod SeedEntries
 mod InProgram
 mod TableSteps

@@ -2,7 +2,7 @@
 //! is made. No list of events is built: the cores that do something are listed, other entries are counted, and the one
 //! that is wanted is looked up.
 ghost use Rattle.std.specs.Prelude.{◌≡◌, ◌∷◌, [], ◌<◌, ◌≤◌, ◌+◌, ◌%◌, ◌*◌, ◌^◌, ℕ, List, length, IfOk, Some};
-ghost use Rattle.std.specs.Prelude.{slice_get, slice_index_or};
+ghost use Rattle.std.specs.Prelude.{if◌then◌else◌, slice_get, slice_index_or};
 ghost use Rattle.interleaving_core.specs.LookUps.{entries, free_copies, open_op};
 ghost use Rattle.line_sets.specs.Rising.{risen};
 ghost use Rattle.worker_driver.specs.Acts.{next_in};
@@ -224,6 +224,15 @@ fn core_step<P: Program>(system: &System, programs: &mut [P], core: u32) -> Opti
     }
 }
 
+// One step where a core has an open operation whose request isn't out, or none and its program has a step; else none.
+#[inline(always)]
+fn step_count(is_open: bool, is_out: bool, has_next: bool) -> u32
+    ensures { result ≡ (if is_open then (if is_out then 0 else 1) else
+        (if has_next then 1 else 0)) }
+{
+    u32::from(is_open & !is_out | !is_open & has_next)
+}
+
 // How many steps a core does next: one, or none. The program is asked even while the core waits. So no branch depends
 // on which cores do something, and the processor guesses none of these wrong.
 #[inline(always)]
@@ -234,7 +243,7 @@ fn steps_next<P: Program>(system: &System, programs: &mut [P], core: u32) -> u32
 {
     let (is_open, is_out) = system.open_status(core);
     let has_next = next_in(programs, core).is_some();
-    u32::from(is_open & !is_out | !is_open & has_next)
+    step_count(is_open, is_out, has_next)
 }
 
 // The cores that do something next, in rising order, and how many they are. A machine has at most 64.

@@ -9,7 +9,6 @@ mod Deliveries
 mod GivenSteps
 mod RoundSteps
 mod SeedSteps
-mod StepCounts
 mod SeedEntries
 mod InProgram
 mod TableSteps

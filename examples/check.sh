@@ -5,7 +5,8 @@
 # several threads differ from one time to the next: of their reports it is asked what every run has (by_threads.py).
 #
 # The parts that are run, each a function below; PARTS names others.
-parts=${PARTS:-litmus catalogue settings refusals seeds workers threads traces seeded_traces verdicts trace_refusals}
+parts=${PARTS:-litmus catalogue settings refusals seeds workers threads traces seeded_traces lines verdicts \
+trace_refusals}
 
 top=$(CDPATH='' cd -- "$(dirname -- "$0")/.." && pwd) || exit 1
 tardis=${1:-$top/tardis}
@@ -321,7 +322,10 @@ refusals() {
     told "messages 1" 1 "$bad/SB-messages-1.report" /dev/null litmus --messages 1 "$examples/litmus/SB.litmus"
     refused "cut short" 2 'tardis: line 6: 14 CutShort' litmus "$bad/SB-cut.litmus"
     refused "value range" 2 'tardis: line 2: 9 ValueRange' litmus "$bad/SB-value.litmus"
+    refused "a text refused, with a bad configuration" 2 'tardis: line 6: 14 CutShort' \
+        litmus --lease 0 "$bad/SB-cut.litmus"
     refused "messages 0" 3 'tardis: bad configuration' litmus --messages 0 "$examples/litmus/SB.litmus"
+    refused "lease 0" 3 'tardis: bad configuration' litmus --lease 0 "$examples/litmus/SB.litmus"
     refused "limit 0" 3 "error: invalid value '0' for '--limit <limit>': 0 is not in 1..=4294967295
 
 For more information, try '--help'." litmus --limit 0 "$examples/litmus/SB.litmus"
@@ -357,6 +361,75 @@ seeded_traces() {
     done
 }
 
+# Rows: the records, the trace.
+lines() {
+    while IFS='|' read -r records steps; do
+        case $records in '#'*) continue ;; esac
+        printf '%b' "$steps" >"$work/steps"
+        printf '%b' "$records" >"$work/wanted"
+        told "the records of $steps" 0 "$work/wanted" /dev/null trace --records "$work/steps"
+    done <"$examples/lines.table"
+    lines_of_256_bytes
+    many_lines
+    many_words
+    late_faults
+}
+
+# loads_of CORES NUMBER: the report of so many loads, up to its words.
+loads_of() {
+    printf '%s\n' "cores $1" "issued $2" "completed $2" 'end all-done' "loads $2" 'stores 0' 'swaps 0' 'renewals 0' \
+        'upgrades 0' 'flushes 0' 'write-backs 0' 'stale-hits 0' 'order legal'
+}
+
+# Lines as long as they may be: their fields are read.
+lines_of_256_bytes() {
+    { echo '#'; printf '0 R 0x0 #'; many 247 x; printf '\n0 R 0x0'; } >"$work/steps"
+    { loads_of 1 2; echo 'word 0x0 0'; } >"$work/wanted"
+    told "a load, and a comment up to byte 256" 0 "$work/wanted" /dev/null trace "$work/steps"
+    { echo '#'; printf '0 R 0x0'; many 249 ' '; } >"$work/steps"
+    { loads_of 1 1; echo 'word 0x0 0'; } >"$work/wanted"
+    told "a load, and blanks up to byte 256" 0 "$work/wanted" /dev/null trace "$work/steps"
+    { echo '#'; printf '0 0 R 0x0 9 0 0 #'; many 239 '#'; echo; } >"$work/records"
+    echo 'wrong value 0' >"$work/wanted"
+    told "a record, and a comment up to byte 256" 1 "$work/wanted" /dev/null check "$work/steps" "$work/records"
+}
+
+# 70,000 loads of one core, on one line that it asks for once, and a store; lines stand across the ends of blocks.
+many_lines() {
+    { yes '0 R 0xabc0' | head -n 70000; printf '0 W 0x8 1'; } >"$work/steps"
+    { loads_of 1 70000 | sed -e 's/^\(issued\|completed\) .*/\1 70001/' -e 's/^stores 0/stores 1/'; } >"$work/wanted"
+    printf '%s\n' 'word 0x8 1' 'word 0xabc0 0' >>"$work/wanted"
+    told "70,001 lines" 0 "$work/wanted" /dev/null trace --limit 4294967295 "$work/steps"
+    { seq 0 69999 | sed 's/.*/0 & R 0xabc0 0 0 &/'; echo '0 70000 W 0x8 1 1 70000'; } >"$work/records"
+    told "70,001 records" 0 "$work/records" /dev/null trace --records --limit 4294967295 "$work/steps"
+    echo legal >"$work/wanted"
+    told "70,001 records, checked" 0 "$work/wanted" /dev/null check "$work/steps" "$work/records"
+    printf '\n0 W 0x8' >>"$work/steps"
+    refused "a fault behind 70,001 lines" 2 'tardis: line 70002: 7 BadValue' trace "$work/steps"
+}
+
+# Sixteen cores load 4,000 words, each word once.
+many_words() {
+    awk 'BEGIN { for (k = 0; k < 4000; k++) printf "%d R 0x%x\n", k % 16, 8 * k }' >"$work/steps"
+    { loads_of 16 4000; awk 'BEGIN { for (k = 0; k < 4000; k++) printf "word 0x%x 0\n", 8 * k }'; } >"$work/wanted"
+    told "4,000 words" 0 "$work/wanted" /dev/null trace --limit 4294967295 "$work/steps"
+    "$tardis" trace --records --limit 4294967295 "$work/steps" >"$work/records"
+    echo legal >"$work/wanted"
+    told "4,000 words: the records" 0 "$work/wanted" /dev/null check "$work/steps" "$work/records"
+}
+
+# Of 4,000 loads the last received another value, or its number is one too great.
+late_faults() {
+    yes '0 R 0x0' | head -n 4000 >"$work/steps"
+    seq 0 3998 | sed 's/.*/0 & R 0x0 0 0 &/' >"$work/records"
+    { cat "$work/records"; echo '0 3999 R 0x0 1 0 3999'; } >"$work/text"
+    echo 'wrong value 3999' >"$work/wanted"
+    told "a late wrong value" 1 "$work/wanted" /dev/null check "$work/steps" "$work/text"
+    { cat "$work/records"; echo '0 3999 R 0x0 0 0 4000'; } >"$work/text"
+    echo 'bad number 3999' >"$work/wanted"
+    told "a late bad number" 1 "$work/wanted" /dev/null check "$work/steps" "$work/text"
+}
+
 # Rows: the verdict, the trace, the records.
 verdicts() {
     while IFS='|' read -r verdict steps records; do
@@ -368,6 +441,16 @@ verdicts() {
         if [ "$verdict" = legal ]; then status=0; fi
         told "$verdict: $steps and $records" "$status" "$work/wanted" /dev/null check "$work/steps" "$work/records"
     done <"$examples/verdicts.table"
+    falling_times
+}
+
+# 66,000 stores of one core, whose times fall as their numbers rise, so that the records must be sorted.
+falling_times() {
+    awk 'BEGIN { for (k = 0; k < 66000; k++) printf "0 W 0x%x %d\n", 8 * k, k }' >"$work/steps"
+    awk 'BEGIN { for (k = 65999; k >= 0; k--) printf "0 %d W 0x%x %d %d %d\n", k, 8 * k, k, k, 65999 - k }' \
+        >"$work/records"
+    echo legal >"$work/wanted"
+    told "66,000 records whose times fall" 0 "$work/wanted" /dev/null check "$work/steps" "$work/records"
 }
 
 # faults TABLE WORDS..: each text of the table, written to a file whose name follows the words.
@@ -386,8 +469,14 @@ many() {
     head -c "$1" /dev/zero | tr '\0' "$2"
 }
 
-# long_lines WORDS..: lines of 256 and of 257 bytes, with their comments, and one line more than there may be.
+# long_lines FIELDS WORDS..: lines of 256 and of 257 bytes, with their comments, and one line more than there may be.
 long_lines() {
+    fields=$1
+    shift
+    { echo '#'; printf '%s #' "$fields"; many $((255 - ${#fields})) x; printf '\n%s' "$fields"; } >"$work/text"
+    refused "fields and a comment of 257 bytes" 2 'tardis: line 2: 3 TooLong' "$@" "$work/text"
+    { echo '#'; printf '%s' "$fields"; many $((257 - ${#fields})) ' '; } >"$work/text"
+    refused "fields and blanks of 257 bytes" 2 'tardis: line 2: 3 TooLong' "$@" "$work/text"
     { many 257 a; echo; } >"$work/text"
     refused "257 letters" 2 'tardis: line 1: 3 TooLong' "$@" "$work/text"
     { echo; printf '#'; many 256 c; } >"$work/text"
@@ -403,14 +492,15 @@ trace_refusals() {
     some=$examples/traces/EMPTY.trace
     faults "$bad/traces.table" trace
     faults "$bad/records.table" check "$some"
-    long_lines trace
-    long_lines check "$some"
+    long_lines '0 R 0x0' trace
+    long_lines '0 0 R 0x0 0 0 0' check "$some"
     echo legal >"$work/legal"
     { printf '#'; many 255 c; echo; many 16777215 '\n'; } >"$work/text"
     told "16,777,216 lines, and one of 256 bytes" 0 "$work/legal" /dev/null check "$work/text" "$some"
     echo '0 X' >"$work/text"
     fault='tardis: line 1: 5 BadOperation'
     refused "the trace's fault goes before the records'" 2 "$fault" check "$work/text" "$work/text"
+    refused "the trace's fault goes before records that can't be read" 2 "$fault" check "$work/text" "$examples"
     refused "an input refused, with a bad configuration" 2 "$fault" trace --lease 0 "$work/text"
     refused "lease 0" 3 'tardis: bad configuration' trace --lease 0 "$some"
     refused "no trace" 4 'tardis: read failed' trace "$bad/none.trace"

@@ -9,7 +9,7 @@ The options of an example stand in its text: in a litmus test in the header line
 line `# options= ..`. A .seeds is the report on the seeds 0 to 999. A .also is there for a test with a header line
 `also=..`: it is the report with these options. Every end state of the catalogue must be one that plain enumeration
 finds (sequential.py). Each trace's records must be legal. The tables (bad/traces.table, bad/records.table,
-verdicts.table) are written by hand: a row that the oracle answers otherwise is told, too.
+lines.table, verdicts.table) are written by hand: a row that the oracle answers otherwise is told, too.
 """
 import re
 import sys
@@ -19,6 +19,7 @@ import oracle
 import sequential
 from reference.litmus import Test
 from reference.order import check
+from reference.reports import trace_report
 from reference.traces import Fault, Trace, read_records
 
 FOLDER = Path(__file__).resolve().parent
@@ -86,6 +87,12 @@ def impossible_states():
                     yield f"{report.relative_to(FOLDER)}: no interleaving ends with {state}"
 
 
+def records_of(trace):
+    """The records of a trace's run by rounds."""
+    options = oracle.words().parse_args(["trace", "--records", "-"])
+    return trace_report(Trace(trace), options, None, lambda *_: None)[0]
+
+
 def differing_rows():
     def verdict(trace, records):
         return check({}, Trace(trace).issued(), read_records(records))
@@ -99,6 +106,10 @@ def differing_rows():
             said = said_of(reader, *texts)
             if said != words:
                 yield f"{name}, line {number}: {words} wanted, {said} is said"
+    for number, records, texts in rows("lines.table"):
+        said = said_of(records_of, *texts)
+        if said != printed(records).decode("ascii"):
+            yield f"lines.table, line {number}: {records} wanted, {said!r} is said"
 
 
 def differing_files(write):

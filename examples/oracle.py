@@ -15,7 +15,7 @@ By --schedule threads it makes runs of one worker: with more, no two runs need b
 FILE|WORD|WORD ..: what is printed with these words is written to FILE, and the status to FILE.status.
 
 --trace tells each event and its answer on standard error; of a run by threads, each call of a seat. --events prints the
-lists of events in place of the report, as the constants of a Rattle test. `litmus` may be left out.
+lists of events in place of the report, as docs/EVENTS.md has them. `litmus` may be left out.
 """
 import argparse
 import sys

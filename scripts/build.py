@@ -1,20 +1,37 @@
 #!/usr/bin/env python3
-"""Proves and builds a crate with all crates that it stands on, several at a time: scripts/build.py [CRATE] [--jobs N]
+"""Proves and builds crates with all that they stand on, several at a time: scripts/build.py [CRATE..] [--jobs N]
 
-Each crate is built once those below it are. Standard error tells how far the build is, after how many minutes, and each
-error; the status is 0 exactly if all is proved. CRATE is tardis if no other is named. N is the number of processors if it isn't given, and
-fewer where there is less than 3 GB of memory for each.
+Each crate is built once those below it are: first the one with the longest chain of crates behind it. That one may use
+all processors; the others share what is left. Standard error says how far the build is, how long the rest will take,
+and each error; the status is 0 exactly if all is proved. The crate is tardis if none is named. N is the number of
+processors if it isn't given, and fewer where there is less than 3 GB of memory for each.
+
+The kit's command locks all crates below the one that it works on. So no two crates would be proved at a time that have
+one in common below. Each is therefore proved in a folder of its own, with links to the files of the crates below and to
+what the kit built of them; what it builds there is moved to the crate's own out/. The kit's command also looks at a
+crate once for each path that leads to it in the graph of crates, some 20,000 below tardis. Here it does so once.
 """
 import argparse
 import concurrent.futures
 import os
+import shutil
 import subprocess
 import sys
+import tempfile
 import time
 from pathlib import Path
 
 TOP = Path(__file__).resolve().parent.parent
 BYTES_A_JOB = 3_000_000_000
+READING = 300  # what a crate costs before its first function is proved, in lines: the libraries are read
+ONCE = """import functools, runpy, sys
+import rtlib
+stamp, below = map(functools.lru_cache(None), (rtlib.Crate.stamp, rtlib.Crate.below))
+rtlib.Crate.stamp, rtlib.Crate.below = stamp, lambda crate: list(below(crate))
+sys.argv = sys.argv[1:]
+runpy.run_path(sys.argv[0], run_name="__main__")
+"""  # the kit's command, with what it says of a crate kept while it runs
+KEPT = 3  # a crate that takes no more seconds was proved before
 
 
 def crates():
@@ -25,8 +42,8 @@ def crates():
     return {name.split()[0]: [low for low in below.split() if low in names] for name, below in named}
 
 
-def needed(graph, top):
-    """The crate `top` and all below it, each after those that it stands on."""
+def needed(graph, *tops):
+    """These crates and all below them, each after those that it stands on."""
     order = []
 
     def visit(name):
@@ -35,8 +52,25 @@ def needed(graph, top):
                 visit(low)
             order.append(name)
 
-    visit(top)
+    for top in tops:
+        visit(top)
     return order
+
+
+def work(name):
+    """What a proof of the crate costs, in lines of code and proofs."""
+    files = [path for part in ("src", "specs", "proofs") for path in (TOP / "crates" / name / part).rglob("*")
+             if path.suffix in (".rt", ".antt")]
+    return READING + sum(path.read_bytes().count(b"\n") for path in files)
+
+
+def chains(graph, order):
+    """Of each crate the work of the longest chain that begins with it and goes up."""
+    longest = {}
+    for name in reversed(order):
+        above = [longest[high] for high in order if high in longest and name in graph[high]]
+        longest[name] = work(name) + max(above, default=0)
+    return longest
 
 
 def jobs_that_fit():
@@ -44,46 +78,127 @@ def jobs_that_fit():
     return max(1, min(len(os.sched_getaffinity(0)), memory // BYTES_A_JOB))
 
 
-def prove(name):
-    """Proves one crate by the kit; the crate's name, and what the kit printed if that failed."""
-    command = ["rt", "lib" if (TOP / "crates" / name / "src" / "lib.rt").exists() else "check", "--jobs", "1"]
-    done = subprocess.run(command, cwd=TOP / "crates" / name, stdin=subprocess.DEVNULL, capture_output=True, text=True)
-    return name, "" if done.returncode == 0 else done.stdout + done.stderr
+def kit():
+    """The words that begin the kit's command, and where its parts are found."""
+    command = Path(shutil.which("rt") or "rt").resolve()
+    library = command.parent / "rtlib.py"
+    if library.exists() and "def stamp(self):" in library.read_text():
+        return [sys.executable, "-c", ONCE, str(command)], os.environ | {"PYTHONPATH": str(command.parent)}
+    return ["rt"], None
+
+
+def link(there, here):
+    """A link to a file, or a copy of it where there can't be one."""
+    try:
+        os.link(there, here)
+    except OSError:
+        shutil.copy2(there, here)
+
+
+def link_crate(name, room, *parts):
+    """Links the files of these parts of a crate into a folder."""
+    for part in ("src", "specs", "proofs", *parts):
+        if (TOP / "crates" / name / part).exists():
+            shutil.copytree(TOP / "crates" / name / part, room / "crates" / name / part, copy_function=link)
+
+
+def keep(name, room):
+    """Moves what was built of a crate to its own out/."""
+    for part in ("rlib", "incremental"):
+        built, out = room / "crates" / name / "out" / part, TOP / "crates" / name / "out"
+        if built.exists():
+            shutil.rmtree(out / part, ignore_errors=True)
+            out.mkdir(exist_ok=True)
+            shutil.move(built, out / part)
+
+
+def prove(name, below, jobs, is_first):
+    """Proves one crate by the kit; its name, how many seconds that took, and what the kit printed if it failed."""
+    kind = "lib" if (TOP / "crates" / name / "src" / "lib.rt").exists() else "check"
+    rt, environment = kit()
+    command = ([] if is_first else ["nice", "-n", "5"]) + [*rt, kind, "--jobs", str(jobs)]
+    began = time.monotonic()
+    with tempfile.TemporaryDirectory(prefix="build-") as folder:
+        room = Path(folder)
+        lines = (TOP / "crates.txt").read_text().splitlines(keepends=True)
+        (room / "crates.txt").write_text("".join(line for line in lines if line.split(":")[0] in [*below, name]))
+        for low in below:
+            link_crate(low, room, "out/rlib")
+        link_crate(name, room, "out/rlib", "out/incremental")
+        done = subprocess.run(command, cwd=room / "crates" / name, env=environment, stdin=subprocess.DEVNULL,
+                              capture_output=True, text=True)
+        keep(name, room)
+    return name, time.monotonic() - began, "" if done.returncode == 0 else done.stdout + done.stderr
 
 
 def say(text):
     print(f"tardis: {text}", file=sys.stderr, flush=True)
 
 
-def build(graph, order, jobs):
-    """Proves the crates of `order`; whether all are proved."""
-    waiting, proved, began = list(order), set(), time.monotonic()
-    with concurrent.futures.ThreadPoolExecutor(jobs) as pool:
-        running = set()
-        while waiting or running:
-            ready = [name for name in waiting if proved.issuperset(graph[name])][: jobs - len(running)]
-            waiting = [name for name in waiting if name not in ready]
-            running |= {pool.submit(prove, name) for name in ready}
-            done, running = concurrent.futures.wait(running, return_when=concurrent.futures.FIRST_COMPLETED)
-            for name, fault in (each.result() for each in done):
-                if fault:
-                    say(f"{name} is not proved:\n{fault}")
+class Build:
+    """Crates that are proved side by side, and what is left of them."""
+
+    def __init__(self, graph, order, jobs):
+        self.graph, self.order, self.jobs = graph, order, jobs
+        self.longest, self.work = chains(graph, order), {name: work(name) for name in order}
+        self.waiting = sorted(order, key=lambda name: -self.longest[name])
+        self.running, self.proved, self.began = {}, set(), time.monotonic()
+        self.seconds, self.lines = 0, 0  # what proofs took that weren't kept from before
+
+    def start(self, pool):
+        """Starts what can be proved now, as long as a processor is free for it."""
+        ready = [name for name in self.waiting if self.proved.issuperset(self.graph[name])]
+        head = max(self.waiting + list(self.running.values()), key=self.longest.get, default=None)
+        for name in ready[: self.jobs - len(self.running)]:
+            spare = self.jobs - len(self.running) - len(ready) + 1
+            given = self.jobs if name == head else max(1, spare)
+            self.waiting.remove(name)
+            below = needed(self.graph, name)[:-1]
+            self.running[pool.submit(prove, name, below, given, name == head)] = name
+
+    def minutes_left(self):
+        """How long the crates that are left will take, if their lines take as long as those that are proved."""
+        left = [name for name in self.order if name not in self.proved]
+        chain = max(self.longest[name] for name in left)
+        lines = max(chain, sum(self.work[name] for name in left) / self.jobs)
+        return round(lines * self.seconds / self.lines / 60)
+
+    def take(self, name, seconds, fault):
+        """Whether the crate is proved; says so."""
+        if fault:
+            say(f"{name} is not proved:\n{fault}")
+            return False
+        self.proved.add(name)
+        if seconds > KEPT:
+            self.seconds, self.lines = self.seconds + seconds, self.lines + self.work[name]
+        minutes = int(time.monotonic() - self.began) // 60
+        is_known = self.lines and len(self.proved) < len(self.order)
+        left = f", about {self.minutes_left()} min left" if is_known else ""
+        say(f"{len(self.proved)} of {len(self.order)} crates after {minutes} min{left}: {name} is proved")
+        return True
+
+    def run(self):
+        """Proves all; whether that went well."""
+        with concurrent.futures.ThreadPoolExecutor(self.jobs) as pool:
+            while self.waiting or self.running:
+                self.start(pool)
+                done, _ = concurrent.futures.wait(self.running, return_when=concurrent.futures.FIRST_COMPLETED)
+                for each in done:
+                    del self.running[each]
+                if not all([self.take(*each.result()) for each in done]):
                     return False
-                proved.add(name)
-                minutes = int(time.monotonic() - began) // 60
-                say(f"{len(proved)} of {len(order)} crates after {minutes} min: {name} is proved")
-    return True
+        return True
 
 
 def main():
     options = argparse.ArgumentParser(description=__doc__.splitlines()[0])
-    options.add_argument("crate", nargs="?", default="tardis")
+    options.add_argument("crates", nargs="*", default=["tardis"])
     options.add_argument("--jobs", type=int, default=jobs_that_fit())
     given = options.parse_args()
     graph = crates()
-    if given.crate not in graph or given.jobs < 1:
+    if not graph.keys() >= set(given.crates) or given.jobs < 1:
         options.error("no such crate, or no job")
-    sys.exit(0 if build(graph, needed(graph, given.crate), given.jobs) else 1)
+    sys.exit(0 if Build(graph, needed(graph, *given.crates), given.jobs).run() else 1)
 
 
 if __name__ == "__main__":

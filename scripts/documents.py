@@ -8,8 +8,7 @@ or tests them.
 A table stands between the lines `<!-- table NAME -->` and `<!-- end -->`. A quotation stands between the lines
 `<!-- source FILE ITEM .. -->` and `<!-- end -->`: a file of crates/ and the functions or types of it that are quoted,
 each with the comment above it. The script also tests that each path of a file that a document names or links to is
-there, that of a crate's proofs only proofs/Lemmas.antt is open to the crates above, and that the figures of
-docs/HOSTILE.md add up.
+there, and that of a crate's proofs only proofs/Lemmas.antt is open to the crates above.
 """
 import re
 import sys
@@ -35,7 +34,7 @@ GROUPS = [
         ("litmus_reader", "*", "")]),
     ("Runs and reports: the schedule, the sequential machine, the text, the program", [
         (name, "*", "") for name in ("byte_streams", "run_ends", "worker_driver", "sequential_machine", "report_text", "report_parts", "report",
-                                     "run_results", "command_line", "program")]),
+                                     "run_results", "command_line", "tardis")]),
     ("Traces and records: their texts, their runs, and the verdict of a check", [
         (name, "*", "") for name in ("trace_lines", "trace_reader", "record_text", "trace_report_text", "trace_report")]),
     ("Laws for later layers: of the table's histories, of the moves of a state, of the protocol by lines", [
@@ -155,9 +154,13 @@ def made_of(module, name):
 
 
 def given_out(crate):
-    """The modules and the names that a crate's root gives out."""
-    root = (crate / "src/lib.rt").read_text(encoding="utf-8")
-    names = re.findall(r"^pub use \w+(?:::\w+)*::(?:\{([^}]*)\}|(\w+));", root, re.M)
+    """The modules and the names that a library's root gives out; or the names that a program's root takes."""
+    library, program = crate / "src/lib.rt", crate / "src/main.rt"
+    root = (library if library.exists() else program).read_text(encoding="utf-8")
+    own = "|".join(re.findall(r"^(?:pub )?mod (\w+);", root, re.M))
+    begin = "pub use" if library.exists() else "use"
+    names = re.findall(r"^%s (?:%s)(?:::\w+)*::(?:\{([^}]*)\}|(\w+));" % (begin, own if begin == "use" else r"\w+"),
+                       root, re.M)
     return (re.findall(r"^pub mod (\w+);", root, re.M),
             {n.strip().split(" as ")[0] for many, one in names for n in (many or one).split(",")})
 
@@ -300,30 +303,6 @@ def open_proofs():
                 yield "%s opens %s: crates above use proofs/Lemmas.antt alone" % (lib.relative_to(CRATES), name)
 
 
-def numbers_in(text):
-    return [int(number.replace(",", "")) for number in re.findall(r"(?<![\w.])\d[\d,]*(?![\w.]*\w)", text)]
-
-
-def figures():
-    """What docs/HOSTILE.md tells of its tests in sums, and README.md of these, if it isn't so. The scripts of tests/
-    compare the other figures with what they tried."""
-    page = (TOP / "docs/HOSTILE.md").read_text(encoding="utf-8")
-    rows = re.findall(r"^\| ([^|]+) \| ([^|]+) \|", page, re.M)
-    first = {name: numbers_in(told)[0] for name, told in rows if numbers_in(told)}
-    for name, header in (("refusals of memory, of reads and writes, of the host", "| Part | Tried |"),
-                         ("bad texts and command lines", "| Part of `tests/texts.py` |")):
-        table = page.split(header, 1)[1].split("\n\n", 1)[0]
-        total = sum(numbers_in(row.split("|")[2])[0] for row in table.splitlines() if row.startswith("| `"))
-        if first[name] != (round(total, -2) if name.startswith("refusals") else total):
-            yield "HOSTILE.md tells %d of %s, and the parts are %d" % (first[name], name, total)
-    readme = (TOP / "README.md").read_text(encoding="utf-8")
-    sentence = re.search(r"Built programs were tried under (.*?)\(\[docs/HOSTILE.md", readme, re.S).group(1)
-    told = {number for _, cell in rows for number in numbers_in(cell)}
-    for number in numbers_in(sentence):
-        if number not in told:
-            yield "README.md tells of %d tries, and HOSTILE.md doesn't" % number
-
-
 def written(page, renewed, check, faults):
     """Writes what is renewed of a page, or says that it differs."""
     old = page.read_text(encoding="utf-8")
@@ -343,7 +322,7 @@ def main():
     for document in sorted(TOP.glob("*.md")) + sorted((TOP / "docs").glob("*.md")) + [TOP / "examples/README.md"]:
         written(document, with_quotations, check, faults)
         faults += list(missing_paths(document)) + list(missing_links(document))
-    faults += list(open_proofs()) + list(figures())
+    faults += list(open_proofs())
     for fault in faults:
         print("documents.py: " + fault)
     raise SystemExit(1 if faults else 0)

@@ -8,24 +8,18 @@ it tried; the last line is `N tried, M wrong`. The parts `steps`, `lists` and `d
 crates/event_player as PROGRAM, and `seats` wants crates/seat_player.
 """
 import os
-import random
 import subprocess
 import sys
 import tempfile
-from collections import Counter
 from pathlib import Path
 
 TOP = Path(__file__).resolve().parent.parent
 sys.path.insert(0, str(TOP / "examples"))
-import events  # noqa: E402
 import oracle  # noqa: E402
 from ended_runs import told_of  # noqa: E402
-from figures import is_told  # noqa: E402
 from refused_batches import refused_batches  # noqa: E402
-from refused_drives import refused_drives  # noqa: E402
 from refused_hosts import refused_hosts  # noqa: E402
-from refused_lists import refused_lists  # noqa: E402
-from refused_seats import refused_seats  # noqa: E402
+from refused_players import refused_drives, refused_lists, refused_seats, refused_steps  # noqa: E402
 from refused_threads import refused_threads  # noqa: E402
 
 LITMUS = TOP / "examples" / "litmus"
@@ -256,55 +250,6 @@ def host(tester):
         refused_hosts(tester, Path(folder), commands(folder))
 
 
-def steps(tester):
-    """Events on machines, by the player of crates/event_player: each growth is refused alone.
-
-    A refused step is an issue or a delivery. It is answered that there is no memory, and all that can be seen of the
-    machine, and what it remembers, is as before. Made once more, with memory, it has the usual answer, and so has all
-    that follows. A machine for which there is no memory is opened once more. Else the player itself has no memory: it
-    ends, and what it has told is a beginning.
-    """
-    refused = Counter()
-    for seed in (2, 15, 20, 25, 33, 42):  # machines whose DRAM is stored to within 80 events
-        player = events.Player(random.Random(seed))
-        given, seen, remembered = [player.opening()], [player.told("Idle")], [player.history()]
-        for _ in range(80):
-            line, wanted = player.step()
-            given, seen, remembered = [*given, line], [*seen, wanted], [*remembered, player.history()]
-        refused += steps_of(tester, [*given, "history"], [*seen, player.history()], remembered)
-    for name in ("machine", "issue", "deliver"):
-        tester.expect(refused[name] > 0, f"no {name} was refused")
-    print(f"steps: {refused['issue']} issues and {refused['deliver']} deliveries were refused, and made once more; and "
-          f"{refused['machine']} machines")
-
-
-def steps_of(tester, given, seen, remembered):
-    """The lines that are given, a machine and then events; what is seen of the machine as it opens, and after each; and
-    what it remembers then."""
-    refused, number = Counter(), 0
-    while True:
-        number += 1
-        ran = tester.run([], given, growth=number)
-        out = ran.out.removeprefix(events.NO_MACHINE + "\n")
-        refused["machine"] += out != ran.out
-        usual = (ran.status, out, ran.error) == (0, text_of(seen[1:]), "")
-        if usual or not ran.refused:
-            tester.expect(usual, f"{given[0]}, growth {number}: {ran.answer()}")
-            if not ran.refused:
-                return refused
-            continue
-        at = next((at for at, line in enumerate(out.splitlines(), 1) if line.startswith("refused 7|")), None)
-        if at is None:
-            tester.expect(ran.status != 0 and text_of(seen[1:]).startswith(ran.out), f"{given[0]}, growth {number}")
-            continue
-        refused[given[at].split()[0]] += 1
-        same = "refused 7|" + seen[at - 1].split("|", 1)[1]
-        again = tester.run([], [*given[:at + 1], "history", *given[at:]], growth=number)
-        wanted = text_of([*seen[1:at], same, remembered[at - 1], *seen[at:]])
-        tester.expect(given[at].split()[0] in ("issue", "deliver") and again.answer() == (0, wanted, ""),
-                      f"{given[0]}, growth {number}, event {at}, made once more: {again.answer()}")
-
-
 def text_of(lines):
     return "".join(line + "\n" for line in lines)
 
@@ -312,18 +257,22 @@ def text_of(lines):
 # The parts of the program, which are run if none is named; and those of the players.
 PARTS = {"growths": growths, "threads": refused_threads, "batches": refused_batches, "devices": devices,
          "host": host}
-PLAYER_PARTS = {"steps": steps, "lists": refused_lists, "drives": refused_drives, "seats": refused_seats}
+# A part that refuses less often has lost some.
+LEAST = {"growths": 6000, "threads": 1200, "batches": 900, "devices": 1300, "host": 220, "steps": 1200, "lists": 800,
+         "drives": 700, "seats": 500}
+PLAYER_PARTS = {"steps": refused_steps, "lists": refused_lists, "drives": refused_drives, "seats": refused_seats}
 
 
 def main():
     program, shim, *parts = sys.argv[1:]
-    tester, are_told = Tester(os.path.abspath(program), os.path.abspath(shim)), True
+    tester = Tester(os.path.abspath(program), os.path.abspath(shim))
     for name in parts or PARTS:
         before = tester.tried
         (PARTS | PLAYER_PARTS)[name](tester)
-        are_told &= is_told(f"`{name}`", tester.tried - before, is_rough=True)
+        if tester.tried - before < LEAST[name]:
+            sys.exit(f"{name} refuses {tester.tried - before} times, and no longer {LEAST[name]} or more")
     print(f"{tester.tried} tried, {tester.wrong} wrong")
-    return tester.wrong != 0 or not are_told
+    return tester.wrong != 0
 
 
 if __name__ == "__main__":

@@ -1,6 +1,7 @@
 /* Loaded in front of a program (LD_PRELOAD), it refuses what the environment says:
      REFUSE_GROWTH=N    the Nth growth of memory (malloc, calloc, realloc); N+ also each later one
      REFUSE_READ=N:HOW  the Nth read        REFUSE_WRITE=N:HOW  the Nth write to standard output
+     REFUSE_BYTES=FD    nothing; but at the end the sum of all bytes that growths asked for goes to the descriptor
    HOW is error (EIO), interrupted (EINTR), short (one byte is moved, of the Nth and each later call), late (one byte is
    moved by each call before the Nth, which is an error), or, for a write, nothing (no byte is taken).
    Bytes go to descriptor REFUSE_TOLD: a t for each thread that is started; and, if something is refused for the first
@@ -10,6 +11,7 @@
 #include <dlfcn.h>
 #include <errno.h>
 #include <pthread.h>
+#include <stdio.h>
 #include <stdlib.h>
 #include <string.h>
 #include <sys/uio.h>
@@ -31,6 +33,7 @@ struct refusal {
 
 static struct refusal growth, reading, writing;
 static int told = -1;
+static unsigned long asked; /* bytes, by all growths */
 static int works; /* the first thread, beside another one */
 static ssize_t (*next_read)(int, void *, size_t);
 static ssize_t (*next_write)(int, const void *, size_t);
@@ -67,6 +70,11 @@ __attribute__((constructor)) static void begin(void) {
     open_refusal(&growth, "REFUSE_GROWTH");
 }
 
+__attribute__((destructor)) static void tell_bytes(void) {
+    char *text = getenv("REFUSE_BYTES");
+    if (text) dprintf(atoi(text), "%lu\n", asked);
+}
+
 static int is_first_thread(void) {
     return gettid() == getpid();
 }
@@ -85,20 +93,25 @@ static enum how answer_of(struct refusal *it) {
     return it->how == LATE ? ERROR : it->how;
 }
 
+static enum how grows(size_t size) {
+    __atomic_add_fetch(&asked, size, __ATOMIC_SEQ_CST);
+    return answer_of(&growth);
+}
+
 void *malloc(size_t size) {
-    if (answer_of(&growth) == NEVER) return __libc_malloc(size);
+    if (grows(size) == NEVER) return __libc_malloc(size);
     errno = ENOMEM;
     return NULL;
 }
 
 void *calloc(size_t count, size_t size) {
-    if (answer_of(&growth) == NEVER) return __libc_calloc(count, size);
+    if (grows(count * size) == NEVER) return __libc_calloc(count, size);
     errno = ENOMEM;
     return NULL;
 }
 
 void *realloc(void *old, size_t size) {
-    if (answer_of(&growth) == NEVER) return __libc_realloc(old, size);
+    if (grows(size) == NEVER) return __libc_realloc(old, size);
     errno = ENOMEM;
     return NULL;
 }

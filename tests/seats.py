@@ -1,33 +1,27 @@
 #!/usr/bin/env python3
 """Plays random calls of seats on random machines, closes each machine, and compares all that is told with the second
-program's seats: tests/seats.py PROGRAM [--machines N] [--calls N] [--crowded N] [--seed N], or
-tests/seats.py --print STDIN STDOUT ..
+program's seats: tests/seats.py PROGRAM [--machines N] [--calls N] [--crowded N] [--seed N].
 
-PROGRAM is the built crate seat_player. The machines have few words, and every limit of theirs is small or at its end.
-On crowded ones many lines are written and evicted, so that outboxes and held lists are full. Before these, store
-buffering is played by single calls and stopped after each number of them. With --print the files are written that the
-gate plays.
+PROGRAM is the built crate seat_player. Each machine is an example as a text (docs/EVENTS.md). The machines have few
+words, and every limit of theirs is small or at its end. On crowded ones many lines are written and evicted, so that
+outboxes and held lists are full. Before these, numbers are drawn, and store buffering is played by single calls and
+stopped after each number of them.
 """
 import argparse
 import random
-import subprocess
 import sys
 from collections import Counter
-from pathlib import Path
 from types import SimpleNamespace
 
-TOP = Path(__file__).resolve().parent.parent
-sys.path.insert(0, str(TOP / "examples"))
-from figures import is_told  # noqa: E402
-from reference import order  # noqa: E402
-from reference.seats import PLACES, SLOTS, Seats  # noqa: E402
+from games import Game, is_played, line_text, opening_text
+from reference import told
+from reference.seat_texts import NumbersPlayer, SeatPlayer
+from reference.seats import PLACES, SLOTS
 
-FIELDS = "cores banks sets ways bank_sets bank_ways line_words lease messages time private_write".split()
-LETTERS = {"load": "R", "store": "W", "swap": "S"}
-COUNTS = ("RenewRep", "UpgradeRep", "FlushRep", "WbRep")
 LAST = 2 ** 64 - 1
-GATE = (200, 100, 2, 1)  # machines, calls, crowded ones and the seed as the gate has them
-NO_MEMORY = "refused 7"
+OF_CORES = ("issue", "attempt", "advance")
+# How many drawers there are, and how often is drawn.
+DRAWN = [(1, 30), (3, 30), (16, 100)]
 
 
 def options_of(generator):
@@ -52,136 +46,78 @@ CROWDED = SimpleNamespace(cores=2, banks=1, sets=64, ways=8, bank_sets=64, bank_
                           messages=1, private_write=0, time=0)
 
 
-class Player:
-    """Seats of the second program, and what the line behind each answer must be."""
+class SeatGame(Game):
+    """The calls that are made of a machine's seats, which are numbered, cores first. Behind each is told what can be
+    seen of the seat, with so many words."""
 
-    def __init__(self, options, words, values, looks):
-        self.o, self.words, self.values = options, words, values
+    def __init__(self, title, options, words, values, looks):
+        super().__init__(title, SeatPlayer())
+        self.o, self.words, self.looks, self.calls, self.answers = options, words, min(words, looks), [], Counter()
         self.lines = (words - 1) // options.line_words + 1
-        self.looked_at = range(min(self.lines, looks))  # the lines that are told of, and the words
-        self.told_words = range(min(words, looks))
-        self.seats = Seats(options, {word: value for word, value in enumerate(values) if value})
+        memory = [(word, value) for word, value in enumerate(values) if value]
+        self.ask(opening_text("seats", options, memory))
 
-    def opening(self):
-        fields = [getattr(self.o, name) for name in FIELDS]
-        return " ".join(map(str, ["machine", *fields, len(self.told_words), len(self.looked_at), *self.values]))
+    @property
+    def seats(self):
+        return self.player.machine
 
-    def call(self, call, without_memory=False):
-        """The line that is wanted for a call."""
-        self.seats.without_memory = without_memory
-        answer = self.seats.call(*call)
-        if answer == "Completed":
-            answer = record_text(self.seats.records[-1])
-        seat = self.seats.seats[call[1]]
-        parts = [answer.lower() if answer[0].isupper() else answer, self.part(call[1])]
-        parts.append(f"{seat.cursor}" + " stopped" * seat.stopped)
-        if call[1] < self.o.cores:
-            parts.append(f"{len(seat.issued)} {seat.done}")
+    def seat(self, number):
+        return f"core {number}" if number < self.o.cores else f"bank {number - self.o.cores}"
+
+    def call_text(self, name, seat, of=None):
+        if name in OF_CORES:
+            return f"{name} {seat}" + (f" {told.operation(of)}" if of else "")
+        return f"{name} {self.seat(seat)}" + ("" if of is None else f" {line_text(self.seats, of)}")
+
+    def make(self, *call):
+        """A call, and what can be seen then; the answer."""
+        self.calls.append(call)
+        answer = self.ask(self.call_text(*call))
+        self.answers[name_of(call[0], answer)] += 1
+        self.look(call[1])
+        return answer
+
+    def look(self, seat):
+        self.ask(f"state {self.seat(seat)} {self.looks}")
+        if seat < self.o.cores:
+            self.ask(f"records {seat}")
         else:
-            room = self.seats.make_room(call[1])
-            parts.append("" if room is None else str(room))
-        return "|".join(parts)
+            self.ask(f"room {self.seat(seat)}")
+            self.ask_dram(seat)
 
-    def part(self, number):
-        """A seat's core, or its bank and DRAM, with the messages that came in, and how many are to be put."""
-        seat = self.seats.seats[number]
-        own = self.core(number) if number < self.o.cores else self.bank(number - self.o.cores)
-        held = "".join("," + self.message(m) for m in seat.held)
-        counts = " ".join(str(seat.counts[kind]) for kind in COUNTS)
-        hand = self.message(seat.hand) if seat.hand else ""
-        return f"{own}|{hand}|{PLACES - len(seat.held)}{held}|{len(seat.outbox)}:{counts}"
+    def ask_dram(self, seat):
+        self.ask_each(f"dram {seat - self.o.cores} 0+@", min(self.lines, self.looks))
 
-    def core(self, number):
-        core, issued = self.seats.cores[number], len(self.seats.seats[number].issued)
-        op = operation_text(core.op) + "!" * core.out if core.op else ""
-        copies = (self.seats.find(line, self.seats.cache_set(number, line))[0] for line in self.looked_at)
-        text = "".join(f" {copy.line}{copy.state[0]}{'+' * copy.written} {timed(copy)}" for copy in copies if copy)
-        victims = ((line, self.seats.victim(number, line)) for line in self.looked_at)
-        gone = "".join(f" {line}>{victim}" for line, victim in victims if victim is not None)
-        return f"{core.pts} {issued} {op}|{text}|{gone}"
-
-    def bank(self, number):
-        zeros = [0] * self.o.line_words
-        mine = [line for line in self.looked_at if line % self.o.banks == number]
-        entries = (self.seats.find(line, self.seats.bank_set(line))[0] for line in mine)
-        text = "".join(f" {entry.line}{entry_text(entry)}" for entry in entries if entry)
-        words = (self.seats.dram.get(line, zeros) if line in mine else zeros for line in self.looked_at)
-        return f"{self.seats.mts[number]}|{text}|" + "".join(f" {word}" for line in words for word in line)
-
-    def message(self, m):
-        if not hasattr(m, "text"):
-            ends = [letter + str(number) for letter, number in self.seats.nodes(m)]
-            m.text = " ".join(["", m.kind, ">".join(ends), str(m.line), *carried(m)])
-        return m.text
-
-    def run(self):
-        """What a closed machine leaves."""
-        records, seats = self.seats.records, self.seats.seats
-        yield from map(record_text, records)
-        for core in range(self.o.cores):
-            yield ", ".join([f"issued {core}", *map(operation_text, seats[core].issued)])
-        yield "values" + self.memory(order.end_memory(self.seats.opening, records))
-        yield "slots" + "".join(f", {at}:{self.message(m)}" for at, m in enumerate(self.seats.slots) if m)
-        for number in range(len(seats)):
-            yield f"seat {number}|{self.part(number)}"
-
-    def history(self):
-        """What its records say."""
-        records, memory = self.seats.records, dict(self.seats.opening)
-        arranged = order.arrange(records)
-        received = [order.flat_step(memory, record) for record in arranged]
-        yield "arranged" + "".join(f" {record.number}" for record in arranged)
-        received = "".join(" -" if one is None else f" {one}" for one in received)
-        yield f"replayed{received}, leaves{self.memory(memory)}"
-        yield order.check(self.seats.opening, [seat.issued for seat in self.seats.seats[:self.o.cores]], records)
-        yield f"stale {order.stale_hits(records)}"
-
-    def memory(self, memory):
-        return "".join(f" {memory.get(word, 0)}" for word in self.told_words)
+    def close(self):
+        """The machine is closed: what it leaves, and what its records say."""
+        for call in ("close", "records", "sent", "arranged", "check", "stale", "slots"):
+            self.ask(call)
+        self.ask_each("record 0+@", len(self.seats.records) + 1)
+        self.ask_each("word 0x0+@", self.looks)
+        self.ask_each("owners 0+@", min(self.lines, self.looks))
+        self.ask_each("slot 0+@", len(self.seats.slots) + 1)
+        for seat in range(len(self.seats.seats)):
+            self.ask(f"state {self.seat(seat)} {self.looks}")
+            if seat < self.o.cores:
+                self.ask(f"issued {seat}")
+                self.ask(f"records {seat}")
+            else:
+                self.ask_dram(seat)
+        return self
 
 
-def timed(holder):
-    return " ".join(map(str, [holder.wts, holder.rts, *holder.words]))
-
-
-def entry_text(entry):
-    if entry.state == "Shared":
-        return f"S{'+' * entry.dirty} {timed(entry)}"
-    return {"Loading": "L", "Storing": "W"}.get(entry.state) or f"{entry.state[0]} {entry.owner}"
-
-
-def carried(m):
-    """The fields that a message carries."""
-    if m.kind in ("ShReq", "ExReq"):
-        return [str(m.pts)] * (m.kind == "ShReq") + ["-" if m.version is None else str(m.version)]
-    if m.kind in ("RenewRep", "UpgradeRep", "WbReq"):
-        return [str(m.rts)]
-    if m.kind in ("DramSt", "DramLdRep"):
-        return list(map(str, m.words))
-    return [timed(m)] if m.kind in ("ShRep", "ExRep", "FlushRep", "WbRep") else []
-
-
-def operation_text(op):
-    kind, word, value = op
-    return f"{LETTERS[kind]} {word}" + ("" if value is None else f" {value}")
-
-
-def record_text(it):
-    received = "" if it.received is None else f" received {it.received}"
-    op = operation_text((it.kind, it.word, it.value))
-    return f"completed {it.core} {it.place} {op}{received} at {it.time} number {it.number}"
-
-
-def call_text(call):
-    name, seat, *of = call
-    return " ".join([name, str(seat), *(operation_text(one) if isinstance(one, tuple) else str(one) for one in of)])
+def name_of(call, answer):
+    """A call with its answer, for the count: of a turn, what was served last."""
+    words = answer.split(" ")
+    return " ".join([call, *words[:2]] if words[0] in ("refused", "hand") else
+                    [call, words[-1] if call == "turn" else words[0]])
 
 
 class Caller:
     """Picks calls: mostly of seats that have something to do. Some act seldom, so that links fill."""
 
-    def __init__(self, generator, player):
-        self.random, self.player, self.o = generator, player, player.o
+    def __init__(self, generator, game):
+        self.random, self.game, self.o = generator, game, game.o
         seats = range(min(self.o.cores, 4)), range(self.o.cores, self.o.cores + min(self.o.banks, 3))
         self.weights = {number: generator.choice([1, 1, 1, 0.3, 0.05]) for of in seats for number in of}
 
@@ -195,12 +131,12 @@ class Caller:
 
     def has_work(self, number):
         """Whether there is a message to put, to serve or to take, or a core can go on without one."""
-        seats = self.player.seats
+        seats = self.game.seats
         return has_messages(seats, number) or number < self.o.cores and not seats.cores[number].out
 
     def odd(self, number):
         """A call about what isn't there, or may not be."""
-        line = self.random.choice([0, 1, self.player.lines, LAST])
+        line = self.random.choice([0, 1, self.game.lines, LAST])
         if number >= self.o.cores or self.random.random() < 0.5:
             return "evict", number, line
         return "issue", number, self.operation()
@@ -209,14 +145,14 @@ class Caller:
         return self.random.choices(list(weights), list(weights.values()))[0]
 
     def of_core(self, number):
-        core = self.player.seats.cores[number]
+        core = self.game.seats.cores[number]
         name = self.one(issue=0 if core.op else 80, attempt=5 if core.out or not core.op else 60, turn=25, put=10,
                         take=10, serve=10, evict=8, advance=2)
         if name == "issue":
             return name, number, self.operation()
         if name == "evict":
-            copies = self.player.seats.copies(number)
-            victim = self.player.seats.victim(number, self.player.seats.line_at(number)) if core.op else None
+            copies = self.game.seats.copies(number)
+            victim = self.game.seats.victim(number, self.game.seats.line_at(number)) if core.op else None
             line = victim if victim is not None else self.random.choice(copies) if copies else None
             return (name, number, line) if copies else ("turn", number)
         if core.out and self.random.random() < 0.1:
@@ -227,22 +163,22 @@ class Caller:
         name = self.one(turn=35, put=15, take=15, serve=20, evict=12)
         if name != "evict":
             return name, number
-        lines = self.player.seats.entries(number - self.o.cores)
-        room = self.player.seats.make_room(number)
+        lines = self.game.seats.entries(number - self.o.cores)
+        room = self.game.seats.make_room(number)
         if room is not None and self.random.random() < 0.8:
             return name, number, room
         return (name, number, self.random.choice(lines)) if lines else ("turn", number)
 
     def operation(self):
         kind = self.random.choice(["load", "load", "store", "swap"])
-        word = self.random.randrange(self.player.words)
+        word = self.random.randrange(self.game.words)
         return kind, word, None if kind == "load" else self.random.choice([1, 2, 3, LAST, 0])
 
 
-def random_player(generator):
+def random_game(title, generator):
     options = options_of(generator)
     words = generator.choice([1, 2, 3, 9]) * (4 if options.line_words == 8 else 1)
-    return Player(options, words, [generator.choice([0, 0, 7]) for _ in range(4)], 40)
+    return SeatGame(title, options, words, [generator.choice([0, 0, 7]) for _ in range(4)], 40)
 
 
 def has_messages(seats, number):
@@ -250,95 +186,57 @@ def has_messages(seats, number):
     return seat.outbox or seat.hand or seat.held or any(seats.slots[slot] for slot in seats.slots_in(number))
 
 
-class Game:
-    """The calls that are made of a machine's seats, and the lines that are wanted."""
-
-    def __init__(self, player):
-        self.player, self.given, self.wanted = player, [], []
-
-    def make(self, *call):
-        self.given.append(call)
-        self.wanted.append(self.player.call(call))
-        return self.wanted[-1]
-
-    def given_text(self):
-        return text_of([self.player.opening(), *map(call_text, self.given), "close"])
-
-    def wanted_text(self):
-        return text_of([*self.wanted, *self.player.run(), *self.player.history()])
-
-
-class Drawers:
-    """Numbers that are drawn, each the next one, and what each drawer drew."""
-
-    def __init__(self, count):
-        self.drawn = [[] for _ in range(count)]
-
-    def draw(self, drawer, without_memory=False):
-        """The line that is wanted for a draw."""
-        number = sum(map(len, self.drawn))
-        if not without_memory:
-            self.drawn[drawer].append(number)
-        answer = NO_MEMORY if without_memory else f"drew {number}"
-        return answer + "|" + numbers_text(self.drawn[drawer])
-
-    def lists(self):
-        return ["drawn" + numbers_text(numbers) for numbers in self.drawn]
-
-
-def numbers_text(numbers):
-    return "".join(f" {number}" for number in numbers)
+def played(title, generator, calls):
+    game = random_game(title, generator)
+    caller = Caller(generator, game)
+    for _ in range(calls):
+        game.make(*caller.pick())
+    return game.close()
 
 
 def drawn(generator, count, draws):
-    """The lines that are given for so many drawers, and those that are wanted."""
-    drawers, given = Drawers(count), [generator.randrange(count) for _ in range(draws)]
-    wanted = [drawers.draw(drawer) for drawer in given]
-    return [f"numbers {count}", *(f"draw {drawer}" for drawer in given), "close"], [*wanted, *drawers.lists()]
-
-
-def text_of(lines):
-    return "".join(line + "\n" for line in lines)
-
-
-def played(generator, calls):
-    game = Game(random_player(generator))
-    caller = Caller(generator, game.player)
-    for _ in range(calls):
-        game.make(*caller.pick())
+    """So many draws by so many drawers, with all that the drawer drew behind each."""
+    game = Game(f"{count} drawers", NumbersPlayer())
+    game.ask(f"numbers {count}")
+    for _ in range(draws):
+        drawer = generator.randrange(count)
+        game.ask(f"draw {drawer}")
+        game.ask(f"drawn {drawer}")
+    game.ask("close")
+    game.ask_each("drawn 0+@", count)
     return game
 
 
 def buffering(calls):
     """The first calls of store buffering, if there are so many: it ends when all is completed. A core is issued its
     next operation right after the one before is completed, or in its next round."""
-    game = Game(Player(TWO, 2, [0, 0, 0, 0], 2))
-    while len(game.given) < calls and len(game.player.seats.records) < 4:
+    game = SeatGame(f"store buffering is stopped after {calls} calls", TWO, 2, [0, 0, 0, 0], 2)
+    while len(game.calls) < calls and len(game.seats.records) < 4:
         for seat, name in ROUND:
-            of = PROGRAMS[seat][len(game.player.seats.seats[seat].issued):][:1] if name == "issue" else []
-            is_free = name != "issue" or of and game.player.seats.cores[seat].op is None
-            if is_free and len(game.given) < calls:
+            of = PROGRAMS[seat][len(game.seats.cores[seat].issued):][:1] if name == "issue" else []
+            is_free = name != "issue" or of and game.seats.cores[seat].op is None
+            if is_free and len(game.calls) < calls:
                 game.make(name, seat, *of)
-    return game
+    return game.close()
 
 
 def stops():
     """Store buffering, stopped after each number of calls up to its end: also right behind each issue, where a core has
     an operation that it never attempted."""
     games = [buffering(0)]
-    while len(games[-1].player.seats.records) < 4:
+    while len(games[-1].seats.records) < 4:
         games.append(buffering(len(games)))
-    behind = [game for game in games if game.given and game.given[-1][0] == "issue"]
-    assert len(behind) == 4 and all(game.wanted[-1].startswith("done|") for game in behind)
+    behind = [game for game in games if game.calls and game.calls[-1][0] == "issue"]
+    assert len(behind) == 4 and all(game.seats.cores[game.calls[-1][1]].op for game in behind)
     return games
 
 
-def crowded(generator, seat):
+def crowded(title, generator, seat):
     """Core 0 writes more lines than an outbox and a link have places, and a seat evicts them, core 0's or the bank's:
     then its link and its outbox are full. When all messages are served, the bank evicts all, which fills its held list.
     """
     lines = PLACES + SLOTS + 1
-    game = Game(Player(CROWDED, lines, [0, 0, 0, 0], 4))
+    game = SeatGame(title, CROWDED, lines, [0, 0, 0, 0], 4)
     for line in range(lines):
         write(game, line)
     evicted = generator.sample(range(lines), lines)
@@ -350,15 +248,15 @@ def crowded(generator, seat):
     for line in evicted[PLACES:]:
         game.make("evict", seat, line)
     game.make("turn", seat)
-    while any(has_messages(game.player.seats, number) for number in range(3)):
+    while any(has_messages(game.seats, number) for number in range(3)):
         for number in (0, 2, 1, 2):
             game.make("turn", number)
     for line in generator.sample(range(lines), lines):
         game.make("evict", 2, line)
-    caller = Caller(generator, game.player)
+    caller = Caller(generator, game)
     for _ in range(300):
         game.make(*caller.pick())
-    return game
+    return game.close()
 
 
 def ask(game, seat, line):
@@ -380,67 +278,35 @@ def write(game, line):
     game.make("attempt", 0)
 
 
+def games_of(words):
+    generator = random.Random(words.seed)
+    for number in range(words.machines):
+        yield played(f"machine {number}", generator, words.calls)
+    for number in range(words.machines, words.machines + words.crowded):
+        yield crowded(f"crowded machine {number}", generator, number % 2 * 2)
+
+
 def main():
     parser = argparse.ArgumentParser()
     parser.add_argument("--machines", type=int, default=200)
     parser.add_argument("--calls", type=int, default=100)
     parser.add_argument("--crowded", type=int, default=2)
     parser.add_argument("--seed", type=int, default=1)
-    parser.add_argument("--print", action="store_true")
-    parser.add_argument("FILES", nargs="+")
+    parser.add_argument("PROGRAM")
     words = parser.parse_args()
-    generator = random.Random(words.seed)
-    games = (played(generator, words.calls) if number < words.machines else crowded(generator, number % 2 * 2)
-             for number in range(words.machines + words.crowded))
-    if words.print:
-        both = [(game.given_text(), game.wanted_text()) for game in games]
-        both.append(tuple(map(text_of, drawn(generator, 3, 20))))
-        for file, index in zip(words.FILES, (0, 1)):
-            Path(file).write_text("".join(texts[index] for texts in both))
-        return 0
-    stopped = stops()
-    for machine, game in enumerate(stopped):
-        if not is_played(words.FILES, f"stop {machine}", game):
-            return 1
+    stopped, numbers = stops(), [drawn(random.Random(count), count, draws) for count, draws in DRAWN]
+    if not (is_played(words.PROGRAM, "numbers", numbers) and is_played(words.PROGRAM, "stops", stopped)):
+        return 1
     print(f"store buffering stopped after 0 to {len(stopped) - 1} calls, no difference")
     tried, answers, records = 0, Counter(), 0
-    for machine, game in enumerate(games):
-        if not is_played(words.FILES, f"machine {machine}", game):
+    for game in games_of(words):
+        if not is_played(words.PROGRAM, game.given[0], [game]):
             return 1
-        tried, records = tried + len(game.given), records + len(game.player.seats.records)
-        answers.update(name_of(call, line) for call, line in zip(game.given, game.wanted))
+        tried, records = tried + len(game.calls), records + len(game.seats.records)
+        answers.update(game.answers)
     print(", ".join(f"{answer}: {number}" for answer, number in answers.most_common()))
     print(f"{tried} calls of seats on {words.machines + words.crowded} machines, {records} records, no difference")
-    is_gate = (words.machines, words.calls, words.crowded, words.seed) == GATE
-    return is_gate and not are_told(tried, sum(len(game.given) for game in stopped))
-
-
-def are_told(tried, stopped):
-    """Whether docs/HOSTILE.md tells so many calls, with those that lie in the repository."""
-    given = (TOP / "crates/seat_player/stdin").read_text().splitlines()
-    tried += sum(line.split()[0] not in ("machine", "numbers", "draw", "close") for line in given)
-    return is_told("random calls of seats", tried) & is_told("calls of seats that stop", stopped)
-
-
-def name_of(call, line):
-    """A call with its answer, for the count: of a turn, what was served last."""
-    words = line.split("|")[0].split()
-    if words[0] in ("refused", "none", "hand"):
-        return " ".join([call[0], *words[:2]])
-    return f"{call[0]} {words[-1] if call[0] == 'turn' else words[0]}"
-
-
-def is_played(program, name, game):
-    text = game.wanted_text()
-    ran = subprocess.run(program, input=game.given_text(), capture_output=True, text=True)
-    if ran.returncode == 0 and ran.stdout == text:
-        return True
-    lines, got = text.splitlines(), ran.stdout.splitlines()
-    at = next((at for at, (one, other) in enumerate(zip(lines, got)) if one != other), min(len(lines), len(got)))
-    print(f"{name} ({game.player.opening()}), status {ran.returncode}, line {at} "
-          f"({list(map(call_text, game.given))[at:at + 1]}):")
-    print(f"wanted {lines[at:at + 1]}\ngot    {got[at:at + 1]}\n{ran.stderr}")
-    return False
+    return 0
 
 
 if __name__ == "__main__":

@@ -2,7 +2,7 @@
 """Gives the program cut, faulty, huge and changed texts: tests/texts.py PROGRAM [PART..].
 
 What it must say of each was worked out by hand from docs/TEXTS.md, or is said by the second program, which was written
-from the same page (examples/reference). The last line is `N tried, M wrong`.
+from the same page (examples/oracle.py). The last line is `N tried, M wrong`.
 """
 import os
 import random
@@ -13,8 +13,10 @@ from pathlib import Path
 
 TOP = Path(__file__).resolve().parent.parent
 sys.path.insert(0, str(TOP / "examples"))
-from figures import is_told  # noqa: E402
+import oracle  # noqa: E402
+from reference.litmus import Test  # noqa: E402
 from reference.order import check  # noqa: E402
+from reference.reports import litmus_report  # noqa: E402
 from reference.traces import Fault, Trace, read_records  # noqa: E402
 
 KINDS = ("NoMemory TooLarge BadByte BadHeader BadInitial DoubleInitial BadTable BadInstruction ValueRange MixedWidth "
@@ -58,6 +60,12 @@ class Tester:
         good = (status, out, error) == (2, "", f"tardis: {fault}\n") if fault else (status, error) == (0, "")
         self.expect(good and accepted in out,
                     f"{text[-80:]!r} of {len(text)} bytes: wanted {fault}, got {status} {error!r}")
+
+    def reports(self, what, text):
+        """The report on the litmus text, from standard input, is the second program's."""
+        wanted, _ = litmus_report(Test(text), oracle.words().parse_args(["litmus", "/dev/stdin"]))
+        got = self.run("litmus", "/dev/stdin", text=text.encode())
+        self.expect(got == (0, wanted, ""), f"{what}: {got}")
 
 
 def told(line, kind):
@@ -105,7 +113,24 @@ def rows(table):
 def faults(tester):
     """Each kind of fault of litmus texts in the first line where it may stand, between, and in the last."""
     for fault, text in rows(TOP / "tests/litmus_faults.table"):
-        tester.refuses(fault, text.encode().decode("unicode_escape").encode("latin-1"))
+        tester.refuses(fault, unescaped(text))
+
+
+def ends(tester):
+    """Litmus texts that are read: the name, the one end and the verdict that each report tells."""
+    for told_end, text in rows(TOP / "tests/litmus_ends.table"):
+        verdict, end = told_end.split(" ", 1)
+        text = unescaped(text)
+        status, out, error = tester.run("litmus", "/dev/stdin", text=text)
+        lines = out.split("\n")
+        good = lines[0] == f"test {text.split()[1].decode()}" and lines[8:10] == ["states 1", f"1 {end}"]
+        good &= f"verdict {verdict}" in lines and (status, error) == (0, "")
+        tester.expect(good, f"{text!r}: {out} {error}")
+
+
+def unescaped(text):
+    """What Python's escapes write."""
+    return text.encode().decode("unicode_escape").encode("latin-1")
 
 
 def of_printf(text):
@@ -127,7 +152,7 @@ def one_line_faults(table):
 
 
 # Faults of form 1 alone: cores above 15, and an advance.
-FORM_1 = (b"16 R 0x0", b"16 X 0x4 x y", b"0 A")
+FORM_1 = (b"16 R 0x0", b"16 A", b"16 X 0x4 x y", b"0 A")
 
 
 def form_2_faults():
@@ -164,6 +189,18 @@ def places(tester):
         tester.refuses(fault, front + text + b"\n63 A\n", "trace", "/dev/stdin")
         tester.refuses(moved(fault, 3), b"\n" + front + b"63 A\n#\n" + text + b"\n63 A\n", "trace", "/dev/stdin")
         tester.refuses(moved(fault, 2), front + b"0 A\n63 R 0x0\n" + text, "trace", "/dev/stdin")
+
+
+def every_byte(tester):
+    """Every byte where two fields are parted, as a digit of a value and of an address, and as a core."""
+    decimal, hexadecimal = set(b"0123456789"), set(b"0123456789abcdef")
+    for line, at, good in ((b"0 W 0x0 7", 1, set(b" \t")), (b"0 W 0x0 7", 8, decimal),
+                           (b"0 R 0x008", 6, hexadecimal), (b"0 R  0x00", 0, decimal)):
+        for byte in range(256):
+            text = line[:at] + bytes([byte]) + line[at + 1:]
+            fault = byte not in good and verdict_of(text, b"")[2].removeprefix("tardis: ").removesuffix("\n")
+            accepted = "" if fault else f"issued {int(byte in good)}\n"
+            tester.refuses(fault, text, "trace", "/dev/stdin", accepted=accepted)
 
 
 def sizes(tester):
@@ -214,20 +251,74 @@ def line_sizes(tester):
         tester.refuses(None, b"\n" * 16777216, "check", some.name, "/dev/stdin", accepted="legal\n")
 
 
+THREADS = "|".join(f"P{number}" for number in range(16)) + ";\n"
+FRONT, REST = "RISCV A\n{ }\n P0 ;\n", "{ }\n P0 ;\nexists (x=0)\n"
+
+
+def at_limits():
+    """Texts that have as much of something as there may be, and what that is."""
+    yield "65,536 bytes, most in a line", 'RISCV A\n"' + "a" * (65536 - 11 - len(REST)) + '"\n' + REST
+    yield "65,536 bytes, most line feeds", "RISCV A\n" + "\n" * (65536 - 8 - len(REST)) + REST
+    yield "a name of 128 letters", "RISCV " + "n" * 128 + "\n" + REST
+    opening = "".join(f" {number}:x5={number + 1}; {number}:x6=l{number};" for number in range(16))
+    stored = " /\\ ".join(f"l{number}={number + 1}" for number in range(16))
+    stores = "|".join(["sw x5,0(x6)"] * 16) + ";\n"
+    yield "16 threads", "RISCV A\n{" + opening + " }\n" + THREADS + stores + f"forall {stored}\n"
+    loads = "|" * 15 + "lw x7,0(x6);\n"
+    yield "1,024 rows", "RISCV A\n{ x=6; 15:x6=x; }\n" + THREADS + loads * 1024 + "exists 15:x7=6\n"
+    heads, cells = "|".join(f"P{number}" for number in range(7)), "|".join(f"li x1,{number}" for number in range(7))
+    yield "1,024 rows of 7 instructions", f"RISCV A\n{{}}\n{heads};\n" + f"{cells};\n" * 1024 + "exists 6:x1=6\n"
+    yield "8,080 instructions", "RISCV A\n{}\n" + THREADS + ("li x1,1|" * 15 + "li x1,2;\n") * 505 + "exists 15:x1=2\n"
+    names = [f"{'l' * 30}{number}" for number in range(10, 74)]
+    items = "".join(f"{name}={number};\n" for number, name in enumerate(names, 1))
+    yield ("64 locations of 32 letters",
+           "RISCV A\n{\n" + items + f"}}\n P0 ;\nexists {names[0]}=1 /\\ {names[63]}=64\n")
+    zeros = "\n/\\ ".join(f"l{number}=0" for number in range(64))
+    yield "64 locations in the condition", FRONT + f"forall\n{zeros}\n"
+    registers = [[f"{thread}:x{number}={2147483647 - 32 * thread - number}" for number in range(1, 32)]
+                 for thread in range(16)]
+    items = ";\n".join([*sum(registers, []), *(f"l{number}={number}" for number in range(64))])
+    seen = " /\\\n".join(item for of_thread in registers for item in of_thread[15:])
+    yield "560 items, and 256 names", "RISCV A\n{\n" + items + "}\n" + THREADS + f"forall {seen}\n"
+    yield "256 atoms", FRONT + "forall\n" + "x=0 /\\\n" * 255 + "x=0\n"
+    yield "256 atoms, the last one false", FRONT + "forall\n" + "x=0 /\\\n" * 255 + "x=1\n"
+    yield "parentheses 64 deep", FRONT + "exists\n" + "(\n" * 64 + "x=0" + ")" * 64 + "\n"
+
+
+def past_limits():
+    """Texts that have one more than there may be, in a line between others and in the last; and faults behind many
+    lines."""
+    yield "line 1: 2 TooLarge", 'RISCV A\n"' + "a" * (65536 - 10 - len(REST)) + '"\n' + REST
+    yield "line 1: 2 TooLarge", "RISCV A\n" + "\n" * (65536 - 7 - len(REST)) + REST
+    yield "line 65511: 13 BadCondition", "RISCV A\n" + "\n" * 65507 + "{ }\n P0 ;\nexists x=a\n"
+    yield "line 65002: 5 BadInitial", "RISCV A\n" + "\n" * 65000 + "{ ; }\n"
+    yield "line 65003: 7 BadTable", "RISCV A\n" + "\n" * 65000 + "{ }\nP1 ;\n"
+    yield "line 1: 4 BadHeader", "RISCV " + "n" * 129 + "\n" + REST
+    yield "line 3: 2 TooLarge", "RISCV A\n{ }\n" + THREADS.replace(";", "|P16;") + "exists (x=0)\n"
+    yield "line 3: 2 TooLarge", "RISCV A\n{ }\n" + THREADS.replace(";\n", "|P16")
+    yield "line 1028: 2 TooLarge", FRONT + " li x5,1 ;\n" * 1025 + "exists (x=0)\n"
+    yield "line 1028: 2 TooLarge", FRONT + " ;\n" * 1025
+    items = "".join(f"v{number}=0;\n" for number in range(64))
+    yield "line 67: 2 TooLarge", "RISCV A\n{\n" + items + "w=0;\n}\n P0 ;\nexists (w=0)\n"
+    yield "line 69: 2 TooLarge", "RISCV A\n{\n" + items + "}\n P0 ;\nexists (w=0)"
+    addresses = " ".join(f"{number // 31}:x{number % 31 + 1}=l{number};" for number in range(65))
+    yield "line 2: 2 TooLarge", "RISCV A\n{ " + addresses + " }\n P0 | P1 | P2 ;\nexists (0:x7=0)\n"
+    yield "line 69: 2 TooLarge", FRONT + "forall\n" + "\n/\\ ".join(f"l{number}=0" for number in range(65)) + "\n"
+    yield "line 260: 2 TooLarge", FRONT + "exists " + " /\\\n".join(["x=0"] * 258) + "\n"
+    yield "line 260: 2 TooLarge", FRONT + "exists " + " /\\\n".join(["x=0"] * 257)
+    yield "line 4: 2 TooLarge", FRONT + "exists " + " \\/ ".join(["x=0"] * 257) + "\n"
+    yield "line 69: 2 TooLarge", FRONT + "exists\n" + "(\n" * 65 + "x=0" + ")" * 65 + "\n"
+
+
 def limits(tester):
-    """One more than there may be: threads, rows, locations, atoms; in a line between others, and in the last."""
-    threads = [b"P%d" % thread for thread in range(17)]
-    items = b"".join(b"v%d=0;\n" % number for number in range(64))
-    atoms = b"exists " + b" /\\\n".join([b"x=0"] * 257)
-    front = b"RISCV A\n{ }\n P0 ;\n"
-    tester.refuses("line 3: 2 TooLarge", b"RISCV A\n{ }\n " + b" | ".join(threads) + b" ;\nexists (x=0)\n")
-    tester.refuses("line 3: 2 TooLarge", b"RISCV A\n{ }\n " + b" | ".join(threads))
-    tester.refuses("line 1028: 2 TooLarge", front + b" li x5,1 ;\n" * 1025 + b"exists (x=0)\n")
-    tester.refuses("line 1028: 2 TooLarge", front + b" ;\n" * 1025)
-    tester.refuses("line 67: 2 TooLarge", b"RISCV A\n{\n" + items + b"w=0;\n}\n P0 ;\nexists (w=0)\n")
-    tester.refuses("line 69: 2 TooLarge", b"RISCV A\n{\n" + items + b"}\n P0 ;\nexists (w=0)")
-    tester.refuses("line 260: 2 TooLarge", front + atoms + b" /\\\nx=0\n")
-    tester.refuses("line 260: 2 TooLarge", front + atoms)
+    """Litmus texts at each limit, and past it. A configuration is looked at behind the longest text, too."""
+    for what, text in at_limits():
+        tester.reports(what, text)
+    for fault, text in past_limits():
+        tester.refuses(fault, text.encode())
+    _, longest = next(at_limits())
+    got = tester.run("litmus", "--lease", "0", "/dev/stdin", text=longest.encode())
+    tester.expect(len(longest) == 65536 and got == (3, "", "tardis: bad configuration\n"), f"the longest text: {got}")
 
 
 def words_of_the_line(tester):
@@ -321,20 +412,24 @@ def unlike(tester, number=400):
         tester.expect(good, f"{text!r}: {status} {error!r}")
 
 
-PARTS = {"cuts": cuts, "line-cuts": line_cuts, "faults": faults, "places": places, "sizes": sizes, "limits": limits,
-         "words": words_of_the_line, "changes": changes, "unlike": unlike}
+PARTS = {"cuts": cuts, "line-cuts": line_cuts, "faults": faults, "ends": ends, "places": places, "bytes": every_byte,
+         "sizes": sizes, "limits": limits, "words": words_of_the_line, "changes": changes, "unlike": unlike}
+# A part that tries fewer has lost some.
+LEAST = {"cuts": 176, "line-cuts": 500, "faults": 100, "ends": 30, "places": 700, "bytes": 900, "sizes": 50,
+         "limits": 28, "words": 70, "changes": 600, "unlike": 400}
 
 
 def main():
     program, *parts = sys.argv[1:]
-    tester, are_told = Tester(os.path.abspath(program)), True
+    tester = Tester(os.path.abspath(program))
     for name in parts or PARTS:
         before = tester.tried
         PARTS[name](tester)
         print(f"{name}: {tester.tried - before} texts")
-        are_told &= is_told(f"`{name}`", tester.tried - before)
+        if tester.tried - before < LEAST[name]:
+            sys.exit(f"{name} tries {tester.tried - before} texts, and no longer {LEAST[name]} or more")
     print(f"{tester.tried} tried, {tester.wrong} wrong")
-    return tester.wrong != 0 or not are_told
+    return tester.wrong != 0
 
 
 if __name__ == "__main__":

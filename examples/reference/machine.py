@@ -9,6 +9,11 @@ from types import SimpleNamespace
 
 COUNTED = {"RenewRep": "renewals", "UpgradeRep": "upgrades", "FlushRep": "flushes", "WbRep": "write-backs"}
 UNDER_WAY = ("Loading", "Recalling", "Storing")
+TO_CORE = ("ShRep", "ExRep", "RenewRep", "UpgradeRep", "FlushReq", "WbReq")
+TO_DRAM = ("DramLd", "DramSt")
+FROM_DRAM = ("DramLdRep", "DramStRep")
+EVENTS = {"Issue": "issue", "Attempt": "attempt", "Deliver": "deliver", "EvictCache": "evict_cache",
+          "EvictBank": "evict_bank", "Advance": "advance"}
 
 Record = namedtuple("Record", "core place kind word value received time number")
 
@@ -29,8 +34,9 @@ class Machine:
 
     def __init__(self, options, cores, memory):
         self.o = options
-        # op is the open operation, and out tells whether its request is out; done counts the completed operations.
-        self.cores = [SimpleNamespace(pts=options.time, op=None, out=False, done=0, sets=defaultdict(list))
+        # op is the open operation, and out tells whether its request is out; issued has all operations, and done counts
+        # the completed ones.
+        self.cores = [SimpleNamespace(pts=options.time, op=None, out=False, issued=[], done=0, sets=defaultdict(list))
                       for _ in range(cores)]
         self.mts = [options.time] * options.banks
         self.bank_sets = [defaultdict(list) for _ in range(options.banks)]
@@ -38,10 +44,14 @@ class Machine:
         for word, value in memory.items():
             self.dram.setdefault(self.line(word), [0] * options.line_words)[word % options.line_words] = value
         self.flight, self.sent = {}, 0   # messages in flight by number; how many were sent
-        self.issued = 0
         self.records = []                # by completion number
         self.counts = dict.fromkeys(COUNTED, 0)
         self.stopped = False
+
+    @property
+    def issued(self):
+        """How many operations all cores were issued."""
+        return sum(len(core.issued) for core in self.cores)
 
     def totals(self):
         """How many messages of the counted kinds were sent, by the names of reports."""
@@ -96,10 +106,10 @@ class Machine:
         if self.stopped:
             return "Stopped"
         name, *of = event
-        do = dict(Issue=self.issue, Attempt=self.attempt, Deliver=self.deliver, EvictCache=self.evict_cache,
-                  EvictBank=self.evict_bank, Advance=self.advance)[name]
+        if name not in ("Deliver", "EvictBank") and of[0] >= len(self.cores):
+            return "NoSuch"
         try:
-            return do(*of)
+            return getattr(self, EVENTS[name])(*of)
         except Refusal as refusal:
             self.stopped = str(refusal) == "Exhausted"
             return str(refusal)
@@ -109,7 +119,7 @@ class Machine:
         if self.cores[number].op:
             raise Refusal("Busy")
         self.cores[number].op = op
-        self.issued += 1
+        self.cores[number].issued.append(op)
         return "Issued"
 
     def advance(self, number):
@@ -169,6 +179,15 @@ class Machine:
     def copies(self, number):
         """The lines of a core's copies, rising."""
         return sorted(copy.line for copies in self.cores[number].sets.values() for copy in copies)
+
+    def nodes(self, m):
+        """Where a message is from, and where it goes to: a letter and a number."""
+        bank = ("b", m.line % self.o.banks)
+        if m.kind in TO_CORE:
+            return bank, ("c", m.core)
+        if m.kind in TO_DRAM:
+            return bank, ("d", bank[1])
+        return (("d", bank[1]) if m.kind in FROM_DRAM else ("c", m.core)), bank
 
     # Deliveries. A message that is answered leaves its place to the answer.
     def deliver(self, number):

@@ -3,7 +3,7 @@
 A program has `next()`, its next step or None: an operation as machine.py has it, or ADVANCE; and `done(received)`.
 """
 ADVANCE = ("advance", None, None)
-WITHOUT_PROGRESS = ("Waiting", "Held", "Busy", "NoSuch", "NoRoom", "Pinned", "NetworkFull")
+WITHOUT_PROGRESS = ("Waiting", "Held", "Busy", "NoSuch", "NoRoom", "Pinned", "NetworkFull", "Stopped")
 MULTIPLIER = 6364136223846793005
 SEED_ADDEND = 11634580027462260723
 # What a generator with t = 42 and i = 109 gives, as docs/SCHEDULES.md publishes it.
@@ -85,6 +85,10 @@ class Run:
         self.drawn.append((len(self.made), which, len(events)))
         return events
 
+    def is_exhausted(self):
+        """Whether the last event was answered so, which ends the run."""
+        return bool(self.made) and self.made[-1][1] == "Exhausted"
+
     def is_open(self, core):
         return self.machine.cores[core].op is not None
 
@@ -115,7 +119,7 @@ class Run:
             self.turns += 1
             before = len(self.made)
             turn(self)
-            if self.machine.stopped:
+            if self.is_exhausted():
                 return "exhausted"
             if may_stall and all(answer in WITHOUT_PROGRESS for _, answer in self.made[before:]):
                 return "stalled"
@@ -130,13 +134,13 @@ def a_round(run):
     for core, program in enumerate(run.programs):
         if not run.is_open(core) and program.next():
             run.make_step(core)
-        if run.is_open(core) and not run.machine.stopped and run.attempt(core):
+        if run.is_open(core) and not run.is_exhausted() and run.attempt(core):
             run.make("Attempt", core)
-        if run.machine.stopped:
+        if run.is_exhausted():
             return
     for number in sorted(run.machine.flight):
         run.deliver(number)
-        if run.machine.stopped:
+        if run.is_exhausted():
             return
 
 

@@ -7,15 +7,12 @@ refusal by its number. What the parts make of messages is the machine's; where m
 from copy import deepcopy
 from types import SimpleNamespace
 
-from reference.machine import COUNTED, Machine, Refusal
+from reference.machine import COUNTED, FROM_DRAM, TO_DRAM, Machine, Refusal
 
 PLACES = 256  # of an outbox, and of a held list
 SLOTS = 4     # of a link
 REFUSALS = {name: number for number, name in enumerate(
     "Busy TooMany NoSuch NoRoom Pinned NetworkFull NoMemory Exhausted Stopped".split(), 1)}
-TO_CORE = ("ShRep", "ExRep", "RenewRep", "UpgradeRep", "FlushReq", "WbReq")
-TO_DRAM = ("DramLd", "DramSt")
-FROM_DRAM = ("DramLdRep", "DramStRep")
 
 
 class Full(Exception):
@@ -25,7 +22,7 @@ class Full(Exception):
 class Seats(Machine):
     def __init__(self, options, memory):
         super().__init__(options, options.cores, memory)
-        self.seats = [SimpleNamespace(outbox=[], hand=None, held=[], cursor=0, stopped=False, issued=[], done=0,
+        self.seats = [SimpleNamespace(outbox=[], hand=None, held=[], cursor=0, stopped=False, done=0,
                                       counts=dict.fromkeys(COUNTED, 0))
                       for _ in range(options.cores + options.banks)]
         self.slots = [None] * (2 * SLOTS * options.cores * options.banks)
@@ -34,16 +31,7 @@ class Seats(Machine):
         self.now = self.places = None   # the seat that acts, and for how many messages its held list has place
         self.without_memory = False     # whether memory is refused to this call
 
-    # Nodes, links and slots.
-    def nodes(self, m):
-        """Where a message is from, and where it goes to: a letter and a number."""
-        bank = ("b", m.line % self.o.banks)
-        if m.kind in TO_CORE:
-            return bank, ("c", m.core)
-        if m.kind in TO_DRAM:
-            return bank, ("d", bank[1])
-        return (("d", bank[1]) if m.kind in FROM_DRAM else ("c", m.core)), bank
-
+    # Links and slots.
     def slots_to(self, m):
         """The slots of the link by which a message leaves its seat."""
         (letter, source), (_, target) = self.nodes(m)
@@ -104,7 +92,6 @@ class Seats(Machine):
         if self.without_memory:
             raise Refusal("NoMemory")
         self.issue(number, op)
-        self.seats[number].issued.append(op)
         return "done"
 
     def do_advance(self, number):

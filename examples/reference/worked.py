@@ -103,6 +103,8 @@ BUFFERING = "0 W 0x0 1; 0 R 0x8; 1 W 0x8 1; 1 R 0x0"
 BUFFERED = ["0 0 W 0x0 1 1 0", "1 0 W 0x8 1 1 1", "0 1 R 0x8 1 1 2", "1 1 R 0x0 1 1 3"]
 
 # A first operation takes 7 passes: asked for and taken, from DRAM in 2, granted, put, taken, done.
+# Tried, and refused by these runs: banks before cores, an attempt more after NoRoom, a bank that serves between
+# eviction and turn, a turn more, a pass that goes on after a stop, and turns used where all is done.
 # What a run by one worker shows, its options, its trace, its end, its passes, its records, and counts that aren't 0.
 WORKER_RUNS = [
     ("store buffering", {}, BUFFERING, "all-done", 21, BUFFERED, {"write-backs": 2}),

@@ -40,7 +40,7 @@ class WorkerRun:
 
     def issued(self):
         """The operations that each core was issued."""
-        return [seat.issued for seat in self.machine.seats[:len(self.programs)]]
+        return [core.issued for core in self.machine.cores]
 
     def call(self, *call):
         answer = self.machine.call(*call)

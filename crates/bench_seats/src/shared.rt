@@ -12,7 +12,7 @@ use std::alloc::Global;
 use std::rt::Clock;
 use std::thread::Threads;
 use std::time::Instant;
-use thread_runs::run_threads;
+use thread_driver::run_threads;
 
 // Whether the checker says that a run's records are legal, for what its cores were issued.
 fn is_legal(alloc: Global, run: &Run, cores: u32) -> Result<bool>

@@ -1,32 +1,154 @@
-//! The machine that is played, from its opening on.
+//! The machine that an example plays on, and what is kept beside it.
 
-use crate::views::Seen;
-use anyhow::{Result, bail};
-use interleaving_core::{Config, OpenError, System};
-use physiological_order::Memory;
-use std::alloc::Global;
-use std::io::Write;
+use crate::calls::Call;
+use crate::drives::Drives;
+use crate::looks::{put_look, put_order};
+use event_text::{NO_MACHINE, NO_MEMORY, Opening, memory_of, put_answer};
+use interleaving_core::{Answer, Config, Event, OpenError, System};
+use physiological_order::{Memory, Op, Record, WordAddr};
+use std::alloc::{AllocError, Global};
 
-/// A machine with what is to be seen of it, once the first one was opened.
-pub(crate) type Played = Option<(System, Seen)>;
+/// The machine, once it is opened, the words that it opened with, and the programs.
+#[derive(Drop)]
+pub(crate) struct Played {
+    pub(crate) alloc: Global,
+    pub(crate) system: Option<System>,
+    pub(crate) words: Vec<(WordAddr, u64)>,
+    drives: Drives,
+}
 
-/// A machine that opens with zeros. If there is no memory for it, that is told, and it is opened once more. If its
-/// configuration is refused, that is told, and there is none.
-pub(crate) fn opened<W: Write + Drop>(
+/// A machine that opens with these words.
+pub(crate) fn opened(
     alloc: Global,
     config: Config,
-    seen: Seen,
-    out: &mut W,
-) -> Result<Played> {
-    for _ in 0..2 {
-        match System::new(alloc, config, Memory::new(alloc)) {
-            Ok(system) => return Ok(Some((system, seen))),
-            Err(OpenError::NoMemory) => writeln!(out, "no memory for a machine")?,
-            Err(OpenError::BadConfig) => {
-                writeln!(out, "bad configuration")?;
-                return Ok(None);
-            }
+    words: &[(WordAddr, u64)],
+) -> Result<System, OpenError> {
+    match memory_of(alloc, words) {
+        Ok(memory) => System::new(alloc, config, memory),
+        Err(_) => Err(OpenError::NoMemory),
+    }
+}
+
+/// Tells the answers to a list of events.
+pub(crate) fn put_answers(answers: &[Answer], out: &mut String) -> Result<(), AllocError> {
+    let mut is_first = true;
+    for answer in answers {
+        if !is_first {
+            out.push_str("; ")?;
+        }
+        is_first = false;
+        put_answer(answer, out)?;
+    }
+    Ok(())
+}
+
+/// Plays events as one list.
+fn run(system: &mut System, events: &[Event], answer: &mut String) -> Result<(), AllocError> {
+    match system.run(events) {
+        Ok(answers) => put_answers(answers.as_slice(), answer),
+        Err(_) => answer.push_str(NO_MEMORY),
+    }
+}
+
+fn step(system: &mut System, event: Event, answer: &mut String) -> Result<(), AllocError> {
+    let _inside: (Option<Op>, Option<Record>) = (None, None);
+    let came = system.step(event);
+    put_answer(&came, answer)
+}
+
+/// Keeps lines in order, or no longer.
+fn keep(system: &mut System, is_kept: bool, answer: &mut String) -> Result<(), AllocError> {
+    if is_kept {
+        system.keep_order();
+    } else {
+        system.forget_order();
+    }
+    put_order(system, answer)
+}
+
+impl Played {
+    pub(crate) fn new(alloc: Global) -> Played {
+        Played {
+            alloc,
+            system: None,
+            words: Vec::new(alloc),
+            drives: Drives::new(alloc),
         }
     }
-    bail!("there is no memory for the machine")
+
+    /// How many words a line of the machine has; 1 where there is none.
+    pub(crate) fn line_words(&self) -> u32 {
+        match &self.system {
+            Some(system) => system.line_words(),
+            None => 1,
+        }
+    }
+
+    fn open(&mut self, opening: Opening, answer: &mut String) -> Result<(), AllocError> {
+        self.system = None;
+        self.words = opening.words;
+        match opened(self.alloc, opening.config, self.words.as_slice()) {
+            Ok(system) => {
+                self.system = Some(system);
+                answer.push_str("opened")
+            }
+            Err(OpenError::BadConfig) => answer.push_str("refused BadConfig"),
+            Err(OpenError::NoMemory) => answer.push_str(NO_MEMORY),
+        }
+    }
+
+    /// Opens the machine again with this memory; without memory for that it is given up.
+    pub(crate) fn reopen(&mut self, memory: Memory) -> Option<Result<(), AllocError>> {
+        let system = self.system.take()?;
+        match system.reopen(memory) {
+            Ok(system) => {
+                self.system = Some(system);
+                Some(Ok(()))
+            }
+            Err(error) => Some(Err(error)),
+        }
+    }
+
+    fn reopen_with(
+        &mut self,
+        words: Vec<(WordAddr, u64)>,
+        answer: &mut String,
+    ) -> Result<(), AllocError> {
+        let Ok(memory) = memory_of(self.alloc, words.as_slice()) else {
+            return answer.push_str(NO_MEMORY);
+        };
+        self.words = words;
+        match self.reopen(memory) {
+            Some(Ok(())) => answer.push_str("reopened"),
+            Some(Err(_)) => answer.push_str(NO_MEMORY),
+            None => answer.push_str(NO_MACHINE),
+        }
+    }
+
+    /// Plays what a line asks for, and tells the answer.
+    pub(crate) fn play(&mut self, call: Call, answer: &mut String) -> Result<(), AllocError> {
+        let call = match call {
+            Call::Machine(opening) => return self.open(opening, answer),
+            Call::Reopen(words) => return self.reopen_with(words, answer),
+            call => call,
+        };
+        let Some(system) = &mut self.system else {
+            return answer.push_str(NO_MACHINE);
+        };
+        match call {
+            Call::Event(event) => step(system, event, answer),
+            Call::Run(events) => run(system, events.as_slice(), answer),
+            Call::Keep(is_kept) => keep(system, is_kept, answer),
+            Call::Look(look) => {
+                put_look(self.alloc, system, self.words.as_slice(), &look, answer)
+            }
+            Call::Drive(policy, limit) => self.drives.drive(system, policy, limit, answer),
+            Call::Made(count) => self.drives.look(count, system.line_words(), answer),
+            Call::Program(core, steps) => {
+                self.drives.give(core, steps)?;
+                answer.push_str("given")
+            }
+            Call::Machine(_) | Call::Reopen(_) => Ok(()),
+        }
+    }
 }

@@ -1,11 +1,14 @@
 //! What is looked up in a machine.
-ghost use Rattle.std.specs.Prelude.{◌≡◌, ◌<◌, IfOk, length, map, slice_get, Some};
-ghost use Rattle.network.specs.NumberedMessages.{IsRising};
+ghost use Rattle.std.specs.Prelude.{◌≡◌, ◌<◌, IfOk, length, map, option_copied, slice_get, Some};
+ghost use Rattle.network.specs.NumberedMessages.{IsRising, at_number};
 ghost use Rattle.line_sets.specs.Rising.{risen};
 ghost use Rattle.interleaving_core.specs.LookUps.{copies, entries, free_copies, is_request, make_room, open_op};
 ghost use Rattle.interleaving_core.specs.LookUps.{open_status, room_at, victim};
 
 use crate::machine_state::MachineState;
+use core_pts::Core;
+use dram_mts::Dram;
+use llc_bank::Bank;
 use network::{Body, LineNo, Message, MsgNo, Node};
 use physiological_order::{Op, Record};
 use std::alloc::{AllocError, Global};
@@ -21,6 +24,34 @@ impl MachineState {
         ensures { result.now ≡ self.now.records }
     {
         &self.records
+    }
+
+    // The core of a number.
+    pub(crate) fn core(&self, number: u32) -> Option<&Core>
+        ensures { option_copied result ≡ slice_get self.now.cores number }
+    {
+        self.cores.get(number as usize)
+    }
+
+    // The bank of a number.
+    pub(crate) fn bank(&self, number: u32) -> Option<&Bank>
+        ensures { option_copied result ≡ slice_get self.now.banks number }
+    {
+        self.banks.get(number as usize)
+    }
+
+    // The DRAM behind the bank of a number.
+    pub(crate) fn dram(&self, number: u32) -> Option<&Dram>
+        ensures { option_copied result ≡ slice_get self.now.drams number }
+    {
+        self.drams.get(number as usize)
+    }
+
+    // The message in flight of a number.
+    pub(crate) fn look(&self, number: MsgNo) -> Option<&Message>
+        ensures { option_copied result ≡ at_number number self.now.mail.messages }
+    {
+        self.flight.look(number)
     }
 
     // The open operation of a core, and whether its request is out.

@@ -1,7 +1,7 @@
 //! The machine that users drive, and what is always true of it.
 ghost use Rattle.std.specs.Prelude.{◌≡◌, ◌≢◌, ◌≤◌, ◌<◌, ◌++◌, ◌∷◌, vec_capacity, [], false, true, IfOk, IfErr};
 ghost use Rattle.std.specs.Prelude.{IfSome, IsSome, IsTrue, OnErr, OnOk, length, map};
-ghost use Rattle.std.specs.Prelude.{slice_get, slice_index_or, List, Some, ℕ};
+ghost use Rattle.std.specs.Prelude.{option_copied, slice_get, slice_index_or, List, Some, ℕ};
 ghost use Rattle.physiological_order.specs.Order.{flat, Legal, Arrangement, of_core, replay_end};
 ghost use Rattle.physiological_order.specs.StaleHits.{RisesByNumber};
 ghost use Rattle.physiological_order.specs.declared.operation.Record.{Record};
@@ -20,8 +20,11 @@ ghost use Rattle.interleaving_core.specs.Midway.{IsMidway};
 ghost use Rattle.interleaving_core.specs.StepAnswers.{Stepped, Ran, asks_memory};
 
 use crate::machine_state::MachineState;
+use core_pts::Core;
+use dram_mts::Dram;
+use llc_bank::Bank;
 use machine_table::{Answer, Config, Counts, Event, OpenError, Refusal};
-use network::{LineNo, MsgNo};
+use network::{LineNo, Message, MsgNo};
 use physiological_order::{Memory, Op, Record, WordAddr};
 use std::alloc::{AllocError, Global};
 use std::marker::Model;
@@ -322,6 +325,34 @@ impl System {
     {
         self.state.forget_order();
         self.has_order = false;
+    }
+
+    /// The core of a number, counted from 0; none if there are no so many.
+    pub fn core(&self, number: u32) -> Option<&Core>
+        ensures { option_copied result ≡ slice_get self.now.cores number }
+    {
+        self.state.core(number)
+    }
+
+    /// The bank of a number, counted from 0; none if there are no so many.
+    pub fn bank(&self, number: u32) -> Option<&Bank>
+        ensures { option_copied result ≡ slice_get self.now.banks number }
+    {
+        self.state.bank(number)
+    }
+
+    /// The DRAM behind the bank of a number; none if there is no such bank.
+    pub fn dram(&self, number: u32) -> Option<&Dram>
+        ensures { option_copied result ≡ slice_get self.now.drams number }
+    {
+        self.state.dram(number)
+    }
+
+    /// The message of a number, if it is in flight.
+    pub fn look(&self, number: MsgNo) -> Option<&Message>
+        ensures { option_copied result ≡ at_number number self.now.mail.messages }
+    {
+        self.state.look(number)
     }
 
     /// How many messages are in flight.

@@ -15,8 +15,8 @@ use sequential_machine::laws::performed_histories_are_sequential;
 use shared_jobs::Gate;
 use std::alloc::{AllocError, Global};
 use std::thread::Threads;
-use thread_runs::laws::closed_machines_are_consistent;
-use thread_runs::run_threads;
+use thread_driver::laws::closed_machines_are_consistent;
+use thread_driver::run_threads;
 
 /// `count` runs of the test, one after the other, each on a new machine with a core for each thread. 1 to 16 workers,
 /// each a thread, drive the machine of a run, and give each of its cores and banks at most `limit` turns. The gate is

@@ -10,7 +10,7 @@ use Rattle.run_ends.specs.declared.ends.End.{End}
 use Rattle.worker_driver.specs.Acts.{Acts}
 use Rattle.worker_driver.specs.declared.policy.Policy.{Policy}
 use Rattle.worker_driver.specs.Policies.{EndedBy}
-use Rattle.thread_runs.specs.ThreadRuns.{IsThreadRun}
+use Rattle.thread_driver.specs.ThreadRuns.{IsThreadRun}
 
 -- A run leads from a machine that is set up and opens so, and these programs, to a machine, other programs and an end.
 -- By a policy it does so by the events of its schedule, with at most so many turns. By threads, which follow no policy,

@@ -10,7 +10,7 @@ use machine_table::Counts;
 use mailboxes::Run;
 use physiological_order::{Op, Record, WordAddr};
 use std::alloc::{AllocError, Global};
-use thread_runs::laws::closed_machines_list_what_was_issued;
+use thread_driver::laws::closed_machines_list_what_was_issued;
 
 /// A machine after a run, of which reports tell the records and what they left.
 pub trait Finished {
@@ -77,7 +77,7 @@ impl Finished for Run {
     ghost use Rattle.std.specs.Prelude.{◌≡◌};
     ghost use Rattle.machine_table.specs.Machine.{Machine};
     ghost use Rattle.mailboxes.specs.RunParts.{Parts};
-    ghost use Rattle.thread_runs.specs.ThreadRuns.{machine_of};
+    ghost use Rattle.thread_driver.specs.ThreadRuns.{machine_of};
 
     ghost shows = { λ run m. (parts : Parts run) × (machine_of run parts ≡ m) };
 

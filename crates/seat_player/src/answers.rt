@@ -1,77 +1,65 @@
 //! What calls of seats answer, and how it is told.
 
-use anyhow::Result;
+use event_text::put_answer;
 use machine_table::{Answer, Refusal};
 use mailboxes::{Eviction, Take, Turn};
-use physiological_order::{Op, Record};
 use serving::Served;
-use std::io::Write;
+use std::alloc::AllocError;
+
+/// The answer where there is no such seat.
+pub(crate) const NO_SEAT: &str = "no seat";
 
 /// What a call answers.
 #[derive(Clone, Copy)]
 pub(crate) enum Says {
-    /// The call is done, and has no more to say.
-    Done,
-    Attempted(Answer),
-    Evicts(Eviction),
+    /// As an event of the machine is answered.
+    Answers(Answer),
     /// Whether a message was put.
     Puts(bool),
     Takes(Take),
-    Serves(Served),
+    /// No message was there to be served.
+    Nothing,
     Turns(Turn),
-    Refused(Refusal),
-    /// There is no such seat, or it has no such call.
-    Nonsense,
+    NoSeat,
 }
 
-/// Whether there was no memory for the call.
-pub(crate) fn wants_memory(says: &Says) -> bool {
-    matches!(
-        says,
-        Says::Refused(Refusal::NoMemory) | Says::Attempted(Answer::Refused(Refusal::NoMemory))
-    )
-}
-
-/// An operation: its kind, its word, and what is written.
-pub(crate) fn tell_op<W: Write + Drop>(op: &Op, out: &mut W) -> Result<()> {
-    match op {
-        Op::Load(word) => write!(out, "R {}", word.word())?,
-        Op::Store(word, value) => write!(out, "W {} {value}", word.word())?,
-        Op::Swap(word, value) => write!(out, "S {} {value}", word.word())?,
-    }
-    Ok(())
-}
-
-/// A record: core, place, operation, what was received, time and number.
-pub(crate) fn tell_record<W: Write + Drop>(record: &Record, out: &mut W) -> Result<()> {
-    write!(out, "completed {} {} ", record.core, record.place)?;
-    tell_op(&record.op, out)?;
-    if let Some(received) = record.received {
-        write!(out, " received {received}")?;
-    }
-    write!(out, " at {} number {}", record.ts, record.number)?;
-    Ok(())
-}
-
-fn name_of_answer(answer: &Answer) -> &'static str {
-    match answer {
-        Answer::Requested => "requested",
-        Answer::Waiting => "waiting",
-        Answer::Idle => "idle",
-        _ => "nonsense",
+/// What a call answers that has one answer if it isn't refused.
+pub(crate) fn done(answer: Answer, came: Result<(), Refusal>) -> Says {
+    match came {
+        Ok(()) => Says::Answers(answer),
+        Err(refusal) => Says::Answers(Answer::Refused(refusal)),
     }
 }
 
-fn tell_attempted<W: Write + Drop>(answer: &Answer, out: &mut W) -> Result<()> {
-    match answer {
-        Answer::Completed(record) => return tell_record(record, out),
-        Answer::Refused(refusal) => write!(out, "refused {}", refusal.number())?,
-        answer => write!(out, "{}", name_of_answer(answer))?,
-    }
-    Ok(())
+pub(crate) fn served(came: Result<Served, Refusal>) -> Says {
+    let answer = match came {
+        Ok(Served::Delivered) => Answer::Delivered,
+        Ok(Served::Dropped) => Answer::Dropped,
+        Ok(Served::Started) => Answer::Started,
+        Ok(Served::Held) => Answer::Held,
+        Ok(Served::Nothing) => return Says::Nothing,
+        Err(refusal) => Answer::Refused(refusal),
+    };
+    Says::Answers(answer)
 }
 
-fn name_of_served(served: &Served) -> &'static str {
+pub(crate) fn turned(came: Result<Turn, Refusal>) -> Says {
+    match came {
+        Ok(turn) => Says::Turns(turn),
+        Err(refusal) => Says::Answers(Answer::Refused(refusal)),
+    }
+}
+
+pub(crate) fn evicted(came: Result<Eviction, Refusal>) -> Says {
+    let answer = match came {
+        Ok(Eviction::Evicted) => Answer::Evicted,
+        Ok(Eviction::Recalled) => Answer::Recalled,
+        Err(refusal) => Answer::Refused(refusal),
+    };
+    Says::Answers(answer)
+}
+
+fn name_of(served: &Served) -> &'static str {
     match served {
         Served::Delivered => "delivered",
         Served::Dropped => "dropped",
@@ -81,28 +69,15 @@ fn name_of_served(served: &Served) -> &'static str {
     }
 }
 
-fn name_of(says: &Says) -> &'static str {
+/// Tells what a call answered.
+pub(crate) fn put_says(says: &Says, out: &mut String) -> Result<(), AllocError> {
     match says {
-        Says::Serves(served) => name_of_served(served),
-        Says::Done => "done",
-        Says::Evicts(Eviction::Evicted) => "evicted",
-        Says::Evicts(Eviction::Recalled) => "recalled",
-        Says::Puts(true) => "put",
-        Says::Puts(false) => "none put",
-        Says::Takes(Take::Taken) => "taken",
-        Says::Takes(Take::Nothing) => "none taken",
-        Says::Takes(Take::HandFull) => "hand full",
-        Says::Attempted(_) | Says::Refused(_) | Says::Turns(_) | Says::Nonsense => "nonsense",
+        Says::Answers(answer) => put_answer(answer, out),
+        Says::Turns(turn) => write!(out, "{} put, {}", turn.put, name_of(&turn.served)),
+        Says::Puts(true) => out.push_str("put"),
+        Says::Takes(Take::Taken) => out.push_str("taken"),
+        Says::Takes(Take::HandFull) => out.push_str("hand full"),
+        Says::Puts(false) | Says::Takes(Take::Nothing) | Says::Nothing => out.push_str("nothing"),
+        Says::NoSeat => out.push_str(NO_SEAT),
     }
-}
-
-/// The answer by its name, a refusal by its number, a turn by how many it put and what it served.
-pub(crate) fn tell_answer<W: Write + Drop>(says: &Says, out: &mut W) -> Result<()> {
-    match says {
-        Says::Attempted(answer) => return tell_attempted(answer, out),
-        Says::Refused(refusal) => write!(out, "refused {}", refusal.number())?,
-        Says::Turns(turn) => write!(out, "{} {}", turn.put, name_of_served(&turn.served))?,
-        says => write!(out, "{}", name_of(says))?,
-    }
-    Ok(())
 }

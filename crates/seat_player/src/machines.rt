@@ -1,102 +1,121 @@
-//! A machine from its opening to its close.
+//! A machine of seats, from its opening to what is asked behind its close.
 ghost use Rattle.std.specs.Prelude.{IfOk};
 ghost use Rattle.mailboxes.specs.RunParts.{Parts};
 ghost use Rattle.mailboxes.specs.Seats.{AllBankSeats, AllCoreSeats};
 
-use crate::history::tell_history;
-use crate::lines::{Line, Seen};
-use crate::runs::tell_run;
-use crate::seats::play_calls;
-use anyhow::{Result, bail};
+use crate::calls::Call;
+use crate::play::Play;
+use crate::runs::put_asked;
+use crate::seats::put_called;
+use event_text::{NO_MEMORY, Opening, memory_of};
 use machine_table::{Config, OpenError};
 use mailboxes::{BankSeat, CoreSeat, Machine, Run, open};
-use physiological_order::{Memory, WordAddr};
+use physiological_order::Memory;
 use std::alloc::{AllocError, Global};
+use std::io;
 use std::io::Write;
 
-/// A memory whose first four words have these values.
-fn memory(alloc: Global, opening: &[u64; 4]) -> Result<Memory, AllocError> {
-    let mut memory = Memory::new(alloc);
-    for word in 0..4 {
-        if opening[word] != 0 {
-            memory.set(WordAddr::at(word as u64), opening[word])?;
-        }
-    }
-    Ok(memory)
-}
-
-/// The machine and its seats. If there is no memory for them, that is told, and they are opened once more.
-fn opened<W: Write + Drop>(
+/// A machine with this memory, and its seats.
+fn opened(
     alloc: Global,
     config: &Config,
-    opening: &[u64; 4],
-    out: &mut W,
-) -> Result<(Machine, Vec<CoreSeat>, Vec<BankSeat>)>
+    memory: Memory,
+) -> Result<(Machine, Vec<CoreSeat>, Vec<BankSeat>), OpenError>
     ensures cores { IfOk result (λ r. AllCoreSeats r.0 r.1.items) }
     ensures banks { IfOk result (λ r. AllBankSeats r.0 r.2.items) }
 {
-    for _ in 0..2 {
-        match open(alloc, *config, memory(alloc, opening)?) {
-            Ok(all) => return Ok(all),
-            Err(OpenError::BadConfig) => bail!("a configuration is refused"),
-            Err(OpenError::NoMemory) => writeln!(out, "refused 7")?,
-        }
+    match open(alloc, *config, memory) {
+        Err(error) => Err(error),
+        Ok(all) => Ok(all),
     }
-    bail!("there is no memory for the machine")
 }
 
-/// What the machine leaves. If there is no memory for that, it is told, and all is given up.
-fn closed<W: Write + Drop>(
+/// What a machine leaves that is closed with these seats, all that it has. AllocError where there is no memory for that,
+/// and then all is given up.
+fn closed(
     alloc: Global,
     machine: Machine,
     cores: Vec<CoreSeat>,
     banks: Vec<BankSeat>,
-    out: &mut W,
-) -> Result<Run>
+) -> Result<Run, AllocError>
     requires cores { AllCoreSeats machine cores.items }
     requires banks { AllBankSeats machine banks.items }
     ensures { IfOk result (λ r. Parts r) }
 {
     if !machine.is_whole(cores.as_slice(), banks.as_slice()) {
-        bail!("a seat is missing");
+        return Err(AllocError);
     }
-    match machine.close(alloc, cores, banks) {
-        Ok(run) => Ok(run),
-        Err(AllocError) => {
-            writeln!(out, "refused 7")?;
-            bail!("there is no memory for the run")
+    machine.close(alloc, cores, banks)
+}
+
+/// Plays calls of open seats, up to a line that opens or closes.
+fn play_open<W: Write + Drop>(
+    play: &mut Play<'_, '_, '_, '_, W>,
+    machine: &Machine,
+    cores: &mut Vec<CoreSeat>,
+    banks: &mut Vec<BankSeat>,
+) -> io::Result<()>
+    requires cores { AllCoreSeats machine.now cores.old.items }
+    requires banks { AllBankSeats machine.now banks.old.items }
+    ensures cores { AllCoreSeats machine.now cores.new.items }
+    ensures banks { AllBankSeats machine.now banks.new.items }
+{
+    let mut answer = String::new(play.alloc);
+    for _ in 0..u64::MAX {
+        match play.call()? {
+            None | Some(Call::Seats(_) | Call::Numbers(_) | Call::Close) => return Ok(()),
+            Some(call) => {
+                answer.clear();
+                put_called(machine, cores, banks, &call, &mut answer)?;
+                play.tell(answer.as_str())?;
+            }
         }
     }
+    Ok(())
 }
 
-/// What a machine leaves.
-fn tell_all<W: Write + Drop>(
-    alloc: Global,
-    run: &Run,
-    config: &Config,
-    seen: &Seen,
-    out: &mut W,
-) -> Result<()>
+/// Plays calls behind the close, up to a line that opens.
+fn play_closed<W: Write + Drop>(play: &mut Play<'_, '_, '_, '_, W>, run: &Run) -> io::Result<()>
     requires { Parts run.now }
 {
-    tell_run(run, config, seen, out)?;
-    tell_history(alloc, run, config.cores, seen, out)
+    let mut answer = String::new(play.alloc);
+    for _ in 0..u64::MAX {
+        match play.call()? {
+            None | Some(Call::Seats(_) | Call::Numbers(_)) => return Ok(()),
+            Some(call) => {
+                answer.clear();
+                put_asked(play.alloc, run, &call, &mut answer)?;
+                play.tell(answer.as_str())?;
+            }
+        }
+    }
+    Ok(())
 }
 
-/// Opens a machine, plays the calls of the lines from this one on, closes it, and tells what it leaves; the index of the
-/// first line that isn't a call.
+/// Plays a machine: the line that opens it, and those behind it, up to one that opens anew.
 pub(crate) fn play_machine<W: Write + Drop>(
-    alloc: Global,
-    config: &Config,
-    seen: &Seen,
-    opening: &[u64; 4],
-    lines: &[Line],
-    from: usize,
-    out: &mut W,
-) -> Result<usize> {
-    let (machine, mut cores, mut banks) = opened(alloc, config, opening, out)?;
-    let next = play_calls(&machine, &mut cores, &mut banks, seen, lines, from, out)?;
-    let run = closed(alloc, machine, cores, banks, out)?;
-    tell_all(alloc, &run, config, seen, out)?;
-    Ok(next)
+    play: &mut Play<'_, '_, '_, '_, W>,
+    opening: &Opening,
+) -> io::Result<()> {
+    let Ok(memory) = memory_of(play.alloc, opening.words.as_slice()) else {
+        return play.tell(NO_MEMORY);
+    };
+    let (machine, mut cores, mut banks) = match opened(play.alloc, &opening.config, memory) {
+        Ok(all) => all,
+        Err(OpenError::BadConfig) => return play.tell("refused BadConfig"),
+        Err(OpenError::NoMemory) => return play.tell(NO_MEMORY),
+    };
+    play.line_words = opening.config.line_words;
+    play.tell("opened")?;
+    play_open(play, &machine, &mut cores, &mut banks)?;
+    if !matches!(play.call()?, Some(Call::Close)) {
+        return Ok(());
+    }
+    match closed(play.alloc, machine, cores, banks) {
+        Ok(run) => {
+            play.tell("closed")?;
+            play_closed(play, &run)
+        }
+        Err(AllocError) => play.tell(NO_MEMORY),
+    }
 }

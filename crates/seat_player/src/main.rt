@@ -1,71 +1,68 @@
-//! Plays calls of seats, and draws of numbers, in one thread. It tells each answer and what can be seen of the seat then,
-//! and what a machine leaves that is closed with all its seats. tests/seats.py gives the calls, and compares what is told
-//! with the second program's seats. A call that is refused for want of memory is made once more.
+//! Plays texts of seats, and of numbers that are drawn (docs/EVENTS.md, "Seats").
 #![tactic(auto)]
 
 mod answers;
-mod history;
-mod lines;
+mod calls;
+mod looks;
 mod machines;
-mod messages;
 mod numbers;
+mod play;
+mod reading;
 mod runs;
 mod seats;
+mod states;
 mod views;
 
-use anyhow::{Result, bail};
-use lines::{Line, line_of};
+use calls::Call;
+use event_text::{Cause, Example, NO_MACHINE, Page, Player, Turn, play_files};
 use machines::play_machine;
-use numbers::play_numbers;
+use numbers::{MOST, play_numbers};
+use play::Play;
+use reading::call_of;
 use std::alloc::Global;
 use std::io;
-use std::io::{BufRead, BufReader, BufWriter, Write};
+use std::io::Write;
+use std::process::ExitCode;
 
-/// Plays what begins at a line; the index of the line that ends it.
-fn play<W: Write + Drop>(alloc: Global, lines: &[Line], at: usize, out: &mut W) -> Result<usize> {
-    if at >= lines.len() {
-        return Ok(at);
-    }
-    match lines[at] {
-        Line::Machine(config, seen, opening) => {
-            play_machine(alloc, &config, &seen, &opening, lines, at + 1, out)
-        }
-        Line::Numbers(drawers) => play_numbers(alloc, drawers, lines, at + 1, out),
-        _ => bail!("a machine or numbers are wanted first"),
-    }
-}
+/// Plays examples of seats and of numbers.
+struct SeatPlayer;
 
-/// Plays all lines: each machine and all numbers end with a line that closes them.
-fn play_all<W: Write + Drop>(alloc: Global, lines: &[Line], out: &mut W) -> Result<()> {
-    let mut at = 0;
-    for _ in 0..lines.len() {
-        if at >= lines.len() {
-            break;
+/// Plays all lines of an example.
+fn play_all<W: Write + Drop>(play: &mut Play<'_, '_, '_, '_, W>) -> io::Result<()> {
+    for _ in 0..u64::MAX {
+        match play.call()? {
+            None => return Ok(()),
+            Some(Call::Seats(opening)) => play_machine(play, &opening)?,
+            Some(Call::Numbers(drawers)) if 0 < drawers && drawers <= MOST => play_numbers(
+                play, drawers,
+            )?,
+            Some(_) => play.tell(NO_MACHINE)?,
         }
-        at = play(alloc, lines, at, out)?.saturating_add(1);
     }
     Ok(())
 }
 
-/// The lines of standard input.
-fn lines_of<R: AllocGlobal + Input>(rt: &R) -> Result<Vec<Line>> {
-    let mut lines = Vec::new(rt.alloc());
-    for text in BufReader::new(rt.alloc(), rt.reader())?.lines(rt.alloc()) {
-        let text = text?;
-        lines.push(line_of(text.as_str())?)?;
+impl Player for SeatPlayer {
+    fn read(&self, alloc: Global, turn: &Turn<'_>) -> Result<(), Cause> {
+        let _call = call_of(alloc, &mut turn.words(1))?;
+        Ok(())
     }
-    Ok(lines)
+
+    fn play<W: Write + Drop>(
+        &self,
+        alloc: Global,
+        example: &Example<'_>,
+        page: &mut Page<'_>,
+        out: &mut W,
+    ) -> io::Result<()> {
+        play_all(&mut Play::new(alloc, example, page, out))
+    }
+
+    fn has_ways(&self) -> bool {
+        false
+    }
 }
 
-/// What was told before a fault goes out, too.
-fn run<R: AllocGlobal + Input + Print>(rt: &R) -> Result<()> {
-    let lines = lines_of(rt)?;
-    let mut out = BufWriter::new(rt.alloc(), io::writer(rt))?;
-    let played = play_all(rt.alloc(), lines.as_slice(), &mut out);
-    out.flush()?;
-    played
-}
-
-fn main(rt: HostRuntime) -> Result<()> {
-    run(&rt)
+fn main(rt: HostRuntime) -> ExitCode {
+    ExitCode::from(play_files(&rt, &SeatPlayer))
 }

@@ -1,131 +1,145 @@
-//! Numbers from their opening to their close: drawers draw, and what each drew is told at the end. What is refused for
-//! want of memory is told, and asked once more.
+//! Numbers, from their opening to what is asked behind their close.
 ghost use Rattle.std.specs.Prelude.{◌<◌, ◌≤◌, IfOk};
-ghost use Rattle.drawn_numbers.specs.Drawers.{AllDrawersOf, IsDrawerOf};
+ghost use Rattle.drawn_numbers.specs.Drawers.{AllDrawersOf};
 
-use crate::lines::Line;
-use anyhow::{Result, bail};
+use crate::calls::Call;
+use crate::play::Play;
 use drawn_numbers::{DrawError, Drawer, Numbers, open_numbers};
-use std::alloc::Global;
+use event_text::{NO_MACHINE, NO_MEMORY};
+use std::alloc::{AllocError, Global};
+use std::io;
 use std::io::Write;
 
-/// The numbers and their drawers.
-fn opened<W: Write + Drop>(
-    alloc: Global,
-    drawers: u32,
-    out: &mut W,
-) -> Result<(Numbers, Vec<Drawer>)>
-    requires { (0 < drawers) × (drawers ≤ 16) }
-    ensures { IfOk result (λ r. AllDrawersOf r.0 r.1.items) }
-{
-    for _ in 0..2 {
-        if let Ok(all) = open_numbers(alloc, drawers) {
-            return Ok(all);
-        }
-        writeln!(out, "refused 7")?;
-    }
-    bail!("there is no memory for the numbers")
-}
+/// The most drawers that numbers have.
+pub(crate) const MOST: u32 = 16;
 
-/// What was drawn; and whether there was no memory for it.
-fn tell_drawn<W: Write + Drop>(drawn: &Result<u64, DrawError>, out: &mut W) -> Result<bool> {
-    match drawn {
-        Ok(number) => write!(out, "drew {number}")?,
-        Err(DrawError::NoMemory) => {
-            write!(out, "refused 7")?;
-            return Ok(true);
-        }
-        Err(DrawError::TooMany) => write!(out, "refused 2")?,
-    }
-    Ok(false)
-}
+/// The answer where there is no such drawer.
+const NO_DRAWER: &str = "no drawer";
 
-/// Numbers, and the end of the line.
-fn tell_numbers<W: Write + Drop>(numbers: &[u64], out: &mut W) -> Result<()> {
-    for number in numbers {
-        write!(out, " {number}")?;
+/// Drawn numbers, or `none`.
+fn put_list(drawn: &[u64], out: &mut String) -> Result<(), AllocError> {
+    if drawn.is_empty() {
+        return out.push_str("none");
     }
-    writeln!(out)?;
+    let mut is_first = true;
+    for number in drawn {
+        if !is_first {
+            out.push(' ')?;
+        }
+        is_first = false;
+        write!(out, "{number}")?;
+    }
     Ok(())
 }
 
-/// What a drawer draws, and all numbers that it has then; and whether there was no memory for it.
-fn draw<W: Write + Drop>(numbers: &Numbers, drawer: &mut Drawer, out: &mut W) -> Result<bool>
-    requires { IsDrawerOf numbers.now drawer.old }
-    ensures { IsDrawerOf numbers.now drawer.new }
-{
-    let drawn = drawer.draw(numbers);
-    let is_refused = tell_drawn(&drawn, out)?;
-    write!(out, "|")?;
-    tell_numbers(drawer.drawn.as_slice(), out)?;
-    Ok(is_refused)
-}
-
-fn draw_at<W: Write + Drop>(
+/// The drawer of a number draws.
+fn put_draw(
     numbers: &Numbers,
     drawers: &mut Vec<Drawer>,
-    at: usize,
-    out: &mut W,
-) -> Result<bool>
+    number: u32,
+    out: &mut String,
+) -> Result<(), AllocError>
     requires { AllDrawersOf numbers.now drawers.old.items }
     ensures { AllDrawersOf numbers.now drawers.new.items }
 {
+    let at = number as usize;
     if at >= drawers.len() {
-        bail!("there is no such drawer");
+        return out.push_str(NO_DRAWER);
     }
-    draw(numbers, &mut drawers[at], out)
+    match drawers[at].draw(numbers) {
+        Ok(drawn) => write!(out, "{drawn}"),
+        Err(DrawError::NoMemory) => out.push_str(NO_MEMORY),
+        Err(DrawError::TooMany) => out.push_str("refused TooMany"),
+    }
 }
 
-/// Plays the draws of the lines from this one on; the index of the first line that isn't a draw.
-fn draws<W: Write + Drop>(
+/// What the drawer of a number drew.
+fn put_drawn(drawers: &[Drawer], number: u32, out: &mut String) -> Result<(), AllocError> {
+    match drawers.get(number as usize) {
+        Some(drawer) => put_list(drawer.drawn.as_slice(), out),
+        None => out.push_str(NO_DRAWER),
+    }
+}
+
+/// What the drawer of a number drew, of the lists that the close left.
+fn put_left(lists: &[Vec<u64>], number: u32, out: &mut String) -> Result<(), AllocError> {
+    match lists.get(number as usize) {
+        Some(list) => put_list(list.as_slice(), out),
+        None => out.push_str(NO_DRAWER),
+    }
+}
+
+/// Plays draws, up to a line that opens or closes.
+fn play_open<W: Write + Drop>(
+    play: &mut Play<'_, '_, '_, '_, W>,
     numbers: &Numbers,
     drawers: &mut Vec<Drawer>,
-    lines: &[Line],
-    from: usize,
-    out: &mut W,
-) -> Result<usize>
+) -> io::Result<()>
     requires { AllDrawersOf numbers.now drawers.old.items }
     ensures { AllDrawersOf numbers.now drawers.new.items }
 {
-    for at in from..lines.len() {
-        let Line::Draw(drawer) = lines[at] else {
-            return Ok(at);
-        };
-        if draw_at(numbers, drawers, drawer, out)? {
-            let _again = draw_at(numbers, drawers, drawer, out)?;
+    let mut answer = String::new(play.alloc);
+    for _ in 0..u64::MAX {
+        answer.clear();
+        match play.call()? {
+            None | Some(Call::Seats(_) | Call::Numbers(_) | Call::Close) => return Ok(()),
+            Some(Call::Draw(drawer)) => put_draw(numbers, drawers, drawer, &mut answer)?,
+            Some(Call::Drawn(drawer)) => put_drawn(drawers, drawer, &mut answer)?,
+            Some(_) => answer.push_str(NO_MACHINE)?,
         }
+        play.tell(answer.as_str())?;
     }
-    Ok(lines.len())
+    Ok(())
 }
 
-/// What each drawer drew, a line each.
-fn tell_lists<W: Write + Drop>(numbers: Numbers, drawers: Vec<Drawer>, out: &mut W) -> Result<()>
+/// Plays calls behind the close, up to a line that opens.
+fn play_closed<W: Write + Drop>(
+    play: &mut Play<'_, '_, '_, '_, W>,
+    lists: &[Vec<u64>],
+) -> io::Result<()> {
+    let mut answer = String::new(play.alloc);
+    for _ in 0..u64::MAX {
+        answer.clear();
+        match play.call()? {
+            None | Some(Call::Seats(_) | Call::Numbers(_)) => return Ok(()),
+            Some(Call::Drawn(drawer)) => put_left(lists, drawer, &mut answer)?,
+            Some(_) => answer.push_str(NO_MACHINE)?,
+        }
+        play.tell(answer.as_str())?;
+    }
+    Ok(())
+}
+
+/// Closes the numbers with these drawers, all that they have, and plays what is behind that.
+fn play_close<W: Write + Drop>(
+    play: &mut Play<'_, '_, '_, '_, W>,
+    numbers: Numbers,
+    drawers: Vec<Drawer>,
+) -> io::Result<()>
     requires { AllDrawersOf numbers drawers.items }
 {
     if !numbers.is_whole(drawers.as_slice()) {
-        bail!("a drawer is missing");
+        return play.tell("a drawer is missing");
     }
-    for list in &numbers.close(drawers) {
-        write!(out, "drawn")?;
-        tell_numbers(list.as_slice(), out)?;
-    }
-    Ok(())
+    let lists = numbers.close(drawers);
+    play.tell("closed")?;
+    play_closed(play, lists.as_slice())
 }
 
-/// Opens numbers, plays the draws of the lines from this one on, closes the numbers, and tells what was drawn; the index
-/// of the first line that isn't a draw.
+/// Plays numbers with so many drawers: the line that opens them, and those behind it, up to one that opens anew.
 pub(crate) fn play_numbers<W: Write + Drop>(
-    alloc: Global,
+    play: &mut Play<'_, '_, '_, '_, W>,
     drawers: u32,
-    lines: &[Line],
-    from: usize,
-    out: &mut W,
-) -> Result<usize> {
-    if drawers == 0 || drawers > 16 {
-        bail!("there are 1 to 16 drawers");
+) -> io::Result<()>
+    requires { (0 < drawers) × (drawers ≤ 16) }
+{
+    let Ok((numbers, mut drawers)) = open_numbers(play.alloc, drawers) else {
+        return play.tell(NO_MEMORY);
+    };
+    play.tell("opened")?;
+    play_open(play, &numbers, &mut drawers)?;
+    if matches!(play.call()?, Some(Call::Close)) {
+        return play_close(play, numbers, drawers);
     }
-    let (numbers, mut all) = opened(alloc, drawers, out)?;
-    let next = draws(&numbers, &mut all, lines, from, out)?;
-    tell_lists(numbers, all, out)?;
-    Ok(next)
+    Ok(())
 }

@@ -1,103 +1,127 @@
-//! What a closed machine leaves.
+//! What is looked up of a machine that was closed.
 ghost use Rattle.mailboxes.specs.RunParts.{Parts};
 
-use crate::answers::{tell_op, tell_record};
-use crate::lines::Seen;
-use crate::messages::tell_message;
-use crate::views::{tell_bank, tell_core, tell_inbox, tell_outbox};
-use anyhow::Result;
-use machine_table::Config;
+use crate::answers::NO_SEAT;
+use crate::calls::{BankLook, Call, CoreLook, RunLook};
+use crate::looks::{look_at_bank, look_at_core, put_mail};
+use crate::views::{bank_left, core_left};
+use event_text::{
+    NO_MACHINE, NO_MEMORY, put_counts, put_numbers, put_ops, put_record_at, put_verdict,
+};
 use mailboxes::Run;
-use physiological_order::WordAddr;
-use std::io::Write;
+use physiological_order::{Op, Record, arrange, check, stale_hits};
+use std::alloc::{AllocError, Global};
 
-/// The records by number, a line each.
-fn tell_records<W: Write + Drop>(run: &Run, out: &mut W) -> Result<()> {
-    for record in run.records() {
-        tell_record(record, out)?;
-        writeln!(out)?;
+/// The message that lies in a slot, or `none`.
+fn put_in_slot(run: &Run, slot: u64, out: &mut String) -> Result<(), AllocError> {
+    if slot >= run.slots.len() as u64 {
+        return out.push_str("none");
     }
-    Ok(())
+    let line_words = run.set_up.config.line_words;
+    put_mail(run.slots[slot as usize].as_ref(), line_words, out)
 }
 
-/// The operations that each core was issued, a line for each core.
-fn tell_issued<W: Write + Drop>(run: &Run, cores: u32, out: &mut W) -> Result<()>
+fn put_arranged(alloc: Global, records: &[Record], out: &mut String) -> Result<(), AllocError> {
+    match arrange(alloc, records) {
+        Ok(arranged) => put_numbers(arranged.as_slice(), out),
+        Err(AllocError) => out.push_str(NO_MEMORY),
+    }
+}
+
+fn put_stale(alloc: Global, run: &Run, out: &mut String) -> Result<(), AllocError>
     requires { Parts run.now }
 {
-    for core in 0..cores {
-        write!(out, "issued {core}")?;
-        for op in run.issued(core) {
-            write!(out, ", ")?;
-            tell_op(op, out)?;
-        }
-        writeln!(out)?;
+    match stale_hits(alloc, run.records()) {
+        Ok(count) => write!(out, "{count}"),
+        Err(AllocError) => out.push_str(NO_MEMORY),
     }
-    Ok(())
 }
 
-/// The values of words.
-fn tell_values<W: Write + Drop>(run: &Run, words: u32, out: &mut W) -> Result<()>
+/// What the cores were issued, by core.
+fn issued(alloc: Global, run: &Run) -> Result<Vec<Vec<Op>>, AllocError>
     requires { Parts run.now }
 {
-    write!(out, "values")?;
-    for word in 0..words {
-        let value = run.value(WordAddr::at(u64::from(word)));
-        write!(out, " {value}")?;
+    let mut issued = Vec::new(alloc);
+    for core in 0..run.set_up.config.cores {
+        issued.push(Vec::from_slice(alloc, run.issued(core))?)?;
     }
-    writeln!(out)?;
-    Ok(())
+    Ok(issued)
 }
 
-/// What lay in the slots of the links.
-fn tell_slots<W: Write + Drop>(run: &Run, words: u32, out: &mut W) -> Result<()> {
-    write!(out, "slots")?;
-    for slot in 0..run.slots.len() {
-        if let Some(message) = &run.slots[slot] {
-            write!(out, ", {slot}:")?;
-            tell_message(message, words, out)?;
-        }
+fn put_check(alloc: Global, run: &Run, out: &mut String) -> Result<(), AllocError>
+    requires { Parts run.now }
+{
+    let issued = issued(alloc, run)?;
+    match check(alloc, &run.set_up.memory, issued.as_slice(), run.records()) {
+        Ok(verdict) => put_verdict(&verdict, out),
+        Err(AllocError) => out.push_str(NO_MEMORY),
     }
-    writeln!(out)?;
-    Ok(())
 }
 
-/// The parts of the cores' seats, a line each.
-fn tell_cores<W: Write + Drop>(run: &Run, seen: &Seen, out: &mut W) -> Result<()> {
-    for core in &run.cores {
-        write!(out, "seat {}", core.number)?;
-        tell_core(&core.core, seen, out)?;
-        tell_inbox(&core.inbox, seen.line_words, out)?;
-        tell_outbox(&core.outbox, out)?;
-        writeln!(out)?;
+/// What is looked up of the run alone.
+fn look_at_run(alloc: Global, run: &Run, look: &RunLook, out: &mut String) -> Result<(), AllocError>
+    requires { Parts run.now }
+{
+    match look {
+        RunLook::Records => write!(out, "{}", run.records().len()),
+        RunLook::Record(number) => put_record_at(run.records(), *number, out),
+        RunLook::Stale => put_stale(alloc, run, out),
+        RunLook::Check => put_check(alloc, run, out),
+        RunLook::Arranged => put_arranged(alloc, run.records(), out),
+        RunLook::Word(addr) => write!(out, "{}", run.value(*addr)),
+        RunLook::Owners(line) => write!(out, "{}", run.owners(*line)),
+        RunLook::Sent => put_counts(&run.counts(), out),
+        RunLook::Slot(slot) => put_in_slot(run, *slot, out),
+        RunLook::Slots => write!(out, "{}", run.slots.len()),
     }
-    Ok(())
 }
 
-/// The parts of the banks' seats, a line each.
-fn tell_banks<W: Write + Drop>(run: &Run, seen: &Seen, out: &mut W) -> Result<()> {
-    for bank in &run.banks {
-        write!(out, "seat {}", bank.number)?;
-        tell_bank(&bank.bank, &bank.dram, seen, out)?;
-        tell_inbox(&bank.inbox, seen.line_words, out)?;
-        tell_outbox(&bank.outbox, out)?;
-        writeln!(out)?;
-    }
-    Ok(())
-}
-
-/// All of it.
-pub(crate) fn tell_run<W: Write + Drop>(
+/// What is looked up of the core of a number, as it was at the close.
+fn look_at_core_left(
     run: &Run,
-    config: &Config,
-    seen: &Seen,
-    out: &mut W,
-) -> Result<()>
+    number: u32,
+    look: &CoreLook,
+    out: &mut String,
+) -> Result<(), AllocError>
     requires { Parts run.now }
 {
-    tell_records(run, out)?;
-    tell_issued(run, config.cores, out)?;
-    tell_values(run, seen.words, out)?;
-    tell_slots(run, seen.line_words, out)?;
-    tell_cores(run, seen, out)?;
-    tell_banks(run, seen, out)
+    let Some(view) = core_left(run.cores.as_slice(), number) else {
+        return out.push_str(NO_SEAT);
+    };
+    match look {
+        CoreLook::Issued => put_ops(run.issued(number), out),
+        look => look_at_core(number, &view, look, run.set_up.config.line_words, out),
+    }
+}
+
+/// What is looked up of the bank of a number, as it was at the close.
+fn look_at_bank_left(
+    run: &Run,
+    number: u32,
+    look: &BankLook,
+    out: &mut String,
+) -> Result<(), AllocError> {
+    let config = &run.set_up.config;
+    let seat = u64::from(config.cores) + u64::from(number);
+    let Some(view) = bank_left(run.banks.as_slice(), seat) else {
+        return out.push_str(NO_SEAT);
+    };
+    look_at_bank(number, &view, look, config.line_words, out)
+}
+
+/// What is answered to a call behind the close.
+pub(crate) fn put_asked(
+    alloc: Global,
+    run: &Run,
+    call: &Call,
+    out: &mut String,
+) -> Result<(), AllocError>
+    requires { Parts run.now }
+{
+    match call {
+        Call::RunLook(look) => look_at_run(alloc, run, look, out),
+        Call::CoreLook(number, look) => look_at_core_left(run, *number, look, out),
+        Call::BankLook(number, look) => look_at_bank_left(run, *number, look, out),
+        _ => out.push_str(NO_MACHINE),
+    }
 }

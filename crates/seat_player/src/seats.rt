@@ -1,179 +1,170 @@
-//! Calls of seats, one after the other, each told with what can be seen of the seat then.
+//! Calls of open seats.
 ghost use Rattle.mailboxes.specs.Seats.{AllBankSeats, AllCoreSeats, IsBankSeat, IsCoreSeat};
 
-use crate::answers::{Says, tell_answer, wants_memory};
-use crate::lines::{Call, Line, Seen};
-use crate::views::{tell_bank_seat, tell_core_seat};
-use anyhow::Result;
-use machine_table::Refusal;
-use mailboxes::{BankSeat, CoreSeat, Eviction, Machine, Turn};
-use serving::Served;
-use std::io::Write;
+use crate::answers::{NO_SEAT, Says, done, evicted, put_says, served, turned};
+use crate::calls::{BankLook, Call, CoreLook, OfCore, OfSeat};
+use crate::looks::{look_at_bank, look_at_core, put_found, put_open};
+use crate::views::{Mail, open_bank, open_core};
+use event_text::NO_MACHINE;
+use machine_table::Answer;
+use mailboxes::{BankSeat, CoreSeat, Machine};
+use std::alloc::AllocError;
 
-fn done(answer: Result<(), Refusal>) -> Says {
-    match answer {
-        Ok(()) => Says::Done,
-        Err(refusal) => Says::Refused(refusal),
-    }
-}
-
-fn served(answer: Result<Served, Refusal>) -> Says {
-    match answer {
-        Ok(served) => Says::Serves(served),
-        Err(refusal) => Says::Refused(refusal),
-    }
-}
-
-fn turned(answer: Result<Turn, Refusal>) -> Says {
-    match answer {
-        Ok(turn) => Says::Turns(turn),
-        Err(refusal) => Says::Refused(refusal),
-    }
-}
-
-fn evicted(answer: Result<Eviction, Refusal>) -> Says {
-    match answer {
-        Ok(eviction) => Says::Evicts(eviction),
-        Err(refusal) => Says::Refused(refusal),
-    }
-}
-
-/// What a core's seat answers to a call.
-fn call_core(core: &mut CoreSeat, machine: &Machine, call: &Call) -> Says
+/// What a core's seat answers to a call of all seats.
+fn call_core_seat(core: &mut CoreSeat, machine: &Machine, call: &OfSeat) -> Says
     requires { IsCoreSeat machine.now core.old }
     ensures { IsCoreSeat machine.now core.new }
 {
     match call {
-        Call::Issue(op) => done(core.issue(machine, *op)),
-        Call::Attempt => Says::Attempted(core.attempt(machine)),
-        Call::Advance => done(core.advance(machine)),
-        Call::Evict(line) => done(core.evict(machine, *line)),
-        Call::Put => Says::Puts(core.put(machine)),
-        Call::Take => Says::Takes(core.take(machine)),
-        Call::Serve => served(core.serve(machine)),
-        Call::Turn => turned(core.turn(machine)),
+        OfSeat::Evict(line) => done(Answer::Evicted, core.evict(machine, *line)),
+        OfSeat::Put => Says::Puts(core.put(machine)),
+        OfSeat::Take => Says::Takes(core.take(machine)),
+        OfSeat::Serve => served(core.serve(machine)),
+        OfSeat::Turn => turned(core.turn(machine)),
+    }
+}
+
+/// What a core's seat answers to a call.
+fn call_core(core: &mut CoreSeat, machine: &Machine, call: &OfCore) -> Says
+    requires { IsCoreSeat machine.now core.old }
+    ensures { IsCoreSeat machine.now core.new }
+{
+    match call {
+        OfCore::Issue(op) => done(Answer::Issued, core.issue(machine, *op)),
+        OfCore::Attempt => Says::Answers(core.attempt(machine)),
+        OfCore::Advance => done(Answer::Advanced, core.advance(machine)),
+        OfCore::Seat(call) => call_core_seat(core, machine, call),
     }
 }
 
 /// What a bank's seat answers to a call.
-fn call_bank(bank: &mut BankSeat, machine: &Machine, call: &Call) -> Says
+fn call_bank(bank: &mut BankSeat, machine: &Machine, call: &OfSeat) -> Says
     requires { IsBankSeat machine.now bank.old }
     ensures { IsBankSeat machine.now bank.new }
 {
     match call {
-        Call::Evict(line) => evicted(bank.evict(machine, *line)),
-        Call::Put => Says::Puts(bank.put(machine)),
-        Call::Take => Says::Takes(bank.take(machine)),
-        Call::Serve => served(bank.serve(machine)),
-        Call::Turn => turned(bank.turn(machine)),
-        Call::Issue(_) | Call::Attempt | Call::Advance => Says::Nonsense,
+        OfSeat::Evict(line) => evicted(bank.evict(machine, *line)),
+        OfSeat::Put => Says::Puts(bank.put(machine)),
+        OfSeat::Take => Says::Takes(bank.take(machine)),
+        OfSeat::Serve => served(bank.serve(machine)),
+        OfSeat::Turn => turned(bank.turn(machine)),
     }
 }
 
-fn core_called(machine: &Machine, cores: &mut Vec<CoreSeat>, at: usize, call: &Call) -> Says
+/// What the core's seat at an index answers to a call.
+fn core_called(machine: &Machine, cores: &mut Vec<CoreSeat>, at: usize, call: &OfCore) -> Says
     requires { AllCoreSeats machine.now cores.old.items }
     ensures { AllCoreSeats machine.now cores.new.items }
 {
     if at >= cores.len() {
-        return Says::Nonsense;
+        return Says::NoSeat;
     }
     call_core(&mut cores[at], machine, call)
 }
 
-fn bank_called(machine: &Machine, banks: &mut Vec<BankSeat>, at: usize, call: &Call) -> Says
+/// What the bank's seat at an index answers to a call.
+fn bank_called(machine: &Machine, banks: &mut Vec<BankSeat>, at: usize, call: &OfSeat) -> Says
     requires { AllBankSeats machine.now banks.old.items }
     ensures { AllBankSeats machine.now banks.new.items }
 {
     if at >= banks.len() {
-        return Says::Nonsense;
+        return Says::NoSeat;
     }
     call_bank(&mut banks[at], machine, call)
 }
 
-/// What the seat of a number answers to a call: cores come first, and then banks.
-fn called(
-    machine: &Machine,
-    cores: &mut Vec<CoreSeat>,
-    banks: &mut Vec<BankSeat>,
-    seat: usize,
-    call: &Call,
-) -> Says
-    requires cores { AllCoreSeats machine.now cores.old.items }
-    requires banks { AllBankSeats machine.now banks.old.items }
-    ensures cores { AllCoreSeats machine.now cores.new.items }
-    ensures banks { AllBankSeats machine.now banks.new.items }
-{
-    if seat < cores.len() {
-        return core_called(machine, cores, seat, call);
+/// What is looked up of an open seat of a core.
+fn look_at_core_seat(
+    seat: &CoreSeat,
+    number: u32,
+    look: &CoreLook,
+    line_words: u32,
+    out: &mut String,
+) -> Result<(), AllocError> {
+    let _inside: Option<Mail<'_>> = None;
+    match look {
+        CoreLook::Open => put_open(seat.open_op(), out),
+        CoreLook::Victim(line) => put_found(seat.victim(*line), line_words, out),
+        look => look_at_core(number, &open_core(seat), look, line_words, out),
     }
-    bank_called(machine, banks, seat - cores.len(), call)
 }
 
-/// An answer, and the seat after it, in one line.
-fn tell<W: Write + Drop>(
+/// What is looked up of the open seat of the core of a number.
+fn look_at_open_core(
+    machine: &Machine,
     cores: &Vec<CoreSeat>,
+    number: u32,
+    look: &CoreLook,
+    out: &mut String,
+) -> Result<(), AllocError> {
+    let at = number as usize;
+    if at >= cores.len() {
+        return out.push_str(NO_SEAT);
+    }
+    look_at_core_seat(
+        &cores[at],
+        number,
+        look,
+        machine.set_up.config.line_words,
+        out,
+    )
+}
+
+/// What is looked up of an open seat of a bank.
+fn look_at_bank_seat(
+    seat: &BankSeat,
+    number: u32,
+    look: &BankLook,
+    line_words: u32,
+    out: &mut String,
+) -> Result<(), AllocError> {
+    let _inside: Option<Mail<'_>> = None;
+    look_at_bank(number, &open_bank(seat), look, line_words, out)
+}
+
+/// What is looked up of the open seat of the bank of a number.
+fn look_at_open_bank(
+    machine: &Machine,
     banks: &Vec<BankSeat>,
-    seat: usize,
-    seen: &Seen,
-    says: &Says,
-    out: &mut W,
-) -> Result<()> {
-    tell_answer(says, out)?;
-    if seat < cores.len() {
-        return tell_core_seat(&cores[seat], seen, out);
+    number: u32,
+    look: &BankLook,
+    out: &mut String,
+) -> Result<(), AllocError> {
+    let at = number as usize;
+    if at >= banks.len() {
+        return out.push_str(NO_SEAT);
     }
-    let bank = seat - cores.len();
-    if bank < banks.len() {
-        return tell_bank_seat(&banks[bank], seen, out);
-    }
-    writeln!(out)?;
-    Ok(())
+    look_at_bank_seat(
+        &banks[at],
+        number,
+        look,
+        machine.set_up.config.line_words,
+        out,
+    )
 }
 
-/// A call is made and told. If there is no memory for it, it is made once more.
-fn play_call<W: Write + Drop>(
+/// What is answered to a call while the seats are open.
+pub(crate) fn put_called(
     machine: &Machine,
     cores: &mut Vec<CoreSeat>,
     banks: &mut Vec<BankSeat>,
-    seen: &Seen,
-    seat: usize,
     call: &Call,
-    out: &mut W,
-) -> Result<()>
+    out: &mut String,
+) -> Result<(), AllocError>
     requires cores { AllCoreSeats machine.now cores.old.items }
     requires banks { AllBankSeats machine.now banks.old.items }
     ensures cores { AllCoreSeats machine.now cores.new.items }
     ensures banks { AllBankSeats machine.now banks.new.items }
 {
-    let says = called(machine, cores, banks, seat, call);
-    tell(cores, banks, seat, seen, &says, out)?;
-    if wants_memory(&says) {
-        let again = called(machine, cores, banks, seat, call);
-        tell(cores, banks, seat, seen, &again, out)?;
+    match call {
+        Call::Core(number, call) => {
+            put_says(&core_called(machine, cores, *number as usize, call), out)
+        }
+        Call::Bank(number, call) => {
+            put_says(&bank_called(machine, banks, *number as usize, call), out)
+        }
+        Call::CoreLook(number, look) => look_at_open_core(machine, cores, *number, look, out),
+        Call::BankLook(number, look) => look_at_open_bank(machine, banks, *number, look, out),
+        _ => out.push_str(NO_MACHINE),
     }
-    Ok(())
-}
-
-/// Plays the calls of the lines from this one on; the index of the first line that isn't a call.
-pub(crate) fn play_calls<W: Write + Drop>(
-    machine: &Machine,
-    cores: &mut Vec<CoreSeat>,
-    banks: &mut Vec<BankSeat>,
-    seen: &Seen,
-    lines: &[Line],
-    from: usize,
-    out: &mut W,
-) -> Result<usize>
-    requires cores { AllCoreSeats machine.now cores.old.items }
-    requires banks { AllBankSeats machine.now banks.old.items }
-    ensures cores { AllCoreSeats machine.now cores.new.items }
-    ensures banks { AllBankSeats machine.now banks.new.items }
-{
-    for at in from..lines.len() {
-        let Line::Call(seat, call) = lines[at] else {
-            return Ok(at);
-        };
-        play_call(machine, cores, banks, seen, seat, &call, out)?;
-    }
-    Ok(lines.len())
 }

@@ -1,179 +1,126 @@
-//! What can be seen of a seat, in one line behind the answer.
+//! What can be seen of a seat, while it is open and as it was when its machine was closed.
 
-use crate::answers::tell_op;
-use crate::lines::Seen;
-use crate::messages::{tell_line, tell_message, tell_words};
-use anyhow::Result;
 use core_pts::Core;
 use dram_mts::Dram;
-use llc_bank::{Bank, Entry};
-use mailboxes::{BankSeat, CoreSeat, Outbox};
+use llc_bank::Bank;
+use mailboxes::{BankPart, BankSeat, CorePart, CoreSeat, Outbox};
 use network::{LineNo, Message};
-use private_cache::{CopyState, LineCopy};
+use physiological_order::Op;
 use serving::Inbox;
-use std::io::Write;
 
-/// The message in the hand; then the held ones, the oldest first.
-pub(crate) fn tell_inbox<W: Write + Drop>(
-    inbox: &Inbox<Message>,
-    words: u32,
-    out: &mut W,
-) -> Result<()> {
-    write!(out, "|")?;
-    if let Some(message) = inbox.hand() {
-        tell_message(message, words, out)?;
-    }
-    write!(out, "|{}", inbox.places())?;
-    tell_held(inbox, words, out)
+/// What only a seat has that is open.
+#[derive(Clone, Copy)]
+pub(crate) struct Open {
+    /// The slot at which the next look begins.
+    pub cursor: usize,
+    pub is_stopped: bool,
+    /// The line that makes room in a bank.
+    pub room: Option<LineNo>,
 }
 
-fn tell_held<W: Write + Drop>(inbox: &Inbox<Message>, words: u32, out: &mut W) -> Result<()> {
-    for at in 0..256 {
-        let Some(message) = inbox.held(at) else {
-            break;
-        };
-        write!(out, ",")?;
-        tell_message(message, words, out)?;
-    }
-    Ok(())
-}
-
-/// How many messages are to be put, and how many were sent of the counted kinds.
-pub(crate) fn tell_outbox<W: Write + Drop>(outbox: &Outbox, out: &mut W) -> Result<()> {
-    let counts = outbox.counts();
-    write!(out, "|{}:{} ", outbox.len(), counts.renewals)?;
-    write!(
-        out,
-        "{} {} {}",
-        counts.upgrades, counts.flushes, counts.write_backs
-    )?;
-    Ok(())
-}
-
-fn tell_copy<W: Write + Drop>(copy: &LineCopy, words: u32, out: &mut W) -> Result<()> {
-    let state = match copy.state {
-        CopyState::Shared => "S",
-        CopyState::Exclusive => "E",
-    };
-    write!(out, "{state}{}", if copy.written { "+" } else { "" })?;
-    write!(out, " {} {}", copy.wts, copy.rts)?;
-    tell_words(&copy.words, words, out)
-}
-
-/// The open operation of a core, with a mark if a request is out.
-fn tell_open<W: Write + Drop>(core: &Core, out: &mut W) -> Result<()> {
-    if let Some((op, is_out)) = core.open_op() {
-        tell_op(&op, out)?;
-        write!(out, "{}", if is_out { "!" } else { "" })?;
-    }
-    Ok(())
-}
-
-fn tell_copies<W: Write + Drop>(core: &Core, seen: &Seen, out: &mut W) -> Result<()> {
-    for line in 0..seen.lines {
-        if let Some(copy) = core.copy(LineNo(line)) {
-            write!(out, " {line}")?;
-            tell_copy(copy, seen.line_words, out)?;
-        }
-    }
-    Ok(())
-}
-
-/// The copy that would go for each line.
-fn tell_victims<W: Write + Drop>(core: &Core, lines: u64, out: &mut W) -> Result<()> {
-    for line in 0..lines {
-        if let Some(victim) = core.victim(LineNo(line)) {
-            write!(out, " {line}>{}", victim.0)?;
-        }
-    }
-    Ok(())
-}
-
-/// A core: its time, its open operation, its copies, and the copy that would go for each line.
-pub(crate) fn tell_core<W: Write + Drop>(core: &Core, seen: &Seen, out: &mut W) -> Result<()> {
-    write!(out, "|{} {} ", core.pts(), core.issued())?;
-    tell_open(core, out)?;
-    write!(out, "|")?;
-    tell_copies(core, seen, out)?;
-    write!(out, "|")?;
-    tell_victims(core, seen.lines, out)
-}
-
-fn name_of_entry(entry: &Entry) -> &'static str {
-    match entry {
-        Entry::Loading => "L",
-        Entry::Shared { dirty: false, .. } => "S",
-        Entry::Shared { dirty: true, .. } => "S+",
-        Entry::Exclusive { .. } => "E",
-        Entry::Recalling { .. } => "R",
-        Entry::Storing => "W",
-    }
-}
-
-fn tell_entry<W: Write + Drop>(entry: &Entry, words: u32, out: &mut W) -> Result<()> {
-    write!(out, "{}", name_of_entry(entry))?;
-    match entry {
-        Entry::Shared { line, .. } => tell_line(line, words, out),
-        Entry::Exclusive { owner } | Entry::Recalling { owner } => {
-            write!(out, " {owner}")?;
-            Ok(())
-        }
-        Entry::Loading | Entry::Storing => Ok(()),
-    }
-}
-
-/// A bank and its DRAM: the memory time, the entries, and the words that DRAM has.
-pub(crate) fn tell_bank<W: Write + Drop>(
-    bank: &Bank,
-    dram: &Dram,
-    seen: &Seen,
-    out: &mut W,
-) -> Result<()> {
-    write!(out, "|{}|", bank.memory_time())?;
-    for line in 0..seen.lines {
-        if let Some(entry) = bank.entry(LineNo(line)) {
-            write!(out, " {line}")?;
-            tell_entry(entry, seen.line_words, out)?;
-        }
-    }
-    write!(out, "|")?;
-    for line in 0..seen.lines {
-        tell_words(&dram.load(LineNo(line)), seen.line_words, out)?;
-    }
-    Ok(())
-}
-
-fn stopped(is_stopped: bool) -> &'static str {
-    if is_stopped { " stopped" } else { "" }
+/// The messages of a seat.
+#[derive(Clone, Copy)]
+pub(crate) struct Mail<'a> {
+    pub inbox: &'a Inbox<Message>,
+    pub outbox: &'a Outbox,
+    pub open: Option<Open>,
 }
 
 /// A core's seat.
-pub(crate) fn tell_core_seat<W: Write + Drop>(
-    seat: &CoreSeat,
-    seen: &Seen,
-    out: &mut W,
-) -> Result<()> {
-    tell_core(&seat.part.core, seen, out)?;
-    tell_inbox(&seat.mail.inbox, seen.line_words, out)?;
-    tell_outbox(&seat.part.outbox, out)?;
-    write!(out, "|{}{}", seat.mail.cursor, stopped(seat.is_stopped))?;
-    writeln!(out, "|{} {}", seat.issued.len(), seat.records.len())?;
-    Ok(())
+#[derive(Clone, Copy)]
+pub(crate) struct CoreView<'a> {
+    pub core: &'a Core,
+    /// The operations that it was issued.
+    pub issued: &'a [Op],
+    /// How many it completed.
+    pub records: usize,
+    pub mail: Mail<'a>,
 }
 
-/// A bank's seat, with the line that makes room.
-pub(crate) fn tell_bank_seat<W: Write + Drop>(
-    seat: &BankSeat,
-    seen: &Seen,
-    out: &mut W,
-) -> Result<()> {
-    tell_bank(&seat.part.bank, &seat.part.dram, seen, out)?;
-    tell_inbox(&seat.mail.inbox, seen.line_words, out)?;
-    tell_outbox(&seat.part.outbox, out)?;
-    write!(out, "|{}{}|", seat.mail.cursor, stopped(seat.is_stopped))?;
-    if let Some(line) = seat.make_room() {
-        write!(out, "{}", line.0)?;
+/// A bank's seat.
+#[derive(Clone, Copy)]
+pub(crate) struct BankView<'a> {
+    pub bank: &'a Bank,
+    pub dram: &'a Dram,
+    pub mail: Mail<'a>,
+}
+
+/// A core's seat that is open.
+pub(crate) fn open_core(seat: &CoreSeat) -> CoreView<'_> {
+    CoreView {
+        core: &seat.part.core,
+        issued: seat.issued.as_slice(),
+        records: seat.records.len(),
+        mail: Mail {
+            inbox: &seat.mail.inbox,
+            outbox: &seat.part.outbox,
+            open: Some(Open {
+                cursor: seat.mail.cursor,
+                is_stopped: seat.is_stopped,
+                room: None,
+            }),
+        },
     }
-    writeln!(out)?;
-    Ok(())
+}
+
+/// A bank's seat that is open.
+pub(crate) fn open_bank(seat: &BankSeat) -> BankView<'_> {
+    BankView {
+        bank: &seat.part.bank,
+        dram: &seat.part.dram,
+        mail: Mail {
+            inbox: &seat.mail.inbox,
+            outbox: &seat.part.outbox,
+            open: Some(Open {
+                cursor: seat.mail.cursor,
+                is_stopped: seat.is_stopped,
+                room: seat.make_room(),
+            }),
+        },
+    }
+}
+
+fn closed_core(part: &CorePart) -> CoreView<'_> {
+    CoreView {
+        core: &part.core,
+        issued: part.issued.as_slice(),
+        records: part.records.len(),
+        mail: Mail {
+            inbox: &part.inbox,
+            outbox: &part.outbox,
+            open: None,
+        },
+    }
+}
+
+fn closed_bank(part: &BankPart) -> BankView<'_> {
+    BankView {
+        bank: &part.bank,
+        dram: &part.dram,
+        mail: Mail {
+            inbox: &part.inbox,
+            outbox: &part.outbox,
+            open: None,
+        },
+    }
+}
+
+/// What the core of a number left, if it is there.
+pub(crate) fn core_left(cores: &[CorePart], number: u32) -> Option<CoreView<'_>> {
+    for part in cores {
+        if part.number == number {
+            return Some(closed_core(part));
+        }
+    }
+    None
+}
+
+/// What the bank left whose seat has this number, if it is there.
+pub(crate) fn bank_left(banks: &[BankPart], seat: u64) -> Option<BankView<'_>> {
+    for part in banks {
+        if u64::from(part.number) == seat {
+            return Some(closed_bank(part));
+        }
+    }
+    None
 }

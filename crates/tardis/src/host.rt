@@ -1,7 +1,7 @@
 //! The files of the host.
 
+use crate::files::Files;
 use byte_streams::{DeviceError, FromRead};
-use program::Files;
 use std::fs::File;
 
 /// The host's files, of which nothing is known before they are read.

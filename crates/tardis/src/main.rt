@@ -1,12 +1,15 @@
-//! The program: it gives its words, the host's files, standard output and standard error to the answer (crate
-//! `program`), and ends with the exit status that comes back.
+//! The program: it gives its words, the host's files, standard output and standard error to the answer (`answers.rt`),
+//! and ends with the exit status that comes back.
 #![tactic(auto)]
 
+mod answers;
+mod files;
 mod host;
+mod jobs;
 
+use answers::{answer, refuse, refuse_memory};
 use byte_streams::ToWrite;
 use host::HostFiles;
-use program::{answer, refuse, refuse_memory};
 use std::alloc::AllocError;
 use std::io;
 use std::process::ExitCode;

@@ -1,20 +1,11 @@
-//! The links and the seats of machines that have just opened.
+//! Seats that are left out, and seats in other threads.
 ghost use Rattle.mailboxes.specs.Seats.{AllBankSeats, AllCoreSeats};
 
-use crate::looks::all_find_nothing;
 use crate::machines::{BANKS, CORES, opened};
 use mailboxes::{BankSeat, CoreSeat, Machine};
 use std::alloc::Global;
+use std::marker::{Send, Sync};
 use std::test::Fail;
-
-#[test]
-fn no_seat_puts_and_no_seat_takes(rt: HostRuntime) -> Result<(), Fail> {
-    let (machine, mut cores, mut banks) = opened(rt.alloc())?;
-    let is_right = all_find_nothing(&machine, &mut cores, &mut banks)
-        && all_find_nothing(&machine, &mut cores, &mut banks);
-    assert!(rt; is_right);
-    Ok(())
-}
 
 // Gives up a core's seat, if there is one at this place.
 fn leave_out_core(machine: &Machine, cores: &mut Vec<CoreSeat>, at: usize)
@@ -70,5 +61,19 @@ fn a_machine_is_not_whole_without_any_of_its_seats(rt: HostRuntime) -> Result<()
     }
     assert!(rt; is_whole_without_core(rt.alloc(), cores)?);
     assert!(rt; is_whole_without_bank(rt.alloc(), banks)?);
+    Ok(())
+}
+
+fn is_send<T: Send>(_value: &T) {}
+
+fn is_sync<T: Sync>(_value: &T) {}
+
+/// Seats may go to other threads, which share the machine.
+#[test]
+fn threads_may_have_the_seats(rt: HostRuntime) -> Result<(), Fail> {
+    let (machine, cores, banks) = opened(rt.alloc())?;
+    is_sync(&machine);
+    is_send(&cores);
+    is_send(&banks);
     Ok(())
 }

@@ -1,10 +1,12 @@
-//! All seats of a machine look for messages to put and to take.
+//! All seats of a machine look for messages to put and to take. Each function's contract says which slots it found empty.
 ghost use Rattle.std.specs.Prelude.{◌≡◌, ◌++◌, true};
 ghost use Rattle.mailboxes.specs.BoxMoves.{hold};
 ghost use Rattle.mailboxes.specs.Places.{found_empty, incoming_count};
 ghost use Rattle.mailboxes.specs.Seats.{AllBankSeats, AllCoreSeats, IsBankSeat, IsCoreSeat};
 
+use crate::machines::opened;
 use mailboxes::{BankSeat, CoreSeat, Machine, Take};
+use std::test::Fail;
 
 // Whether a core's seat takes nothing, twice: then it found all slots that come in empty, twice.
 fn core_takes_nothing(core: &mut CoreSeat, machine: &Machine) -> bool
@@ -72,16 +74,11 @@ fn banks_find_nothing(banks: &mut Vec<BankSeat>, machine: &Machine) -> bool
     true
 }
 
-/// Whether no seat puts or takes a message, twice.
-pub(crate) fn all_find_nothing(
-    machine: &Machine,
-    cores: &mut Vec<CoreSeat>,
-    banks: &mut Vec<BankSeat>,
-) -> bool
-    requires cores { AllCoreSeats machine.now cores.old.items }
-    requires banks { AllBankSeats machine.now banks.old.items }
-    ensures cores { AllCoreSeats machine.now cores.new.items }
-    ensures banks { AllBankSeats machine.now banks.new.items }
-{
-    cores_find_nothing(cores, machine) && banks_find_nothing(banks, machine)
+#[test]
+fn no_seat_puts_and_no_seat_takes(rt: HostRuntime) -> Result<(), Fail> {
+    let (machine, mut cores, mut banks) = opened(rt.alloc())?;
+    let is_right = cores_find_nothing(&mut cores, &machine)
+        && banks_find_nothing(&mut banks, &machine);
+    assert!(rt; is_right);
+    Ok(())
 }

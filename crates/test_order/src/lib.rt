@@ -1,7 +1,5 @@
-//! Tests of histories: arrangement, replay, checks and stale hits, worked out by hand.
+//! Tests of histories beside those that are texts: memories, replays, counted steps and stale hits.
 #![tactic(auto)]
 
 #[cfg(test)]
 mod histories;
-#[cfg(test)]
-mod long_histories;

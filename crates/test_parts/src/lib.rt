@@ -1,24 +1,19 @@
-//! Tests of the parts of a machine, each alone: leases, sets, caches, cores, banks, DRAM, messages in flight.
+//! Tests of what only code can say of a machine's parts: orders of many lines, messages by number, endpoints, maps from
+//! numbers, numbers of errors, a memory of many words. The rest is in the texts of crates/event_player/data.
 #![tactic(auto)]
 
 #[cfg(test)]
-mod banks;
-#[cfg(test)]
 mod caches;
 #[cfg(test)]
-mod configs;
-#[cfg(test)]
-mod cores;
-#[cfg(test)]
-mod drams;
-#[cfg(test)]
 mod endpoints;
-#[cfg(test)]
-mod leases;
 #[cfg(test)]
 mod messages;
 #[cfg(test)]
 mod number_maps;
+#[cfg(test)]
+mod numbers;
+#[cfg(test)]
+mod opening_words;
 #[cfg(test)]
 mod orders;
 #[cfg(test)]

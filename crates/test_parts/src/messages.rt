@@ -1,4 +1,4 @@
-//! Messages in flight, by their numbers.
+//! Messages in flight by their numbers, and the slots that are kept for them.
 ghost use Rattle.std.specs.Prelude.{◌≡◌, IfOk, IsTrue};
 ghost use Rattle.network.specs.Routes.{has_endpoints};
 
@@ -103,20 +103,6 @@ fn is_found(found: Option<&Message>, wanted: Option<Message>) -> bool {
     found.copied() == wanted
 }
 
-// Whether the grant and the store of three messages are found.
-fn finds(flight: &InFlight) -> bool {
-    let line = LineNo(7);
-    flight.owners(line) == 1
-        && is_found(flight.ownership_of(line), Some(grant()))
-        && is_found(flight.store_of(line), Some(store()))
-}
-
-#[test]
-fn finds_messages_by_what_they_carry(rt: HostRuntime) -> Result<(), Fail> {
-    assert!(rt; finds(&three_sent(rt.alloc())?));
-    Ok(())
-}
-
 // Whether the second of three messages is taken once, and the third one stays.
 fn takes_once(flight: &mut InFlight) -> bool
     requires cores { flight.old.cores ≡ 2 }
@@ -151,53 +137,6 @@ fn has_three(flight: &InFlight) -> Result<bool, AllocError> {
             && flight.oldest(bank, core) == None
             && numbers.as_slice() == [MsgNo(0), MsgNo(2), MsgNo(3)].as_slice(),
     )
-}
-
-// Whether the second of three messages is answered by a request, which has the next number and takes its place.
-fn answers_once(flight: &mut InFlight) -> bool
-    requires cores { flight.old.cores ≡ 2 }
-    requires banks { flight.old.banks ≡ 1 }
-    ensures cores { flight.new.cores ≡ 2 }
-    ensures banks { flight.new.banks ≡ 1 }
-{
-    if flight.look(MsgNo(1)).is_none() || !flight.has_number() {
-        return false;
-    }
-    let number = flight.answer(MsgNo(1), request());
-    let gone = is_found(flight.look(MsgNo(1)), None);
-    let there = is_found(flight.look(MsgNo(3)), Some(request()));
-    number == MsgNo(3) && gone && there && flight.count() == 3
-}
-
-// How many upgrades were sent once an upgrade answers the first of three messages.
-fn upgrades_after_an_answer(flight: &mut InFlight) -> u128
-    requires cores { flight.old.cores ≡ 2 }
-    requires banks { flight.old.banks ≡ 1 }
-{
-    if flight.look(MsgNo(0)).is_none() || !flight.has_number() {
-        return 0;
-    }
-    let _number = flight.answer(MsgNo(0), grant());
-    flight.counts().upgrades
-}
-
-// One upgrade was sent among three messages, and another one as an answer.
-#[test]
-fn counts_an_answer(rt: HostRuntime) -> Result<(), Fail> {
-    let mut flight = three_sent(rt.alloc())?;
-    assert_eq!(rt; flight.counts().upgrades, 1);
-    assert_eq!(rt; upgrades_after_an_answer(&mut flight), 2);
-    Ok(())
-}
-
-// No more messages may be in flight than the three that are, and one of them is answered.
-#[test]
-fn answers_a_message_in_its_place(rt: HostRuntime) -> Result<(), Fail> {
-    let mut flight = three_sent(rt.alloc())?;
-    let full = is_full(&mut flight);
-    let answered = answers_once(&mut flight);
-    assert!(rt; full && answered && has_three(&flight)?);
-    Ok(())
 }
 
 // One more message is sent and taken: how many slots are kept then.
@@ -241,11 +180,4 @@ fn gives_slots_back(rt: HostRuntime) -> Result<(), Fail> {
     assert!(rt; no_slots && first && eighth);
     assert_eq!(rt; slots, [2, 3, 1, 2, 3, 1]);
     Ok(())
-}
-
-#[test]
-fn numbers_of_errors(rt: HostRuntime) {
-    let send = [SendError::Full.number(), SendError::NoMemory.number()];
-    let part = [PartError::Exhausted.number(), PartError::NoMemory.number()];
-    assert_eq!(rt; [send, part], [[1, 2], [1, 2]]);
 }

@@ -1,11 +1,10 @@
-//! Whole runs of litmus tests: the examples of the folder examples/, each report compared byte for byte, and some
-//! that were
-//! worked out by hand.
+//! What no text that is given to the program can show of litmus tests. Bytes come and go one by one or fail, runs are
+//! such as no machine makes, and workers share batches. All values were worked out by hand from docs/TEXTS.md.
 #![tactic(auto)]
 
 #[cfg(test)]
-mod tests;
+mod batches;
 #[cfg(test)]
-mod texts;
+mod devices;
 #[cfg(test)]
-mod worked_examples;
+mod runs;

@@ -1,37 +1,35 @@
 //! All bytes that come and go, and what comes before a failure.
-use byte_streams::{DeviceError, FromRead, ReadError, ToWrite, read_all, write_all};
+use byte_streams::{DeviceError, FromRead, ReadError, Source, ToWrite, read_all, write_all};
+use std::alloc::{AllocError, Global};
 use std::test::Fail;
 use test_devices::Limited;
 
 // More bytes than any of these sources has.
 const MOST: usize = 100_000;
 
-#[test]
-fn all_bytes_come(rt: HostRuntime) -> Result<(), Fail> {
-    let bytes: Vec<u8> = (0..10_000u32).map(|i| (i % 251) as u8).collect(rt.alloc())?;
-    let mut source = FromRead::new(bytes.as_slice());
-    assert!(rt;
-        read_all(rt.alloc(), &mut source, MOST).is_ok_and(|all| all.as_slice() == bytes.as_slice())
-    );
-    assert!(rt; read_all(rt.alloc(), &mut source, MOST).is_ok_and(|all| all.is_empty()));
-    let mut slow = FromRead::new(Limited {
-        inner: bytes.as_slice(),
-        step: 7,
-        calls: 2_000,
-    });
-    assert!(rt;
-        read_all(rt.alloc(), &mut slow, MOST).is_ok_and(|all| all.as_slice() == bytes.as_slice())
-    );
-    Ok(())
+// So many bytes of which neighbours differ.
+fn bytes(alloc: Global, count: u32) -> Result<Vec<u8>, AllocError> {
+    (0..count).map(|i| (i % 251) as u8).collect(alloc)
+}
+
+fn all_come<S: Source>(alloc: Global, source: &mut S, wanted: &[u8]) -> bool {
+    read_all(alloc, source, MOST).is_ok_and(|all| all.as_slice() == wanted)
 }
 
 #[test]
-fn many_bytes_come(rt: HostRuntime) -> Result<(), Fail> {
-    let bytes: Vec<u8> = (0..70_000u32).map(|i| (i % 251) as u8).collect(rt.alloc())?;
-    let mut source = FromRead::new(bytes.as_slice());
-    assert!(rt;
-        read_all(rt.alloc(), &mut source, MOST).is_ok_and(|all| all.as_slice() == bytes.as_slice())
-    );
+fn all_bytes_come(rt: HostRuntime) -> Result<(), Fail> {
+    for count in [10_000, 70_000] {
+        let bytes = bytes(rt.alloc(), count)?;
+        let mut source = FromRead::new(bytes.as_slice());
+        assert!(rt; all_come(rt.alloc(), &mut source, &bytes));
+        assert!(rt; all_come(rt.alloc(), &mut source, b""));
+        let mut slow = FromRead::new(Limited {
+            inner: bytes.as_slice(),
+            step: 7,
+            calls: 20_000,
+        });
+        assert!(rt; all_come(rt.alloc(), &mut slow, &bytes));
+    }
     Ok(())
 }
 
@@ -55,19 +53,14 @@ fn bytes_are_few_enough_or_too_many(rt: HostRuntime) {
         let read = read_all(rt.alloc(), &mut source, most).map(|all| all.len());
         assert_eq!(rt; read, wanted, "{most} bytes at most");
     }
-}
-
-// There is room for none, and none are there.
-#[test]
-fn no_bytes_are_few_enough(rt: HostRuntime) {
-    let mut source = FromRead::new(b"".as_slice());
-    assert!(rt; read_all(rt.alloc(), &mut source, 0).is_ok_and(|all| all.is_empty()));
+    let mut none = FromRead::new(b"".as_slice());
+    assert!(rt; read_all(rt.alloc(), &mut none, 0).is_ok_and(|all| all.is_empty()));
 }
 
 // A block is asked for at once, also where fewer bytes are to be read.
 #[test]
 fn a_source_of_two_blocks_has_too_many(rt: HostRuntime) -> Result<(), Fail> {
-    let bytes: Vec<u8> = (0..8192u32).map(|i| (i % 251) as u8).collect(rt.alloc())?;
+    let bytes = bytes(rt.alloc(), 8192)?;
     for (most, wanted) in [
         (8192, Ok(8192)),
         (8191, Err(ReadError::TooMany)),

@@ -1,20 +1,19 @@
 //! A machine that is opened, driven by workers, and closed.
 ghost use Rattle.std.specs.Prelude.{◌<◌, ◌≤◌, IfOk};
 ghost use Rattle.mailboxes.specs.RunParts.{Parts};
-ghost use Rattle.shifts.specs.Shifts.{AreBanksInOrder, AreCoresInOrder, NoneOpen};
+ghost use Rattle.thread_driver.specs.Shifts.{AreBanksInOrder, AreCoresInOrder, NoneOpen};
 
+use crate::programs::{On, programs, steps_of};
 use machine_table::Config;
 use mailboxes::{BankSeat, CoreSeat, Machine, Run, open};
 use physiological_order::Memory;
 use run_ends::End;
-use schedule_cases::{On, programs, steps_of};
 use shared_jobs::Gate;
-use shifts::Shift;
 use std::alloc::{AllocError, Global};
 use std::test::Fail;
 use std::thread::Threads;
-use thread_driver::drive_threads;
 use thread_driver::laws::new_seats_can_be_driven;
+use thread_driver::{Shift, drive_threads};
 use worker_driver::{Program, StepProgram};
 
 /// A machine with a memory of zeros, a program a core, and how many turns each seat may have.

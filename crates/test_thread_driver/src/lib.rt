@@ -16,6 +16,8 @@ mod last_turns;
 #[cfg(test)]
 mod orders;
 #[cfg(test)]
+mod programs;
+#[cfg(test)]
 mod times;
 #[cfg(test)]
 mod turn_counts;

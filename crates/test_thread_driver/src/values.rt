@@ -2,10 +2,10 @@
 ghost use Rattle.std.specs.Prelude.{◌<◌, ◌≤◌};
 
 use crate::driver::{Case, drive_case};
+use crate::programs::{On, USUAL};
 use crate::turn_counts::MANY_TURNS;
 use mailboxes::Run;
 use physiological_order::WordAddr;
-use schedule_cases::{On, USUAL};
 use shared_jobs::Free;
 use std::alloc::{AllocError, Global};
 use std::test::Fail;

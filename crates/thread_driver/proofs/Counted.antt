@@ -3,7 +3,7 @@ use Rattle.std.proofs.Common.{◌≡◌, ℕ, zero, suc, ◌+◌, List, [], ◌�
 use Rattle.std.specs.Prelude.{slice_get}
 use Rattle.mailboxes.specs.declared.core_seat.CoreSeat.{CoreSeat}
 use Rattle.mailboxes.specs.declared.bank_seat.BankSeat.{BankSeat}
-use Rattle.shifts.specs.Shifts.{stopped_cores, stopped_banks}
+use Rattle.thread_driver.specs.Shifts.{stopped_cores, stopped_banks}
 use Rattle.thread_driver.proofs.Lists.{some_is}
 
 core_row : (ps : List CoreSeat) (i : ℕ) (p : CoreSeat) → slice_get ps i ≡ Some p →

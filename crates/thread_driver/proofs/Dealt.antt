@@ -8,7 +8,7 @@ use Rattle.mailboxes.specs.declared.machine.Machine.{Machine}
 use Rattle.mailboxes.specs.declared.core_seat.CoreSeat.{CoreSeat}
 use Rattle.mailboxes.specs.declared.bank_seat.BankSeat.{BankSeat}
 use Rattle.mailboxes.specs.Seats.{AllCoreSeats, AllBankSeats}
-use Rattle.shifts.specs.declared.shift.Shift.{Shift}
+use Rattle.thread_driver.specs.declared.shift.Shift.{Shift}
 use Rattle.signals.specs.declared.signals.Signals.{Signals}
 use Rattle.worker_driver.specs.Acts.{Acts}
 use Rattle.round_robin.specs.Dealing.{HasLengths, IsDealt, hand_of}

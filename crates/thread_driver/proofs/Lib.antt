@@ -1,3 +1,7 @@
+mod KeptWork
+pub mod Lemmas
+mod Played
+mod Turned
 mod Lists
 mod NewSeats
 mod Driven
@@ -7,3 +11,9 @@ mod Formed
 mod Ordered
 mod Served
 mod Worked
+mod Numbered
+mod OwnRecords
+mod Seats
+mod AllServed
+mod Ended
+mod Stopped

@@ -6,7 +6,7 @@ use Rattle.mailboxes.specs.declared.machine.Machine.{Machine}
 use Rattle.mailboxes.specs.declared.core_seat.CoreSeat.{CoreSeat}
 use Rattle.mailboxes.specs.declared.bank_seat.BankSeat.{BankSeat}
 use Rattle.mailboxes.specs.Seats.{AllNewBanks, AllNewCores, IsNewCore}
-use Rattle.shifts.specs.Shifts.{AreBanksInOrder, AreCoresInOrder, NoneOpen}
+use Rattle.thread_driver.specs.Shifts.{AreBanksInOrder, AreCoresInOrder, NoneOpen}
 
 none_open : (m : Machine) (j : ℕ) (p : CoreSeat) → IsNewCore m j p → p.part.core.open_op ≡ None
 none_open m j p is =

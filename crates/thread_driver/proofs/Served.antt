@@ -10,9 +10,9 @@ use Rattle.mailboxes.specs.declared.machine.Machine.{Machine}
 use Rattle.mailboxes.specs.declared.core_seat.CoreSeat.{CoreSeat}
 use Rattle.mailboxes.specs.Seats.{IsCoreSeat}
 use Rattle.worker_driver.specs.Acts.{Acts}
-use Rattle.seat_turns.specs.Playing.{Plays}
-use Rattle.seat_turns.proofs.Lemmas.{IssuedLaw, issued_here}
-use Rattle.shifts.specs.Shifts.{IsSeatServed}
+use Rattle.thread_driver.specs.Playing.{Plays}
+use Rattle.thread_driver.proofs.Lemmas.{IssuedLaw, issued_here}
+use Rattle.thread_driver.specs.Shifts.{IsSeatServed}
 
 -- behind the first of the records
 behind : (rs more : List Record) (k : ℕ) (ops : List Op) → Follows k ops (rs ++ more) → Follows (k + length rs) ops more

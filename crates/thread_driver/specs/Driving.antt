@@ -3,7 +3,7 @@ use Rattle.std.specs.Prelude.{◌≡◌, ℕ, List, length, Some, slice_get}
 use Rattle.mailboxes.specs.declared.core_seat.CoreSeat.{CoreSeat}
 use Rattle.mailboxes.specs.declared.bank_seat.BankSeat.{BankSeat}
 use Rattle.worker_driver.specs.Acts.{Acts}
-use Rattle.seat_turns.specs.Playing.{IsAhead, Plays}
+use Rattle.thread_driver.specs.Playing.{IsAhead, Plays}
 
 module _ {P : Type 0} (acts : Acts P) where
   -- there is one program a core's seat, and an operation that is open is the program's next step

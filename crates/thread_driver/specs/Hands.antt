@@ -3,7 +3,7 @@ use Rattle.std.specs.Prelude.{◌≡◌, ℕ, ◌≤◌, List, [], ◌++◌, len
 use Rattle.mailboxes.specs.declared.core_seat.CoreSeat.{CoreSeat}
 use Rattle.mailboxes.specs.declared.bank_seat.BankSeat.{BankSeat}
 use Rattle.round_robin.specs.Dealing.{HasLengths, HaveRoom, IsDealt}
-use Rattle.shifts.specs.declared.shift.Shift.{Shift}
+use Rattle.thread_driver.specs.declared.shift.Shift.{Shift}
 use Rattle.thread_driver.specs.declared.worker.Worker.{Worker}
 use Rattle.thread_driver.specs.declared.worker.Hands.{Hands}
 

@@ -1,3 +1,8 @@
+pub mod Calls
 pub mod Driving
 pub mod Hands
+pub mod Playing
+pub mod Shifts
 pub mod Teams
+pub mod ThreadRuns
+pub mod Turns

@@ -2,7 +2,7 @@
 use Rattle.std.specs.Prelude.{◌≡◌, ℕ, List, length, Some, slice_get}
 use Rattle.mailboxes.specs.declared.machine.Machine.{Machine}
 use Rattle.mailboxes.specs.Seats.{AllCoreSeats, AllBankSeats}
-use Rattle.shifts.specs.declared.shift.Shift.{Shift}
+use Rattle.thread_driver.specs.declared.shift.Shift.{Shift}
 use Rattle.signals.specs.declared.signals.Signals.{Signals}
 use Rattle.signals.specs.Signalers.{IsSignalerOf}
 use Rattle.worker_driver.specs.Acts.{Acts}

@@ -1,9 +1,9 @@
 //! What is counted of seats: which are stopped, and which cores are done.
 ghost use Rattle.std.specs.Prelude.{◌≡◌, ◌≤◌, cond, true, length};
-ghost use Rattle.shifts.specs.Shifts.{AreOver, stopped, stopped_banks, stopped_cores};
+ghost use Rattle.thread_driver.specs.Shifts.{AreOver, stopped, stopped_banks, stopped_cores};
 
+use crate::core_turns::is_over;
 use mailboxes::{BankSeat, CoreSeat};
-use seat_turns::is_over;
 use worker_driver::program::Program;
 
 /// How many seats are stopped.

@@ -3,9 +3,9 @@ ghost use Rattle.std.specs.Prelude.{◌≡◌, ℕ, ◌<◌, ◌≤◌, ◌^◌,
 ghost use Rattle.thread_driver.specs.Hands.{AreBack, AreDealt, AreHands, AreRoomy, AreSplit, HaveHandRoom, HaveLengths};
 ghost use Rattle.thread_driver.specs.Hands.{banks_in, cores_in, programs_in};
 
+use crate::shift::Shift;
 use crate::worker::{Hands, Worker};
 use round_robin::{deal, empty_hands, gather};
-use shifts::Shift;
 use signals::Signaler;
 use std::alloc::{AllocError, Global};
 

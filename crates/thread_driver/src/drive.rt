@@ -2,20 +2,20 @@
 ghost use Rattle.std.specs.Prelude.{◌≡◌, ◌≢◌, ◌⊎◌, ◌<◌, ◌≤◌, ◌^◌, true, OnErr, length};
 ghost use Rattle.run_ends.specs.declared.ends.End.TheVariants as end;
 ghost use Rattle.mailboxes.specs.Seats.{AllBankSeats, AllCoreSeats, AreAll};
-ghost use Rattle.shifts.specs.Shifts.{AreBanksInOrder, AreCoresInOrder, AreOver, AreServed, NoneOpen};
-ghost use Rattle.shifts.specs.Shifts.{Ran, Refused, stopped};
+ghost use Rattle.thread_driver.specs.Shifts.{AreBanksInOrder, AreCoresInOrder, AreOver, AreServed, NoneOpen};
+ghost use Rattle.thread_driver.specs.Shifts.{Ran, Refused, stopped};
 ghost use Rattle.thread_driver.specs.Driving.{AreAhead};
 ghost use Rattle.thread_driver.specs.Teams.{AllWork, AreReady, AreWorked, IsAtWork, IsReady, Works};
 
 use crate::counting::{are_over, stopped_count};
 use crate::dealing::{deal_all, disband, form, gather_all, open_hands};
+use crate::shift::Shift;
 use crate::work::work;
 use crate::worker::{Rota, Worker};
 use mailboxes::{BankSeat, CoreSeat, Machine};
 use run_ends::End;
 use seat_rule::parts::records_of_seats_are_counted;
 use shared_jobs::Gate;
-use shifts::Shift;
 use signals::{Signals, open_signals};
 use std::alloc::{AllocError, Global};
 use std::thread;

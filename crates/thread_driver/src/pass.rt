@@ -3,8 +3,10 @@ ghost use Rattle.std.specs.Prelude.{◌≡◌};
 ghost use Rattle.mailboxes.specs.Seats.{AllBankSeats, AllCoreSeats};
 ghost use Rattle.thread_driver.specs.Driving.{AreAhead, AreDriven, AreSameBanks};
 
+use crate::bank_turns::bank_turn;
+use crate::core_turns::core_turn;
+use crate::told::Told;
 use mailboxes::{BankSeat, CoreSeat, Machine};
-use seat_turns::{Told, bank_turn, core_turn};
 use shared_jobs::Gate;
 use worker_driver::program::Program;
 

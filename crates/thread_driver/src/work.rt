@@ -7,9 +7,9 @@ ghost use Rattle.thread_driver.specs.Teams.{IsAtWork, Works};
 
 use crate::counting::over_count;
 use crate::pass::{bank_pass, both, core_pass, ends_all};
+use crate::told::Told;
 use crate::worker::{Rota, Worker};
 use mailboxes::Machine;
-use seat_turns::Told;
 use shared_jobs::Gate;
 use signals::Signals;
 use std::thread;

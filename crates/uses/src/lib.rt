@@ -7,3 +7,5 @@ pub mod compare;
 pub mod drive;
 pub mod litmus;
 pub mod program;
+#[cfg(test)]
+mod tests;

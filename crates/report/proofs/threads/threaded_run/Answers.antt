@@ -7,7 +7,7 @@ use Rattle.litmus_reader.specs.ThreadSteps.{Thread}
 use Rattle.machine_table.specs.declared.config.Config.{Config}
 use Rattle.machine_table.specs.Machine.{Machine}
 use Rattle.machine_table.specs.Opening.{at_start}
-use Rattle.thread_runs.specs.ThreadRuns.{IsThreadRun, machine_of}
+use Rattle.thread_driver.specs.ThreadRuns.{IsThreadRun, machine_of}
 use Rattle.worker_driver.specs.Service.{AreServed}
 use Rattle.report.specs.Runs.{Tells, threads_from}
 use Rattle.sequential_machine.specs.Performed.{thread_acts}

@@ -1,5 +1,5 @@
 use Rattle.std.proofs.Common.{◌≡◌, ◌≤◌, take}
-use Rattle.shifts.specs.Shifts.{stopped_banks}
+use Rattle.thread_driver.specs.Shifts.{stopped_banks}
 use Rattle.thread_driver.proofs.counting.stopped_bank_count.Given as goal
 
 abbrev pub invariant-loop-i : goal.invariant-loop-i

@@ -1,5 +1,5 @@
 use Rattle.std.proofs.Common.{◌≡◌, ◌≤◌, take}
-use Rattle.shifts.specs.Shifts.{stopped_cores}
+use Rattle.thread_driver.specs.Shifts.{stopped_cores}
 use Rattle.thread_driver.proofs.counting.stopped_core_count.Given as goal
 
 abbrev pub invariant-loop-i : goal.invariant-loop-i

@@ -3,7 +3,7 @@ use Rattle.std.specs.declared.vec.Vec.{Vec}
 use Rattle.std.specs.declared.alloc.Global.{Global}
 use Rattle.mailboxes.specs.declared.core_seat.CoreSeat.{CoreSeat}
 use Rattle.mailboxes.specs.declared.bank_seat.BankSeat.{BankSeat}
-use Rattle.shifts.specs.Shifts.{AreBanksInOrder, AreCoresInOrder, AreServed, Ran, stopped}
+use Rattle.thread_driver.specs.Shifts.{AreBanksInOrder, AreCoresInOrder, AreServed, Ran, stopped}
 use Rattle.thread_driver.proofs.Ordered.{ahead_at_first, all_served, all_there, order_of_banks, order_of_cores}
 use Rattle.thread_driver.proofs.drive.drive_threads.Goals as goal
 

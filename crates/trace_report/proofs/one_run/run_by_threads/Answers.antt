@@ -3,7 +3,7 @@ use Rattle.std.specs.FinMap.{empty}
 use Rattle.physiological_order.specs.StaleHits.{RisesByNumber}
 use Rattle.machine_table.specs.Machine.{Machine}
 use Rattle.machine_table.specs.Opening.{at_start}
-use Rattle.thread_runs.specs.ThreadRuns.{IsThreadRun, machine_of}
+use Rattle.thread_driver.specs.ThreadRuns.{IsThreadRun, machine_of}
 use Rattle.trace_lines.specs.declared.steps.Step.{Step}
 use Rattle.worker_driver.specs.Service.{AreServed}
 use Rattle.trace_report.specs.Runs.{core_count, programs_below, step_acts}

@@ -3,7 +3,7 @@ use Rattle.std.proofs.lemmas.Result.{IfOk-weaker}
 use Rattle.machine_table.specs.declared.config.Config.{Config}
 use Rattle.machine_table.specs.SetUp.{is_good}
 use Rattle.report_parts.specs.SetUp.{config_of, limit_of}
-use Rattle.thread_runs.specs.ThreadRuns.{machine_of}
+use Rattle.thread_driver.specs.ThreadRuns.{machine_of}
 use Rattle.worker_driver.specs.declared.policy.Policy.{Policy}
 use Rattle.trace_report.specs.Runs.{IsRun, core_count}
 use Rattle.trace_report.proofs.reports.told_by_threads.Goals as goal

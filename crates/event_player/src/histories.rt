@@ -1,0 +1,58 @@
+//! What the records of a machine say.
+
+use event_text::{NO_MEMORY, memory_of, put_numbers, put_verdict};
+use interleaving_core::System;
+use physiological_order::{Op, Verdict, WordAddr, arrange, check, stale_hits};
+use std::alloc::{AllocError, Global};
+
+/// The verdict on a machine's records, which opened with these words.
+fn verdict(
+    alloc: Global,
+    system: &System,
+    words: &[(WordAddr, u64)],
+) -> Result<Verdict, AllocError> {
+    let _inside: Option<Op> = None;
+    let opening = memory_of(alloc, words)?;
+    let mut issued = Vec::new(alloc);
+    for core in 0..system.cores() {
+        issued.push(Vec::from_slice(alloc, system.issued(core))?)?;
+    }
+    check(alloc, &opening, issued.as_slice(), system.records())
+}
+
+/// Tells that verdict.
+pub(crate) fn put_check(
+    alloc: Global,
+    system: &System,
+    words: &[(WordAddr, u64)],
+    answer: &mut String,
+) -> Result<(), AllocError> {
+    match verdict(alloc, system, words) {
+        Ok(verdict) => put_verdict(&verdict, answer),
+        Err(_) => answer.push_str(NO_MEMORY),
+    }
+}
+
+/// Tells how many of the loads are stale hits.
+pub(crate) fn put_stale(
+    alloc: Global,
+    system: &System,
+    answer: &mut String,
+) -> Result<(), AllocError> {
+    match stale_hits(alloc, system.records()) {
+        Ok(count) => write!(answer, "{count}"),
+        Err(_) => answer.push_str(NO_MEMORY),
+    }
+}
+
+/// Tells the numbers of the records in the order of their times.
+pub(crate) fn put_arranged(
+    alloc: Global,
+    system: &System,
+    answer: &mut String,
+) -> Result<(), AllocError> {
+    match arrange(alloc, system.records()) {
+        Ok(records) => put_numbers(records.as_slice(), answer),
+        Err(_) => answer.push_str(NO_MEMORY),
+    }
+}

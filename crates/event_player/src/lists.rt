@@ -1,0 +1,190 @@
+//! Lists that a machine gives in two ways, which are compared.
+
+use event_text::{NO_MEMORY, put_lines};
+use interleaving_core::{LineNo, MsgNo, System};
+use std::alloc::{AllocError, Global};
+
+/// The answer where two ways of asking differ.
+pub(crate) const DIFFER: &str = "lists differ";
+
+/// What came of two ways.
+#[derive(Drop)]
+enum Found {
+    Same(Vec<LineNo>),
+    Differ,
+    NoMemory,
+}
+
+/// Tells the lines.
+fn put_found(found: &Found, line_words: u32, answer: &mut String) -> Result<(), AllocError> {
+    match found {
+        Found::Same(lines) => put_lines(lines.as_slice(), line_words, answer),
+        Found::Differ => answer.push_str(DIFFER),
+        Found::NoMemory => answer.push_str(NO_MEMORY),
+    }
+}
+
+/// Lines that were found, if they are these.
+fn same(found: Vec<LineNo>, lines: &[LineNo]) -> Found {
+    if found.as_slice() == lines {
+        Found::Same(found)
+    } else {
+        Found::Differ
+    }
+}
+
+/// The lines of a list, but those of the core's open operation.
+fn without_open(
+    alloc: Global,
+    system: &System,
+    core: u32,
+    lines: &[LineNo],
+) -> Result<Vec<LineNo>, AllocError> {
+    let mut open = None;
+    if let Some((op, _)) = system.open_op(core) {
+        open = Some(op.word() / u64::from(system.line_words()));
+    }
+    let mut left = Vec::new(alloc);
+    for line in lines {
+        if open != Some(line.0) {
+            left.push(*line)?;
+        }
+    }
+    Ok(left)
+}
+
+/// The copies that may be evicted: one by one, and as all copies but that of the open operation.
+fn free(alloc: Global, system: &System, core: u32) -> Result<Found, AllocError> {
+    let Ok(copies) = system.copies(core) else {
+        return Ok(Found::NoMemory);
+    };
+    let wanted = without_open(alloc, system, core, &copies)?;
+    let mut free = Vec::new(alloc);
+    for at in 0..system.free_copies(core) {
+        let Ok(line) = system.free_copy(core, at) else {
+            return Ok(Found::NoMemory);
+        };
+        free.push(line)?;
+    }
+    Ok(same(free, &wanted))
+}
+
+/// A bank's settled entries: one by one, and at once.
+fn entries(alloc: Global, system: &System, bank: u32) -> Result<Found, AllocError> {
+    let Ok(wanted) = system.entries(bank) else {
+        return Ok(Found::NoMemory);
+    };
+    let mut entries = Vec::new(alloc);
+    for at in 0..system.settled(bank) {
+        let Ok(line) = system.entry(bank, at) else {
+            return Ok(Found::NoMemory);
+        };
+        entries.push(line)?;
+    }
+    Ok(same(entries, &wanted))
+}
+
+/// Tells the copies of a core that may be evicted.
+pub(crate) fn put_free(
+    alloc: Global,
+    system: &System,
+    core: u32,
+    answer: &mut String,
+) -> Result<(), AllocError> {
+    put_found(&free(alloc, system, core)?, system.line_words(), answer)
+}
+
+/// Tells the settled entries of a bank.
+pub(crate) fn put_entries(
+    alloc: Global,
+    system: &System,
+    bank: u32,
+    answer: &mut String,
+) -> Result<(), AllocError> {
+    put_found(&entries(alloc, system, bank)?, system.line_words(), answer)
+}
+
+/// Tells the lines of a core's copies.
+pub(crate) fn put_copies(
+    system: &System,
+    core: u32,
+    answer: &mut String,
+) -> Result<(), AllocError> {
+    match system.copies(core) {
+        Ok(lines) => put_lines(&lines, system.line_words(), answer),
+        Err(_) => answer.push_str(NO_MEMORY),
+    }
+}
+
+/// So many messages are compared one by one: each is looked for from the first one on.
+const MOST: u32 = 4096;
+
+/// Whether the message at a place is the one that is listed there.
+fn is_listed(system: &System, messages: &[MsgNo], at: u32) -> bool {
+    match (system.message(at), messages.get(at as usize)) {
+        (Some(message), Some(listed)) => message == *listed,
+        _ => false,
+    }
+}
+
+/// Whether the first messages one by one, and the last, are those of a list, and there is none past it.
+fn are_one_by_one(system: &System, messages: &[MsgNo]) -> bool {
+    let count = system.messages();
+    if count as usize != messages.len() || system.message(count).is_some() {
+        return false;
+    }
+    for at in 0..count.min(MOST) {
+        if !is_listed(system, messages, at) {
+            return false;
+        }
+    }
+    count == 0 || is_listed(system, messages, count - 1)
+}
+
+/// Whether a list that has a number already is filled with these, and then once more without more memory.
+fn are_filled(
+    system: &System,
+    list: &mut Vec<MsgNo>,
+    messages: &[MsgNo],
+) -> Result<bool, AllocError> {
+    system.list_in_flight(list)?;
+    let capacity = list.capacity();
+    let are = list.as_slice() == messages;
+    system.list_in_flight(list)?;
+    Ok(are && list.as_slice() == messages && list.capacity() == capacity)
+}
+
+/// Tells the messages in flight: at once, one by one, and in a list that is there already.
+pub(crate) fn put_flight(
+    alloc: Global,
+    system: &System,
+    answer: &mut String,
+) -> Result<(), AllocError> {
+    let mut list = Vec::new(alloc);
+    list.push(MsgNo(77))?;
+    let Ok(messages) = system.in_flight() else {
+        return answer.push_str(NO_MEMORY);
+    };
+    let Ok(are) = are_filled(system, &mut list, &messages) else {
+        return answer.push_str(NO_MEMORY);
+    };
+    if are && are_one_by_one(system, &messages) {
+        return put_messages(&messages, answer);
+    }
+    answer.push_str(DIFFER)
+}
+
+fn put_messages(messages: &[MsgNo], answer: &mut String) -> Result<(), AllocError> {
+    if messages.is_empty() {
+        return answer.push_str("none");
+    }
+    let mut is_first = true;
+    for message in messages {
+        if !is_first {
+            answer.push(' ')?;
+        }
+        is_first = false;
+        write!(answer, "m{}", message.0)?;
+    }
+    Ok(())
+}

@@ -1,0 +1,195 @@
+//! Two more ways to play an example: on its machine, opened again, and with all its events as one list on a new one.
+//! The answers must be those that came the first time.
+
+use crate::calls::{Call, read_call};
+use crate::machines::{Played, opened, put_answers};
+use crate::player::{no_memory, play_turn};
+use event_text::{Cause, Example, Fault, Page, memory_of};
+use interleaving_core::{Config, Event, System};
+use physiological_order::{Op, WordAddr};
+use std::alloc::Global;
+use std::io;
+use std::io::Write;
+
+/// Words of a memory that no example opens with.
+const OTHER_WORDS: [(u64, u64); 2] = [(0, 30), (1, 31)];
+
+/// What a machine tells that is opened again with these.
+const AS_OPENED: &str = "records 0 messages 0 words 30 31";
+
+/// The events of an example.
+#[derive(Drop)]
+struct Listed {
+    config: Option<Config>,
+    events: Vec<Event>,
+    /// The index of each line with events, and how many there are up to it.
+    lines: Vec<(usize, usize)>,
+    /// Whether the example can be played in other ways: it opens one machine, once, and drives none.
+    is_plain: bool,
+}
+
+impl Listed {
+    /// Takes in the event of a line, or its events.
+    fn add(&mut self, at: usize, events: &[Event]) -> io::Result<()> {
+        let _inside: Option<Op> = None;
+        for event in events {
+            self.events.push(*event)?;
+        }
+        self.lines.push((at, self.events.len()))?;
+        Ok(())
+    }
+
+    /// Takes in the line at an index.
+    fn take(&mut self, at: usize, call: &Call) -> io::Result<()> {
+        match call {
+            Call::Machine(opening) => {
+                self.is_plain = self.is_plain && self.config.is_none();
+                self.config = Some(opening.config);
+                Ok(())
+            }
+            Call::Event(event) => self.add(at, &[*event]),
+            Call::Run(events) => self.add(at, events.as_slice()),
+            Call::Reopen(_) | Call::Drive(_, _) => {
+                self.is_plain = false;
+                Ok(())
+            }
+            _ => Ok(()),
+        }
+    }
+}
+
+/// The events of an example.
+fn events_of(alloc: Global, example: &Example<'_>, line_words: u32) -> io::Result<Listed> {
+    let mut listed = Listed {
+        config: None,
+        events: Vec::new(alloc),
+        lines: Vec::new(alloc),
+        is_plain: true,
+    };
+    let mut cursor = example.cursor();
+    for at in 0..usize::MAX {
+        let Some(turn) = cursor.next_turn().map_err(no_memory::<Fault>)? else {
+            break;
+        };
+        let call = read_call(alloc, &turn, line_words).map_err(no_memory::<Cause>)?;
+        listed.take(at, &call)?;
+    }
+    Ok(listed)
+}
+
+/// The other memory.
+fn other_words(alloc: Global) -> io::Result<Vec<(WordAddr, u64)>> {
+    let mut words = Vec::new(alloc);
+    for (word, value) in OTHER_WORDS {
+        words.push((WordAddr::at(word), value))?;
+    }
+    Ok(words)
+}
+
+/// Opens the machine again with these words.
+fn reopen(played: &mut Played, words: &[(WordAddr, u64)]) -> io::Result<()> {
+    let memory = memory_of(played.alloc, words)?;
+    if let Some(reopened) = played.reopen(memory) {
+        reopened?;
+    }
+    Ok(())
+}
+
+/// Tells of a machine that was opened again with the other memory what must be so.
+fn put_opened(system: &System, answer: &mut String) -> io::Result<()> {
+    write!(answer, "records {} ", system.records().len())?;
+    write!(answer, "messages {} words", system.messages())?;
+    for (word, _) in OTHER_WORDS {
+        write!(answer, " {}", system.coherent(WordAddr::at(word)))?;
+    }
+    Ok(())
+}
+
+/// Opens the machine with the other memory, where it must have that, and then with its own.
+fn restore<W: Write + Drop>(
+    played: &mut Played,
+    page: &mut Page<'_>,
+    answer: &mut String,
+    out: &mut W,
+) -> io::Result<()> {
+    let alloc = played.alloc;
+    reopen(played, other_words(alloc)?.as_slice())?;
+    answer.clear();
+    if let Some(system) = &played.system {
+        put_opened(system, answer)?;
+    }
+    page.compare_opening(AS_OPENED, answer.as_str(), "opened again", out)?;
+    let words = Vec::from_slice(alloc, played.words.as_slice())?;
+    reopen(played, words.as_slice())
+}
+
+/// Plays an example on its machine, opened again.
+fn play_again<W: Write + Drop>(
+    mut played: Played,
+    example: &Example<'_>,
+    page: &mut Page<'_>,
+    out: &mut W,
+) -> io::Result<()> {
+    let mut answer = String::new(played.alloc);
+    restore(&mut played, page, &mut answer, out)?;
+    let mut cursor = example.cursor();
+    for at in 0..usize::MAX {
+        let Some(turn) = cursor.next_turn().map_err(no_memory::<Fault>)? else {
+            break;
+        };
+        if turn.name() != "machine" {
+            play_turn(&mut played, &turn, &mut answer)?;
+            page.compare(at, answer.as_str(), "opened again", out)?;
+        }
+    }
+    Ok(())
+}
+
+/// Plays the events of an example as one list on a new machine.
+fn play_list<W: Write + Drop>(
+    alloc: Global,
+    mut system: System,
+    listed: &Listed,
+    page: &mut Page<'_>,
+    out: &mut W,
+) -> io::Result<()> {
+    let answers = system.run(listed.events.as_slice())?;
+    if answers.len() != listed.events.len() {
+        return page.compare(0, "another number of answers", "as one list", out);
+    }
+    let mut answer = String::new(alloc);
+    let mut from = 0;
+    for (at, to) in &listed.lines {
+        let Some(part) = answers.as_slice().get(from..*to) else {
+            break;
+        };
+        from = *to;
+        answer.clear();
+        put_answers(part, &mut answer)?;
+        page.compare(*at, answer.as_str(), "as one list", out)?;
+    }
+    Ok(())
+}
+
+/// Plays an example in the other ways, if it can be: its machine was opened, once, and all its events stand in lines.
+pub(crate) fn play_other_ways<W: Write + Drop>(
+    played: Played,
+    example: &Example<'_>,
+    page: &mut Page<'_>,
+    out: &mut W,
+) -> io::Result<()> {
+    let alloc = played.alloc;
+    let listed = events_of(alloc, example, played.line_words())?;
+    let Some(config) = listed.config else {
+        return Ok(());
+    };
+    if !listed.is_plain || played.system.is_none() {
+        return Ok(());
+    }
+    let anew = opened(alloc, config, played.words.as_slice());
+    play_again(played, example, page, out)?;
+    match anew {
+        Ok(system) => play_list(alloc, system, &listed, page, out),
+        Err(error) => Err(no_memory(error)),
+    }
+}

@@ -1,0 +1,30 @@
+//! Texts of examples (docs/EVENTS.md): their lines, the words of a call, answers as they are written, and the loop of a
+//! program that plays files.
+#![tactic(auto)]
+
+pub mod answers;
+pub mod causes;
+pub mod command_line;
+pub mod messages;
+pub mod openings;
+pub mod pages;
+pub mod players;
+pub mod texts;
+mod turned;
+pub mod turns;
+pub mod words;
+mod written;
+
+pub use answers::{
+    name_of_refusal, put_answer, put_counts, put_event, put_numbers, put_op, put_ops, put_record,
+    put_record_at, put_verdict, yes_or_no,
+};
+pub use causes::{Cause, Fault};
+pub use command_line::{Manner, Wishes};
+pub use messages::{put_copy, put_entry, put_line, put_lines, put_message, put_values, put_words};
+pub use openings::{Opening, memory_of, read_opening, read_words};
+pub use pages::Page;
+pub use players::{NO_MACHINE, NO_MEMORY, Player, play_files};
+pub use texts::{Example, Text};
+pub use turns::{Cursor, Turn};
+pub use words::{Seat, Words};

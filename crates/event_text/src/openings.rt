@@ -1,0 +1,117 @@
+//! What a line `machine` or `seats` opens: a configuration, and the words that its memory opens with.
+
+use crate::causes::Cause;
+use crate::words::Words;
+use machine_table::Config;
+use physiological_order::{Memory, WordAddr};
+use run_options::MachineOptions;
+use std::alloc::{AllocError, Global};
+
+/// What a line opens.
+#[derive(Drop)]
+pub struct Opening {
+    pub config: Config,
+    /// Words with their values.
+    pub words: Vec<(WordAddr, u64)>,
+}
+
+/// The number of an option in 32 bits.
+fn narrow(number: u64) -> u32 {
+    u32::try_from(number).unwrap_or(u32::MAX)
+}
+
+/// What is opened if no option says otherwise: the program's machine, with two cores.
+fn usual() -> Config {
+    let options = MachineOptions::DEFAULT;
+    Config {
+        cores: 2,
+        banks: narrow(options.banks),
+        sets: narrow(options.sets),
+        ways: narrow(options.ways),
+        bank_sets: narrow(options.bank_sets),
+        bank_ways: narrow(options.bank_ways),
+        line_words: narrow(options.line_words),
+        lease: options.lease,
+        messages: narrow(options.messages),
+        opening_time: options.time,
+        private_write: options.private_write,
+    }
+}
+
+/// Reads the value of an option.
+fn set(config: &mut Config, option: &str, words: &mut Words<'_>) -> Result<(), Cause> {
+    match option {
+        "cores" => config.cores = words.small()?,
+        "banks" => config.banks = words.small()?,
+        "sets" => config.sets = words.small()?,
+        "ways" => config.ways = words.small()?,
+        "bank-sets" => config.bank_sets = words.small()?,
+        "bank-ways" => config.bank_ways = words.small()?,
+        "line-words" => config.line_words = words.small()?,
+        "lease" => config.lease = words.number()?,
+        "messages" => config.messages = words.small()?,
+        "time" => config.opening_time = words.number()?,
+        "private-write" => config.private_write = is_yes(words)?,
+        _ => return Err(Cause::Option),
+    }
+    Ok(())
+}
+
+fn is_yes(words: &mut Words<'_>) -> Result<bool, Cause> {
+    match words.next_word() {
+        Some("yes") => Ok(true),
+        Some("no") => Ok(false),
+        _ => Err(Cause::YesOrNo),
+    }
+}
+
+/// The words behind `with`, up to the end: addresses, each with its value.
+fn with_words(alloc: Global, words: &mut Words<'_>) -> Result<Vec<(WordAddr, u64)>, Cause> {
+    let mut values = Vec::new(alloc);
+    let mut address = words.address()?;
+    for _ in 0..u64::MAX {
+        values.push((address, words.number()?))?;
+        let Some(word) = words.next_word() else {
+            break;
+        };
+        address = words.address_in(word)?;
+    }
+    Ok(values)
+}
+
+/// What stands behind `machine` or `seats`.
+pub fn read_opening(alloc: Global, words: &mut Words<'_>) -> Result<Opening, Cause> {
+    let mut config = usual();
+    for _ in 0..u64::MAX {
+        match words.next_word() {
+            None => break,
+            Some("with") => {
+                let words = with_words(alloc, words)?;
+                return Ok(Opening { config, words });
+            }
+            Some(option) => set(&mut config, option, words)?,
+        }
+    }
+    Ok(Opening {
+        config,
+        words: Vec::new(alloc),
+    })
+}
+
+/// What stands behind `reopen`: `with` and words, or nothing.
+pub fn read_words(alloc: Global, words: &mut Words<'_>) -> Result<Vec<(WordAddr, u64)>, Cause> {
+    match words.next_word() {
+        None => Ok(Vec::new(alloc)),
+        Some("with") => with_words(alloc, words),
+        Some(_) => Err(Cause::With),
+    }
+}
+
+/// A memory with these words.
+pub fn memory_of(alloc: Global, words: &[(WordAddr, u64)]) -> Result<Memory, AllocError> {
+    let mut memory = Memory::new(alloc);
+    for (word, value) in words {
+        memory.set(*word, *value)?;
+    }
+    Ok(memory)
+}

@@ -1,0 +1,222 @@
+//! What is told of a text while it is played: answers that came in place of others, and how many there were.
+
+use crate::causes::Fault;
+use crate::command_line::Manner;
+use crate::turned::{is_wanted, put_turned};
+use crate::turns::Turn;
+use crate::written::Written;
+use std::alloc::{AllocError, Global};
+use std::io;
+use std::io::Write;
+
+/// An answer of the first time that an example is played, with the number of its line.
+#[derive(Drop)]
+pub struct First {
+    pub line: usize,
+    pub answer: String,
+}
+
+/// What is told of a text.
+#[derive(Drop)]
+pub struct Page<'a> {
+    name: &'a str,
+    alloc: Global,
+    /// How the text is played.
+    pub how: Manner,
+    /// The answers to the example that is played, where they are asked for later.
+    pub firsts: Vec<First>,
+    examples: u64,
+    answers: u64,
+    wrong: u64,
+    is_refused: bool,
+    /// The faults of a text that is written itself.
+    pub(crate) faults: String,
+    /// By line, what came of it, to be written behind it.
+    written: Vec<Option<Written>>,
+    told: String,
+}
+
+impl<'a> Page<'a> {
+    pub(crate) fn new(
+        alloc: Global,
+        name: &'a str,
+        lines: usize,
+        how: Manner,
+    ) -> Result<Page<'a>, AllocError> {
+        let mut written = Vec::new(alloc);
+        if how.prints {
+            for _ in 0..lines {
+                written.push(None)?;
+            }
+        }
+        Ok(Page {
+            name,
+            alloc,
+            how,
+            firsts: Vec::new(alloc),
+            examples: 0,
+            answers: 0,
+            wrong: 0,
+            is_refused: false,
+            faults: String::new(alloc),
+            written,
+            told: String::new(alloc),
+        })
+    }
+
+    /// An example begins.
+    pub(crate) fn begin(&mut self) {
+        self.examples = self.examples.saturating_add(1);
+        self.firsts.clear();
+    }
+
+    /// The exit status that the text asks for.
+    pub(crate) fn status(&self) -> u8 {
+        if self.is_refused {
+            3
+        } else {
+            u8::from(self.wrong > 0 && !self.how.prints)
+        }
+    }
+
+    /// Tells why a line can't be read.
+    pub(crate) fn tell_fault<W: Write + Drop>(
+        &mut self,
+        fault: &Fault,
+        out: &mut W,
+    ) -> io::Result<()> {
+        self.is_refused = true;
+        let (name, line, cause) = (self.name, fault.line, fault.cause);
+        if self.how.prints {
+            writeln!(self.faults, "{name}:{line}: {cause}")?;
+            return Ok(());
+        }
+        writeln!(out, "{name}:{line}: {cause}")
+    }
+
+    /// Notes what came of a line whose text is to be written.
+    fn note(&mut self, turn: &Turn<'_>, came: &str, is_right: bool) -> Result<(), AllocError> {
+        let Some(place) = self.written.get_mut(turn.line.saturating_sub(1)) else {
+            return Ok(());
+        };
+        match place {
+            Some(written) => written.take(self.alloc, came, turn.turn, is_right),
+            None => {
+                *place = Some(Written::new(self.alloc, came, is_right)?);
+                Ok(())
+            }
+        }
+    }
+
+    /// A line was played, and this answer came.
+    pub fn tell<W: Write + Drop>(
+        &mut self,
+        turn: &Turn<'_>,
+        came: &str,
+        out: &mut W,
+    ) -> io::Result<()> {
+        if self.how.three_ways {
+            self.keep(turn.line, came)?;
+        }
+        let Some(wanted) = turn.wanted else {
+            self.note(turn, came, false)?;
+            return self.tell_unasked(turn, came, out);
+        };
+        self.answers = self.answers.saturating_add(1);
+        let is_right = is_wanted(wanted, came, turn.turn);
+        self.note(turn, came, is_right)?;
+        if is_right {
+            return Ok(());
+        }
+        self.wrong = self.wrong.saturating_add(1);
+        if self.how.prints {
+            return Ok(());
+        }
+        self.told.clear();
+        put_turned(wanted, turn.turn, &mut self.told)?;
+        let (name, line) = (self.name, turn.line);
+        writeln!(out, "{name}:{line}: wanted {}, came {came}", self.told)
+    }
+
+    /// Tells the answer to a line for which none is wanted.
+    pub fn tell_unasked<W: Write + Drop>(
+        &mut self,
+        turn: &Turn<'_>,
+        came: &str,
+        out: &mut W,
+    ) -> io::Result<()> {
+        if self.how.prints {
+            return Ok(());
+        }
+        self.told.clear();
+        put_turned(turn.call, turn.turn, &mut self.told)?;
+        writeln!(out, "{} : {came}", self.told)
+    }
+
+    /// Keeps an answer, to be compared with those of other ways.
+    fn keep(&mut self, line: usize, came: &str) -> Result<(), AllocError> {
+        let answer = String::from_str(self.alloc, came)?;
+        self.firsts.push(First { line, answer })?;
+        Ok(())
+    }
+
+    /// Compares what came in another way with the answer at an index of the first ones.
+    pub fn compare<W: Write + Drop>(
+        &mut self,
+        at: usize,
+        came: &str,
+        way: &str,
+        out: &mut W,
+    ) -> io::Result<()> {
+        let Some(first) = self.firsts.get(at) else {
+            return Ok(());
+        };
+        if first.answer.as_str() == came {
+            return Ok(());
+        }
+        self.wrong = self.wrong.saturating_add(1);
+        let (name, line, wanted) = (self.name, first.line, &first.answer);
+        writeln!(out, "{name}:{line}: wanted {wanted}, came {came} ({way})")
+    }
+
+    /// Compares what a machine tells that was opened in another way with what it must tell. A difference is told at the
+    /// line of the first answer.
+    pub fn compare_opening<W: Write + Drop>(
+        &mut self,
+        wanted: &str,
+        came: &str,
+        way: &str,
+        out: &mut W,
+    ) -> io::Result<()> {
+        if came == wanted {
+            return Ok(());
+        }
+        self.wrong = self.wrong.saturating_add(1);
+        let (name, line) = (self.name, self.firsts.first().map_or(0, |first| first.line));
+        writeln!(out, "{name}:{line}: wanted {wanted}, came {came} ({way})")
+    }
+
+    /// Tells how many examples and answers there were, or writes the text with its answers.
+    pub(crate) fn end<W: Write + Drop>(&mut self, lines: &[&str], out: &mut W) -> io::Result<()> {
+        if self.how.prints {
+            return self.write_text(lines, out);
+        }
+        let (name, examples, answers) = (self.name, self.examples, self.answers);
+        write!(out, "{name}: {examples} examples, {answers} answers")?;
+        if self.wrong > 0 {
+            write!(out, ", {} wrong", self.wrong)?;
+        }
+        writeln!(out)
+    }
+
+    /// Writes the lines of the text, with the answers that came.
+    fn write_text<W: Write + Drop>(&self, lines: &[&str], out: &mut W) -> io::Result<()> {
+        for (at, line) in lines.iter().enumerate() {
+            match self.written.get(at) {
+                Some(Some(written)) => written.write(line, out)?,
+                _ => writeln!(out, "{line}")?,
+            }
+        }
+        Ok(())
+    }
+}

@@ -1,0 +1,162 @@
+//! The loop of a program that plays files: each text is read, and its examples are played one after the other.
+
+use crate::causes::{Cause, Fault};
+use crate::command_line::{Manner, Wishes};
+use crate::pages::Page;
+use crate::texts::{Example, Text};
+use crate::turns::Turn;
+use std::alloc::{AllocError, Global};
+use std::io::{BufWriter, Write};
+use std::rt::{Env, Files};
+use std::{env, fs, io};
+
+/// The answer to a call for which there is no memory.
+pub const NO_MEMORY: &str = "refused NoMemory";
+
+/// The answer to a call where there is no machine.
+pub const NO_MACHINE: &str = "no machine";
+
+/// What plays examples.
+pub trait Player {
+    /// Reads a line that is played, to see whether it can be read.
+    fn read(&self, alloc: Global, turn: &Turn<'_>) -> Result<(), Cause>;
+
+    /// Plays an example whose lines can all be read.
+    fn play<W: Write + Drop>(
+        &self,
+        alloc: Global,
+        example: &Example<'_>,
+        page: &mut Page<'_>,
+        out: &mut W,
+    ) -> io::Result<()>;
+
+    /// Whether there is a second and a third way to play an example.
+    fn has_ways(&self) -> bool;
+}
+
+/// Reads all lines of an example; the first fault.
+fn read_all<P: Player>(player: &P, alloc: Global, example: &Example<'_>) -> Result<(), Fault> {
+    let mut cursor = example.cursor();
+    for _ in 0..u64::MAX {
+        let Some(turn) = cursor.next_turn()? else {
+            break;
+        };
+        if let Err(cause) = player.read(alloc, &turn) {
+            return Err(Fault {
+                line: turn.line,
+                cause,
+            });
+        }
+    }
+    Ok(())
+}
+
+/// Plays an example, or tells why a line of it can't be read.
+fn play_example<P: Player, W: Write + Drop>(
+    player: &P,
+    alloc: Global,
+    example: &Example<'_>,
+    page: &mut Page<'_>,
+    out: &mut W,
+) -> io::Result<()> {
+    match read_all(player, alloc, example) {
+        Ok(()) if example.has_heading() => {
+            page.begin();
+            player.play(alloc, example, page, out)
+        }
+        Ok(()) => Ok(()),
+        Err(fault) if fault.cause == Cause::NoMemory => Err(io::Error::from(AllocError)),
+        Err(fault) => page.tell_fault(&fault, out),
+    }
+}
+
+/// Plays a text; the exit status that it asks for.
+fn play_text<R: AllocGlobal + Eprint, P: Player, W: Write + Drop>(
+    rt: &R,
+    player: &P,
+    name: &str,
+    content: &str,
+    how: Manner,
+    out: &mut W,
+) -> io::Result<u8> {
+    let alloc = rt.alloc();
+    let text = Text::new(alloc, content)?;
+    let mut page = Page::new(alloc, name, text.lines().len(), how)?;
+    let mut at = 0;
+    for _ in 0..text.lines().len() {
+        let Some(example) = text.example_at(at) else {
+            break;
+        };
+        at = example.end();
+        play_example(player, alloc, &example, &mut page, out)?;
+    }
+    page.end(text.lines(), out)?;
+    eprint!(rt; "{}", page.faults)?;
+    Ok(page.status())
+}
+
+/// The text of a file, or of standard input.
+fn content_of<R: AllocGlobal + Input + Files>(rt: &R, name: &str) -> io::Result<String> {
+    if name == "-" {
+        return io::read_to_string(rt.alloc(), rt.reader());
+    }
+    fs::read_to_string(rt, name)
+}
+
+/// Plays the files that are wished for; the exit status.
+fn play_wishes<R, P: Player, W: Write + Drop>(
+    rt: &R,
+    player: &P,
+    wishes: &Wishes,
+    out: &mut W,
+) -> io::Result<u8>
+where
+    R: AllocGlobal + Input + Eprint + Files,
+{
+    let mut status = 0;
+    for name in &wishes.files {
+        let content = content_of(rt, name.as_str())?;
+        let (name, content) = (name.as_str(), content.as_str());
+        let of_text = play_text(rt, player, name, content, wishes.how, out)?;
+        status = of_text.max(status);
+    }
+    Ok(status)
+}
+
+/// The words of the command line, as wishes.
+fn wishes_of<R: AllocGlobal + Env>(rt: &R, has_ways: bool) -> io::Result<Option<Wishes>> {
+    let words = env::args(rt)?.collect(rt.alloc())?;
+    match Wishes::new(rt.alloc(), words)? {
+        Some(wishes) if wishes.how.three_ways && !has_ways => Ok(None),
+        wishes => Ok(wishes),
+    }
+}
+
+/// Plays all that the command line names. What was told before a fault goes out, too.
+fn play_all<R, P: Player>(rt: &R, player: &P) -> io::Result<u8>
+where
+    R: AllocGlobal + Input + Print + Eprint + Files + Env,
+{
+    let Some(wishes) = wishes_of(rt, player.has_ways())? else {
+        rt.eprintln("bad command line")?;
+        return Ok(3);
+    };
+    let mut out = BufWriter::new(rt.alloc(), io::writer(rt))?;
+    let played = play_wishes(rt, player, &wishes, &mut out);
+    out.flush()?;
+    played
+}
+
+/// Plays the files of the command line; the exit status.
+pub fn play_files<R, P: Player>(rt: &R, player: &P) -> u8
+where
+    R: AllocGlobal + Input + Print + Eprint + Files + Env,
+{
+    match play_all(rt, player) {
+        Ok(status) => status,
+        Err(error) => {
+            let _told = rt.eprintln(error);
+            4
+        }
+    }
+}

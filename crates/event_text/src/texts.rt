@@ -1,0 +1,77 @@
+//! The lines of a text, and its examples.
+
+use crate::turns::Cursor;
+use std::alloc::{AllocError, Global};
+
+/// A text as its lines.
+#[derive(Drop)]
+pub struct Text<'a> {
+    lines: Vec<&'a str>,
+}
+
+/// An example: its lines, and how many lines stand before it.
+#[derive(Clone, Copy)]
+pub struct Example<'a> {
+    pub(crate) lines: &'a [&'a str],
+    pub(crate) before: usize,
+}
+
+/// What a line says, without its comment.
+pub(crate) fn said_in(line: &str) -> &str {
+    match line.split_once('#') {
+        Some((said, _)) => said,
+        None => line,
+    }
+}
+
+/// The first word of a line that says something.
+pub(crate) fn first_word(line: &str) -> Option<&str> {
+    said_in(line).split_ascii_whitespace().next()
+}
+
+fn is_heading(line: &str) -> bool {
+    first_word(line) == Some("example")
+}
+
+impl<'a> Text<'a> {
+    pub fn new(alloc: Global, content: &'a str) -> Result<Text<'a>, AllocError> {
+        let lines = content.lines().collect(alloc)?;
+        Ok(Text { lines })
+    }
+
+    pub fn lines(&self) -> &[&'a str] {
+        &self.lines
+    }
+
+    /// The example that begins at an index, or what stands before the first one; nothing behind the last line.
+    pub fn example_at(&self, from: usize) -> Option<Example<'_>> {
+        let lines = self.lines.get(from..)?;
+        let (_, rest) = lines.split_first()?;
+        let behind = rest.iter().take_while(|line| !is_heading(line)).count();
+        let lines = lines.get(..behind.saturating_add(1))?;
+        Some(Example {
+            lines,
+            before: from,
+        })
+    }
+}
+
+impl<'a> Example<'a> {
+    /// The index of the line behind it.
+    pub fn end(&self) -> usize {
+        self.before.saturating_add(self.lines.len())
+    }
+
+    /// Whether it begins with a line `example`; else it is what stands before the first one.
+    pub fn has_heading(&self) -> bool {
+        match self.lines.first() {
+            Some(line) => is_heading(line),
+            None => false,
+        }
+    }
+
+    /// Its lines in the order in which they are played.
+    pub fn cursor(&self) -> Cursor<'a> {
+        Cursor::new(*self)
+    }
+}

@@ -1,0 +1,255 @@
+//! The lines of an example in the order in which they are played: what is repeated comes as often as it says.
+
+use crate::causes::{Cause, Fault};
+use crate::texts::{Example, said_in};
+use crate::turned::decimal;
+use crate::words::Words;
+use std::str::Split;
+
+/// A line as it is played once.
+#[derive(Clone, Copy)]
+pub struct Turn<'a> {
+    /// The number of the line in its text, from 1.
+    pub line: usize,
+    pub call: &'a str,
+    /// The answer that is wanted.
+    pub wanted: Option<&'a str>,
+    /// How many turns were made before, of what is repeated.
+    pub turn: Option<u64>,
+}
+
+impl<'a> Turn<'a> {
+    /// The words of its call, where lines have so many words.
+    pub fn words(&self, line_words: u32) -> Words<'a> {
+        Words::new(self.call, self.turn, line_words)
+    }
+
+    /// The name of its call.
+    pub fn name(&self) -> &'a str {
+        self.call.split_ascii_whitespace().next().unwrap_or("")
+    }
+
+    /// The texts between the `;` behind the call's name.
+    pub fn parts(&self) -> Split<'a, char> {
+        let behind = self.call.strip_prefix(self.name()).unwrap_or("");
+        behind.split(';')
+    }
+}
+
+/// What is repeated: from which index of the lines on, in which turn, and how many there are.
+#[derive(Clone, Copy)]
+struct Repeated {
+    from: usize,
+    turn: u64,
+    turns: u64,
+    /// Whether it is a line that is repeated, and no block.
+    is_line: bool,
+    has_call: bool,
+}
+
+/// Goes through an example's lines as they are played.
+#[derive(Clone, Copy)]
+pub struct Cursor<'a> {
+    example: Example<'a>,
+    at: usize,
+    has_begun: bool,
+    repeated: Option<Repeated>,
+}
+
+impl<'a> Cursor<'a> {
+    pub(crate) fn new(example: Example<'a>) -> Cursor<'a> {
+        Cursor {
+            example,
+            at: 0,
+            has_begun: false,
+            repeated: None,
+        }
+    }
+
+    /// The next line, or why it can't be read; nothing behind the last one.
+    pub fn next_turn(&mut self) -> Result<Option<Turn<'a>>, Fault> {
+        for _ in 0..u64::MAX {
+            let Some(line) = self.example.lines.get(self.at) else {
+                return self.ended();
+            };
+            match self.step(said_in(line)) {
+                Ok(None) => {}
+                Ok(turn) => return Ok(turn),
+                Err(cause) => return Err(self.fault(self.at, cause)),
+            }
+        }
+        Ok(None)
+    }
+
+    /// The fault of the line at an index.
+    fn fault(&self, at: usize, cause: Cause) -> Fault {
+        Fault {
+            line: self.number(at),
+            cause,
+        }
+    }
+
+    fn number(&self, at: usize) -> usize {
+        self.example.before.saturating_add(at).saturating_add(1)
+    }
+
+    fn ended(&self) -> Result<Option<Turn<'a>>, Fault> {
+        match self.repeated {
+            Some(block) => Err(self.fault(block.from.saturating_sub(1), Cause::NoEnd)),
+            None => Ok(None),
+        }
+    }
+
+    /// What a line is: a call, or nothing to play.
+    fn step(&mut self, said: &'a str) -> Result<Option<Turn<'a>>, Cause> {
+        let mut words = said.split_ascii_whitespace();
+        match words.next() {
+            None => Ok(self.pass()),
+            Some("example") => match words.next() {
+                Some(_) => Ok(self.pass()),
+                None => Err(Cause::NoTitle),
+            },
+            Some(_) if !self.example.has_heading() => Err(Cause::NoExample),
+            Some("repeat") => self.repeat(said),
+            Some("end") => self.end_block(words.next().is_some()),
+            Some(_) => self.call(said),
+        }
+    }
+
+    /// Goes on to the next line, with nothing to play.
+    fn pass(&mut self) -> Option<Turn<'a>> {
+        self.at = self.at.saturating_add(1);
+        None
+    }
+
+    /// A line that begins with `repeat`.
+    fn repeat(&mut self, said: &'a str) -> Result<Option<Turn<'a>>, Cause> {
+        let (turns, call) = turns_of(said)?;
+        match self.repeated {
+            Some(line) if line.is_line => {}
+            Some(_) => return Err(Cause::Inside),
+            None => self.begin(turns, !call.is_empty()),
+        }
+        if call.is_empty() {
+            return Ok(self.pass());
+        }
+        let turn = self.turn_of(call)?;
+        self.go_on();
+        Ok(Some(turn))
+    }
+
+    fn begin(&mut self, turns: u64, is_line: bool) {
+        let block = self.at.saturating_add(1);
+        self.repeated = Some(Repeated {
+            from: if is_line { self.at } else { block },
+            turn: 0,
+            turns,
+            is_line,
+            has_call: is_line,
+        });
+    }
+
+    /// A line that begins with `end`.
+    fn end_block(&mut self, has_more: bool) -> Result<Option<Turn<'a>>, Cause> {
+        match self.repeated {
+            None => Err(Cause::NoRepeat),
+            Some(_) if has_more => Err(Cause::MoreWords),
+            Some(block) if !block.has_call => Err(Cause::Empty),
+            Some(_) => {
+                self.go_on();
+                Ok(None)
+            }
+        }
+    }
+
+    /// Ends a turn: the next one begins, or the lines behind what is repeated.
+    fn go_on(&mut self) {
+        let Some(repeated) = self.repeated else {
+            return;
+        };
+        let turn = repeated.turn.saturating_add(1);
+        if turn < repeated.turns {
+            self.repeated = Some(Repeated { turn, ..repeated });
+            self.at = repeated.from;
+        } else {
+            self.repeated = None;
+            self.at = self.at.saturating_add(1);
+        }
+    }
+
+    /// A line with a call.
+    fn call(&mut self, said: &'a str) -> Result<Option<Turn<'a>>, Cause> {
+        let turn = self.turn_of(said)?;
+        if let Some(block) = self.repeated {
+            self.repeated = Some(Repeated {
+                has_call: true,
+                ..block
+            });
+        }
+        self.at = self.at.saturating_add(1);
+        Ok(Some(turn))
+    }
+
+    /// A call and the answer that is wanted.
+    fn turn_of(&mut self, said: &'a str) -> Result<Turn<'a>, Cause> {
+        let (call, wanted) = parted(said)?;
+        if !self.has_begun && !begins(call) {
+            return Err(Cause::Beginning);
+        }
+        self.has_begun = true;
+        Ok(Turn {
+            line: self.number(self.at),
+            call,
+            wanted,
+            turn: self.repeated.map(|repeated| repeated.turn),
+        })
+    }
+}
+
+/// Whether an example may begin with this call.
+fn begins(call: &str) -> bool {
+    matches!(
+        call.split_ascii_whitespace().next(),
+        Some("machine" | "seats" | "numbers")
+    )
+}
+
+/// How many turns a line with `repeat` has, and what stands behind that.
+fn turns_of(said: &str) -> Result<(u64, &str), Cause> {
+    let behind = said
+        .trim()
+        .strip_prefix("repeat")
+        .ok_or(Cause::Turns)?
+        .trim();
+    let number = behind.split_ascii_whitespace().next().ok_or(Cause::Number)?;
+    let rest = behind.strip_prefix(number).unwrap_or("").trim();
+    match decimal(number) {
+        Some(0) => Err(Cause::Turns),
+        Some(turns) => Ok((turns, rest)),
+        None => Err(Cause::Number),
+    }
+}
+
+fn ends_blank(text: &str) -> bool {
+    text.is_empty() || text.ends_with(' ') || text.ends_with('\t')
+}
+
+fn begins_blank(text: &str) -> bool {
+    text.is_empty() || text.starts_with(' ') || text.starts_with('\t')
+}
+
+/// A call, and the answer behind the word `:`, if there is one.
+fn parted(said: &str) -> Result<(&str, Option<&str>), Cause> {
+    match said.split_once(':') {
+        Some((call, wanted)) if ends_blank(call) && begins_blank(wanted) => {
+            if call.trim().is_empty() {
+                return Err(Cause::NoCall);
+            }
+            if wanted.trim().is_empty() {
+                return Err(Cause::NoAnswer);
+            }
+            Ok((call.trim(), Some(wanted.trim())))
+        }
+        _ => Ok((said.trim(), None)),
+    }
+}

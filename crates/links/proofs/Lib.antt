@@ -1,6 +1,0 @@
-mod LinkSlots
-mod NewPorts
-mod Openings
-mod Phases
-mod PortMoves
-mod SlotSteps

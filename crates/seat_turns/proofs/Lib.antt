@@ -1,4 +1,0 @@
-mod KeptWork
-pub mod Lemmas
-mod Played
-mod Turned

@@ -1,9 +1,0 @@
-use Rattle.seat_turns.proofs.Turned.{waits}
-use Rattle.seat_turns.proofs.seat_calls.attempt.Goals as goal
-
-pub returns-in_default-clause-attempted : goal.returns-in_default-clause-attempted
-returns-in_default-clause-attempted c = (
-  c.attempt.result,
-  waits c.attempt.result c.in_default.not-Completed c.in_default.not-Refused,
-  record { place = c.attempt.ensures.seat.1; attempt = c.attempt.ensures.attempt; sure = c.attempt.ensures.sure },
-)

@@ -1,3 +1,0 @@
-pub mod Calls
-pub mod Playing
-pub mod Turns

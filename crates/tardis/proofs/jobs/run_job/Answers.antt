@@ -1,0 +1,16 @@
+use Rattle.tardis.proofs.jobs.run_job.Goals as goal
+
+pub returns-in-Litmus : goal.returns-in-Litmus
+returns-in-Litmus g c = rw c.in-Litmus.is (c.open.result, c.open.ensures, c.litmus_of.ensures)
+
+pub returns-in-Trace : goal.returns-in-Trace
+returns-in-Trace g c = rw c.in-Trace.is (c.open-in-Trace.result, c.open-in-Trace.ensures, c.trace_of.ensures)
+
+pub returns-in-Check : goal.returns-in-Check
+returns-in-Check g c = rw c.in-Check.is (
+  c.open-trace.result,
+  c.open-records.result,
+  c.open-trace.ensures,
+  c.open-records.ensures,
+  c.check_of.ensures,
+)

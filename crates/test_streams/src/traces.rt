@@ -1,0 +1,122 @@
+//! Texts of traces and of records that come a few bytes a call, and devices that fail on the way.
+use byte_streams::FromRead;
+use physiological_order::Op;
+use std::alloc::Global;
+use std::test::Fail;
+use test_devices::Limited;
+use trace_reader::{Kind, Step, TraceError, read, read_records};
+
+// What is read of a trace: how many cores it has, and how many steps and operations its last core; or the fault.
+type Sizes = Result<(u32, usize, usize), TraceError>;
+
+// A text that comes so many bytes a call, where so many calls succeed.
+fn source(text: &[u8], step: usize, calls: u32) -> FromRead<Limited<&[u8]>> {
+    FromRead::new(Limited {
+        inner: text,
+        step,
+        calls,
+    })
+}
+
+fn sizes(alloc: Global, text: &[u8], step: usize, calls: u32) -> Sizes {
+    // The check finds what a step holds only where the function names its type.
+    let _inside: Option<(Step, Op)> = None;
+    let trace = read(alloc, &mut source(text, step, calls))?;
+    let (cores, last) = (trace.cores(), trace.cores() - 1);
+    Ok((cores, trace.steps(last).len(), trace.ops(last).len()))
+}
+
+fn record_count(alloc: Global, text: &[u8], step: usize, calls: u32) -> Result<usize, TraceError> {
+    let _inside: Option<Op> = None;
+    let records = read_records(alloc, &mut source(text, step, calls))?;
+    Ok(records.len())
+}
+
+fn fault<T>(line: usize, kind: Kind) -> Result<T, TraceError> {
+    Err(TraceError { line, kind })
+}
+
+// Texts of traces: the ends of lines, comments and words lie between two calls.
+const TRACES: &[(&[u8], Sizes)] = &[
+    (b"", Ok((1, 0, 0))),
+    (b"trace 2", Ok((1, 0, 0))),
+    (b"3 R 0x8", Ok((4, 1, 1))),
+    (b"\n  \t\n# trace 2\n\n#", Ok((1, 0, 0))),
+    (b"trace 2 #\n63 A\n", Ok((64, 1, 0))),
+    (
+        b"1 R 0x0\n0 W 0x0 1\n1 R 0x8\n 15 S 0x10 2 # last",
+        Ok((16, 1, 1)),
+    ),
+    (
+        b"#\n\ntrace 2\n5 A\n2 R 0x0\n5 W 0x0 3\n5 A\n2 A\n",
+        Ok((6, 3, 1)),
+    ),
+    (b"0 R 0x0\n0 W 0x8 7", Ok((1, 2, 2))),
+];
+
+// Texts of traces that are refused, each with its line.
+const BAD_TRACES: &[(&[u8], usize, Kind)] = &[
+    (b"16 R 0x0", 1, Kind::BadCore),
+    (b"0 R 0x0\r0 R 0x8\n", 1, Kind::BadAddress),
+    (b"0 R 0x0\n\r\n", 2, Kind::BadCore),
+    (b"\n# a comment\ntrace 1\n", 3, Kind::BadForm),
+    (b"0 R 0x0\n0 R 0x0\n0 R 0x0\n\xff", 4, Kind::BadCore),
+];
+
+const BAD_RECORDS: &[(&[u8], usize, Kind)] = &[
+    (b"0 4294967296 R 0x0 0 0 0", 1, Kind::BadValue),
+    (b"\n0 0 R 0x0 0 0 0\n#\n0 1", 4, Kind::BadOperation),
+    (b"0 0 R 0x0 0 0 0\r\n", 1, Kind::BadValue),
+];
+
+#[test]
+fn texts_come_in_few_bytes(rt: HostRuntime) {
+    for step in [1, 2, 3, 7, 4096] {
+        for (text, wanted) in TRACES {
+            assert!(rt; sizes(rt.alloc(), text, step, 99) == *wanted);
+        }
+        for (text, line, kind) in BAD_TRACES {
+            assert!(rt; sizes(rt.alloc(), text, step, 99) == fault(*line, *kind));
+        }
+        for (text, line, kind) in BAD_RECORDS {
+            assert!(rt; record_count(rt.alloc(), text, step, 99) == fault(*line, *kind));
+        }
+    }
+}
+
+// 18 bytes, of which two come a call: the ninth call brings the last, and the tenth the end.
+const TRACE: &[u8] = b"0 R 0x0\n1 W 0x8 7\n";
+
+const RECORD: &[u8] = b"0 0 R 0x0 0 0 0\n#\n";
+
+#[test]
+fn devices_that_fail(rt: HostRuntime) {
+    for calls in 0..10 {
+        assert!(rt; sizes(rt.alloc(), TRACE, 2, calls) == fault(0, Kind::Read));
+        assert!(rt; record_count(rt.alloc(), RECORD, 2, calls) == fault(0, Kind::Read));
+    }
+    assert!(rt; sizes(rt.alloc(), TRACE, 2, 10) == Ok((2, 1, 1)));
+    assert!(rt; record_count(rt.alloc(), RECORD, 2, 10) == Ok(1));
+}
+
+// A fault is answered before a device fails that has brought it.
+#[test]
+fn faults_before_a_failure(rt: HostRuntime) {
+    let text = b"0 X 0x0\n0 R 0x0\n";
+    assert!(rt; sizes(rt.alloc(), text, 8, 1) == fault(1, Kind::BadOperation));
+    assert!(rt; sizes(rt.alloc(), text, 7, 1) == fault(0, Kind::Read));
+    assert!(rt; record_count(rt.alloc(), b"0 0 X 8\n0 0", 8, 1) == fault(1, Kind::BadOperation));
+}
+
+// 77,000 bytes come in blocks: 8,192, then nine times up to 8,184, since the 8 bytes of the line that is cut are kept;
+// and the eleventh call finds the end. A device that fails there is told.
+#[test]
+fn texts_come_in_blocks(rt: HostRuntime) -> Result<(), Fail> {
+    let mut text = Vec::new(rt.alloc());
+    for _ in 0..7_000 {
+        text.extend_from_slice(b"0 R 0x0 #2\n")?;
+    }
+    assert!(rt; sizes(rt.alloc(), &text, 8192, 11) == Ok((1, 7_000, 7_000)));
+    assert!(rt; sizes(rt.alloc(), &text, 8192, 10) == fault(0, Kind::Read));
+    Ok(())
+}

@@ -1,0 +1,9 @@
+use Rattle.thread_driver.proofs.Turned.{waits}
+use Rattle.thread_driver.proofs.seat_calls.attempt.Goals as goal
+
+pub returns-in_default-clause-attempted : goal.returns-in_default-clause-attempted
+returns-in_default-clause-attempted c = (
+  c.attempt.result,
+  waits c.attempt.result c.in_default.not-Completed c.in_default.not-Refused,
+  record { place = c.attempt.ensures.seat.1; attempt = c.attempt.ensures.attempt; sure = c.attempt.ensures.sure },
+)

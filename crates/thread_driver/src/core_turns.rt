@@ -1,0 +1,167 @@
+//! A turn of a core's seat, which is given the steps of its program.
+ghost use Rattle.std.specs.Prelude.{◌≡◌, ◌&&◌, is_none, None, Some};
+ghost use Rattle.mailboxes.specs.Seats.{IsCoreSeat};
+ghost use Rattle.trace_lines.specs.declared.steps.Step.TheVariants as step;
+ghost use Rattle.thread_driver.specs.Playing.{IsAhead, Plays, SameWork};
+ghost use Rattle.thread_driver.specs.Turns.{AfterRefusal, CoreHadTurn, OpIssued, OpenTried, StepDone, TimeAdvanced};
+ghost use Rattle.thread_driver.specs.Turns.{told_of};
+
+use crate::seat_calls::{advance, attempt, issue, make_place, turn};
+use crate::told::{Told, told_of_turn};
+use machine_table::Refusal;
+use mailboxes::{CoreSeat, Machine, Turn};
+use physiological_order::Op;
+use worker_driver::Step;
+use worker_driver::program::Program;
+
+/// A turn of a core's seat. If no operation is open, the program's next step is done: an operation is issued and then
+/// attempted, or the core advances. An open operation is attempted. If there is no place for its line, a copy is
+/// evicted. The program is told of what is completed or advanced. Then messages are put, served and taken.
+/// docs/SCHEDULES.md has the order.
+pub fn core_turn<P: Program>(machine: &Machine, seat: &mut CoreSeat, program: &mut P) -> Told
+    requires seat { IsCoreSeat machine.now seat.old }
+    requires ahead { IsAhead P.acts seat.old program.old }
+    ensures seat { IsCoreSeat machine.now seat.new }
+    ensures plays { Plays P.acts seat.old program.old seat.new program.new }
+    ensures turn { CoreHadTurn P.acts machine.now
+        seat.old program.old result seat.new program.new }
+{
+    let was_stopped = seat.is_stopped;
+    let done = do_next(machine, seat, program);
+    let moved = turn(machine, seat);
+    told_of(was_stopped, seat.is_stopped, done, moved)
+}
+
+/// Whether a core's seat has no open operation and its program no next step.
+pub fn is_over<P: Program>(seat: &CoreSeat, program: &mut P) -> bool
+    ensures over { result ≡
+        (is_none seat.now.part.core.open_op && is_none (P.acts.next program.old)) }
+    ensures same { program.new ≡ program.old }
+{
+    seat.open_op().is_none() && program.next().is_none()
+}
+
+// Does the program's next step, or attempts the operation that is open. Whether it was done, or why it was refused.
+fn do_next<P: Program>(
+    machine: &Machine,
+    seat: &mut CoreSeat,
+    program: &mut P,
+) -> Result<bool, Refusal>
+    requires seat { IsCoreSeat machine.now seat.old }
+    requires ahead { IsAhead P.acts seat.old program.old }
+    ensures seat { IsCoreSeat machine.now seat.new }
+    ensures plays { Plays P.acts seat.old program.old seat.new program.new }
+    ensures step { StepDone P.acts machine.now seat.old.part.core.open_op
+        seat.old program.old result seat.new program.new }
+{
+    if seat.open_op().is_some() {
+        return try_open(machine, seat, program);
+    }
+    match program.next() {
+        None => Ok(false),
+        Some(Step::Advance) => advance_next(machine, seat, program),
+        Some(Step::Op(op)) => issue_next(machine, seat, program, op),
+    }
+}
+
+// Advances the core, which is the program's next step.
+fn advance_next<P: Program>(
+    machine: &Machine,
+    seat: &mut CoreSeat,
+    program: &mut P,
+) -> Result<bool, Refusal>
+    requires seat { IsCoreSeat machine.now seat.old }
+    requires none { seat.old.part.core.open_op ≡ None }
+    requires next { P.acts.next program.old ≡ Some step.Advance }
+    ensures seat { IsCoreSeat machine.now seat.new }
+    ensures plays { Plays P.acts seat.old program.old seat.new program.new }
+    ensures step { TimeAdvanced P.acts seat.old program.old result seat.new program.new }
+{
+    match advance(machine, seat) {
+        Ok(()) => {
+            program.done(None);
+            Ok(true)
+        }
+        Err(refusal) => Err(refusal),
+    }
+}
+
+// Issues the operation that is the program's next step, and attempts it.
+fn issue_next<P: Program>(
+    machine: &Machine,
+    seat: &mut CoreSeat,
+    program: &mut P,
+    op: Op,
+) -> Result<bool, Refusal>
+    requires seat { IsCoreSeat machine.now seat.old }
+    requires none { seat.old.part.core.open_op ≡ None }
+    requires next { P.acts.next program.old ≡ Some (step.Op op) }
+    ensures seat { IsCoreSeat machine.now seat.new }
+    ensures plays { Plays P.acts seat.old program.old seat.new program.new }
+    ensures step { OpIssued P.acts machine.now op
+        seat.old program.old result seat.new program.new }
+{
+    match issue(machine, seat, op) {
+        Ok(()) => try_open(machine, seat, program),
+        Err(refusal) => Err(refusal),
+    }
+}
+
+// Attempts the open operation, and tells the program if it is completed. If there is no place for its line, a copy
+// goes.
+fn try_open<P: Program>(
+    machine: &Machine,
+    seat: &mut CoreSeat,
+    program: &mut P,
+) -> Result<bool, Refusal>
+    requires seat { IsCoreSeat machine.now seat.old }
+    requires ahead { IsAhead P.acts seat.old program.old }
+    ensures seat { IsCoreSeat machine.now seat.new }
+    ensures plays { Plays P.acts seat.old program.old seat.new program.new }
+    ensures step { OpenTried P.acts machine.now seat.old program.old result seat.new program.new }
+{
+    match attempt(machine, seat) {
+        Ok(None) => Ok(false),
+        Ok(Some(done)) => {
+            program.done(done.received);
+            Ok(true)
+        }
+        Err(refusal) => refused(machine, seat, refusal),
+    }
+}
+
+// For a refusal of an attempt: a copy goes if there is no place for the line, and then no step is done. Any other is
+// told.
+fn refused(machine: &Machine, seat: &mut CoreSeat, refusal: Refusal) -> Result<bool, Refusal>
+    requires { IsCoreSeat machine.now seat.old }
+    ensures seat { IsCoreSeat machine.now seat.new }
+    ensures work { SameWork seat.old seat.new }
+    ensures after { AfterRefusal refusal seat.old result seat.new }
+{
+    match refusal {
+        Refusal::NoRoom => {
+            make_place(machine, seat);
+            Ok(false)
+        }
+        _ => Err(refusal),
+    }
+}
+
+// What a core's turn tells: whether it stopped, what its step came to, and the turn of its seat.
+fn told_of(
+    was_stopped: bool,
+    is_stopped: bool,
+    done: Result<bool, Refusal>,
+    moved: Result<Turn, Refusal>,
+) -> Told
+    ensures { result ≡ told_of was_stopped is_stopped done moved }
+{
+    let is_done = matches!(done, Ok(true));
+    let is_refused = matches!(done, Err(Refusal::NoMemory));
+    let told = told_of_turn(was_stopped, is_stopped, moved);
+    Told {
+        no_memory: told.no_memory || is_refused,
+        is_exhausted: told.is_exhausted,
+        has_progressed: told.has_progressed || is_done,
+    }
+}

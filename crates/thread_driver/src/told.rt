@@ -1,0 +1,43 @@
+//! What a turn of a seat tells the one that gave it.
+ghost use Rattle.std.specs.Prelude.{◌≡◌};
+ghost use Rattle.thread_driver.specs.Turns.{has_moved, told_of_turn};
+
+use machine_table::Refusal;
+use mailboxes::Turn;
+use serving::Served;
+
+/// What came of a turn of a seat.
+#[derive(Clone, Copy, Debug, PartialEq, Eq)]
+pub struct Told {
+    /// A call of the seat was refused since allocation failed.
+    pub no_memory: bool,
+    /// The seat stopped in this turn, since a sum of times didn't fit.
+    pub is_exhausted: bool,
+    /// A step of a program was done, or a message was put or served.
+    pub has_progressed: bool,
+}
+
+/// What the turn of a seat tells, which was stopped or not before and after.
+pub(crate) fn told_of_turn(
+    was_stopped: bool,
+    is_stopped: bool,
+    moved: Result<Turn, Refusal>,
+) -> Told
+    ensures { result ≡ told_of_turn was_stopped is_stopped moved }
+{
+    Told {
+        no_memory: matches!(moved, Err(Refusal::NoMemory)),
+        is_exhausted: is_stopped && !was_stopped,
+        has_progressed: has_moved(moved),
+    }
+}
+
+// Whether messages were put, or one was served.
+fn has_moved(moved: Result<Turn, Refusal>) -> bool
+    ensures { result ≡ has_moved moved }
+{
+    match moved {
+        Err(_) => false,
+        Ok(turn) => turn.put > 0 || !matches!(turn.served, Served::Nothing | Served::Held),
+    }
+}

@@ -1,6 +1,0 @@
-mod Numbered
-mod OwnRecords
-mod Seats
-mod Served
-mod Ended
-mod Stopped

@@ -1,0 +1,70 @@
+# What ./tardis and ./play share: whether a program is built, building it with all proofs, and running it without any.
+# It is read by them, with `self`, the script's name for messages, and `top`, the folder of the repository.
+
+say() {
+    echo "$self: $*" >&2
+}
+
+# Whether the kit's command is there.
+has_kit() {
+    command -v rt >/dev/null || {
+        say "the command 'rt' of the Rattle kit isn't on the path. Without the kit $without"
+        return 1
+    }
+}
+
+# is_built CRATE: whether its program is as new as every source of every crate.
+is_built() {
+    [ -x "$top/crates/$1/out/$1" ] && [ -z "$(find "$top/crates" "$top/crates.txt" -name out -prune -o \
+        -type f \( -name '*.rt' -o -name '*.antt' -o -name crates.txt \) -newer "$top/crates/$1/out/$1" -print)" ]
+}
+
+# build CRATE WORDS..: proves and builds its program, and runs it once with these words.
+build() {
+    built=$1
+    shift
+    has_kit || return 1
+    say "the program isn't built, or a source is newer. All that it stands on is proved first, which takes many"
+    say "minutes once ('./$self --unproved ..' answers in a minute or two, without any proof)."
+    "$top/scripts/build.py" "$built" || return 1
+    said=$(cd -- "$top/crates/$built" && rt run -- "$@" </dev/null 2>&1) || {
+        printf '%s\n' "$said" >&2
+        return 1
+    }
+    touch -- "$top/crates/$built/out/$built" # where nothing had to be linked anew
+}
+
+# run_unproved CRATE WORDS..: runs its program from its sources without a proof. Words that name files are made to name
+# them from anywhere.
+run_unproved() {
+    has_kit || return 126
+    tried=$1
+    shift
+    left=$#
+    while [ "$left" -gt 0 ]; do
+        word=$1
+        shift
+        case $word in
+            /* | -* | litmus | trace | check) ;;
+            *) [ ! -f "$word" ] || word=$PWD/$word ;;
+        esac
+        set -- "$@" "$word"
+        left=$((left - 1))
+    done
+    say "nothing is proved of this run. The program is compiled from the sources as they lie here: that takes a minute"
+    say "or two, longer beside other work, and anew each time ($without)."
+    cd -- "$top/crates/$tried" && {
+        { rt try -- "$@" 2>&1 >&3; echo "ended $?"; } | tell_errors
+    } 3>&1
+}
+
+# Passes on what is said on standard error, but for what the kit says of a run that ended, and of races, which it
+# doesn't look for; the status is that of the last line, "ended N".
+tell_errors() {
+    awk '
+        /^ended [0-9]+$/ { status = $2; next }
+        /^checked: ended / || /^run=ended .* proved=no$/ || /^races: not looked for, / { next }
+        { print; fflush() }
+        END { exit status }
+    ' >&2
+}

@@ -1,0 +1,73 @@
+#!/usr/bin/env python3
+"""Counts what no contract sees: instructions and bytes: tests/costs.py [--print] [ROW..]
+
+Each row of tests/costs.table is a program of the gate with two numbers: what it costs with the greater one, less what it
+costs with the smaller one, is shared among the difference. The figure of the row must be met within a tenth. It was
+measured; the reason beside it says why it should be no more. Instructions are counted by valgrind's callgrind, bytes
+by tests/refuse.c. With --print the figures that came are printed. The rows are all, or those whose names begin so.
+"""
+import argparse
+import re
+import subprocess
+import sys
+import tempfile
+from concurrent.futures import ThreadPoolExecutor
+from pathlib import Path
+from types import SimpleNamespace
+
+TOP = Path(__file__).resolve().parent.parent
+FIELDS = ("name", "kind", "unit", "command", "numbers", "figure", "reason")
+
+
+def rows():
+    lines = (TOP / "tests" / "costs.table").read_text().splitlines()
+    for line in lines:
+        if line and not line.startswith("#"):
+            yield SimpleNamespace(**dict(zip(FIELDS, (field.strip() for field in line.split("|")), strict=True)))
+
+
+def instructions(words, _shim):
+    command = ["valgrind", "--tool=callgrind", "--callgrind-out-file=/dev/null", *words]
+    said = subprocess.run(command, capture_output=True, text=True, check=True).stderr
+    return int(re.search(r"Collected : (\d+)", said)[1])
+
+
+def bytes_asked(words, shim):
+    said = subprocess.run(words, capture_output=True, text=True, check=True,
+                          env={"LD_PRELOAD": shim, "REFUSE_BYTES": "2"}).stderr
+    return int(said.splitlines()[-1])
+
+
+def cost(row, shim):
+    """What one more costs."""
+    program, *words = row.command.split()
+    program = str(TOP / "crates" / program / "out" / program)
+    less, more = map(int, row.numbers.split())
+    count = {"instructions": instructions, "bytes": bytes_asked}[row.kind]
+    low, high = (count([program, *(word.replace("{}", str(number)) for word in words)], shim) for number in (less, more))
+    return (high - low) / (more - less)
+
+
+def main():
+    options = argparse.ArgumentParser(description=__doc__.splitlines()[0])
+    options.add_argument("--print", action="store_true", dest="prints")
+    options.add_argument("rows", nargs="*")
+    given = options.parse_args()
+    wanted = [row for row in rows() if not given.rows or row.name.startswith(tuple(given.rows))]
+    with tempfile.TemporaryDirectory() as folder, ThreadPoolExecutor() as pool:
+        shim = f"{folder}/refuse.so"
+        subprocess.run(["cc", "-O2", "-shared", "-fPIC", "-o", shim, TOP / "tests" / "refuse.c", "-ldl"], check=True)
+        came = list(pool.map(lambda row: cost(row, shim), wanted))
+    wrong = 0
+    for row, one in zip(wanted, came):
+        figure = float(row.figure)
+        is_wrong = abs(one - figure) > figure / 10
+        wrong += is_wrong
+        if given.prints or is_wrong:
+            print(f"{row.name}: {one:.0f} {row.kind} a {row.unit}, wanted {row.figure} within a tenth")
+    print(f"costs: {len(wanted)} tried, {wrong} wrong")
+    sys.exit(1 if wrong else 0)
+
+
+if __name__ == "__main__":
+    main()

@@ -1,0 +1,42 @@
+#!/bin/sh
+# Plays the texts of crates/event_player/data and crates/seat_player/data on the proved players and on the second program's machine, and
+# texts with wrong answers and with lines that can't be read: tests/players.sh EVENT_PLAYER SEAT_PLAYER
+# Of the last, tests/players has what must be printed, by hand, and the status behind it.
+top=$(CDPATH='' cd -- "$(dirname -- "$0")/.." && pwd) || exit 1
+events=$1 seats=$2
+work=$(mktemp -d) || exit 1
+trap 'rm -rf "$work"' EXIT
+trap 'exit 1' HUP INT TERM
+cd "$top" || exit 1
+
+fail() {
+    echo "players.sh: $*"
+    exit 1
+}
+
+"$events" --three-ways crates/event_player/data/*.events >"$work/proved" || fail "an answer of events: $(cat "$work/proved")"
+"$seats" crates/seat_player/data/*.seats >>"$work/proved" || fail "an answer of seats: $(cat "$work/proved")"
+examples/play.py crates/event_player/data/*.events crates/seat_player/data/*.seats >"$work/second" || fail "$(cat "$work/second")"
+diff "$work/second" "$work/proved" || fail "the players count otherwise"
+
+# said NAME PLAYER WORDS..: what the player prints of these words, and its status, are those of tests/players/NAME.
+said() {
+    name=$1
+    shift
+    "$@" >"$work/out" 2>&1
+    echo "status $?" >>"$work/out"
+    diff "tests/players/$name" "$work/out" || fail "$name: another text"
+}
+
+for text in tests/players/*.events; do
+    said "$(basename "$text" .events).said" "$events" "$text"
+    said "$(basename "$text" .events).said" examples/play.py "$text"
+done
+for text in tests/players/*.seats; do
+    said "$(basename "$text" .seats).said" "$seats" "$text"
+    said "$(basename "$text" .seats).said" examples/play.py "$text"
+done
+said printed "$events" --print tests/players/answers.events
+said printed examples/play.py --print tests/players/answers.events
+said words "$events" --no-such-word
+echo "players.sh: $(wc -l <"$work/proved") texts as wanted"

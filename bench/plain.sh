@@ -8,14 +8,14 @@
 set -euo pipefail
 top=$(cd "$(dirname "$0")/.." && pwd)
 runs=${1:-8}
-program=${2:-$top/crates/bench_driver/out/bench_driver}
+program=${2:-$top/crates/bench_schedules/out/bench_schedules}
 command -v rustc >/dev/null || { echo "rustc isn't there: nothing is measured" >&2; exit 1; }
 folder=$(mktemp -d)
 trap 'rm -rf "$folder"' EXIT
 plain=$folder/plain
 flags=(-O -C target-cpu=x86-64-v2 -C codegen-units=1 -C panic=abort --edition 2024)
 rustc "${flags[@]}" -o "$plain" "$top/bench/plain/main.rs"
-[ -n "${2:-}" ] || (cd "$top/crates/bench_driver" && rt run -- seed 2 64 50 >/dev/null)
+[ -n "${2:-}" ] || (cd "$top/crates/bench_schedules" && rt run -- seed 2 64 50 >/dev/null)
 
 load() {
     echo "load average: $(cut -d' ' -f1-3 /proc/loadavg)"

@@ -6,7 +6,7 @@
 #
 # The parts that are run, each a function below; PARTS names others.
 parts=${PARTS:-litmus catalogue settings refusals seeds workers threads traces seeded_traces lines verdicts \
-trace_refusals}
+trace_faults trace_refusals}
 
 top=$(CDPATH='' cd -- "$(dirname -- "$0")/.." && pwd) || exit 1
 tardis=${1:-$top/tardis}
@@ -488,10 +488,13 @@ long_lines() {
     refused "16,777,217 lines" 2 'tardis: line 16777217: 3 TooLong' "$@" "$work/text"
 }
 
+trace_faults() {
+    faults "$bad/traces.table" trace
+    faults "$bad/records.table" check "$examples/traces/EMPTY.trace"
+}
+
 trace_refusals() {
     some=$examples/traces/EMPTY.trace
-    faults "$bad/traces.table" trace
-    faults "$bad/records.table" check "$some"
     long_lines '0 R 0x0' trace
     long_lines '0 0 R 0x0 0 0 0' check "$some"
     echo legal >"$work/legal"

@@ -1,44 +1,55 @@
 #!/usr/bin/env python3
 """Plays examples of the machine as texts (docs/EVENTS.md) on the second program's machine: examples/play.py [FILE..].
 
-A text is read from standard input if no FILE is named. `--print FILE` writes the text with the answers that came. The
-second program is never without memory, so that `--again` changes nothing.
+A text is read from standard input if FILE is `-`, or if none is named. `--print FILE` writes the text with the answers
+that came. The second program is never without memory, so that `--again` changes nothing.
 """
 import sys
+from collections import Counter
 from pathlib import Path
 
 from reference.machine_texts import MachinePlayer
 from reference.printing import printed
-from reference.seat_texts import NumbersPlayer, SeatPlayer
+from reference.seat_texts import SeatsOrNumbersPlayer
 from reference.texts import examples_of, is_answer
 
-KINDS = {"machine": MachinePlayer, "seats": SeatPlayer, "numbers": NumbersPlayer}
+KINDS = {"machine": MachinePlayer, "seats": SeatsOrNumbersPlayer, "numbers": SeatsOrNumbersPlayer}
 GOOD, WRONG, BAD_TEXT, FAILED = 0, 1, 3, 4
 
 
 def played(name, text):
     """The lines that are printed of a text, and the status. The last line is a summary."""
-    examples = answers = wrong = 0
+    counts = dict.fromkeys(("examples", "answers", "wrong", "unreadable"), 0)
     for example in examples_of(text, KINDS):
         if example.fault:
+            counts["unreadable"] += 1
             yield "{}:{}: {}".format(name, *example.fault), BAD_TEXT
             continue
-        examples += 1
+        counts["examples"] += 1
         player = example.kind() if example.kind else None
-        for line, call, wanted in example.lines():
+        wrong_turns = Counter()  # by line
+        for line, turn, call, wanted in example.lines():
             came = player.play(call)
             if wanted is None:
                 yield f"{call} : {came}", GOOD
                 continue
-            answers += 1
-            if not is_answer(wanted, came):
-                wrong += 1
-                yield f"{name}:{line.number}: wanted {wanted}, came {came}", WRONG
-    yield f"{name}: {examples} examples, {answers} answers" + (f", {wrong} wrong" if wrong else ""), GOOD
+            counts["answers"] += 1
+            if is_answer(wanted, came):
+                continue
+            wrong_turns[line.number] += 1
+            if wrong_turns[line.number] == 1:
+                where = f"turn {turn + 1}: " if line.is_repeated else ""
+                yield f"{name}:{line.number}: {where}wanted {wanted}, came {came}", WRONG
+        for number, turns in wrong_turns.items():
+            if turns > 1:
+                yield f"{name}:{number}: wrong in {turns} turns", WRONG
+        counts["wrong"] += wrong_turns.total()
+    told = (f"{count} {what}" for what, count in counts.items() if count or what in ("examples", "answers"))
+    yield f"{name}: {', '.join(told)}", GOOD
 
 
 def text_of(name):
-    return (Path(name).read_bytes() if name else sys.stdin.buffer.read()).decode("utf-8", "surrogateescape")
+    return (sys.stdin.buffer.read() if name == "-" else Path(name).read_bytes()).decode("utf-8", "surrogateescape")
 
 
 def tell(name, is_print):
@@ -48,7 +59,6 @@ def tell(name, is_print):
     except OSError as error:
         print(f"play.py: {error}", file=sys.stderr)
         return FAILED
-    name = name or "-"
     if is_print:
         text, faults = printed(text, KINDS)
         sys.stdout.write(text)
@@ -69,7 +79,7 @@ def main(words):
         print("play.py: bad command line", file=sys.stderr)
         return BAD_TEXT
     sys.stdout.reconfigure(errors="surrogateescape")
-    return max(tell(name, is_print) for name in files or [None])
+    return max(tell(name, is_print) for name in files or ["-"])
 
 
 if __name__ == "__main__":

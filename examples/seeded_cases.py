@@ -1,7 +1,7 @@
 #!/usr/bin/env python3
-"""Writes the seeded drives of crates/event_player/data: examples/seeded_cases.py [FOLDER].
+"""Writes the seeded drives of crates/play_events/data: examples/seeded_cases.py [FOLDER].
 
-FOLDER, by default crates/event_player/data, gets seeded-evictions.events and seeds.events, texts of docs/EVENTS.md. A case's
+FOLDER, by default crates/play_events/data, gets seeded-evictions.events and seeds.events, texts of docs/EVENTS.md. A case's
 seed is the one out of those that it names (most: 0 to 2,999) whose run shows all that is wanted within the fewest
 events: so the files are the same each time.
 """
@@ -216,7 +216,7 @@ def long_lines():
 
 def main():
     test_generator()
-    folder = Path(sys.argv[1]) if sys.argv[1:] else Path(__file__).resolve().parent.parent / "crates/event_player/data"
+    folder = Path(sys.argv[1]) if sys.argv[1:] else Path(__file__).resolve().parent.parent / "crates/play_events/data"
     files = {"seeded-evictions": chain(*(case_lines(case, True) for case in EVICTIONS)),
              "seeds": chain(*(case_lines(case, False) for case in TURNS), long_lines())}
     for name, lines in files.items():

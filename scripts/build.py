@@ -25,12 +25,14 @@ TOP = Path(__file__).resolve().parent.parent
 BYTES_A_JOB = 3_000_000_000
 READING = 300  # what a crate costs before its first function is proved, in lines: the libraries are read
 ONCE = """import functools, runpy, sys
-import rtlib
-stamp, below = map(functools.lru_cache(None), (rtlib.Crate.stamp, rtlib.Crate.below))
-rtlib.Crate.stamp, rtlib.Crate.below = stamp, lambda crate: list(below(crate))
 sys.argv = sys.argv[1:]
-runpy.run_path(sys.argv[0], run_name="__main__")
+kit = runpy.run_path(sys.argv[0], run_name="kit")
+crate = kit["rtlib"].Crate
+stamp, below = map(functools.lru_cache(None), (crate.stamp, crate.below))
+crate.stamp, crate.below = stamp, lambda each: list(below(each))
+sys.exit(kit["main"](sys.argv[1:]))
 """  # the kit's command, with what it says of a crate kept while it runs
+LOOKS = ("def stamp(self):", "def below(self):"), ("rtlib = ", "def main(words):")  # what ONCE takes of the kit
 KEPT = 3  # a crate that takes no more seconds was proved before
 
 
@@ -79,12 +81,12 @@ def jobs_that_fit():
 
 
 def kit():
-    """The words that begin the kit's command, and where its parts are found."""
+    """The words that begin the kit's command."""
     command = Path(shutil.which("rt") or "rt").resolve()
     library = command.parent / "rtlib.py"
-    if library.exists() and "def stamp(self):" in library.read_text():
-        return [sys.executable, "-c", ONCE, str(command)], os.environ | {"PYTHONPATH": str(command.parent)}
-    return ["rt"], None
+    parts = [library.read_text(), command.read_text()] if library.exists() else ["", ""]
+    is_known = all(word in part for part, words in zip(parts, LOOKS) for word in words)
+    return [sys.executable, "-c", ONCE, str(command)] if is_known else ["rt"]
 
 
 def link(there, here):
@@ -115,8 +117,7 @@ def keep(name, room):
 def prove(name, below, jobs, is_first):
     """Proves one crate by the kit; its name, how many seconds that took, and what the kit printed if it failed."""
     kind = "lib" if (TOP / "crates" / name / "src" / "lib.rt").exists() else "check"
-    rt, environment = kit()
-    command = ([] if is_first else ["nice", "-n", "5"]) + [*rt, kind, "--jobs", str(jobs)]
+    command = ([] if is_first else ["nice", "-n", "5"]) + [*kit(), kind, "--jobs", str(jobs)]
     began = time.monotonic()
     with tempfile.TemporaryDirectory(prefix="build-") as folder:
         room = Path(folder)
@@ -125,7 +126,7 @@ def prove(name, below, jobs, is_first):
         for low in below:
             link_crate(low, room, "out/rlib")
         link_crate(name, room, "out/rlib", "out/incremental")
-        done = subprocess.run(command, cwd=room / "crates" / name, env=environment, stdin=subprocess.DEVNULL,
+        done = subprocess.run(command, cwd=room / "crates" / name, stdin=subprocess.DEVNULL,
                               capture_output=True, text=True)
         keep(name, room)
     return name, time.monotonic() - began, "" if done.returncode == 0 else done.stdout + done.stderr

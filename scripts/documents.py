@@ -1,6 +1,6 @@
 #!/usr/bin/env python3
 """Writes the tables of docs/architecture.md and docs/TRUST.md anew from the tree, and what pages quote of the sources;
-or tests them.
+or tests them. The pages are those at the top, docs/*.md, examples/README.md and crates/*/README.md.
 
     scripts/documents.py            writes the tables and the quotations
     scripts/documents.py --check    says what differs, and fails if something does
@@ -33,10 +33,10 @@ GROUPS = [
     ("The readings: which of a text's faults is told", [
         ("litmus_reader", "*", "")]),
     ("Runs and reports: the schedule, the sequential machine, the text, the program", [
-        (name, "*", "") for name in ("byte_streams", "run_ends", "worker_driver", "sequential_machine", "report_text", "report_parts", "report",
+        (name, "*", "") for name in ("byte_streams", "programs", "schedules", "worker_driver", "sequential_machine", "report_text",
                                      "run_results", "command_line", "tardis")]),
     ("Traces and records: their texts, their runs, and the verdict of a check", [
-        (name, "*", "") for name in ("trace_lines", "trace_reader", "record_text", "trace_report_text", "trace_report")]),
+        (name, "*", "") for name in ("trace_lines", "trace_reader", "trace_texts", "report")]),
     ("Laws for later layers: of the table's histories, of the moves of a state, of the protocol by lines", [
         ("machine_theorem", "*", ""), ("machine_moves", "*", ""), ("protocol", "*", "")]),
 ]
@@ -260,11 +260,11 @@ def item_of(path, name):
     """An item of a source file, from the comment above it to its last line."""
     lines = path.read_text(encoding="utf-8").splitlines()
     for at, line in enumerate(lines):
-        if re.match(r"(pub )?(fn|struct|enum|const|impl) (?:.* for )?%s\b" % name, line):
+        if re.match(r"(pub(?:\(crate\))? )?(fn|struct|enum|const|impl) (?:.* for )?%s\b" % name, line):
             first, last = at, at
             while lines[first - 1].startswith(("//", "#[")) and not lines[first - 1].startswith("//!"):
                 first -= 1
-            while not re.match(r"\S.*;$|}", lines[last]):
+            while not re.match(r"\S.*;$|}|{}", lines[last]):
                 last += 1
             return lines[first:last + 1]
     raise SystemExit("documents.py: %s has no %s" % (path.relative_to(CRATES), name))
@@ -284,7 +284,7 @@ def missing_paths(document):
     text = document.read_text(encoding="utf-8")
     for path in re.findall(r"`([a-z_]+/(?:specs|src|proofs)/[A-Za-z_/]+\.(?:antt|rt))`", text):
         if not (CRATES / path).exists():
-            yield "%s names %s, which isn't there" % (document.name, path)
+            yield "%s names %s, which isn't there" % (document.relative_to(TOP), path)
 
 
 def missing_links(document):
@@ -292,7 +292,7 @@ def missing_links(document):
     text = document.read_text(encoding="utf-8")
     for link in re.findall(r"\]\(([^)#:]+)\)", text):
         if not (document.parent / link).exists():
-            yield "%s links to %s, which isn't there" % (document.name, link)
+            yield "%s links to %s, which isn't there" % (document.relative_to(TOP), link)
 
 
 def open_proofs():
@@ -301,6 +301,12 @@ def open_proofs():
         for name in re.findall(r"^pub mod (\w+)", lib.read_text(encoding="utf-8"), re.M):
             if name != "Lemmas":
                 yield "%s opens %s: crates above use proofs/Lemmas.antt alone" % (lib.relative_to(CRATES), name)
+
+
+def pages():
+    """The documents whose quotations, paths and links are tested."""
+    return [page for place in ("*.md", "docs/*.md", "examples/README.md", "crates/*/README.md")
+            for page in sorted(TOP.glob(place))]
 
 
 def written(page, renewed, check, faults):
@@ -319,7 +325,7 @@ def main():
     for file, name, rows in (("architecture.md", "crates", architecture()), ("TRUST.md", "definitions", trust())):
         path = TOP / "docs" / file
         written(path, lambda old: with_table(old, name, rows), check, faults)
-    for document in sorted(TOP.glob("*.md")) + sorted((TOP / "docs").glob("*.md")) + [TOP / "examples/README.md"]:
+    for document in pages():
         written(document, with_quotations, check, faults)
         faults += list(missing_paths(document)) + list(missing_links(document))
     faults += list(open_proofs())

@@ -1,5 +1,5 @@
 #!/usr/bin/env python3
-"""Tells each sentence of the pages (README.md and the others at the top, docs/*.md) that has more than 30 words.
+"""Tells each sentence of the pages (README.md and the others at the top, docs/*.md, crates/*/README.md) with over 30 words.
 
     scripts/sentences.py            tells them, each with its page and line
     scripts/sentences.py --check    does so, and fails if there is one
@@ -112,7 +112,7 @@ def long_sentences(text):
 def main():
     named = [Path(word).resolve() for word in sys.argv[1:] if word != "--check"]
     faults = 0
-    for page in named or PAGES + sorted((TOP / "docs").glob("*.md")):
+    for page in named or PAGES + sorted((TOP / "docs").glob("*.md")) + sorted(TOP.glob("crates/*/README.md")):
         for line, count, begin in long_sentences(page.read_text(encoding="utf-8")):
             print("sentences.py: %s:%d: %d words: %s .." % (relpath(page), line, count, begin))
             faults += 1

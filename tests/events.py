@@ -2,7 +2,7 @@
 """Plays random events on random machines, and compares each answer and what can be seen of the machine with the second
 program's: tests/events.py PROGRAM [--machines N] [--events N] [--driven N] [--listed N] [--seed N].
 
-PROGRAM is the built crate event_player. Each machine is an example as a text (docs/EVENTS.md). The machines have few
+PROGRAM is the built crate play_events. Each machine is an example as a text (docs/EVENTS.md). The machines have few
 words, and every limit of theirs is small or at its end: sets, ways, messages, leases, times. Some are driven by
 programs, by rounds and by seeds, and some are given lists of events, in place of single ones. What a machine remembers
 is asked for now and then, and at its end. Configurations at the ends of their ranges, and beyond, come first.

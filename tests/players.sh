@@ -1,5 +1,5 @@
 #!/bin/sh
-# Plays the texts of crates/event_player/data and crates/seat_player/data on the proved players and on the second program's machine, and
+# Plays the texts of crates/play_events/data and crates/play_seats/data on the proved players and on the second program's machine, and
 # texts with wrong answers and with lines that can't be read: tests/players.sh EVENT_PLAYER SEAT_PLAYER
 # Of the last, tests/players has what must be printed, by hand, and the status behind it.
 top=$(CDPATH='' cd -- "$(dirname -- "$0")/.." && pwd) || exit 1
@@ -14,9 +14,9 @@ fail() {
     exit 1
 }
 
-"$events" --three-ways crates/event_player/data/*.events >"$work/proved" || fail "an answer of events: $(cat "$work/proved")"
-"$seats" crates/seat_player/data/*.seats >>"$work/proved" || fail "an answer of seats: $(cat "$work/proved")"
-examples/play.py crates/event_player/data/*.events crates/seat_player/data/*.seats >"$work/second" || fail "$(cat "$work/second")"
+"$events" --three-ways crates/play_events/data/*.events >"$work/proved" || fail "an answer of events: $(cat "$work/proved")"
+"$seats" crates/play_seats/data/*.seats >>"$work/proved" || fail "an answer of seats: $(cat "$work/proved")"
+examples/play.py crates/play_events/data/*.events crates/play_seats/data/*.seats >"$work/second" || fail "$(cat "$work/second")"
 diff "$work/second" "$work/proved" || fail "the players count otherwise"
 
 # said NAME PLAYER WORDS..: what the player prints of these words, and its status, are those of tests/players/NAME.
@@ -35,6 +35,9 @@ done
 for text in tests/players/*.seats; do
     said "$(basename "$text" .seats).said" "$seats" "$text"
     said "$(basename "$text" .seats).said" examples/play.py "$text"
+done
+for player in "$events" examples/play.py; do
+    said input.said "$player" - <tests/players/answers.events
 done
 said printed "$events" --print tests/players/answers.events
 said printed examples/play.py --print tests/players/answers.events

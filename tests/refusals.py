@@ -5,7 +5,7 @@ PROGRAM is the built program, SHIM the shared object made of tests/refuse.c; tes
 run must print comes from the examples, whose reports the second program made. What may be told of a run that ended for
 want of memory is by the second program, too (ended_runs.py); all else follows from docs/TEXTS.md. Each part prints what
 it tried; the last line is `N tried, M wrong`. The parts `steps`, `lists` and `drives` want the player
-crates/event_player as PROGRAM, and `seats` wants crates/seat_player.
+crates/play_events as PROGRAM, and `seats` wants crates/play_seats.
 """
 import os
 import subprocess

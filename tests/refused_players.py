@@ -1,4 +1,4 @@
-"""Memory that is refused to the players crates/event_player and crates/seat_player, for tests/refusals.py: each growth
+"""Memory that is refused to the players crates/play_events and crates/play_seats, for tests/refusals.py: each growth
 alone, and to seats also with all later ones.
 
 Each game is a text, and has each call twice that may be refused, with what can be seen then behind both. A call that is

@@ -2,7 +2,7 @@
 """Plays random calls of seats on random machines, closes each machine, and compares all that is told with the second
 program's seats: tests/seats.py PROGRAM [--machines N] [--calls N] [--crowded N] [--seed N].
 
-PROGRAM is the built crate seat_player. Each machine is an example as a text (docs/EVENTS.md). The machines have few
+PROGRAM is the built crate play_seats. Each machine is an example as a text (docs/EVENTS.md). The machines have few
 words, and every limit of theirs is small or at its end. On crowded ones many lines are written and evicted, so that
 outboxes and held lists are full. Before these, numbers are drawn, and store buffering is played by single calls and
 stopped after each number of them.

@@ -12,7 +12,7 @@ def came_of(text, kinds):
             faults.append(example.fault)
             continue
         player = example.kind() if example.kind else None
-        for line, call, wanted in example.lines():
+        for line, _, call, wanted in example.lines():
             came.setdefault(line.number, (line, []))[1].append((wanted, player.play(call)))
     return came, faults
 

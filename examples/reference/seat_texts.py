@@ -14,13 +14,14 @@ class SeatPlayer(History, Parts):
     MADE = {"issue": Call("count operation"), "attempt": Call("count"), "advance": Call("count"),
             "evict": Call("seat line"), "put": Call("seat"), "take": Call("seat"), "serve": Call("seat"),
             "turn": Call("seat")}
-    OF_OPEN = {**MADE, "close": Call(), "room": Call("bank"), "cursor": Call("seat"), "stopped": Call("seat")}
+    OF_OPEN = {**MADE, "close": Call()}
+    LOOKS_OF_OPEN = {"room": Call("bank"), "cursor": Call("seat"), "stopped": Call("seat")}
     OF_RUN = {"record": Call("number"), "stale": Call(), "check": Call(), "arranged": Call(), "word": Call("address"),
               "owners": Call("line"), "slot": Call("number"), "slots": Call()}
     LOOKS = {**Parts.LOOKS, "hand": Call("seat"), "held": Call("seat count"), "places": Call("seat"),
              "outbox": Call("seat"), "sent": Call("seat_or_none"), "records": Call("core_or_none"),
              "state": Call("seat count")}
-    CALLS = {"seats": Call("options memory"), **OF_OPEN, **OF_RUN, **LOOKS}
+    CALLS = {"seats": Call("options memory"), **OF_OPEN, **LOOKS_OF_OPEN, **OF_RUN, **LOOKS}
 
     is_closed = False
 
@@ -33,6 +34,8 @@ class SeatPlayer(History, Parts):
         seat = self.seat_of(name, of[0])
         if seat is None:
             return "no seat"
+        if self.is_closed and name in self.LOOKS_OF_OPEN:
+            return "no machine"
         return self.make(name, seat, of[1:]) if name in self.MADE else super().answer(name, of)
 
     def seat_of(self, name, named):
@@ -164,3 +167,14 @@ class NumbersPlayer(Player):
     def call_close(self):
         is_open, self.is_closed = not self.is_closed, True
         return "closed" if is_open else "no machine"
+
+
+class SeatsOrNumbersPlayer(Player):
+    """Plays examples that begin with `seats` or `numbers`; what was opened last is open."""
+
+    CALLS = {**SeatPlayer.CALLS, **NumbersPlayer.CALLS}
+
+    def answer(self, name, of):
+        if name in ("seats", "numbers"):
+            self.opened = SeatPlayer() if name == "seats" else NumbersPlayer()
+        return self.opened.answer(name, of) if name in self.opened.CALLS else "no machine"

@@ -38,7 +38,7 @@ class Line:
 
     def __init__(self, number, words, is_repeated):
         at = words.index(":") if ":" in words else len(words)
-        self.number, self.call = number, " ".join(words[:at])
+        self.number, self.call, self.is_repeated = number, " ".join(words[:at]), is_repeated
         self.wanted = " ".join(words[at + 1:]) if ":" in words else None
         if not self.call:
             raise Unreadable("a call is wanted before the answer")
@@ -125,10 +125,10 @@ class Example:
             self.kind.read(line.of_turn(turn)[0])
 
     def lines(self):
-        """Each line that is played, with its call and the answer that is wanted."""
+        """Each line that is played, with its turn, its call and the answer that is wanted."""
         for turns, lines in self.blocks:
             for turn in range(turns):
-                yield from ((line, *line.of_turn(turn)) for line in lines)
+                yield from ((line, turn, *line.of_turn(turn)) for line in lines)
 
 
 def examples_of(text, kinds):

@@ -10,9 +10,9 @@ use physiological_order::{
     Memory, Op, Record, Steps, WordAddr, check, check_counted, rises_by_number, stale_hits,
     stale_hits_counted,
 };
-use record_text::records_text;
 use std::alloc::{AllocError, Global};
 use std::time::Instant;
+use trace_texts::records_text;
 
 /// The words that the history uses.
 const WORDS: u64 = 4096;

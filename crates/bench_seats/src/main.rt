@@ -4,7 +4,7 @@
 #![tactic(auto)]
 
 mod loads;
-mod programs;
+mod op_programs;
 mod rounds;
 mod shared;
 

@@ -1,14 +1,15 @@
 //! The same operations on a machine that isn't shared, by rounds.
 
 use crate::loads::{Load, config_of};
-use crate::programs::programs_of;
+use crate::op_programs::programs_of;
 use anyhow::{Result, bail, ensure};
 use interleaving_core::System;
 use physiological_order::Memory;
+use programs::End;
+use schedules::{Policy, run_to_end};
 use std::alloc::Global;
 use std::rt::Clock;
 use std::time::Instant;
-use worker_driver::{End, Policy, run_to_end};
 
 // The machine of a load.
 fn machine(alloc: Global, load: &Load) -> Result<System> {

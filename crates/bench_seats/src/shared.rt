@@ -3,7 +3,7 @@ ghost use Rattle.std.specs.Prelude.{◌<◌, ◌≤◌};
 ghost use Rattle.mailboxes.specs.RunParts.{Parts};
 
 use crate::loads::{Load, config_of};
-use crate::programs::programs_of;
+use crate::op_programs::programs_of;
 use anyhow::{Result, ensure};
 use mailboxes::Run;
 use physiological_order::{Memory, Verdict, check};

@@ -8,7 +8,7 @@ use mathlib.Core.Option.{some, some-ne-none}
 use mathlib.Core.Logic.{dite}
 use native.Mathlib.Decide.{ℕ_discrete}
 use lib.ListN.{get_elem?}
-use Rattle.seating.proofs.Lemmas.{some_is}
+use Rattle.seat_views.proofs.Lemmas.{some_is}
 use Rattle.drawn_numbers.specs.declared.numbers.Numbers.{Numbers}
 use Rattle.drawn_numbers.specs.declared.drawer.Drawer.{Drawer}
 use Rattle.drawn_numbers.specs.Ties.{Chair}

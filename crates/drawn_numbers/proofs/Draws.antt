@@ -5,9 +5,9 @@ use Rattle.std.proofs.Common.{length-append, get_or-set_same, mod-eq_of_lt}
 use mathlib.Core.Option.{some, some-injective, some-ne-none}
 use lib.ListN.{get_elem?}
 use Rattle.atomic_table.specs.Table.{Me, keeps, Allows, Splits, Joins, opening}
-use Rattle.seating.specs.declared.views.View.{View}
-use Rattle.seating.specs.Seated.{over, put, with_hold, one_more, knows, seat_view, spent_view, first_view}
-use Rattle.seating.proofs.Lemmas.{within, shown_set, shown_split, shown_join, at_put, over_put}
+use Rattle.seat_views.specs.declared.views.View.{View}
+use Rattle.seat_views.specs.Seated.{over, put, with_hold, one_more, knows, seat_view, spent_view, first_view}
+use Rattle.seat_views.proofs.Lemmas.{within, shown_set, shown_split, shown_join, at_put, over_put}
 use Rattle.drawn_numbers.specs.Drawn.{times, RisesFrom, AllBelow, once_below, no_numbers, Drawn, drew}
 use Rattle.drawn_numbers.proofs.Lists.{times_snoc, rises_snoc, below_more, below_snoc, one_more_below, none_below}
 use Rattle.drawn_numbers.proofs.Lists.{few_in_all, zeros}

@@ -11,8 +11,8 @@ use mathlib.Core.Logic.{dite}
 use native.Mathlib.Decide.{ℕ_discrete}
 use lib.ListN.{get_elem?}
 use Rattle.atomic_table.specs.Table.{Final, Seen}
-use Rattle.seating.specs.declared.views.View.{View}
-use Rattle.seating.proofs.Lemmas.{some_is, over_same}
+use Rattle.seat_views.specs.declared.views.View.{View}
+use Rattle.seat_views.proofs.Lemmas.{some_is, over_same}
 use Rattle.drawn_numbers.specs.declared.drawer.Drawer.{Drawer}
 use Rattle.drawn_numbers.specs.Drawn.{times, RisesFrom, Drawn}
 use Rattle.drawn_numbers.specs.Drawers.{HasDrawer, HasDrawers}

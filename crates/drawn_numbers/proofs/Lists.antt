@@ -1,7 +1,7 @@
 -- Lists of numbers: one more at the end, and how often each stands in them.
 use Rattle.std.proofs.Common.{◌≡◌, ℕ, zero, suc, ◌+◌, ◌*◌, ◌≤◌, cond, eqb, refl, List, [], ◌∷◌, ◌++◌, length, arith}
 use Rattle.std.proofs.lemmas.Bool.Decides.{nat_tests}
-use Rattle.seating.specs.Seated.{over}
+use Rattle.seat_views.specs.Seated.{over}
 use Rattle.drawn_numbers.specs.Drawn.{times, RisesFrom, AllBelow, once_below}
 
 pub times_snoc : (x : ℕ) (ys : List ℕ) (y : ℕ) → times x (ys ++ y ∷ []) ≡ times x ys + cond (eqb y x) 1 0

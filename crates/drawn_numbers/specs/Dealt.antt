@@ -3,7 +3,7 @@ use Rattle.std.specs.Prelude.{◌≡◌, ℕ, ◌<◌, List, [], ◌∷◌, ◌+
 use Rattle.std.specs.declared.vec.Vec.{Vec}
 use Rattle.std.specs.declared.alloc.Global.{Global}
 use Rattle.atomic_table.specs.Seated.{TableId}
-use Rattle.seating.specs.declared.views.View.{View}
+use Rattle.seat_views.specs.declared.views.View.{View}
 use Rattle.drawn_numbers.specs.declared.drawer.Drawer.{Drawer}
 use Rattle.drawn_numbers.specs.Drawn.{RisesFrom, AreDealt}
 

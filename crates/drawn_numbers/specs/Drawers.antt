@@ -1,6 +1,6 @@
 -- Drawers of the same numbers.
 use Rattle.std.specs.Prelude.{◌≡◌, ℕ, ◌+◌, ◌<◌, List, [], length, Some, slice_get, slice_index_or, All}
-use Rattle.seating.specs.Seated.{first_view}
+use Rattle.seat_views.specs.Seated.{first_view}
 use Rattle.drawn_numbers.specs.declared.numbers.Numbers.{Numbers}
 use Rattle.drawn_numbers.specs.declared.drawer.Drawer.{Drawer}
 use Rattle.drawn_numbers.specs.Ties.{Chair}

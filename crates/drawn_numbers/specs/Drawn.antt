@@ -3,8 +3,8 @@ use Rattle.std.specs.Prelude.{◌≡◌, ℕ, ◌+◌, ◌<◌, ◌≤◌, cond,
 use Rattle.std.specs.Prelude.{slice_index_or}
 use Rattle.atomic_table.specs.Table.{State, Me}
 use Rattle.atomic_table.specs.Seated.{TableId}
-use Rattle.seating.specs.declared.views.View.{View}
-use Rattle.seating.specs.Seated.{over, Shown, with_hold}
+use Rattle.seat_views.specs.declared.views.View.{View}
+use Rattle.seat_views.specs.Seated.{over, Shown, with_hold}
 
 -- how often x stands in the list
 abbrev pub times : ℕ → List ℕ → ℕ

@@ -1,7 +1,7 @@
 -- What a drawer stores, and what its view has.
 use Rattle.std.specs.Prelude.{◌≡◌, ℕ, ◌≤◌, false, List, [], length}
 use Rattle.atomic_table.specs.declared.shared.Seat.{Seat}
-use Rattle.seating.specs.declared.views.View.{View}
+use Rattle.seat_views.specs.declared.views.View.{View}
 
 abbrev pub Chair : Type 0
 Chair = Seat (Unit {0}) (View (List ℕ))

@@ -9,7 +9,7 @@ use std::alloc::AllocError;
 // How many numbers a drawer draws at most.
 const LIMIT: usize = 4294967296;
 
-/// Why no number was drawn (docs/NUMBERS.md).
+/// Why no number was drawn (README.md).
 #[derive(Clone, Copy, Debug, PartialEq, Eq)]
 pub enum DrawError {
     /// 1: allocation failed.

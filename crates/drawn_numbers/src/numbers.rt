@@ -4,11 +4,11 @@ ghost use Rattle.drawn_numbers.specs.Drawn.{Belongs};
 
 use crate::steps::Law;
 use atomic_table::Table;
-use seating::View;
+use seat_views::View;
 use std::alloc::Global;
 use std::collections::LinkedList;
 
-/// The numbers 0, 1, 2, .. of which each draw gives the next one, whichever drawer draws (docs/NUMBERS.md). The lists
+/// The numbers 0, 1, 2, .. of which each draw gives the next one, whichever drawer draws (README.md). The lists
 /// are room for what the drawers drew, one for each.
 #[derive(Drop)]
 pub struct Numbers {

@@ -2,11 +2,11 @@
 ghost use Rattle.std.specs.Prelude.{◌≡◌, ℕ, ◌+◌, ◌*◌, ◌<◌, ◌≤◌, false, [], length};
 ghost use Rattle.atomic_table.specs.Table.{step};
 ghost use mathlib.Core.Option.{none};
-ghost use Rattle.seating.specs.Seated.{one_more, seat_view, knows};
+ghost use Rattle.seat_views.specs.Seated.{one_more, seat_view, knows};
 ghost use Rattle.drawn_numbers.specs.Drawn.{drew, Belongs};
 
 use atomic_table::{Join, Play, Seat, Shared, Split, TableRule};
-use seating::View;
+use seat_views::View;
 use std::collections::LinkedList;
 
 type Known = View<LinkedList<u64>>;
@@ -16,7 +16,7 @@ pub struct Law;
 
 impl TableRule<(), Known, u32> for Law {
     ghost use Rattle.std.specs.Prelude.{[]};
-    ghost use Rattle.seating.specs.Seated.{first_view};
+    ghost use Rattle.seat_views.specs.Seated.{first_view};
     ghost use Rattle.drawn_numbers.specs.Drawn.{Drawn};
 
     ghost holds = { Drawn };
@@ -47,7 +47,7 @@ impl Split<Known> for Makes {
 struct Meets;
 
 impl Join<Known> for Meets {
-    ghost use Rattle.seating.specs.Seated.{spent_view};
+    ghost use Rattle.seat_views.specs.Seated.{spent_view};
 
     ghost both = { knows };
 

@@ -28,7 +28,10 @@ pub struct Page<'a> {
     examples: u64,
     answers: u64,
     wrong: u64,
-    is_refused: bool,
+    /// How many examples can't be read.
+    unreadable: u64,
+    /// The lines of the example that is played to which a wrong answer came, and in how many turns.
+    wrong_turns: Vec<(usize, u64)>,
     /// The faults of a text that is written itself.
     pub(crate) faults: String,
     /// By line, what came of it, to be written behind it.
@@ -57,7 +60,8 @@ impl<'a> Page<'a> {
             examples: 0,
             answers: 0,
             wrong: 0,
-            is_refused: false,
+            unreadable: 0,
+            wrong_turns: Vec::new(alloc),
             faults: String::new(alloc),
             written,
             told: String::new(alloc),
@@ -68,11 +72,23 @@ impl<'a> Page<'a> {
     pub(crate) fn begin(&mut self) {
         self.examples = self.examples.saturating_add(1);
         self.firsts.clear();
+        self.wrong_turns.clear();
+    }
+
+    /// An example ends: tells of repeated lines in how many turns a wrong answer came, if that was more than one.
+    pub(crate) fn end_example<W: Write + Drop>(&self, out: &mut W) -> io::Result<()> {
+        let name = self.name;
+        for (line, turns) in &self.wrong_turns {
+            if *turns > 1 {
+                writeln!(out, "{name}:{line}: wrong in {turns} turns")?;
+            }
+        }
+        Ok(())
     }
 
     /// The exit status that the text asks for.
     pub(crate) fn status(&self) -> u8 {
-        if self.is_refused {
+        if self.unreadable > 0 {
             3
         } else {
             u8::from(self.wrong > 0 && !self.how.prints)
@@ -85,7 +101,7 @@ impl<'a> Page<'a> {
         fault: &Fault,
         out: &mut W,
     ) -> io::Result<()> {
-        self.is_refused = true;
+        self.unreadable = self.unreadable.saturating_add(1);
         let (name, line, cause) = (self.name, fault.line, fault.cause);
         if self.how.prints {
             writeln!(self.faults, "{name}:{line}: {cause}")?;
@@ -129,13 +145,28 @@ impl<'a> Page<'a> {
             return Ok(());
         }
         self.wrong = self.wrong.saturating_add(1);
-        if self.how.prints {
+        if self.how.prints || !self.is_first_wrong(turn.line)? {
             return Ok(());
+        }
+        write!(out, "{}:{}: ", self.name, turn.line)?;
+        if let Some(turns) = turn.turn {
+            write!(out, "turn {}: ", turns.saturating_add(1))?;
         }
         self.told.clear();
         put_turned(wanted, turn.turn, &mut self.told)?;
-        let (name, line) = (self.name, turn.line);
-        writeln!(out, "{name}:{line}: wanted {}, came {came}", self.told)
+        writeln!(out, "wanted {}, came {came}", self.told)
+    }
+
+    /// Notes a wrong answer to a line; whether it is the first one.
+    fn is_first_wrong(&mut self, line: usize) -> Result<bool, AllocError> {
+        for noted in self.wrong_turns.iter_mut() {
+            if noted.0 == line {
+                noted.1 = noted.1.saturating_add(1);
+                return Ok(false);
+            }
+        }
+        self.wrong_turns.push((line, 1))?;
+        Ok(true)
     }
 
     /// Tells the answer to a line for which none is wanted.
@@ -205,6 +236,9 @@ impl<'a> Page<'a> {
         write!(out, "{name}: {examples} examples, {answers} answers")?;
         if self.wrong > 0 {
             write!(out, ", {} wrong", self.wrong)?;
+        }
+        if self.unreadable > 0 {
+            write!(out, ", {} unreadable", self.unreadable)?;
         }
         writeln!(out)
     }

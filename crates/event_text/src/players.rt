@@ -62,7 +62,8 @@ fn play_example<P: Player, W: Write + Drop>(
     match read_all(player, alloc, example) {
         Ok(()) if example.has_heading() => {
             page.begin();
-            player.play(alloc, example, page, out)
+            player.play(alloc, example, page, out)?;
+            page.end_example(out)
         }
         Ok(()) => Ok(()),
         Err(fault) if fault.cause == Cause::NoMemory => Err(io::Error::from(AllocError)),

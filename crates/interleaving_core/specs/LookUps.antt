@@ -2,7 +2,6 @@
 use Rattle.std.specs.Prelude.{ℕ, Bool, true, false, List, [], Option, Some, None, option_map, slice_get}
 use Rattle.std.specs.Prelude.{if◌then◌else◌, is_some}
 use Rattle.line_sets.specs.SetTable.{all_listed}
-use Rattle.physiological_order.specs.declared.operation.Op.{Op}
 use Rattle.network.specs.declared.message.Body.{Body}
 use Rattle.network.specs.declared.message.Body.TheVariants.{ShReq, ExReq}
 use Rattle.network.specs.declared.message.Message.{Message}
@@ -16,14 +15,6 @@ use Rattle.llc_bank.specs.BankTable as bank_table
 use Rattle.llc_bank.specs.BankTable.{BankState}
 use Rattle.llc_bank.specs.Settled.{is_settled}
 use Rattle.machine_table.specs.Machine.{Machine}
-
--- a core's open operation, and whether its request is out
-abbrev pub open_op_of : Option CoreState → Option (Op × Bool)
-open_op_of None = None
-open_op_of (Some core) = option_map (λ op. (op, core.is_out)) core.open_op
-
-abbrev pub open_op : Machine → ℕ → Option (Op × Bool)
-open_op m core = open_op_of (slice_get m.cores core)
 
 -- whether a core has an open operation, and whether its request is out
 abbrev pub open_status_of : Option CoreState → Bool × Bool

@@ -2,7 +2,8 @@
 ghost use Rattle.std.specs.Prelude.{◌≡◌, ◌<◌, IfOk, length, map, option_copied, slice_get, Some};
 ghost use Rattle.network.specs.NumberedMessages.{IsRising, at_number};
 ghost use Rattle.line_sets.specs.Rising.{risen};
-ghost use Rattle.interleaving_core.specs.LookUps.{copies, entries, free_copies, is_request, make_room, open_op};
+ghost use Rattle.interleaving_core.specs.LookUps.{copies, entries, free_copies, is_request, make_room};
+ghost use Rattle.machine_table.specs.Machine.{open_op};
 ghost use Rattle.interleaving_core.specs.LookUps.{open_status, room_at, victim};
 
 use crate::machine_state::MachineState;

@@ -13,7 +13,8 @@ ghost use Rattle.machine_table.specs.Opening.{at_start};
 ghost use Rattle.protocol.specs.Issued.{IsIssued};
 ghost use Rattle.machine_theorem.specs.Coherence.{owners, coherent};
 ghost use Rattle.machine_theorem.specs.Kept.{Invariant};
-ghost use Rattle.interleaving_core.specs.LookUps.{copies, entries, free_copies, make_room, open_op};
+ghost use Rattle.interleaving_core.specs.LookUps.{copies, entries, free_copies, make_room};
+ghost use Rattle.machine_table.specs.Machine.{open_op};
 ghost use Rattle.interleaving_core.specs.LookUps.{open_status, victim};
 ghost use Rattle.interleaving_core.specs.Reservation.{completes};
 ghost use Rattle.interleaving_core.specs.Midway.{IsMidway};
@@ -327,14 +328,14 @@ impl System {
         self.has_order = false;
     }
 
-    /// The core of a number, counted from 0; none if there are no so many.
+    /// The core of a number, counted from 0; none if there are fewer.
     pub fn core(&self, number: u32) -> Option<&Core>
         ensures { option_copied result ≡ slice_get self.now.cores number }
     {
         self.state.core(number)
     }
 
-    /// The bank of a number, counted from 0; none if there are no so many.
+    /// The bank of a number, counted from 0; none if there are fewer.
     pub fn bank(&self, number: u32) -> Option<&Bank>
         ensures { option_copied result ≡ slice_get self.now.banks number }
     {

@@ -16,7 +16,7 @@ use litmus_lexer::{
 use std::alloc::{AllocError, Global};
 
 /// What joins the parts of an expression: `or` its terms, `and` the factors of a term.
-#[derive(Clone, Copy, Debug, PartialEq, Eq)]
+#[derive(Clone, Copy)]
 pub enum Connective {
     And,
     Or,

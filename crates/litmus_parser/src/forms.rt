@@ -15,7 +15,7 @@ use litmus_lexer::{
 };
 
 /// What the first word of an instruction names.
-#[derive(Clone, Copy, Debug, PartialEq, Eq)]
+#[derive(Clone, Copy)]
 pub enum Mnemonic {
     Load(Width),
     Store(Width),
@@ -26,7 +26,7 @@ pub enum Mnemonic {
 }
 
 /// An instruction as it is written; a number above every value is `VALUE_BOUND`.
-#[derive(Clone, Copy, Debug, PartialEq, Eq)]
+#[derive(Clone, Copy)]
 pub enum Form {
     Load(Width, u8, u8),
     Store(Width, u8, u8),

@@ -5,6 +5,7 @@ mod contents;
 mod ends;
 mod opening;
 mod reading;
+mod thread_programs;
 mod threads;
 
 pub use contents::Test;

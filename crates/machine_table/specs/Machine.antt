@@ -1,5 +1,5 @@
 -- The machine as data.
-use Rattle.std.specs.Prelude.{ℕ, Bool, List, Option, Some, None, slice_set}
+use Rattle.std.specs.Prelude.{ℕ, Bool, List, Option, Some, None, option_map, slice_get, slice_set}
 use Rattle.std.specs.Ordering.{nat_cmp}
 use Rattle.std.specs.FinMap.{FinMap}
 use Rattle.physiological_order.specs.declared.operation.Op.{Op}
@@ -39,3 +39,11 @@ with_dram m b lines = record m { drams = slice_set m.drams b lines }
 abbrev pub operation_of : Option CoreState → Option Op
 operation_of None = None
 operation_of (Some core) = core.open_op
+
+-- a core's open operation, and whether its request is out; a core that isn't there has none
+abbrev pub open_op_of : Option CoreState → Option (Op × Bool)
+open_op_of None = None
+open_op_of (Some core) = option_map (λ op. (op, core.is_out)) core.open_op
+
+abbrev pub open_op : Machine → ℕ → Option (Op × Bool)
+open_op m core = open_op_of (slice_get m.cores core)

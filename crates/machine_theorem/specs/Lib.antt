@@ -1,5 +1,6 @@
 pub mod Bags
 pub mod Cases
+pub mod Service
 pub mod PrivateWrites
 pub mod Shape
 pub mod StaleHit

@@ -12,13 +12,13 @@ use Rattle.network.specs.Routes.{has_endpoints}
 use Rattle.llc_bank.specs.BankTable.{bank_table}
 use Rattle.dram_mts.specs.Table.{dram_table}
 use Rattle.machine_theorem.specs.Bags.{weigh, SameBag}
-use Rattle.serving.specs.declared.answer.Answer.TheVariants.{Delivered, Dropped, Started}
-use Rattle.serving.specs.declared.answer.Refusal.{Refusal}
-use Rattle.serving.specs.declared.answer.Served.{Served}
-use Rattle.serving.specs.Inboxes.{InboxState}
-use Rattle.serving.specs.Serving.{Place, places, sent_list}
-use Rattle.serving.specs.Effects.{SameMessages, messages_of, LiesAt, others, IsAsked, Effect}
-use Rattle.serving.specs.Effects.{delivered, dropped, started, moved, unchanged}
+use Rattle.inbox.specs.declared.answer.Answer.TheVariants.{Delivered, Dropped, Started}
+use Rattle.inbox.specs.declared.answer.Refusal.{Refusal}
+use Rattle.inbox.specs.declared.answer.Served.{Served}
+use Rattle.inbox.specs.Inboxes.{InboxState}
+use Rattle.inbox.specs.Serving.{Place, places, sent_list}
+use Rattle.inbox.specs.Effects.{SameMessages, messages_of, LiesAt, others, IsAsked, Effect}
+use Rattle.inbox.specs.Effects.{delivered, dropped, started, moved, unchanged}
 use Rattle.seat_rule.specs.declared.views.SetUp.{SetUp}
 use Rattle.seat_rule.specs.declared.views.Hold.{Hold}
 use Rattle.seat_rule.specs.Rule.{bag_of}

@@ -15,9 +15,9 @@ use Rattle.llc_bank.specs.BankTable as bank_table
 use Rattle.llc_bank.specs.BankTable.{BankState, after_eviction, entry_of}
 use Rattle.machine_theorem.specs.Bags.{SameBag}
 use Rattle.machine_moves.specs.Moves.{sent_by}
-use Rattle.serving.specs.Inboxes.{InboxState}
-use Rattle.serving.specs.Serving.{sent_list}
-use Rattle.serving.specs.Effects.{messages_of}
+use Rattle.inbox.specs.Inboxes.{InboxState}
+use Rattle.inbox.specs.Serving.{sent_list}
+use Rattle.inbox.specs.Effects.{messages_of}
 use Rattle.seat_rule.specs.declared.views.SetUp.{SetUp}
 use Rattle.seat_rule.specs.declared.views.Hold.{Hold}
 use Rattle.seat_rule.specs.Rule.{bag_of}

@@ -15,15 +15,15 @@ use Rattle.dram_mts.specs.Table.{dram_table, dram_has_case}
 use Rattle.machine_table.specs.SetUp.{is_good}
 use Rattle.machine_theorem.specs.Bags.{SameBag}
 use Rattle.machine_theorem.specs.Shape.{IsBank}
-use Rattle.serving.specs.declared.answer.Refusal.{Refusal}
-use Rattle.serving.specs.declared.answer.Served.{Served}
-use Rattle.serving.specs.Inboxes.{InboxState}
-use Rattle.serving.specs.Serving.{Place, in_hand, held_at, HaveCases}
-use Rattle.serving.specs.Effects.{LiesAt, Effect}
+use Rattle.inbox.specs.declared.answer.Refusal.{Refusal}
+use Rattle.inbox.specs.declared.answer.Served.{Served}
+use Rattle.inbox.specs.Inboxes.{InboxState}
+use Rattle.inbox.specs.Serving.{Place, in_hand, held_at, HaveCases}
+use Rattle.inbox.specs.Effects.{LiesAt, Effect}
 use Rattle.seat_rule.specs.declared.views.SetUp.{SetUp}
 use Rattle.seat_rule.specs.declared.views.Hold.{Hold}
 use Rattle.seat_rule.specs.Rule.{bag_of, seat_count}
-use Rattle.seating.specs.Seated.{with_hold}
+use Rattle.seat_views.specs.Seated.{with_hold}
 use Rattle.seat_rule.specs.Plays.{SeatState, Standing}
 use Rattle.mailboxes.specs.Ties.{BankTied, BoxTied, Chair}
 use Rattle.seat_rule.specs.Found.{FindsHere}

@@ -11,14 +11,14 @@ use Rattle.network.specs.declared.part.Reaction.TheVariants as does
 use Rattle.llc_bank.specs.BankTable.{BankState, bank_table, bank_has_case}
 use Rattle.dram_mts.specs.Table.{dram_table, dram_has_case}
 use Rattle.machine_theorem.specs.Bags.{weigh, SameBag}
-use Rattle.serving.specs.declared.answer.Answer.{Answer}
-use Rattle.serving.specs.declared.answer.Answer.TheVariants.{Delivered, Dropped, Started}
-use Rattle.serving.specs.declared.answer.Refusal.{Refusal}
-use Rattle.serving.specs.declared.answer.Served.{Served}
-use Rattle.serving.specs.Inboxes.{InboxState}
-use Rattle.serving.specs.Serving.{Place, places, sent_list}
-use Rattle.serving.specs.Effects.{SameMessages, messages_of, LiesAt, others, IsAsked, Effect}
-use Rattle.serving.specs.Effects.{delivered, dropped, started, moved, unchanged}
+use Rattle.inbox.specs.declared.answer.Answer.{Answer}
+use Rattle.inbox.specs.declared.answer.Answer.TheVariants.{Delivered, Dropped, Started}
+use Rattle.inbox.specs.declared.answer.Refusal.{Refusal}
+use Rattle.inbox.specs.declared.answer.Served.{Served}
+use Rattle.inbox.specs.Inboxes.{InboxState}
+use Rattle.inbox.specs.Serving.{Place, places, sent_list}
+use Rattle.inbox.specs.Effects.{SameMessages, messages_of, LiesAt, others, IsAsked, Effect}
+use Rattle.inbox.specs.Effects.{delivered, dropped, started, moved, unchanged}
 use Rattle.seat_rule.specs.declared.views.SetUp.{SetUp}
 use Rattle.seat_rule.specs.declared.views.Hold.{Hold}
 use Rattle.seat_rule.specs.Rule.{bag_of}

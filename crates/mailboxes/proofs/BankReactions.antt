@@ -15,11 +15,11 @@ use Rattle.std.specs.FinMap.{FinMap}
 use Rattle.network.specs.declared.message.Body.{Body}
 use Rattle.network.specs.declared.message.Body.TheVariants.{DramLd, DramSt}
 use Rattle.machine_theorem.specs.Bags.{weigh, SameBag}
-use Rattle.serving.specs.declared.answer.Answer.{Answer}
-use Rattle.serving.specs.declared.answer.Answer.TheVariants.{Delivered, Dropped, Started, Held, Refused}
-use Rattle.serving.specs.declared.answer.Refusal.TheVariants.{Full, NoMemory, Exhausted}
-use Rattle.serving.specs.Serving.{is_quiet, sent_list}
-use Rattle.serving.specs.Effects.{LeavesPart, NeverNoMemory}
+use Rattle.inbox.specs.declared.answer.Answer.{Answer}
+use Rattle.inbox.specs.declared.answer.Answer.TheVariants.{Delivered, Dropped, Started, Held, Refused}
+use Rattle.inbox.specs.declared.answer.Refusal.TheVariants.{Full, NoMemory, Exhausted}
+use Rattle.inbox.specs.Serving.{is_quiet, sent_list}
+use Rattle.inbox.specs.Effects.{LeavesPart, NeverNoMemory}
 use Rattle.seat_rule.specs.Serving.{counted_if}
 use Rattle.mailboxes.specs.declared.sending.SendingBank.{SendingBank}
 use Rattle.mailboxes.specs.Sending.{OutboxState, noted, sent_out}

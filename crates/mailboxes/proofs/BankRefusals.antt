@@ -2,9 +2,9 @@
 use Rattle.std.proofs.Common.{◌≡◌, Result, Err, refl, ap, sym, ◌∙◌}
 use Rattle.machine_table.specs.declared.event.Refusal.{Refusal}
 use Rattle.machine_table.specs.declared.event.Refusal.TheVariants.{NetworkFull, NoMemory, Exhausted}
-use Rattle.serving.specs.declared.answer.Refusal.{Refusal as ServingRefusal}
-use Rattle.serving.specs.declared.answer.Refusal.TheVariants as serving
-use Rattle.serving.specs.declared.answer.Served.{Served}
+use Rattle.inbox.specs.declared.answer.Refusal.{Refusal as ServingRefusal}
+use Rattle.inbox.specs.declared.answer.Refusal.TheVariants as serving
+use Rattle.inbox.specs.declared.answer.Served.{Served}
 use Rattle.mailboxes.specs.SeatServing.{seat_refusal}
 
 wanted : (r : ServingRefusal) → seat_refusal r ≡ NoMemory → r ≡ serving.NoMemory

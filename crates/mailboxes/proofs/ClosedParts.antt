@@ -5,7 +5,7 @@ use Rattle.std.specs.Prelude.{slice_get, map}
 use Rattle.physiological_order.specs.declared.operation.Record.{Record}
 use Rattle.network.specs.declared.message.Message.{Message}
 use Rattle.machine_table.specs.SetUp.{is_good}
-use Rattle.seating.proofs.Lemmas.{some_is}
+use Rattle.seat_views.proofs.Lemmas.{some_is}
 use Rattle.seat_rule.specs.declared.views.SetUp.{SetUp}
 use Rattle.seat_rule.specs.declared.views.Hold.{Hold}
 use Rattle.mailboxes.specs.declared.core_seat.CoreSeat.{CoreSeat}

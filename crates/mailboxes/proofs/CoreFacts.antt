@@ -6,17 +6,17 @@ use Rattle.physiological_order.specs.declared.operation.Op.{Op}
 use Rattle.network.specs.declared.message.Node.TheVariants.{Core}
 use Rattle.network.specs.declared.message.Message.{Message}
 use Rattle.core_pts.specs.CoreTable.{core_has_case}
-use Rattle.serving.specs.declared.answer.Refusal.{Refusal}
-use Rattle.serving.specs.declared.answer.Served.{Served}
-use Rattle.serving.specs.Inboxes.{InboxState}
-use Rattle.serving.specs.Serving.{Place, in_hand, held_at, HaveCases}
-use Rattle.serving.specs.Effects.{LiesAt, Effect}
+use Rattle.inbox.specs.declared.answer.Refusal.{Refusal}
+use Rattle.inbox.specs.declared.answer.Served.{Served}
+use Rattle.inbox.specs.Inboxes.{InboxState}
+use Rattle.inbox.specs.Serving.{Place, in_hand, held_at, HaveCases}
+use Rattle.inbox.specs.Effects.{LiesAt, Effect}
 use Rattle.seat_rule.specs.declared.views.SetUp.{SetUp}
 use Rattle.seat_rule.specs.Rule.{seat_count}
 use Rattle.seat_rule.specs.Found.{FindsHere}
 use Rattle.seat_rule.specs.Plays.{SeatState, Standing}
 use Rattle.seat_rule.specs.SeatMoves.{SeatMove}
-use Rattle.seating.specs.Seated.{with_hold}
+use Rattle.seat_views.specs.Seated.{with_hold}
 use Rattle.mailboxes.specs.declared.machine.Machine.{Machine}
 use Rattle.mailboxes.specs.declared.mailbox.Mailbox.{Mailbox}
 use Rattle.mailboxes.specs.declared.sending.SendingCore.{SendingCore}

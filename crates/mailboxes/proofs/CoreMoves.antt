@@ -4,7 +4,7 @@ use Rattle.physiological_order.specs.declared.operation.Op.{Op}
 use Rattle.network.specs.declared.message.Message.{Message}
 use Rattle.core_pts.specs.CoreTable as core_table
 use Rattle.core_pts.specs.CoreTable.{CoreState}
-use Rattle.serving.specs.Inboxes.{InboxState}
+use Rattle.inbox.specs.Inboxes.{InboxState}
 use Rattle.seat_rule.specs.declared.views.SetUp.{SetUp}
 use Rattle.seat_rule.specs.declared.views.Hold.{Hold}
 use Rattle.seat_rule.specs.SeatMoves.{SeatMove, issues}

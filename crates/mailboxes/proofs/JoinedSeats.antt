@@ -11,7 +11,7 @@ use mathlib.Core.Option.{some, some-injective, some-ne-none}
 use mathlib.Core.Logic.{dite}
 use native.Mathlib.Decide.{ℕ_discrete}
 use lib.ListN.{get_elem?}
-use Rattle.seating.proofs.Lemmas.{some_is}
+use Rattle.seat_views.proofs.Lemmas.{some_is}
 use Rattle.mailboxes.specs.Remains.{backwards}
 use Rattle.mailboxes.proofs.NewSeats.{none_some}
 

@@ -1,20 +1,15 @@
+pub mod Lemmas
 mod BankAfter
 mod BankEnds
 mod BankEvictions
 mod BankFacts
 mod BankMoves
-mod BankPlaces
 mod BankReactions
 mod BankRefusals
 mod ClosedParts
-mod ClosedCores
 mod CoreFacts
 mod CoreMoves
-mod CursorMoves
 mod DramWords
-mod EmptyHands
-mod FullHands
-mod FullTurns
 mod IncomingSlots
 mod JoinedSeats
 mod LinkEnds
@@ -26,15 +21,10 @@ mod OwnMessages
 mod Outboxes
 mod SeatSums
 mod SentMessages
-mod StayingHands
-mod StoppedSeats
 mod Sweeps
 mod ServedCores
-mod PutTurns
 mod Rooms
 mod RunStates
-mod Turns
-mod WaitingMessages
 mod EmptySlots
 mod SureTurns
 mod Unchanged

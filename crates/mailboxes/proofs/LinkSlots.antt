@@ -8,7 +8,7 @@ use Rattle.std.proofs.lemmas.Bool.{ltb-false}
 use Rattle.network.specs.declared.message.Node.{Node}
 use Rattle.network.specs.declared.message.Node.TheVariants.{Core, Bank}
 use Rattle.network.specs.declared.message.Message.{Message}
-use Rattle.seating.proofs.Lemmas.{some_is}
+use Rattle.seat_views.proofs.Lemmas.{some_is}
 use Rattle.seat_rule.specs.declared.views.SetUp.{SetUp}
 use Rattle.seat_rule.specs.Rule.{source, target, node_of}
 use Rattle.seat_rule.specs.Plays.{ones}

@@ -2,7 +2,7 @@
 use Rattle.std.proofs.Common.{◌≡◌, ℕ, zero, suc, ◌≤◌, List, [], ◌∷◌, drop, length, Some, None, arith}
 use Rattle.std.specs.Prelude.{slice_get, remove}
 use Rattle.line_arena.specs.CellLists.{first_cell}
-use Rattle.serving.specs.Queues.{values_of}
+use Rattle.inbox.specs.Queues.{values_of}
 
 -- what is left was there before
 pub left_was : {A : Type 0} → (xs : List A) (i j : ℕ) (x : A) → slice_get (remove xs i) j ≡ Some x →

@@ -7,10 +7,10 @@ use Rattle.std.specs.Prelude.{slice_get}
 use Rattle.std.proofs.lemmas.Bool.{lt-ltb, le-ltb, eq-eqb}
 use Rattle.network.specs.declared.message.Node.TheVariants.{Core, Bank}
 use Rattle.network.specs.declared.message.Message.{Message}
-use Rattle.serving.specs.Inboxes.{InboxState, inbox}
-use Rattle.seating.proofs.Lemmas.{some_is}
+use Rattle.inbox.specs.Inboxes.{InboxState, inbox}
+use Rattle.seat_views.proofs.Lemmas.{some_is}
 use Rattle.seat_rule.specs.declared.views.SetUp.{SetUp}
-use Rattle.seating.specs.declared.views.View.{View}
+use Rattle.seat_views.specs.declared.views.View.{View}
 use Rattle.seat_rule.specs.declared.views.Stage.TheVariants.{Reading}
 use Rattle.seat_rule.specs.declared.views.Hold.{Hold}
 use Rattle.seat_rule.specs.Plays.{SeatState, saw_in}

@@ -7,9 +7,9 @@ use Rattle.network.specs.declared.counts.Counts.{Counts}
 use Rattle.network.specs.declared.message.Message.{Message}
 use Rattle.network.specs.Mail.{AreCounts}
 use Rattle.machine_theorem.specs.Bags.{weigh}
-use Rattle.serving.specs.Inboxes.{InboxState}
-use Rattle.seating.specs.Seated.{over}
-use Rattle.seating.proofs.Lemmas.{some_is}
+use Rattle.inbox.specs.Inboxes.{InboxState}
+use Rattle.seat_views.specs.Seated.{over}
+use Rattle.seat_views.proofs.Lemmas.{some_is}
 use Rattle.seat_rule.specs.Rule.{bag_of, content, counts_of, slot_count}
 use Rattle.seat_rule.specs.Ended.{lies}
 use Rattle.seat_rule.proofs.Lemmas.{weigh-append}

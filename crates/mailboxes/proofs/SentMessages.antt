@@ -6,8 +6,8 @@ use Rattle.std.proofs.Common.{sym, ap, ◌∙◌, subst, arith}
 use Rattle.std.specs.Prelude.{slice_get}
 use Rattle.physiological_order.specs.declared.operation.Op.{Op}
 use Rattle.physiological_order.specs.declared.operation.Record.{Record}
-use Rattle.seating.proofs.Lemmas.{some_is}
-use Rattle.seating.specs.Seated.{with_hold}
+use Rattle.seat_views.proofs.Lemmas.{some_is}
+use Rattle.seat_views.specs.Seated.{with_hold}
 use Rattle.seat_rule.specs.Plays.{SeatState}
 use Rattle.mailboxes.specs.Ties.{BoxTied, Chair, CoreTied}
 use Rattle.network.specs.declared.message.Node.{Node}
@@ -28,7 +28,7 @@ use Rattle.private_cache.specs.declared.cache.CacheError.{CacheError}
 use Rattle.private_cache.specs.CopyTable.{copy_of, evicted}
 use Rattle.std.proofs.lemmas.Bool.{lt-ltb, ltb-true}
 use Rattle.machine_theorem.specs.Bags.{weigh}
-use Rattle.serving.specs.Inboxes.{InboxState}
+use Rattle.inbox.specs.Inboxes.{InboxState}
 use Rattle.seat_rule.specs.declared.views.SetUp.{SetUp}
 use Rattle.seat_rule.specs.declared.views.Hold.{Hold}
 use Rattle.seat_rule.specs.Found.{FindsHere}

@@ -14,16 +14,16 @@ use Rattle.core_pts.specs.declared.decision.CoreReaction.TheVariants.{Arrives, G
 use Rattle.core_pts.specs.declared.decision.CoreReaction.TheVariants.{NoCase}
 use Rattle.core_pts.specs.CoreTable.{CoreState, after_reaction, core_has_case, core_table, decided}
 use Rattle.machine_theorem.specs.Bags.{weigh, SameBag}
-use Rattle.serving.specs.declared.answer.Answer.{Answer}
-use Rattle.serving.specs.declared.answer.Answer.TheVariants.{Delivered, Dropped, Started, Held, Refused}
-use Rattle.serving.specs.declared.answer.Refusal.{Refusal}
-use Rattle.serving.specs.declared.answer.Refusal.TheVariants.{Full, NoMemory, Exhausted}
-use Rattle.serving.specs.declared.answer.Served.{Served}
-use Rattle.serving.specs.Inboxes.{InboxState}
-use Rattle.serving.specs.Serving.{Place, is_quiet, places, sent_list}
-use Rattle.serving.specs.Effects.{Effect, LeavesPart, NeverNoMemory, SameMessages, messages_of, others, LiesAt}
-use Rattle.serving.specs.Effects.{delivered, dropped, started, moved, unchanged}
-use Rattle.seating.proofs.Lemmas.{some_is}
+use Rattle.inbox.specs.declared.answer.Answer.{Answer}
+use Rattle.inbox.specs.declared.answer.Answer.TheVariants.{Delivered, Dropped, Started, Held, Refused}
+use Rattle.inbox.specs.declared.answer.Refusal.{Refusal}
+use Rattle.inbox.specs.declared.answer.Refusal.TheVariants.{Full, NoMemory, Exhausted}
+use Rattle.inbox.specs.declared.answer.Served.{Served}
+use Rattle.inbox.specs.Inboxes.{InboxState}
+use Rattle.inbox.specs.Serving.{Place, is_quiet, places, sent_list}
+use Rattle.inbox.specs.Effects.{Effect, LeavesPart, NeverNoMemory, SameMessages, messages_of, others, LiesAt}
+use Rattle.inbox.specs.Effects.{delivered, dropped, started, moved, unchanged}
+use Rattle.seat_views.proofs.Lemmas.{some_is}
 use Rattle.seat_rule.specs.declared.views.SetUp.{SetUp}
 use Rattle.seat_rule.specs.declared.views.Hold.{Hold}
 use Rattle.seat_rule.specs.Rule.{bag_of}

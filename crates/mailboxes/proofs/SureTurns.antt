@@ -1,7 +1,7 @@
 -- A turn of a seat whose servings never answer a refusal never answers it either.
 use Rattle.std.proofs.Common.{◌≡◌, Bool, true, false, Result, Ok, Err, ap, sym, ◌∙◌, subst, refl}
 use Rattle.machine_table.specs.declared.event.Refusal.{Refusal}
-use Rattle.serving.specs.declared.answer.Served.{Served}
+use Rattle.inbox.specs.declared.answer.Served.{Served}
 use Rattle.mailboxes.specs.declared.taken.Take.{Take}
 use Rattle.mailboxes.specs.declared.taken.Take.TheVariants.{Taken, Nothing, HandFull}
 use Rattle.mailboxes.specs.declared.turning.Turn.{Turn}

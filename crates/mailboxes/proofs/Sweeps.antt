@@ -10,28 +10,7 @@ use Rattle.seat_rule.specs.Plays.{SamePart, ones}
 use Rattle.mailboxes.specs.declared.mailbox.Mailbox.{Mailbox}
 use Rattle.mailboxes.specs.Places.{link_to, found_full}
 use Rattle.mailboxes.specs.BoxMoves.{hold, Stays, SameIncoming, PutInto, PutNothing}
-
-part_on : (a b c : Hold) → SamePart a b → SamePart b c → SamePart a c
-part_on a b c s t =
-    record {
-      core = t.core ∙ s.core;
-      bank = t.bank ∙ s.bank;
-      dram = t.dram ∙ s.dram;
-      issued = t.issued ∙ s.issued;
-      records = t.records ∙ s.records;
-      counts = t.counts ∙ s.counts;
-      seen = t.seen ∙ s.seen;
-    }
-
-pub stays_on : (p q r : Mailbox) → Stays p q → Stays q r → Stays p r
-stays_on p q r s t =
-    record {
-      table = t.table ∙ s.table;
-      number = t.number ∙ s.number;
-      cores = t.cores ∙ s.cores;
-      banks = t.banks ∙ s.banks;
-      part = part_on (hold p) (hold q) (hold r) s.part t.part;
-    }
+use Rattle.mailboxes.proofs.Lemmas.{part_on, stays_on}
 
 incoming_on : (p q r : Mailbox) → SameIncoming p q → SameIncoming q r → SameIncoming p r
 incoming_on p q r s t =

@@ -4,11 +4,11 @@ use Rattle.std.proofs.Common.{List}
 use Rattle.std.specs.Prelude.{is_some}
 use Rattle.physiological_order.specs.declared.operation.Op.{Op}
 use Rattle.network.specs.declared.message.Message.{Message}
-use Rattle.serving.specs.declared.answer.Answer.{Answer}
-use Rattle.serving.specs.declared.answer.Refusal.{Refusal}
-use Rattle.serving.specs.declared.answer.Served.{Served}
-use Rattle.serving.specs.Inboxes.{InboxState}
-use Rattle.serving.specs.Effects.{Effect, delivered, dropped, started, moved, unchanged}
+use Rattle.inbox.specs.declared.answer.Answer.{Answer}
+use Rattle.inbox.specs.declared.answer.Refusal.{Refusal}
+use Rattle.inbox.specs.declared.answer.Served.{Served}
+use Rattle.inbox.specs.Inboxes.{InboxState}
+use Rattle.inbox.specs.Effects.{Effect, delivered, dropped, started, moved, unchanged}
 use Rattle.seat_rule.specs.declared.views.Hold.{Hold}
 use Rattle.mailboxes.specs.declared.mailbox.Mailbox.{Mailbox}
 use Rattle.mailboxes.specs.declared.sending.SendingBank.{SendingBank}

@@ -15,8 +15,8 @@ use Rattle.llc_bank.specs.BankTable.{BankState, make_room, or_else, sent_to}
 use Rattle.machine_table.specs.declared.event.Refusal.{Refusal}
 use Rattle.machine_table.specs.declared.event.Refusal.TheVariants.{Busy, NoSuch, NetworkFull, Stopped}
 use Rattle.machine_moves.specs.Moves.{sent_by}
-use Rattle.serving.specs.Inboxes.{InboxState, inbox}
-use Rattle.serving.specs.Serving.{Place, order_of, sent_list, served_of}
+use Rattle.inbox.specs.Inboxes.{InboxState, inbox}
+use Rattle.inbox.specs.Serving.{Place, order_of, sent_list, served_of}
 use Rattle.mailboxes.specs.declared.bank_seat.BankSeat.{BankSeat}
 use Rattle.mailboxes.specs.declared.machine.Machine.{Machine}
 use Rattle.mailboxes.specs.declared.mailbox.Mailbox.{Mailbox}

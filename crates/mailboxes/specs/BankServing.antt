@@ -8,10 +8,10 @@ use Rattle.network.specs.declared.part.Reaction.TheVariants as does
 use Rattle.network.specs.Sends.{sent_by}
 use Rattle.llc_bank.specs.BankTable.{bank_has_case, bank_table}
 use Rattle.dram_mts.specs.Table.{dram_has_case, dram_table, needs_memory}
-use Rattle.serving.specs.declared.answer.Answer.{Answer}
-use Rattle.serving.specs.declared.answer.Answer.TheVariants.{Delivered, Dropped, Started, Held, Refused}
-use Rattle.serving.specs.declared.answer.Refusal.TheVariants.{Full, NoMemory, Exhausted}
-use Rattle.serving.specs.Serving.{is_quiet}
+use Rattle.inbox.specs.declared.answer.Answer.{Answer}
+use Rattle.inbox.specs.declared.answer.Answer.TheVariants.{Delivered, Dropped, Started, Held, Refused}
+use Rattle.inbox.specs.declared.answer.Refusal.TheVariants.{Full, NoMemory, Exhausted}
+use Rattle.inbox.specs.Serving.{is_quiet}
 use Rattle.mailboxes.specs.declared.sending.SendingBank.{SendingBank}
 use Rattle.mailboxes.specs.Sending.{OutboxState, can_send, can_send_out, noted, sent_out}
 

@@ -5,9 +5,9 @@ use Rattle.network.specs.declared.message.Message.{Message}
 use Rattle.network.specs.declared.part.Reaction.{Reaction}
 use Rattle.network.specs.declared.part.Reaction.TheVariants as does
 use Rattle.core_pts.specs.CoreTable.{CoreState, core_has_case, core_table}
-use Rattle.serving.specs.declared.answer.Answer.{Answer}
-use Rattle.serving.specs.declared.answer.Answer.TheVariants.{Delivered, Dropped, Started, Held, Refused}
-use Rattle.serving.specs.declared.answer.Refusal.TheVariants.{Full, Exhausted}
+use Rattle.inbox.specs.declared.answer.Answer.{Answer}
+use Rattle.inbox.specs.declared.answer.Answer.TheVariants.{Delivered, Dropped, Started, Held, Refused}
+use Rattle.inbox.specs.declared.answer.Refusal.TheVariants.{Full, Exhausted}
 use Rattle.mailboxes.specs.declared.machine.Machine.{Machine}
 use Rattle.mailboxes.specs.declared.mailbox.Mailbox.{Mailbox}
 use Rattle.mailboxes.specs.declared.sending.SendingCore.{SendingCore}

@@ -1,6 +1,5 @@
 pub mod Attempts
 pub mod BankCalls
-pub mod BankPlaceLaws
 pub mod BankServing
 pub mod BankTurns
 pub mod BoxMoves
@@ -10,16 +9,12 @@ pub mod CoreServing
 pub mod CoreTurns
 pub mod Evictions
 pub mod Places
-pub mod PlaceLaws
 pub mod Remains
 pub mod RunParts
 pub mod RunSums
 pub mod SeatServing
 pub mod Seats
 pub mod Sending
-pub mod StopLaws
 pub mod Stored
 pub mod Ties
-pub mod TurnLaws
 pub mod Turns
-pub mod WaitLaws

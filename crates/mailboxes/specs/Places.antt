@@ -5,7 +5,7 @@ use Rattle.atomic_table.specs.Seated.{TableId}
 use Rattle.network.specs.declared.message.Node.{Node}
 use Rattle.network.specs.declared.message.Node.TheVariants.{Core, Bank, Dram}
 use Rattle.network.specs.declared.message.Message.{Message}
-use Rattle.serving.specs.Inboxes.{InboxState}
+use Rattle.inbox.specs.Inboxes.{InboxState}
 use Rattle.seat_rule.specs.declared.views.SetUp.{SetUp}
 use Rattle.seat_rule.specs.Rule.{slot_count, source, from_of, to_of, node_of}
 use Rattle.seat_rule.specs.Plays.{ones}

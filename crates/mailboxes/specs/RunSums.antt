@@ -2,7 +2,7 @@
 use Rattle.std.specs.Prelude.{◌≡◌, ℕ, ◌+◌, ◌++◌, ◌⊎◌, List, Some, option_to_list, slice_get}
 use Rattle.network.specs.declared.counts.Counts.{Counts}
 use Rattle.network.specs.declared.message.Message.{Message}
-use Rattle.serving.specs.Inboxes.{InboxState}
+use Rattle.inbox.specs.Inboxes.{InboxState}
 use Rattle.mailboxes.specs.declared.run.Run.{Run}
 use Rattle.mailboxes.specs.declared.closed_machine.CorePart.{CorePart}
 use Rattle.mailboxes.specs.declared.closed_machine.BankPart.{BankPart}

@@ -3,13 +3,13 @@ use Rattle.std.specs.Prelude.{◌≡◌, ℕ, Bool, true, false, Result, Ok, Err
 use Rattle.network.specs.declared.message.Message.{Message}
 use Rattle.machine_table.specs.declared.event.Refusal.{Refusal}
 use Rattle.machine_table.specs.declared.event.Refusal.TheVariants.{NetworkFull, NoMemory, Exhausted, Stopped}
-use Rattle.serving.specs.declared.answer.Answer.{Answer}
-use Rattle.serving.specs.declared.answer.Refusal.{Refusal as ServingRefusal}
-use Rattle.serving.specs.declared.answer.Refusal.TheVariants as serving
-use Rattle.serving.specs.declared.answer.Served.{Served}
-use Rattle.serving.specs.declared.answer.Served.TheVariants as served
-use Rattle.serving.specs.Inboxes.{InboxState}
-use Rattle.serving.specs.Serving.{Serves}
+use Rattle.inbox.specs.declared.answer.Answer.{Answer}
+use Rattle.inbox.specs.declared.answer.Refusal.{Refusal as ServingRefusal}
+use Rattle.inbox.specs.declared.answer.Refusal.TheVariants as serving
+use Rattle.inbox.specs.declared.answer.Served.{Served}
+use Rattle.inbox.specs.declared.answer.Served.TheVariants as served
+use Rattle.inbox.specs.Inboxes.{InboxState}
+use Rattle.inbox.specs.Serving.{Serves}
 
 -- why no message was served, as a seat tells it
 abbrev pub seat_refusal : ServingRefusal → Refusal

@@ -1,6 +1,6 @@
 -- Seats of a machine, as they open and as they stay.
 use Rattle.std.specs.Prelude.{◌≡◌, ℕ, false, ◌+◌, ◌<◌, ◌≤◌, List, [], Some, slice_get}
-use Rattle.seating.specs.Seated.{first_view}
+use Rattle.seat_views.specs.Seated.{first_view}
 use Rattle.seat_rule.specs.Rule.{opening_hold, seat_count}
 use Rattle.mailboxes.specs.declared.machine.Machine.{Machine}
 use Rattle.mailboxes.specs.declared.core_seat.CoreSeat.{CoreSeat}

@@ -2,7 +2,7 @@
 use Rattle.std.specs.Prelude.{List}
 use Rattle.physiological_order.specs.declared.operation.Op.{Op}
 use Rattle.network.specs.declared.message.Message.{Message}
-use Rattle.serving.specs.Inboxes.{InboxState}
+use Rattle.inbox.specs.Inboxes.{InboxState}
 use Rattle.seat_rule.specs.declared.views.Hold.{Hold}
 use Rattle.seat_rule.specs.Serving.{bank_now, core_now}
 use Rattle.mailboxes.specs.declared.sending.SendingCore.{SendingCore}

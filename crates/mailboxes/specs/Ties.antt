@@ -8,7 +8,7 @@ use Rattle.physiological_order.specs.declared.operation.Record.{Record}
 use Rattle.network.specs.declared.message.Message.{Message}
 use Rattle.core_pts.specs.CoreTable.{CoreState}
 use Rattle.llc_bank.specs.BankTable.{BankState}
-use Rattle.seating.specs.declared.views.View.{View}
+use Rattle.seat_views.specs.declared.views.View.{View}
 use Rattle.seat_rule.specs.declared.views.Stage.TheVariants.{Idle}
 use Rattle.seat_rule.specs.declared.views.Hold.{Hold}
 use Rattle.mailboxes.specs.Sending.{OutboxState}

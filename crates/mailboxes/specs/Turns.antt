@@ -1,8 +1,8 @@
 -- What a turn of a seat does, whichever kind the seat is of: it puts, serves and takes.
 use Rattle.std.specs.Prelude.{◌≡◌, ℕ, zero, suc, Bool, true, false, Result, Ok, Err}
 use Rattle.machine_table.specs.declared.event.Refusal.{Refusal}
-use Rattle.serving.specs.declared.answer.Served.{Served}
-use Rattle.serving.specs.declared.answer.Served.TheVariants as served
+use Rattle.inbox.specs.declared.answer.Served.{Served}
+use Rattle.inbox.specs.declared.answer.Served.TheVariants as served
 use Rattle.mailboxes.specs.declared.taken.Take.{Take}
 use Rattle.mailboxes.specs.declared.taken.Take.TheVariants.{Taken, Nothing, HandFull}
 use Rattle.mailboxes.specs.declared.turning.Turn.{Turn}

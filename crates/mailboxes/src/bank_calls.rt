@@ -11,19 +11,19 @@ ghost use Rattle.mailboxes.specs.Stored.{stored_bank};
 use crate::bank_evicting::Eviction;
 use crate::bank_seat::BankSeat;
 use crate::machine::Machine;
+use inbox::Served;
 use llc_bank::Bank;
 use machine_table::Refusal;
 use network::{Body, LineNo, Message};
-use serving::Served;
 
 /// Why no message was served, as a seat tells it.
-pub(crate) fn seat_refusal(refusal: serving::Refusal) -> Refusal
+pub(crate) fn seat_refusal(refusal: inbox::Refusal) -> Refusal
     ensures { result ≡ seat_refusal refusal }
 {
     match refusal {
-        serving::Refusal::Full => Refusal::NetworkFull,
-        serving::Refusal::NoMemory => Refusal::NoMemory,
-        serving::Refusal::Exhausted => Refusal::Exhausted,
+        inbox::Refusal::Full => Refusal::NetworkFull,
+        inbox::Refusal::NoMemory => Refusal::NoMemory,
+        inbox::Refusal::Exhausted => Refusal::Exhausted,
     }
 }
 
@@ -64,7 +64,7 @@ impl BankSeat {
         }
         match self.mail.serve_bank(machine, &mut self.part) {
             Err(refusal) => {
-                self.is_stopped = matches!(refusal, serving::Refusal::Exhausted);
+                self.is_stopped = matches!(refusal, inbox::Refusal::Exhausted);
                 Err(seat_refusal(refusal))
             }
             Ok(served) => Ok(served),

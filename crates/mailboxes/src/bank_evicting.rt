@@ -3,18 +3,18 @@ ghost use Rattle.std.specs.Prelude.{◌≡◌, ◌-◌, ◌++◌, false, IsTrue,
 ghost use Rattle.llc_bank.specs.declared.entry.Evict.{Evict};
 ghost use Rattle.machine_table.specs.declared.event.Refusal.{Refusal};
 ghost use Rattle.llc_bank.specs.BankTable.{evict};
-ghost use Rattle.serving.specs.Inboxes.{inbox};
-ghost use Rattle.serving.specs.Serving.{sent_list};
+ghost use Rattle.inbox.specs.Inboxes.{inbox};
+ghost use Rattle.inbox.specs.Serving.{sent_list};
 ghost use Rattle.mailboxes.specs.BankCalls.{became, evict_answer, evicted_inbox, evicted_part, eviction_fits, to_post};
 ghost use Rattle.mailboxes.specs.BankServing.{finds_places, posted, told};
 
 use crate::bank_serving::{finds_places, post};
 use crate::outbox::Outbox;
 use crate::sending::SendingBank;
+use inbox::Inbox;
 use llc_bank::{Evict, EvictError};
 use machine_table::Refusal;
 use network::{Body, LineNo, Message, Node};
-use serving::Inbox;
 
 /// What became of a line that was evicted.
 #[derive(Clone, Copy, Debug, PartialEq, Eq)]

@@ -5,20 +5,20 @@ ghost use Rattle.mailboxes.specs.BankCalls.{Evicts, IsBankMail, PartOf, SameMail
 ghost use Rattle.mailboxes.specs.BankServing.{sending_bank_table, sending_bank_takes_memory};
 ghost use Rattle.mailboxes.specs.BoxMoves.{hold};
 ghost use Rattle.mailboxes.specs.Stored.{stored_bank};
-ghost use Rattle.serving.specs.Serving.{Serves};
-ghost use Rattle.serving.specs.declared.answer.Refusal.TheVariants.{NoMemory};
+ghost use Rattle.inbox.specs.Serving.{Serves};
+ghost use Rattle.inbox.specs.declared.answer.Refusal.TheVariants.{NoMemory};
 
 use crate::bank_evicting::{Eviction, evict_line, evictable};
 use crate::changes::{change_bank, change_bank_if, may_change};
 use crate::machine::Machine;
 use crate::mailbox::Mailbox;
 use crate::sending::SendingBank;
+use inbox::Served;
+use inbox::laws::{memory_is_wanted_for_the_served, servings_do_one_of_five};
 use machine_moves::laws::waiting_banks_stay;
 use machine_table::Refusal;
 use network::{LineNo, Message};
 use seat_rule::parts::{messages_of_seats_find_their_parts, parts_of_seats_have_their_shape};
-use serving::Served;
-use serving::laws::{memory_is_wanted_for_the_served, servings_do_one_of_five};
 
 impl Mailbox {
     /// Serves a message of a bank's seat by its part.
@@ -26,7 +26,7 @@ impl Mailbox {
         &mut self,
         machine: &Machine,
         part: &mut SendingBank,
-    ) -> Result<Served, serving::Refusal>
+    ) -> Result<Served, inbox::Refusal>
         requires seat { IsBankMail machine.now self.old }
         requires part { PartOf self.old part.old }
         ensures seat { IsBankMail machine.now self.new × SameMailPlace self.old self.new }

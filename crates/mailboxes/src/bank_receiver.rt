@@ -1,9 +1,9 @@
 //! A bank with the DRAM behind it, as what messages are delivered to.
 use crate::bank_serving::react;
 use crate::sending::SendingBank;
+use inbox::{Answer, Receiver};
 use machine_moves::laws::waiting_banks_stay;
 use network::{Message, Node};
-use serving::{Answer, Receiver};
 
 impl Receiver<Message> for SendingBank {
     ghost use Rattle.mailboxes.specs.BankServing.{sending_bank_has_case, sending_bank_table};

@@ -17,8 +17,8 @@ use crate::outbox::Outbox;
 use crate::sending::SendingBank;
 use crate::steps::Chair;
 use dram_mts::Dram;
+use inbox::Inbox;
 use llc_bank::{Bank, BankConfig};
-use serving::Inbox;
 use std::alloc::{AllocError, Global};
 
 /// A bank's seat: the messages that came in, and the bank and the DRAM behind it with what their seat sends by. All

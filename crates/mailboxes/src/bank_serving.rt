@@ -3,14 +3,14 @@ ghost use Rattle.std.specs.Prelude.{◌≡◌, ℕ, Bool, ◌≤◌, ◌⊎◌, 
 ghost use Rattle.llc_bank.specs.BankTable.{bank_has_case, bank_table};
 ghost use Rattle.dram_mts.specs.Table.{dram_has_case, dram_table};
 ghost use Rattle.network.specs.Sends.{sent_in};
-ghost use Rattle.serving.specs.Serving.{is_quiet, needs};
+ghost use Rattle.inbox.specs.Serving.{is_quiet, needs};
 ghost use Rattle.mailboxes.specs.BankServing.{Reacts, answer_of, finds_places, leaves, places_for, posted};
 ghost use Rattle.mailboxes.specs.BankServing.{sent_for, told};
 
 use crate::outbox::Outbox;
 use crate::sending::SendingBank;
+use inbox::{Answer, Receiver, Refusal};
 use network::{Message, Node, Part, PartError, Reaction};
-use serving::{Answer, Receiver, Refusal};
 
 // Whether a message of the bank or its DRAM leaves the seat.
 fn leaves(to: &Node) -> bool

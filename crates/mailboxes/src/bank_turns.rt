@@ -7,8 +7,8 @@ use crate::bank_seat::BankSeat;
 use crate::machine::Machine;
 use crate::taken::Take;
 use crate::turning::{Turn, Turner, turn_of};
+use inbox::Served;
 use machine_table::Refusal;
-use serving::Served;
 
 impl Turner for BankSeat {
     ghost use Rattle.mailboxes.specs.BankTurns.{BankPuts, BankServes, BankTakes, bank_hand, bank_number, bank_to_put};

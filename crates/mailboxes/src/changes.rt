@@ -1,6 +1,6 @@
 //! A seat changes what it holds by itself, in one exchange: 0 is added to the word that counts completions.
 ghost use Rattle.std.specs.Prelude.{◌≡◌, ◌<◌, false};
-ghost use Rattle.seating.specs.Seated.{with_hold};
+ghost use Rattle.seat_views.specs.Seated.{with_hold};
 ghost use Rattle.seat_rule.specs.declared.views.Hold.{Hold};
 ghost use Rattle.seat_rule.specs.Rule.{Changes, seat_count, slot_count};
 ghost use Rattle.seat_rule.specs.Plays.{Serves, Standing, stood};
@@ -14,13 +14,13 @@ use crate::machine::Machine;
 use crate::sending::{SendingBank, SendingCore};
 use crate::steps::{Aim, Chair, Desk};
 use atomic_table::Play;
+use inbox::{Inbox, Refusal, Served};
 use network::Message;
 use physiological_order::Op;
 use seat_rule::Hold;
 use seat_rule::laws::changes_keep_the_rule;
 use seat_rule::parts::moves_of_seats_are_changes;
-use seating::View;
-use serving::{Inbox, Refusal, Served};
+use seat_views::View;
 use std::marker::{Brand, PhantomData};
 
 struct Stands<C> {

@@ -2,11 +2,11 @@
 use crate::outbox::Outbox;
 use core_pts::Core;
 use dram_mts::Dram;
+use inbox::Inbox;
 use llc_bank::Bank;
 use network::Message;
 use physiological_order::{Op, Record};
 use seat_rule::SetUp;
-use serving::Inbox;
 
 /// What a core's seat leaves: all that it stored.
 #[derive(Drop)]

@@ -16,7 +16,7 @@ use network::Message;
 use physiological_order::Op;
 use seat_rule::Hold;
 use seat_rule::laws::completions_keep_the_rule;
-use seating::View;
+use seat_views::View;
 use std::marker::{Brand, PhantomData};
 
 /// How the machine was set up, the operation that is completed, what it receives and when, and the core afterwards. Each

@@ -13,9 +13,9 @@ use crate::outbox::Outbox;
 use crate::sending::SendingCore;
 use crate::steps::Chair;
 use core_pts::{Core, CoreConfig};
+use inbox::Inbox;
 use physiological_order::{Op, Record};
 use private_cache::Geometry;
-use serving::Inbox;
 use std::alloc::{AllocError, Global};
 
 /// A core's seat: the messages that came in, the core with what its seat sends by, the operations that it was issued,

@@ -7,8 +7,8 @@ ghost use Rattle.mailboxes.specs.CoreServing.{CorePartOf, IsCoreMail, sending_co
 ghost use Rattle.mailboxes.specs.SeatServing.{SeatServes, is_exhausted};
 ghost use Rattle.mailboxes.specs.Seats.{IsCoreSeat};
 ghost use Rattle.mailboxes.specs.Stored.{stored_core};
-ghost use Rattle.serving.specs.Serving.{Serves};
-ghost use Rattle.serving.specs.declared.answer.Refusal.TheVariants.{NoMemory};
+ghost use Rattle.inbox.specs.Serving.{Serves};
+ghost use Rattle.inbox.specs.declared.answer.Refusal.TheVariants.{NoMemory};
 
 use crate::bank_calls::seat_refusal;
 use crate::changes::{change_core_if, may_change};
@@ -16,13 +16,13 @@ use crate::core_seat::CoreSeat;
 use crate::machine::Machine;
 use crate::mailbox::Mailbox;
 use crate::sending::SendingCore;
+use inbox::Served;
+use inbox::laws::{memory_is_wanted_for_the_served, servings_do_one_of_five};
 use machine_moves::laws::waiting_cores_stay;
 use machine_table::Refusal;
 use network::Message;
 use physiological_order::Op;
 use seat_rule::parts::messages_of_seats_find_their_parts;
-use serving::Served;
-use serving::laws::{memory_is_wanted_for_the_served, servings_do_one_of_five};
 
 impl Mailbox {
     /// Serves a message of a core's seat by its part.
@@ -31,7 +31,7 @@ impl Mailbox {
         machine: &Machine,
         part: &mut SendingCore,
         issued: &Vec<Op>,
-    ) -> Result<Served, serving::Refusal>
+    ) -> Result<Served, inbox::Refusal>
         requires seat { IsCoreMail machine.now self.old }
         requires part { CorePartOf self.old part.old issued.now.items }
         ensures seat { IsCoreMail machine.now self.new × SameMailPlace self.old self.new }
@@ -79,7 +79,7 @@ impl CoreSeat {
         }
         match self.mail.serve_core(machine, &mut self.part, &self.issued) {
             Err(refusal) => {
-                self.is_stopped = matches!(refusal, serving::Refusal::Exhausted);
+                self.is_stopped = matches!(refusal, inbox::Refusal::Exhausted);
                 Err(seat_refusal(refusal))
             }
             Ok(served) => Ok(served),

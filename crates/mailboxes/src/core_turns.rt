@@ -7,8 +7,8 @@ use crate::core_seat::CoreSeat;
 use crate::machine::Machine;
 use crate::taken::Take;
 use crate::turning::{Turn, Turner, turn_of};
+use inbox::Served;
 use machine_table::Refusal;
-use serving::Served;
 
 impl Turner for CoreSeat {
     ghost use Rattle.mailboxes.specs.CoreTurns.{CorePuts, CoreServes, CoreTakes, core_hand, core_number, core_to_put};

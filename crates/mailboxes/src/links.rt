@@ -1,6 +1,6 @@
 //! Looks at the slots of one link.
 ghost use Rattle.std.specs.Prelude.{◌≡◌, ℕ, ◌+◌, ◌*◌, ◌/◌, ◌<◌, ◌≤◌, false, [], ◌∷◌, ◌++◌, None, MatchOption};
-ghost use Rattle.seating.specs.Seated.{with_hold};
+ghost use Rattle.seat_views.specs.Seated.{with_hold};
 ghost use Rattle.seat_rule.specs.declared.views.Stage.TheVariants.{Idle, Writing};
 ghost use Rattle.seat_rule.specs.Rule.{slot_count, source};
 ghost use Rattle.seat_rule.specs.Plays.{looking, ones};

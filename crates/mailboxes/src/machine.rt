@@ -7,7 +7,7 @@ use crate::steps::Law;
 use atomic_table::Table;
 use network::Message;
 use seat_rule::{Hold, SetUp};
-use seating::View;
+use seat_views::View;
 use std::alloc::Global;
 
 /// A machine that threads share: the slots of all links, and the word that counts completions.

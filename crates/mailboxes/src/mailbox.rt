@@ -4,8 +4,8 @@ ghost use Rattle.mailboxes.specs.Places.{AllOwn};
 ghost use Rattle.mailboxes.specs.Ties.{BoxTied};
 
 use crate::steps::Chair;
+use inbox::Inbox;
 use network::Message;
-use serving::Inbox;
 
 /// A seat at the table of slots, with its hand and its held list. All messages of these go to the seat's own core, or
 /// to its bank or the DRAM behind that.

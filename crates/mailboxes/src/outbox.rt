@@ -3,13 +3,13 @@ ghost use Rattle.std.specs.Prelude.{◌≡◌, ◌+◌, ◌-◌, ◌<◌, ◌≤
 ghost use Rattle.network.specs.Mail.{AreCounts};
 ghost use Rattle.machine_theorem.specs.Bags.{weigh};
 ghost use Rattle.machine_moves.specs.Ownership.{ownership_in};
-ghost use Rattle.serving.specs.Queues.{values_of};
+ghost use Rattle.inbox.specs.Queues.{values_of};
 ghost use Rattle.mailboxes.specs.Sending.{can_send, can_send_out, has_place, no_outbox, noted, sent_out};
 
 use crate::run_owners::grants_of;
+use inbox::Queue;
 use machine_table::Counts;
 use network::{LineNo, Message};
-use serving::Queue;
 use std::alloc::{AllocError, Global};
 use std::marker::Model;
 
@@ -25,7 +25,7 @@ pub struct Outbox {
 
 impl Model for Outbox {
     ghost use Rattle.network.specs.Mail.{AreCounts};
-    ghost use Rattle.serving.specs.Queues.{values_of};
+    ghost use Rattle.inbox.specs.Queues.{values_of};
     ghost use Rattle.mailboxes.specs.Sending.{OutboxState};
 
     ghost Value = { OutboxState };

@@ -2,7 +2,7 @@
 ghost use Rattle.std.specs.Prelude.{◌≡◌, ℕ, false, Some, slice_get};
 ghost use Rattle.network.specs.declared.message.Message.{Message};
 ghost use Rattle.seat_rule.specs.Rule.{target, node_of};
-ghost use Rattle.serving.specs.Queues.{IsAfter, IsIn, values_of};
+ghost use Rattle.inbox.specs.Queues.{IsAfter, IsIn, values_of};
 ghost use Rattle.mailboxes.specs.Places.{AllLinked, StartsAt, link_to};
 ghost use Rattle.mailboxes.specs.BoxMoves.{IsAt, Stands, Stays, PutAt, Puts, hold};
 
@@ -11,10 +11,10 @@ use crate::links::find_free;
 use crate::machine::Machine;
 use crate::mailbox::Mailbox;
 use crate::steps::send;
+use inbox::Queue;
 use line_arena::Cell;
 use network::Message;
 use seat_rule::parts::seats_stand;
-use serving::Queue;
 
 impl Mailbox {
     /// Puts the oldest message of the outbox whose link has a free slot, into the first one that is found free; false

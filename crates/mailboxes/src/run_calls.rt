@@ -5,13 +5,13 @@ ghost use Rattle.physiological_order.specs.Order.{flat, Legal, Arrangement, of_c
 ghost use Rattle.physiological_order.specs.StaleHits.{RisesByNumber};
 ghost use Rattle.protocol.specs.Issued.{IsIssued};
 ghost use Rattle.machine_moves.specs.Ownership.{coherent};
-ghost use Rattle.closed_runs.specs.ValuesLeft.{ValuesLeft};
+ghost use Rattle.merged_records.specs.ValuesLeft.{ValuesLeft};
 ghost use Rattle.mailboxes.specs.declared.closed_machine.CorePart.{CorePart};
 ghost use Rattle.mailboxes.specs.RunParts.{Parts, state_of};
 
 use crate::run::Run;
-use closed_runs::{find, value_left, values_left};
 use machine_moves::laws::{places_count_records, records_are_in_order};
+use merged_records::{find, value_left, values_left};
 use physiological_order::{Op, Record, WordAddr};
 use std::alloc::{AllocError, Global};
 

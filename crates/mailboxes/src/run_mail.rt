@@ -7,9 +7,9 @@ ghost use Rattle.mailboxes.specs.RunSums.{Left};
 use crate::closed_machine::{BankPart, CorePart};
 use crate::outbox::Outbox;
 use crate::run::Run;
-use closed_runs::{Numbered, find};
+use inbox::Inbox;
+use merged_records::{Numbered, find};
 use network::Message;
-use serving::Inbox;
 
 impl Numbered for CorePart {
     ghost number = { λ p. p.number };

@@ -5,7 +5,7 @@ ghost use Rattle.machine_table.specs.SetUp.{is_good};
 ghost use Rattle.machine_theorem.specs.Bags.{weigh};
 ghost use Rattle.machine_theorem.specs.Coherence.{owner_in};
 ghost use Rattle.machine_moves.specs.Ownership.{owners, ownership_in};
-ghost use Rattle.seating.specs.Seated.{over};
+ghost use Rattle.seat_views.specs.Seated.{over};
 ghost use Rattle.seat_rule.specs.Rule.{bag_of, content, seat_count, slot_count};
 ghost use Rattle.mailboxes.specs.RunParts.{Parts, state_of};
 ghost use Rattle.mailboxes.specs.RunSums.{messages_of};
@@ -13,12 +13,12 @@ ghost use Rattle.mailboxes.specs.RunSums.{messages_of};
 use crate::ends::slots_are_few;
 use crate::outbox::Outbox;
 use crate::run::Run;
-use closed_runs::find;
 use core_pts::Core;
+use inbox::Inbox;
+use merged_records::find;
 use network::{LineNo, Message};
 use private_cache::CopyState;
 use seat_rule::laws::{owners_are_added_up, seats_are_few};
-use serving::Inbox;
 
 impl Run {
     /// How many own a line: the Exclusive copies of it in caches, and the grants and returns of it in flight, with the

@@ -4,8 +4,8 @@ ghost use Rattle.std.specs.Prelude.{◌≡◌, ℕ, ◌+◌, ◌<◌, false, [],
 ghost use mathlib.Core.Option.{none};
 ghost use Rattle.atomic_table.specs.Table.{step, Allows};
 ghost use Rattle.network.specs.declared.message.Message.{Message};
-ghost use Rattle.seating.specs.declared.views.View.{View};
-ghost use Rattle.seating.specs.Seated.{first_view, seat_view, one_more, knows, spent_view, with_hold};
+ghost use Rattle.seat_views.specs.declared.views.View.{View};
+ghost use Rattle.seat_views.specs.Seated.{first_view, seat_view, one_more, knows, spent_view, with_hold};
 ghost use Rattle.seat_rule.specs.declared.views.Hold.{Hold};
 ghost use Rattle.seat_rule.specs.declared.views.Stage.TheVariants.{Idle, Writing, Reading};
 ghost use Rattle.seat_rule.specs.Rule.{Holds, seat_count, slot_count, from_of, to_of, node_of};
@@ -19,7 +19,7 @@ use seat_rule::laws::{
     looks_keep_the_rule, made_and_joined_seats_keep_the_rule, puts_and_takes_keep_the_rule,
 };
 use seat_rule::{Hold, SetUp};
-use seating::View;
+use seat_views::View;
 use std::marker::{Brand, PhantomData};
 
 type Known = View<Hold>;
@@ -47,7 +47,7 @@ impl Play<Option<Message>, Known> for LookOut {
 
 /// How the machine was set up, and the view after a step. Each call picks them.
 pub trait Aim {
-    ghost use Rattle.seating.specs.declared.views.View.{View};
+    ghost use Rattle.seat_views.specs.declared.views.View.{View};
     ghost use Rattle.seat_rule.specs.declared.views.SetUp.{SetUp};
     ghost use Rattle.seat_rule.specs.declared.views.Hold.{Hold};
 

@@ -4,8 +4,8 @@ ghost use Rattle.mailboxes.specs.Turns.{Follows, PutAll, Rests, Turns, is_idle};
 
 use crate::machine::Machine;
 use crate::taken::Take;
+use inbox::Served;
 use machine_table::Refusal;
-use serving::Served;
 
 /// What a turn came to.
 #[derive(Clone, Copy, Debug, PartialEq, Eq)]
@@ -20,7 +20,7 @@ pub struct Turn {
 pub(crate) trait Turner {
     ghost use Rattle.std.specs.Prelude.{Bool, Result, ℕ};
     ghost use Rattle.machine_table.specs.declared.event.Refusal.{Refusal};
-    ghost use Rattle.serving.specs.declared.answer.Served.{Served};
+    ghost use Rattle.inbox.specs.declared.answer.Served.{Served};
     ghost use Rattle.mailboxes.specs.declared.machine.Machine.{Machine};
     ghost use Rattle.mailboxes.specs.declared.taken.Take.{Take};
 

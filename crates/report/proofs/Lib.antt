@@ -1,7 +1,6 @@
-mod OnOk
-mod Rows
-mod Sequential
 mod Refused
-mod SharedRuns
-mod SameBatches
-mod ThreadedRuns
+mod Unread
+mod CoreCounts
+mod InTrace
+mod FewRecords
+mod Pairs

@@ -1,4 +1,7 @@
-pub mod Runs
+pub mod Answers
 pub mod Bytes
 pub mod Litmus
-pub mod Batches
+pub mod Runs
+pub mod Refusals
+pub mod Reports
+pub mod Verdicts

@@ -1,5 +1,5 @@
 -- The report on a litmus text, and why a text has none.
-use Rattle.std.specs.Prelude.{◌≡◌, ◌≢◌, ℕ, ◌<◌, Bool, true, false, List, length, Err, IfSome}
+use Rattle.std.specs.Prelude.{◌≡◌, ◌≢◌, ℕ, ◌<◌, Bool, true, false, List, length, Err}
 use Rattle.std.specs.List.{list_all, AllByRecursion}
 use Rattle.litmus_lexer.specs.declared.errors.Kind.{Kind}
 use Rattle.litmus_lexer.specs.declared.errors.Kind.TheVariants.{NoMemory as LackOfMemory}
@@ -9,25 +9,21 @@ use Rattle.litmus_reader.specs.Grammar.{IsTest}
 use Rattle.litmus_reader.specs.Litmus.{Litmus}
 use Rattle.litmus_reader.specs.ReadingTest.{read_at}
 use Rattle.machine_table.specs.SetUp.{is_good}
-use Rattle.report_parts.specs.SetUp.{config_of, limit_of, policy_of}
+use Rattle.worker_driver.specs.SetUp.{config_of, limit_of, policy_of}
 use Rattle.report_text.specs.Ends.{ends_as}
 use Rattle.report_text.specs.Text.{litmus_text}
-use Rattle.run_ends.specs.declared.ends.End.TheVariants.{AllDone}
-use Rattle.run_ends.specs.declared.ends.RunEnd.{RunEnd}
+use Rattle.programs.specs.declared.ends.End.TheVariants.{AllDone}
+use Rattle.report_text.specs.declared.run_end.RunEnd.{RunEnd}
 use Rattle.run_options.specs.declared.options.LitmusOptions.{LitmusOptions}
 use Rattle.run_results.specs.declared.results.RunError.{RunError}
 use Rattle.run_results.specs.declared.results.RunError.TheVariants.{Read, Write, NoMemory, Litmus as Refused}
 use Rattle.run_results.specs.declared.results.RunError.TheVariants.{Trace, BadConfig}
-use Rattle.sequential_machine.specs.SequentialMachine.{IsOutcome}
-use Rattle.report.specs.Runs.{AreFrom}
+use Rattle.worker_driver.specs.Outcomes.{HasOutcome}
+use Rattle.worker_driver.specs.Runs.{AreFrom}
 
 -- the most turns of a run
 abbrev pub turns : LitmusOptions → ℕ
 turns options = limit_of options.run
-
--- the end state of a run that has one is an outcome of the sequential machine
-abbrev pub HasOutcome : Litmus → RunEnd → Type 0
-HasOutcome test run = IfSome run.state (IsOutcome test)
 
 -- the bytes are the text of a test, and these are its runs on a good machine, as many as the options ask for
 pub record AreRuns (options : LitmusOptions) (bytes : List ℕ) (test : Litmus) (runs : List RunEnd) : Type 0 where

@@ -1,60 +1,95 @@
--- What a run of a litmus test is.
-use Rattle.std.specs.Prelude.{◌≡◌, ℕ, zero, suc, ◌+◌, List, [], ◌∷◌, length, map, replicate, Option, Some, None}
-use Rattle.std.specs.Prelude.{option_map}
-use Rattle.std.specs.FinMap.{empty}
-use Rattle.physiological_order.specs.StaleHits.{stale_count}
-use Rattle.litmus_reader.specs.Litmus.{Litmus}
-use Rattle.litmus_reader.specs.OpeningMemory.{words_opened}
-use Rattle.litmus_reader.specs.ThreadSteps.{Thread, opened, settled}
-use Rattle.litmus_reader.specs.Truth.{end_value}
+-- What a run of a trace is, and the texts that tell it.
+use Rattle.std.specs.Prelude.{◌≡◌, ℕ, zero, suc, ◌+◌, max, Bool, true, false, List, [], ◌∷◌, ◌++◌, length, map, Option}
+use Rattle.std.specs.Prelude.{slice_index_or}
+use Rattle.std.specs.Ordering.{nat_cmp}
+use Rattle.std.specs.FinMap.{FinMap, empty, entries, insert}
 use Rattle.machine_table.specs.declared.config.Config.{Config}
 use Rattle.machine_table.specs.Machine.{Machine}
 use Rattle.machine_theorem.specs.Coherence.{coherent}
-use Rattle.report_parts.specs.Orders.{LeadsTo}
-use Rattle.run_ends.specs.declared.ends.End.{End}
-use Rattle.run_ends.specs.declared.ends.End.TheVariants.{AllDone}
-use Rattle.run_ends.specs.declared.ends.RunEnd.{RunEnd}
-use Rattle.sequential_machine.specs.Performed.{thread_acts}
-use Rattle.worker_driver.specs.declared.policy.Policy.{Policy}
-use Rattle.worker_driver.specs.Batches.{policy_of_run}
+use Rattle.physiological_order.specs.declared.operation.Op.{Op}
+use Rattle.physiological_order.specs.declared.operation.Record.{Record}
+use Rattle.physiological_order.specs.Order.{address, flat, Legal, Arrangement, replay_end}
+use Rattle.physiological_order.specs.StaleHits.{RisesByNumber, stale_count}
+use Rattle.trace_texts.specs.Records.{AreComplete, records_text}
+use Rattle.worker_driver.specs.Orders.{LeadsTo}
+use Rattle.programs.specs.declared.ends.End.{End}
+use Rattle.programs.specs.declared.ends.End.TheVariants.{AllDone, Stalled, TurnsUsed, Exhausted, NoMemory}
+use Rattle.programs.specs.declared.steps.Step.{Step}
+use Rattle.trace_reader.specs.Steps.{lane, ops_of}
+use Rattle.trace_texts.specs.declared.reports.TraceEnd.{TraceEnd}
+use Rattle.trace_texts.specs.Reports.{trace_text}
+use Rattle.programs.specs.Acts.{Acts, first_step, behind_first}
+use Rattle.schedules.specs.declared.policy.Policy.{Policy}
 
--- a thread as the test opens it, and so many of them from this number on
-abbrev pub started : Litmus → ℕ → Thread
-started test t = settled t (opened t test.items (replicate 32 0)) test.cells
+-- the steps of a core are its program
+abbrev pub step_acts : Acts (List Step)
+step_acts = record { next = first_step; done = behind_first }
 
-abbrev pub threads_from : Litmus → ℕ → ℕ → List Thread
-threads_from test t zero = []
-threads_from test t (suc n) = started test t ∷ threads_from test (t + 1) n
+-- a machine has a core for each of the trace, and one if no line has a step
+abbrev pub core_count : List (List Step) → ℕ
+core_count lanes = max 1 (length lanes)
 
--- the values of so many words from this one on, where they stand
-abbrev pub values_from : Machine → ℕ → ℕ → List ℕ
-values_from m word zero = []
-values_from m word (suc n) = coherent m word ∷ values_from m (word + 1) n
+-- the programs of the cores below a number
+abbrev pub programs_below : List (List Step) → ℕ → List (List Step)
+programs_below lanes zero = []
+programs_below lanes (suc core) = programs_below lanes core ++ lane lanes core ∷ []
 
--- what the condition's names have at the end, where all threads are done
-abbrev pub state_at : Litmus → End → List Thread → Machine → Option (List ℕ)
-state_at test AllDone threads m = Some (map (end_value threads (values_from m 0 (length test.locations))) test.seen)
-state_at test end threads m = None
+-- the operations of each core of a trace; a core that it hasn't has none
+abbrev pub issued_in : List (List Step) → ℕ → List Op
+issued_in lanes core = slice_index_or (map ops_of lanes) core []
 
--- what is told of a run that came to this machine and these threads
-pub record Tells (test : Litmus) (m : Machine) (threads : List Thread) (run : RunEnd) : Type 0 where
-  pub state : run.state ≡ state_at test run.end threads m
-  pub completed : run.completed ≡ length m.records
-  pub stale : run.stale ≡ stale_count m.records
-  pub counts : run.counts ≡ m.mail.counts
+-- A run of a trace over a memory of zeros, by a policy or by threads. Its records are a legal history of what the cores
+-- were issued, and so of the operations of the trace. They stand by rising number, and are such as a text of records
+-- can tell. The words have the values that the records leave, one after the other in the order of their times.
+pub record IsRun (policy : Option Policy) (limit : ℕ) (config : Config) (lanes : List (List Step)) (end : End)
+    (machine : Machine) : Type 0 where
+  pub programs : List (List Step)
+  pub led : LeadsTo step_acts policy limit config empty (programs_below lanes (core_count lanes)) machine programs end
+  pub legal : Legal (flat empty) (λ core. slice_index_or machine.issued core []) machine.records
+  pub legal_in_trace : Legal (flat empty) (issued_in lanes) machine.records
+  pub rising : RisesByNumber machine.records
+  pub complete : AreComplete machine.records
+  pub left : (arranged : List Record) → Arrangement machine.records arranged → (word : ℕ) →
+      coherent machine word ≡ replay_end (flat empty) (map (λ r. r.op) arranged) word
 
--- a policy's schedule, or threads, lead from the machine and the threads that the test opens to those of which the run
--- tells, and to its end
-pub record IsRun (test : Litmus) (config : Config) (policy : Option Policy) (limit : ℕ) (run : RunEnd) : Type 0 where
-  pub machine : Machine
-  pub threads : List Thread
-  pub led : LeadsTo thread_acts policy limit config (words_opened test.items empty) (threads_from test 0 test.threads)
-      machine threads run.end
-  pub told : Tells test machine threads run
+-- how many operations the cores below a number were issued
+abbrev pub issued_below : Machine → ℕ → ℕ
+issued_below m zero = 0
+issued_below m (suc core) = issued_below m core + length (slice_index_or m.issued core [])
 
--- runs of a batch from its run i on, where its first run follows this policy; each is by threads if there is none
-abbrev pub AreFrom : Litmus → Config → Option Policy → ℕ → ℕ → List RunEnd → Type 0
-AreFrom test config first limit i [] = Unit {0}
-AreFrom test config first limit i (run ∷ runs) =
-    IsRun test config (option_map (λ policy. policy_of_run policy i) first) limit run
-    × AreFrom test config first limit (i + 1) runs
+-- the words that operations name, beside those that are there: a map, whose entries rise by word
+abbrev pub with_words : FinMap nat_cmp ℕ → List Op → FinMap nat_cmp ℕ
+with_words words [] = words
+with_words words (op ∷ ops) = with_words (insert words (address op) 0) ops
+
+-- the words that the operations of the cores below a number name, done or not
+abbrev pub words_below : List (List Step) → ℕ → FinMap nat_cmp ℕ
+words_below lanes zero = empty
+words_below lanes (suc core) = with_words (words_below lanes core) (ops_of (lane lanes core))
+
+-- the values of words, where they stand
+abbrev pub values_in : Machine → FinMap nat_cmp ℕ → List (ℕ × ℕ)
+values_in m words = map (λ entry. (entry.0, coherent m entry.0)) (entries words)
+
+-- what the report says of a run beside its records and its words
+abbrev pub end_of : List (List Step) → End → Machine → TraceEnd
+end_of lanes end m = record {
+  cores = core_count lanes;
+  issued = issued_below m (core_count lanes);
+  end = end;
+  counts = m.mail.counts;
+  stale = stale_count m.records;
+}
+
+-- the text of the records alone, or the report
+abbrev pub run_text : Bool → List (List Step) → End → Machine → List ℕ
+run_text true lanes end m = records_text m.records
+run_text false lanes end m =
+    trace_text (end_of lanes end m) m.records (values_in m (words_below lanes (core_count lanes)))
+
+abbrev pub is_all_done : End → Bool
+is_all_done AllDone = true
+is_all_done Stalled = false
+is_all_done TurnsUsed = false
+is_all_done Exhausted = false
+is_all_done NoMemory = false

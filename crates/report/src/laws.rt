@@ -1,25 +1,29 @@
-//! What a verdict shows, how many turns a run may have, and that workers don't show in runs. The functions do nothing:
+//! What a verdict shows, how many turns a run may have, and that what is written is accepted. The functions do nothing:
 //! their contracts are the laws.
-ghost use Rattle.std.specs.Prelude.{◌≡◌, ◌≢◌, ◌<◌, ◌≤◌, List, [], length, slice_get, Option, Some, None, true, ℕ};
+ghost use Rattle.std.specs.Prelude.{◌≡◌, ◌<◌, ◌≤◌, Bool, List, [], Some, true, ℕ};
 ghost use Rattle.std.specs.List.{AllByRecursion};
 ghost use Rattle.litmus_parser.specs.declared.syntax.Quantifier.TheVariants.{Exists};
 ghost use Rattle.litmus_reader.specs.Grammar.{IsTest};
 ghost use Rattle.litmus_reader.specs.Litmus.{Litmus};
 ghost use Rattle.litmus_reader.specs.Truth.{holds};
-ghost use Rattle.machine_table.specs.declared.config.Config.{Config};
+ghost use Rattle.physiological_order.specs.declared.verdict.Verdict.TheVariants.{Legal};
+ghost use Rattle.programs.specs.declared.ends.End.TheVariants.{AllDone};
 ghost use Rattle.report_text.specs.Ends.{ended, held};
 ghost use Rattle.report_text.specs.Text.{is_yes};
-ghost use Rattle.run_ends.specs.declared.ends.End.TheVariants.{AllDone, NoMemory};
-ghost use Rattle.run_ends.specs.declared.ends.RunEnd.{RunEnd};
-ghost use Rattle.sequential_machine.specs.SequentialMachine.{State, Steps, initial, value_at};
+ghost use Rattle.report_text.specs.declared.run_end.RunEnd.{RunEnd};
 ghost use Rattle.run_options.specs.declared.options.LitmusOptions.{LitmusOptions};
-ghost use Rattle.worker_driver.specs.declared.policy.Policy.{Policy};
-ghost use Rattle.report.specs.Batches.{AreMade};
-ghost use Rattle.report.specs.Litmus.{HasOutcome, turns};
-ghost use Rattle.report.specs.Runs.{AreFrom, IsRun};
+ghost use Rattle.run_options.specs.declared.options.TraceOptions.{TraceOptions};
+ghost use Rattle.run_results.specs.declared.results.RunError.{RunError};
+ghost use Rattle.run_results.specs.declared.results.RunError.TheVariants.{NoMemory};
+ghost use Rattle.sequential_machine.specs.SequentialMachine.{State, Steps, initial, value_at};
+ghost use Rattle.trace_texts.specs.Verdicts.{check_text};
+ghost use Rattle.worker_driver.specs.Outcomes.{HasOutcome};
+ghost use Rattle.report.specs.Litmus.{turns};
+ghost use Rattle.report.specs.Reports.{IsTraceReport};
+ghost use Rattle.report.specs.Verdicts.{HasNoVerdict, IsCheckReport};
 
-use litmus_reader::ThreadState;
-use worker_driver::laws::one_seed_gives_one_list;
+use physiological_order::laws::one_verdict;
+use trace_reader::laws::one_text_tells_one_list;
 
 /// A yes to `exists` shows a state in which steps of the sequential machine leave no thread an instruction, and in
 /// which the condition's expression is true.
@@ -40,24 +44,19 @@ pub fn turns_are_those_of_the_options()
         4294967295 }
 {}
 
-/// Two batches of the same test, machine, policy and limit have the same run at each place where neither has a run that
-/// ended for want of memory. If no run did, batches of one length are the same list. A run that did has no end state.
-/// So the number of workers shows only in which runs found memory.
-pub fn workers_show_in_no_run()
-    ensures runs { (test : Litmus) (config : Config) (first : Policy) (limit : ℕ)
-        (runs others : List RunEnd) (place : ℕ) (run other : RunEnd) →
-        AreFrom test config (Some first) limit 0 runs →
-        AreFrom test config (Some first) limit 0 others →
-        slice_get runs place ≡ Some run → slice_get others place ≡ Some other →
-        run.end ≢ NoMemory → other.end ≢ NoMemory → run ≡ other }
-    ensures lists { (test : Litmus) (config : Config) (first : Policy) (limit : ℕ)
-        (runs others : List RunEnd) →
-        AreFrom test config (Some first) limit 0 runs →
-        AreFrom test config (Some first) limit 0 others →
-        length runs ≡ length others → AreMade runs → AreMade others → runs ≡ others }
-    ensures refused { (test : Litmus) (config : Config) (policy : Option Policy) (limit : ℕ)
-        (run : RunEnd) → IsRun test config policy limit run →
-        run.end ≡ NoMemory → run.state ≡ None }
+/// The text that `run_trace` writes of a trace, if the records are asked for, is one that `run_check` accepts behind
+/// that trace. What it then writes is the line of the verdict Legal, and it answers that all is done. There is no
+/// other cause to write none than want of memory, or a call that failed.
+pub fn written_records_are_legal()
+    ensures legal { (options : TraceOptions) (trace text line : List ℕ) (all_done legal : Bool) →
+        options.records ≡ true → IsTraceReport options (Some trace) all_done text →
+        IsCheckReport (Some trace) (Some text) legal line →
+        (legal ≡ true) × (line ≡ check_text Legal) }
+    ensures accepted { (options : TraceOptions) (trace text : List ℕ)
+        (all_done : Bool) (e : RunError) →
+        options.records ≡ true → IsTraceReport options (Some trace) all_done text →
+        HasNoVerdict (Some trace) (Some text) e → e ≡ NoMemory }
 {
-    one_seed_gives_one_list::<ThreadState<'_>>();
+    one_text_tells_one_list();
+    one_verdict();
 }

@@ -1,22 +1,23 @@
-//! Runs a litmus test from its text to the text of its report.
+//! Goes from a text to the report on it. A litmus test or a trace is run, or records of any origin are checked against a
+//! trace.
 #![tactic(auto)]
 
-mod batches;
+mod checks;
 pub mod laws;
 mod litmus;
 mod one_run;
-mod shared_runs;
+mod outputs;
+mod reports;
 mod sources;
-mod threads;
-mod told;
+mod texts;
+mod trace_programs;
+mod words;
 
-pub use batches::batch;
 pub use byte_streams::{FromRead, Sink, Source, ToWrite};
+pub use checks::run_check;
 pub use litmus::run_litmus;
-pub use one_run::run_once;
 pub use report_text::litmus_text;
-pub use run_ends::{End, RunEnd};
-pub use run_options::{LitmusOptions, MachineOptions, RunOptions, Schedule};
+pub use reports::run_trace;
+pub use run_options::{LitmusOptions, MachineOptions, RunOptions, Schedule, TraceOptions};
 pub use run_results::{Done, RunError, exit_status};
-pub use shared_jobs::{Free, Gate};
-pub use threads::threaded_runs;
+pub use trace_texts::{TraceEnd, records_text, trace_text};

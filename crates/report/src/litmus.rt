@@ -5,27 +5,29 @@ ghost use Rattle.byte_streams.specs.Whole.{TakesAtMost};
 ghost use Rattle.litmus_reader.specs.Grammar.{IsTest};
 ghost use Rattle.litmus_reader.specs.TestViews.{test_of};
 ghost use Rattle.machine_table.specs.SetUp.{is_good};
-ghost use Rattle.report_parts.specs.Answers.{AreCounted, IsCutOff, IsReported};
-ghost use Rattle.report_parts.specs.SetUp.{policy_of};
+ghost use Rattle.report.specs.Answers.{AreCounted, IsCutOff, IsReported};
+ghost use Rattle.worker_driver.specs.SetUp.{policy_of};
 ghost use Rattle.report_text.specs.Ends.{ends_as};
 ghost use Rattle.report.specs.Bytes.{OfBytes};
-ghost use Rattle.report.specs.Litmus.{HasNoReport, HasOutcome, IsLitmusReport, refusal, turns};
-ghost use Rattle.report.specs.Runs.{AreFrom};
+ghost use Rattle.report.specs.Litmus.{HasNoReport, IsLitmusReport, refusal, turns};
+ghost use Rattle.worker_driver.specs.Outcomes.{HasOutcome};
+ghost use Rattle.worker_driver.specs.Runs.{AreFrom};
 
-use crate::batches::batch;
+use crate::outputs::put_out;
 use crate::sources::text_of;
-use crate::threads::threaded_runs;
 use byte_streams::{Sink, Source};
 use interleaving_core::Config;
 use litmus_reader::{Kind, LitmusError, Test, read};
-use report_parts::{config_of, limit_of, policy_of, put_out, workers_of};
-use report_text::litmus_text;
-use run_ends::{End, RunEnd};
+use programs::End;
+use report_text::{RunEnd, litmus_text};
 use run_options::LitmusOptions;
 use run_results::{Done, RunError};
 use shared_jobs::Free;
 use std::alloc::{AllocError, Global};
 use std::thread::Threads;
+use worker_driver::{
+    Policy, config_of, limit_of, policy_of, round_runs, seeded_runs, threaded_runs, workers_of,
+};
 
 /// Reads a litmus test to the end of the source, runs it as the options say, and writes the report of the runs. Each
 /// end state in the report is an outcome of the sequential machine. A source that has more bytes than a litmus text may
@@ -122,7 +124,10 @@ fn runs_of<R: Threads + Sync>(
     let run = &options.run;
     let (count, limit, workers) = (options.runs, limit_of(run), workers_of(run));
     match policy_of(run) {
-        Some(first) => batch(rt, alloc, test, config, first, count, limit, workers, &Free),
+        Some(Policy::Rounds) => round_runs(alloc, test, config, count, limit),
+        Some(Policy::Seed(first)) => {
+            seeded_runs(rt, alloc, test, config, first, count, limit, workers, &Free)
+        }
         None => threaded_runs(rt, alloc, test, config, count, limit, workers, &Free),
     }
 }

@@ -1,79 +1,132 @@
-//! One run of a litmus test by a policy.
-ghost use Rattle.std.specs.Prelude.{◌≡◌, ℕ, true, IfOk, List, OnOk, Some};
-ghost use Rattle.std.specs.FinMap.{empty};
-ghost use Rattle.litmus_reader.specs.Grammar.{IsTest};
-ghost use Rattle.litmus_reader.specs.OpeningMemory.{words_opened};
-ghost use Rattle.litmus_reader.specs.TestViews.{test_of};
-ghost use Rattle.machine_table.specs.Opening.{at_start};
+//! One run of a trace, by a policy or by threads, and its text.
+ghost use Rattle.std.specs.Prelude.{◌≡◌, ◌<◌, ◌≤◌, true, IfOk, None, Some};
+ghost use Rattle.machine_table.specs.Machine.{Machine};
 ghost use Rattle.machine_table.specs.SetUp.{is_good};
-ghost use Rattle.report.specs.Litmus.{HasOutcome};
-ghost use Rattle.report.specs.Runs.{IsRun};
+ghost use Rattle.mailboxes.specs.RunParts.{Parts};
+ghost use Rattle.physiological_order.specs.StaleHits.{RisesByNumber};
+ghost use Rattle.trace_texts.specs.Records.{AreComplete, records_text};
+ghost use Rattle.thread_driver.specs.ThreadRuns.{machine_of};
+ghost use Rattle.report.specs.Reports.{Stands};
+ghost use Rattle.report.specs.Runs.{IsRun, core_count, end_of, run_text};
 
-use crate::threads::start_threads;
-use crate::told::told;
+use crate::trace_programs::programs_of;
+use crate::words::{issued_below, values_of};
 use interleaving_core::{Config, System};
-use litmus_reader::Test;
 use machine_theorem::laws::every_history_is_legal;
-use run_ends::RunEnd;
-use sequential_machine::laws::performed_histories_are_sequential;
+use mailboxes::Run;
+use physiological_order::{Memory, stale_hits};
+use programs::End;
+use schedules::{Policy, run_to_end};
+use shared_jobs::Free;
 use std::alloc::{AllocError, Global};
-use worker_driver::{Policy, run_to_end};
+use std::thread::Threads;
+use thread_driver::laws::closed_machines_are_consistent;
+use thread_driver::run_threads;
+use trace_reader::Trace;
+use trace_texts::{TraceEnd, records_text, trace_text};
+use worker_driver::Finished;
 
-/// A run of the test on a machine with a core for each thread, by this policy, with at most so many turns. The end
-/// state of a run that is all done is an outcome of the sequential machine.
-pub fn run_once(
+/// The machine on which a trace was run, and how the run ended.
+#[derive(Drop)]
+pub(crate) struct Ran<M: Drop> {
+    pub(crate) machine: M,
+    pub(crate) end: End,
+}
+
+/// A run of the trace over a memory of zeros, by this policy, with at most so many turns.
+pub(crate) fn run_by_policy(
     alloc: Global,
-    test: &Test,
+    trace: &Trace,
     config: Config,
     policy: Policy,
     limit: u32,
-) -> Result<RunEnd, AllocError>
+) -> Result<Ran<System>, AllocError>
     requires good { is_good config ≡ true }
-    requires cores { config.cores ≡ (test_of test.now).threads }
-    ensures run { IfOk result (IsRun (test_of test.now) config (Some policy) limit) }
-    ensures outcome { IfOk result (λ run.
-        (text : List ℕ) → IsTest text (test_of test.now) → HasOutcome (test_of test.now) run) }
-{
-    let mut system = open(alloc, test, config)?;
-    run_on(alloc, test, &mut system, policy, limit)
-}
-
-/// A machine that is set up so and opens with the test's memory.
-pub(crate) fn open(alloc: Global, test: &Test, config: Config) -> Result<System, AllocError>
-    requires { is_good config ≡ true }
-    ensures { IfOk result (λ system. system ≡ at_start config
-        (words_opened (test_of test.now).items empty)) }
-{
-    let memory = test.opening()?;
-    let Ok(system) = System::new(alloc, config, memory) else {
-        return Err(AllocError);
-    };
-    Ok(system)
-}
-
-/// A run of the test, as `run_once` makes it, on a machine that has just opened with the test's memory. The machine's
-/// configuration stays.
-pub(crate) fn run_on(
-    alloc: Global,
-    test: &Test,
-    system: &mut System,
-    policy: Policy,
-    limit: u32,
-) -> Result<RunEnd, AllocError>
-    requires good { is_good system.old.config ≡ true }
-    requires cores { system.old.config.cores ≡ (test_of test.now).threads }
-    requires opened { system.old ≡ at_start system.old.config
-        (words_opened (test_of test.now).items empty) }
-    ensures run { IfOk result (IsRun (test_of test.now) system.old.config (Some policy)
-        limit) }
-    ensures outcome { IfOk result (λ run.
-        (text : List ℕ) → IsTest text (test_of test.now) → HasOutcome (test_of test.now) run) }
-    ensures config { OnOk result (system.new.config ≡ system.old.config) }
+    requires cores { config.cores ≡ core_count trace.now }
+    ensures { IfOk result (λ ran. IsRun (Some policy) limit config trace.now ran.end ran.machine) }
 {
     every_history_is_legal();
-    performed_histories_are_sequential();
-    let mut started = start_threads(alloc, test)?;
-    let threads = started.as_mut_slice();
-    let end = run_to_end(alloc, system, threads, policy, limit);
-    told(alloc, test, end, threads, system)
+    // Its contract says how few cores there are.
+    let _few = trace.cores();
+    let Ok(mut system) = System::new(alloc, config, Memory::new(alloc)) else {
+        return Err(AllocError);
+    };
+    let mut programs = programs_of(alloc, trace)?;
+    let end = run_to_end(alloc, &mut system, programs.as_mut_slice(), policy, limit);
+    // Its contract says that they rise by number.
+    let _rising = system.records();
+    Ok(Ran {
+        machine: system,
+        end,
+    })
+}
+
+/// A run of the trace over a memory of zeros, by so many threads, with at most so many turns of each core and bank.
+pub(crate) fn run_by_threads<R: Threads + Sync>(
+    rt: &R,
+    alloc: Global,
+    trace: &Trace,
+    config: Config,
+    limit: u32,
+    workers: u32,
+) -> Result<Ran<Run>, AllocError>
+    requires good { is_good config ≡ true }
+    requires cores { config.cores ≡ core_count trace.now }
+    requires workers { (0 < workers) × (workers ≤ 16) }
+    ensures { IfOk result (λ ran. (parts : Parts ran.machine) ×
+        IsRun None limit config trace.now ran.end (machine_of ran.machine parts)) }
+{
+    closed_machines_are_consistent();
+    // Its contract says how few cores there are.
+    let _few = trace.cores();
+    let memory = Memory::new(alloc);
+    let programs = programs_of(alloc, trace)?;
+    let ran = run_threads(rt, alloc, config, memory, programs, workers, limit, &Free)?;
+    // Its contract says that they rise by number.
+    let _rising = ran.run.records();
+    Ok(Ran {
+        machine: ran.run,
+        end: ran.end,
+    })
+}
+
+// What the report says of a run beside its records and its words.
+fn end_of<M: Finished + Drop>(
+    alloc: Global,
+    trace: &Trace,
+    ran: &Ran<M>,
+) -> Result<TraceEnd, AllocError>
+    requires { (m : Machine) × M.shows ran.now.machine m }
+    ensures { IfOk result (λ end. (m : Machine) → M.shows ran.now.machine m →
+        end ≡ end_of trace.now ran.now.end m) }
+{
+    let stale = stale_hits(alloc, ran.machine.records())?;
+    Ok(TraceEnd {
+        cores: trace.cores(),
+        issued: issued_below(&ran.machine, trace.cores()),
+        end: ran.end,
+        counts: ran.machine.counts(),
+        stale,
+    })
+}
+
+/// The text that tells a run: its report, or its records alone.
+pub(crate) fn text_of<M: Finished + Drop>(
+    alloc: Global,
+    trace: &Trace,
+    ran: &Ran<M>,
+    records: bool,
+) -> Result<Vec<u8>, AllocError>
+    requires shows { (m : Machine) × M.shows ran.now.machine m × AreComplete m.records }
+    ensures text { IfOk result (λ text. (m : Machine) → M.shows ran.now.machine m →
+        text.items ≡ run_text records trace.now ran.now.end m) }
+    ensures stands { IfOk result (λ text. (m : Machine) → M.shows ran.now.machine m →
+        records ≡ true → Stands text.items m.records) }
+{
+    if records {
+        return records_text(alloc, ran.machine.records());
+    }
+    let end = end_of(alloc, trace, ran)?;
+    let values = values_of(alloc, trace, &ran.machine)?;
+    trace_text(alloc, &end, ran.machine.records(), &values)
 }

@@ -1,6 +1,6 @@
 -- Sums over one more run.
 use Rattle.std.proofs.Common.{◌≡◌, ℕ, ◌+◌, List, [], ◌∷◌, ◌++◌, sym, ap, ◌∙◌, arith}
-use Rattle.run_ends.specs.declared.ends.RunEnd.{RunEnd}
+use Rattle.report_text.specs.declared.run_end.RunEnd.{RunEnd}
 use Rattle.report_text.specs.Sums.{capped, plus, summed, sums_of}
 
 summed-next : (amount : RunEnd → ℕ) (runs : List RunEnd) (run : RunEnd) → summed amount (runs ++ run ∷ []) ≡ summed

@@ -3,8 +3,8 @@ use Rattle.std.proofs.Common.{◌≡◌, ℕ, ◌+◌, ◌-◌, ◌^◌, ◌<◌
 use Rattle.std.proofs.Common.{sym, subst, ◌∙◌, arith, cond, count_by, length-take-le}
 use Rattle.std.proofs.lemmas.List.Sums.{count_by-le-length, sum_by-append}
 use Rattle.litmus_reader.specs.Litmus.{Litmus}
-use Rattle.run_ends.specs.declared.ends.End.TheVariants.{AllDone, Stalled, TurnsUsed, Exhausted, NoMemory}
-use Rattle.run_ends.specs.declared.ends.RunEnd.{RunEnd}
+use Rattle.programs.specs.declared.ends.End.TheVariants.{AllDone, Stalled, TurnsUsed, Exhausted, NoMemory}
+use Rattle.report_text.specs.declared.run_end.RunEnd.{RunEnd}
 use Rattle.report_text.specs.declared.ends.Endings.{Endings}
 use Rattle.report_text.specs.Ends.{AreFew, endings_of, ends_as, is_held, with_run}
 

@@ -9,7 +9,7 @@ use Rattle.std.specs.List.{filter_map}
 use Rattle.std.specs.Str.{bytes_eq}
 use Rattle.std.specs.Map.{lookup}
 use Rattle.indexmap.specs.IndexMap.{insert_entry}
-use Rattle.run_ends.specs.declared.ends.RunEnd.{RunEnd}
+use Rattle.report_text.specs.declared.run_end.RunEnd.{RunEnd}
 use Rattle.report_text.specs.Ends.{done_state}
 use Rattle.report_text.specs.States.{State, count_of, counted, done_states, one_more, same_state, tallied, times}
 use Rattle.report_text.specs.States.{without}

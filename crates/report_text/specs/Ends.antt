@@ -3,9 +3,9 @@ use Rattle.std.specs.Prelude.{ℕ, ◌+◌, ◌-◌, ◌^◌, ◌<◌, Bool, tru
 use Rattle.std.specs.Prelude.{count_by}
 use Rattle.litmus_reader.specs.Litmus.{Litmus}
 use Rattle.litmus_reader.specs.Truth.{value_of, holds}
-use Rattle.run_ends.specs.declared.ends.End.{End}
-use Rattle.run_ends.specs.declared.ends.End.TheVariants.{AllDone, Stalled, TurnsUsed, Exhausted, NoMemory}
-use Rattle.run_ends.specs.declared.ends.RunEnd.{RunEnd}
+use Rattle.programs.specs.declared.ends.End.{End}
+use Rattle.programs.specs.declared.ends.End.TheVariants.{AllDone, Stalled, TurnsUsed, Exhausted, NoMemory}
+use Rattle.report_text.specs.declared.run_end.RunEnd.{RunEnd}
 use Rattle.report_text.specs.declared.ends.Endings.{Endings}
 
 abbrev pub same_end : End → End → Bool

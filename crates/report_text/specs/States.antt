@@ -4,7 +4,7 @@ use Rattle.std.specs.Prelude.{ℕ, ◌+◌, Bool, not, if◌then◌else◌, List
 use Rattle.std.specs.Borrow.{Bor}
 use Rattle.std.specs.List.{filter_map}
 use Rattle.std.specs.Str.{bytes_eq}
-use Rattle.run_ends.specs.declared.ends.RunEnd.{RunEnd}
+use Rattle.report_text.specs.declared.run_end.RunEnd.{RunEnd}
 use Rattle.report_text.specs.Ends.{done_state}
 
 -- the values of the condition's names, in their order

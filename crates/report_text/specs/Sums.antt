@@ -1,6 +1,6 @@
 -- Sums over all runs.
 use Rattle.std.specs.Prelude.{ℕ, ◌+◌, ◌-◌, ◌^◌, min, List, [], ◌∷◌}
-use Rattle.run_ends.specs.declared.ends.RunEnd.{RunEnd}
+use Rattle.report_text.specs.declared.run_end.RunEnd.{RunEnd}
 use Rattle.report_text.specs.declared.sums.Sums.{Sums}
 
 abbrev pub summed : (RunEnd → ℕ) → List RunEnd → ℕ

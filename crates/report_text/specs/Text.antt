@@ -4,7 +4,7 @@ use Rattle.std.specs.List.{flat_map}
 use Rattle.litmus_parser.specs.declared.syntax.Quantifier.{Quantifier}
 use Rattle.litmus_parser.specs.declared.syntax.Quantifier.TheVariants.{Exists, NotExists, Forall}
 use Rattle.litmus_reader.specs.Litmus.{Litmus}
-use Rattle.run_ends.specs.declared.ends.RunEnd.{RunEnd}
+use Rattle.report_text.specs.declared.run_end.RunEnd.{RunEnd}
 use Rattle.report_text.specs.declared.ends.Endings.{Endings}
 use Rattle.report_text.specs.declared.sums.Sums.{Sums}
 use Rattle.report_text.specs.Ends.{endings_of}

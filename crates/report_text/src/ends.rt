@@ -4,8 +4,9 @@ ghost use Rattle.std.specs.Prelude.{◌≡◌};
 ghost use Rattle.litmus_reader.specs.TestViews.{test_of};
 ghost use Rattle.report_text.specs.Ends.{AreFew, endings_of, ends_as, is_held, with_run};
 
+use crate::run_end::RunEnd;
 use litmus_reader::Test;
-use run_ends::{End, RunEnd};
+use programs::End;
 
 /// How many runs ended in each way, and how many of those that are all done have an end state in which the condition's
 /// expression holds.

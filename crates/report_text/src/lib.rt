@@ -3,8 +3,10 @@
 
 mod ends;
 mod lines;
+mod run_end;
 mod states;
 mod sums;
 mod text;
 
+pub use run_end::RunEnd;
 pub use text::litmus_text;

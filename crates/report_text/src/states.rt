@@ -5,8 +5,9 @@ ghost use Rattle.std.specs.Prelude.{◌≡◌, ◌<◌, ◌-◌, ◌^◌, OnOk, 
 ghost use Rattle.report_text.specs.Ends.{done_state};
 ghost use Rattle.report_text.specs.States.{counted, count_of, done_states, one_more, tallied};
 
+use crate::run_end::RunEnd;
 use indexmap::IndexMap;
-use run_ends::{End, RunEnd};
+use programs::End;
 use std::alloc::{AllocError, Global};
 
 /// The values of the condition's names, where a run is all done.

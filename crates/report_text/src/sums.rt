@@ -3,8 +3,8 @@
 ghost use Rattle.std.specs.Prelude.{◌≡◌};
 ghost use Rattle.report_text.specs.Sums.{plus, sums_of};
 
+use crate::run_end::RunEnd;
 use machine_table::Counts;
-use run_ends::RunEnd;
 
 /// What the runs did, all together. A sum that would pass 2^128 - 1 stands as 2^128 - 1.
 #[derive(Clone, Copy, Debug)]

@@ -7,12 +7,12 @@ ghost use Rattle.report_text.specs.Text.{ends_text, states_text, is_yes, conditi
 
 use crate::ends::{Endings, endings_of};
 use crate::lines::{put_state, quantifier_text};
+use crate::run_end::RunEnd;
 use crate::states::count_states;
 use crate::sums::{Sums, sums_of};
 use indexmap::IndexMap;
 use litmus_reader::{Quantifier, Test};
 use report_lines::{put_counts, put_field, put_word};
-use run_ends::RunEnd;
 use std::alloc::{AllocError, Global};
 
 /// The test's name and threads, how many runs there are, and how many of them ended in which way.

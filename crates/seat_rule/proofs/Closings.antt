@@ -10,9 +10,9 @@ use Rattle.physiological_order.specs.declared.operation.Record.{Record}
 use Rattle.network.specs.declared.message.Message.{Message}
 use Rattle.machine_table.specs.SetUp.{is_good}
 use Rattle.machine_theorem.specs.Bags.{weigh}
-use Rattle.seating.specs.declared.views.View.{View}
-use Rattle.seating.specs.Seated.{over}
-use Rattle.seating.proofs.Lemmas.{over_same}
+use Rattle.seat_views.specs.declared.views.View.{View}
+use Rattle.seat_views.specs.Seated.{over}
+use Rattle.seat_views.proofs.Lemmas.{over_same}
 use Rattle.seat_rule.specs.declared.views.SetUp.{SetUp}
 use Rattle.seat_rule.specs.declared.views.Stage.TheVariants.{Idle}
 use Rattle.seat_rule.specs.declared.views.Hold.{Hold}

@@ -19,10 +19,10 @@ use Rattle.core_pts.specs.CoreTable.{CoreState}
 use Rattle.protocol.specs.Issued.{listed}
 use Rattle.machine_table.specs.SetUp.{is_good}
 use Rattle.machine_table.specs.Change.{record_of}
-use Rattle.seating.specs.declared.views.View.{View}
-use Rattle.seating.specs.Seated.{over, put, Shown, seat_view, with_hold, one_more, spent_view, knows}
-use Rattle.seating.proofs.Lemmas.{put_here, at_put}
-use Rattle.seating.proofs.Lemmas.{within, shown_split, shown_join}
+use Rattle.seat_views.specs.declared.views.View.{View}
+use Rattle.seat_views.specs.Seated.{over, put, Shown, seat_view, with_hold, one_more, spent_view, knows}
+use Rattle.seat_views.proofs.Lemmas.{put_here, at_put}
+use Rattle.seat_views.proofs.Lemmas.{within, shown_split, shown_join}
 use Rattle.seat_rule.specs.declared.views.SetUp.{SetUp}
 use Rattle.seat_rule.specs.declared.views.Hold.{Hold}
 use Rattle.seat_rule.specs.StateLaws.{StateLaws}

@@ -7,8 +7,8 @@ use Rattle.network.specs.declared.message.Body.TheVariants.{DramSt, DramStRep}
 use Rattle.network.specs.declared.message.Message.{Message}
 use Rattle.network.specs.declared.counts.Counts.{Counts}
 use Rattle.network.specs.Mail.{counted}
-use Rattle.seating.specs.Seated.{over, put}
-use Rattle.seating.proofs.Lemmas.{put_here, put_else, at_put, over_put}
+use Rattle.seat_views.specs.Seated.{over, put}
+use Rattle.seat_views.proofs.Lemmas.{put_here, put_else, at_put, over_put}
 use Rattle.seat_rule.specs.declared.views.Hold.{Hold}
 use Rattle.seat_rule.specs.Rule.{counts_of}
 use Rattle.seat_rule.specs.Serving.{counted_if}

@@ -9,10 +9,10 @@ use Rattle.physiological_order.specs.Order.{of_core}
 use Rattle.network.specs.declared.message.Message.{Message}
 use Rattle.machine_theorem.specs.Bags.{weigh, SameBag}
 use Rattle.machine_moves.specs.Moves.{same}
-use Rattle.seating.specs.declared.views.View.{View}
-use Rattle.seating.specs.Seated.{over, put, with_hold}
-use Rattle.seating.proofs.Lemmas.{at_put, over_put, over_put_by, put_here}
-use Rattle.seating.proofs.Lemmas.{within, shown_set}
+use Rattle.seat_views.specs.declared.views.View.{View}
+use Rattle.seat_views.specs.Seated.{over, put, with_hold}
+use Rattle.seat_views.proofs.Lemmas.{at_put, over_put, over_put_by, put_here}
+use Rattle.seat_views.proofs.Lemmas.{within, shown_set}
 use Rattle.seat_rule.specs.declared.views.SetUp.{SetUp}
 use Rattle.seat_rule.specs.declared.views.Stage.{Stage}
 use Rattle.seat_rule.specs.declared.views.Hold.{Hold}

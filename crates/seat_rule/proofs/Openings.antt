@@ -11,8 +11,8 @@ use Rattle.network.specs.declared.message.Message.{Message}
 use Rattle.llc_bank.specs.BankTable.{empty_bank}
 use Rattle.machine_table.specs.Opening.{bank_config, dram_of}
 use Rattle.machine_moves.specs.Moves.{same}
-use Rattle.seating.specs.declared.views.View.{View}
-use Rattle.seating.specs.Seated.{over, Shown, first_view}
+use Rattle.seat_views.specs.declared.views.View.{View}
+use Rattle.seat_views.specs.Seated.{over, Shown, first_view}
 use Rattle.seat_rule.specs.declared.views.SetUp.{SetUp}
 use Rattle.seat_rule.specs.declared.views.Hold.{Hold}
 use Rattle.seat_rule.specs.StateLaws.{StateLaws}

@@ -4,7 +4,7 @@ use Rattle.physiological_order.specs.declared.operation.Record.{Record}
 use Rattle.private_cache.specs.CopyTable.{copy_of}
 use Rattle.machine_theorem.specs.Coherence.{owner_in}
 use Rattle.machine_moves.specs.Ownership.{owners, ownership_in, sum_first}
-use Rattle.seating.specs.Seated.{over}
+use Rattle.seat_views.specs.Seated.{over}
 use Rattle.seat_rule.specs.declared.views.SetUp.{SetUp}
 use Rattle.seat_rule.specs.declared.views.Hold.{Hold}
 use Rattle.seat_rule.specs.Rule.{Phase, bag_of, content, in_flight, seat_count, slot_count, state_of}

@@ -2,8 +2,8 @@
 use Rattle.std.proofs.Common.{◌≡◌, ◌≢◌, ℕ, sym, refl, ap, ◌∙◌, subst}
 use lib.ListN.{get_elem?}
 use Rattle.network.specs.declared.message.Message.{Message}
-use Rattle.seating.specs.Seated.{put}
-use Rattle.seating.proofs.Lemmas.{put_else, at_put}
+use Rattle.seat_views.specs.Seated.{put}
+use Rattle.seat_views.proofs.Lemmas.{put_else, at_put}
 use Rattle.seat_rule.specs.declared.views.Stage.{Stage}
 use Rattle.seat_rule.specs.declared.views.Stage.TheVariants.{Idle, Writing, Reading}
 use Rattle.seat_rule.specs.declared.views.Hold.{Hold}

@@ -17,8 +17,8 @@ use Rattle.machine_moves.specs.States as moves
 use Rattle.machine_moves.specs.States.{with_at, Same}
 use Rattle.machine_moves.specs.Moves as move
 use Rattle.machine_moves.specs.Moves.{Move, Reached, goes_on, same, answered, with_core, with_bank, with_dram, sent_by}
-use Rattle.seating.specs.Seated.{put}
-use Rattle.seating.proofs.Lemmas.{put_here, put_else, at_put}
+use Rattle.seat_views.specs.Seated.{put}
+use Rattle.seat_views.proofs.Lemmas.{put_here, put_else, at_put}
 use Rattle.seat_rule.specs.declared.views.SetUp.{SetUp}
 use Rattle.seat_rule.specs.declared.views.Hold.{Hold}
 use Rattle.seat_rule.specs.Rule.{bag_of, counts_of, state_of, Reaches, Changes}

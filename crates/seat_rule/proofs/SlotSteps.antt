@@ -10,10 +10,10 @@ use Rattle.atomic_table.specs.Table.{rest}
 use Rattle.atomic_table.proofs.Lists.{set_here, set_else}
 use Rattle.network.specs.declared.message.Message.{Message}
 use Rattle.machine_theorem.specs.Bags.{weigh}
-use Rattle.seating.specs.declared.views.View.{View}
-use Rattle.seating.specs.Seated.{put, with_hold}
-use Rattle.seating.proofs.Lemmas.{put_here, at_put}
-use Rattle.seating.proofs.Lemmas.{within}
+use Rattle.seat_views.specs.declared.views.View.{View}
+use Rattle.seat_views.specs.Seated.{put, with_hold}
+use Rattle.seat_views.proofs.Lemmas.{put_here, at_put}
+use Rattle.seat_views.proofs.Lemmas.{within}
 use Rattle.seat_rule.specs.declared.views.SetUp.{SetUp}
 use Rattle.seat_rule.specs.declared.views.Stage.{Stage}
 use Rattle.seat_rule.specs.declared.views.Stage.TheVariants.{Idle, Writing, Reading}

@@ -3,8 +3,8 @@ use Rattle.std.proofs.Common.{◌≡◌, ℕ, zero, suc, ◌+◌, List, [], ◌�
 use Rattle.std.specs.Prelude.{slice_get}
 use Rattle.network.specs.declared.message.Message.{Message}
 use Rattle.machine_theorem.specs.Bags.{weigh, SameBag}
-use Rattle.seating.specs.Seated.{over}
-use Rattle.seating.proofs.Lemmas.{some_is}
+use Rattle.seat_views.specs.Seated.{over}
+use Rattle.seat_views.proofs.Lemmas.{some_is}
 use Rattle.seat_rule.specs.Rule.{gather, weigh_links}
 
 pub weigh-append : (f : Message → ℕ) (xs ys : List Message) → weigh f (xs ++ ys) ≡ weigh f xs + weigh f ys

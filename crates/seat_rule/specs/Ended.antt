@@ -11,7 +11,7 @@ use Rattle.machine_theorem.specs.Bags.{weigh}
 use Rattle.machine_theorem.specs.Coherence.{owner_in}
 use Rattle.machine_moves.specs.Consistent.{Consistent}
 use Rattle.machine_moves.specs.Ownership.{ownership_in}
-use Rattle.seating.specs.Seated.{over}
+use Rattle.seat_views.specs.Seated.{over}
 use Rattle.seat_rule.specs.declared.views.SetUp.{SetUp}
 use Rattle.seat_rule.specs.declared.views.Stage.TheVariants.{Idle}
 use Rattle.seat_rule.specs.declared.views.Hold.{Hold}

@@ -10,8 +10,8 @@ use Rattle.network.specs.declared.message.Message.{Message}
 use Rattle.core_pts.specs.CoreTable.{CoreState}
 use Rattle.machine_table.specs.Change.{record_of}
 use Rattle.machine_theorem.specs.Bags.{weigh}
-use Rattle.seating.specs.declared.views.View.{View}
-use Rattle.seating.specs.Seated.{with_hold}
+use Rattle.seat_views.specs.declared.views.View.{View}
+use Rattle.seat_views.specs.Seated.{with_hold}
 use Rattle.seat_rule.specs.declared.views.SetUp.{SetUp}
 use Rattle.seat_rule.specs.declared.views.Stage.{Stage}
 use Rattle.seat_rule.specs.declared.views.Stage.TheVariants.{Idle, Writing, Reading}

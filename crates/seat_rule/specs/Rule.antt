@@ -20,8 +20,8 @@ use Rattle.machine_table.specs.Opening.{core_config, bank_config, geometry, dram
 use Rattle.machine_theorem.specs.Bags.{weigh}
 use Rattle.machine_moves.specs.States as moves
 use Rattle.machine_moves.specs.Moves.{Reached}
-use Rattle.seating.specs.declared.views.View.{View}
-use Rattle.seating.specs.Seated.{over, put, Shown}
+use Rattle.seat_views.specs.declared.views.View.{View}
+use Rattle.seat_views.specs.Seated.{over, put, Shown}
 use Rattle.seat_rule.specs.declared.views.SetUp.{SetUp}
 use Rattle.seat_rule.specs.declared.views.Stage.{Stage}
 use Rattle.seat_rule.specs.declared.views.Stage.TheVariants.{Idle, Writing, Reading}

@@ -3,9 +3,9 @@ use Rattle.std.proofs.Common.{◌≡◌, List, [], ◌∷◌, Option, Some, None
 use Rattle.physiological_order.specs.declared.operation.Op.{Op}
 use Rattle.physiological_order.specs.declared.operation.Record.{Record}
 use Rattle.litmus_reader.specs.ThreadSteps.{Thread, next_of, done_with}
-use Rattle.trace_lines.specs.declared.steps.Step.TheVariants as step
-use Rattle.worker_driver.specs.Acts.{as_step}
-use Rattle.worker_driver.specs.Service.{Performs, rests, advances, does as performs}
+use Rattle.programs.specs.declared.steps.Step.TheVariants as step
+use Rattle.programs.specs.Acts.{as_step}
+use Rattle.programs.specs.Performs.{Performs, rests, advances, does as performs}
 use Rattle.sequential_machine.specs.Performed.{thread_acts}
 
 -- a thread gave these operations, one after the other, and was told what each received

@@ -7,8 +7,8 @@ use Rattle.physiological_order.specs.Order.{of_core, Follows}
 use Rattle.litmus_reader.specs.Litmus.{Litmus}
 use Rattle.litmus_reader.specs.ThreadSteps.{Thread, settled, next_of, done_with}
 use Rattle.sequential_machine.specs.SequentialMachine.{registers_opened}
-use Rattle.worker_driver.specs.Acts.{Acts, as_step}
-use Rattle.worker_driver.specs.Service.{Performs}
+use Rattle.programs.specs.Acts.{Acts, as_step}
+use Rattle.programs.specs.Performs.{Performs}
 
 -- what a thread does, as a program of steps
 abbrev pub thread_acts : Acts Thread

@@ -4,7 +4,7 @@ ghost use Rattle.std.specs.Prelude.{ℕ, IfOk, IfSome};
 use crate::gate::Gate;
 use std::alloc::AllocError;
 
-/// Jobs by number, from 0 on, each with a result. Any thread may run any of them, in whatever order (docs/NUMBERS.md).
+/// Jobs by number, from 0 on, each with a result. Any thread may run any of them, in whatever order (README.md).
 /// A worker keeps a state from one job to the next.
 pub trait Jobs<X, S> {
     /// The result that a job of this number may have.

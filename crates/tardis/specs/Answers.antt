@@ -10,7 +10,7 @@ use Rattle.command_line.specs.declared.words.WordsError.TheVariants.{Refused as 
 use Rattle.command_line.specs.declared.words.WordsError.TheVariants.{NoMemory as NoMemoryForWords}
 use Rattle.byte_streams.specs.declared.device.DeviceError.{DeviceError}
 use Rattle.report.specs.Bytes.{OfBytes}
-use Rattle.report_parts.specs.Answers.{AreCounted, IsCutOff, IsReported}
+use Rattle.report.specs.Answers.{AreCounted, IsCutOff, IsReported}
 use Rattle.report.specs.Litmus.{HasNoReport, IsLitmusReport}
 use Rattle.run_options.specs.declared.options.LitmusOptions.{LitmusOptions}
 use Rattle.run_options.specs.declared.options.TraceOptions.{TraceOptions}
@@ -18,10 +18,10 @@ use Rattle.run_results.specs.ErrorLine.{error_line}
 use Rattle.run_results.specs.declared.results.Done.{Done}
 use Rattle.run_results.specs.declared.results.RunError.{RunError}
 use Rattle.run_results.specs.declared.results.RunError.TheVariants.{Read, Write}
-use Rattle.trace_lines.specs.declared.steps.Step.{Step}
-use Rattle.trace_report.specs.Refusals.{IsRead}
-use Rattle.trace_report.specs.Reports.{HasNoReport as HasNoTraceReport, IsTraceReport}
-use Rattle.trace_report.specs.Verdicts.{HasNoVerdict, IsCheckReport, ReadsCounted, WritesCounted}
+use Rattle.programs.specs.declared.steps.Step.{Step}
+use Rattle.report.specs.Refusals.{IsRead}
+use Rattle.report.specs.Reports.{HasNoTraceReport, IsTraceReport}
+use Rattle.report.specs.Verdicts.{HasNoVerdict, IsCheckReport, ReadsCounted, WritesCounted}
 
 -- what went out is a beginning of the text, and all of it if no write failed
 abbrev pub Told : Option (List ℕ) → Option (List ℕ) → ℕ → ℕ → List ℕ → Type 0

@@ -6,12 +6,11 @@ ghost use Rattle.tardis.specs.Answers.{ChecksOn, Does, OnFile, OnFiles, RunsLitm
 use crate::files::Files;
 use byte_streams::{DeviceError, Sink, Source};
 use command_line::Job;
-use report::run_litmus;
+use report::{run_check, run_litmus, run_trace};
 use run_options::{LitmusOptions, TraceOptions};
 use run_results::{Done, RunError};
 use std::alloc::Global;
 use std::thread::Threads;
-use trace_report::{run_check, run_trace};
 
 /// Does a job, for which all files are opened first.
 pub(crate) fn run_job<R: Threads + Sync, F: Files, K: Sink>(

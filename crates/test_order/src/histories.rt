@@ -1,7 +1,8 @@
-//! What no text of crates/event_player/data and no row of examples/verdicts.table can say: memories, replays, counted steps, and
-//! stale hits of a history that no machine makes. The values were worked out by hand.
+//! What no text of crates/play_events/data and no row of examples/verdicts.table can say: memories, replays, counted
+//! steps, and how records that no machine makes are arranged and which are stale hits. The values were worked out by
+//! hand.
 use physiological_order::{
-    Memory, Op, Record, Steps, Verdict, WordAddr, check_counted, replay, rises_by_number,
+    Memory, Op, Record, Steps, Verdict, WordAddr, arrange, check_counted, replay, rises_by_number,
     stale_hits, stale_hits_counted,
 };
 use std::alloc::{AllocError, Global};
@@ -211,6 +212,20 @@ fn counts_add_up(rt: HostRuntime) -> Result<(), Fail> {
     // The store looks and writes, the load looks.
     let is_counted = has_counted(rt.alloc(), &mut steps, &[first, second], 0)?;
     assert!(rt; is_counted && steps.made() == 6);
+    Ok(())
+}
+
+/// Whether records are arranged so.
+fn is_arranged(alloc: Global, records: &[Record], wanted: &[Record]) -> Result<bool, AllocError> {
+    Ok(arrange(alloc, records)?.as_slice() == wanted)
+}
+
+#[test]
+fn equal_times_are_arranged_by_number(rt: HostRuntime) -> Result<(), Fail> {
+    let first = record(2, 0, load(0), Some(0), 3, 1);
+    let second = record(1, 0, load(0), Some(0), 3, 2);
+    let third = record(0, 0, load(0), Some(0), 5, 0);
+    assert!(rt; is_arranged(rt.alloc(), &[third, second, first], &[first, second, third])?);
     Ok(())
 }
 

@@ -1,4 +1,4 @@
-//! Tests of histories beside those that are texts: memories, replays, counted steps and stale hits.
+//! Tests of histories beside those that are texts: memories, replays, counted steps, arrangement and stale hits.
 #![tactic(auto)]
 
 #[cfg(test)]

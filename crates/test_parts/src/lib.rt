@@ -1,5 +1,5 @@
 //! Tests of what only code can say of a machine's parts: orders of many lines, messages by number, endpoints, maps from
-//! numbers, numbers of errors, a memory of many words. The rest is in the texts of crates/event_player/data.
+//! numbers, numbers of errors, a memory of many words. The rest is in the texts of crates/play_events/data.
 #![tactic(auto)]
 
 #[cfg(test)]

@@ -3,13 +3,12 @@
 ghost use Rattle.std.specs.Prelude.{◌<◌, ◌≤◌};
 
 use litmus_reader::read;
-use report::{End, Free, Gate, MachineOptions, RunEnd, batch};
-use report_parts::config_of;
+use run_options::MachineOptions;
 use std::alloc::Global;
 use std::test::Fail;
 use std::thread::Threads;
 use test_gates::Meeting;
-use worker_driver::Policy;
+use worker_driver::{End, Free, Gate, RunEnd, batch, config_of};
 
 const STORE_BUFFERING: &[u8] =
     b"RISCV SB\n{ 0:x5=1; 0:x6=x; 0:x8=y; 1:x5=1; 1:x6=y; 1:x8=x; }\n P0 | P1 ;\n sw x5,0(x6) | sw x5,0(x6) ;\n\
@@ -21,7 +20,7 @@ const LIMIT: u32 = 100_000;
 fn runs_by<R: Threads + Sync, G: Gate + Sync>(
     rt: &R,
     alloc: Global,
-    count: u64,
+    count: u32,
     workers: u32,
     gate: &G,
 ) -> Result<Vec<RunEnd>, &'static str>
@@ -33,8 +32,7 @@ fn runs_by<R: Threads + Sync, G: Gate + Sync>(
     let Some(config) = config_of(&MachineOptions::DEFAULT, test.threads() as u32) else {
         return Err("the machine is good");
     };
-    let first = Policy::Seed(0);
-    match batch(rt, alloc, &test, config, first, count, LIMIT, workers, gate) {
+    match batch(rt, alloc, &test, config, 0, count, LIMIT, workers, gate) {
         Ok(runs) => Ok(runs),
         Err(_) => Err("there is memory"),
     }

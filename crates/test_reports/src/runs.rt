@@ -1,8 +1,8 @@
 //! A report on runs that no machine makes: all ways to end, with sums that pass 2^64, and one that would pass 2^128.
 use litmus_reader::{EndState, Test, ThreadState, read};
 use machine_table::Counts;
-use report_text::litmus_text;
-use run_ends::{End, RunEnd};
+use programs::End;
+use report_text::{RunEnd, litmus_text};
 use std::alloc::{AllocError, Global};
 
 const TEXT: &[u8] = b"RISCV L

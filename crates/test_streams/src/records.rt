@@ -1,10 +1,10 @@
 //! Records with places, numbers and times that no run has, as they are read and written.
 use byte_streams::FromRead;
 use physiological_order::{Op, Record, WordAddr};
-use record_text::records_text;
 use std::alloc::Global;
 use std::test::Fail;
 use trace_reader::read_records;
+use trace_texts::records_text;
 
 const LAST: u64 = 18_446_744_073_709_551_615;
 

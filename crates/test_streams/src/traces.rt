@@ -51,6 +51,7 @@ const TRACES: &[(&[u8], Sizes)] = &[
         b"#\n\ntrace 2\n5 A\n2 R 0x0\n5 W 0x0 3\n5 A\n2 A\n",
         Ok((6, 3, 1)),
     ),
+    (b"trace 2\n2 R 0x0\n2 A\n", Ok((3, 2, 1))),
     (b"0 R 0x0\n0 W 0x8 7", Ok((1, 2, 2))),
 ];
 

@@ -3,10 +3,10 @@ ghost use Rattle.mailboxes.specs.RunParts.{Parts};
 
 use crate::checks::{Told, begin_so, is_legal};
 use crate::driver::{Case, Driven, drive_case};
-use crate::programs::{On, USUAL};
+use crate::set_ups::{On, USUAL};
 use machine_table::Config;
 use physiological_order::Record;
-use run_ends::End;
+use programs::End;
 use shared_jobs::Free;
 use std::alloc::Global;
 use std::test::Fail;

@@ -3,10 +3,10 @@ ghost use Rattle.std.specs.Prelude.{◌<◌, ◌≤◌};
 ghost use Rattle.mailboxes.specs.RunParts.{Parts};
 
 use crate::driver::{Case, Driven, drive_case};
-use crate::programs::{On, op};
+use crate::set_ups::{On, op};
 use mailboxes::Run;
 use physiological_order::{Memory, Op, Record, Verdict, check};
-use run_ends::End;
+use programs::End;
 use shared_jobs::{Free, Gate};
 use std::alloc::Global;
 use std::test::Fail;

@@ -3,18 +3,17 @@ ghost use Rattle.std.specs.Prelude.{◌<◌, ◌≤◌, IfOk};
 ghost use Rattle.mailboxes.specs.RunParts.{Parts};
 ghost use Rattle.thread_driver.specs.Shifts.{AreBanksInOrder, AreCoresInOrder, NoneOpen};
 
-use crate::programs::{On, programs, steps_of};
+use crate::set_ups::{On, programs, steps_of};
 use machine_table::Config;
 use mailboxes::{BankSeat, CoreSeat, Machine, Run, open};
 use physiological_order::Memory;
-use run_ends::End;
+use programs::{End, Program, StepProgram};
 use shared_jobs::Gate;
 use std::alloc::{AllocError, Global};
 use std::test::Fail;
 use std::thread::Threads;
 use thread_driver::laws::new_seats_can_be_driven;
 use thread_driver::{Shift, drive_threads};
-use worker_driver::{Program, StepProgram};
 
 /// A machine with a memory of zeros, a program a core, and how many turns each seat may have.
 #[derive(Clone, Copy)]

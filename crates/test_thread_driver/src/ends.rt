@@ -1,9 +1,9 @@
 //! How machines end that workers drive.
 use crate::checks::{Outcome, Told, comes_to};
 use crate::driver::Case;
-use crate::programs::{On, USUAL};
+use crate::set_ups::{On, USUAL};
 use machine_table::Config;
-use run_ends::End;
+use programs::End;
 use std::test::Fail;
 
 /// One core and one bank.

@@ -3,10 +3,10 @@ ghost use Rattle.std.specs.Prelude.{◌<◌, ◌≤◌};
 
 use crate::checks::{Outcome, Told, comes_to};
 use crate::driver::Case;
-use crate::programs::{On, USUAL};
+use crate::set_ups::{On, USUAL};
 use crate::times::{AFTER_EVICTIONS, BEFORE_THE_LAST};
 use machine_table::Config;
-use run_ends::End;
+use programs::End;
 use std::alloc::Global;
 use std::test::Fail;
 use std::thread::Threads;

@@ -16,7 +16,7 @@ mod last_turns;
 #[cfg(test)]
 mod orders;
 #[cfg(test)]
-mod programs;
+mod set_ups;
 #[cfg(test)]
 mod times;
 #[cfg(test)]

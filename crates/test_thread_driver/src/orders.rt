@@ -4,10 +4,10 @@ ghost use Rattle.mailboxes.specs.RunParts.{Parts};
 
 use crate::checks::{Outcome, are_in_order, came_to, is_legal};
 use crate::driver::{Case, Driven, drive_case};
-use crate::programs::{On, USUAL};
+use crate::set_ups::{On, USUAL};
 use crate::turn_counts::{MANY_TURNS, TurnCounts};
 use machine_table::Config;
-use run_ends::End;
+use programs::End;
 use shared_jobs::Free;
 use std::alloc::Global;
 use std::test::Fail;

@@ -2,9 +2,9 @@
 use crate::checks::{Outcome, Told, comes_to};
 use crate::driver::Case;
 use crate::ends::ONE;
-use crate::programs::On;
+use crate::set_ups::On;
 use machine_table::Config;
-use run_ends::End;
+use programs::End;
 use std::test::Fail;
 
 /// The bank has one place: each load but the first waits until the line before it has left, and reads after its lease.

@@ -2,7 +2,7 @@
 ghost use Rattle.std.specs.Prelude.{◌<◌, ◌≤◌};
 
 use crate::driver::{Case, drive_case};
-use crate::programs::{On, USUAL};
+use crate::set_ups::{On, USUAL};
 use crate::turn_counts::MANY_TURNS;
 use mailboxes::Run;
 use physiological_order::WordAddr;

@@ -11,8 +11,9 @@ use Rattle.machine_table.specs.Machine.{operation_of}
 use Rattle.machine_table.specs.Opening.{at_start}
 use Rattle.machine_theorem.specs.Consistency.{IsConsistent}
 use Rattle.protocol.specs.Issued.{listed}
-use Rattle.worker_driver.specs.Acts.{Acts}
-use Rattle.worker_driver.specs.Service.{AreServed, Told}
+use Rattle.programs.specs.Acts.{Acts}
+use Rattle.machine_theorem.specs.Service.{AreServed}
+use Rattle.programs.specs.Performs.{Told}
 use Rattle.mailboxes.specs.declared.machine.Machine.{Machine}
 use Rattle.mailboxes.specs.declared.core_seat.CoreSeat.{CoreSeat}
 use Rattle.mailboxes.specs.declared.run.Run.{Run}

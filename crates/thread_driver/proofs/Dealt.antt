@@ -9,8 +9,8 @@ use Rattle.mailboxes.specs.declared.core_seat.CoreSeat.{CoreSeat}
 use Rattle.mailboxes.specs.declared.bank_seat.BankSeat.{BankSeat}
 use Rattle.mailboxes.specs.Seats.{AllCoreSeats, AllBankSeats}
 use Rattle.thread_driver.specs.declared.shift.Shift.{Shift}
-use Rattle.signals.specs.declared.signals.Signals.{Signals}
-use Rattle.worker_driver.specs.Acts.{Acts}
+use Rattle.stop_flags.specs.declared.signals.Signals.{Signals}
+use Rattle.programs.specs.Acts.{Acts}
 use Rattle.round_robin.specs.Dealing.{HasLengths, IsDealt, hand_of}
 use Rattle.round_robin.proofs.Lemmas.{item_at, item_of, lengths_of, same_lengths}
 use Rattle.thread_driver.specs.declared.worker.Worker.{Worker}

@@ -6,7 +6,7 @@ use Rattle.mailboxes.specs.declared.machine.Machine.{Machine}
 use Rattle.mailboxes.specs.declared.core_seat.CoreSeat.{CoreSeat}
 use Rattle.mailboxes.specs.declared.bank_seat.BankSeat.{BankSeat}
 use Rattle.mailboxes.specs.Seats.{IsCoreSeat, IsBankSeat, AllCoreSeats, AllBankSeats}
-use Rattle.worker_driver.specs.Acts.{Acts}
+use Rattle.programs.specs.Acts.{Acts}
 use Rattle.thread_driver.specs.Playing.{IsAhead, Plays}
 use Rattle.thread_driver.proofs.Lemmas.{plays_none, plays_both}
 use Rattle.thread_driver.specs.Driving.{AreAhead, AreDriven, AreSameBanks}

@@ -12,7 +12,7 @@ use Rattle.seat_rule.specs.declared.views.SetUp.{SetUp}
 use Rattle.seat_rule.specs.declared.views.Hold.{Hold}
 use Rattle.seat_rule.specs.Plays.{Standing}
 use Rattle.seat_rule.specs.Rule.{seat_count}
-use Rattle.serving.specs.declared.answer.Served.{Served}
+use Rattle.inbox.specs.declared.answer.Served.{Served}
 use Rattle.mailboxes.specs.declared.machine.Machine.{Machine}
 use Rattle.mailboxes.specs.declared.core_seat.CoreSeat.{CoreSeat}
 use Rattle.mailboxes.specs.declared.taken.Take.{Take}

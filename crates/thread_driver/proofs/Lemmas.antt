@@ -4,8 +4,8 @@ use Rattle.std.proofs.Common.{List, [], ◌++◌, None, refl, sym, ap, ◌∙◌
 use Rattle.std.proofs.Common.{append-nil, append_assoc}
 use Rattle.physiological_order.specs.declared.operation.Record.{Record}
 use Rattle.mailboxes.specs.declared.core_seat.CoreSeat.{CoreSeat}
-use Rattle.worker_driver.specs.Acts.{Acts}
-use Rattle.worker_driver.specs.Service.{Performs, rests, advances, does}
+use Rattle.programs.specs.Acts.{Acts}
+use Rattle.programs.specs.Performs.{Performs, rests, advances, does}
 use Rattle.thread_driver.specs.Playing.{IsAhead, Plays}
 pub use Rattle.thread_driver.proofs.KeptWork.{IssuedLaw, issued_here}
 pub use Rattle.thread_driver.proofs.Played.{none_ahead}

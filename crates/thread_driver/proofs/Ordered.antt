@@ -6,7 +6,7 @@ use Rattle.mailboxes.specs.declared.machine.Machine.{Machine}
 use Rattle.mailboxes.specs.declared.core_seat.CoreSeat.{CoreSeat}
 use Rattle.mailboxes.specs.declared.bank_seat.BankSeat.{BankSeat}
 use Rattle.mailboxes.specs.Seats.{AllCoreSeats, AllBankSeats, AreAll}
-use Rattle.worker_driver.specs.Acts.{Acts}
+use Rattle.programs.specs.Acts.{Acts}
 use Rattle.thread_driver.proofs.Lemmas.{IssuedLaw, none_ahead}
 use Rattle.thread_driver.specs.Shifts.{AreBanksInOrder, AreCoresInOrder, AreServed, NoneOpen}
 use Rattle.thread_driver.specs.Driving.{AreAhead, AreDriven, AreSameBanks}

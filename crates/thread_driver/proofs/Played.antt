@@ -4,9 +4,9 @@ use Rattle.std.proofs.Common.{append-nil}
 use Rattle.physiological_order.specs.declared.operation.Op.{Op}
 use Rattle.physiological_order.specs.declared.operation.Record.{Record}
 use Rattle.mailboxes.specs.declared.core_seat.CoreSeat.{CoreSeat}
-use Rattle.trace_lines.specs.declared.steps.Step.TheVariants as step
-use Rattle.worker_driver.specs.Acts.{Acts}
-use Rattle.worker_driver.specs.Service.{rests, advances, does}
+use Rattle.programs.specs.declared.steps.Step.TheVariants as step
+use Rattle.programs.specs.Acts.{Acts}
+use Rattle.programs.specs.Performs.{rests, advances, does}
 use Rattle.thread_driver.specs.Playing.{SameWork, OpensWork, EndsWork, IsAhead, Plays}
 
 module _ {P : Type 0} (acts : Acts P) where

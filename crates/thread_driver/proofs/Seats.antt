@@ -5,8 +5,7 @@ use Rattle.std.proofs.lemmas.Option.{slice_get-map}
 use Rattle.physiological_order.specs.declared.operation.Op.{Op}
 use Rattle.physiological_order.specs.Order.{of_core}
 use Rattle.seat_rule.specs.declared.views.Hold.{Hold}
-use Rattle.machine_table.specs.Machine.{operation_of}
-use Rattle.interleaving_core.specs.LookUps.{open_op, open_op_of}
+use Rattle.machine_table.specs.Machine.{operation_of, open_op, open_op_of}
 use Rattle.mailboxes.specs.declared.machine.Machine.{Machine}
 use Rattle.mailboxes.specs.declared.core_seat.CoreSeat.{CoreSeat}
 use Rattle.mailboxes.specs.declared.run.Run.{Run}

@@ -9,7 +9,7 @@ use Rattle.protocol.specs.Issued.{listed}
 use Rattle.mailboxes.specs.declared.machine.Machine.{Machine}
 use Rattle.mailboxes.specs.declared.core_seat.CoreSeat.{CoreSeat}
 use Rattle.mailboxes.specs.Seats.{IsCoreSeat}
-use Rattle.worker_driver.specs.Acts.{Acts}
+use Rattle.programs.specs.Acts.{Acts}
 use Rattle.thread_driver.specs.Playing.{Plays}
 use Rattle.thread_driver.proofs.Lemmas.{IssuedLaw, issued_here}
 use Rattle.thread_driver.specs.Shifts.{IsSeatServed}

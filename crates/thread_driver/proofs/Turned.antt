@@ -9,8 +9,8 @@ use Rattle.machine_table.specs.declared.event.Answer.TheVariants as answer
 use Rattle.machine_table.specs.declared.event.Refusal.{Refusal}
 use Rattle.mailboxes.specs.declared.machine.Machine.{Machine}
 use Rattle.mailboxes.specs.declared.core_seat.CoreSeat.{CoreSeat}
-use Rattle.trace_lines.specs.declared.steps.Step.{Step}
-use Rattle.worker_driver.specs.Acts.{Acts}
+use Rattle.programs.specs.declared.steps.Step.{Step}
+use Rattle.programs.specs.Acts.{Acts}
 use Rattle.thread_driver.specs.Calls.{came_to}
 use Rattle.thread_driver.specs.Turns.{NextDone, StepDone}
 

@@ -2,7 +2,7 @@
 use Rattle.std.specs.Prelude.{◌≡◌, ℕ, List, length, Some, slice_get}
 use Rattle.mailboxes.specs.declared.core_seat.CoreSeat.{CoreSeat}
 use Rattle.mailboxes.specs.declared.bank_seat.BankSeat.{BankSeat}
-use Rattle.worker_driver.specs.Acts.{Acts}
+use Rattle.programs.specs.Acts.{Acts}
 use Rattle.thread_driver.specs.Playing.{IsAhead, Plays}
 
 module _ {P : Type 0} (acts : Acts P) where

@@ -5,9 +5,9 @@ use Rattle.physiological_order.specs.declared.operation.Op.{Op}
 use Rattle.physiological_order.specs.declared.operation.Record.{Record}
 use Rattle.machine_table.specs.declared.event.Refusal.{Refusal}
 use Rattle.mailboxes.specs.declared.core_seat.CoreSeat.{CoreSeat}
-use Rattle.trace_lines.specs.declared.steps.Step.TheVariants as step
-use Rattle.worker_driver.specs.Acts.{Acts}
-use Rattle.worker_driver.specs.Service.{Performs}
+use Rattle.programs.specs.declared.steps.Step.TheVariants as step
+use Rattle.programs.specs.Acts.{Acts}
+use Rattle.programs.specs.Performs.{Performs}
 
 -- the seat keeps its number, its records and its open operation
 pub record SameWork (p q : CoreSeat) : Type 0 where

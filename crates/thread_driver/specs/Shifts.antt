@@ -2,14 +2,14 @@
 use Rattle.std.specs.Prelude.{◌≡◌, ◌≢◌, ℕ, ◌+◌, ◌<◌, ◌≤◌, List, [], ◌∷◌, ◌++◌, length, cond}
 use Rattle.std.specs.Prelude.{Some, None, slice_get}
 use Rattle.physiological_order.specs.declared.operation.Record.{Record}
-use Rattle.run_ends.specs.declared.ends.End.{End}
-use Rattle.run_ends.specs.declared.ends.End.TheVariants as end
+use Rattle.programs.specs.declared.ends.End.{End}
+use Rattle.programs.specs.declared.ends.End.TheVariants as end
 use Rattle.mailboxes.specs.declared.machine.Machine.{Machine}
 use Rattle.mailboxes.specs.declared.core_seat.CoreSeat.{CoreSeat}
 use Rattle.mailboxes.specs.declared.bank_seat.BankSeat.{BankSeat}
 use Rattle.mailboxes.specs.Seats.{IsCoreSeat, IsBankSeat}
-use Rattle.worker_driver.specs.Acts.{Acts}
-use Rattle.worker_driver.specs.Service.{IsServed}
+use Rattle.programs.specs.Acts.{Acts}
+use Rattle.machine_theorem.specs.Service.{IsServed}
 
 -- the seats of all cores of the machine, in order
 pub record AreCoresInOrder (m : Machine) (cores : List CoreSeat) : Type 0 where

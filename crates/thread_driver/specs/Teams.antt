@@ -3,9 +3,9 @@ use Rattle.std.specs.Prelude.{◌≡◌, ℕ, List, length, Some, slice_get}
 use Rattle.mailboxes.specs.declared.machine.Machine.{Machine}
 use Rattle.mailboxes.specs.Seats.{AllCoreSeats, AllBankSeats}
 use Rattle.thread_driver.specs.declared.shift.Shift.{Shift}
-use Rattle.signals.specs.declared.signals.Signals.{Signals}
-use Rattle.signals.specs.Signalers.{IsSignalerOf}
-use Rattle.worker_driver.specs.Acts.{Acts}
+use Rattle.stop_flags.specs.declared.signals.Signals.{Signals}
+use Rattle.stop_flags.specs.Signalers.{IsSignalerOf}
+use Rattle.programs.specs.Acts.{Acts}
 use Rattle.thread_driver.specs.declared.worker.Worker.{Worker}
 use Rattle.thread_driver.specs.Driving.{AreAhead, AreDriven, AreSameBanks}
 

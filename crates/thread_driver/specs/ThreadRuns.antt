@@ -1,14 +1,13 @@
 -- What a run by threads is: of which machine and programs, to which machine, programs and end.
 use Rattle.std.specs.Prelude.{◌≡◌, ◌≢◌, ◌⊎◌, ℕ, ◌<◌, true, false, List, map, Some, None, slice_get}
-use Rattle.machine_table.specs.Machine.{Machine}
+use Rattle.machine_table.specs.Machine.{Machine, open_op}
 use Rattle.machine_table.specs.Opening.{at_start}
 use Rattle.machine_moves.specs.Moves.{Reached}
 use Rattle.machine_moves.specs.States.{State, numbered}
-use Rattle.interleaving_core.specs.LookUps.{open_op}
-use Rattle.run_ends.specs.declared.ends.End.{End}
-use Rattle.run_ends.specs.declared.ends.End.TheVariants as end
-use Rattle.worker_driver.specs.Acts.{Acts, next_in}
-use Rattle.worker_driver.specs.Service.{AreServed}
+use Rattle.programs.specs.declared.ends.End.{End}
+use Rattle.programs.specs.declared.ends.End.TheVariants as end
+use Rattle.programs.specs.Acts.{Acts, next_in}
+use Rattle.machine_theorem.specs.Service.{AreServed}
 use Rattle.mailboxes.specs.declared.machine.Machine as shared
 use Rattle.mailboxes.specs.declared.core_seat.CoreSeat.{CoreSeat}
 use Rattle.mailboxes.specs.declared.bank_seat.BankSeat.{BankSeat}

@@ -4,17 +4,17 @@ use Rattle.physiological_order.specs.declared.operation.Op.{Op}
 use Rattle.physiological_order.specs.declared.operation.Record.{Record}
 use Rattle.machine_table.specs.declared.event.Refusal.{Refusal}
 use Rattle.machine_table.specs.declared.event.Refusal.TheVariants as refusal
-use Rattle.serving.specs.declared.answer.Served.{Served}
-use Rattle.serving.specs.declared.answer.Served.TheVariants as served
+use Rattle.inbox.specs.declared.answer.Served.{Served}
+use Rattle.inbox.specs.declared.answer.Served.TheVariants as served
 use Rattle.mailboxes.specs.declared.machine.Machine.{Machine}
 use Rattle.mailboxes.specs.declared.core_seat.CoreSeat.{CoreSeat}
 use Rattle.mailboxes.specs.declared.bank_seat.BankSeat.{BankSeat}
 use Rattle.mailboxes.specs.declared.turning.Turn.{Turn}
 use Rattle.mailboxes.specs.BankTurns.{BankTurns}
 use Rattle.mailboxes.specs.CoreTurns.{CoreTurns}
-use Rattle.trace_lines.specs.declared.steps.Step.{Step}
-use Rattle.trace_lines.specs.declared.steps.Step.TheVariants as step
-use Rattle.worker_driver.specs.Acts.{Acts}
+use Rattle.programs.specs.declared.steps.Step.{Step}
+use Rattle.programs.specs.declared.steps.Step.TheVariants as step
+use Rattle.programs.specs.Acts.{Acts}
 use Rattle.thread_driver.specs.declared.told.Told.{Told}
 use Rattle.thread_driver.specs.Calls.{Attempted, CoreAdvanced, CoreIssued, PlaceMade, RoomMade}
 

@@ -1,7 +1,7 @@
 //! A turn of a core's seat, which is given the steps of its program.
 ghost use Rattle.std.specs.Prelude.{◌≡◌, ◌&&◌, is_none, None, Some};
 ghost use Rattle.mailboxes.specs.Seats.{IsCoreSeat};
-ghost use Rattle.trace_lines.specs.declared.steps.Step.TheVariants as step;
+ghost use Rattle.programs.specs.declared.steps.Step.TheVariants as step;
 ghost use Rattle.thread_driver.specs.Playing.{IsAhead, Plays, SameWork};
 ghost use Rattle.thread_driver.specs.Turns.{AfterRefusal, CoreHadTurn, OpIssued, OpenTried, StepDone, TimeAdvanced};
 ghost use Rattle.thread_driver.specs.Turns.{told_of};
@@ -11,8 +11,8 @@ use crate::told::{Told, told_of_turn};
 use machine_table::Refusal;
 use mailboxes::{CoreSeat, Machine, Turn};
 use physiological_order::Op;
-use worker_driver::Step;
-use worker_driver::program::Program;
+use programs::Step;
+use programs::program::Program;
 
 /// A turn of a core's seat. If no operation is open, the program's next step is done: an operation is issued and then
 /// attempted, or the core advances. An open operation is attempted. If there is no place for its line, a copy is

@@ -4,7 +4,7 @@ ghost use Rattle.thread_driver.specs.Shifts.{AreOver, stopped, stopped_banks, st
 
 use crate::core_turns::is_over;
 use mailboxes::{BankSeat, CoreSeat};
-use worker_driver::program::Program;
+use programs::program::Program;
 
 /// How many seats are stopped.
 pub(crate) fn stopped_count(cores: &[CoreSeat], banks: &[BankSeat]) -> usize

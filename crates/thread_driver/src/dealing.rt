@@ -6,8 +6,8 @@ ghost use Rattle.thread_driver.specs.Hands.{banks_in, cores_in, programs_in};
 use crate::shift::Shift;
 use crate::worker::{Hands, Worker};
 use round_robin::{deal, empty_hands, gather};
-use signals::Signaler;
 use std::alloc::{AllocError, Global};
+use stop_flags::Signaler;
 
 /// Hands with room for the seats and programs of a shift.
 pub(crate) fn open_hands<P: Drop>(

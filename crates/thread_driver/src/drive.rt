@@ -1,6 +1,6 @@
 //! Seats that workers drive, and what comes of it.
 ghost use Rattle.std.specs.Prelude.{◌≡◌, ◌≢◌, ◌⊎◌, ◌<◌, ◌≤◌, ◌^◌, true, OnErr, length};
-ghost use Rattle.run_ends.specs.declared.ends.End.TheVariants as end;
+ghost use Rattle.programs.specs.declared.ends.End.TheVariants as end;
 ghost use Rattle.mailboxes.specs.Seats.{AllBankSeats, AllCoreSeats, AreAll};
 ghost use Rattle.thread_driver.specs.Shifts.{AreBanksInOrder, AreCoresInOrder, AreOver, AreServed, NoneOpen};
 ghost use Rattle.thread_driver.specs.Shifts.{Ran, Refused, stopped};
@@ -13,14 +13,14 @@ use crate::shift::Shift;
 use crate::work::work;
 use crate::worker::{Rota, Worker};
 use mailboxes::{BankSeat, CoreSeat, Machine};
-use run_ends::End;
+use programs::End;
+use programs::program::Program;
 use seat_rule::parts::records_of_seats_are_counted;
 use shared_jobs::Gate;
-use signals::{Signals, open_signals};
 use std::alloc::{AllocError, Global};
 use std::thread;
 use std::thread::Threads;
-use worker_driver::program::Program;
+use stop_flags::{Signals, open_signals};
 
 /// Gives the seats of a machine turns, by 1 to 16 workers: the calling thread, and others that end within the call.
 /// Seat i, where cores come before banks, belongs to worker i modulo their number. Each turn is between the calls of

@@ -20,6 +20,5 @@ pub use bank_turns::bank_turn;
 pub use core_turns::{core_turn, is_over};
 pub use drive::drive_threads;
 pub use run::{ThreadRun, run_threads};
-pub use run_ends::End;
 pub use shift::Shift;
 pub use told::Told;

@@ -7,8 +7,8 @@ use crate::bank_turns::bank_turn;
 use crate::core_turns::core_turn;
 use crate::told::Told;
 use mailboxes::{BankSeat, CoreSeat, Machine};
+use programs::program::Program;
 use shared_jobs::Gate;
-use worker_driver::program::Program;
 
 /// What a pass tells before its first turn.
 pub(crate) const QUIET: Told = Told {

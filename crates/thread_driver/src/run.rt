@@ -9,11 +9,11 @@ use crate::shift::Shift;
 use machine_table::Config;
 use mailboxes::{Run, open};
 use physiological_order::Memory;
-use run_ends::End;
+use programs::End;
+use programs::program::Program;
 use shared_jobs::Gate;
 use std::alloc::{AllocError, Global};
 use std::thread::Threads;
-use worker_driver::program::Program;
 
 /// What comes of a run by threads: how it ended, the machine after it was closed, and the programs, in the order of
 /// their cores (docs/SCHEDULES.md).

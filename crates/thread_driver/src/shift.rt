@@ -1,6 +1,6 @@
 //! The seats and programs of a machine, after they were driven.
 use mailboxes::{BankSeat, CoreSeat};
-use run_ends::End;
+use programs::End;
 
 /// What comes of seats that were driven: how it ended, and all seats and programs, in the order in which they were
 /// given (docs/SCHEDULES.md).

@@ -2,9 +2,9 @@
 ghost use Rattle.std.specs.Prelude.{◌≡◌};
 ghost use Rattle.thread_driver.specs.Turns.{has_moved, told_of_turn};
 
+use inbox::Served;
 use machine_table::Refusal;
 use mailboxes::Turn;
-use serving::Served;
 
 /// What came of a turn of a seat.
 #[derive(Clone, Copy, Debug, PartialEq, Eq)]

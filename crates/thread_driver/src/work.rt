@@ -1,7 +1,7 @@
 //! What a worker does: it gives its seats turns until there is nothing left to do.
 ghost use Rattle.std.specs.Prelude.{◌≡◌, length};
 ghost use Rattle.mailboxes.specs.Seats.{AllBankSeats, AllCoreSeats};
-ghost use Rattle.signals.specs.Signalers.{IsSignalerOf};
+ghost use Rattle.stop_flags.specs.Signalers.{IsSignalerOf};
 ghost use Rattle.thread_driver.specs.Driving.{AreAhead};
 ghost use Rattle.thread_driver.specs.Teams.{IsAtWork, Works};
 
@@ -10,10 +10,10 @@ use crate::pass::{bank_pass, both, core_pass, ends_all};
 use crate::told::Told;
 use crate::worker::{Rota, Worker};
 use mailboxes::Machine;
+use programs::program::Program;
 use shared_jobs::Gate;
-use signals::Signals;
 use std::thread;
-use worker_driver::program::Program;
+use stop_flags::Signals;
 
 /// Gives the worker's seats turns, one pass after the other, until all programs are done, its seats had as many turns
 /// as they may have, or some seat wanted memory or stopped.

@@ -1,6 +1,6 @@
 //! A worker, with what it was dealt.
 use mailboxes::{BankSeat, CoreSeat};
-use signals::Signaler;
+use stop_flags::Signaler;
 
 /// A worker: how it tells the others, the seats of its cores with their programs, by index, and the seats of its
 /// banks.

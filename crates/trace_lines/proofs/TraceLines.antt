@@ -12,8 +12,8 @@ use Rattle.trace_lines.specs.declared.steps.Access.{Access}
 use Rattle.trace_lines.specs.declared.steps.Access.TheVariants as access
 use Rattle.trace_lines.specs.declared.steps.Form.{Form}
 use Rattle.trace_lines.specs.declared.steps.Form.TheVariants.{One, Two}
-use Rattle.trace_lines.specs.declared.steps.Step.{Step}
-use Rattle.trace_lines.specs.declared.steps.Step.TheVariants as step
+use Rattle.programs.specs.declared.steps.Step.{Step}
+use Rattle.programs.specs.declared.steps.Step.TheVariants as step
 use Rattle.trace_lines.specs.Spelling.{core_count}
 use Rattle.text_lines.specs.Reading.{◌>>=◌}
 use Rattle.trace_lines.specs.Reading.{decimal_in, address_in, access_in, ended, core_at, operation_at}

@@ -6,7 +6,7 @@ use Rattle.trace_lines.specs.declared.errors.Kind.TheVariants.{BadCore, BadOpera
 use Rattle.trace_lines.specs.declared.errors.Kind.TheVariants.{ExtraWords, BadForm}
 use Rattle.trace_lines.specs.declared.steps.Form.{Form}
 use Rattle.trace_lines.specs.declared.steps.Form.TheVariants.{One, Two}
-use Rattle.trace_lines.specs.declared.steps.Step.{Step}
+use Rattle.programs.specs.declared.steps.Step.{Step}
 use Rattle.trace_lines.specs.Grammar.{IsNumber, IsCore, IsValue, IsAddress, IsStep, IsCompletion}
 use Rattle.trace_lines.specs.Spelling.{core_count}
 

@@ -5,8 +5,8 @@ use Rattle.physiological_order.specs.declared.operation.Op.TheVariants.{Load, St
 use Rattle.physiological_order.specs.declared.operation.Record.{Record}
 use Rattle.trace_lines.specs.declared.steps.Form.{Form}
 use Rattle.trace_lines.specs.declared.steps.Form.TheVariants.{One, Two}
-use Rattle.trace_lines.specs.declared.steps.Step.{Step}
-use Rattle.trace_lines.specs.declared.steps.Step.TheVariants as step
+use Rattle.programs.specs.declared.steps.Step.{Step}
+use Rattle.programs.specs.declared.steps.Step.TheVariants as step
 use Rattle.trace_lines.specs.Spelling.{is_digit, is_hex_digit, is_few, decimal_of, hex_of, core_count}
 
 -- a number below a bound, in 1 to so many decimal digits

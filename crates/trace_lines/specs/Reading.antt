@@ -13,8 +13,8 @@ use Rattle.trace_lines.specs.declared.steps.Access.{Access}
 use Rattle.trace_lines.specs.declared.steps.Access.TheVariants as access
 use Rattle.trace_lines.specs.declared.steps.Form.{Form}
 use Rattle.trace_lines.specs.declared.steps.Form.TheVariants.{One, Two}
-use Rattle.trace_lines.specs.declared.steps.Step.{Step}
-use Rattle.trace_lines.specs.declared.steps.Step.TheVariants as step
+use Rattle.programs.specs.declared.steps.Step.{Step}
+use Rattle.programs.specs.declared.steps.Step.TheVariants as step
 use Rattle.trace_lines.specs.Spelling.{is_digit, is_hex_digit, is_few, decimal_of, hex_of, core_count}
 
 -- What is read, and the fields behind it.

@@ -12,6 +12,7 @@ mod words;
 
 pub use errors::{Kind, TraceError};
 pub use forms::form_line;
+pub use programs::Step;
 pub use records::record_line;
-pub use steps::{Form, Step};
+pub use steps::Form;
 pub use traces::trace_line;

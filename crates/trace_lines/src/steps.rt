@@ -1,15 +1,4 @@
-//! What a line of a trace says: the step of a core. And the forms of a trace.
-
-use physiological_order::Op;
-
-/// A step of a core.
-#[derive(Clone, Copy, Debug, PartialEq, Eq)]
-pub enum Step {
-    /// The core issues an operation.
-    Op(Op),
-    /// The core advances by one step of its own.
-    Advance,
-}
+//! The forms of a trace, and what an operation does to its word.
 
 /// The form of a trace, which its first line with fields tells (docs/TEXTS.md).
 #[derive(Clone, Copy, Debug, PartialEq, Eq)]

@@ -3,7 +3,7 @@
 ghost use Rattle.std.specs.Prelude.{◌≡◌, ℕ, [], Ok, Some, None, option_map, MatchOption, IfOk, IfErr};
 ghost use Rattle.trace_lines.specs.Causes.{TraceCause};
 ghost use Rattle.trace_lines.specs.Grammar.{IsTraceLine};
-ghost use Rattle.trace_lines.specs.declared.steps.Step.{Step};
+ghost use Rattle.programs.specs.declared.steps.Step.{Step};
 ghost use Rattle.trace_lines.specs.Fields.{fields_of, parted};
 ghost use Rattle.trace_lines.specs.Reading.{ended, operand_at, op_at, behind_advance, step_at, trace_at};
 ghost use Rattle.trace_lines.specs.Reading.{trace_line_at};
@@ -12,8 +12,9 @@ ghost use Rattle.trace_lines.specs.Spelling.{core_count};
 use crate::errors::Kind;
 use crate::lines::{before_comment, next_field};
 use crate::reads::{address_field, core_field, number_field, operation_field};
-use crate::steps::{Access, Form, Step};
+use crate::steps::{Access, Form};
 use physiological_order::{Op, WordAddr};
+use programs::Step;
 
 /// How many cores a trace may name.
 fn core_count(form: Form) -> u8

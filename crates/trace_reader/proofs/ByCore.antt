@@ -4,8 +4,8 @@ use Rattle.std.proofs.Common.{refl, sym, ap, ◌∙◌, arith, inl, inr}
 use Rattle.std.proofs.lemmas.Bool.{cases_Bool}
 use Rattle.std.proofs.lemmas.List.{ext_get_or}
 use Rattle.physiological_order.specs.declared.operation.Op.{Op}
-use Rattle.trace_lines.specs.declared.steps.Step.{Step}
-use Rattle.trace_lines.specs.declared.steps.Step.TheVariants as step
+use Rattle.programs.specs.declared.steps.Step.{Step}
+use Rattle.programs.specs.declared.steps.Step.TheVariants as step
 use Rattle.trace_reader.specs.Steps.{cores_of, steps_of, lane, IsByCore, ops_of}
 
 -- ---- operations

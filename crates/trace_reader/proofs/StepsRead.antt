@@ -7,7 +7,7 @@ use Rattle.trace_lines.specs.declared.errors.Kind.{Kind}
 use Rattle.trace_lines.specs.declared.errors.Kind.TheVariants.{TooLong}
 use Rattle.trace_lines.specs.declared.errors.TraceError.{TraceError}
 use Rattle.trace_lines.specs.declared.steps.Form.{Form}
-use Rattle.trace_lines.specs.declared.steps.Step.{Step}
+use Rattle.programs.specs.declared.steps.Step.{Step}
 use Rattle.trace_lines.specs.Fields.{fields_of}
 use Rattle.trace_reader.specs.declared.limits.TheConstants.{MOST_BYTES, MOST_LINES}
 use Rattle.trace_reader.specs.Ahead.{Both}

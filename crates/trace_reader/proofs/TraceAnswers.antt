@@ -2,7 +2,7 @@
 use Rattle.std.proofs.Common.{◌≡◌, ℕ, List, Option, Some, None, IfSome, subst, inl, inr}
 use Rattle.std.specs.Prelude.{Result, Ok, Err, IfOk, IfErr}
 use Rattle.trace_lines.specs.declared.errors.TraceError.{TraceError}
-use Rattle.trace_lines.specs.declared.steps.Step.{Step}
+use Rattle.programs.specs.declared.steps.Step.{Step}
 use Rattle.text_lines.specs.Lines.{lines_of}
 use Rattle.trace_reader.specs.Grammar.{IsTrace}
 use Rattle.trace_reader.specs.Causes.{Fault}

@@ -7,7 +7,7 @@ use Rattle.trace_lines.specs.declared.errors.Kind.TheVariants.{TooLong}
 use Rattle.trace_lines.specs.declared.errors.TraceError.{TraceError}
 use Rattle.trace_lines.specs.declared.steps.Form.{Form}
 use Rattle.trace_lines.specs.declared.steps.Form.TheVariants.{One, Two}
-use Rattle.trace_lines.specs.declared.steps.Step.{Step}
+use Rattle.programs.specs.declared.steps.Step.{Step}
 use Rattle.trace_lines.specs.Fields.{fields_of}
 use Rattle.text_lines.specs.Reading.{◌>>=◌}
 use Rattle.trace_lines.specs.Reading.{trace_line_at, record_line_at, form_line_at}

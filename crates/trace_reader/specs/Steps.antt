@@ -1,8 +1,8 @@
 -- Steps in the order of a text, and the same by core.
 use Rattle.std.specs.Prelude.{◌≡◌, ℕ, suc, ◌==◌, max, if◌then◌else◌, List, [], ◌∷◌, length, get_or}
 use Rattle.physiological_order.specs.declared.operation.Op.{Op}
-use Rattle.trace_lines.specs.declared.steps.Step.{Step}
-use Rattle.trace_lines.specs.declared.steps.Step.TheVariants as step
+use Rattle.programs.specs.declared.steps.Step.{Step}
+use Rattle.programs.specs.declared.steps.Step.TheVariants as step
 
 -- the greatest core plus 1; 0 without steps
 abbrev pub cores_of : List (ℕ × Step) → ℕ

@@ -6,7 +6,7 @@ ghost use Rattle.std.specs.List.{filter, range_with_len};
 ghost use Rattle.physiological_order.specs.declared.operation.Record.{Record};
 ghost use Rattle.trace_lines.specs.Fields.{is_blank};
 ghost use Rattle.trace_lines.specs.Spelling.{is_digit, is_hex_digit};
-ghost use Rattle.trace_lines.specs.declared.steps.Step.{Step};
+ghost use Rattle.programs.specs.declared.steps.Step.{Step};
 ghost use Rattle.trace_reader.specs.Grammar.{AreRecords, IsTrace};
 ghost use Rattle.trace_reader.specs.declared.limits.TheConstants as limit;
 

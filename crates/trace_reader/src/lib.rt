@@ -9,6 +9,7 @@ mod record_texts;
 mod trace_texts;
 mod traces;
 
+pub use byte_streams::{FromRead, Source};
 pub use limits::{MOST_BYTES, MOST_LINES};
 pub use record_texts::read_records;
 pub use trace_lines::{Form, Kind, Step, TraceError};

@@ -5,7 +5,7 @@ ghost use Rattle.std.specs.Prelude.{Option, Ok, Err, IfOk, IfErr, IfSome, OnOk};
 ghost use Rattle.byte_streams.specs.Device.{AtEnd};
 ghost use Rattle.trace_lines.specs.declared.errors.Kind.TheVariants.{Read, NoMemory};
 ghost use Rattle.trace_lines.specs.declared.steps.Form.{Form};
-ghost use Rattle.trace_lines.specs.declared.steps.Step.{Step};
+ghost use Rattle.programs.specs.declared.steps.Step.{Step};
 ghost use Rattle.trace_lines.specs.Fields.{fields_of};
 ghost use Rattle.trace_lines.specs.Reading.{form_line_at, trace_line_at};
 ghost use Rattle.trace_reader.specs.Causes.{Fault};

@@ -2,13 +2,13 @@
 
 ghost use Rattle.std.specs.Prelude.{◌≡◌, ◌<◌, ◌≤◌, ◌++◌, ◌∷◌, [], List, ℕ, max, suc, length, get_or, map, IfOk, OnOk, OnErr};
 ghost use Rattle.std.specs.Prelude.{◌==◌, if◌then◌else◌};
-ghost use Rattle.trace_lines.specs.declared.steps.Step.{Step};
+ghost use Rattle.programs.specs.declared.steps.Step.{Step};
 ghost use Rattle.trace_reader.specs.Steps.{lane, ops_of};
 
 use physiological_order::Op;
+use programs::Step;
 use std::alloc::{AllocError, Global};
 use std::marker::Model;
-use trace_lines::Step;
 
 /// The steps of a core, and the operations among them. Contracts see the list of steps.
 #[derive(Drop)]
@@ -19,7 +19,7 @@ struct Lane {
 
 impl Model for Lane {
     ghost use Rattle.std.specs.Prelude.{◌≡◌, List};
-    ghost use Rattle.trace_lines.specs.declared.steps.Step.{Step};
+    ghost use Rattle.programs.specs.declared.steps.Step.{Step};
     ghost use Rattle.trace_reader.specs.Steps.{ops_of};
 
     ghost Value = { List Step };
@@ -94,7 +94,7 @@ pub struct Trace {
 
 impl Model for Trace {
     ghost use Rattle.std.specs.Prelude.{◌≤◌, List, length};
-    ghost use Rattle.trace_lines.specs.declared.steps.Step.{Step};
+    ghost use Rattle.programs.specs.declared.steps.Step.{Step};
 
     ghost Value = { List (List Step) };
 

@@ -1,9 +1,23 @@
--- Which schedule each run of a batch follows.
-use Rattle.std.specs.Prelude.{ℕ, ◌+◌, ◌%◌, ◌^◌}
-use Rattle.worker_driver.specs.declared.policy.Policy.{Policy}
-use Rattle.worker_driver.specs.declared.policy.Policy.TheVariants.{Rounds, Seed}
+-- Runs of a litmus test as jobs by number.
+use Rattle.std.specs.Prelude.{◌≢◌, ℕ, List, Some}
+use Rattle.std.specs.List.{AllByRecursion}
+use Rattle.litmus_reader.specs.Grammar.{IsTest}
+use Rattle.litmus_reader.specs.Litmus.{Litmus}
+use Rattle.machine_table.specs.declared.config.Config.{Config}
+use Rattle.programs.specs.declared.ends.End.TheVariants.{NoMemory}
+use Rattle.report_text.specs.declared.run_end.RunEnd.{RunEnd}
+use Rattle.schedules.specs.Batches.{policy_of_run}
+use Rattle.schedules.specs.declared.policy.Policy.{Policy}
+use Rattle.worker_driver.specs.Outcomes.{HasOutcome}
+use Rattle.worker_driver.specs.Runs.{IsRun}
 
--- run i follows rounds, or the seed behind the first one by i
-abbrev pub policy_of_run : Policy → ℕ → Policy
-policy_of_run Rounds i = Rounds
-policy_of_run (Seed seed) i = Seed ((seed + i) % 2 ^ 64)
+-- what the job of a number gives: the run of this number, where the first run follows this policy; its end state is an
+-- outcome of the sequential machine
+abbrev pub IsJobOf : Litmus → Config → Policy → ℕ → ℕ → RunEnd → Type 0
+IsJobOf test config first limit number run =
+    IsRun test config (Some (policy_of_run first number)) limit run
+    × ((text : List ℕ) → IsTest text test → HasOutcome test run)
+
+-- no run ended for want of memory
+abbrev pub AreMade : List RunEnd → Type 0
+AreMade runs = AllByRecursion (λ run. run.end ≢ NoMemory) runs

@@ -1,13 +1,5 @@
-pub mod Acts
-pub mod Schedules
+pub mod SetUp
+pub mod Orders
 pub mod Runs
-pub mod RoundSchedule
-pub mod RoundViews
-pub mod SeedSchedule
-pub mod SeedViews
-pub mod Policies
+pub mod Outcomes
 pub mod Batches
-pub mod RunEvents
-pub mod Notes
-pub mod Turns
-pub mod Service

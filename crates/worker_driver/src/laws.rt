@@ -1,42 +1,34 @@
-//! Which answers are progress, and that a run has no choice. A function does nothing: its contract is the law.
-ghost use Rattle.std.specs.Prelude.{◌≡◌, ◌≢◌, false, true, ℕ, List};
-ghost use Rattle.physiological_order.specs.declared.operation.Record.{Record};
-ghost use Rattle.machine_table.specs.Machine.{Machine};
-ghost use Rattle.machine_table.specs.declared.event.Event.{Event};
-ghost use Rattle.machine_table.specs.declared.event.Answer.TheVariants as answer;
-ghost use Rattle.machine_table.specs.declared.event.Refusal.{Refusal};
-ghost use Rattle.run_ends.specs.declared.ends.End.{End};
-ghost use Rattle.worker_driver.specs.declared.policy.Policy.{Policy};
-ghost use Rattle.worker_driver.specs.Policies.{EndedBy};
-ghost use Rattle.worker_driver.specs.Runs.{is_progress};
+//! That workers don't show in runs. The function does nothing: its contract is the law.
+ghost use Rattle.std.specs.Prelude.{◌≡◌, ◌≢◌, List, length, slice_get, Option, Some, None, ℕ};
+ghost use Rattle.litmus_reader.specs.Litmus.{Litmus};
+ghost use Rattle.machine_table.specs.declared.config.Config.{Config};
+ghost use Rattle.programs.specs.declared.ends.End.TheVariants.{NoMemory};
+ghost use Rattle.report_text.specs.declared.run_end.RunEnd.{RunEnd};
+ghost use Rattle.schedules.specs.declared.policy.Policy.{Policy};
+ghost use Rattle.worker_driver.specs.Batches.{AreMade};
+ghost use Rattle.worker_driver.specs.Runs.{AreFrom, IsRun};
 
-use crate::program::Program;
-use run_ends::End;
+use litmus_reader::ThreadState;
+use schedules::laws::one_seed_gives_one_list;
 
-/// A round goes on if one of its answers is none of Waiting, Held and the refusals.
-pub fn progress_is_all_but_waiting()
-    ensures issued { is_progress answer.Issued ≡ true }
-    ensures completed { (done : Record) → is_progress (answer.Completed done) ≡ true }
-    ensures requested { is_progress answer.Requested ≡ true }
-    ensures idle { is_progress answer.Idle ≡ true }
-    ensures delivered { is_progress answer.Delivered ≡ true }
-    ensures dropped { is_progress answer.Dropped ≡ true }
-    ensures started { is_progress answer.Started ≡ true }
-    ensures evicted { is_progress answer.Evicted ≡ true }
-    ensures recalled { is_progress answer.Recalled ≡ true }
-    ensures advanced { is_progress answer.Advanced ≡ true }
-    ensures waiting { is_progress answer.Waiting ≡ false }
-    ensures held { is_progress answer.Held ≡ false }
-    ensures refused { (why : Refusal) → is_progress (answer.Refused why) ≡ false }
-{}
-
-/// Of two runs of one policy and limit, from one machine and the same programs, that end otherwise than for want of
-/// memory, the events are the same, and so are the machine, the programs and the end. So one seed gives one list.
-pub fn one_seed_gives_one_list<P: Program>()
-    ensures { (policy : Policy) (limit : ℕ) (start : Machine) (opening : List P)
-        (events more : List Event) (m n : Machine) (programs others : List P) (end last : End) →
-        EndedBy P.acts policy limit start opening events m programs end →
-        EndedBy P.acts policy limit start opening more n others last →
-        end ≢ End.NoMemory → last ≢ End.NoMemory →
-        (events ≡ more) × (m ≡ n) × (programs ≡ others) × (end ≡ last) }
-{}
+/// Two batches of the same test, machine, policy and limit have the same run at each place where neither has a run that
+/// ended for want of memory. If no run did, batches of one length are the same list. A run that did has no end state.
+/// So the number of workers shows only in which runs found memory.
+pub fn workers_show_in_no_run()
+    ensures runs { (test : Litmus) (config : Config) (first : Policy) (limit : ℕ)
+        (runs others : List RunEnd) (place : ℕ) (run other : RunEnd) →
+        AreFrom test config (Some first) limit 0 runs →
+        AreFrom test config (Some first) limit 0 others →
+        slice_get runs place ≡ Some run → slice_get others place ≡ Some other →
+        run.end ≢ NoMemory → other.end ≢ NoMemory → run ≡ other }
+    ensures lists { (test : Litmus) (config : Config) (first : Policy) (limit : ℕ)
+        (runs others : List RunEnd) →
+        AreFrom test config (Some first) limit 0 runs →
+        AreFrom test config (Some first) limit 0 others →
+        length runs ≡ length others → AreMade runs → AreMade others → runs ≡ others }
+    ensures refused { (test : Litmus) (config : Config) (policy : Option Policy) (limit : ℕ)
+        (run : RunEnd) → IsRun test config policy limit run →
+        run.end ≡ NoMemory → run.state ≡ None }
+{
+    one_seed_gives_one_list::<ThreadState<'_>>();
+}

@@ -1,29 +1,23 @@
-//! Drives a machine by a schedule: programs give its cores their steps, and each event that the machine is given is the
-//! one that the schedule has next. docs/SCHEDULES.md has the schedules.
+//! Runs a litmus test on the machine that options ask for, by rounds, by seeds or by threads. It gives out the names of all
+//! drivers.
 #![tactic(auto)]
 
-mod driven;
+mod batches;
+mod finished;
 pub mod laws;
-mod lists;
-mod log;
-mod look_ups;
-pub mod policies;
-mod policy;
-pub mod program;
-mod round;
-pub mod rounds;
-mod run;
-mod schedule;
-mod seed;
-pub mod seeds;
-mod turn;
+mod one_run;
+mod set_up;
+mod shared_runs;
+mod threads;
+mod told;
 
-pub use driven::Driven;
-pub use lists::{OpProgram, StepProgram};
-pub use policies::run_to_end;
-pub use policy::Policy;
-pub use program::Program;
-pub use rounds::drive_round;
-pub use run_ends::{End, RunEnd};
-pub use seeds::drive_seed;
-pub use trace_lines::Step;
+pub use batches::{batch, round_runs, seeded_runs};
+pub use finished::Finished;
+pub use one_run::run_once;
+pub use programs::{End, OpProgram, Program, Step, StepProgram};
+pub use report_text::RunEnd;
+pub use schedules::{Driven, Policy, drive_round, drive_seed, run_to_end};
+pub use set_up::{config_of, limit_of, policy_of, workers_of};
+pub use shared_jobs::{Free, Gate};
+pub use thread_driver::{Shift, ThreadRun, drive_threads, run_threads};
+pub use threads::threaded_runs;

@@ -1,6 +1,6 @@
 use Rattle.std.proofs.Common.{◌<◌, [], ◌∷◌, List, length, slice_set, append_assoc, sym, ap, subst, ◌∙◌}
 use Rattle.std.specs.Prelude.{slice_get}
-use Rattle.seating.specs.Seated.{knows}
+use Rattle.seat_views.specs.Seated.{knows}
 use Rattle.drawn_numbers.specs.declared.drawer.Drawer.{Drawer}
 use Rattle.drawn_numbers.specs.Ties.{Chair}
 use Rattle.drawn_numbers.specs.Dealt.{entry, entries, knows_all}

@@ -1,6 +1,6 @@
 use Rattle.std.proofs.Common.{◌≡◌, ℕ, ◌+◌, ◌≤◌, ◌++◌, [], ◌∷◌, List, length, length-append, sym, ap, subst}
 use Rattle.std.proofs.Common.{arith, ◌∙◌}
-use Rattle.seating.specs.Seated.{one_more}
+use Rattle.seat_views.specs.Seated.{one_more}
 use Rattle.drawn_numbers.specs.declared.drawer.Drawer.{Drawer}
 use Rattle.drawn_numbers.specs.Drawers.{IsNewDrawer}
 use Rattle.drawn_numbers.proofs.DrawerLists.{new_drawer, more_drawers}

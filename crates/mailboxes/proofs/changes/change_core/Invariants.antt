@@ -1,4 +1,4 @@
-use Rattle.seating.specs.Seated.{with_hold}
+use Rattle.seat_views.specs.Seated.{with_hold}
 use Rattle.mailboxes.specs.Stored.{stored_core}
 use Rattle.mailboxes.proofs.changes.change_core.Given as goal
 

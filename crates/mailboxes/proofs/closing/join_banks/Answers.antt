@@ -1,6 +1,6 @@
 use Rattle.std.proofs.Common.{◌++◌, [], ◌∷◌, List, length, append_assoc, ap, ◌∙◌}
 use Rattle.std.specs.Prelude.{slice_get}
-use Rattle.seating.specs.Seated.{knows}
+use Rattle.seat_views.specs.Seated.{knows}
 use Rattle.mailboxes.specs.declared.bank_seat.BankSeat.{BankSeat}
 use Rattle.mailboxes.specs.Ties.{Chair}
 use Rattle.mailboxes.specs.Remains.{backwards, bank_part, bank_entry, knows_all}

@@ -1,6 +1,6 @@
 use Rattle.std.proofs.Common.{◌≡◌, []}
 use Rattle.seat_rule.specs.declared.views.Stage.TheVariants.{Idle}
-use Rattle.seating.specs.Seated.{with_hold}
+use Rattle.seat_views.specs.Seated.{with_hold}
 use Rattle.seat_rule.specs.Plays.{looking, ones}
 use Rattle.mailboxes.proofs.links.find_free.Given as goal
 

@@ -1,5 +1,5 @@
 use Rattle.std.proofs.Common.{◌≡◌, ℕ, ◌+◌, ◌++◌, [], ◌∷◌, List, length, length-append, ap, subst, arith, ◌∙◌}
-use Rattle.seating.specs.Seated.{one_more}
+use Rattle.seat_views.specs.Seated.{one_more}
 use Rattle.seat_rule.specs.Rule.{opening_hold, seat_count}
 use Rattle.mailboxes.specs.declared.core_seat.CoreSeat.{CoreSeat}
 use Rattle.mailboxes.specs.Seats.{IsNewCore}

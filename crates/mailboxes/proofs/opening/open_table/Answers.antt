@@ -1,6 +1,6 @@
 use Rattle.std.proofs.Common.{ℕ, ◌∙◌, List, sym, subst, replicate, None}
 use Rattle.atomic_table.specs.Table.{opening}
-use Rattle.seating.specs.Seated.{first_view}
+use Rattle.seat_views.specs.Seated.{first_view}
 use Rattle.seat_rule.specs.declared.views.SetUp.{SetUp}
 use Rattle.seat_rule.specs.Rule.{Holds, slot_count, opening_hold}
 use Rattle.mailboxes.proofs.opening.open_table.Goals as goal

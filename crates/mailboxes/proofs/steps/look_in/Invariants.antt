@@ -1,5 +1,5 @@
 use Rattle.seat_rule.specs.Rule.{no_hold}
-use Rattle.seating.specs.Seated.{first_view}
+use Rattle.seat_views.specs.Seated.{first_view}
 use Rattle.mailboxes.proofs.steps.look_in.Given as goal
 
 abbrev pub ghosts-looked_in : goal.ghosts-looked_in

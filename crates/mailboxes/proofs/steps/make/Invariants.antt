@@ -1,5 +1,5 @@
 use Rattle.seat_rule.specs.Rule.{no_hold}
-use Rattle.seating.specs.Seated.{first_view}
+use Rattle.seat_views.specs.Seated.{first_view}
 use Rattle.mailboxes.proofs.steps.make.Given as goal
 
 abbrev pub ghosts-make_as : goal.ghosts-make_as

@@ -1,4 +1,4 @@
-use Rattle.seating.specs.Seated.{with_hold}
+use Rattle.seat_views.specs.Seated.{with_hold}
 use Rattle.seat_rule.specs.Plays.{put_hold}
 use Rattle.mailboxes.proofs.steps.send.Given as goal
 

@@ -8,11 +8,11 @@ use Rattle.litmus_reader.specs.Seen.{seen_in}
 use Rattle.litmus_reader.specs.Truth.{holds, value_of}
 use Rattle.litmus_reader.proofs.Lemmas.{truth-is}
 use Rattle.report_text.specs.Ends.{done_state, held, holds_in, is_held}
-use Rattle.run_ends.specs.declared.ends.End.{End}
-use Rattle.run_ends.specs.declared.ends.End.TheVariants.{AllDone, Stalled, TurnsUsed, Exhausted, NoMemory}
-use Rattle.run_ends.specs.declared.ends.RunEnd.{RunEnd}
+use Rattle.programs.specs.declared.ends.End.{End}
+use Rattle.programs.specs.declared.ends.End.TheVariants.{AllDone, Stalled, TurnsUsed, Exhausted, NoMemory}
+use Rattle.report_text.specs.declared.run_end.RunEnd.{RunEnd}
 use Rattle.sequential_machine.specs.SequentialMachine.{State, Steps, IsOutcome, initial, value_at}
-use Rattle.report.specs.Litmus.{HasOutcome}
+use Rattle.worker_driver.specs.Outcomes.{HasOutcome}
 use Rattle.report.proofs.laws.a_yes_shows_an_outcome.Goals as goal
 
 module _ (test : Litmus) (seen : test.seen ≡ seen_in test.tree []) where

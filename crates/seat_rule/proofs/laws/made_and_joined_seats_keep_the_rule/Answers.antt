@@ -1,6 +1,6 @@
 use Rattle.std.proofs.Common.{sym, subst}
 use Rattle.atomic_table.specs.Table.{Splits}
-use Rattle.seating.specs.Seated.{one_more, seat_view}
+use Rattle.seat_views.specs.Seated.{one_more, seat_view}
 use Rattle.seat_rule.specs.declared.views.SetUp.{SetUp}
 use Rattle.seat_rule.specs.Rule.{Holds, seat_count, slot_count, from_of, to_of, opening_hold}
 use Rattle.seat_rule.proofs.CountSteps.{splitting, joining}

@@ -1,6 +1,6 @@
 use Rattle.std.proofs.Common.{Some, sym, ap, ◌∙◌, subst}
 use Rattle.std.specs.Prelude.{is_some}
-use Rattle.trace_lines.specs.declared.steps.Step.TheVariants as step
+use Rattle.programs.specs.declared.steps.Step.TheVariants as step
 use Rattle.thread_driver.specs.Playing.{Plays}
 use Rattle.thread_driver.proofs.Lemmas.{plays_none}
 use Rattle.thread_driver.proofs.Turned.{next_step}

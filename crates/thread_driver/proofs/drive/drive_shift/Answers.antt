@@ -2,8 +2,8 @@ use Rattle.std.proofs.Common.{◌≡◌, ℕ, ◌<◌, length, sym, ap, ◌∙�
 use Rattle.std.specs.Prelude.{slice_index_or}
 use Rattle.std.proofs.lemmas.List.{length-map}
 use Rattle.std.proofs.lemmas.Option.{slice_get_within}
-use Rattle.signals.specs.declared.signaler.Signaler.{Signaler}
-use Rattle.signals.specs.Signalers.{IsSignalerOf}
+use Rattle.stop_flags.specs.declared.signaler.Signaler.{Signaler}
+use Rattle.stop_flags.specs.Signalers.{IsSignalerOf}
 use Rattle.thread_driver.specs.declared.worker.Worker.{Worker}
 use Rattle.thread_driver.specs.Hands.{HaveHandRoom}
 use Rattle.thread_driver.proofs.Formed.{dealt_back, dealt_to, lengths_back}

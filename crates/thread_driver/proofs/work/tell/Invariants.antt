@@ -1,5 +1,5 @@
 use Rattle.std.proofs.Common.{◌≡◌}
-use Rattle.signals.specs.Signalers.{IsSignalerOf}
+use Rattle.stop_flags.specs.Signalers.{IsSignalerOf}
 use Rattle.thread_driver.proofs.work.tell.Given as goal
 
 abbrev pub invariant-loop : goal.invariant-loop

@@ -1,5 +1,5 @@
 use Rattle.std.proofs.Common.{sym, subst}
-use Rattle.signals.specs.Signalers.{IsSignalerOf}
+use Rattle.stop_flags.specs.Signalers.{IsSignalerOf}
 use Rattle.thread_driver.proofs.Worked.{ahead_told, banks_told, cores_told, works_none, works_on, works_told}
 use Rattle.thread_driver.proofs.work.work.Goals as goal
 

@@ -1,5 +1,5 @@
 use Rattle.std.proofs.Common.{◌≡◌, ◌≤◌, ◌-◌, ◌++◌, ℕ, suc, List}
-use Rattle.trace_lines.specs.declared.steps.Step.{Step}
+use Rattle.programs.specs.declared.steps.Step.{Step}
 use Rattle.trace_reader.specs.declared.limits.TheConstants.{MOST_LINES}
 use Rattle.trace_reader.specs.Ahead.{ahead, Both}
 use Rattle.text_lines.specs.Lines.{lines_of}

@@ -2,7 +2,7 @@ use Rattle.std.proofs.Common.{◌≡◌, ℕ, List, map, sym, ap, ◌∙◌, sub
 use Rattle.std.proofs.lemmas.Option.{slice_get_within}
 use Rattle.std.specs.Mem.Slots.{slots_items}
 use Rattle.atomic_table.specs.Table.{Final, Seen}
-use Rattle.seating.specs.declared.views.View.{View}
+use Rattle.seat_views.specs.declared.views.View.{View}
 use Rattle.drawn_numbers.specs.declared.drawer.Drawer.{Drawer}
 use Rattle.drawn_numbers.specs.Ties.{Chair}
 use Rattle.drawn_numbers.specs.Drawn.{Drawn}

@@ -2,11 +2,12 @@ use Rattle.std.proofs.Common.{◌≡◌, ◌<◌, ◌+◌, List, sym, ap, ◌∙
 use Rattle.std.specs.Prelude.{slice_get}
 use Rattle.line_arena.specs.CellLists.{first_cell}
 use Rattle.network.specs.declared.message.Message.{Message}
-use Rattle.seating.proofs.Lemmas.{some_is}
-use Rattle.serving.specs.Queues.{values_of, IsAfter}
+use Rattle.seat_views.proofs.Lemmas.{some_is}
+use Rattle.inbox.specs.Queues.{values_of, IsAfter}
 use Rattle.mailboxes.specs.Places.{link_to, found_full}
 use Rattle.mailboxes.proofs.Outboxes.{walked_all}
-use Rattle.mailboxes.proofs.Sweeps.{stays_on, link_on, swept_more, put_more}
+use Rattle.mailboxes.proofs.Lemmas.{stays_on}
+use Rattle.mailboxes.proofs.Sweeps.{link_on, swept_more, put_more}
 use Rattle.mailboxes.proofs.mailbox.Mailbox.put.Goals as goal
 
 pub returns-in_default-clause-put : goal.returns-in_default-clause-put

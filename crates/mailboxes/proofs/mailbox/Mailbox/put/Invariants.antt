@@ -1,7 +1,7 @@
 use Rattle.std.specs.Prelude.{◌≡◌, List, take, drop}
 use Rattle.line_arena.specs.CellLists.{first_cell}
 use Rattle.network.specs.declared.message.Message.{Message}
-use Rattle.serving.specs.Queues.{values_of}
+use Rattle.inbox.specs.Queues.{values_of}
 use Rattle.mailboxes.specs.Places.{AllLinked, found_full}
 use Rattle.mailboxes.specs.BoxMoves.{IsAt, Stands, Stays, PutNothing, hold}
 use Rattle.mailboxes.proofs.mailbox.Mailbox.put.Given as goal

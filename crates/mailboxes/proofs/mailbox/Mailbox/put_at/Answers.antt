@@ -1,6 +1,6 @@
 use Rattle.std.proofs.Common.{ap, sym, ◌∙◌}
 use Rattle.std.specs.Prelude.{slice_get}
-use Rattle.serving.specs.Queues.{values_of}
+use Rattle.inbox.specs.Queues.{values_of}
 use Rattle.mailboxes.proofs.Outboxes.{left_was}
 use Rattle.mailboxes.proofs.mailbox.Mailbox.put_at.Goals as goal
 

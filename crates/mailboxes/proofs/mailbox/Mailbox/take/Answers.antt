@@ -1,7 +1,7 @@
 use Rattle.std.proofs.Common.{◌≡◌, ◌+◌, ◌%◌, ◌∙◌}
 use Rattle.mailboxes.specs.Places.{incoming, incoming_count}
 use Rattle.mailboxes.proofs.EmptySlots.{empty_more, next_place}
-use Rattle.mailboxes.proofs.Sweeps.{stays_on}
+use Rattle.mailboxes.proofs.Lemmas.{stays_on}
 use Rattle.mailboxes.proofs.mailbox.Mailbox.take.Goals as goal
 
 pub loop-n-preserved : goal.loop-n-preserved

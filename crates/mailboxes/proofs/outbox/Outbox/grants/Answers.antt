@@ -1,7 +1,7 @@
 use Rattle.std.proofs.Common.{◌<◌, length, option_to_list, sym, ap, ◌∙◌, arith}
 use Rattle.machine_theorem.specs.Bags.{weigh}
 use Rattle.machine_moves.specs.Ownership.{ownership_in}
-use Rattle.serving.specs.Queues.{values_of, IsAfter}
+use Rattle.inbox.specs.Queues.{values_of, IsAfter}
 use Rattle.mailboxes.proofs.Outboxes.{walked_all}
 use Rattle.mailboxes.proofs.SeatSums.{weigh_more}
 use Rattle.mailboxes.proofs.outbox.Outbox.grants.Goals as goal

@@ -2,7 +2,7 @@ use Rattle.std.proofs.Common.{◌≡◌, ◌≤◌, drop, take}
 use Rattle.line_arena.specs.CellLists.{first_cell}
 use Rattle.machine_theorem.specs.Bags.{weigh}
 use Rattle.machine_moves.specs.Ownership.{ownership_in}
-use Rattle.serving.specs.Queues.{values_of}
+use Rattle.inbox.specs.Queues.{values_of}
 use Rattle.mailboxes.proofs.outbox.Outbox.grants.Given as goal
 
 -- the grants and returns among the messages so far are counted

@@ -4,7 +4,7 @@ use Rattle.std.proofs.lemmas.Option.{slice_get_within}
 use Rattle.private_cache.specs.CopyTable.{copy_of}
 use Rattle.core_pts.specs.CoreTable.{CoreState}
 use Rattle.machine_theorem.specs.Coherence.{owner_in}
-use Rattle.seating.specs.Seated.{over}
+use Rattle.seat_views.specs.Seated.{over}
 use Rattle.mailboxes.proofs.SeatSums.{found_core, over_more}
 use Rattle.mailboxes.proofs.run.Run.exclusive_copies.Goals as goal
 

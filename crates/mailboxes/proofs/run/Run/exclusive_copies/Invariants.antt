@@ -1,7 +1,7 @@
 use Rattle.std.proofs.Common.{◌≡◌, ◌≤◌}
 use Rattle.private_cache.specs.CopyTable.{copy_of}
 use Rattle.machine_theorem.specs.Coherence.{owner_in}
-use Rattle.seating.specs.Seated.{over}
+use Rattle.seat_views.specs.Seated.{over}
 use Rattle.mailboxes.specs.RunParts.{Parts}
 use Rattle.mailboxes.proofs.run.Run.exclusive_copies.Given as goal
 

@@ -1,7 +1,7 @@
 use Rattle.std.proofs.Common.{◌≡◌, ◌<◌, option_to_list, ap, ◌∙◌, arith}
 use Rattle.machine_theorem.specs.Bags.{weigh}
 use Rattle.machine_moves.specs.Ownership.{ownership_in}
-use Rattle.seating.specs.Seated.{over}
+use Rattle.seat_views.specs.Seated.{over}
 use Rattle.seat_rule.specs.Rule.{content, slot_count}
 use Rattle.mailboxes.proofs.SeatSums.{found_content, over_more}
 use Rattle.mailboxes.proofs.run.Run.grants_in_slots.Goals as goal

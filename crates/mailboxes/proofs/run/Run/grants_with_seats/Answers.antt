@@ -1,7 +1,7 @@
 use Rattle.std.proofs.Common.{◌≡◌, ap, ◌∙◌, arith}
 use Rattle.machine_theorem.specs.Bags.{weigh}
 use Rattle.machine_moves.specs.Ownership.{ownership_in}
-use Rattle.seating.specs.Seated.{over}
+use Rattle.seat_views.specs.Seated.{over}
 use Rattle.seat_rule.specs.Rule.{bag_of, seat_count}
 use Rattle.mailboxes.proofs.SeatSums.{left_messages, over_more}
 use Rattle.mailboxes.proofs.run.Run.grants_with_seats.Goals as goal

@@ -1,7 +1,7 @@
 use Rattle.std.proofs.Common.{◌≡◌, ◌*◌, ◌≤◌}
 use Rattle.machine_theorem.specs.Bags.{weigh}
 use Rattle.machine_moves.specs.Ownership.{ownership_in}
-use Rattle.seating.specs.Seated.{over}
+use Rattle.seat_views.specs.Seated.{over}
 use Rattle.seat_rule.specs.Rule.{bag_of}
 use Rattle.mailboxes.specs.RunParts.{Parts}
 use Rattle.mailboxes.proofs.run.Run.grants_with_seats.Given as goal

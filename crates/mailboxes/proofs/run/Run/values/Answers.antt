@@ -3,7 +3,7 @@ use Rattle.std.proofs.Math.Path.{fun_ext}
 use Rattle.std.proofs.lemmas.Result.{IfOk-weaker}
 use Rattle.physiological_order.specs.declared.operation.Record.{Record}
 use Rattle.physiological_order.specs.Order.{flat}
-use Rattle.closed_runs.specs.ValuesLeft.{ValuesLeft}
+use Rattle.merged_records.specs.ValuesLeft.{ValuesLeft}
 use Rattle.mailboxes.proofs.run.Run.values.Goals as goal
 
 pub returns-clause-value : goal.returns-clause-value

@@ -1,0 +1,14 @@
+//! The messages that came in at a seat, and the order in which they are served. It knows no message and no part.
+#![tactic(auto)]
+
+mod answer;
+mod inbox;
+pub mod laws;
+mod queue;
+mod receiver;
+mod serve;
+
+pub use self::inbox::Inbox;
+pub use answer::{Answer, Refusal, Served};
+pub use queue::Queue;
+pub use receiver::Receiver;

@@ -1,8 +1,0 @@
-use Rattle.mailboxes.proofs.CursorMoves.{begins, moves_on}
-use Rattle.mailboxes.proofs.edges.takes_move_on.Goals as goal
-
-pub returns-clause-next : goal.returns-clause-next
-returns-clause-next c = moves_on
-
-pub returns-clause-begins : goal.returns-clause-begins
-returns-clause-begins c = begins

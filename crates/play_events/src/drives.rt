@@ -1,0 +1,130 @@
+//! Programs of steps, by which a machine is driven by rounds or by a seed.
+
+use event_text::put_event;
+use interleaving_core::{Event, System};
+use physiological_order::Op;
+use programs::{End, Step, StepProgram};
+use schedules::{Driven, Policy, drive_round, drive_seed};
+use std::alloc::{AllocError, Global};
+
+/// The programs of cores, and the events of the last drive.
+#[derive(Drop)]
+pub(crate) struct Drives {
+    alloc: Global,
+    /// By core; a later program stands behind an earlier one.
+    programs: Vec<(u32, Vec<Step>)>,
+    events: Vec<Event>,
+    /// How many of the events were looked at.
+    at: usize,
+}
+
+/// The steps of a core's last program.
+fn steps_of(programs: &[(u32, Vec<Step>)], core: u32) -> &[Step] {
+    for (of, steps) in programs.iter().rev() {
+        if *of == core {
+            return steps.as_slice();
+        }
+    }
+    &[]
+}
+
+/// A program for each core.
+fn by_core<'a>(
+    alloc: Global,
+    given: &'a [(u32, Vec<Step>)],
+    cores: u32,
+) -> Result<Vec<StepProgram<'a>>, AllocError> {
+    let mut programs = Vec::new(alloc);
+    for core in 0..cores {
+        programs.push(StepProgram::new(steps_of(given, core)))?;
+    }
+    Ok(programs)
+}
+
+fn name_of(end: End) -> &'static str {
+    match end {
+        End::AllDone => "all-done",
+        End::Stalled => "stalled",
+        End::TurnsUsed => "limit",
+        End::Exhausted => "exhausted",
+        End::NoMemory => "memory",
+    }
+}
+
+/// Drives the machine by these programs, one for each core.
+fn driven(
+    alloc: Global,
+    system: &mut System,
+    programs: &mut [StepProgram<'_>],
+    policy: Policy,
+    limit: u32,
+) -> Option<Driven> {
+    if programs.len() as u64 != u64::from(system.cores()) {
+        return None;
+    }
+    Some(match policy {
+        Policy::Rounds => drive_round(alloc, system, programs, limit),
+        Policy::Seed(seed) => drive_seed(alloc, system, programs, seed, limit),
+    })
+}
+
+impl Drives {
+    pub(crate) fn new(alloc: Global) -> Drives {
+        let _inside: Option<Op> = None;
+        Drives {
+            alloc,
+            programs: Vec::new(alloc),
+            events: Vec::new(alloc),
+            at: 0,
+        }
+    }
+
+    /// Gives a core its program.
+    pub(crate) fn give(&mut self, core: u32, steps: Vec<Step>) -> Result<(), AllocError> {
+        let _inside: Option<Op> = None;
+        self.programs.push((core, steps))?;
+        Ok(())
+    }
+
+    /// Drives the machine; how that ended, and how many events were made.
+    pub(crate) fn drive(
+        &mut self,
+        system: &mut System,
+        policy: Policy,
+        limit: u32,
+        answer: &mut String,
+    ) -> Result<(), AllocError> {
+        let mut programs = by_core(self.alloc, self.programs.as_slice(), system.cores())?;
+        let programs = programs.as_mut_slice();
+        let Some(run) = driven(self.alloc, system, programs, policy, limit) else {
+            return Ok(());
+        };
+        write!(answer, "{}, {} events", name_of(run.end), run.events.len())?;
+        self.events = run.events;
+        self.at = 0;
+        Ok(())
+    }
+
+    /// The next events of the last drive, at most so many.
+    pub(crate) fn look(
+        &mut self,
+        count: u32,
+        line_words: u32,
+        answer: &mut String,
+    ) -> Result<(), AllocError> {
+        for made in 0..count {
+            let Some(event) = self.events.get(self.at) else {
+                break;
+            };
+            if made > 0 {
+                answer.push_str("; ")?;
+            }
+            put_event(event, line_words, answer)?;
+            self.at = self.at.saturating_add(1);
+        }
+        if answer.is_empty() {
+            answer.push_str("end")?;
+        }
+        Ok(())
+    }
+}

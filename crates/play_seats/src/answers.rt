@@ -1,0 +1,83 @@
+//! What calls of seats answer, and how it is told.
+
+use event_text::put_answer;
+use inbox::Served;
+use machine_table::{Answer, Refusal};
+use mailboxes::{Eviction, Take, Turn};
+use std::alloc::AllocError;
+
+/// The answer where there is no such seat.
+pub(crate) const NO_SEAT: &str = "no seat";
+
+/// What a call answers.
+#[derive(Clone, Copy)]
+pub(crate) enum Says {
+    /// As an event of the machine is answered.
+    Answers(Answer),
+    /// Whether a message was put.
+    Puts(bool),
+    Takes(Take),
+    /// No message was there to be served.
+    Nothing,
+    Turns(Turn),
+    NoSeat,
+}
+
+/// What a call answers that has one answer if it isn't refused.
+pub(crate) fn done(answer: Answer, came: Result<(), Refusal>) -> Says {
+    match came {
+        Ok(()) => Says::Answers(answer),
+        Err(refusal) => Says::Answers(Answer::Refused(refusal)),
+    }
+}
+
+pub(crate) fn served(came: Result<Served, Refusal>) -> Says {
+    let answer = match came {
+        Ok(Served::Delivered) => Answer::Delivered,
+        Ok(Served::Dropped) => Answer::Dropped,
+        Ok(Served::Started) => Answer::Started,
+        Ok(Served::Held) => Answer::Held,
+        Ok(Served::Nothing) => return Says::Nothing,
+        Err(refusal) => Answer::Refused(refusal),
+    };
+    Says::Answers(answer)
+}
+
+pub(crate) fn turned(came: Result<Turn, Refusal>) -> Says {
+    match came {
+        Ok(turn) => Says::Turns(turn),
+        Err(refusal) => Says::Answers(Answer::Refused(refusal)),
+    }
+}
+
+pub(crate) fn evicted(came: Result<Eviction, Refusal>) -> Says {
+    let answer = match came {
+        Ok(Eviction::Evicted) => Answer::Evicted,
+        Ok(Eviction::Recalled) => Answer::Recalled,
+        Err(refusal) => Answer::Refused(refusal),
+    };
+    Says::Answers(answer)
+}
+
+fn name_of(served: &Served) -> &'static str {
+    match served {
+        Served::Delivered => "delivered",
+        Served::Dropped => "dropped",
+        Served::Started => "started",
+        Served::Held => "held",
+        Served::Nothing => "nothing",
+    }
+}
+
+/// Tells what a call answered.
+pub(crate) fn put_says(says: &Says, out: &mut String) -> Result<(), AllocError> {
+    match says {
+        Says::Answers(answer) => put_answer(answer, out),
+        Says::Turns(turn) => write!(out, "{} put, {}", turn.put, name_of(&turn.served)),
+        Says::Puts(true) => out.push_str("put"),
+        Says::Takes(Take::Taken) => out.push_str("taken"),
+        Says::Takes(Take::HandFull) => out.push_str("hand full"),
+        Says::Puts(false) | Says::Takes(Take::Nothing) | Says::Nothing => out.push_str("nothing"),
+        Says::NoSeat => out.push_str(NO_SEAT),
+    }
+}

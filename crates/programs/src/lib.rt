@@ -1,0 +1,12 @@
+//! Programs: what gives a core its steps, and how a run of programs ends.
+#![tactic(auto)]
+
+mod ends;
+mod lists;
+pub mod program;
+mod steps;
+
+pub use ends::End;
+pub use lists::{OpProgram, StepProgram};
+pub use program::Program;
+pub use steps::Step;

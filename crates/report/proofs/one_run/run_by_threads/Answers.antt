@@ -1,0 +1,40 @@
+use Rattle.std.proofs.Common.{◌≡◌, List, None, ap, sym, subst, length, ◌∙◌, arith}
+use Rattle.std.specs.FinMap.{empty}
+use Rattle.physiological_order.specs.StaleHits.{RisesByNumber}
+use Rattle.machine_table.specs.Machine.{Machine}
+use Rattle.machine_table.specs.Opening.{at_start}
+use Rattle.thread_driver.specs.ThreadRuns.{IsThreadRun, machine_of}
+use Rattle.programs.specs.declared.steps.Step.{Step}
+use Rattle.machine_theorem.specs.Service.{AreServed}
+use Rattle.report.specs.Runs.{core_count, programs_below, step_acts}
+use Rattle.report.proofs.CoreCounts.{programs_count}
+use Rattle.report.proofs.InTrace.{is_run}
+use Rattle.report.proofs.one_run.run_by_threads.Goals as goal
+
+pub run_threads-requires-clause-programs : goal.run_threads-requires-clause-programs
+run_threads-requires-clause-programs g c κs bounds =
+    ap length c.in_ok-programs.ensures ∙ programs_count c.args.trace.now (core_count c.args.trace.now)
+    ∙ sym c.requires.cores
+
+pub returns : goal.returns
+returns g c =
+    let lanes = c.args.trace.now in
+    let config = c.args.config in
+    let ran = c.in_ok-ran.ran in
+    let is = c.in_ok-ran.ensures.run in
+    let m : Machine = machine_of ran.run is.parts in
+    let config_is : m.config ≡ config = c.in_ok-ran.ensures.set_up.0 in
+    let opened : m.opening ≡ empty = c.in_ok-ran.ensures.set_up.1 ∙ c.new-memory.ensures in
+    let run = subst (λ (ts : List (List Step)). IsThreadRun step_acts ts m ran.programs.items ran.end)
+    c.in_ok-programs.ensures is.is_run in
+    let served = subst (λ ws. AreServed step_acts (at_start config ws) m (programs_below lanes (core_count lanes))
+    ran.programs.items) opened
+    (subst (λ k. AreServed step_acts (at_start k m.opening) m (programs_below lanes (core_count lanes))
+    ran.programs.items) config_is run.served) in (
+      is.parts,
+      is_run lanes config m ran.programs.items c.requires.cores served
+          (c.closed_machines_are_consistent.ensures ran.run is.parts) opened
+          (subst RisesByNumber c.records-rising.ensures.records (c.records-rising.ensures.rising is.parts))
+          (let few = c.cores-few.ensures.few in let same = c.cores-few.ensures.cores in let cores = c.requires.cores in
+          omega (arith, few, same, cores)) None c.args.limit ran.end (config_is, opened, run),
+    )

@@ -1,0 +1,15 @@
+use Rattle.std.proofs.Common.{sym, subst}
+use Rattle.trace_reader.specs.Causes.{Fault}
+use Rattle.trace_reader.specs.Grammar.{IsTrace}
+use Rattle.trace_reader.specs.Reading.{read_at}
+use Rattle.report.specs.Refusals.{IsUnread, WantsMemory}
+use Rattle.report.specs.Reports.{IsTraceFault}
+use Rattle.report.proofs.Unread.{unread}
+use Rattle.report.proofs.texts.trace_of.Goals as goal
+
+pub returns-in-Err-clause-refused : goal.returns-in-Err-clause-refused
+returns-in-Err-clause-refused g c =
+    let known = g.S.Source.remaining c.args.source.now in
+    subst (IsUnread (IsTraceFault known) (WantsMemory read_at known) _ _) (sym c.refusal.ensures)
+    (unread IsTrace Fault read_at c.in-Err.error _ _ known c.in-Err.ensures.refused c.in-Err.ensures.fault
+    c.in-Err.ensures.only)

@@ -1,0 +1,71 @@
+-- The verdict on a trace and records, and why there is none.
+use Rattle.std.specs.Prelude.{◌≡◌, ◌⊎◌, ◌<◌, ℕ, Bool, true, false, List, Option, Result, Err, IfSome}
+use Rattle.std.specs.FinMap.{empty}
+use Rattle.physiological_order.specs.declared.operation.Record.{Record}
+use Rattle.physiological_order.specs.declared.verdict.Verdict.{Verdict}
+use Rattle.physiological_order.specs.declared.verdict.Verdict.TheVariants.{Legal, BadNumber, OutOfProgramOrder}
+use Rattle.physiological_order.specs.declared.verdict.Verdict.TheVariants.{WrongValue}
+use Rattle.physiological_order.specs.Faults.{IsVerdict}
+use Rattle.physiological_order.specs.Order.{flat}
+use Rattle.run_results.specs.declared.results.Done.{Done}
+use Rattle.run_results.specs.declared.results.RunError.{RunError}
+use Rattle.run_results.specs.declared.results.RunError.TheVariants.{Read, Write, NoMemory, Litmus, Trace, BadConfig}
+use Rattle.trace_lines.specs.declared.errors.TraceError.{TraceError}
+use Rattle.programs.specs.declared.steps.Step.{Step}
+use Rattle.trace_reader.specs.Causes.{RecordFault}
+use Rattle.trace_reader.specs.Grammar.{AreRecords}
+use Rattle.trace_reader.specs.Reading.{read_at, records_at}
+use Rattle.report.specs.Refusals.{IsFault, IsRead, WantsMemory}
+use Rattle.report.specs.Reports.{IsTraceFault}
+use Rattle.report.specs.Runs.{issued_in}
+use Rattle.trace_texts.specs.Verdicts.{check_text}
+
+-- the records that were read: their text is all that the source had, where that is known
+abbrev pub AreRead : Option (List ℕ) → List Record → Type 0
+AreRead known records = IfSome known (λ bytes. AreRecords bytes records)
+
+-- the fault of a text that has no records
+abbrev pub IsRecordsFault : Option (List ℕ) → TraceError → Type 0
+IsRecordsFault known e = IsFault AreRecords RecordFault records_at known e
+
+abbrev pub is_legal : Verdict → Bool
+is_legal Legal = true
+is_legal (BadNumber number) = false
+is_legal (OutOfProgramOrder number) = false
+is_legal (WrongValue number) = false
+
+-- the text is the line of the verdict on these records, for what the trace issues over a memory of zeros
+pub record IsVerdictLine (lanes : List (List Step)) (records : List Record) (legal : Bool) (text : List ℕ) :
+    Type 0 where
+  pub verdict : Verdict
+  pub is_verdict : IsVerdict (flat empty) (issued_in lanes) records verdict
+  pub text_is : text ≡ check_text verdict
+  pub legal_is : legal ≡ is_legal verdict
+
+-- it is the line on the trace and the records that the sources had
+abbrev pub IsCheckReport : (trace records : Option (List ℕ)) → Bool → List ℕ → Type 0
+IsCheckReport trace records legal text = (lanes : List (List Step)) × (told : List Record)
+    × IsRead trace lanes × AreRead records told × IsVerdictLine lanes told legal text
+
+-- why there is no verdict: the trace is refused, or it was read and the records are refused; memory is wanted to read
+-- the trace, behind it to read the records, and behind both for the line
+abbrev pub HasNoVerdict : (trace records : Option (List ℕ)) → RunError → Type 0
+HasNoVerdict trace records (Trace e) =
+    IsTraceFault trace e ⊎ (((lanes : List (List Step)) × IsRead trace lanes) × IsRecordsFault records e)
+HasNoVerdict trace records NoMemory = WantsMemory read_at trace ⊎ (((lanes : List (List Step)) × IsRead trace lanes) ×
+    (WantsMemory records_at records ⊎ ((told : List Record) × AreRead records told)))
+HasNoVerdict trace records Read = ⊥
+HasNoVerdict trace records Write = ⊥
+HasNoVerdict trace records (Litmus e) = ⊥
+HasNoVerdict trace records BadConfig = ⊥
+
+-- failures of two sources, of which the second is read behind the first, are counted exactly where they are told
+abbrev pub ReadsCounted : {X : Type 0} → Result X RunError → (first first' second second' : ℕ) → Type 0
+ReadsCounted (Err Read) first first' second second' =
+    ((first < first') × (second' ≡ second)) ⊎ ((first' ≡ first) × (second < second'))
+ReadsCounted came first first' second second' = (first' ≡ first) × (second' ≡ second)
+
+-- and so are those of the sink
+abbrev pub WritesCounted : Result Done RunError → (before after : ℕ) → Type 0
+WritesCounted (Err Write) before after = before < after
+WritesCounted came before after = after ≡ before

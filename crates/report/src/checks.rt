@@ -1,0 +1,121 @@
+//! From two sources, with the texts of a trace and of records, to a sink for the line of the verdict.
+ghost use Rattle.std.specs.Prelude.{◌≡◌, ◌≢◌, ◌<◌, ◌⊎◌, IfErr, IfOk, IfSome, IsErrOf, List, OnOk};
+ghost use Rattle.byte_streams.specs.Device.{AtEnd};
+ghost use Rattle.report.specs.Answers.{IsCutOff, IsReported};
+ghost use Rattle.programs.specs.declared.steps.Step.{Step};
+ghost use Rattle.report.specs.Refusals.{IsRead, OnAccepted};
+ghost use Rattle.report.specs.Verdicts.{HasNoVerdict, IsCheckReport, IsVerdictLine};
+ghost use Rattle.report.specs.Verdicts.{ReadsCounted, WritesCounted, is_legal};
+
+use crate::outputs::put_out;
+use crate::reports::Report;
+use crate::texts::{records_of, trace_of};
+use byte_streams::{Sink, Source};
+use physiological_order::{Memory, Record, Verdict, check};
+use run_results::{Done, RunError};
+use std::alloc::{AllocError, Global};
+use trace_reader::Trace;
+use trace_texts::check_text;
+
+/// Reads a trace, and records only if that was accepted, and writes what the checker says of the records, for the
+/// operations of the trace over a memory of zeros: one line, all done exactly if the verdict is Legal. Read and Trace
+/// of the trace go before those of the records, and Write comes last; by an error but Write the sink is unchanged.
+pub fn run_check<S: Source, R: Source, K: Sink>(
+    alloc: Global,
+    trace: &mut S,
+    records: &mut R,
+    sink: &mut K,
+) -> Result<Done, RunError>
+    ensures reported { IfOk result (λ done.
+        IsReported (IsCheckReport (S.remaining trace.old) (R.remaining records.old) done.all_done)
+        (K.contents sink.old) (K.contents sink.new)) }
+
+    // Why there is no verdict, or not all of its line.
+    ensures refused { IfErr result (λ e. e ≢ RunError.Read → e ≢ RunError.Write →
+        HasNoVerdict (S.remaining trace.old) (R.remaining records.old) e) }
+    ensures cut_off { IsErrOf result RunError.Write → (legal : _) × IsCutOff
+        (IsCheckReport (S.remaining trace.old) (R.remaining records.old) legal)
+        (K.contents sink.old) (K.contents sink.new) }
+
+    // Records are read only behind a trace that was accepted, and not at all where a call failed before its end.
+    ensures later { (records.new ≡ records.old)
+        ⊎ ((lanes : List (List Step)) × IsRead (S.remaining trace.old) lanes) }
+    ensures untouched { S.failures trace.old < S.failures trace.new → records.new ≡ records.old }
+
+    // Texts that were accepted were read to their end.
+    ensures trace_end { OnAccepted result (IfSome (S.remaining trace.old)
+        (λ known. AtEnd (S.remaining trace.new))) }
+    ensures records_end { OnAccepted result (IfSome (R.remaining records.old)
+        (λ known. AtEnd (R.remaining records.new))) }
+
+    // Failures are told, and nothing else is written.
+    ensures reads { ReadsCounted result
+        (S.failures trace.old) (S.failures trace.new)
+        (R.failures records.old) (R.failures records.new) }
+    ensures writes { WritesCounted result (K.failures sink.old) (K.failures sink.new) }
+    ensures nothing { IfErr result (λ e. e ≢ RunError.Write → sink.new ≡ sink.old) }
+{
+    let report = match verdict_on(alloc, trace, records) {
+        Ok(report) => report,
+        Err(error) => return Err(error),
+    };
+    let done = Done {
+        all_done: report.all_done,
+    };
+    put_out(sink, &report.text, done)
+}
+
+// The line of the verdict on the trace and the records that the sources have.
+fn verdict_on<S: Source, R: Source>(
+    alloc: Global,
+    trace: &mut S,
+    records: &mut R,
+) -> Result<Report, RunError>
+    ensures report { IfOk result (λ report. IsCheckReport (S.remaining trace.old)
+        (R.remaining records.old) report.all_done report.text.items) }
+    ensures refused { IfErr result (λ e. e ≢ RunError.Read →
+        HasNoVerdict (S.remaining trace.old) (R.remaining records.old) e) }
+    ensures later { (records.new ≡ records.old)
+        ⊎ ((lanes : List (List Step)) × IsRead (S.remaining trace.old) lanes) }
+    ensures untouched { S.failures trace.old < S.failures trace.new → records.new ≡ records.old }
+    ensures trace_end { OnOk result (IfSome (S.remaining trace.old)
+        (λ known. AtEnd (S.remaining trace.new))) }
+    ensures records_end { OnOk result (IfSome (R.remaining records.old)
+        (λ known. AtEnd (R.remaining records.new))) }
+    ensures reads { ReadsCounted result
+        (S.failures trace.old) (S.failures trace.new)
+        (R.failures records.old) (R.failures records.new) }
+{
+    let trace = match trace_of(alloc, trace) {
+        Ok(trace) => trace,
+        Err(error) => return Err(error),
+    };
+    let records = match records_of(alloc, records) {
+        Ok(records) => records,
+        Err(error) => return Err(error),
+    };
+    match line_of(alloc, trace, &records) {
+        Ok(report) => Ok(report),
+        Err(AllocError) => Err(RunError::NoMemory),
+    }
+}
+
+// The line of the verdict on these records, for what the trace issues.
+fn line_of(alloc: Global, trace: Trace, records: &[Record]) -> Result<Report, AllocError>
+    ensures { IfOk result (λ report.
+        IsVerdictLine trace records.now report.all_done report.text.items) }
+{
+    let issued = trace.into_issued()?;
+    let verdict = check(alloc, &Memory::new(alloc), &issued, records)?;
+    let text = check_text(alloc, verdict)?;
+    Ok(Report {
+        text,
+        all_done: is_legal(verdict),
+    })
+}
+
+fn is_legal(verdict: Verdict) -> bool
+    ensures { result ≡ is_legal verdict }
+{
+    matches!(verdict, Verdict::Legal)
+}

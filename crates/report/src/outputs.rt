@@ -1,0 +1,22 @@
+//! A whole text to a sink, with what is answered where that fails.
+ghost use Rattle.std.specs.Prelude.{◌≡◌, IfOk, IfErr, OnOk};
+ghost use Rattle.byte_streams.specs.Device.{Grows};
+ghost use Rattle.report.specs.Answers.{IsWriteError};
+
+use byte_streams::{DeviceError, Sink, write_all};
+use run_results::{Done, RunError};
+
+/// Writes the text, and is then done as it is said.
+pub fn put_out<K: Sink>(sink: &mut K, text: &[u8], done: Done) -> Result<Done, RunError>
+    ensures done { IfOk result (λ answer. answer ≡ done) }
+    ensures all { OnOk result (Grows (K.contents sink.old) (K.contents sink.new) text.now) }
+    ensures none_failed { OnOk result (K.failures sink.new ≡ K.failures sink.old) }
+    ensures failed { IfErr result (IsWriteError
+        (K.contents sink.old) (K.contents sink.new) (K.failures sink.old) (K.failures sink.new)
+        text.now) }
+{
+    match write_all(sink, text) {
+        Ok(()) => Ok(done),
+        Err(DeviceError) => Err(RunError::Write),
+    }
+}

@@ -1,0 +1,178 @@
+//! From a source with the text of a trace to a sink for its report.
+ghost use Rattle.std.specs.Prelude.{◌≡◌, ◌≢◌, IfErr, IfOk, IfSome, IsErrOf, None, Some, false, true};
+ghost use Rattle.byte_streams.specs.Device.{AtEnd};
+ghost use Rattle.machine_table.specs.Machine.{Machine};
+ghost use Rattle.machine_table.specs.SetUp.{is_good};
+ghost use Rattle.trace_texts.specs.Records.{AreComplete};
+ghost use Rattle.report.specs.Answers.{AreCounted, IsCutOff, IsReported};
+ghost use Rattle.worker_driver.specs.SetUp.{config_of, policy_of};
+ghost use Rattle.report.specs.Refusals.{OnAccepted};
+ghost use Rattle.report.specs.Reports.{HasNoTraceReport, HasNoRun, IsTraceReport, Tells, TellsOf};
+ghost use Rattle.report.specs.Runs.{core_count, is_all_done};
+
+use crate::one_run::{Ran, run_by_policy, run_by_threads, text_of};
+use crate::outputs::put_out;
+use crate::texts::trace_of;
+use byte_streams::{Sink, Source};
+use interleaving_core::Config;
+use programs::End;
+use run_options::TraceOptions;
+use run_results::{Done, RunError};
+use schedules::Policy;
+use std::alloc::{AllocError, Global};
+use std::thread::Threads;
+use trace_reader::Trace;
+use worker_driver::{Finished, config_of, limit_of, policy_of, workers_of};
+
+/// Reads a trace from the source, to its end if it is accepted, runs it over a memory of zeros as the options say, and
+/// writes the report of the run, or its records alone. What goes out is told of a legal history, whatever the end of
+/// the run. Read goes before Trace, that before BadConfig, and Write comes last; by an error but Write the sink is
+/// unchanged. NoMemory comes only of a text with a step to keep or a fault, or of a run on a good machine.
+pub fn run_trace<R: Threads + Sync, S: Source, K: Sink>(
+    rt: &R,
+    alloc: Global,
+    source: &mut S,
+    sink: &mut K,
+    options: &TraceOptions,
+) -> Result<Done, RunError>
+    ensures reported { IfOk result (λ done.
+        IsReported (IsTraceReport options.now (S.remaining source.old) done.all_done)
+        (K.contents sink.old) (K.contents sink.new)) }
+
+    // Why there is no report, or not all of it.
+    ensures refused { IfErr result (λ e. e ≢ RunError.Read → e ≢ RunError.Write →
+        HasNoTraceReport options.now (S.remaining source.old) e) }
+    ensures cut_off { IsErrOf result RunError.Write →
+        (all_done : _) × IsCutOff (IsTraceReport options.now (S.remaining source.old) all_done)
+        (K.contents sink.old) (K.contents sink.new) }
+
+    // A trace that was accepted was read to its end.
+    ensures end { OnAccepted result (IfSome (S.remaining source.old)
+        (λ known. AtEnd (S.remaining source.new))) }
+
+    // Failures are told, and nothing else is written.
+    ensures counted { AreCounted result
+        (S.failures source.old) (S.failures source.new)
+        (K.failures sink.old) (K.failures sink.new) }
+    ensures nothing { IfErr result (λ e. e ≢ RunError.Write → sink.new ≡ sink.old) }
+{
+    let trace = match trace_of(alloc, source) {
+        Ok(trace) => trace,
+        Err(error) => return Err(error),
+    };
+    let report = match report_of(rt, alloc, &trace, options) {
+        Ok(report) => report,
+        Err(error) => return Err(error),
+    };
+    let done = Done {
+        all_done: report.all_done,
+    };
+    put_out(sink, &report.text, done)
+}
+
+/// A text that goes out, and whether it tells that all is done, or legal.
+#[derive(Drop)]
+pub(crate) struct Report {
+    pub(crate) text: Vec<u8>,
+    pub(crate) all_done: bool,
+}
+
+// The report on a trace, or its records.
+fn report_of<R: Threads + Sync>(
+    rt: &R,
+    alloc: Global,
+    trace: &Trace,
+    options: &TraceOptions,
+) -> Result<Report, RunError>
+    ensures report { IfOk result (λ report.
+        Tells options.now trace.now report.all_done report.text.items) }
+    ensures refused { IfErr result (HasNoRun options.now trace.now) }
+{
+    let Some(config) = config_of(&options.run.machine, trace.cores()) else {
+        return Err(RunError::BadConfig);
+    };
+    match told(rt, alloc, trace, config, options) {
+        Ok(report) => Ok(report),
+        Err(AllocError) => Err(RunError::NoMemory),
+    }
+}
+
+// A run of the trace on this machine, as it is told.
+fn told<R: Threads + Sync>(
+    rt: &R,
+    alloc: Global,
+    trace: &Trace,
+    config: Config,
+    options: &TraceOptions,
+) -> Result<Report, AllocError>
+    requires good { is_good config ≡ true }
+    requires config { config ≡ config_of options.now.run.machine (core_count trace.now) }
+    ensures { IfOk result (λ report.
+        Tells options.now trace.now report.all_done report.text.items) }
+{
+    match policy_of(&options.run) {
+        Some(policy) => told_by_policy(alloc, trace, config, policy, options),
+        None => told_by_threads(rt, alloc, trace, config, options),
+    }
+}
+
+// A run of the trace by a policy, as it is told.
+fn told_by_policy(
+    alloc: Global,
+    trace: &Trace,
+    config: Config,
+    policy: Policy,
+    options: &TraceOptions,
+) -> Result<Report, AllocError>
+    requires good { is_good config ≡ true }
+    requires config { config ≡ config_of options.now.run.machine (core_count trace.now) }
+    requires policy { policy_of options.now.run ≡ Some policy }
+    ensures { IfOk result (λ report.
+        Tells options.now trace.now report.all_done report.text.items) }
+{
+    let ran = run_by_policy(alloc, trace, config, policy, limit_of(&options.run))?;
+    report_on(alloc, trace, &ran, options.records)
+}
+
+// A run of the trace by threads, as it is told.
+fn told_by_threads<R: Threads + Sync>(
+    rt: &R,
+    alloc: Global,
+    trace: &Trace,
+    config: Config,
+    options: &TraceOptions,
+) -> Result<Report, AllocError>
+    requires good { is_good config ≡ true }
+    requires config { config ≡ config_of options.now.run.machine (core_count trace.now) }
+    requires policy { policy_of options.now.run ≡ None }
+    ensures { IfOk result (λ report.
+        Tells options.now trace.now report.all_done report.text.items) }
+{
+    let (limit, workers) = (limit_of(&options.run), workers_of(&options.run));
+    let ran = run_by_threads(rt, alloc, trace, config, limit, workers)?;
+    report_on(alloc, trace, &ran, options.records)
+}
+
+// What is told of a run.
+fn report_on<M: Finished + Drop>(
+    alloc: Global,
+    trace: &Trace,
+    ran: &Ran<M>,
+    records: bool,
+) -> Result<Report, AllocError>
+    requires shows { (m : Machine) × M.shows ran.now.machine m × AreComplete m.records }
+    ensures { IfOk result (λ report. (m : Machine) → M.shows ran.now.machine m →
+        TellsOf records trace.now ran.now.end m report.all_done report.text.items) }
+{
+    let text = text_of(alloc, trace, ran, records)?;
+    Ok(Report {
+        text,
+        all_done: is_all_done(ran.end),
+    })
+}
+
+fn is_all_done(end: End) -> bool
+    ensures { result ≡ is_all_done end }
+{
+    matches!(end, End::AllDone)
+}

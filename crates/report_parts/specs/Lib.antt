@@ -1,3 +1,0 @@
-pub mod SetUp
-pub mod Answers
-pub mod Orders

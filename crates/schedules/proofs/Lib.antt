@@ -1,0 +1,17 @@
+mod KnownEvents
+mod Over
+mod Pieces
+mod RunSteps
+mod TurnSteps
+mod TurnEnds
+mod Deliveries
+mod GivenSteps
+mod RoundSteps
+mod SeedSteps
+mod SeedEntries
+mod InProgram
+mod TableSteps
+mod ServiceSteps
+mod RunLaws
+mod Served
+mod SameRuns

@@ -1,0 +1,5 @@
+use Rattle.schedules.proofs.SameRuns.{same_list}
+use Rattle.schedules.proofs.laws.one_seed_gives_one_list.Goals as goal
+
+pub returns : goal.returns
+returns g c = same_list g.P.Program.acts

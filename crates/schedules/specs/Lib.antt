@@ -1,0 +1,12 @@
+pub mod Schedules
+pub mod Runs
+pub mod RoundSchedule
+pub mod RoundViews
+pub mod SeedSchedule
+pub mod SeedViews
+pub mod Policies
+pub mod Batches
+pub mod RunEvents
+pub mod Notes
+pub mod Turns
+pub mod GivenSteps

@@ -1,0 +1,96 @@
+-- How a run notes the events that it makes.
+use Rattle.std.specs.Prelude.{◌≡◌, ℕ, Bool, true, false, ◌||◌, List, [], ◌∷◌, ◌++◌, Option, is_some, option_map, IsTrue}
+use Rattle.std.specs.Prelude.{Result, Ok, Err}
+use Rattle.machine_table.specs.declared.event.Event.{Event}
+use Rattle.machine_table.specs.declared.event.Answer.{Answer}
+use Rattle.machine_table.specs.declared.event.Answer.TheVariants.{Refused}
+use Rattle.machine_table.specs.declared.event.Refusal.TheVariants.{Exhausted as TimesEnd, NoMemory as NoMemoryAnswer}
+use Rattle.machine_table.specs.Machine.{Machine}
+use Rattle.machine_table.specs.Transition.{transition}
+use Rattle.interleaving_core.specs.StepAnswers.{asks_memory}
+use Rattle.programs.specs.declared.ends.End.{End}
+use Rattle.programs.specs.declared.ends.End.TheVariants.{AllDone, Stalled, TurnsUsed, Exhausted, NoMemory}
+use Rattle.programs.specs.Acts.{Acts}
+use Rattle.schedules.specs.Schedules.{Schedule}
+use Rattle.schedules.specs.Runs.{Stage, Position, plan_of, is_progress, is_exhausted}
+use Rattle.schedules.specs.RunEvents.{Arrives, Finishes}
+
+-- the events so far, if they are kept, whether an answer of this turn was progress, and how many more can be noted
+-- before memory is asked for
+pub record Log : Type 0 where
+  pub events : Option (List Event)
+  pub has_progressed : Bool
+  pub reserved : ℕ
+
+-- an answered event is noted
+pub record IsNoted (log : Log) (event : Event) (answer : Answer) (after : Log) : Type 0 where
+  pub events : after.events ≡ option_map (λ events. events ++ event ∷ []) log.events
+  pub has_progressed : after.has_progressed ≡ (log.has_progressed || is_progress answer)
+
+-- nothing is noted
+pub record IsSame (log after : Log) : Type 0 where
+  pub events : after.events ≡ log.events
+  pub has_progressed : after.has_progressed ≡ log.has_progressed
+
+abbrev pub is_no_memory : Answer → Bool
+is_no_memory (Refused NoMemoryAnswer) = true
+is_no_memory _ = false
+
+-- an event is answered by the table and noted; where that says that times are exhausted the run is to end; and where
+-- memory was refused nothing changed, and the event asks for some or is to be kept
+abbrev pub Noted : Machine → Log → Event → Result Answer End → Machine → Log → Type 0
+Noted m log event (Ok answer) after after_log =
+    ((answer, after) ≡ transition m event) × (is_exhausted answer ≡ false) × IsNoted log event answer after_log
+Noted m log event (Err Exhausted) after after_log =
+    ((Refused TimesEnd, after) ≡ transition m event) × IsNoted log event (Refused TimesEnd) after_log
+Noted m log event (Err NoMemory) after after_log =
+    (after ≡ m) × IsSame log after_log × IsTrue (is_some log.events || asks_memory m event)
+Noted m log event (Err AllDone) after after_log = ⊥
+Noted m log event (Err Stalled) after after_log = ⊥
+Noted m log event (Err TurnsUsed) after after_log = ⊥
+
+-- where a run stands, with what it has noted
+pub record Point (P S : Type 0) : Type 0 where
+  pub machine : Machine
+  pub programs : List P
+  pub log : Log
+  pub own : S
+  pub stage : Stage
+
+abbrev pub at : {P S : Type 0} → Machine → List P → Log → S → Stage → Point P S
+at m programs log own stage =
+    record { machine = m; programs = programs; log = log; own = own; stage = stage }
+
+-- its position, after so many turns
+abbrev pub position : {P S : Type 0} → Point P S → ℕ → Position P S
+position p turns =
+    record {
+      machine = p.machine;
+      programs = p.programs;
+      own = p.own;
+      stage = p.stage;
+      has_progressed = p.log.has_progressed;
+      turns = turns;
+    }
+
+-- events are kept exactly if they were
+abbrev pub KeepsAs : Log → Log → Type 0
+KeepsAs log after = is_some after.events ≡ is_some log.events
+
+-- a run that follows its plan to the one point follows it to the other, whatever the most turns are
+abbrev pub Leads : {P S : Type 0} → Acts P → Schedule P S → Point P S → Point P S → Type 0
+Leads {P} {S} acts schedule p q = KeepsAs p.log q.log × ((limit : ℕ) (start : Position P S) (turns : ℕ) →
+    Arrives (plan_of acts schedule limit) start p.log.events (position p turns) →
+    Arrives (plan_of acts schedule limit) start q.log.events (position q turns))
+
+-- a run that follows its plan to the point ends with this machine, these programs and this log
+abbrev pub Stops : {P S : Type 0} → Acts P → Schedule P S → Point P S → Machine → List P → Log → End → Type 0
+Stops {P} {S} acts schedule p m programs log end = KeepsAs p.log log × ((limit : ℕ) (start : Position P S)
+    (turns : ℕ) → Arrives (plan_of acts schedule limit) start p.log.events (position p turns) →
+    Finishes (plan_of acts schedule limit) start log.events m programs end)
+
+-- a part of a run leads from the one point to the other, or ends the run
+abbrev pub Led : {X : Type 0} {P S : Type 0} → Acts P → Schedule P S → Point P S → Result X End →
+    Point P S → Type 0
+Led acts schedule p (Ok x) q = Leads acts schedule p q
+Led acts schedule p (Err end) q = Stops acts schedule p q.machine q.programs q.log end

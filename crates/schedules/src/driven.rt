@@ -1,0 +1,77 @@
+//! Turns of any schedule from the first one, and what they came to.
+ghost use Rattle.std.specs.Prelude.{◌≡◌, ◌<◌, [], false, true, is_some, None, IfSome, ℕ};
+ghost use Rattle.machine_table.specs.Runs.{after_all};
+ghost use Rattle.machine_table.specs.Machine.{open_op};
+ghost use Rattle.programs.specs.Acts.{next_in};
+ghost use Rattle.schedules.specs.Notes.{KeepsAs};
+ghost use Rattle.schedules.specs.RunEvents.{Ended, Known, initial};
+ghost use Rattle.schedules.specs.Runs.{plan_of};
+ghost use Rattle.machine_theorem.specs.Service.{AreServed};
+ghost use Rattle.schedules.specs.GivenSteps.{GivesSteps};
+
+use crate::log::Log;
+use crate::run::run;
+use crate::schedule::Schedule;
+use interleaving_core::{Event, System};
+use programs::End;
+use programs::program::Program;
+use std::alloc::Global;
+
+/// What a run came to: its end, and the events that the machine was given, in order.
+#[derive(Drop)]
+pub struct Driven {
+    pub end: End,
+    pub events: Vec<Event>,
+}
+
+// Turns until a run ends, of a schedule that issues and advances cores as their programs say.
+pub(crate) fn finish<P: Program, S: Schedule<P>>(
+    schedule: &mut S,
+    system: &mut System,
+    programs: &mut [P],
+    log: &mut Log,
+    limit: u32,
+) -> End
+    requires gives { GivesSteps P.acts S.rule }
+    requires nothing_yet { IfSome log.old.events (λ events. events ≡ []) }
+    requires no_progress_yet { log.old.has_progressed ≡ false }
+    ensures ended { Known log.new.events (λ events.
+        Ended (is_some log.new.events) (plan_of P.acts S.rule limit)
+        (initial system.old programs.old schedule.old) events system.new programs.new result
+        × (system.new ≡ after_all system.old events)) }
+    ensures kept { KeepsAs log.old log.new }
+    ensures all_done { result ≡ End.AllDone → (core : ℕ) → core < system.old.config.cores →
+        (open_op system.new core ≡ None) × (next_in P.acts programs.new core ≡ None) }
+    ensures served { AreServed P.acts system.old system.new programs.old programs.new }
+{
+    let _cores = system.cores();
+    let _before = system.records();
+    let end = run(schedule, system, programs, log, limit);
+    let _after = system.records();
+    end
+}
+
+// The same, with the list of events.
+pub(crate) fn drive<P: Program, S: Schedule<P>>(
+    alloc: Global,
+    system: &mut System,
+    programs: &mut [P],
+    schedule: &mut S,
+    limit: u32,
+) -> Driven
+    requires { GivesSteps P.acts S.rule }
+    ensures schedule { Ended true (plan_of P.acts S.rule limit)
+        (initial system.old programs.old schedule.old)
+        result.events.items system.new programs.new result.end }
+    ensures machine { system.new ≡ after_all system.old result.events.items }
+    ensures all_done { result.end ≡ End.AllDone → (core : ℕ) → core < system.old.config.cores →
+        (open_op system.new core ≡ None) × (next_in P.acts programs.new core ≡ None) }
+    ensures served { AreServed P.acts system.old system.new programs.old programs.new }
+{
+    let mut log = Log::new(alloc);
+    let end = finish(schedule, system, programs, &mut log, limit);
+    Driven {
+        end,
+        events: log.into_events(),
+    }
+}

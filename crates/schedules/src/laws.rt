@@ -1,0 +1,42 @@
+//! Which answers are progress, and that a run has no choice. A function does nothing: its contract is the law.
+ghost use Rattle.std.specs.Prelude.{◌≡◌, ◌≢◌, false, true, ℕ, List};
+ghost use Rattle.physiological_order.specs.declared.operation.Record.{Record};
+ghost use Rattle.machine_table.specs.Machine.{Machine};
+ghost use Rattle.machine_table.specs.declared.event.Event.{Event};
+ghost use Rattle.machine_table.specs.declared.event.Answer.TheVariants as answer;
+ghost use Rattle.machine_table.specs.declared.event.Refusal.{Refusal};
+ghost use Rattle.programs.specs.declared.ends.End.{End};
+ghost use Rattle.schedules.specs.declared.policy.Policy.{Policy};
+ghost use Rattle.schedules.specs.Policies.{EndedBy};
+ghost use Rattle.schedules.specs.Runs.{is_progress};
+
+use programs::End;
+use programs::program::Program;
+
+/// A round goes on if one of its answers is none of Waiting, Held and the refusals.
+pub fn progress_is_all_but_waiting()
+    ensures issued { is_progress answer.Issued ≡ true }
+    ensures completed { (done : Record) → is_progress (answer.Completed done) ≡ true }
+    ensures requested { is_progress answer.Requested ≡ true }
+    ensures idle { is_progress answer.Idle ≡ true }
+    ensures delivered { is_progress answer.Delivered ≡ true }
+    ensures dropped { is_progress answer.Dropped ≡ true }
+    ensures started { is_progress answer.Started ≡ true }
+    ensures evicted { is_progress answer.Evicted ≡ true }
+    ensures recalled { is_progress answer.Recalled ≡ true }
+    ensures advanced { is_progress answer.Advanced ≡ true }
+    ensures waiting { is_progress answer.Waiting ≡ false }
+    ensures held { is_progress answer.Held ≡ false }
+    ensures refused { (why : Refusal) → is_progress (answer.Refused why) ≡ false }
+{}
+
+/// Of two runs of one policy and limit, from one machine and the same programs, that end otherwise than for want of
+/// memory, the events are the same, and so are the machine, the programs and the end. So one seed gives one list.
+pub fn one_seed_gives_one_list<P: Program>()
+    ensures { (policy : Policy) (limit : ℕ) (start : Machine) (opening : List P)
+        (events more : List Event) (m n : Machine) (programs others : List P) (end last : End) →
+        EndedBy P.acts policy limit start opening events m programs end →
+        EndedBy P.acts policy limit start opening more n others last →
+        end ≢ End.NoMemory → last ≢ End.NoMemory →
+        (events ≡ more) × (m ≡ n) × (programs ≡ others) × (end ≡ last) }
+{}

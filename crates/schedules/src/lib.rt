@@ -1,0 +1,23 @@
+//! Drives a machine by a schedule: programs give its cores their steps, and each event that the machine is given is the
+//! one that the schedule has next. docs/SCHEDULES.md has the schedules.
+#![tactic(auto)]
+
+mod driven;
+pub mod laws;
+mod log;
+mod look_ups;
+pub mod policies;
+mod policy;
+mod round;
+pub mod rounds;
+mod run;
+mod schedule;
+mod seed;
+pub mod seeds;
+mod turn;
+
+pub use driven::Driven;
+pub use policies::run_to_end;
+pub use policy::Policy;
+pub use rounds::drive_round;
+pub use seeds::drive_seed;

@@ -1,0 +1,182 @@
+//! The events that a run made, each noted as it is answered.
+ghost use Rattle.std.specs.Prelude.{◌≡◌, ◌<◌, ◌++◌, ◌∷◌, [], false, ◌||◌, IsSome, None, OnErr, OnOk, Some};
+ghost use Rattle.std.specs.Prelude.{is_some, option_map, true};
+ghost use Rattle.schedules.specs.Notes.{Noted, is_no_memory};
+ghost use Rattle.schedules.specs.Runs.{is_advanced, is_exhausted, is_held, is_progress, is_no_room};
+
+use interleaving_core::{Answer, Event, Refusal, System};
+use machine_table::laws::every_answer_keeps_its_word;
+use physiological_order::Op;
+use programs::End;
+use std::alloc::{AllocError, Global};
+use std::marker::Model;
+
+// The events of a run so far, if it keeps them, and whether one of them was progress in this turn.
+#[derive(Drop)]
+pub(crate) struct Log {
+    events: Vec<Event>,
+    keeps: bool,
+    has_progressed: bool,
+}
+
+impl Model for Log {
+    ghost use Rattle.std.specs.Prelude.{◌-◌, None, Some, if◌then◌else◌, vec_capacity, vec_len};
+    ghost use Rattle.schedules.specs.Notes.{Log};
+
+    ghost Value = { Log };
+
+    ghost view = { λ a. record {
+      events = if a.keeps then Some a.events.items else None;
+      has_progressed = a.has_progressed;
+      reserved = if a.keeps then vec_capacity a.events - vec_len a.events else 1;
+    } };
+}
+
+// Whether an answer is more than Waiting, Held or a refusal.
+fn is_progress(answer: &Answer) -> bool
+    ensures { result ≡ is_progress answer.now }
+{
+    !matches!(*answer, Answer::Waiting | Answer::Held | Answer::Refused(_))
+}
+
+pub(crate) fn is_held(answer: &Answer) -> bool
+    ensures { result ≡ is_held answer.now }
+{
+    matches!(*answer, Answer::Held)
+}
+
+pub(crate) fn is_no_room(answer: &Answer) -> bool
+    ensures { result ≡ is_no_room answer.now }
+{
+    matches!(*answer, Answer::Refused(Refusal::NoRoom))
+}
+
+pub(crate) fn is_advanced(answer: &Answer) -> bool
+    ensures { result ≡ is_advanced answer.now }
+{
+    matches!(*answer, Answer::Advanced)
+}
+
+fn is_no_memory(answer: &Answer) -> bool
+    ensures { result ≡ is_no_memory answer.now }
+{
+    matches!(*answer, Answer::Refused(Refusal::NoMemory))
+}
+
+fn is_exhausted(answer: &Answer) -> bool
+    ensures { result ≡ is_exhausted answer.now }
+{
+    matches!(*answer, Answer::Refused(Refusal::Exhausted))
+}
+
+impl Log {
+    // Nothing is noted, and events are to be kept; this takes no memory yet.
+    pub(crate) fn new(alloc: Global) -> Log
+        ensures events { result.events ≡ Some [] }
+        ensures progressed { result.has_progressed ≡ false }
+    {
+        Log {
+            events: Vec::new(alloc),
+            keeps: true,
+            has_progressed: false,
+        }
+    }
+
+    // The same, where no event is kept; this never takes memory.
+    pub(crate) fn without_events(alloc: Global) -> Log
+        ensures events { result.events ≡ None }
+        ensures progressed { result.has_progressed ≡ false }
+    {
+        Log {
+            events: Vec::new(alloc),
+            keeps: false,
+            has_progressed: false,
+        }
+    }
+
+    // A turn begins.
+    pub(crate) fn begin_turn(&mut self)
+        ensures { self.new ≡ record self.old { has_progressed = false } }
+    {
+        self.has_progressed = false;
+    }
+
+    // Whether an answer of this turn was progress.
+    pub(crate) fn has_progressed(&self) -> bool
+        ensures { result ≡ self.now.has_progressed }
+    {
+        self.has_progressed
+    }
+
+    // The events, which were kept.
+    pub(crate) fn into_events(self) -> Vec<Event>
+        requires { IsSome self.events }
+        ensures { self.events ≡ Some result.items }
+    {
+        self.events
+    }
+
+    // Reserves memory for one more event.
+    #[inline(always)]
+    fn reserve(&mut self) -> Result<(), AllocError>
+        ensures events { self.new.events ≡ self.old.events }
+        ensures progressed { self.new.has_progressed ≡ self.old.has_progressed }
+        ensures ok { OnOk result (0 < self.new.reserved) }
+        ensures refused { OnErr result (is_some self.old.events ≡ true) }
+    {
+        if !self.keeps {
+            return Ok(());
+        }
+        self.events.reserve(1)
+    }
+
+    // An event is added if events are kept; memory was reserved for it.
+    #[inline(always)]
+    fn keep(&mut self, event: &Event)
+        requires { 0 < self.old.reserved }
+        ensures events { self.new.events ≡
+            option_map (λ events. events ++ event.now ∷ []) self.old.events }
+        ensures progressed { self.new.has_progressed ≡ self.old.has_progressed }
+    {
+        // The check finds the parts of an event only where the function names an operation's type.
+        let _op: Option<Op> = None;
+        if !self.keeps {
+            return;
+        }
+        self.events.push_reserved(*event);
+    }
+
+    // An answered event is noted, for which memory was reserved.
+    #[inline(always)]
+    fn note(&mut self, event: &Event, answer: &Answer)
+        requires { 0 < self.old.reserved }
+        ensures events { self.new.events ≡
+            option_map (λ events. events ++ event.now ∷ []) self.old.events }
+        ensures progressed { self.new.has_progressed ≡ (self.old.has_progressed
+            || is_progress answer.now) }
+    {
+        self.keep(event);
+        self.has_progressed = self.has_progressed || is_progress(answer);
+    }
+}
+
+// Gives the machine an event and notes it. An error ends the run: Exhausted, where the event is noted, or NoMemory,
+// where nothing changed and it isn't. That comes only if the event asks for memory, or is to be kept.
+#[inline(always)]
+pub(crate) fn step(log: &mut Log, system: &mut System, event: &Event) -> Result<Answer, End>
+    ensures { Noted system.old log.old event.now result system.new log.new }
+{
+    every_answer_keeps_its_word();
+    if log.reserve().is_err() {
+        return Err(End::NoMemory);
+    }
+    let answer = system.step(*event);
+    if is_no_memory(&answer) {
+        return Err(End::NoMemory);
+    }
+    log.note(event, &answer);
+    if is_exhausted(&answer) {
+        return Err(End::Exhausted);
+    }
+    Ok(answer)
+}

@@ -1,0 +1,55 @@
+//! A run by a policy to its end, without its list of events.
+ghost use Rattle.std.specs.Prelude.{◌≡◌, ◌<◌, List, None, length, ℕ};
+ghost use Rattle.machine_table.specs.Runs.{after_all};
+ghost use Rattle.machine_table.specs.declared.event.Event.{Event};
+ghost use Rattle.machine_table.specs.Machine.{open_op};
+ghost use Rattle.programs.specs.Acts.{next_in};
+ghost use Rattle.schedules.specs.Policies.{EndedBy};
+ghost use Rattle.machine_theorem.specs.Service.{AreServed};
+
+use crate::driven::finish;
+use crate::log::Log;
+use crate::policy::Policy;
+use crate::round::Rounds;
+use crate::seed::Seeds;
+use crate::seeds::order_as_before;
+use interleaving_core::System;
+use programs::End;
+use programs::program::Program;
+use std::alloc::Global;
+
+/// Drives the machine as `drive_round` and `drive_seed` do, and gives the end alone: there is a list of events, but it
+/// isn't kept, and no event takes memory for it. So the end is NoMemory only before an event that asks for memory, an
+/// issue or the first store of a line in its DRAM, or where the schedule lists messages or lines. Afterwards the
+/// machine keeps its lines in rising order exactly if it did before.
+pub fn run_to_end<P: Program>(
+    alloc: Global,
+    system: &mut System,
+    programs: &mut [P],
+    policy: Policy,
+    limit: u32,
+) -> End
+    requires one_each { length programs.old ≡ system.old.config.cores }
+    ensures ended { (events : List Event)
+        × EndedBy P.acts policy limit system.old programs.old events system.new programs.new result
+        × (system.new ≡ after_all system.old events) }
+    ensures all_done { result ≡ End.AllDone → (core : ℕ) → core < system.old.config.cores →
+        (open_op system.new core ≡ None) × (next_in P.acts programs.new core ≡ None) }
+    ensures served { AreServed P.acts system.old system.new programs.old programs.new }
+{
+    let mut log = Log::without_events(alloc);
+    match policy {
+        Policy::Rounds => {
+            let mut schedule = Rounds::new(alloc, system.cores());
+            finish(&mut schedule, system, programs, &mut log, limit)
+        }
+        Policy::Seed(seed) => {
+            let mut schedule = Seeds::new(seed);
+            let had_order = system.keeps_order();
+            system.keep_order();
+            let end = finish(&mut schedule, system, programs, &mut log, limit);
+            order_as_before(system, had_order);
+            end
+        }
+    }
+}

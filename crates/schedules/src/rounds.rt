@@ -1,0 +1,42 @@
+//! The schedule of rounds, until a run ends.
+ghost use Rattle.std.specs.Prelude.{◌≡◌, ◌<◌, true, None, length, ℕ};
+ghost use Rattle.machine_table.specs.Runs.{after_all};
+ghost use Rattle.machine_table.specs.Machine.{open_op};
+ghost use Rattle.programs.specs.Acts.{next_in};
+ghost use Rattle.schedules.specs.RoundSchedule.{no_round, rounds};
+ghost use Rattle.schedules.specs.RunEvents.{Ended, initial};
+ghost use Rattle.schedules.specs.Runs.{plan_of};
+ghost use Rattle.machine_theorem.specs.Service.{AreServed};
+
+use crate::driven::{Driven, drive};
+use crate::round::Rounds;
+use interleaving_core::System;
+use programs::End;
+use programs::program::Program;
+use std::alloc::Global;
+
+/// Drives the machine by the schedule of rounds (docs/SCHEDULES.md), one program a core, until every program is done,
+/// a round went by without progress, `limit` rounds were made, times are exhausted or allocation failed. The events
+/// are those that the schedule has, each by the machine and the programs as they then are, and so is the end, unless it
+/// is NoMemory. That comes before an event alone, or where the messages in flight are listed, behind the last core of a
+/// round. What was given to the machine is in the list, and nothing else. Whatever the end, each core that had no
+/// open operation before was issued what its program gave, in order, and the program was told what each completed
+/// operation received, in order.
+pub fn drive_round<P: Program>(
+    alloc: Global,
+    system: &mut System,
+    programs: &mut [P],
+    limit: u32,
+) -> Driven
+    requires one_each { length programs.old ≡ system.old.config.cores }
+    ensures schedule { Ended true (plan_of P.acts (rounds P.acts) limit)
+        (initial system.old programs.old (no_round system.old.config.cores))
+        result.events.items system.new programs.new result.end }
+    ensures machine { system.new ≡ after_all system.old result.events.items }
+    ensures all_done { result.end ≡ End.AllDone → (core : ℕ) → core < system.old.config.cores →
+        (open_op system.new core ≡ None) × (next_in P.acts programs.new core ≡ None) }
+    ensures served { AreServed P.acts system.old system.new programs.old programs.new }
+{
+    let mut schedule = Rounds::new(alloc, system.cores());
+    drive(alloc, system, programs, &mut schedule, limit)
+}

@@ -1,0 +1,354 @@
+//! The seeded schedule: each turn draws two words, the first for a list of events, the second for the entry of it that
+//! is made. No list of events is built: the cores that do something are listed, other entries are counted, and the one
+//! that is wanted is looked up.
+ghost use Rattle.std.specs.Prelude.{◌≡◌, ◌∷◌, [], ◌<◌, ◌≤◌, ◌+◌, ◌%◌, ◌*◌, ◌^◌, ℕ, List, length, IfOk, Some};
+ghost use Rattle.std.specs.Prelude.{if◌then◌else◌, slice_get, slice_index_or};
+ghost use Rattle.interleaving_core.specs.LookUps.{entries, free_copies};
+ghost use Rattle.machine_table.specs.Machine.{open_op};
+ghost use Rattle.line_sets.specs.Rising.{risen};
+ghost use Rattle.programs.specs.Acts.{next_in};
+ghost use Rattle.schedules.specs.SeedSchedule.{advances, core_step, core_steps, entry, line_events, of_seed, steps};
+ghost use Rattle.schedules.specs.SeedViews.{Picks, PicksAny, PicksOne, StepsAt};
+
+use crate::look_ups::next_in;
+use crate::schedule::{Choice, Schedule};
+use interleaving_core::{Event, System};
+use network::LineNo;
+use physiological_order::Op;
+use programs::Step;
+use programs::program::Program;
+use rand_core::SeedableRng;
+use rand_core::utils::NextWord;
+use rand_pcg::Pcg32;
+use std::alloc::AllocError;
+use std::marker::Model;
+
+// The generator, and the words that were drawn for the turn, until its event is answered.
+#[derive(Drop)]
+pub(crate) struct Seeds {
+    generator: Pcg32,
+    drawn: Option<(u32, u32)>,
+}
+
+impl Model for Seeds {
+    ghost use Rattle.schedules.specs.SeedSchedule.{Seeded};
+
+    ghost Value = { Seeded };
+
+    ghost view = { λ a. record { generator = a.generator; drawn = a.drawn } };
+}
+
+impl Seeds {
+    // Before the first turn.
+    pub(crate) fn new(seed: u64) -> Seeds
+        ensures { result ≡ of_seed seed }
+    {
+        Seeds {
+            generator: Pcg32::seed_from_u64(seed),
+            drawn: None,
+        }
+    }
+}
+
+// What holds lines that may leave it: the cores' caches, or the banks.
+trait Holder {
+    ghost use Rattle.std.specs.Prelude.{ℕ, List};
+    ghost use Rattle.machine_table.specs.Machine.{Machine};
+    ghost use Rattle.machine_table.specs.declared.event.Event.{Event};
+
+    // How many there are, their lines, and a line's event.
+    ghost holders: { Machine → ℕ };
+
+    ghost lines: { Machine → ℕ → List ℕ };
+
+    ghost eviction: { ℕ → ℕ → Event };
+
+    fn holders(system: &System) -> u32
+        ensures value { result ≡ holders system.now }
+        ensures bound { result ≤ 64 };
+
+    fn count(system: &System, holder: u32) -> usize
+        ensures { result ≡ length (lines system.now holder) };
+
+    fn line(system: &System, holder: u32, at: usize) -> Result<LineNo, AllocError>
+        requires { at < length (lines system.now holder) }
+        ensures { IfOk result (λ line.
+            slice_get (risen (lines system.now holder)) at ≡ Some line) };
+
+    fn eviction(holder: u32, line: LineNo) -> Event
+        ensures { result ≡ eviction holder line };
+}
+
+// The cores, with the copies that aren't pinned.
+struct Copies;
+
+impl Holder for Copies {
+    ghost use Rattle.machine_table.specs.declared.event.Event.TheVariants as event;
+    ghost use Rattle.interleaving_core.specs.LookUps.{free_copies};
+
+    ghost holders = { λ m. m.config.cores };
+
+    ghost lines = { free_copies };
+
+    ghost eviction = { event.EvictCache };
+
+    fn holders(system: &System) -> u32 {
+        system.cores()
+    }
+
+    fn count(system: &System, holder: u32) -> usize {
+        system.free_copies(holder)
+    }
+
+    fn line(system: &System, holder: u32, at: usize) -> Result<LineNo, AllocError> {
+        system.free_copy(holder, at)
+    }
+
+    fn eviction(holder: u32, line: LineNo) -> Event {
+        Event::EvictCache(holder, line)
+    }
+}
+
+// The banks, with the lines that they have Shared or Exclusive.
+struct Entries;
+
+impl Holder for Entries {
+    ghost use Rattle.machine_table.specs.declared.event.Event.TheVariants as event;
+    ghost use Rattle.interleaving_core.specs.LookUps.{entries};
+
+    ghost holders = { λ m. m.config.banks };
+
+    ghost lines = { entries };
+
+    ghost eviction = { event.EvictBank };
+
+    fn holders(system: &System) -> u32 {
+        system.banks()
+    }
+
+    fn count(system: &System, holder: u32) -> usize {
+        system.settled(holder)
+    }
+
+    fn line(system: &System, holder: u32, at: usize) -> Result<LineNo, AllocError> {
+        system.entry(holder, at)
+    }
+
+    fn eviction(holder: u32, line: LineNo) -> Event {
+        Event::EvictBank(holder, line)
+    }
+}
+
+// An advance of a core.
+fn advance(system: &System, b: u32) -> Choice
+    ensures { Picks (entry (advances system.now) b) result }
+{
+    let cores = system.cores();
+    if cores == 0 {
+        return Choice::Over;
+    }
+    Choice::Does(Event::Advance(b % cores))
+}
+
+// The place that a word draws among so many entries. The division is one of 32 bits, which is cheap.
+#[inline(always)]
+fn place_in(b: u32, total: u128) -> u32
+    requires { 0 < total }
+    ensures { result ≡ b % total }
+{
+    if u128::from(b) < total {
+        return b;
+    }
+    b % total as u32
+}
+
+// How many lines each holder has, and all together.
+fn line_count<H: Holder>(system: &System, counts: &mut [usize]) -> u128
+    requires place_each { H.holders system.now ≤ length counts.old }
+    ensures each { (holder : ℕ) → holder < H.holders system.now →
+        slice_get counts.new holder ≡ Some (length (H.lines system.now holder)) }
+    ensures total { result ≡ length (line_events H.eviction (H.lines system.now)
+        (H.holders system.now)) }
+{
+    let mut total = 0;
+    for holder in 0..H::holders(system) {
+        let count = H::count(system, holder);
+        counts[holder as usize] = count;
+        total += count as u128;
+    }
+    total
+}
+
+// The eviction of a line. Each holder is asked once how many it has; there are at most 64 cores and eight banks.
+fn evict<H: Holder>(system: &System, b: u32) -> Result<Choice, AllocError>
+    ensures { PicksOne (entry
+        (line_events H.eviction (H.lines system.now) (H.holders system.now)) b) result }
+{
+    let holders = H::holders(system);
+    let mut counts = [0; 64];
+    let total = line_count::<H>(system, &mut counts);
+    if total == 0 {
+        return Ok(Choice::Over);
+    }
+    let mut at = place_in(b, total) as usize;
+    for holder in 0..holders {
+        let count = counts[holder as usize];
+        if at < count {
+            return match H::line(system, holder, at) {
+                Ok(line) => Ok(Choice::Does(H::eviction(holder, line))),
+                Err(error) => Err(error),
+            };
+        }
+        at -= count;
+    }
+    Ok(Choice::Over)
+}
+
+// What a core does next, if it does something.
+#[inline(always)]
+fn core_step<P: Program>(system: &System, programs: &mut [P], core: u32) -> Option<Choice>
+    ensures step { PicksAny (core_step core (open_op system.now core)
+        (next_in P.acts programs.old core)) result }
+    ensures same { programs.new ≡ programs.old }
+{
+    let _inside: Option<Op> = None;
+    if let Some((_op, is_out)) = system.open_op(core) {
+        if is_out {
+            return None;
+        }
+        return Some(Choice::Tries(core));
+    }
+    match next_in(programs, core) {
+        Some(Step::Op(op)) => Some(Choice::Does(Event::Issue(core, op))),
+        Some(Step::Advance) => Some(Choice::Advances(core)),
+        None => None,
+    }
+}
+
+// One step where a core has an open operation whose request isn't out, or none and its program has a step; else none.
+#[inline(always)]
+fn step_count(is_open: bool, is_out: bool, has_next: bool) -> u32
+    ensures { result ≡ (if is_open then (if is_out then 0 else 1) else
+        (if has_next then 1 else 0)) }
+{
+    u32::from(is_open & !is_out | !is_open & has_next)
+}
+
+// How many steps a core does next: one, or none. The program is asked even while the core waits. So no branch depends
+// on which cores do something, and the processor guesses none of these wrong.
+#[inline(always)]
+fn steps_next<P: Program>(system: &System, programs: &mut [P], core: u32) -> u32
+    ensures step { result ≡ length (core_step core (open_op system.now core)
+        (next_in P.acts programs.old core)) }
+    ensures same { programs.new ≡ programs.old }
+{
+    let (is_open, is_out) = system.open_status(core);
+    let has_next = next_in(programs, core).is_some();
+    step_count(is_open, is_out, has_next)
+}
+
+// The cores that do something next, in rising order, and how many they are. A machine has at most 64.
+fn list_ready<P: Program>(system: &System, programs: &mut [P], ready: &mut [u8]) -> u32
+    requires place_each { 64 ≤ length ready.old }
+    ensures each { (place : ℕ) → place < result → StepsAt P.acts system.now programs.old
+        (slice_index_or ready.new place 0) place }
+    ensures count { result ≡ length (core_steps P.acts system.now programs.old
+        system.now.config.cores) }
+    ensures bound { result ≤ 64 }
+    ensures long { length ready.new ≡ length ready.old }
+    ensures same { programs.new ≡ programs.old }
+{
+    let mut count = 0;
+    for core in 0..system.cores() {
+        ready[count as usize] = core as u8;
+        count += steps_next(system, programs, core);
+    }
+    count
+}
+
+// What a core does next that does something.
+#[inline(always)]
+fn sure_step<P: Program>(system: &System, programs: &mut [P], core: u32) -> Choice
+    requires some { 0 < length (core_step core (open_op system.now core)
+        (next_in P.acts programs.old core)) }
+    ensures step { (next : _) × (core_step core (open_op system.now core)
+        (next_in P.acts programs.old core) ≡ next ∷ []) × Picks next result }
+    ensures same { programs.new ≡ programs.old }
+{
+    match core_step(system, programs, core) {
+        Some(choice) => choice,
+        None => unreachable!(),
+    }
+}
+
+// What the core does next that comes after so many others that do something.
+fn step_at<P: Program>(system: &System, programs: &mut [P], ready: &[u8], place: u32) -> Choice
+    requires inside { place < length (core_steps P.acts system.now programs.old
+        system.now.config.cores) }
+    requires there { place < length ready.now }
+    requires core { StepsAt P.acts system.now programs.old
+        (slice_index_or ready.now place 0) place }
+    ensures step { (next : _) × (slice_get (core_steps P.acts system.now programs.old
+        system.now.config.cores) place ≡ Some next) × Picks next result }
+    ensures same { programs.new ≡ programs.old }
+{
+    sure_step(system, programs, u32::from(ready[place as usize]))
+}
+
+// A step of a core, or the delivery of a message.
+fn step<P: Program>(system: &System, programs: &mut [P], b: u32) -> Choice
+    ensures step { Picks (entry (steps P.acts system.now programs.old) b) result }
+    ensures same { programs.new ≡ programs.old }
+{
+    let mut ready = [0; 64];
+    let count = list_ready(system, programs, &mut ready);
+    let total = u128::from(count) + u128::from(system.messages());
+    if total == 0 {
+        return Choice::Over;
+    }
+    let at = place_in(b, total);
+    if at < count {
+        return step_at(system, programs, &ready, at);
+    }
+    match system.message(at - count) {
+        Some(number) => Choice::Delivers(number),
+        None => unreachable!(),
+    }
+}
+
+impl<P: Program> Schedule<P> for Seeds {
+    ghost use Rattle.schedules.specs.SeedSchedule.{seeded};
+    ghost use Rattle.schedules.specs.SeedViews.{draws_left, IsDrawn};
+
+    ghost rule = { seeded P.acts };
+
+    ghost left = { draws_left };
+
+    ghost ready = { IsDrawn };
+
+    fn begin(&mut self) {
+        let a = self.generator.next_word();
+        let b = self.generator.next_word();
+        self.drawn = Some((a, b));
+    }
+
+    fn choose(&mut self, system: &System, programs: &mut [P]) -> Result<Choice, AllocError> {
+        let Some((a, b)) = self.drawn else {
+            return Ok(Choice::Over);
+        };
+        match a % 16 {
+            0 => Ok(advance(system, b)),
+            1 => evict::<Copies>(system, b),
+            2 => evict::<Entries>(system, b),
+            _ => Ok(step(system, programs, b)),
+        }
+    }
+
+    fn pass(&mut self, full: bool) {
+        self.drawn = None;
+    }
+
+    fn stalls(&self) -> bool {
+        false
+    }
+}

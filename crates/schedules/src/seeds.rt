@@ -1,0 +1,57 @@
+//! The seeded schedule, until a run ends.
+ghost use Rattle.std.specs.Prelude.{◌≡◌, ◌<◌, true, None, length, ℕ};
+ghost use Rattle.machine_table.specs.Runs.{after_all};
+ghost use Rattle.machine_table.specs.Machine.{open_op};
+ghost use Rattle.programs.specs.Acts.{next_in};
+ghost use Rattle.schedules.specs.RunEvents.{Ended, initial};
+ghost use Rattle.schedules.specs.Runs.{plan_of};
+ghost use Rattle.schedules.specs.SeedSchedule.{of_seed, seeded};
+ghost use Rattle.machine_theorem.specs.Service.{AreServed};
+
+use crate::driven::{Driven, drive};
+use crate::seed::Seeds;
+use interleaving_core::System;
+use programs::End;
+use programs::program::Program;
+use std::alloc::Global;
+
+// After a run the machine keeps its lines in rising order exactly if it did before.
+pub(crate) fn order_as_before(system: &mut System, had_order: bool)
+    ensures { system.new ≡ system.old }
+{
+    if !had_order {
+        system.forget_order();
+    }
+}
+
+/// Drives the machine by the seeded schedule (docs/SCHEDULES.md), one program a core, until every program is done,
+/// `limit` turns were made, times are exhausted or allocation failed. A seed is any number of 64 bits; one seed gives
+/// one list of events. The events are those that the schedule has, each by the machine and the programs as they then
+/// are, and so is the end, unless it is NoMemory; it is never Stalled. NoMemory comes before an event alone, or where
+/// an eviction was drawn, whose line is found in a list. What was given to the machine is in the list,
+/// and nothing else. Whatever the end, each core that had no open operation before was issued what its program gave, in
+/// order, and the program was told what each completed operation received, in order. While the run goes on the machine
+/// keeps its lines in rising order (`System::keep_order`); afterwards it does so exactly if it did before.
+pub fn drive_seed<P: Program>(
+    alloc: Global,
+    system: &mut System,
+    programs: &mut [P],
+    seed: u64,
+    limit: u32,
+) -> Driven
+    requires one_each { length programs.old ≡ system.old.config.cores }
+    ensures schedule { Ended true (plan_of P.acts (seeded P.acts) limit)
+        (initial system.old programs.old (of_seed seed))
+        result.events.items system.new programs.new result.end }
+    ensures machine { system.new ≡ after_all system.old result.events.items }
+    ensures all_done { result.end ≡ End.AllDone → (core : ℕ) → core < system.old.config.cores →
+        (open_op system.new core ≡ None) × (next_in P.acts programs.new core ≡ None) }
+    ensures served { AreServed P.acts system.old system.new programs.old programs.new }
+{
+    let mut schedule = Seeds::new(seed);
+    let had_order = system.keeps_order();
+    system.keep_order();
+    let driven = drive(alloc, system, programs, &mut schedule, limit);
+    order_as_before(system, had_order);
+    driven
+}

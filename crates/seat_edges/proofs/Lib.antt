@@ -1,0 +1,10 @@
+mod BankPlaces
+mod CursorMoves
+mod EmptyHands
+mod FullHands
+mod FullTurns
+mod StayingHands
+mod StoppedSeats
+mod PutTurns
+mod Turns
+mod WaitingMessages

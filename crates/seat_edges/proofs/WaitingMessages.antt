@@ -1,0 +1,90 @@
+-- What a serving does where the hand is empty and all held messages wait.
+use Rattle.std.proofs.Common.{◌≡◌, ℕ, suc, ◌+◌, ◌-◌, ◌||◌, inl, inr, Bool, true, false, not, cond}
+use Rattle.std.proofs.Common.{List, [], ◌∷◌, length}
+use Rattle.std.proofs.Common.{Some, None, Result, refl, sym, ap, ◌∙◌, subst, true≢false}
+use Rattle.std.specs.Prelude.{slice_get}
+use Rattle.std.specs.List.{find, list_any}
+use Rattle.inbox.specs.declared.answer.Answer.{Answer}
+use Rattle.inbox.specs.declared.answer.Answer.TheVariants.{Delivered, Dropped, Started, Held, Refused}
+use Rattle.inbox.specs.declared.answer.Refusal.{Refusal}
+use Rattle.inbox.specs.declared.answer.Served.{Served}
+use Rattle.inbox.specs.Inboxes.{InboxState, inbox}
+use Rattle.inbox.specs.Serving.{Place, held_at, held_from, finds_no_place, stays_held, answer_to, asked}
+use Rattle.inbox.specs.Serving.{none_served}
+use Rattle.inbox.specs.Serving.{is_served, served_of, is_refused, serve, serve_by, Serves}
+use Rattle.mailboxes.specs.SeatServing.{seat_result}
+use Rattle.mailboxes.specs.Turns.{is_idle}
+
+module _ {T : Type 0} where
+  has_place : (a : Answer T) → stays_held a ≡ true → finds_no_place a ≡ false
+  has_place (Delivered sent) h = refl
+  has_place Dropped h = refl
+  has_place (Started sent) h = refl
+  has_place Held h = refl
+  has_place (Refused r) h = absurd (true≢false (sym h))
+
+  none-found : (s : Place × T → Bool) (n : ℕ) (ms : List T) →
+      ((k i : ℕ) (x : T) → slice_get ms i ≡ Some x → s (held_at k, x) ≡ false) → find s (held_from n ms) ≡ None
+  none-found s n [] h = refl
+  none-found s n (m ∷ ms) h =
+      ap (λ b. cond b (Some (held_at n, m)) (find s (held_from (n + 1) ms))) (h n 0 m refl)
+      ∙ none-found s (n + 1) ms (λ k i x e. h k (suc i) x e)
+
+  none-any : (s : Place × T → Bool) (n : ℕ) (ms : List T) →
+      ((k i : ℕ) (x : T) → slice_get ms i ≡ Some x → s (held_at k, x) ≡ false) → list_any s (held_from n ms) ≡ false
+  none-any s n [] h = refl
+  none-any s n (m ∷ ms) h =
+      ap (λ b. b || list_any s (held_from (n + 1) ms)) (h n 0 m refl)
+      ∙ none-any s (n + 1) ms (λ k i x e. h k (suc i) x e)
+
+  idle : (held : List T) → is_idle (seat_result (none_served false held)) ≡ true
+  idle [] = refl
+  idle (m ∷ ms) = refl
+
+  module _ {P : Type 0} (table : P → T → ℕ → Answer T × P) (takes_memory : P → T → Bool) where
+    -- each held message waits
+    abbrev pub AllWait : List T → P → Type 0
+    AllWait held p =
+        (i : ℕ) (x : T) → slice_get held i ≡ Some x → stays_held (asked table p x (257 - length held)).0 ≡ true
+
+    waited : (held : List T) (p : P) → AllWait held p →
+        (served_of table held p (held_from 0 held) ≡ None)
+        × (is_refused table held p (held_from 0 held) ≡ false)
+    waited held p wait = (
+      none-found (is_served table held p) 0 held
+          (λ k i x e. ap (λ b. not (b || finds_no_place (asked table p x (257 - length held)).0)) (wait i x e)),
+      none-any (λ x. finds_no_place (answer_to table held p x).0) 0 held
+          (λ k i x e. has_place (asked table p x (257 - length held)).0 (wait i x e)),
+    )
+
+    unserved : (held : List T) (p : P) → AllWait held p →
+        serve table (inbox None held) p ≡ (none_served false held, inbox None held, p)
+    unserved held p wait =
+        let w = waited held p wait in
+        ap (λ y. serve_by table (is_refused table held p (held_from 0 held)) y (inbox None held) p) w.0
+        ∙ ap (λ b. serve_by table b None (inbox None held) p) w.1
+
+    waits-held : (held : List T) (p : P) → AllWait held p → (served : Result Served Refusal) (c : InboxState T)
+        (q : P) → Serves table takes_memory (inbox None held) p served c q →
+        (c ≡ inbox None held) × (is_idle (seat_result served) ≡ true)
+    waits-held held p wait served c q s =
+        elim s [
+          | inl f ↦ (
+            ap (λ (y : Result Served Refusal × InboxState T × P). y.1) f
+                ∙ ap (λ (y : Result Served Refusal × InboxState T × P). y.1) (unserved held p wait),
+            ap (λ (y : Result Served Refusal × InboxState T × P). is_idle (seat_result y.0)) f
+                ∙ ap (λ (y : Result Served Refusal × InboxState T × P). is_idle (seat_result y.0))
+                (unserved held p wait) ∙ idle held,
+          )
+          | inr f ↦ absurd (let some : None ≡ Some f.3.0 = sym (waited held p wait).0 ∙ f.3.1 in cc)
+        ]
+
+    -- nothing comes of the held messages, and they stay
+    pub waits : (b : InboxState T) (p : P) → b.hand ≡ None → AllWait b.held p → (served : Result Served Refusal)
+        (c : InboxState T) (q : P) → Serves table takes_memory b p served c q →
+        (c ≡ b) × (is_idle (seat_result served) ≡ true)
+    waits b p hand wait served c q s =
+        let same : b ≡ inbox None b.held = ap (λ h. inbox h b.held) hand in
+        let w = waits-held b.held p wait served c q
+        (subst (λ (y : InboxState T). Serves table takes_memory y p served c q) same s) in
+        (w.0 ∙ sym same, w.1)

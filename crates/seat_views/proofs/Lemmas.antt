@@ -1,0 +1,6 @@
+-- What the proofs of this crate give to the crates above: they import this file and no other of this folder.
+
+-- Views that are shown, as seats change, are made and are joined.
+pub use Rattle.seat_views.proofs.Seatings.{within, shown_join, shown_set, shown_split}
+-- What there is for one number in place of another, and sums over numbers.
+pub use Rattle.seat_views.proofs.Sums.{at_put, over_put, over_put_by, over_same, put_else, put_here, some_is}

@@ -1,6 +1,0 @@
--- What the proofs of this crate give to the crates above: they import this file and no other of this folder.
-
--- Views that are shown, as seats change, are made and are joined.
-pub use Rattle.seating.proofs.Seatings.{within, shown_join, shown_set, shown_split}
--- What there is for one number in place of another, and sums over numbers.
-pub use Rattle.seating.proofs.Sums.{at_put, over_put, over_put_by, over_same, put_else, put_here, some_is}

@@ -1,5 +1,0 @@
-use Rattle.seating.proofs.Seatings.{shown_set}
-use Rattle.seating.proofs.laws.changed_seats_are_shown.Goals as goal
-
-pub returns : goal.returns
-returns g c = λ blank n views seats id v h. shown_set _ blank n views seats id v h

@@ -1,5 +1,0 @@
-use Rattle.seating.proofs.Seatings.{shown_join}
-use Rattle.seating.proofs.laws.joined_seats_are_shown.Goals as goal
-
-pub returns : goal.returns
-returns g c = λ blank gone n views seats id v other u. shown_join _ blank gone n views seats id v other u

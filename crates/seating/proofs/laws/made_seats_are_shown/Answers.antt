@@ -1,5 +1,0 @@
-use Rattle.seating.proofs.Seatings.{shown_split}
-use Rattle.seating.proofs.laws.made_seats_are_shown.Goals as goal
-
-pub returns : goal.returns
-returns g c = λ blank n views seats id v. shown_split _ blank n views seats id v

@@ -1,0 +1,39 @@
+use Rattle.std.proofs.Common.{◌≡◌, ◌+◌, ◌≤◌, ◌++◌, [], ◌∷◌, List, length, length-append, sym, ap, subst}
+use Rattle.std.proofs.Common.{arith, ◌∙◌}
+use Rattle.seat_views.specs.Seated.{one_more}
+use Rattle.stop_flags.specs.declared.signaler.Signaler.{Signaler}
+use Rattle.stop_flags.proofs.SignalerLists.{new_signaler, more_signalers}
+use Rattle.stop_flags.proofs.opening.open_others.Goals as goal
+
+pub make-seat-requires-clause-desk : goal.make-seat-requires-clause-desk
+make-seat-requires-clause-desk c =
+    let m = c.args.signals.now in
+    let i = c.loop-number.invariant in
+    (i.0.0, m.sized.1, m.sized.2, subst (λ k. k ≤ 16) (sym m.keyed) m.sized.3)
+
+pub make-seat-requires-clause-more : goal.make-seat-requires-clause-more
+make-seat-requires-clause-more c =
+    let m = c.args.signals.now in
+    let i = c.loop-number.invariant in
+    let v = ap (λ y. y.0.made) i.0.1 in
+    let key = m.keyed in
+    let more = c.loop-number-test.true in
+    (ap (λ y. y.0.spent) i.0.1, omega arith, omega arith)
+
+pub loop-number-preserved : goal.loop-number-preserved
+loop-number-preserved c =
+    let i = c.loop-number.invariant in
+    let made = c.make-seat.ensures in
+    let m = c.args.signals.now in
+    let s : Signaler = c.new_signaler.result in
+    let ss : List Signaler = c.loop-number.others.items in
+    let new = c.new_signaler.ensures in
+    let workers = ap (λ y. y.0.mine.workers) made.made.1 ∙ ap (λ y. y.0.mine.workers) i.0.1 in
+    let items : c.push.new.self.items ≡ ss ++ s ∷ [] = c.in_ok-push.ensures.items in
+    let long : length c.push.new.self.items ≡ length ss + 1 = ap length items ∙ length-append ss (s ∷ []) in (
+      (made.desk.0 ∙ i.0.0, made.made.0 ∙ ap (λ y. (one_more y.0, y.1)) i.0.1),
+      omega arith,
+      omega arith,
+      more_signalers m ss c.push.new.self.items s items i.3
+          (new_signaler m s c.make-seat.result (made.desk.2 ∙ i.0.0) workers new.0 new.1),
+    )

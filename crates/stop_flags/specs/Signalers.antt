@@ -1,0 +1,32 @@
+-- Signalers of the same signals.
+use Rattle.std.specs.Prelude.{◌≡◌, ℕ, ◌<◌, List, [], length, Some, slice_get, slice_index_or}
+use Rattle.seat_views.specs.Seated.{first_view}
+use Rattle.stop_flags.specs.declared.signals.Signals.{Signals}
+use Rattle.stop_flags.specs.declared.signaler.Signaler.{Signaler}
+use Rattle.stop_flags.specs.Ties.{Chair}
+use Rattle.stop_flags.specs.Told.{nothing, voice}
+
+-- the signaler is one of these signals
+abbrev pub IsSignalerOf : Signals → Signaler → Type 0
+IsSignalerOf signals s =
+    (s.seat.table_id ≡ signals.table.shared.table_id) × (s.seat.me.0.mine.workers ≡ signals.workers)
+
+-- a signaler as it opens: it has said nothing
+abbrev pub IsNewSignaler : Signals → Signaler → Type 0
+IsNewSignaler signals s = IsSignalerOf signals s × (s.said ≡ nothing)
+
+-- all signalers of a list are so
+abbrev pub AreNewSignalers : Signals → List Signaler → Type 0
+AreNewSignalers signals ss =
+    (i : ℕ) (s : Signaler) → i < length ss → IsNewSignaler signals (slice_index_or ss i s)
+
+-- the same, of each that is looked up
+abbrev pub AllNewSignalers : Signals → List Signaler → Type 0
+AllNewSignalers signals ss =
+    (i : ℕ) (s : Signaler) → slice_get ss i ≡ Some s → IsNewSignaler signals s
+
+-- the first seat, which has made all seats below this number
+abbrev pub HasMade : Signals → ℕ → Chair → Type 0
+HasMade signals n chair =
+    (chair.table_id ≡ signals.table.shared.table_id)
+    × (chair.me ≡ (record (first_view (voice signals.workers nothing)) { made = n }, []))

@@ -1,0 +1,15 @@
+-- What a signaler stores, and what its view has.
+use Rattle.std.specs.Prelude.{◌≡◌, ◌≤◌, false}
+use Rattle.atomic_table.specs.declared.shared.Seat.{Seat}
+use Rattle.seat_views.specs.declared.views.View.{View}
+use Rattle.stop_flags.specs.declared.words.Said.{Said}
+use Rattle.stop_flags.specs.declared.words.Voice.{Voice}
+
+abbrev pub Chair : Type 0
+Chair = Seat (Unit {0}) (View Voice)
+
+-- what is stored is what the view has
+pub record SignalerTied (chair : Chair) (said : Said) : Type 0 where
+  pub live : chair.me.0.spent ≡ false
+  pub mine : chair.me.0.mine.said ≡ said
+  pub few : said.finished ≤ 4294967296

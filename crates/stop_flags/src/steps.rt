@@ -1,0 +1,122 @@
+//! The single steps of a signaler: it tells that a program is finished or that a seat has stopped, and reads the two
+//! words. The first one makes the others.
+ghost use Rattle.std.specs.Prelude.{◌≡◌, ℕ, ◌+◌, ◌*◌, ◌<◌, ◌≤◌, false, []};
+ghost use Rattle.atomic_table.specs.Table.{step};
+ghost use mathlib.Core.Option.{none};
+ghost use Rattle.seat_views.specs.Seated.{one_more, seat_view};
+ghost use Rattle.stop_flags.specs.Told.{nothing, voice, Belongs};
+ghost use Rattle.stop_flags.specs.Told.{told_finished, told_stopped, heard_finished, heard_stopped};
+
+use crate::words::Voice;
+use atomic_table::{Play, Seat, Shared, Split, TableRule};
+use seat_views::View;
+
+type Known = View<Voice>;
+
+/// The rule that all signalers keep.
+pub struct Law;
+
+impl TableRule<(), Known, u32> for Law {
+    ghost use Rattle.seat_views.specs.Seated.{first_view};
+    ghost use Rattle.stop_flags.specs.Told.{Told};
+
+    ghost holds = { Told };
+
+    ghost first = { λ n. first_view (voice n nothing) };
+}
+
+/// A signaler's seat at the table, which has two words: how many programs are finished, and 1 once a seat has stopped.
+pub type Chair = Seat<(), Known>;
+
+/// The table, as signalers share it.
+pub type Desk = Shared<(), Known, u32, Law>;
+
+struct Finishes;
+
+impl Play<(), Known> for Finishes {
+    ghost then = { λ s m r n. told_finished m n };
+}
+
+struct Stops;
+
+impl Play<(), Known> for Stops {
+    ghost then = { λ s m r n. told_stopped m n };
+}
+
+struct HearsFinished;
+
+impl Play<(), Known> for HearsFinished {
+    ghost then = { λ s m r n. heard_finished m r n };
+}
+
+struct HearsStopped;
+
+impl Play<(), Known> for HearsStopped {
+    ghost then = { λ s m r n. heard_stopped m r n };
+}
+
+struct Makes;
+
+impl Split<Known> for Makes {
+    ghost left = { one_more };
+
+    ghost right = { λ v. seat_view v.made (voice v.mine.workers nothing) };
+}
+
+/// Adds 1 to the word of the finished programs.
+pub fn tell_finished(desk: &Desk, seat: &mut Chair)
+    requires desk { Belongs seat.old.table_id desk.now.table_id desk.now.key }
+    requires live { seat.old.me.0.spent ≡ false }
+    requires few { seat.old.me.0.mine.said.finished < 4294967296 }
+    ensures desk { (seat.new.table_id ≡ seat.old.table_id) × (seat.new.id ≡ seat.old.id) }
+    ensures told { told_finished seat.old.me seat.new.me }
+{
+    desk.fetch_add::<Finishes>(seat, 0, 1);
+}
+
+/// Makes the word of the stop 1, whether it is so already or not.
+pub fn tell_stopped(desk: &Desk, seat: &mut Chair)
+    requires desk { Belongs seat.old.table_id desk.now.table_id desk.now.key }
+    requires live { seat.old.me.0.spent ≡ false }
+    ensures desk { (seat.new.table_id ≡ seat.old.table_id) × (seat.new.id ≡ seat.old.id) }
+    ensures told { told_stopped seat.old.me seat.new.me }
+{
+    desk.fetch_or::<Stops>(seat, 1, 1);
+}
+
+/// Reads the word of the finished programs.
+pub fn hear_finished(desk: &Desk, seat: &mut Chair) -> u64
+    requires desk { Belongs seat.old.table_id desk.now.table_id desk.now.key }
+    requires live { seat.old.me.0.spent ≡ false }
+    ensures desk { (seat.new.table_id ≡ seat.old.table_id) × (seat.new.id ≡ seat.old.id) }
+    ensures heard { heard_finished seat.old.me result seat.new.me }
+{
+    desk.load::<HearsFinished>(seat, 0)
+}
+
+/// Reads the word of the stop.
+pub fn hear_stopped(desk: &Desk, seat: &mut Chair) -> u64
+    requires desk { Belongs seat.old.table_id desk.now.table_id desk.now.key }
+    requires live { seat.old.me.0.spent ≡ false }
+    ensures desk { (seat.new.table_id ≡ seat.old.table_id) × (seat.new.id ≡ seat.old.id) }
+    ensures heard { heard_stopped seat.old.me result seat.new.me }
+{
+    desk.load::<HearsStopped>(seat, 1)
+}
+
+/// Makes the next signaler's seat.
+pub fn make(desk: &Desk, first: &mut Chair) -> Chair
+    requires desk { Belongs first.old.table_id desk.now.table_id desk.now.key }
+    requires more { (first.old.me.0.spent ≡ false) × (0 < first.old.me.0.made) ×
+        (first.old.me.0.made < desk.now.key) }
+    ensures desk { (first.new.table_id ≡ first.old.table_id) × (first.new.id ≡ first.old.id) ×
+        (result.table_id ≡ first.old.table_id) }
+    ensures made { (first.new.me ≡ (one_more first.old.me.0, first.old.me.1)) ×
+        (result.me ≡ (
+          seat_view first.old.me.0.made
+              (voice first.old.me.0.mine.workers nothing),
+          [],
+        )) }
+{
+    desk.split_seat::<Makes>(first)
+}

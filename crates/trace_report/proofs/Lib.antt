@@ -1,5 +1,0 @@
-mod Unread
-mod CoreCounts
-mod InTrace
-mod FewRecords
-mod Pairs

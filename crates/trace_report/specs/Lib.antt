@@ -1,4 +1,0 @@
-pub mod Runs
-pub mod Refusals
-pub mod Reports
-pub mod Verdicts

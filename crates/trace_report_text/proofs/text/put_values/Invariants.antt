@@ -1,6 +1,0 @@
-use Rattle.std.proofs.Common.{◌≡◌, ◌++◌, take}
-use Rattle.trace_report_text.specs.Text.{values_text}
-use Rattle.trace_report_text.proofs.text.put_values.Given as goal
-
-abbrev pub invariant-loop-word : goal.invariant-loop-word
-invariant-loop-word l = l.out.items ≡ l.fn.out.items ++ values_text (take l.word-index l.values)

@@ -1,0 +1,64 @@
+-- The text that reports on the run of a trace.
+use Rattle.std.specs.Prelude.{ℕ, Bool, true, false, List, ◌++◌, length, codes, count_by}
+use Rattle.std.specs.List.{flat_map}
+use Rattle.physiological_order.specs.declared.operation.Op.{Op}
+use Rattle.physiological_order.specs.declared.operation.Op.TheVariants.{Load, Store, Swap}
+use Rattle.physiological_order.specs.declared.operation.Record.{Record}
+use Rattle.physiological_order.specs.declared.verdict.Verdict.TheVariants.{Legal}
+use Rattle.report_lines.specs.Lines.{counts_text, field, value_line, word_line}
+use Rattle.programs.specs.declared.ends.End.{End}
+use Rattle.programs.specs.declared.ends.End.TheVariants.{AllDone, Stalled, TurnsUsed, Exhausted, NoMemory}
+use Rattle.trace_texts.specs.Verdicts.{order_line}
+use Rattle.trace_texts.specs.declared.reports.TraceEnd.{TraceEnd}
+
+abbrev pub end_name : End → List ℕ
+end_name AllDone = codes "all-done"
+end_name Stalled = codes "stalled"
+end_name TurnsUsed = codes "limit"
+end_name Exhausted = codes "exhausted"
+end_name NoMemory = codes "memory"
+
+abbrev pub is_load : Op → Bool
+is_load (Load word) = true
+is_load (Store word value) = false
+is_load (Swap word value) = false
+
+abbrev pub is_store : Op → Bool
+is_store (Load word) = false
+is_store (Store word value) = true
+is_store (Swap word value) = false
+
+abbrev pub is_swap : Op → Bool
+is_swap (Load word) = false
+is_swap (Store word value) = false
+is_swap (Swap word value) = true
+
+-- the cores, how many operations were issued and how many completed, and how the run ended
+abbrev pub ends_text : TraceEnd → ℕ → List ℕ
+ends_text run completed = field (codes "cores") run.cores
+    ++ field (codes "issued") run.issued
+    ++ field (codes "completed") completed
+    ++ word_line (codes "end") (end_name run.end)
+
+abbrev pub loads_among : List Record → ℕ
+loads_among records = count_by (λ r. is_load r.op) records
+
+abbrev pub stores_among : List Record → ℕ
+stores_among records = count_by (λ r. is_store r.op) records
+
+abbrev pub swaps_among : List Record → ℕ
+swaps_among records = count_by (λ r. is_swap r.op) records
+
+-- how many of the completed operations are of each kind
+abbrev pub kinds_text : List Record → List ℕ
+kinds_text records = field (codes "loads") (loads_among records)
+    ++ field (codes "stores") (stores_among records)
+    ++ field (codes "swaps") (swaps_among records)
+
+-- a line for each word with its value, in order
+abbrev pub values_text : List (ℕ × ℕ) → List ℕ
+values_text values = flat_map (λ v. value_line v.0 v.1) values
+
+unfoldable pub trace_text : TraceEnd → List Record → List (ℕ × ℕ) → List ℕ
+trace_text run records values = ends_text run (length records) ++ kinds_text records ++ counts_text run.counts
+    ++ field (codes "stale-hits") run.stale ++ order_line Legal ++ values_text values

@@ -1,0 +1,13 @@
+//! The texts that are written of traces: records, as the reader of records reads them back, the report on a run, and the
+//! line of a verdict.
+#![tactic(auto)]
+
+mod fields;
+pub mod laws;
+mod records;
+mod reports;
+mod verdicts;
+
+pub use records::records_text;
+pub use reports::{TraceEnd, trace_text};
+pub use verdicts::check_text;

@@ -1,0 +1,127 @@
+//! The text of a trace's run, part by part.
+
+ghost use Rattle.std.specs.Prelude.{◌≡◌, ◌++◌, OnOk, IfOk};
+ghost use Rattle.trace_texts.specs.Reports.{end_name, is_load, is_store, is_swap};
+ghost use Rattle.trace_texts.specs.Reports.{loads_among, stores_among, swaps_among};
+ghost use Rattle.trace_texts.specs.Reports.{ends_text, kinds_text, trace_text, values_text};
+
+use crate::verdicts::put_order;
+use network::Counts;
+use physiological_order::{Op, Record, WordAddr};
+use programs::End;
+use report_lines::{put_counts, put_field, put_value, put_word};
+use std::alloc::{AllocError, Global};
+
+/// What the run of a trace came to, beside its records and the values that it left.
+#[derive(Clone, Copy, Debug)]
+pub struct TraceEnd {
+    /// How many cores the machine has.
+    pub cores: u32,
+    /// How many operations it was issued, over all cores.
+    pub issued: u128,
+    pub end: End,
+    /// How many renewals, upgrades, flushes and write-backs were sent.
+    pub counts: Counts,
+    /// How many of the records are loads of a value that was overwritten by a smaller completion number at a greater
+    /// time.
+    pub stale: u64,
+}
+
+// How a run ended, in a word.
+fn end_name(end: End) -> &'static [u8]
+    ensures { result.now ≡ end_name end }
+{
+    match end {
+        End::AllDone => b"all-done",
+        End::Stalled => b"stalled",
+        End::TurnsUsed => b"limit",
+        End::Exhausted => b"exhausted",
+        End::NoMemory => b"memory",
+    }
+}
+
+fn is_load(op: Op) -> bool
+    ensures { result ≡ is_load op }
+{
+    matches!(op, Op::Load(_))
+}
+
+fn loads_among(records: &[Record]) -> usize
+    ensures { result ≡ loads_among records.now }
+{
+    records.iter().filter(|record| is_load(record.op)).count()
+}
+
+fn is_store(op: Op) -> bool
+    ensures { result ≡ is_store op }
+{
+    matches!(op, Op::Store(_, _))
+}
+
+fn stores_among(records: &[Record]) -> usize
+    ensures { result ≡ stores_among records.now }
+{
+    records.iter().filter(|record| is_store(record.op)).count()
+}
+
+fn is_swap(op: Op) -> bool
+    ensures { result ≡ is_swap op }
+{
+    matches!(op, Op::Swap(_, _))
+}
+
+fn swaps_among(records: &[Record]) -> usize
+    ensures { result ≡ swaps_among records.now }
+{
+    records.iter().filter(|record| is_swap(record.op)).count()
+}
+
+// The cores, how many operations were issued and completed, and how the run ended.
+fn put_ends(out: &mut Vec<u8>, run: &TraceEnd, completed: usize) -> Result<(), AllocError>
+    ensures { OnOk result (out.new.items ≡ out.old.items ++ ends_text run.now completed) }
+{
+    put_field(out, b"cores", u128::from(run.cores))?;
+    put_field(out, b"issued", run.issued)?;
+    put_field(out, b"completed", completed as u128)?;
+    put_word(out, b"end", end_name(run.end))
+}
+
+// How many loads, stores and swaps there are among the completed operations.
+fn put_kinds(out: &mut Vec<u8>, records: &[Record]) -> Result<(), AllocError>
+    ensures { OnOk result (out.new.items ≡ out.old.items ++ kinds_text records.now) }
+{
+    put_field(out, b"loads", loads_among(records) as u128)?;
+    put_field(out, b"stores", stores_among(records) as u128)?;
+    put_field(out, b"swaps", swaps_among(records) as u128)
+}
+
+// A line for each word, in order.
+fn put_values(out: &mut Vec<u8>, values: &[(WordAddr, u64)]) -> Result<(), AllocError>
+    ensures { OnOk result (out.new.items ≡ out.old.items ++ values_text values.now) }
+{
+    for (word, value) in values {
+        put_value(out, *word, *value)?;
+    }
+    Ok(())
+}
+
+/// The text that reports on the run of a trace that left these records, by rising number, and these values of the
+/// words that the trace names, in lines that end with a line feed (docs/TEXTS.md).
+#[tactic(auto, unfolding(crate::specs::Reports::trace_text))]
+pub fn trace_text(
+    alloc: Global,
+    run: &TraceEnd,
+    records: &[Record],
+    values: &[(WordAddr, u64)],
+) -> Result<Vec<u8>, AllocError>
+    ensures { IfOk result (λ text. text.items ≡ trace_text run.now records.now values.now) }
+{
+    let mut out = Vec::new(alloc);
+    put_ends(&mut out, run, records.len())?;
+    put_kinds(&mut out, records)?;
+    put_counts(&mut out, run.counts)?;
+    put_field(&mut out, b"stale-hits", u128::from(run.stale))?;
+    put_order(&mut out)?;
+    put_values(&mut out, values)?;
+    Ok(out)
+}

@@ -1,5 +1,0 @@
-use Rattle.worker_driver.proofs.SameRuns.{same_list}
-use Rattle.worker_driver.proofs.laws.one_seed_gives_one_list.Goals as goal
-
-pub returns : goal.returns
-returns g c = same_list g.P.Program.acts

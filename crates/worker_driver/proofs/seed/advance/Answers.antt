@@ -1,9 +1,0 @@
-use Rattle.std.proofs.Common.{◌%◌, ap, arith}
-use Rattle.worker_driver.proofs.SeedEntries.{advance_entry}
-use Rattle.worker_driver.proofs.seed.advance.Goals as goal
-
-pub returns : goal.returns
-returns c =
-    advance_entry c.args.system.now c.args.b (c.args.b % c.cores-cores.result)
-    (omega (arith, c.if-cores-eq0.false, c.cores-cores.ensures.cores))
-    (ap (λ n. c.args.b % n) c.cores-cores.ensures.cores)

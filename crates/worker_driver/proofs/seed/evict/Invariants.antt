@@ -1,7 +1,0 @@
-use Rattle.std.proofs.Common.{◌≡◌, ◌+◌, ◌%◌, length}
-use Rattle.worker_driver.specs.SeedSchedule.{line_events}
-use Rattle.worker_driver.proofs.seed.evict.Given as goal
-
-abbrev pub invariant-loop-holder : goal.invariant-loop-holder
-invariant-loop-holder g l =
-    length (line_events g.H.Holder.eviction (g.H.Holder.lines l.system) l.holder) + l.at ≡ l.b % l.total

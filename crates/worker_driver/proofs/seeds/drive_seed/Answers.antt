@@ -1,5 +1,0 @@
-use Rattle.worker_driver.proofs.SeedSteps.{seeds_give_steps}
-use Rattle.worker_driver.proofs.seeds.drive_seed.Goals as goal
-
-pub drive-driven-requires : goal.drive-driven-requires
-drive-driven-requires g c = seeds_give_steps g.P.Program.acts

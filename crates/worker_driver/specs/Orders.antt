@@ -1,0 +1,23 @@
+-- How a run goes: by a policy, or by threads.
+use Rattle.std.specs.Prelude.{◌≡◌, ℕ, List, Option, Some, None}
+use Rattle.std.specs.Ordering.{nat_cmp}
+use Rattle.std.specs.FinMap.{FinMap}
+use Rattle.machine_table.specs.declared.config.Config.{Config}
+use Rattle.machine_table.specs.declared.event.Event.{Event}
+use Rattle.machine_table.specs.Machine.{Machine}
+use Rattle.machine_table.specs.Opening.{at_start}
+use Rattle.programs.specs.declared.ends.End.{End}
+use Rattle.programs.specs.Acts.{Acts}
+use Rattle.schedules.specs.declared.policy.Policy.{Policy}
+use Rattle.schedules.specs.Policies.{EndedBy}
+use Rattle.thread_driver.specs.ThreadRuns.{IsThreadRun}
+
+-- A run leads from a machine that is set up and opens so, and these programs, to a machine, other programs and an end.
+-- By a policy it does so by the events of its schedule, with at most so many turns. By threads, which follow no policy,
+-- the machine is then in a state that moves of its parts reach; how many turns there were is not said.
+abbrev pub LeadsTo : {P : Type 0} → Acts P → Option Policy → ℕ → Config → FinMap nat_cmp ℕ → List P → Machine → List P →
+    End → Type 0
+LeadsTo acts (Some policy) limit config opening before m after e =
+    (events : List Event) × EndedBy acts policy limit (at_start config opening) before events m after e
+LeadsTo acts None limit config opening before m after e =
+    (m.config ≡ config) × (m.opening ≡ opening) × IsThreadRun acts before m after e

@@ -1,0 +1,51 @@
+-- The machine that options ask for, which policy a run of it follows, and how far it goes.
+use Rattle.std.specs.Prelude.{ℕ, max, min, nat_le, Bool, ◌&&◌, Option, Some, None}
+use Rattle.run_options.specs.declared.options.MachineOptions.{MachineOptions}
+use Rattle.run_options.specs.declared.options.RunOptions.{RunOptions}
+use Rattle.run_options.specs.declared.options.Schedule.{Schedule}
+use Rattle.run_options.specs.declared.options.Schedule.TheVariants.{Round, Seed as ScheduledBySeed, Threads}
+use Rattle.schedules.specs.declared.policy.Policy.{Policy}
+use Rattle.schedules.specs.declared.policy.Policy.TheVariants.{Rounds, Seed}
+use Rattle.machine_table.specs.declared.config.Config.{Config}
+
+-- so many cores
+abbrev pub config_of : MachineOptions → ℕ → Config
+config_of options cores = record {
+  cores = cores;
+  banks = options.banks;
+  sets = options.sets;
+  ways = options.ways;
+  bank_sets = options.bank_sets;
+  bank_ways = options.bank_ways;
+  line_words = options.line_words;
+  lease = options.lease;
+  messages = options.messages;
+  opening_time = options.time;
+  private_write = options.private_write;
+}
+
+-- no number of the machine's parts is past what any machine has
+abbrev pub fits : MachineOptions → Bool
+fits options =
+    nat_le options.banks 65536 && nat_le options.sets 65536 && nat_le options.ways 65536
+    && nat_le options.bank_sets 65536
+    && nat_le options.bank_ways 65536 && nat_le options.line_words 65536 && nat_le options.messages 65536
+
+-- the most turns of a run
+abbrev pub limit_of : RunOptions → ℕ
+limit_of options = min options.limit 4294967295
+
+-- which policy the first run follows; threads follow none
+abbrev pub policy_by : Schedule → ℕ → Option Policy
+policy_by Round seed = Some Rounds
+policy_by ScheduledBySeed seed = Some (Seed seed)
+policy_by Threads seed = None
+
+abbrev pub policy_of : RunOptions → Option Policy
+policy_of options = policy_by options.schedule options.seed
+
+-- how many threads make the runs: one by rounds, and else as many as is said, from 1 to 16
+abbrev pub workers_by : Schedule → ℕ → ℕ
+workers_by Round workers = 1
+workers_by ScheduledBySeed workers = max (min workers 16) 1
+workers_by Threads workers = max (min workers 16) 1

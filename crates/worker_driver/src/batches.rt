@@ -1,0 +1,115 @@
+//! Runs of a litmus test by seeds, shared by workers; and runs of it by rounds.
+ghost use Rattle.std.specs.Prelude.{◌≡◌, ◌<◌, ◌≤◌, IfOk, List, Some, length, true, ℕ};
+ghost use Rattle.std.specs.List.{AllByRecursion};
+ghost use Rattle.litmus_reader.specs.Grammar.{IsTest};
+ghost use Rattle.litmus_reader.specs.TestViews.{test_of};
+ghost use Rattle.machine_table.specs.SetUp.{is_good};
+ghost use Rattle.schedules.specs.declared.policy.Policy.TheVariants.{Rounds, Seed};
+ghost use Rattle.worker_driver.specs.Outcomes.{HasOutcome};
+ghost use Rattle.worker_driver.specs.Runs.{AreFrom};
+
+use crate::one_run::run_once;
+use crate::shared_runs::SharedRuns;
+use interleaving_core::Config;
+use litmus_reader::Test;
+use report_text::RunEnd;
+use schedules::Policy;
+use shared_jobs::{Gate, run_jobs};
+use std::alloc::{AllocError, Global};
+use std::thread::Threads;
+
+/// `count` runs of the test by seeds: the first one's is `first`, and each further one has the next, modulo 2^64. Each
+/// run has at most `limit` turns. 1 to 16 workers share them; each has one machine with a core for each thread, and opens
+/// it anew for each of its runs, with the test's memory. The list is in the order of the runs, whichever worker made
+/// them. The gate is passed before each run and after it, with the run's number as seat and turn 0. The end state of a
+/// run that is all done is an outcome of the sequential machine. AllocError where there is no memory for the list or the
+/// workers, or for a run that the workers left to the calling thread.
+pub fn batch<R: Threads + Sync, G: Gate + Sync>(
+    rt: &R,
+    alloc: Global,
+    test: &Test,
+    config: Config,
+    first: u64,
+    count: u32,
+    limit: u32,
+    workers: u32,
+    gate: &G,
+) -> Result<Vec<RunEnd>, AllocError>
+    requires good { is_good config ≡ true }
+    requires cores { config.cores ≡ (test_of test.now).threads }
+    requires workers { (0 < workers) × (workers ≤ 16) }
+    ensures count { IfOk result (λ runs. length runs.items ≡ count) }
+    ensures each { IfOk result (λ runs.
+        AreFrom (test_of test.now) config (Some (Seed first)) limit 0 runs.items) }
+    ensures outcomes { IfOk result (λ runs. (text : List ℕ) → IsTest text (test_of test.now) →
+        AllByRecursion (HasOutcome (test_of test.now)) runs.items) }
+{
+    seeded_runs(
+        rt,
+        alloc,
+        test,
+        config,
+        first,
+        u64::from(count),
+        limit,
+        workers,
+        gate,
+    )
+}
+
+/// The runs of a `batch`, of which there may be more.
+pub fn seeded_runs<R: Threads + Sync, G: Gate + Sync>(
+    rt: &R,
+    alloc: Global,
+    test: &Test,
+    config: Config,
+    first: u64,
+    count: u64,
+    limit: u32,
+    workers: u32,
+    gate: &G,
+) -> Result<Vec<RunEnd>, AllocError>
+    requires good { is_good config ≡ true }
+    requires cores { config.cores ≡ (test_of test.now).threads }
+    requires workers { (0 < workers) × (workers ≤ 16) }
+    ensures count { IfOk result (λ runs. length runs.items ≡ count) }
+    ensures each { IfOk result (λ runs.
+        AreFrom (test_of test.now) config (Some (Seed first)) limit 0 runs.items) }
+    ensures outcomes { IfOk result (λ runs. (text : List ℕ) → IsTest text (test_of test.now) →
+        AllByRecursion (HasOutcome (test_of test.now)) runs.items) }
+{
+    let runs = SharedRuns {
+        alloc,
+        test,
+        config,
+        first: Policy::Seed(first),
+        limit,
+    };
+    run_jobs(rt, alloc, &runs, count, workers, gate)
+}
+
+/// `count` runs of the test by rounds, one after the other, each on a new machine with a core for each thread and with at
+/// most `limit` rounds. The end state of a run that is all done is an outcome of the sequential machine. AllocError where
+/// there is no memory for the list, or for a machine or what is told of it.
+pub fn round_runs(
+    alloc: Global,
+    test: &Test,
+    config: Config,
+    count: u64,
+    limit: u32,
+) -> Result<Vec<RunEnd>, AllocError>
+    requires good { is_good config ≡ true }
+    requires cores { config.cores ≡ (test_of test.now).threads }
+    ensures count { IfOk result (λ runs. length runs.items ≡ count) }
+    ensures each { IfOk result (λ runs.
+        AreFrom (test_of test.now) config (Some Rounds) limit 0 runs.items) }
+    ensures outcomes { IfOk result (λ runs. (text : List ℕ) → IsTest text (test_of test.now) →
+        AllByRecursion (HasOutcome (test_of test.now)) runs.items) }
+{
+    let mut runs = Vec::new(alloc);
+    for _ in 0..count {
+        let run = run_once(alloc, test, config, Policy::Rounds, limit)?;
+        runs.push(run)?;
+    }
+    Ok(runs)
+}

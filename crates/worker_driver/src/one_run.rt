@@ -1,0 +1,79 @@
+//! One run of a litmus test by a policy.
+ghost use Rattle.std.specs.Prelude.{◌≡◌, ℕ, true, IfOk, List, OnOk, Some};
+ghost use Rattle.std.specs.FinMap.{empty};
+ghost use Rattle.litmus_reader.specs.Grammar.{IsTest};
+ghost use Rattle.litmus_reader.specs.OpeningMemory.{words_opened};
+ghost use Rattle.litmus_reader.specs.TestViews.{test_of};
+ghost use Rattle.machine_table.specs.Opening.{at_start};
+ghost use Rattle.machine_table.specs.SetUp.{is_good};
+ghost use Rattle.worker_driver.specs.Outcomes.{HasOutcome};
+ghost use Rattle.worker_driver.specs.Runs.{IsRun};
+
+use crate::threads::start_threads;
+use crate::told::told;
+use interleaving_core::{Config, System};
+use litmus_reader::Test;
+use machine_theorem::laws::every_history_is_legal;
+use report_text::RunEnd;
+use schedules::{Policy, run_to_end};
+use sequential_machine::laws::performed_histories_are_sequential;
+use std::alloc::{AllocError, Global};
+
+/// A run of the test on a machine with a core for each thread, by this policy, with at most so many turns. The end
+/// state of a run that is all done is an outcome of the sequential machine.
+pub fn run_once(
+    alloc: Global,
+    test: &Test,
+    config: Config,
+    policy: Policy,
+    limit: u32,
+) -> Result<RunEnd, AllocError>
+    requires good { is_good config ≡ true }
+    requires cores { config.cores ≡ (test_of test.now).threads }
+    ensures run { IfOk result (IsRun (test_of test.now) config (Some policy) limit) }
+    ensures outcome { IfOk result (λ run.
+        (text : List ℕ) → IsTest text (test_of test.now) → HasOutcome (test_of test.now) run) }
+{
+    let mut system = open(alloc, test, config)?;
+    run_on(alloc, test, &mut system, policy, limit)
+}
+
+/// A machine that is set up so and opens with the test's memory.
+pub(crate) fn open(alloc: Global, test: &Test, config: Config) -> Result<System, AllocError>
+    requires { is_good config ≡ true }
+    ensures { IfOk result (λ system. system ≡ at_start config
+        (words_opened (test_of test.now).items empty)) }
+{
+    let memory = test.opening()?;
+    let Ok(system) = System::new(alloc, config, memory) else {
+        return Err(AllocError);
+    };
+    Ok(system)
+}
+
+/// A run of the test, as `run_once` makes it, on a machine that has just opened with the test's memory. The machine's
+/// configuration stays.
+pub(crate) fn run_on(
+    alloc: Global,
+    test: &Test,
+    system: &mut System,
+    policy: Policy,
+    limit: u32,
+) -> Result<RunEnd, AllocError>
+    requires good { is_good system.old.config ≡ true }
+    requires cores { system.old.config.cores ≡ (test_of test.now).threads }
+    requires opened { system.old ≡ at_start system.old.config
+        (words_opened (test_of test.now).items empty) }
+    ensures run { IfOk result (IsRun (test_of test.now) system.old.config (Some policy)
+        limit) }
+    ensures outcome { IfOk result (λ run.
+        (text : List ℕ) → IsTest text (test_of test.now) → HasOutcome (test_of test.now) run) }
+    ensures config { OnOk result (system.new.config ≡ system.old.config) }
+{
+    every_history_is_legal();
+    performed_histories_are_sequential();
+    let mut started = start_threads(alloc, test)?;
+    let threads = started.as_mut_slice();
+    let end = run_to_end(alloc, system, threads, policy, limit);
+    told(alloc, test, end, threads, system)
+}

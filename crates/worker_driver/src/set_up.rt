@@ -1,0 +1,77 @@
+//! The machine that options ask for, and how far a run of it goes.
+ghost use Rattle.std.specs.Prelude.{◌≡◌, ◌<◌, ◌≤◌, ◌^◌, false, true, IfSome, None};
+ghost use Rattle.machine_table.specs.SetUp.{is_good};
+ghost use Rattle.worker_driver.specs.SetUp.{config_of, fits, limit_of, policy_of, workers_by};
+
+use machine_table::Config;
+use run_options::{MachineOptions, RunOptions, Schedule};
+use schedules::Policy;
+
+/// The configuration with these numbers, where no value is out of its range.
+pub fn config_of(options: &MachineOptions, cores: u32) -> Option<Config>
+    ensures good { IfSome result (λ config.
+        (config ≡ config_of options.now cores) × (is_good config ≡ true)) }
+    ensures bad { result ≡ None → is_good (config_of options.now cores) ≡ false }
+{
+    if !fits(options) {
+        return None;
+    }
+    let config = Config {
+        cores,
+        banks: options.banks as u32,
+        sets: options.sets as u32,
+        ways: options.ways as u32,
+        bank_sets: options.bank_sets as u32,
+        bank_ways: options.bank_ways as u32,
+        line_words: options.line_words as u32,
+        lease: options.lease,
+        messages: options.messages as u32,
+        opening_time: options.time,
+        private_write: options.private_write,
+    };
+    if config.is_good() { Some(config) } else { None }
+}
+
+// Whether no number of a machine's parts is past what any machine has.
+fn fits(options: &MachineOptions) -> bool
+    ensures { result ≡ fits options.now }
+{
+    options.banks <= 65_536
+        && options.sets <= 65_536
+        && options.ways <= 65_536
+        && options.bank_sets <= 65_536
+        && options.bank_ways <= 65_536
+        && options.line_words <= 65_536
+        && options.messages <= 65_536
+}
+
+/// The most turns of a run: as many as its options allow, and at most 4,294,967,295.
+pub fn limit_of(options: &RunOptions) -> u32
+    ensures { result ≡ limit_of options.now }
+{
+    options.limit.min(u64::from(u32::MAX)) as u32
+}
+
+/// Which policy the first run follows: rounds, or the seed of the options. None by threads, which follow no policy.
+pub fn policy_of(options: &RunOptions) -> Option<Policy>
+    ensures { result ≡ policy_of options.now }
+{
+    match options.schedule {
+        Schedule::Round => Some(Policy::Rounds),
+        Schedule::Seed => Some(Policy::Seed(options.seed)),
+        Schedule::Threads => None,
+    }
+}
+
+/// How many threads drive the machine of a run by threads, or share the runs by a seed: as many as the options say,
+/// from 1 to 16. By rounds it is one.
+pub fn workers_of(options: &RunOptions) -> u32
+    ensures number { result ≡ workers_by options.now.schedule options.now.workers }
+    ensures few { (0 < result) × (result ≤ 16) }
+{
+    match options.schedule {
+        Schedule::Round => 1,
+        Schedule::Seed => options.workers.min(16).max(1) as u32,
+        Schedule::Threads => options.workers.min(16).max(1) as u32,
+    }
+}

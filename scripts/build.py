@@ -2,9 +2,10 @@
 """Proves and builds crates with all that they stand on, several at a time: scripts/build.py [CRATE..] [--jobs N]
 
 Each crate is built once those below it are: first the one with the longest chain of crates behind it. That one may use
-all processors; the others share what is left. Standard error says how far the build is, how long the rest will take,
-and each error; the status is 0 exactly if all is proved. The crate is tardis if none is named. N is the number of
-processors if it isn't given, and fewer where there is less than 3 GB of memory for each.
+all processors, and each one whose chain is nearly as long half of them; the others share what is left. Standard error
+says how far the build is, how long the rest will take, and each error; the status is 0 exactly if all is proved. The
+crate is tardis if none is named. N is the number of processors if it isn't given, and fewer where there is less than
+3 GB of memory for each.
 
 The kit's command locks all crates below the one that it works on. So no two crates would be proved at a time that have
 one in common below. Each is therefore proved in a folder of its own, with links to the files of the crates below and to
@@ -33,6 +34,7 @@ crate.stamp, crate.below = stamp, lambda each: list(below(each))
 sys.exit(kit["main"](sys.argv[1:]))
 """  # the kit's command, with what it says of a crate kept while it runs
 LOOKS = ("def stamp(self):", "def below(self):"), ("rtlib = ", "def main(words):")  # what ONCE takes of the kit
+NEARLY = 0.75  # a chain of crates of this part of the longest one's work is nearly as long
 KEPT = 3  # a crate that takes no more seconds was proved before
 
 
@@ -114,10 +116,10 @@ def keep(name, room):
             shutil.move(built, out / part)
 
 
-def prove(name, below, jobs, is_first):
+def prove(name, below, jobs, is_urgent):
     """Proves one crate by the kit; its name, how many seconds that took, and what the kit printed if it failed."""
     kind = "lib" if (TOP / "crates" / name / "src" / "lib.rt").exists() else "check"
-    command = ([] if is_first else ["nice", "-n", "5"]) + [*kit(), kind, "--jobs", str(jobs)]
+    command = ([] if is_urgent else ["nice", "-n", "5"]) + [*kit(), kind, "--jobs", str(jobs)]
     began = time.monotonic()
     with tempfile.TemporaryDirectory(prefix="build-") as folder:
         room = Path(folder)
@@ -149,13 +151,14 @@ class Build:
     def start(self, pool):
         """Starts what can be proved now, as long as a processor is free for it."""
         ready = [name for name in self.waiting if self.proved.issuperset(self.graph[name])]
-        head = max(self.waiting + list(self.running.values()), key=self.longest.get, default=None)
+        longest = max(map(self.longest.get, [*self.waiting, *self.running.values()]), default=0)
         for name in ready[: self.jobs - len(self.running)]:
             spare = self.jobs - len(self.running) - len(ready) + 1
-            given = self.jobs if name == head else max(1, spare)
+            is_urgent = self.longest[name] >= NEARLY * longest
+            urgent = self.jobs if self.longest[name] == longest else self.jobs // 2 if is_urgent else 1
             self.waiting.remove(name)
             below = needed(self.graph, name)[:-1]
-            self.running[pool.submit(prove, name, below, given, name == head)] = name
+            self.running[pool.submit(prove, name, below, max(urgent, spare), is_urgent)] = name
 
     def minutes_left(self):
         """How long the crates that are left will take, if their lines take as long as those that are proved."""

@@ -8,7 +8,7 @@ ghost use Rattle.schedules.specs.declared.policy.Policy.TheVariants.{Rounds, See
 ghost use Rattle.worker_driver.specs.Outcomes.{HasOutcome};
 ghost use Rattle.worker_driver.specs.Runs.{AreFrom};
 
-use crate::one_run::run_once;
+use crate::one_run::{open_again, run_on};
 use crate::shared_runs::SharedRuns;
 use interleaving_core::Config;
 use litmus_reader::Test;
@@ -88,9 +88,9 @@ pub fn seeded_runs<R: Threads + Sync, G: Gate + Sync>(
     run_jobs(rt, alloc, &runs, count, workers, gate)
 }
 
-/// `count` runs of the test by rounds, one after the other, each on a new machine with a core for each thread and with at
-/// most `limit` rounds. The end state of a run that is all done is an outcome of the sequential machine. AllocError where
-/// there is no memory for the list, or for a machine or what is told of it.
+/// `count` runs of the test by rounds, one after the other, with at most `limit` rounds each, on one machine with a core
+/// for each thread, which opens anew for each further run. The end state of a run that is all done is an outcome of the sequential machine. AllocError where
+/// there is no memory for the list, or for the machine or what is told of it.
 pub fn round_runs(
     alloc: Global,
     test: &Test,
@@ -107,9 +107,12 @@ pub fn round_runs(
         AllByRecursion (HasOutcome (test_of test.now)) runs.items) }
 {
     let mut runs = Vec::new(alloc);
+    let mut kept = None;
     for _ in 0..count {
-        let run = run_once(alloc, test, config, Policy::Rounds, limit)?;
+        let mut system = open_again(kept, alloc, test, config)?;
+        let run = run_on(alloc, test, &mut system, Policy::Rounds, limit)?;
         runs.push(run)?;
+        kept = Some(system);
     }
     Ok(runs)
 }

@@ -1,5 +1,5 @@
 //! One run of a litmus test by a policy.
-ghost use Rattle.std.specs.Prelude.{◌≡◌, ℕ, true, IfOk, List, OnOk, Some};
+ghost use Rattle.std.specs.Prelude.{◌≡◌, ℕ, true, IfOk, IfSome, List, OnOk, Some};
 ghost use Rattle.std.specs.FinMap.{empty};
 ghost use Rattle.litmus_reader.specs.Grammar.{IsTest};
 ghost use Rattle.litmus_reader.specs.OpeningMemory.{words_opened};
@@ -49,6 +49,24 @@ pub(crate) fn open(alloc: Global, test: &Test, config: Config) -> Result<System,
         return Err(AllocError);
     };
     Ok(system)
+}
+
+/// The machine of an earlier run, or else a new one, opened with the test's memory.
+pub(crate) fn open_again(
+    kept: Option<System>,
+    alloc: Global,
+    test: &Test,
+    config: Config,
+) -> Result<System, AllocError>
+    requires good { is_good config ≡ true }
+    requires kept { IfSome kept (λ system. system.config ≡ config) }
+    ensures { IfOk result (λ system. system ≡ at_start config
+        (words_opened (test_of test.now).items empty)) }
+{
+    match kept {
+        Some(system) => Ok(system.reopen(test.opening()?)?),
+        None => open(alloc, test, config),
+    }
 }
 
 /// A run of the test, as `run_once` makes it, on a machine that has just opened with the test's memory. The machine's

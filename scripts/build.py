@@ -9,8 +9,7 @@ crate is tardis if none is named. N is the number of processors if it isn't give
 
 The kit's command locks all crates below the one that it works on. So no two crates would be proved at a time that have
 one in common below. Each is therefore proved in a folder of its own, with links to the files of the crates below and to
-what the kit built of them; what it builds there is moved to the crate's own out/. The kit's command also looks at a
-crate once for each path that leads to it in the graph of crates, some 20,000 below tardis. Here it does so once.
+what the kit built of them; what it builds there is moved to the crate's own out/.
 """
 import argparse
 import concurrent.futures
@@ -25,15 +24,7 @@ from pathlib import Path
 TOP = Path(__file__).resolve().parent.parent
 BYTES_A_JOB = 3_000_000_000
 READING = 300  # what a crate costs before its first function is proved, in lines: the libraries are read
-ONCE = """import functools, runpy, sys
-sys.argv = sys.argv[1:]
-kit = runpy.run_path(sys.argv[0], run_name="kit")
-crate = kit["rtlib"].Crate
-stamp, below = map(functools.lru_cache(None), (crate.stamp, crate.below))
-crate.stamp, crate.below = stamp, lambda each: list(below(each))
-sys.exit(kit["main"](sys.argv[1:]))
-"""  # the kit's command, with what it says of a crate kept while it runs
-LOOKS = ("def stamp(self):", "def below(self):"), ("rtlib = ", "def main(words):")  # what ONCE takes of the kit
+KIT = [sys.executable, str(TOP / "scripts" / "kit.py")]  # the kit's command
 NEARLY = 0.75  # a chain of crates of this part of the longest one's work is nearly as long
 KEPT = 3  # a crate that takes no more seconds was proved before
 
@@ -82,15 +73,6 @@ def jobs_that_fit():
     return max(1, min(len(os.sched_getaffinity(0)), memory // BYTES_A_JOB))
 
 
-def kit():
-    """The words that begin the kit's command."""
-    command = Path(shutil.which("rt") or "rt").resolve()
-    library = command.parent / "rtlib.py"
-    parts = [library.read_text(), command.read_text()] if library.exists() else ["", ""]
-    is_known = all(word in part for part, words in zip(parts, LOOKS) for word in words)
-    return [sys.executable, "-c", ONCE, str(command)] if is_known else ["rt"]
-
-
 def link(there, here):
     """A link to a file, or a copy of it where there can't be one."""
     try:
@@ -119,7 +101,7 @@ def keep(name, room):
 def prove(name, below, jobs, is_urgent):
     """Proves one crate by the kit; its name, how many seconds that took, and what the kit printed if it failed."""
     kind = "lib" if (TOP / "crates" / name / "src" / "lib.rt").exists() else "check"
-    command = ([] if is_urgent else ["nice", "-n", "5"]) + [*kit(), kind, "--jobs", str(jobs)]
+    command = ([] if is_urgent else ["nice", "-n", "5"]) + [*KIT, kind, "--jobs", str(jobs)]
     began = time.monotonic()
     with tempfile.TemporaryDirectory(prefix="build-") as folder:
         room = Path(folder)

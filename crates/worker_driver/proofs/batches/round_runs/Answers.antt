@@ -2,10 +2,12 @@ use Rattle.std.proofs.Common.{[], ◌∷◌, ◌+◌, List, Some, length, ap, re
 use Rattle.std.proofs.Common.{length-append}
 use Rattle.std.specs.List.{AllByRecursion}
 use Rattle.litmus_reader.specs.TestViews.{test_of}
+use Rattle.machine_table.specs.Machine.{Machine}
+use Rattle.machine_table.specs.declared.config.Config.{Config}
 use Rattle.report_text.specs.declared.run_end.RunEnd.{RunEnd}
 use Rattle.schedules.specs.declared.policy.Policy.TheVariants.{Rounds}
 use Rattle.worker_driver.specs.Outcomes.{HasOutcome}
-use Rattle.worker_driver.specs.Runs.{AreFrom}
+use Rattle.worker_driver.specs.Runs.{AreFrom, IsRun}
 use Rattle.worker_driver.proofs.SameRuns.{one_more, one_more_run}
 use Rattle.worker_driver.proofs.batches.round_runs.Goals as goal
 
@@ -15,11 +17,13 @@ loop-preserved c =
     let before = c.loop.runs.items in
     let run = c.in_ok-run.run' in
     let items = c.in_ok-push.ensures.items in
-    let i = c.loop.invariant in (
+    let i = c.loop.invariant in
+    let set_up = ap (λ (m : Machine). m.config) c.in_ok-system.ensures in
+    let made = subst (λ (f : Config). IsRun test f (Some Rounds) c.args.limit run) set_up c.in_ok-run.ensures.run in (
       ap length items ∙ length-append before (run ∷ []) ∙ ap (λ n. n + 1) i.0,
       subst (λ (rs : List RunEnd). AreFrom test c.args.config (Some Rounds) c.args.limit 0 rs) (sym items)
-          (one_more_run test c.args.config (Some Rounds) c.args.limit 0 (λ n. refl) before run i.1
-          c.in_ok-run.ensures.run),
+          (one_more_run test c.args.config (Some Rounds) c.args.limit 0 (λ n. refl) before run i.1 made),
       λ text is. subst (AllByRecursion (HasOutcome test)) (sym items)
           (one_more (HasOutcome test) before run (i.2 text is) (c.in_ok-run.ensures.outcome text is)),
+      c.in_ok-run.ensures.config ∙ set_up,
     )

@@ -1,4 +1,4 @@
-use Rattle.std.proofs.Common.{◌≡◌, ℕ, List, Some, length}
+use Rattle.std.proofs.Common.{◌≡◌, ℕ, IfSome, List, Some, length}
 use Rattle.std.specs.List.{AllByRecursion}
 use Rattle.litmus_reader.specs.Grammar.{IsTest}
 use Rattle.litmus_reader.specs.TestViews.{test_of}
@@ -13,3 +13,4 @@ invariant-loop l =
     × AreFrom (test_of l.fn.test) l.fn.config (Some Rounds) l.fn.limit 0 l.runs.items
     × ((text : List ℕ) → IsTest text (test_of l.fn.test) →
     AllByRecursion (HasOutcome (test_of l.fn.test)) l.runs.items)
+    × IfSome l.kept (λ system. system.config ≡ l.fn.config)

@@ -1,12 +1,12 @@
 -- One argument after the other, and one command after the other.
-use Rattle.std.proofs.Common.{◌≡◌, ◌∙◌, Result, IfOk, Ok, false, ap, ap₂}
+use Rattle.std.proofs.Common.{◌≡◌, ◌∙◌, Result, IfOk, Ok, ap, ap₂}
 use Rattle.std.proofs.lemmas.Result.{IfOk-at_ok, IfOk-weaker}
 use Rattle.std.specs.Prelude.{◌||◌}
 use Rattle.clap.specs.Built.{AddsArg, AddsSubcommand}
 use Rattle.clap.specs.Words.{App, Rule, with_rule, with_subcommand}
 use Rattle.clap.specs.declared.builder.arg.Arg.{Arg}
 use Rattle.clap.specs.declared.builder.command.Command.{Command}
-use Rattle.command_line.specs.App.{Adds, IsApp, IsArg}
+use Rattle.command_line.specs.Additions.{Adds, IsApp, IsArg}
 
 module _ {E : Type 0} (given new : Result Command E) (old : Command) (was : given ≡ Ok old) where
   pub adds_argument : (arg : Arg) → IfOk new (AddsArg old arg) → (rule : Rule) → IsArg arg rule →

@@ -1,26 +1,10 @@
 -- The command line of the program, as clap reads it.
-use Rattle.std.specs.Prelude.{◌≡◌, ℕ, true, false, List, [], ◌∷◌, Some, Result, IfOk, codes, map}
+use Rattle.std.specs.Prelude.{◌≡◌, ℕ, true, List, [], ◌∷◌, Some, codes, map}
 use Rattle.std.specs.Borrow.{Bor}
-use Rattle.clap.specs.Words.{App, Rule, Text, app_of, new_app, new_rule, rule_of, with_rule}
-use Rattle.clap.specs.Words.{with_subcommand}
-use Rattle.clap.specs.declared.builder.arg.Arg.{Arg}
-use Rattle.clap.specs.declared.builder.command.Command.{Command}
-use Rattle.clap.specs.declared.builder.command.Command.TheViews.{out-Command as fields_of}
+use Rattle.clap.specs.Words.{App, Rule, Text, new_app, new_rule, with_rule, with_subcommand}
 use Rattle.clap.specs.declared.builder.action.ArgAction.TheVariants.{SetTrue, Set}
 use Rattle.clap.specs.declared.builder.value_parser.ValueParser.{ValueParser}
 use Rattle.clap.specs.declared.builder.value_parser.ValueParser.TheVariants.{Names, Unsigned}
-
--- the argument has this rule, and is none of subcommands
-abbrev pub IsArg : Arg → Rule → Type 0
-IsArg arg rule = (rule_of arg ≡ rule) × (arg.global ≡ false)
-
--- the command is this one, and no argument of it is one of subcommands
-abbrev pub IsApp : App → Command → Type 0
-IsApp app c = (app_of c ≡ app) × ((fields_of c).has_globals ≡ false)
-
--- if there was a command, there is one that has more, too; or there was no memory for that
-abbrev pub Adds : {E : Type 0} → Result Command E → (App → App) → Result Command E → Type 0
-Adds old more new = (app : App) → IfOk old (IsApp app) → IfOk new (IsApp (more app))
 
 -- any number of 64 bits
 abbrev pub any_number : ValueParser

@@ -3,7 +3,8 @@
 ghost use Rattle.std.specs.Prelude.{◌≡◌, IfOk, codes, false, true};
 ghost use Rattle.clap.specs.Words.{App, Rule, app_of, new_app, with_rule, with_subcommand};
 ghost use Rattle.clap.specs.declared.builder.command.Command.TheViews.{out-Command as fields_of};
-ghost use Rattle.command_line.specs.App.{Adds, IsApp, IsArg, NameSchedules, NamesSchedules, any_number, check_app};
+ghost use Rattle.command_line.specs.Additions.{Adds, IsApp, IsArg};
+ghost use Rattle.command_line.specs.App.{NameSchedules, NamesSchedules, any_number, check_app};
 ghost use Rattle.command_line.specs.App.{file_rule, flag_rule, litmus_app, machine_rules, number_rule, run_rules};
 ghost use Rattle.command_line.specs.App.{tardis_app, trace_app, wanting, with_rules, with_run};
 

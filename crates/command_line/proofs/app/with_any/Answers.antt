@@ -1,4 +1,5 @@
-use Rattle.command_line.specs.App.{IsArg, any_number, number_rule}
+use Rattle.command_line.specs.Additions.{IsArg}
+use Rattle.command_line.specs.App.{any_number, number_rule}
 use Rattle.command_line.proofs.app.with_any.Goals as goal
 
 pub returns : goal.returns

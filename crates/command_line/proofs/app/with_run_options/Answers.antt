@@ -1,5 +1,5 @@
 use Rattle.std.proofs.Common.{◌≡◌}
-use Rattle.command_line.specs.App.{IsArg, number_rule, up_to}
+use Rattle.command_line.specs.App.{up_to}
 use Rattle.command_line.proofs.app.with_run_options.Goals as goal
 
 pub returns : goal.returns

@@ -1,4 +1,4 @@
 mod Found
 mod Numbers
-mod Chain
+mod Arguments
 mod HelpIsRefused

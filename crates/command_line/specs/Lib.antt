@@ -1,3 +1,4 @@
 pub mod App
+pub mod Additions
 pub mod Options
 pub mod Job

@@ -1,11 +1,12 @@
 //! The command line as `clap` reads it: the command, its options with defaults and ranges, and what help says of them.
 
-ghost use Rattle.std.specs.Prelude.{◌≡◌, IfOk, false, true};
-ghost use Rattle.clap.specs.Words.{app_of, rule_of, with_rule, with_subcommand};
+ghost use Rattle.std.specs.Prelude.{◌≡◌, IfOk, codes, false, true};
+ghost use Rattle.clap.specs.Words.{App, Rule, app_of, new_app, with_rule, with_subcommand};
 ghost use Rattle.clap.specs.declared.builder.command.Command.TheViews.{out-Command as fields_of};
-ghost use Rattle.command_line.specs.App.{NameSchedules, NamesSchedules, any_number, up_to, number_rule, schedule_rule};
-ghost use Rattle.command_line.specs.App.{file_rule, flag_rule, with_rules, run_rules, machine_rules};
-ghost use Rattle.command_line.specs.App.{with_run, litmus_app, trace_app, check_app, tardis_app};
+ghost use Rattle.command_line.specs.Additions.{Adds, IsApp, IsArg};
+ghost use Rattle.command_line.specs.App.{NameSchedules, NamesSchedules, any_number, check_app};
+ghost use Rattle.command_line.specs.App.{file_rule, flag_rule, litmus_app, machine_rules, number_rule, run_rules};
+ghost use Rattle.command_line.specs.App.{tardis_app, trace_app, wanting, with_rules, with_run};
 
 use clap::builder::ValueParser;
 use clap::{Arg, ArgAction, Command, value_parser};
@@ -62,16 +63,15 @@ const TRACE_FILE: &str = "The file with the text of the trace";
 
 const RECORDS_FILE: &str = "The file with the text of the records";
 
-/// An option with a number, and the number that it has where the words don't give it.
-fn number<'a>(
+/// An option with a value, and the value that it has where the words don't give it.
+fn option<'a>(
     alloc: Global,
     name: &'a str,
     default: &'a str,
     parser: ValueParser<'a>,
     help: &'a str,
 ) -> Arg<'a>
-    ensures rule { rule_of result ≡ number_rule name.entry.now default.entry.now parser.entry }
-    ensures local { result.global ≡ false }
+    ensures { IsArg result (number_rule name.entry.now default.entry.now parser.entry) }
 {
     Arg::new(alloc, name)
         .long(name)
@@ -81,23 +81,16 @@ fn number<'a>(
         .help(help)
 }
 
-/// The schedule, which is `round`, `seed` or `threads`.
-fn schedule<'a>(alloc: Global) -> Arg<'a>
-    ensures rule { (p : _) × NamesSchedules p × (rule_of result ≡ schedule_rule p) }
-    ensures local { result.global ≡ false }
+/// The words `round`, `seed` and `threads`.
+fn schedules<'a>() -> ValueParser<'a>
+    ensures { NamesSchedules result }
 {
-    Arg::new(alloc, "schedule")
-        .long("schedule")
-        .action(ArgAction::Set)
-        .value_parser(SCHEDULES.as_slice())
-        .default_value("round")
-        .help(SCHEDULE)
+    ValueParser::from(SCHEDULES.as_slice())
 }
 
 /// An option without a value.
 fn flag<'a>(alloc: Global, name: &'a str, help: &'a str) -> Arg<'a>
-    ensures rule { rule_of result ≡ flag_rule name.entry.now }
-    ensures local { result.global ≡ false }
+    ensures { IsArg result (flag_rule name.entry.now) }
 {
     Arg::new(alloc, name)
         .long(name)
@@ -107,138 +100,145 @@ fn flag<'a>(alloc: Global, name: &'a str, help: &'a str) -> Arg<'a>
 
 /// The path of a file, without which the words are refused.
 fn file<'a>(alloc: Global, name: &'a str, help: &'a str) -> Arg<'a>
-    ensures rule { rule_of result ≡ file_rule name.entry.now }
-    ensures local { result.global ≡ false }
+    ensures { IsArg result (file_rule name.entry.now) }
 {
     Arg::new(alloc, name).required(true).help(help)
 }
 
-/// A command with one more argument.
-fn with<'a>(command: Command<'a>, arg: Arg<'a>) -> Result<Command<'a>, AllocError>
-    requires { arg.global ≡ false }
-    ensures app { IfOk result (λ c.
-        app_of c ≡ with_rule (app_of command.entry) (rule_of arg.entry)) }
-    ensures globals { IfOk result (λ c.
-        (fields_of c).has_globals ≡ (fields_of command.entry).has_globals) }
+/// A command with one more argument, if there is memory for both.
+fn with<'a>(
+    command: Result<Command<'a>, AllocError>,
+    arg: Arg<'a>,
+) -> Result<Command<'a>, AllocError>
+    ensures { (rule : Rule) → IsArg arg.entry rule →
+        Adds command.entry (λ app. with_rule app rule) result }
 {
+    let command = command?;
     command.arg(arg)
 }
 
 /// A command with one more option, with a number of 64 bits.
 fn with_any<'a>(
-    command: Command<'a>,
+    command: Result<Command<'a>, AllocError>,
     alloc: Global,
     name: &'a str,
     default: &'a str,
     help: &'a str,
 ) -> Result<Command<'a>, AllocError>
-    ensures app { IfOk result (λ c. app_of c
-        ≡ with_rule (app_of command.entry) (number_rule name.entry.now default.entry.now
-        any_number)) }
-    ensures globals { IfOk result (λ c.
-        (fields_of c).has_globals ≡ (fields_of command.entry).has_globals) }
+    ensures { Adds command.entry (λ app. with_rule app
+        (number_rule name.entry.now default.entry.now any_number)) result }
 {
-    with(
-        command,
-        number(alloc, name, default, value_parser!(u64), help),
-    )
+    let parser = value_parser!(u64);
+    with(command, option(alloc, name, default, parser, help))
 }
 
 /// A command with the options that say in which order and how far a run goes.
-fn with_run_options<'a>(command: Command<'a>, alloc: Global) -> Result<Command<'a>, AllocError>
-    ensures app { IfOk result (λ c. (p : _) × NamesSchedules p
-        × (app_of c ≡ with_rules (app_of command.entry) (run_rules p))) }
-    ensures globals { IfOk result (λ c.
-        (fields_of c).has_globals ≡ (fields_of command.entry).has_globals) }
+fn with_run_options<'a>(
+    command: Result<Command<'a>, AllocError>,
+    alloc: Global,
+) -> Result<Command<'a>, AllocError>
+    ensures { (p : _) × NamesSchedules p ×
+        Adds command.entry (λ app. with_rules app (run_rules p)) result }
 {
+    let names = schedules();
     let limit = value_parser!(u64).range(1..4294967296);
     let workers = value_parser!(u64).range(1..17);
-    let command = with(command, schedule(alloc))?;
-    let command = with_any(command, alloc, "seed", "0", SEED)?;
-    let command = with(command, number(alloc, "limit", "100000", limit, LIMIT))?;
-    let command = with(command, number(alloc, "workers", "1", workers, WORKERS))?;
-    with(command, flag(alloc, "private-write", PRIVATE_WRITE))
+    let one = with(command, option(alloc, "schedule", "round", names, SCHEDULE));
+    let two = with_any(one, alloc, "seed", "0", SEED);
+    let three = with(two, option(alloc, "limit", "100000", limit, LIMIT));
+    let four = with(three, option(alloc, "workers", "1", workers, WORKERS));
+    with(four, flag(alloc, "private-write", PRIVATE_WRITE))
 }
 
 /// A command with the options that say how the machine is built.
-fn with_machine_options<'a>(command: Command<'a>, alloc: Global) -> Result<Command<'a>, AllocError>
-    ensures app { IfOk result (λ c. app_of c ≡ with_rules (app_of command.entry) machine_rules) }
-    ensures globals { IfOk result (λ c.
-        (fields_of c).has_globals ≡ (fields_of command.entry).has_globals) }
+fn with_machine_options<'a>(
+    command: Result<Command<'a>, AllocError>,
+    alloc: Global,
+) -> Result<Command<'a>, AllocError>
+    ensures { Adds command.entry (λ app. with_rules app machine_rules) result }
 {
-    let command = with_any(command, alloc, "lease", "10", LEASE)?;
-    let command = with_any(command, alloc, "time", "0", TIME)?;
-    let command = with_any(command, alloc, "banks", "1", BANKS)?;
-    let command = with_any(command, alloc, "sets", "64", SETS)?;
-    let command = with_any(command, alloc, "ways", "4", WAYS)?;
-    let command = with_any(command, alloc, "bank-sets", "256", BANK_SETS)?;
-    let command = with_any(command, alloc, "bank-ways", "8", BANK_WAYS)?;
-    let command = with_any(command, alloc, "line-words", "1", LINE_WORDS)?;
-    with_any(command, alloc, "messages", "4096", MESSAGES)
+    let one = with_any(command, alloc, "lease", "10", LEASE);
+    let two = with_any(one, alloc, "time", "0", TIME);
+    let three = with_any(two, alloc, "banks", "1", BANKS);
+    let four = with_any(three, alloc, "sets", "64", SETS);
+    let five = with_any(four, alloc, "ways", "4", WAYS);
+    let six = with_any(five, alloc, "bank-sets", "256", BANK_SETS);
+    let seven = with_any(six, alloc, "bank-ways", "8", BANK_WAYS);
+    let eight = with_any(seven, alloc, "line-words", "1", LINE_WORDS);
+    with_any(eight, alloc, "messages", "4096", MESSAGES)
 }
 
 /// A command with all the options of a run, and with a file.
 fn with_run<'a>(
-    command: Command<'a>,
+    command: Result<Command<'a>, AllocError>,
     alloc: Global,
     help: &'a str,
 ) -> Result<Command<'a>, AllocError>
-    ensures app { IfOk result (λ c. (p : _) × NamesSchedules p
-        × (app_of c ≡ with_run (app_of command.entry) p)) }
-    ensures globals { IfOk result (λ c.
-        (fields_of c).has_globals ≡ (fields_of command.entry).has_globals) }
+    ensures { (p : _) × NamesSchedules p × Adds command.entry (λ app. with_run app p) result }
 {
-    let command = with_run_options(command, alloc)?;
-    let command = with_machine_options(command, alloc)?;
-    with(command, file(alloc, "FILE", help))
+    let ordered = with_run_options(command, alloc);
+    let built = with_machine_options(ordered, alloc);
+    with(built, file(alloc, "FILE", help))
+}
+
+/// A command that takes nothing yet.
+fn empty<'a>(alloc: Global, name: &'a str, about: &'a str) -> Result<Command<'a>, AllocError>
+    ensures { IfOk result (IsApp (new_app name.entry.now)) }
+{
+    Ok(Command::new(alloc, name).about(about))
 }
 
 /// The command `litmus`.
 fn litmus_command<'a>(alloc: Global) -> Result<Command<'a>, AllocError>
-    ensures app { IfOk result (λ c. (p : _) × NamesSchedules p × (app_of c ≡ litmus_app p)) }
-    ensures globals { IfOk result (λ c. (fields_of c).has_globals ≡ false) }
+    ensures { (p : _) × NamesSchedules p × IfOk result (IsApp (litmus_app p)) }
 {
-    let command = Command::new(alloc, "litmus").about(
-        "Runs a litmus test and reports its end states and the verdict on its condition",
-    );
+    let about = "Runs a litmus test and reports its end states and the verdict on its condition";
+    let named = empty(alloc, "litmus", about);
     let runs = value_parser!(u64).range(1..1000001);
-    let command = with(command, number(alloc, "runs", "1", runs, RUNS))?;
-    with_run(command, alloc, LITMUS_FILE)
+    let repeated = with(named, option(alloc, "runs", "1", runs, RUNS));
+    with_run(repeated, alloc, LITMUS_FILE)
 }
 
 /// The command `trace`.
 fn trace_command<'a>(alloc: Global) -> Result<Command<'a>, AllocError>
-    ensures app { IfOk result (λ c. (p : _) × NamesSchedules p × (app_of c ≡ trace_app p)) }
-    ensures globals { IfOk result (λ c. (fields_of c).has_globals ≡ false) }
+    ensures { (p : _) × NamesSchedules p × IfOk result (IsApp (trace_app p)) }
 {
-    let command = Command::new(alloc, "trace").about(
-        "Runs a trace and reports what came of it, or its records",
-    );
-    let command = with(command, flag(alloc, "records", RECORDS))?;
-    with_run(command, alloc, TRACE_FILE)
+    let about = "Runs a trace and reports what came of it, or its records";
+    let named = empty(alloc, "trace", about);
+    let recorded = with(named, flag(alloc, "records", RECORDS));
+    with_run(recorded, alloc, TRACE_FILE)
 }
 
 /// The command `check`.
 fn check_command<'a>(alloc: Global) -> Result<Command<'a>, AllocError>
-    ensures app { IfOk result (λ c. app_of c ≡ check_app) }
-    ensures globals { IfOk result (λ c. (fields_of c).has_globals ≡ false) }
+    ensures { IfOk result (IsApp check_app) }
 {
-    let command = Command::new(alloc, "check").about(
-        "Says whether records are a legal history of a trace over a memory of zeros",
-    );
-    let command = with(command, file(alloc, "TRACE", TRACE_FILE))?;
-    with(command, file(alloc, "RECORDS", RECORDS_FILE))
+    let about = "Says whether records are a legal history of a trace over a memory of zeros";
+    let named = empty(alloc, "check", about);
+    let traced = with(named, file(alloc, "TRACE", TRACE_FILE));
+    with(traced, file(alloc, "RECORDS", RECORDS_FILE))
 }
 
-/// A program with one more command.
-fn with_command<'a>(command: Command<'a>, inner: Command<'a>) -> Result<Command<'a>, AllocError>
-    requires { (fields_of inner).has_globals ≡ false }
-    ensures app { IfOk result (λ c.
-        app_of c ≡ with_subcommand (app_of command.entry) (app_of inner.entry).top) }
-    ensures globals { IfOk result (λ c.
-        (fields_of c).has_globals ≡ (fields_of command.entry).has_globals) }
+/// A program with one more command, if there is memory for both.
+fn with_command<'a>(
+    command: Result<Command<'a>, AllocError>,
+    inner: Result<Command<'a>, AllocError>,
+) -> Result<Command<'a>, AllocError>
+    ensures { (app : App) → IfOk inner.entry (IsApp app) →
+        Adds command.entry (λ old. with_subcommand old app.top) result }
 {
+    let command = command?;
+    let inner = inner?;
     command.subcommand(inner)
+}
+
+/// The program without its commands, of which it wants one.
+fn program<'a>(alloc: Global) -> Result<Command<'a>, AllocError>
+    ensures { IfOk result (IsApp (wanting (new_app (codes "tardis")))) }
+{
+    let about = "A simulator of the Tardis coherence protocol that checks what it simulates";
+    let named = Command::new(alloc, "tardis").about(about);
+    Ok(named.subcommand_required(true))
 }
 
 /// The command line of the program.
@@ -247,13 +247,10 @@ pub(crate) fn command<'a>(alloc: Global) -> Result<Command<'a>, AllocError>
     ensures globals { IfOk result (λ c. (fields_of c).has_globals ≡ false) }
     ensures required { IfOk result (λ c. (fields_of c).subcommand_required ≡ true) }
 {
-    let litmus = litmus_command(alloc)?;
-    let trace = trace_command(alloc)?;
-    let check = check_command(alloc)?;
-    let command = Command::new(alloc, "tardis")
-        .about("A simulator of the Tardis coherence protocol that checks what it simulates")
-        .subcommand_required(true);
-    let command = with_command(command, litmus)?;
-    let command = with_command(command, trace)?;
-    with_command(command, check)
+    let litmus = litmus_command(alloc);
+    let trace = trace_command(alloc);
+    let check = check_command(alloc);
+    let one = with_command(program(alloc), litmus);
+    let two = with_command(one, trace);
+    with_command(two, check)
 }

@@ -1,5 +1,6 @@
 -- What a core's seat does with its core alone is a move of the seat.
-use Rattle.std.proofs.Common.{◌≡◌, ◌<◌, ℕ, List, [], ◌∷◌, ◌++◌, Ok, refl, sym, ap, ◌∙◌, subst}
+use Rattle.std.proofs.Common.{◌≡◌, ◌<◌, ℕ, Bool, true, false, List, [], ◌∷◌, ◌++◌, Result, Ok, Err, refl, sym}
+use Rattle.std.proofs.Common.{ap, ◌∙◌, subst}
 use Rattle.physiological_order.specs.declared.operation.Op.{Op}
 use Rattle.network.specs.declared.message.Message.{Message}
 use Rattle.core_pts.specs.CoreTable as core_table
@@ -10,7 +11,9 @@ use Rattle.seat_rule.specs.declared.views.Hold.{Hold}
 use Rattle.seat_rule.specs.SeatMoves.{SeatMove, issues}
 use Rattle.seat_rule.specs.Serving.{core_now}
 use Rattle.mailboxes.specs.declared.sending.SendingCore.{SendingCore}
-use Rattle.mailboxes.specs.CoreCalls.{core_hold}
+use Rattle.core_pts.specs.declared.attempt.IssueError.{IssueError}
+use Rattle.core_pts.specs.declared.attempt.IssueError.TheVariants.{Busy, TooMany}
+use Rattle.mailboxes.specs.CoreCalls.{core_hold, issue_answer}
 use Rattle.mailboxes.specs.Sending.{OutboxState}
 use Rattle.mailboxes.specs.Stored.{stored_core}
 
@@ -22,6 +25,13 @@ core_alone a part out issued b outbox counts hand held same =
     λ i.
     core_now a part.core issued ((ap (λ (o : OutboxState). o.counts) same ∙ sym counts) i)
     ((ap (λ (o : OutboxState). o.messages) same ∙ sym outbox) i) (sym hand i) (sym held i)
+
+-- an issue that isn't refused is done
+pub issued_well : (stopped : Bool) (r : Result (Unit {0}) IssueError) → Ok tt ≡ issue_answer stopped r → r ≡ Ok tt
+issued_well true r e = absurd cc
+issued_well false (Err Busy) e = absurd cc
+issued_well false (Err TooMany) e = absurd cc
+issued_well false (Ok tt) e = refl
 
 -- the core is given its next operation
 pub issue-moves : (z y : SetUp) (id number : ℕ) (a : Hold) (p q : CoreState) (op : Op) (ops later : List Op) →

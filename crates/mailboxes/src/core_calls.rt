@@ -1,26 +1,48 @@
 //! What a core's seat does with its core alone: it takes an operation, its time goes on, and it is looked at.
 ghost use Rattle.std.specs.Prelude.{◌≡◌, ◌||◌, ◌<◌, ◌≤◌, ◌++◌, ◌∷◌, [], true, is_none, length, option_map};
 ghost use Rattle.std.specs.Prelude.{OnOk, OnErr, vec_capacity};
+ghost use Rattle.physiological_order.specs.declared.operation.Op.{Op};
 ghost use Rattle.private_cache.specs.CopyTable.{victim_for};
 ghost use Rattle.core_pts.specs.CoreTable as core_table;
 ghost use Rattle.mailboxes.specs.BoxMoves.{hold};
-ghost use Rattle.mailboxes.specs.CoreCalls.{IssueAnswers, SamePlace, advance_answer, core_hold};
+ghost use Rattle.mailboxes.specs.CoreCalls.{IssueAnswers, SamePlace, advance_answer, core_hold, issue_answer};
 ghost use Rattle.mailboxes.specs.Seats.{IsCoreSeat};
 
 use crate::changes::change_core;
 use crate::core_seat::CoreSeat;
 use crate::machine::Machine;
+use core_pts::Core;
 use machine_table::Refusal;
 use network::LineNo;
-use physiological_order::Op;
+use physiological_order::{Op, Record};
 
-// Makes room for one more in a list; false if allocation failed.
-fn has_room<T>(list: &mut Vec<T>) -> bool
-    ensures items { list.new.items ≡ list.old.items }
-    ensures room { result ≡ true → length list.new.items < vec_capacity list.new }
-    ensures kept { vec_capacity list.old ≤ vec_capacity list.new }
+// Makes room for one more in both lists; false if allocation failed.
+fn has_room(issued: &mut Vec<Op>, records: &mut Vec<Record>) -> bool
+    ensures issued { (issued.new.items ≡ issued.old.items) ×
+        (result ≡ true → length issued.new.items < vec_capacity issued.new) }
+    ensures records { (records.new.items ≡ records.old.items) ×
+        (result ≡ true → length records.new.items < vec_capacity records.new) }
+    ensures kept { vec_capacity records.old ≤ vec_capacity records.new }
 {
-    list.reserve(1).is_ok()
+    let one_more = issued.reserve(1).is_ok();
+    let one_record_more = records.reserve(1).is_ok();
+    one_more && one_record_more
+}
+
+// Whether a core's seat can be given an operation, and why not; of lists it says nothing.
+fn may_issue(is_stopped: bool, core: &Core) -> Result<(), Refusal>
+    ensures { (op : Op) → result ≡ issue_answer is_stopped (core_table.issue core.now op).0 }
+{
+    if is_stopped {
+        return Err(Refusal::Stopped);
+    }
+    if core.open_op().is_some() {
+        return Err(Refusal::Busy);
+    }
+    if core.issued() == u32::MAX {
+        return Err(Refusal::TooMany);
+    }
+    Ok(())
 }
 
 impl CoreSeat {
@@ -54,16 +76,8 @@ impl CoreSeat {
         ensures refused { OnErr result (hold self.new.mail ≡ hold self.old.mail) }
         ensures stopped { self.new.is_stopped ≡ self.old.is_stopped }
     {
-        if self.is_stopped {
-            return Err(Refusal::Stopped);
-        }
-        if self.part.core.open_op().is_some() {
-            return Err(Refusal::Busy);
-        }
-        if self.part.core.issued() == u32::MAX {
-            return Err(Refusal::TooMany);
-        }
-        if !has_room(&mut self.issued) || !has_room(&mut self.records) {
+        may_issue(self.is_stopped, &self.part.core)?;
+        if !has_room(&mut self.issued, &mut self.records) {
             return Err(Refusal::NoMemory);
         }
         let given = &op;

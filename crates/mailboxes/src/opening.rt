@@ -6,6 +6,7 @@ ghost use Rattle.mailboxes.specs.Seats.{AllNewCores, AllNewBanks, IsNewCore, Has
 
 use crate::bank_seat::BankSeat;
 use crate::core_seat::CoreSeat;
+use crate::ends::slots_are_few;
 use crate::machine::Machine;
 use crate::opened_dram::open_dram;
 use crate::steps::{Chair, make};
@@ -69,6 +70,7 @@ fn open_table(alloc: Global, set_up: SetUp) -> Result<(Machine, Chair), AllocErr
     ensures { IfOk result (λ r. (r.0.set_up ≡ set_up) × HasMade r.0 1 r.1) }
 {
     opened_machines_keep_the_rule();
+    slots_are_few(&set_up.config);
     let config = set_up.config;
     let slots = 8 * config.cores as usize * config.banks as usize;
     let words = Vec::from_elem(alloc, 0u64, slots + 1)?;

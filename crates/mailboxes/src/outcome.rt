@@ -4,7 +4,7 @@ use network::Message;
 use physiological_order::Op;
 
 /// An operation that a core completed: its place, what it received and its time.
-#[derive(Clone, Copy, Debug, PartialEq, Eq)]
+#[derive(Drop)]
 pub struct Completion {
     pub op: Op,
     pub place: u32,
@@ -13,7 +13,7 @@ pub struct Completion {
 }
 
 /// What an attempt comes to.
-#[derive(Clone, Copy, Debug, PartialEq, Eq)]
+#[derive(Drop)]
 pub enum Outcome {
     /// Nothing changes.
     Keeps(Answer),

@@ -1,6 +1,7 @@
 -- An operation that is opened.
 use Rattle.std.proofs.Common.{◌≡◌, ℕ, ◌+◌, ◌-◌, ◌<◌, ◌^◌, nat_lt, get_or, Bool, true, false, List, [], ◌∷◌, ◌++◌}
-use Rattle.std.proofs.Common.{set, length, is_some, option_map, Option, Some, None, Result, Ok, refl, sym, ap, ◌∙◌}
+use Rattle.std.proofs.Common.{set, length, is_some, option_map, Option, Some, None, Result, Ok, Err, OnErr}
+use Rattle.std.proofs.Common.{inl, refl, sym, ap, ◌∙◌}
 use Rattle.std.specs.List.{slice_get}
 use Rattle.std.proofs.lemmas.Bool.{cond-true}
 use Rattle.std.proofs.lemmas.Option.{slice_get_read}
@@ -9,9 +10,11 @@ use Rattle.physiological_order.specs.declared.operation.Record.{Record}
 use Rattle.core_pts.specs.declared.attempt.IssueError.{IssueError}
 use Rattle.core_pts.specs.CoreTable as core_table
 use Rattle.core_pts.specs.CoreTable.{CoreState}
+use Rattle.machine_table.specs.declared.event.Answer.{Answer}
 use Rattle.machine_table.specs.declared.event.Answer.TheVariants as answer
 use Rattle.machine_table.specs.Machine.{Machine, with_core}
 use Rattle.machine_table.specs.Transition.{issued, issue_at}
+use Rattle.interleaving_core.specs.StepAnswers.{TakesMemory}
 use Rattle.interleaving_core.proofs.OpenCounts.{no_open}
 
 -- what is read of a list is what is there
@@ -66,3 +69,13 @@ issue_done m seen is_view c core here op after result ops records free few is lo
     )) same
     ∙ issue_changes m c core here op after result ops free few is longer
     ∙ ap (λ (n : Machine). issue_at n c op (slice_get n.cores c)) is_view
+
+-- memory is wanted where the table opens the operation
+pub issue_wanted : (m seen : Machine) → m ≡ seen → (c : ℕ) (core : CoreState) → slice_get m.cores c ≡ Some core →
+    (op : Op) → core.open_op ≡ None → nat_lt core.issued (2 ^ 32 - 1) ≡ true → {X E : Type 0} (result : Result X E) →
+    OnErr result (TakesMemory seen (issue_at seen c op (slice_get seen.cores c)))
+issue_wanted m seen is_view c core here op free few (Ok x) = tt
+issue_wanted m seen is_view c core here op free few (Err e) =
+    inl (sym (ap (λ (x : Answer × Machine). x.0) (issue_done m seen is_view c core here op
+    (core_table.issue core op).1 (core_table.issue core op).0 (get_or m.issued c [] ++ op ∷ []) m.records
+    free few refl refl refl)))

@@ -5,9 +5,36 @@ use Rattle.core_pts.specs.CoreTable.{CoreState}
 use Rattle.machine_table.specs.Machine.{Machine}
 use Rattle.machine_theorem.specs.Kept.{Invariant}
 use Rattle.interleaving_core.specs.contracts.machine_state.MachineState.{the_view}
-use Rattle.interleaving_core.proofs.OpenedOps.{issue_done, read_there, tested_free}
+use Rattle.interleaving_core.proofs.OpenedOps.{issue_done, issue_wanted, read_there, tested_free}
 use Rattle.interleaving_core.proofs.OpenCounts.{owed_within}
 use Rattle.interleaving_core.proofs.machine_state.MachineState.issue.Goals as goal
+
+pub index_mut-requires : goal.index_mut-requires
+index_mut-requires c =
+    let shape = (subst Invariant (sym c.self.view_is) c.requires).whole in
+    omega (arith, shape.lists, shape.core_count, c.if-at-len.false, c.len.ensures)
+
+pub returns-in_err-reserve-clause-wanted : goal.returns-in_err-reserve-clause-wanted
+returns-in_err-reserve-clause-wanted c =
+    let m : Machine = the_view c.self.inside in
+    let within : c.args.core < length m.cores = omega (arith, c.if-at-len.false, c.len.ensures) in
+    let core = c.index-2.result.now in
+    let here = slice_get_read m.cores (length m.cores) c.args.core core refl within c.index-2.ensures in
+    let free = tested_free c.index.result.now core (read_there m.cores c.args.core c.index.result.now core within
+    c.index.ensures here) _ _ c.open_op.ensures c.is_some.ensures c.if-is_some.false in
+    let few = lt-ltb core.issued 4294967295 (omega (arith, c.issued.ensures, c.if-issued-ge4294967295.false)) in
+    issue_wanted m _ c.self.view_is c.args.core core here c.args.op free few _
+
+pub returns-in_err-push-clause-wanted : goal.returns-in_err-push-clause-wanted
+returns-in_err-push-clause-wanted c =
+    let m : Machine = the_view c.self.inside in
+    let within : c.args.core < length m.cores = omega (arith, c.if-at-len.false, c.len.ensures) in
+    let core = c.index-2.result.now in
+    let here = slice_get_read m.cores (length m.cores) c.args.core core refl within c.index-2.ensures in
+    let free = tested_free c.index.result.now core (read_there m.cores c.args.core c.index.result.now core within
+    c.index.ensures here) _ _ c.open_op.ensures c.is_some.ensures c.if-is_some.false in
+    let few = lt-ltb core.issued 4294967295 (omega (arith, c.issued.ensures, c.if-issued-ge4294967295.false)) in
+    issue_wanted m _ c.self.view_is c.args.core core here c.args.op free few _
 
 pub invariant_of-self-2 : goal.invariant_of-self-2
 invariant_of-self-2 c =

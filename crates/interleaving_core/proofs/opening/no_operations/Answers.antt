@@ -1,4 +1,4 @@
-use Rattle.std.proofs.Common.{◌≡◌, List, [], replicate}
+use Rattle.std.proofs.Common.{List, []}
 use Rattle.physiological_order.specs.declared.operation.Op.{Op}
 use Rattle.interleaving_core.proofs.PartRows.{one_alike}
 use Rattle.interleaving_core.proofs.opening.no_operations.Goals as goal

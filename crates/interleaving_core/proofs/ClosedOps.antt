@@ -8,7 +8,7 @@ use Rattle.core_pts.specs.declared.attempt.Attempt.{Attempt}
 use Rattle.core_pts.specs.declared.attempt.Attempt.TheVariants.{Completed, NeedShared, NeedExclusive, NoRoom, Waiting}
 use Rattle.core_pts.specs.declared.attempt.Attempt.TheVariants.{Idle}
 use Rattle.core_pts.specs.OnCopy.{serves, time_of}
-use Rattle.network.specs.declared.message.Body.TheVariants.{ShReq}
+use Rattle.network.specs.declared.message.Body.TheVariants.{ExReq, ShReq}
 use Rattle.network.specs.Mail.{Mail}
 use Rattle.core_pts.specs.CoreTable as core_table
 use Rattle.core_pts.specs.CoreTable.{CoreState, attempt, attempt_on, attempt_unserved, completed_at, line_of, need}
@@ -81,5 +81,16 @@ pub attempt_requests : (c number capacity : ℕ) (mail : Mail) (core after : Cor
     (change.attempt c number capacity mail core)
 attempt_requests c number capacity mail core after op pts version kept opens is =
     ap (λ (x : CoreState). applied x mail (requests capacity mail x op (ShReq pts version))) kept
+    ∙ sym (ap (λ (o : Option Op). applied core mail (attempt_open c number capacity mail core o)) opens
+    ∙ ap (λ (t : Option Attempt × CoreState). applied core mail (attempted_op c number capacity mail core op t)) is)
+
+-- so does one that needs a copy to write
+pub attempt_requests_own : (c number capacity : ℕ) (mail : Mail) (core after : CoreState) (op : Op)
+    (version : Option ℕ) → after ≡ core → core.open_op ≡ Some op →
+    core_table.attempt core ≡ (Some (NeedExclusive version), after) →
+    applied after mail (requests capacity mail after op (ExReq version)) ≡ applied core mail
+    (change.attempt c number capacity mail core)
+attempt_requests_own c number capacity mail core after op version kept opens is =
+    ap (λ (x : CoreState). applied x mail (requests capacity mail x op (ExReq version))) kept
     ∙ sym (ap (λ (o : Option Op). applied core mail (attempt_open c number capacity mail core o)) opens
     ∙ ap (λ (t : Option Attempt × CoreState). applied core mail (attempted_op c number capacity mail core op t)) is)

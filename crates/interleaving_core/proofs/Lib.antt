@@ -1,4 +1,4 @@
-mod CoreBound
+mod GoodRanges
 mod ChangedParts
 mod ClosedOps
 mod Coherence

@@ -1,5 +1,5 @@
--- Cores and banks in a row, one more at the end.
-use Rattle.std.proofs.Common.{◌≡◌, ℕ, zero, suc, ◌+◌, ◌++◌, List, [], ◌∷◌, ap, ◌∙◌, arith}
+-- Parts in a row, one more at the end.
+use Rattle.std.proofs.Common.{◌≡◌, ℕ, zero, suc, ◌+◌, ◌++◌, List, [], ◌∷◌, replicate, refl, ap, ◌∙◌, arith}
 use Rattle.core_pts.specs.CoreTable.{CoreState, opened}
 use Rattle.llc_bank.specs.BankTable.{BankState, empty_bank}
 use Rattle.machine_table.specs.declared.config.Config.{Config}
@@ -32,3 +32,10 @@ pub next_bank : (c : Config) (n : ℕ) → banks_from c 0 n ++ empty_bank (bank_
 next_bank c n =
     (let from_0 : n ≡ 0 + n = omega arith in ap (λ k. banks_from c 0 n ++ empty_bank (bank_config c k) ∷ []) from_0)
     ∙ bank_behind c 0 n ∙ (let more : suc n ≡ n + 1 = omega arith in ap (λ k. banks_from c 0 k) more)
+
+pub one_alike : {X : Type 0} (n : ℕ) (x : X) → replicate n x ++ x ∷ [] ≡ replicate (n + 1) x
+one_alike {X} n x = behind n ∙ (let more : suc n ≡ n + 1 = omega arith in ap (λ k. replicate k x) more)
+  where
+    behind : (n : ℕ) → replicate n x ++ x ∷ [] ≡ replicate (suc n) x
+    behind zero = refl
+    behind (suc n) = ap (λ (xs : List X). x ∷ xs) (behind n)

@@ -27,12 +27,9 @@ impl MachineState {
     {
         let config = self.config;
         let mut cores = self.cores;
-        reopen_cores(&mut cores, config)?;
         let mut banks = self.banks;
-        reopen_banks(&mut banks, config)?;
         let mut drams = self.drams;
-        clear_drams(&mut drams);
-        fill_drams(&mut drams, config, &memory)?;
+        reopen_parts(&mut cores, &mut banks, &mut drams, config, &memory)?;
         let mut flight = self.flight;
         flight.clear();
         let mut issued = self.issued;
@@ -51,6 +48,29 @@ impl MachineState {
             is_stopped: false,
         })
     }
+}
+
+// All cores, banks and DRAMs as they open with this memory.
+fn reopen_parts(
+    cores: &mut Vec<Core>,
+    banks: &mut Vec<Bank>,
+    drams: &mut Vec<Dram>,
+    config: Config,
+    memory: &Memory,
+) -> Result<(), AllocError>
+    requires good { is_good config ≡ true }
+    requires cores { length cores.old.items ≡ config.cores }
+    requires banks { length banks.old.items ≡ config.banks }
+    requires drams { length drams.old.items ≡ config.banks }
+    ensures cores { OnOk result (cores.new.items ≡ cores_from config 0 config.cores) }
+    ensures banks { OnOk result (banks.new.items ≡ banks_from config 0 config.banks) }
+    ensures drams { OnOk result (drams.new.items ≡ drams_from config
+        (entries memory.now) 0 config.banks) }
+{
+    reopen_cores(cores, config)?;
+    reopen_banks(banks, config)?;
+    clear_drams(drams);
+    fill_drams(drams, config, memory)
 }
 
 // All cores as they open.

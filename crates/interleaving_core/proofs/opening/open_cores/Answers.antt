@@ -1,7 +1,21 @@
-use Rattle.std.proofs.Common.{◌++◌, [], ◌∷◌, ap₂, ◌∙◌}
+use Rattle.std.proofs.Common.{◌++◌, [], ◌∷◌, ap₂, ◌∙◌, sym, subst}
+use Rattle.line_sets.specs.Geometry.{IsGeometry}
+use Rattle.private_cache.specs.declared.cache.Geometry.{Geometry}
+use Rattle.core_pts.specs.SetUp.{IsInRange}
 use Rattle.core_pts.specs.CoreTable.{opened}
+use Rattle.interleaving_core.proofs.GoodRanges.{cache_geometry, core_in_range}
 use Rattle.interleaving_core.proofs.PartRows.{next_core}
 use Rattle.interleaving_core.proofs.opening.open_cores.Goals as goal
+
+pub new-requires-clause-config : goal.new-requires-clause-config
+new-requires-clause-config c =
+    subst IsInRange (sym c.core_config-core.ensures)
+    (core_in_range c.args.config c.requires c.loop-number.number c.loop-number-test.true)
+
+pub new-requires-clause-geometry : goal.new-requires-clause-geometry
+new-requires-clause-geometry c =
+    subst (λ (shape : Geometry). IsGeometry shape.sets shape.ways) (sym c.geometry.ensures)
+    (cache_geometry c.args.config c.requires)
 
 pub loop-number-preserved : goal.loop-number-preserved
 loop-number-preserved c =

@@ -4,7 +4,7 @@ use Rattle.core_pts.specs.CoreTable.{CoreState}
 use Rattle.network.specs.Mail.{Mail}
 use Rattle.machine_table.specs.declared.event.Answer.{Answer}
 use Rattle.interleaving_core.specs.PartChanges.{requested}
-use Rattle.interleaving_core.proofs.ClosedOps.{attempt_requests, seen_beside}
+use Rattle.interleaving_core.proofs.ClosedOps.{attempt_requests, attempt_requests_own, seen_beside}
 use Rattle.interleaving_core.proofs.operations.attempt.Goals as goal
 
 pub returns-in-Ok-NeedShared-clause-done : goal.returns-in-Ok-NeedShared-clause-done
@@ -19,3 +19,20 @@ returns-in-Ok-NeedShared-clause-done c =
     (attempt_requests c.args.number c.args.count c.args.flight.now.capacity c.args.flight.now.mail c.args.core.now
     c.attempt.new.self _ c.in-Ok-NeedShared.pts c.in-Ok-NeedShared.version kept opens is)
     c.request.ensures.done
+
+pub returns-in-Ok-NeedExclusive-clause-done : goal.returns-in-Ok-NeedExclusive-clause-done
+returns-in-Ok-NeedExclusive-clause-done c =
+    let opens = seen_beside _ _ _ _ (sym c.open_op.ensures ∙ c.in-Some.is) in
+    let is = sym c.attempt.ensures ∙ ap (λ r. (r, c.attempt.new.self)) (ap result_ok c.in-Ok-NeedExclusive.is
+    ∙ ap Some c.in-Ok-NeedExclusive.field-0-is) in
+    let kept = c.nothing_completed_keeps.ensures c.args.core.now c.attempt.new.self _ is refl in
+    ap (λ (a : Answer). (a, c.request-in-Ok-NeedExclusive.new.core, c.request-in-Ok-NeedExclusive.new.flight.mail))
+    c.answer_to-in-Ok-NeedExclusive.ensures
+    ∙ subst (λ (x : Answer × CoreState × Mail). (
+      requested c.request-in-Ok-NeedExclusive.result,
+      c.request-in-Ok-NeedExclusive.new.core,
+      c.request-in-Ok-NeedExclusive.new.flight.mail,
+    ) ≡ x)
+    (attempt_requests_own c.args.number c.args.count c.args.flight.now.capacity c.args.flight.now.mail
+    c.args.core.now c.attempt.new.self _ c.in-Ok-NeedExclusive.version kept opens is)
+    c.request-in-Ok-NeedExclusive.ensures.done

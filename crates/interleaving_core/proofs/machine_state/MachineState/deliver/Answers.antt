@@ -1,4 +1,5 @@
 use Rattle.std.proofs.Common.{◌≡◌, ◌∙◌, ap, sym, subst, refl, arith, length, set}
+use Rattle.std.proofs.lemmas.Bool.{false≢true}
 use Rattle.std.proofs.lemmas.Option.{slice_get_read}
 use Rattle.network.specs.Mail.{Mail}
 use Rattle.network.specs.NumberedMessages.{at_number}
@@ -76,6 +77,26 @@ respond-requires-in-Bank-clause-endpoints c =
     fitted_reaction m.config c.self.inside.flight c.self.inside.cores.items c.self.inside.records.items _
     c.self.invariant (bank_table part message)
     (bank_endpoints m _ c.self.view_is c.requires c.args.number message there c.in-Bank.bank c.in-Bank.is part here)
+
+pub returns-in_err-response-in-Core-clause-wanted :
+    goal.returns-in_err-response-in-Core-clause-wanted
+returns-in_err-response-in-Core-clause-wanted c =
+    absurd (false≢true c.in_err-response-in-Core.ensures.sure)
+
+pub returns-in_err-response-in-Core-clause-store :
+    goal.returns-in_err-response-in-Core-clause-store
+returns-in_err-response-in-Core-clause-store c =
+    absurd (false≢true c.in_err-response-in-Core.ensures.sure)
+
+pub returns-in_err-response-in-Bank-clause-wanted :
+    goal.returns-in_err-response-in-Bank-clause-wanted
+returns-in_err-response-in-Bank-clause-wanted c =
+    absurd (false≢true c.in_err-response-in-Bank.ensures.sure)
+
+pub returns-in_err-response-in-Bank-clause-store :
+    goal.returns-in_err-response-in-Bank-clause-store
+returns-in_err-response-in-Bank-clause-store c =
+    absurd (false≢true c.in_err-response-in-Bank.ensures.sure)
 
 pub returns-in_err-response-in-Dram-clause-wanted :
     goal.returns-in_err-response-in-Dram-clause-wanted

@@ -1,8 +1,12 @@
 use Rattle.std.proofs.Common.{ap, ◌∙◌, arith, length}
 use Rattle.interleaving_core.specs.Reservation.{owed}
 use Rattle.network.specs.Flight.{Flight}
+use Rattle.interleaving_core.proofs.GoodRanges.{flight_in_range}
 use Rattle.interleaving_core.proofs.OpenCounts.{none_at_first}
 use Rattle.interleaving_core.proofs.machine_state.MachineState.open.Goals as goal
+
+pub new-requires : goal.new-requires
+new-requires c = flight_in_range c.args.config c.requires
 
 pub invariant_of-result : goal.invariant_of-result
 invariant_of-result c =

@@ -2,7 +2,7 @@
 use Rattle.std.proofs.Common.{◌≡◌, ℕ, List, [], ◌∷◌, ◌++◌, take, drop, Option, Some, None, Ok, IfSome, length, ◌<◌}
 use Rattle.std.proofs.Common.{◌+◌, ◌≤◌, sym, ap, ◌∙◌, append_assoc, length-append, arith}
 use Rattle.std.proofs.lemmas.List.{length-take-le, take-append-drop}
-use Rattle.byte_streams.specs.Device.{AtEnd, Gives, Grows, Loses}
+use Rattle.byte_streams.specs.Device.{AtEnd, GivesBytes, Grows, Loses}
 use Rattle.byte_streams.specs.Whole.{TakesAtMost}
 
 -- one part after another
@@ -36,7 +36,7 @@ loses_more (Some x) (Some y) (Some z) front more p q =
 
 -- a part more, which fits a block
 pub takes_more : (most block : ℕ) (old mid new : Option (List ℕ)) (came : List ℕ) (n : ℕ) (buffer : List ℕ) →
-    Loses old mid came → length came ≤ most → length buffer ≤ block → Gives mid new (Ok n) buffer →
+    Loses old mid came → length came ≤ most → length buffer ≤ block → GivesBytes mid new (Ok n) buffer →
     TakesAtMost (most + block) old new
 takes_more most block old mid new came n buffer lost few room given = (
   came ++ take n buffer,
@@ -51,7 +51,7 @@ after_nothing (x ∷ front) rest e = absurd cc
 
 -- a read that gave nothing into a buffer was at the end, and is
 pub none_left : (old new : Option (List ℕ)) (buffer : List ℕ) (n : ℕ) → n ≡ 0 → 0 < length buffer →
-    Gives old new (Ok n) buffer → IfSome old (λ bytes. AtEnd new)
+    GivesBytes old new (Ok n) buffer → IfSome old (λ bytes. AtEnd new)
 none_left None new buffer n e room g = tt
 none_left (Some x) None buffer n e room g = absurd g.1
 none_left (Some x) (Some y) buffer n e room g = let empty : x ≡ [] =

@@ -14,10 +14,10 @@ AtEnd None = Unit {0}
 AtEnd (Some bytes) = bytes ≡ []
 
 -- n bytes came, which are the buffer's first; none only at the end or without room
-abbrev pub Gives : Option (List ℕ) → Option (List ℕ) → Result ℕ DeviceError → List ℕ → Type 0
-Gives old new (Ok n) buffer =
+abbrev pub GivesBytes : Option (List ℕ) → Option (List ℕ) → Result ℕ DeviceError → List ℕ → Type 0
+GivesBytes old new (Ok n) buffer =
     (n ≤ length buffer) × Loses old new (take n buffer) × (n ≡ 0 → 0 < length buffer → AtEnd old)
-Gives old new (Err e) buffer = Loses old new []
+GivesBytes old new (Err e) buffer = Loses old new []
 
 -- known bytes grow by these
 abbrev pub Grows : Option (List ℕ) → Option (List ℕ) → List ℕ → Type 0
@@ -26,9 +26,9 @@ Grows (Some old) None bytes = ⊥
 Grows (Some old) (Some new) bytes = new ≡ old ++ bytes
 
 -- the first n of the bytes went out; some, where there are any
-abbrev pub Takes : Option (List ℕ) → Option (List ℕ) → Result ℕ DeviceError → List ℕ → Type 0
-Takes old new (Ok n) bytes = (n ≤ length bytes) × Grows old new (take n bytes) × (0 < length bytes → 0 < n)
-Takes old new (Err e) bytes = Grows old new []
+abbrev pub TakesBytes : Option (List ℕ) → Option (List ℕ) → Result ℕ DeviceError → List ℕ → Type 0
+TakesBytes old new (Ok n) bytes = (n ≤ length bytes) × Grows old new (take n bytes) × (0 < length bytes → 0 < n)
+TakesBytes old new (Err e) bytes = Grows old new []
 
 -- a failure is counted, and nothing else is
 abbrev pub Counts : {A : Type 0} → ℕ → ℕ → Result A DeviceError → Type 0

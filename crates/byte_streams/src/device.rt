@@ -1,7 +1,7 @@
 //! A source of bytes and a sink for bytes.
 
 ghost use Rattle.std.specs.Prelude.{ℕ, List, Option};
-ghost use Rattle.byte_streams.specs.Device.{Gives, Takes, Counts};
+ghost use Rattle.byte_streams.specs.Device.{GivesBytes, TakesBytes, Counts};
 
 /// A call of the device failed.
 #[derive(Clone, Copy, Debug, PartialEq, Eq)]
@@ -18,7 +18,7 @@ pub trait Source {
     /// Puts the next bytes into the front of the buffer, and says how many. There are none only at the end, or where
     /// the buffer is empty.
     fn read(&mut self, buffer: &mut [u8]) -> Result<usize, DeviceError>
-        ensures bytes { Gives (remaining self.old) (remaining self.new) result buffer.new }
+        ensures bytes { GivesBytes (remaining self.old) (remaining self.new) result buffer.new }
         ensures count { Counts (failures self.old) (failures self.new) result };
 }
 
@@ -32,6 +32,6 @@ pub trait Sink {
 
     /// Takes some bytes of the front, and says how many. To take none of bytes that there are is a failure.
     fn write(&mut self, bytes: &[u8]) -> Result<usize, DeviceError>
-        ensures bytes { Takes (contents self.old) (contents self.new) result bytes.now }
+        ensures bytes { TakesBytes (contents self.old) (contents self.new) result bytes.now }
         ensures count { Counts (failures self.old) (failures self.new) result };
 }

@@ -12,7 +12,7 @@ use Rattle.clap.specs.declared.parser.matches.Found.{Found}
 use Rattle.clap.proofs.WalkLemmas.{first_value-rows}
 use Rattle.clap.proofs.OnLiterals.{clap_on_literals}
 use Rattle.command_line.specs.App.{NameSchedules, Parsers, tardis_app}
-use Rattle.command_line.specs.Job.{Asks, IsAskedBy}
+use Rattle.command_line.specs.Job.{GivesJob, IsAskedBy}
 use Rattle.command_line.specs.declared.words.Job.{Job}
 
 simple : (p : Parsers) → is_simple (tardis_app p) ≡ true
@@ -54,7 +54,7 @@ no_fault a p words e given = ap (λ (b : App). fault_of b words) (sym e) ∙ giv
 pub is_named : (a : App) (p : Parsers) (words : List Text) (m : ArgMatches) (n : Text) (r : List Row) (job : Job) →
     NameSchedules p → a ≡ tardis_app p → (is_simple_and_free a ≡ true → fault_of a words ≡ []) → HasMatchesOf a words m
     → Some n ≡ subcommand_name_of m
-    → Some r ≡ option_map (λ (p : Text × List Row). p.1) (subcommand_rows_of m) → Asks n r job → IsAskedBy words job
+    → Some r ≡ option_map (λ (p : Text × List Row). p.1) (subcommand_rows_of m) → GivesJob n r job → IsAskedBy words job
 is_named a p words m n r job names e given matches f g asks =
     (p, names, no_fault a p words e given, (n, r), found_is a p words m n r e matches f g, asks)
 

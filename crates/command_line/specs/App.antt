@@ -65,17 +65,17 @@ machine_rules =
     ∷ []
 
 -- all the options of a run, and a file
-abbrev pub with_run : App → ValueParser → App
-with_run app p = with_rule (with_rules (with_rules app (run_rules p)) machine_rules) (file_rule (codes "FILE"))
+abbrev pub with_run_and_file : App → ValueParser → App
+with_run_and_file app p = with_rule (with_rules (with_rules app (run_rules p)) machine_rules) (file_rule (codes "FILE"))
 
 -- a litmus test may be run more than once
 abbrev pub litmus_app : ValueParser → App
 litmus_app p =
-    with_run (with_rule (new_app (codes "litmus")) (number_rule (codes "runs") (codes "1") (up_to 1000000))) p
+    with_run_and_file (with_rule (new_app (codes "litmus")) (number_rule (codes "runs") (codes "1") (up_to 1000000))) p
 
 -- of a trace the records may be asked for
 abbrev pub trace_app : ValueParser → App
-trace_app p = with_run (with_rule (new_app (codes "trace")) (flag_rule (codes "records"))) p
+trace_app p = with_run_and_file (with_rule (new_app (codes "trace")) (flag_rule (codes "records"))) p
 
 -- a check wants two files
 abbrev pub check_app : App

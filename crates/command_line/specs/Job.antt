@@ -3,19 +3,19 @@ use Rattle.std.specs.Prelude.{◌≡◌, ℕ, List, [], Some, codes}
 use Rattle.clap.specs.Words.{IsAmong, Row, Text, fault_of, subcommand_of}
 use Rattle.clap.specs.declared.error.kind.ErrorKind.{ErrorKind}
 use Rattle.command_line.specs.App.{NameSchedules, Parsers, tardis_app}
-use Rattle.command_line.specs.Options.{HasWord, Tells, TellsTrace}
+use Rattle.command_line.specs.Options.{HasWord, TellsLitmus, TellsTrace}
 use Rattle.command_line.specs.declared.words.Job.{Job}
 use Rattle.command_line.specs.declared.words.Job.TheVariants.{Litmus, Trace, Check}
 use Rattle.command_line.specs.declared.words.WordsError.{WordsError}
 use Rattle.command_line.specs.declared.words.WordsError.TheVariants.{NoMemory, Refused}
 
 -- the command, its options and its files are those that the words give
-abbrev pub Asks : Text → List Row → Job → Type 0
-Asks command rows (Litmus options file) =
-    (command ≡ codes "litmus") × Tells rows options × HasWord rows (codes "FILE") file.now
-Asks command rows (Trace options file) =
+abbrev pub GivesJob : Text → List Row → Job → Type 0
+GivesJob command rows (Litmus options file) =
+    (command ≡ codes "litmus") × TellsLitmus rows options × HasWord rows (codes "FILE") file.now
+GivesJob command rows (Trace options file) =
     (command ≡ codes "trace") × TellsTrace rows options × HasWord rows (codes "FILE") file.now
-Asks command rows (Check trace records) =
+GivesJob command rows (Check trace records) =
     (command ≡ codes "check")
     × HasWord rows (codes "TRACE") trace.now × HasWord rows (codes "RECORDS") records.now
 
@@ -23,7 +23,7 @@ Asks command rows (Check trace records) =
 abbrev pub IsAskedBy : List Text → Job → Type 0
 IsAskedBy words job =
     (p : Parsers) × NameSchedules p × (fault_of (tardis_app p) words ≡ [])
-    × (found : Text × List Row) × (subcommand_of (tardis_app p) words ≡ Some found) × Asks found.0 found.1 job
+    × (found : Text × List Row) × (subcommand_of (tardis_app p) words ≡ Some found) × GivesJob found.0 found.1 job
 
 -- clap's rules find a fault of this kind in the words
 abbrev pub IsFaulty : List Text → ErrorKind → Type 0

@@ -27,11 +27,11 @@ IsNumberOf (Some text) least most other value = WritesWithin text least most val
     ⊎ (((n : ℕ) → WritesWithin text least most n → ⊥) × (value ≡ other))
 
 -- the option has the number that its text writes, which is its default's text where the words don't have the option
-abbrev pub IsNumber : List Row → Text → ℕ → ℕ → ℕ → ℕ → Type 0
-IsNumber rows name least most other value = IsNumberOf (one_of name rows) least most other value
+abbrev pub HasNumber : List Row → Text → ℕ → ℕ → ℕ → ℕ → Type 0
+HasNumber rows name least most other value = IsNumberOf (one_of name rows) least most other value
 
-abbrev pub IsAnyNumber : List Row → Text → ℕ → ℕ → Type 0
-IsAnyNumber rows name other value = IsNumber rows name 0 18446744073709551615 other value
+abbrev pub HasAnyNumber : List Row → Text → ℕ → ℕ → Type 0
+HasAnyNumber rows name other value = HasNumber rows name 0 18446744073709551615 other value
 
 -- the flag is there exactly if its text is true, as it is where the words have it
 abbrev pub IsFlag : List Row → Text → Bool → Type 0
@@ -45,15 +45,15 @@ HasWord rows name text = text ≡ unwrap_or (first_of name rows) []
 -- how the machine is built
 abbrev pub TellsMachine : List Row → MachineOptions → Type 0
 TellsMachine rows options =
-    IsAnyNumber rows (codes "lease") machine_default.lease options.lease
-    × IsAnyNumber rows (codes "time") machine_default.time options.time
-    × IsAnyNumber rows (codes "banks") machine_default.banks options.banks
-    × IsAnyNumber rows (codes "sets") machine_default.sets options.sets
-    × IsAnyNumber rows (codes "ways") machine_default.ways options.ways
-    × IsAnyNumber rows (codes "bank-sets") machine_default.bank_sets options.bank_sets
-    × IsAnyNumber rows (codes "bank-ways") machine_default.bank_ways options.bank_ways
-    × IsAnyNumber rows (codes "line-words") machine_default.line_words options.line_words
-    × IsAnyNumber rows (codes "messages") machine_default.messages options.messages
+    HasAnyNumber rows (codes "lease") machine_default.lease options.lease
+    × HasAnyNumber rows (codes "time") machine_default.time options.time
+    × HasAnyNumber rows (codes "banks") machine_default.banks options.banks
+    × HasAnyNumber rows (codes "sets") machine_default.sets options.sets
+    × HasAnyNumber rows (codes "ways") machine_default.ways options.ways
+    × HasAnyNumber rows (codes "bank-sets") machine_default.bank_sets options.bank_sets
+    × HasAnyNumber rows (codes "bank-ways") machine_default.bank_ways options.bank_ways
+    × HasAnyNumber rows (codes "line-words") machine_default.line_words options.line_words
+    × HasAnyNumber rows (codes "messages") machine_default.messages options.messages
     × IsFlag rows (codes "private-write") options.private_write
 
 -- the schedule is seed exactly if the word is seed, and threads exactly if it is threads; the rule of its option takes
@@ -68,15 +68,15 @@ IsSchedule rows name schedule = (first_of name rows ≡ Some (codes "seed") → 
 abbrev pub TellsRun : List Row → RunOptions → Type 0
 TellsRun rows options =
     IsSchedule rows (codes "schedule") options.schedule
-    × IsAnyNumber rows (codes "seed") run_default.seed options.seed
-    × IsNumber rows (codes "workers") 1 16 run_default.workers options.workers
-    × IsNumber rows (codes "limit") 1 4294967295 run_default.limit options.limit
+    × HasAnyNumber rows (codes "seed") run_default.seed options.seed
+    × HasNumber rows (codes "workers") 1 16 run_default.workers options.workers
+    × HasNumber rows (codes "limit") 1 4294967295 run_default.limit options.limit
     × TellsMachine rows options.machine
 
 -- how often the test is run, and how
-abbrev pub Tells : List Row → LitmusOptions → Type 0
-Tells rows options =
-    IsNumber rows (codes "runs") 1 1000000 litmus_default.runs options.runs × TellsRun rows options.run
+abbrev pub TellsLitmus : List Row → LitmusOptions → Type 0
+TellsLitmus rows options =
+    HasNumber rows (codes "runs") 1 1000000 litmus_default.runs options.runs × TellsRun rows options.run
 
 -- whether the records of a trace are asked for, and how it is run
 abbrev pub TellsTrace : List Row → TraceOptions → Type 0

@@ -6,7 +6,7 @@ ghost use Rattle.clap.specs.declared.builder.command.Command.TheViews.{out-Comma
 ghost use Rattle.command_line.specs.Additions.{Adds, IsApp, IsArg};
 ghost use Rattle.command_line.specs.App.{NameSchedules, NamesSchedules, any_number, check_app};
 ghost use Rattle.command_line.specs.App.{file_rule, flag_rule, litmus_app, machine_rules, number_rule, run_rules};
-ghost use Rattle.command_line.specs.App.{tardis_app, trace_app, wanting, with_rules, with_run};
+ghost use Rattle.command_line.specs.App.{tardis_app, trace_app, wanting, with_rules, with_run_and_file};
 
 use clap::builder::ValueParser;
 use clap::{Arg, ArgAction, Command, value_parser};

@@ -1,7 +1,7 @@
 //! What the options of a run say.
 
 ghost use Rattle.clap.specs.Words.{found_of, rows_of};
-ghost use Rattle.command_line.specs.Options.{HasWord, IsAnyNumber, IsFlag, IsNumber, IsSchedule, Tells};
+ghost use Rattle.command_line.specs.Options.{HasWord, HasAnyNumber, IsFlag, HasNumber, IsSchedule, TellsLitmus};
 ghost use Rattle.command_line.specs.Options.{TellsMachine, TellsRun, TellsTrace};
 
 use clap::ArgMatches;
@@ -9,7 +9,7 @@ use run_options::{LitmusOptions, MachineOptions, RunOptions, Schedule, TraceOpti
 
 /// The number from least to most that an option's text writes, or this one where it writes none.
 fn number(matches: &ArgMatches<'_>, name: &str, least: u64, most: u64, other: u64) -> u64
-    ensures { IsNumber (rows_of (found_of matches.now)) name.now least most other result }
+    ensures { HasNumber (rows_of (found_of matches.now)) name.now least most other result }
 {
     let number = matches.get_one::<u64>(name).unwrap_or(other);
     if number < least || most < number {
@@ -20,7 +20,7 @@ fn number(matches: &ArgMatches<'_>, name: &str, least: u64, most: u64, other: u6
 
 /// The number of 64 bits that an option has, or this one where it has none.
 fn any_number(matches: &ArgMatches<'_>, name: &str, other: u64) -> u64
-    ensures { IsAnyNumber (rows_of (found_of matches.now)) name.now other result }
+    ensures { HasAnyNumber (rows_of (found_of matches.now)) name.now other result }
 {
     number(matches, name, 0, u64::MAX, other)
 }
@@ -85,7 +85,7 @@ fn run_of(matches: &ArgMatches<'_>) -> RunOptions
 
 /// The runs of a litmus test that the words ask for.
 pub(crate) fn litmus_options(matches: &ArgMatches<'_>) -> LitmusOptions
-    ensures { Tells (rows_of (found_of matches.now)) result }
+    ensures { TellsLitmus (rows_of (found_of matches.now)) result }
 {
     LitmusOptions {
         runs: number(matches, "runs", 1, 1000000, LitmusOptions::DEFAULT.runs),

@@ -2,7 +2,7 @@
 
 ghost use Rattle.std.specs.Prelude.{◌≡◌, ◌⊎◌, codes, map, IfOk, IfErr, List};
 ghost use Rattle.clap.specs.Words.{Text, found_of, kind_of, rows_of};
-ghost use Rattle.command_line.specs.Job.{Asks, IsAskedBy, IsFaulty, IsRefusedFor, words_number};
+ghost use Rattle.command_line.specs.Job.{GivesJob, IsAskedBy, IsFaulty, IsRefusedFor, words_number};
 
 use crate::app::command;
 use crate::options::{litmus_options, trace_options, word_of};
@@ -56,7 +56,7 @@ fn refused(alloc: Global, error: &Error) -> WordsError
 /// The job of a command that the program has.
 fn job_of<'a>(name: &str, matches: &ArgMatches<'a>) -> Job<'a>
     requires { (name.now ≡ codes "litmus") ⊎ (name.now ≡ codes "trace") ⊎ (name.now ≡ codes "check") }
-    ensures { Asks name.now (rows_of (found_of matches.now)) result }
+    ensures { GivesJob name.now (rows_of (found_of matches.now)) result }
 {
     match name {
         "litmus" => Job::Litmus(litmus_options(matches), word_of(matches, "FILE")),

@@ -11,7 +11,7 @@ use lib.ListN.{get_elem?}
 use Rattle.seat_views.proofs.Lemmas.{some_is}
 use Rattle.drawn_numbers.specs.declared.numbers.Numbers.{Numbers}
 use Rattle.drawn_numbers.specs.declared.drawer.Drawer.{Drawer}
-use Rattle.drawn_numbers.specs.Ties.{Chair}
+use Rattle.drawn_numbers.specs.Ties.{CounterSeat}
 use Rattle.drawn_numbers.specs.Drawers.{IsNewDrawer, AllNewDrawers}
 
 pub none_some : {A B : Type 0} {y : A} → None ≡ Some y → B
@@ -52,12 +52,12 @@ pub front_drawer : (m : Numbers) (ds : List Drawer) (d : Drawer) → AllNewDrawe
 front_drawer m ds d all new zero e at = subst (λ y. IsNewDrawer m 0 y) (some_is at) new
 front_drawer m ds d all new (suc i) e at = subst (λ k. IsNewDrawer m k e) (omega arith) (all i e at)
 
--- what a drawer is once it is made of a chair of this number
-pub new_drawer : (m : Numbers) (n : ℕ) (d : Drawer) (chair : Chair) → n < m.drawers →
-    chair.table_id ≡ m.table.shared.table_id → d.seat ≡ chair → d.number ≡ n → d.drawn.items ≡ [] →
+-- what a drawer is once it is made of a counter_seat of this number
+pub new_drawer : (m : Numbers) (n : ℕ) (d : Drawer) (counter_seat : CounterSeat) → n < m.drawers →
+    counter_seat.table_id ≡ m.table.shared.table_id → d.seat ≡ counter_seat → d.number ≡ n → d.drawn.items ≡ [] →
     IsNewDrawer m n d
-new_drawer m n d chair lt table seat number drawn = (
-  (ap (λ (y : Chair). y.table_id) seat ∙ table, subst (λ k. k < m.drawers) (sym number) lt),
+new_drawer m n d counter_seat lt table seat number drawn = (
+  (ap (λ (y : CounterSeat). y.table_id) seat ∙ table, subst (λ k. k < m.drawers) (sym number) lt),
   number,
   drawn,
 )

@@ -6,7 +6,7 @@ use mathlib.Core.Option.{some, some-injective, some-ne-none}
 use lib.ListN.{get_elem?}
 use Rattle.atomic_table.specs.Table.{Me, keeps, Allows, Splits, Joins, opening}
 use Rattle.seat_views.specs.declared.views.View.{View}
-use Rattle.seat_views.specs.Seated.{over, put, with_hold, one_more, knows, seat_view, spent_view, first_view}
+use Rattle.seat_views.specs.Seated.{over, with_value_at, with_hold, one_more, knows, seat_view, spent_view, first_view}
 use Rattle.seat_views.proofs.Lemmas.{within, shown_set, shown_split, shown_join, at_put, over_put}
 use Rattle.drawn_numbers.specs.Drawn.{times, RisesFrom, AllBelow, once_below, no_numbers, Drawn, drew}
 use Rattle.drawn_numbers.proofs.Lists.{times_snoc, rises_snoc, below_more, below_snoc, one_more_below, none_below}
@@ -37,7 +37,7 @@ module _ (n : ℕ) where
         keeps,
         tt,
         record {
-          drawn = put r.drawn id h;
+          drawn = with_value_at r.drawn id h;
           shown = shown_set (List ℕ) no_numbers n s.views r.drawn id v h r.shown at live;
           one_word = length-set s.words 0 ((x + 1) % 2 ^ 64) ∙ r.one_word;
           few = r.few;
@@ -47,17 +47,18 @@ module _ (n : ℕ) where
               let c = times_snoc y v.mine x in
               let d = one_more_below y x in
               let q : times y (r.drawn id) ≡ times y v.mine = ap (times y) is in
-              let goal : over n (λ j. times y (put r.drawn id h j)) ≡ once_below y (x + 1) = omega arith in
+              let goal : over n (λ j. times y (with_value_at r.drawn id h j)) ≡ once_below y (x + 1) = omega arith in
               goal ∙ ap (once_below y) (sym word);
           rising = λ j.
-              subst (λ z. RisesFrom 0 (put r.drawn id h j) × AllBelow z (put r.drawn id h j)) (sym word)
+              subst (λ z. RisesFrom 0 (with_value_at r.drawn id h j) × AllBelow z (with_value_at r.drawn id h j))
+              (sym word)
               (at_put r.drawn id h (λ i g. RisesFrom 0 g × AllBelow (x + 1) g) j
               (rises_snoc 0 v.mine x (omega arith) own.0 own.1, below_snoc x v.mine own.1)
               (λ _. ((r.rising j).0, below_more x (r.drawn j) (r.rising j).1)));
           total = (
               let b = over_put n (length {A = ℕ}) r.drawn id h seat in
               let q : length (r.drawn id) ≡ length v.mine = ap length is in
-              let g : over n (λ j. length (put r.drawn id h j)) ≡ x + 1 = omega arith in
+              let g : over n (λ j. length (with_value_at r.drawn id h j)) ≡ x + 1 = omega arith in
               g) ∙ sym word;
           bounded = λ j.
               at_put r.drawn id h (λ i g. length g ≤ 4294967296) j (omega arith) (λ _. r.bounded j);

@@ -16,16 +16,16 @@ use Rattle.seat_views.proofs.Lemmas.{some_is, over_same}
 use Rattle.drawn_numbers.specs.declared.drawer.Drawer.{Drawer}
 use Rattle.drawn_numbers.specs.Drawn.{times, RisesFrom, Drawn}
 use Rattle.drawn_numbers.specs.Drawers.{HasDrawer, HasDrawers}
-use Rattle.drawn_numbers.specs.Dealt.{AllDrawn, entry, entries, knows_all, filled}
+use Rattle.drawn_numbers.specs.Dealt.{AllDrawn, drawer_entry, drawer_entries, knows_all, lists_filled}
 use Rattle.drawn_numbers.proofs.DrawerLists.{none_some, get_snoc, at_more, at_less, read_at}
 
-pub filled_length : (ds : List Drawer) (lists : List (Vec ℕ Global)) → length (filled ds lists) ≡ length lists
+pub filled_length : (ds : List Drawer) (lists : List (Vec ℕ Global)) → length (lists_filled ds lists) ≡ length lists
 filled_length [] lists = refl
-filled_length (d ∷ ds) lists = length-set (filled ds lists) d.number d.drawn ∙ filled_length ds lists
+filled_length (d ∷ ds) lists = length-set (lists_filled ds lists) d.number d.drawn ∙ filled_length ds lists
 
 -- the last drawer's list comes first
 pub filled_snoc : (ds : List Drawer) (d : Drawer) (lists : List (Vec ℕ Global)) →
-    filled (ds ++ d ∷ []) lists ≡ filled ds (slice_set lists d.number d.drawn)
+    lists_filled (ds ++ d ∷ []) lists ≡ lists_filled ds (slice_set lists d.number d.drawn)
 filled_snoc [] d lists = refl
 filled_snoc (x ∷ xs) d lists = ap (λ l. slice_set l x.number x.drawn) (filled_snoc xs d lists)
 
@@ -52,7 +52,7 @@ module _ {A : Type 0} where
 abbrev Lies : List Drawer → List (Vec ℕ Global) → ℕ → Type 0
 Lies ds lists j =
     (i : ℕ) × (d : Drawer) × (slice_get ds i ≡ Some d) × (d.number ≡ j)
-    × (slice_get (filled ds lists) j ≡ Some d.drawn)
+    × (slice_get (lists_filled ds lists) j ≡ Some d.drawn)
 
 at_filled : (ds : List Drawer) (lists : List (Vec ℕ Global)) (j : ℕ) → j < length lists → HasDrawer ds j →
     Lies ds lists j
@@ -65,23 +65,24 @@ at_filled (x ∷ xs) lists j lt h =
       x,
       refl,
       e,
-      ap (slice_get (slice_set (filled xs lists) x.number x.drawn)) (sym e)
-          ∙ set_at (filled xs lists) x.number x.drawn (omega arith),
+      ap (slice_get (slice_set (lists_filled xs lists) x.number x.drawn)) (sym e)
+          ∙ set_at (lists_filled xs lists) x.number x.drawn (omega arith),
     ))
     (λ (ne : x.number ≢ j).
     let r = at_filled xs lists j lt (behind x xs j ne h) in
-    (suc r.0, r.1, r.2, r.3, set_apart (filled xs lists) x.number x.drawn j ne ∙ r.4))
+    (suc r.0, r.1, r.2, r.3, set_apart (lists_filled xs lists) x.number x.drawn j ne ∙ r.4))
   where
     behind : (x : Drawer) (xs : List Drawer) (j : ℕ) → x.number ≢ j → HasDrawer (x ∷ xs) j → HasDrawer xs j
     behind x xs j ne (zero, d, e, is) = absurd (ne (ap (λ (y : Drawer). y.number) (some_is e) ∙ is))
     behind x xs j ne (suc i, d, e, is) = (i, d, e, is)
 
 entries_have : (ds : List Drawer) (i : ℕ) (d : Drawer) → slice_get ds i ≡ Some d →
-    (q : ℕ) × (get_elem? (entries ds) q ≡ some (entry d))
+    (q : ℕ) × (get_elem? (drawer_entries ds) q ≡ some (drawer_entry d))
 entries_have [] i d e = none_some e
-entries_have (x ∷ xs) zero d e = at_more (entries xs) (entry x ∷ []) 0 (entry d) (ap (λ z. some (entry z)) (some_is e))
+entries_have (x ∷ xs) zero d e =
+    at_more (drawer_entries xs) (drawer_entry x ∷ []) 0 (drawer_entry d) (ap (λ z. some (drawer_entry z)) (some_is e))
 entries_have (x ∷ xs) (suc i) d e =
-    let r = entries_have xs i d e in (r.0, at_less (entries xs) (entry x ∷ []) r.0 (entry d) r.1)
+    let r = entries_have xs i d e in (r.0, at_less (drawer_entries xs) (drawer_entry x ∷ []) r.0 (drawer_entry d) r.1)
 
 module _ (n id : ℕ) (all rest : List Drawer) (last : Drawer) (lists : List (Vec ℕ Global)) (words : List ℕ)
     (nothing : List (Unit {0})) (split : all ≡ rest ++ last ∷ []) (long : length lists ≡ n)
@@ -94,7 +95,7 @@ module _ (n id : ℕ) (all rest : List Drawer) (last : Drawer) (lists : List (Ve
   w = knows_all v rest
 
   abbrev given : List (List ℕ)
-  given = map (λ (xs : Vec ℕ Global). xs.items) (filled all lists)
+  given = map (λ (xs : Vec ℕ Global). xs.items) (lists_filled all lists)
 
   abbrev r : Drawn n end.0
   r = end.1.0
@@ -104,8 +105,8 @@ module _ (n id : ℕ) (all rest : List Drawer) (last : Drawer) (lists : List (Ve
       ⊎_elim
       (λ x.
       let m = entries_have rest i d x in
-      let l = at_more v.known (entries rest) m.0 (entry d) m.1 in
-      ap r.drawn (sym d.tied.number) ∙ (r.shown.known id w end.1.1 l.0 (entry d) l.1).0 ∙ d.tied.drawn)
+      let l = at_more v.known (drawer_entries rest) m.0 (drawer_entry d) m.1 in
+      ap r.drawn (sym d.tied.number) ∙ (r.shown.known id w end.1.1 l.0 (drawer_entry d) l.1).0 ∙ d.tied.drawn)
       (λ x.
       ap (λ (y : Drawer). r.drawn y.number) (sym x.1)
       ∙ (ap r.drawn (sym last.tied.number ∙ r.shown.number id w end.1.1 last.tied.live)
@@ -116,11 +117,11 @@ module _ (n id : ℕ) (all rest : List Drawer) (last : Drawer) (lists : List (Ve
   listed : (j : ℕ) → j < n → slice_get given j ≡ Some (r.drawn j)
   listed j lt =
       let l = at_filled all lists j (omega arith) (whole.there j lt) in
-      map_at (λ (xs : Vec ℕ Global). xs.items) (filled all lists) j l.1.drawn l.4
+      map_at (λ (xs : Vec ℕ Global). xs.items) (lists_filled all lists) j l.1.drawn l.4
       ∙ ap Some (sym (own l.0 l.1 l.2) ∙ ap r.drawn l.3)
 
   length_given : length given ≡ n
-  length_given = length-map (filled all lists) (λ (xs : Vec ℕ Global). xs.items) ∙ filled_length all lists ∙ long
+  length_given = length-map (lists_filled all lists) (λ (xs : Vec ℕ Global). xs.items) ∙ filled_length all lists ∙ long
 
   pub all_drawn : AllDrawn n all given
   all_drawn =

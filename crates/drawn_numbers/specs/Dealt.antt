@@ -17,17 +17,17 @@ pub record AllDrawn (count : ℕ) (drawers : List Drawer) (lists : List (List �
   pub dealt : AreDealt count (λ j. slice_index_or lists j []) bound
 
 -- what is learned of a drawer that is joined: its number and what it drew
-abbrev pub entry : Drawer → ℕ × List ℕ
-entry d = (d.seat.me.0.number, d.seat.me.0.mine)
+abbrev pub drawer_entry : Drawer → ℕ × List ℕ
+drawer_entry d = (d.seat.me.0.number, d.seat.me.0.mine)
 
 -- the same of a list of drawers, from the last to the first
-abbrev pub entries : List Drawer → List (ℕ × List ℕ)
-entries [] = []
-entries (d ∷ ds) = entries ds ++ entry d ∷ []
+abbrev pub drawer_entries : List Drawer → List (ℕ × List ℕ)
+drawer_entries [] = []
+drawer_entries (d ∷ ds) = drawer_entries ds ++ drawer_entry d ∷ []
 
 -- a view that knows these drawers too
 abbrev pub knows_all : View (List ℕ) → List Drawer → View (List ℕ)
-knows_all v ds = record v { known = v.known ++ entries ds }
+knows_all v ds = record v { known = v.known ++ drawer_entries ds }
 
 -- all drawers of a list are at the table, and below the count
 abbrev pub AllAt : TableId → ℕ → List Drawer → Type 0
@@ -35,6 +35,6 @@ AllAt table count ds =
     (i : ℕ) (d : Drawer) → slice_get ds i ≡ Some d → (d.seat.table_id ≡ table) × (d.number < count)
 
 -- the lists after what each drawer drew was put at its number, from the last drawer to the first
-abbrev pub filled : List Drawer → List (Vec ℕ Global) → List (Vec ℕ Global)
-filled [] lists = lists
-filled (d ∷ ds) lists = slice_set (filled ds lists) d.number d.drawn
+abbrev pub lists_filled : List Drawer → List (Vec ℕ Global) → List (Vec ℕ Global)
+lists_filled [] lists = lists
+lists_filled (d ∷ ds) lists = slice_set (lists_filled ds lists) d.number d.drawn

@@ -3,7 +3,7 @@ use Rattle.std.specs.Prelude.{◌≡◌, ℕ, ◌+◌, ◌<◌, List, [], length
 use Rattle.seat_views.specs.Seated.{first_view}
 use Rattle.drawn_numbers.specs.declared.numbers.Numbers.{Numbers}
 use Rattle.drawn_numbers.specs.declared.drawer.Drawer.{Drawer}
-use Rattle.drawn_numbers.specs.Ties.{Chair}
+use Rattle.drawn_numbers.specs.Ties.{CounterSeat}
 
 -- the drawer is one of these numbers
 abbrev pub IsDrawerOf : Numbers → Drawer → Type 0
@@ -28,10 +28,10 @@ AllNewDrawers numbers from ds =
     (i : ℕ) (d : Drawer) → slice_get ds i ≡ Some d → IsNewDrawer numbers (from + i) d
 
 -- the first seat, which has made all seats below this number
-abbrev pub HasMade : Numbers → ℕ → Chair → Type 0
-HasMade numbers n chair =
-    (chair.table_id ≡ numbers.table.shared.table_id)
-    × (chair.me ≡ (record (first_view []) { made = n }, []))
+abbrev pub HasMade : Numbers → ℕ → CounterSeat → Type 0
+HasMade numbers n counter_seat =
+    (counter_seat.table_id ≡ numbers.table.shared.table_id)
+    × (counter_seat.me ≡ (record (first_view []) { made = n }, []))
 
 -- a drawer of this number is in the list
 abbrev pub HasDrawer : List Drawer → ℕ → Type 0

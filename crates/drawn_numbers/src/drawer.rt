@@ -3,7 +3,7 @@ ghost use Rattle.std.specs.Prelude.{◌≡◌, ℕ, ◌≤◌, ◌<◌, ◌++◌
 ghost use Rattle.drawn_numbers.specs.Ties.{DrawerTied};
 
 use crate::numbers::Numbers;
-use crate::steps::{Chair, draw_next};
+use crate::steps::{CounterSeat, draw_next};
 use std::alloc::AllocError;
 
 // How many numbers a drawer draws at most.
@@ -21,7 +21,7 @@ pub enum DrawError {
 /// A drawer of numbers, with all that it drew, in order.
 #[derive(Drop)]
 pub struct Drawer {
-    pub seat: Chair,
+    pub seat: CounterSeat,
     pub number: u32,
     pub drawn: Vec<u64>,
     pub ghost tied: { DrawerTied seat number drawn.items },

@@ -4,7 +4,7 @@ ghost use Rattle.drawn_numbers.specs.Drawers.{AreNewDrawers, AllNewDrawers, HasM
 
 use crate::drawer::Drawer;
 use crate::numbers::Numbers;
-use crate::steps::{Chair, make};
+use crate::steps::{CounterSeat, make};
 use atomic_table::Table;
 use std::alloc::{AllocError, Global};
 
@@ -21,7 +21,7 @@ pub fn open_numbers(alloc: Global, drawers: u32) -> Result<(Numbers, Vec<Drawer>
 }
 
 // The table, with room for the lists, and the first seat.
-fn open_table(alloc: Global, drawers: u32) -> Result<(Numbers, Chair), AllocError>
+fn open_table(alloc: Global, drawers: u32) -> Result<(Numbers, CounterSeat), AllocError>
     requires { (0 < drawers) × (drawers ≤ 16) }
     ensures { IfOk result (λ r. (r.0.drawers ≡ drawers) × HasMade r.0 1 r.1) }
 {
@@ -42,7 +42,7 @@ fn open_table(alloc: Global, drawers: u32) -> Result<(Numbers, Chair), AllocErro
 fn open_others(
     alloc: Global,
     numbers: &Numbers,
-    first: &mut Chair,
+    first: &mut CounterSeat,
 ) -> Result<Vec<Drawer>, AllocError>
     requires { HasMade numbers.now 1 first.old }
     ensures others { IfOk result (λ ds. (length ds.items + 1 ≡ numbers.now.drawers) ×
@@ -58,7 +58,7 @@ fn open_others(
 }
 
 // A drawer as it opens.
-fn new_drawer(alloc: Global, seat: Chair, number: u32) -> Drawer
+fn new_drawer(alloc: Global, seat: CounterSeat, number: u32) -> Drawer
     requires { (seat.me.0.number ≡ number) × (seat.me.0.spent ≡ false) ×
         (seat.me.0.mine ≡ []) × (seat.me.1 ≡ []) }
     ensures { (result.seat ≡ seat) × (result.number ≡ number) × (result.drawn.items ≡ []) }

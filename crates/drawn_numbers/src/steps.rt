@@ -25,10 +25,10 @@ impl TableRule<(), Known, u32> for Law {
 }
 
 /// A drawer's seat at the table, which has one word: the next number.
-pub type Chair = Seat<(), Known>;
+pub type CounterSeat = Seat<(), Known>;
 
 /// The table, as drawers share it.
-pub type Desk = Shared<(), Known, u32, Law>;
+pub type CounterTable = Shared<(), Known, u32, Law>;
 
 struct Draws;
 
@@ -55,37 +55,37 @@ impl Join<Known> for Meets {
 }
 
 /// Adds 1 to the word, and answers what it was: the number drawn.
-pub fn draw_next(desk: &Desk, seat: &mut Chair) -> u64
-    requires desk { Belongs seat.old.table_id desk.now.table_id desk.now.key }
+pub fn draw_next(table: &CounterTable, seat: &mut CounterSeat) -> u64
+    requires table { Belongs seat.old.table_id table.now.table_id table.now.key }
     requires live { seat.old.me.0.spent ≡ false }
     requires few { length seat.old.me.0.mine < 4294967296 }
-    ensures desk { (seat.new.table_id ≡ seat.old.table_id) × (seat.new.id ≡ seat.old.id) }
+    ensures table { (seat.new.table_id ≡ seat.old.table_id) × (seat.new.id ≡ seat.old.id) }
     ensures drew { drew seat.old.me result seat.new.me }
 {
-    desk.fetch_add::<Draws>(seat, 0, 1)
+    table.fetch_add::<Draws>(seat, 0, 1)
 }
 
 /// Makes the next drawer's seat.
-pub fn make(desk: &Desk, first: &mut Chair) -> Chair
-    requires desk { Belongs first.old.table_id desk.now.table_id desk.now.key }
+pub fn make(table: &CounterTable, first: &mut CounterSeat) -> CounterSeat
+    requires table { Belongs first.old.table_id table.now.table_id table.now.key }
     requires more { (first.old.me.0.spent ≡ false) × (0 < first.old.me.0.made) ×
-        (first.old.me.0.made < desk.now.key) }
-    ensures desk { (first.new.table_id ≡ first.old.table_id) × (first.new.id ≡ first.old.id) ×
+        (first.old.me.0.made < table.now.key) }
+    ensures table { (first.new.table_id ≡ first.old.table_id) × (first.new.id ≡ first.old.id) ×
         (result.table_id ≡ first.old.table_id) }
     ensures made { (first.new.me ≡ (one_more first.old.me.0, first.old.me.1)) ×
         (result.me ≡ (seat_view first.old.me.0.made [], [])) }
 {
-    desk.split_seat::<Makes>(first)
+    table.split_seat::<Makes>(first)
 }
 
 /// Takes in what another seat knows, which is then given up.
-pub fn meet(desk: &Desk, seat: &mut Chair, other: Chair)
-    requires desk { Belongs seat.old.table_id desk.now.table_id desk.now.key ×
-        (other.table_id ≡ desk.now.table_id) }
+pub fn meet(table: &CounterTable, seat: &mut CounterSeat, other: CounterSeat)
+    requires table { Belongs seat.old.table_id table.now.table_id table.now.key ×
+        (other.table_id ≡ table.now.table_id) }
     requires live { (seat.old.me.0.spent ≡ false) × (other.me.0.spent ≡ false) ×
         (other.me.1 ≡ []) }
-    ensures desk { (seat.new.table_id ≡ seat.old.table_id) × (seat.new.id ≡ seat.old.id) }
+    ensures table { (seat.new.table_id ≡ seat.old.table_id) × (seat.new.id ≡ seat.old.id) }
     ensures met { seat.new.me ≡ (knows seat.old.me.0 other.me.0, seat.old.me.1) }
 {
-    desk.join_seat::<Meets>(seat, other);
+    table.join_seat::<Meets>(seat, other);
 }

@@ -15,7 +15,7 @@ use Rattle.physiological_order.specs.declared.verdict.Verdict.{Verdict}
 use Rattle.physiological_order.specs.declared.verdict.Verdict.TheVariants.{Legal as LegalVerdict, WrongValue}
 use Rattle.physiological_order.specs.Order.{Memory, flat, Legal, Arrangement, NumberedOnce}
 use Rattle.physiological_order.specs.Order.{KeepsProgramOrder, Follows, of_core}
-use Rattle.physiological_order.specs.Faults.{IsVerdict, Lists, issued_by}
+use Rattle.physiological_order.specs.Faults.{IsVerdict, IssuedLists, issued_by}
 
 -- what the two cores were issued
 abbrev pub two_lists : List (List Op)
@@ -115,7 +115,7 @@ message_verdict message =
     (cases_eq message 1)
 
 -- so no other verdict is told
-pub told : (opening : FinMap nat_cmp ℕ) (lists : Lists) (records : List Record) (message : ℕ)
+pub told : (opening : FinMap nat_cmp ℕ) (lists : IssuedLists) (records : List Record) (message : ℕ)
     (told : Result Verdict AllocError) → opening ≡ empty → map (λ ops. ops.items) lists ≡ two_lists →
     records ≡ four_records message →
     ((opening : Memory) (issued : ℕ → List Op) (records : List Record) (first second : Verdict) →

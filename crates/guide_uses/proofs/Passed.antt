@@ -12,7 +12,7 @@ use Rattle.programs.specs.Performs.{Performs}
 use Rattle.guide_uses.specs.declared.drive.TheConstants.{TWO_CORES}
 use Rattle.guide_uses.specs.declared.program.Thread.{Thread}
 use Rattle.guide_uses.specs.declared.program.Thread.TheVariants.{StoreMessage, LoadFlag, Over}
-use Rattle.guide_uses.specs.Passing.{thread_acts, IsPassed}
+use Rattle.guide_uses.specs.Passing.{passing_acts, IsPassed}
 
 -- an element that is there is found, whatever stands in for a missing one
 found : (threads : List Thread) (k : ℕ) (thread other : Thread) → slice_get threads k ≡ Some thread →
@@ -22,7 +22,7 @@ found (t ∷ threads) zero thread other there = cc
 found (t ∷ threads) (suc k) thread other there = found threads k thread other there
 
 pub passed : (m : Machine) (threads : List Thread) (message : Option ℕ) (other : Thread) →
-    AreServed thread_acts (at_start TWO_CORES empty) m (StoreMessage ∷ LoadFlag ∷ []) threads →
+    AreServed passing_acts (at_start TWO_CORES empty) m (StoreMessage ∷ LoadFlag ∷ []) threads →
     slice_index_or threads 1 other ≡ Over message →
     Legal (flat empty) (λ core. slice_index_or m.issued core []) m.records → IfSome message IsPassed
 passed m threads None other served ended legal = tt
@@ -35,9 +35,9 @@ passed m threads (Some message) other served ended legal =
       records = m.records;
       legal = legal;
       writer = first.now;
-      written = subst (λ (rs : List Record). Performs thread_acts (of_core 0 rs) StoreMessage first.now)
+      written = subst (λ (rs : List Record). Performs passing_acts (of_core 0 rs) StoreMessage first.now)
           (sym served.records) first.performs;
-      received = subst (λ (rs : List Record). Performs thread_acts (of_core 1 rs) LoadFlag (Over (Some message)))
+      received = subst (λ (rs : List Record). Performs passing_acts (of_core 1 rs) LoadFlag (Over (Some message)))
           (sym served.records)
-          (subst (λ (q : Thread). Performs thread_acts (of_core 1 served.added) LoadFlag q) is second.performs);
+          (subst (λ (q : Thread). Performs passing_acts (of_core 1 served.added) LoadFlag q) is second.performs);
     }

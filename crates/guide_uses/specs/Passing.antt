@@ -34,8 +34,8 @@ thread_done thread.Wait received = thread.LoadFlag
 thread_done thread.LoadMessage received = thread.Over received
 thread_done (thread.Over last) received = thread.Over received
 
-abbrev pub thread_acts : Acts Thread
-thread_acts = record { next = thread_next; done = thread_done }
+abbrev pub passing_acts : Acts Thread
+passing_acts = record { next = thread_next; done = thread_done }
 
 -- a legal history of a memory of zeros has it: in it core 0 ran the first thread, as far as it came, and core 1 ran the
 -- second one to its end, and received this last
@@ -44,5 +44,5 @@ pub record IsPassed (message : ℕ) : Type 0 where
   pub records : List Record
   pub legal : Legal (flat empty) issued records
   pub writer : Thread
-  pub written : Performs thread_acts (of_core 0 records) thread.StoreMessage writer
-  pub received : Performs thread_acts (of_core 1 records) thread.LoadFlag (thread.Over (Some message))
+  pub written : Performs passing_acts (of_core 0 records) thread.StoreMessage writer
+  pub received : Performs passing_acts (of_core 1 records) thread.LoadFlag (thread.Over (Some message))

@@ -38,7 +38,7 @@ use Rattle.machine_table.specs.Transition.{changed, refused, deliver_core, deliv
 use Rattle.machine_table.specs.Transition.{deliver_message, deliver_to}
 use Rattle.machine_table.specs.declared.event.Answer.TheVariants.{Delivered, Refused, Started}
 use Rattle.machine_table.specs.declared.event.Refusal.TheVariants.{NetworkFull, NoSuch}
-use Rattle.machine_theorem.specs.Cases.{core_case, bank_case, dram_case, has_case_at, has_case}
+use Rattle.machine_theorem.specs.Cases.{core_case, bank_case, dram_takes, has_case_at, has_case}
 use Rattle.machine_theorem.specs.Shape.{GoesHome, IsOwnedBelow, IsWhole}
 use Rattle.machine_theorem.specs.Kept.{Invariant}
 use Rattle.machine_theorem.proofs.Lemmas.{each_at_number, messages_find_cases, both, core_and_bank, any_core_delivery}
@@ -175,7 +175,7 @@ module _ (m seen : Machine) (is_view : m ≡ seen) (holds : Invariant seen) (n :
   module _ (b : ℕ) (to : message.to ≡ node.Dram b) (lines : FinMap nat_cmp (List ℕ))
       (here : slice_get m.drams b ≡ Some lines) where
     pub dram_has : dram_has_case lines message ≡ true
-    dram_has = subst (λ o. dram_case o message ≡ true) here
+    dram_has = subst (λ o. dram_takes o message ≡ true) here
         (subst (λ k. has_case_at m message k ≡ true) to found_case)
 
     pub dram_delivers : changed m (with_dram m b) (reacted m.config.messages m.mail n (dram_table lines message)) ≡

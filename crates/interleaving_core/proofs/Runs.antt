@@ -14,7 +14,7 @@ use Rattle.machine_table.specs.declared.event.Event.{Event}
 use Rattle.machine_table.specs.declared.event.Answer.{Answer}
 use Rattle.machine_table.specs.Machine.{Machine}
 use Rattle.machine_theorem.specs.Kept.{Invariant}
-use Rattle.interleaving_core.specs.IssuedOps.{issued_by, issued_in}
+use Rattle.interleaving_core.specs.IssuedOps.{issued_at_event, issued_in}
 use Rattle.interleaving_core.specs.SentMessages.{last_of, newly_sent, all_sent, AreNext, AreCounted, how_many}
 use Rattle.interleaving_core.specs.SentMessages.{is_renewal}
 use Rattle.interleaving_core.specs.SentMessages.{is_upgrade, is_flush, is_write_back}
@@ -44,7 +44,7 @@ run_issues (event ∷ events) (answer ∷ answers) m after invariant (next, step
     let now = (step_told m event answer next step).issues (whole.lists ∙ sym whole.core_count) core in
     run_issues events answers next after (step_invariant m event answer next invariant step) rest core
     ∙ ap (λ ops. ops ++ issued_in core events answers) now
-    ∙ append_assoc (get_or m.issued core []) (issued_by core event answer) (issued_in core events answers)
+    ∙ append_assoc (get_or m.issued core []) (issued_at_event core event answer) (issued_in core events answers)
 run_issues [] (answer ∷ answers) m after invariant never core = absurd never
 run_issues (event ∷ events) [] m after invariant never core = absurd never
 

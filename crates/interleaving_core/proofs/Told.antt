@@ -44,7 +44,7 @@ use Rattle.machine_table.specs.Change.{reacted, copy_evicted, entry_evicted, adv
 use Rattle.machine_table.specs.Transition.{refused, changed, issued, issue_at, attempt_at, deliver_core, deliver_bank}
 use Rattle.machine_table.specs.Transition.{deliver_dram, deliver_to, deliver_message, evict_copy, evict_entry}
 use Rattle.machine_table.specs.Transition.{advance_at, on_event, transition}
-use Rattle.interleaving_core.specs.IssuedOps.{issued_by}
+use Rattle.interleaving_core.specs.IssuedOps.{issued_at_event}
 use Rattle.interleaving_core.specs.StepAnswers.{Stepped}
 
 -- no message is sent, or one, perhaps after one was taken
@@ -173,10 +173,10 @@ module _ (m : Machine) where
   -- what an event issues and sends
   pub record Told (event : Event) (outcome : Answer × Machine) : Type 0 where
     pub issues : length m.issued ≡ length m.cores → (core : ℕ) → get_or outcome.1.issued core [] ≡ get_or m.issued
-        core [] ++ issued_by core event outcome.0
+        core [] ++ issued_at_event core event outcome.0
     pub sends : SendsOne m.mail outcome.1.mail
 
-  stayed : (event : Event) (outcome : Answer × Machine) → ((core : ℕ) → issued_by core event outcome.0 ≡ []) →
+  stayed : (event : Event) (outcome : Answer × Machine) → ((core : ℕ) → issued_at_event core event outcome.0 ≡ []) →
       Stays m outcome.1 → Told event outcome
   stayed event outcome none stays = record {
     issues = λ long core. ap (λ lists. get_or lists core []) stays.0
@@ -230,7 +230,7 @@ module _ (m : Machine) where
       (slice_get m.cores c))
 
   -- a refused event issues nothing
-  refused_issues : (event : Event) (why : Refusal) (core : ℕ) → issued_by core event (Refused why) ≡ []
+  refused_issues : (event : Event) (why : Refusal) (core : ℕ) → issued_at_event core event (Refused why) ≡ []
   refused_issues (Issue c op) why core = refl
   refused_issues (AttemptOf c) why core = refl
   refused_issues (Deliver n) why core = refl

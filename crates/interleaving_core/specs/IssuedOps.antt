@@ -7,11 +7,11 @@ use Rattle.machine_table.specs.declared.event.Answer.{Answer}
 use Rattle.machine_table.specs.declared.event.Answer.TheVariants.{Issued}
 
 -- an Issue event issues its core its operation where it is answered Issued; nothing else issues one
-abbrev pub issued_by : ℕ → Event → Answer → List Op
-issued_by core (Issue c op) Issued = if c == core then op ∷ [] else []
-issued_by core _ _ = []
+abbrev pub issued_at_event : ℕ → Event → Answer → List Op
+issued_at_event core (Issue c op) Issued = if c == core then op ∷ [] else []
+issued_at_event core _ _ = []
 
 -- what a core is issued by a list of events, in order
 abbrev pub issued_in : ℕ → List Event → List Answer → List Op
-issued_in core (event ∷ events) (answer ∷ answers) = issued_by core event answer ++ issued_in core events answers
+issued_in core (event ∷ events) (answer ∷ answers) = issued_at_event core event answer ++ issued_in core events answers
 issued_in core _ _ = []

@@ -69,9 +69,9 @@ abbrev pub room_at : Machine → ℕ → Node → Option (ℕ × ℕ)
 room_at m line (Bank b) = room_in b line (slice_get m.banks b)
 room_at m line _ = None
 
-abbrev pub room_for : Machine → Option Message → Option (ℕ × ℕ)
-room_for m None = None
-room_for m (Some message) = if is_request message.body then room_at m message.line message.to else None
+abbrev pub room_for_message : Machine → Option Message → Option (ℕ × ℕ)
+room_for_message m None = None
+room_for_message m (Some message) = if is_request message.body then room_at m message.line message.to else None
 
 abbrev pub make_room : Machine → ℕ → Option (ℕ × ℕ)
-make_room m number = room_for m (at_number number m.mail.messages)
+make_room m number = room_for_message m (at_number number m.mail.messages)

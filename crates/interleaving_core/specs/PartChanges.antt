@@ -74,17 +74,18 @@ answer_in records None = completed_by (slice_get records (length records - 1))
 answer_in records (Some plain) = answer_of plain
 
 -- what an attempt is answered that needs a request, by whether it was sent
-abbrev pub requested : Bool → Answer
-requested true = answer.Requested
-requested false = answer.Refused NetworkFull
+abbrev pub request_answer : Bool → Answer
+request_answer true = answer.Requested
+request_answer false = answer.Refused NetworkFull
 
 -- what a reaction to a delivered message is answered, and the messages in flight afterwards: the same at every part
-abbrev pub settled : Mail → ℕ → Reaction → Answer × Mail
-settled mail n reaction = let x = applied {S = Unit {0}} tt mail (change.settled mail n reaction tt) in (x.0, x.2)
+abbrev pub settled_answer : Mail → ℕ → Reaction → Answer × Mail
+settled_answer mail n reaction =
+    let x = applied {S = Unit {0}} tt mail (change.settled mail n reaction tt) in (x.0, x.2)
 
 -- what a part's response to a delivered message is answered, and the messages in flight afterwards
 abbrev pub concluded : Mail → ℕ → Result Reaction Refusal → Answer × Mail
-concluded mail n (Ok reaction) = settled mail n reaction
+concluded mail n (Ok reaction) = settled_answer mail n reaction
 concluded mail n (Err why) = (answer.Refused why, mail)
 
 -- so with the part

@@ -6,7 +6,7 @@ ghost use Rattle.network.specs.Mail.{Mail};
 ghost use Rattle.llc_bank.specs.BankTable as bank_table;
 ghost use Rattle.interleaving_core.specs.LookUps.{is_request};
 ghost use Rattle.machine_table.specs.Change.{advanced, attempt, copy_evicted, entry_evicted, requests};
-ghost use Rattle.interleaving_core.specs.PartChanges.{answer_of, applied, requested};
+ghost use Rattle.interleaving_core.specs.PartChanges.{answer_of, applied, request_answer};
 ghost use Rattle.interleaving_core.specs.Endpoints.{BackHasEndpoints, EvictedHasEndpoints, is_sent_back};
 
 use crate::plain_answer::PlainAnswer;
@@ -63,7 +63,7 @@ pub(crate) fn attempt(core: &mut Core, flight: &mut InFlight, number: u32, count
 // What an attempt is answered that needs a request, by whether it was sent.
 #[inline(always)]
 fn answer_to(sent: bool) -> Answer
-    ensures { result ≡ requested sent }
+    ensures { result ≡ request_answer sent }
 {
     if sent {
         return Answer::Requested;
@@ -77,7 +77,7 @@ fn request(core: &mut Core, flight: &mut InFlight, op: &Op, body: Body) -> bool
     requires request { IsTrue (is_request body) }
     requires number { core.old.number < flight.old.cores }
     requires banks { core.old.banks ≡ flight.old.banks }
-    ensures done { (requested result, core.new, flight.new.mail) ≡ applied core.old
+    ensures done { (request_answer result, core.new, flight.new.mail) ≡ applied core.old
         flight.old.mail (requests flight.old.capacity flight.old.mail core.old op.now body) }
     ensures set_up { flight.new ≡ record flight.old {
       slots = flight.new.slots;

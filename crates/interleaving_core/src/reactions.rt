@@ -5,7 +5,8 @@ ghost use Rattle.network.specs.NumberedMessages.{at_number};
 ghost use Rattle.network.specs.Routes.{has_endpoints};
 ghost use Rattle.network.specs.Sends.{sent_by, sent_in};
 ghost use Rattle.machine_table.specs.Change.{can_send, reacted};
-ghost use Rattle.interleaving_core.specs.PartChanges.{IsQuiet, answer_of, applied, concluded, responded, settled};
+ghost use Rattle.interleaving_core.specs.PartChanges.{IsQuiet, answer_of, applied, concluded, responded};
+ghost use Rattle.interleaving_core.specs.PartChanges.{settled_answer};
 ghost use Rattle.interleaving_core.specs.PartChanges.{stops};
 ghost use Rattle.interleaving_core.specs.Endpoints.{CanConclude, ReactionHasEndpoints, SendsWithEndpoints};
 
@@ -112,7 +113,7 @@ fn can_send(flight: &InFlight, sends: Option<(Node, bool)>) -> bool
 // What a reaction to a delivered message is answered.
 #[inline(always)]
 fn delivery_of(reaction: &Reaction) -> PlainAnswer
-    ensures { (mail : Mail) (n : ℕ) → answer_of result ≡ (settled mail n reaction.now).0 }
+    ensures { (mail : Mail) (n : ℕ) → answer_of result ≡ (settled_answer mail n reaction.now).0 }
 {
     match reaction {
         Reaction::Held => PlainAnswer::Held,
@@ -128,7 +129,7 @@ fn settle(flight: &mut InFlight, number: MsgNo, reaction: Reaction)
     requires there { IsSome (at_number number flight.old.mail.messages) }
     requires endpoints { SendsWithEndpoints flight.old.cores flight.old.banks reaction }
     requires capacity { IsTrue (can_send flight.old.capacity flight.old.mail (sent_in reaction)) }
-    ensures mail { flight.new.mail ≡ (settled flight.old.mail number reaction).1 }
+    ensures mail { flight.new.mail ≡ (settled_answer flight.old.mail number reaction).1 }
     ensures set_up { flight.new ≡ record flight.old {
       slots = flight.new.slots;
       reserved =

@@ -7,7 +7,7 @@ use Rattle.std.proofs.lemmas.List.{get_or_past, length-append, length-map}
 use Rattle.line_arena.specs.Arenas.{Lists, IsOnce}
 use Rattle.line_arena.specs.CellLists.{look_up}
 use Rattle.line_arena.specs.ListLaws.{LookUpLaws}
-use Rattle.line_sets.specs.Order.{find, is_there, listed, IsDistinct}
+use Rattle.line_sets.specs.Order.{find, is_there, lines_passing, IsDistinct}
 use Rattle.line_sets.specs.SetTable.{all_listed, count_of, drop_line, look, put, put_within, set_at}
 use Rattle.line_sets.specs.Stored.{entries_of, sets_of, tags_of, IsStored}
 use Rattle.line_sets.proofs.ListedSums.{listed-more, sum-drop_line, sum-put, sum-put_within, weigh}
@@ -50,7 +50,7 @@ module _ {X : Type 0} (passes : X → Bool) where
   one-at-most : (x : X) → count_of passes (Some x) ≤ 1
   one-at-most x = cond_both (passes x) 1 0 (λ n. n ≤ 1) (λ e. omega arith) (λ e. omega arith)
 
-  listed-few : (ps : List (ℕ × X)) → length (listed passes ps) ≤ length ps
+  listed-few : (ps : List (ℕ × X)) → length (lines_passing passes ps) ≤ length ps
   listed-few [] = omega arith
   listed-few (p ∷ ps) =
       let more = listed-more passes length (λ _. 1) refl length-more p ps in let later = listed-few ps in
@@ -60,7 +60,7 @@ module _ {X : Type 0} (passes : X → Bool) where
       length (all_listed passes sets) ≤ length sets * 16
   all-few [] h = omega arith
   all-few (ps ∷ sets) h =
-      let more = length-append (listed passes ps) (all_listed passes sets) in let few = listed-few ps in
+      let more = length-append (lines_passing passes ps) (all_listed passes sets) in let few = listed-few ps in
       let first = h 0 (omega arith) in let later = all-few sets (λ i lt. h (suc i) (omega (arith, lt))) in
       omega (arith, more, few, first, later)
 

@@ -11,7 +11,7 @@ use Rattle.line_arena.specs.CellLists.{append_to, rewritten}
 use Rattle.line_arena.specs.CellLists as cell
 use Rattle.line_arena.specs.Arenas.{Lists, lists_of, IsOnce}
 use Rattle.line_arena.specs.ListLaws.{LookUpLaws, WithoutLaws}
-use Rattle.line_sets.specs.Order.{find, first_where, listed, oldest}
+use Rattle.line_sets.specs.Order.{find, first_where, lines_passing, oldest}
 use Rattle.line_sets.specs.SetTable.{set_at, put}
 use Rattle.line_sets.specs.Stored.{entries_of, sets_of, IsStored}
 use Rattle.line_sets.proofs.StoredSets.{apart, Becomes, cut-lists, once-written, used, written-here, written-in}
@@ -43,16 +43,16 @@ module _ {X : Type 0} where
 
   -- where the walk adds lines that are listed
   pub listed-passes : (passes : X → Bool) (es rest : List (ℕ × X)) (line : ℕ) (x : X) → es ≡ (line, x) ∷ rest →
-      passes x ≡ true → listed passes es ≡ line ∷ listed passes rest
+      passes x ≡ true → lines_passing passes es ≡ line ∷ lines_passing passes rest
   listed-passes passes es rest line x e h =
-      ap (listed passes) e
+      ap (lines_passing passes) e
       ∙ ap (λ b. map (λ (p : ℕ × X). p.0) (cond b ((line, x) ∷ list.filter (λ p. passes p.1) rest)
       (list.filter (λ p. passes p.1) rest))) h
 
   pub listed-fails : (passes : X → Bool) (es rest : List (ℕ × X)) (line : ℕ) (x : X) → es ≡ (line, x) ∷ rest →
-      passes x ≡ false → listed passes es ≡ listed passes rest
+      passes x ≡ false → lines_passing passes es ≡ lines_passing passes rest
   listed-fails passes es rest line x e h =
-      ap (listed passes) e
+      ap (lines_passing passes) e
       ∙ ap (λ b. map (λ (p : ℕ × X). p.0) (cond b ((line, x) ∷ list.filter (λ p. passes p.1) rest)
       (list.filter (λ p. passes p.1) rest))) h
 
@@ -62,15 +62,15 @@ module _ {X : Type 0} where
 
   -- the lines that are added, and those that are left
   pub added : (passes : X → Bool) (lines all : List ℕ) (es rest : List (ℕ × X)) (line : ℕ) (x : X) →
-      es ≡ (line, x) ∷ rest → passes x ≡ true → lines ++ listed passes es ≡ all →
-      (lines ++ line ∷ []) ++ listed passes rest ≡ all
+      es ≡ (line, x) ∷ rest → passes x ≡ true → lines ++ lines_passing passes es ≡ all →
+      (lines ++ line ∷ []) ++ lines_passing passes rest ≡ all
   added passes lines all es rest line x e h g =
-      append_assoc lines (line ∷ []) (listed passes rest)
+      append_assoc lines (line ∷ []) (lines_passing passes rest)
       ∙ ap (λ us. lines ++ us) (sym (listed-passes passes es rest line x e h)) ∙ g
 
   pub not-added : (passes : X → Bool) (lines all : List ℕ) (es rest : List (ℕ × X)) (line : ℕ) (x : X) →
-      es ≡ (line, x) ∷ rest → passes x ≡ false → lines ++ listed passes es ≡ all →
-      lines ++ listed passes rest ≡ all
+      es ≡ (line, x) ∷ rest → passes x ≡ false → lines ++ lines_passing passes es ≡ all →
+      lines ++ lines_passing passes rest ≡ all
   not-added passes lines all es rest line x e h g =
       ap (λ us. lines ++ us) (sym (listed-fails passes es rest line x e h)) ∙ g
 

@@ -33,8 +33,8 @@ IsDistinct [] = Unit {0}
 IsDistinct (p ∷ ps) = (is_there ps p.0 ≡ false) × IsDistinct ps
 
 -- the lines, in order of use, of values that a test passes
-abbrev pub listed : {X : Type 0} → (X → Bool) → List (ℕ × X) → List ℕ
-listed passes ps = map (λ p. p.0) (filter (λ p. passes p.1) ps)
+abbrev pub lines_passing : {X : Type 0} → (X → Bool) → List (ℕ × X) → List ℕ
+lines_passing passes ps = map (λ p. p.0) (filter (λ p. passes p.1) ps)
 
 -- the least recently used line
 abbrev pub oldest : {X : Type 0} → List (ℕ × X) → Option ℕ

@@ -2,7 +2,7 @@
 use Rattle.std.specs.Prelude.{ℕ, nat_lt, Bool, ◌||◌, List, [], length, replicate, Option, Some, None, slice_index_or}
 use Rattle.std.specs.Prelude.{slice_set, if◌then◌else◌}
 use Rattle.std.specs.List.{flat_map}
-use Rattle.line_sets.specs.Order.{find, without, put_last, put_in_place, is_there, listed}
+use Rattle.line_sets.specs.Order.{find, without, put_last, put_in_place, is_there, lines_passing}
 
 -- the sets by number, each in order of use
 pub record Sets (X : Type 0) : Type 0 where
@@ -43,7 +43,7 @@ has_place table i line = is_there (set_at table.sets i) line || has_room table i
 
 -- the lines of all sets, set by set, of values that a test passes
 abbrev pub all_listed : {X : Type 0} → (X → Bool) → List (List (ℕ × X)) → List ℕ
-all_listed passes sets = flat_map (listed passes) sets
+all_listed passes sets = flat_map (lines_passing passes) sets
 
 -- how many values that a test passes there are where one may be
 abbrev pub count_of : {X : Type 0} → (X → Bool) → Option X → ℕ

@@ -2,7 +2,7 @@
 ghost use Rattle.std.specs.Prelude.{◌≡◌, ◌<◌, ◌≤◌, IfOk, IsOk, IsTrue, length, OnErr, OnOk};
 ghost use Rattle.std.specs.Prelude.{slice_get, Some, ◌++◌, ℕ};
 ghost use Rattle.std.specs.Option.{option_copied};
-ghost use Rattle.line_sets.specs.Order.{first_where, is_there, listed, oldest, IsDistinct};
+ghost use Rattle.line_sets.specs.Order.{first_where, is_there, lines_passing, oldest, IsDistinct};
 ghost use Rattle.line_sets.specs.Geometry.{IsGeometry};
 ghost use Rattle.line_sets.specs.Rising.{all_but, risen};
 ghost use Rattle.line_sets.specs.SetTable.{all_listed, drop_line, empty_sets, has_place, has_room, look, put};
@@ -324,8 +324,8 @@ impl<V: Copy + Listed> LineSets<V> {
     // Adds the listed lines of a set, in their order.
     fn push_listed(&self, lines: &mut Vec<u64>, set: usize) -> Result<(), AllocError>
         requires { set < length self.now.sets }
-        ensures { OnOk result (lines.new.items ≡ lines.old.items ++ listed V.is_listed (set_at
-            self.now.sets set)) }
+        ensures { OnOk result (lines.new.items ≡ lines.old.items ++
+            lines_passing V.is_listed (set_at self.now.sets set)) }
     {
         looked_up::<(u64, V)>();
         let _lists = self.arena.lists();

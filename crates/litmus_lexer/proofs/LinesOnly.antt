@@ -3,7 +3,7 @@ use Rattle.std.proofs.Common.{◌≡◌, ℕ, ◌<◌, ◌≤◌, Bool, true, fa
 use Rattle.std.proofs.Common.{refl, arith}
 use Rattle.std.proofs.lemmas.Bool.{eqb-true, ne_eqb, false_from_ne_true, both_ways}
 use Rattle.litmus_lexer.specs.Pieces.{Piece, Word, Sign, LineEnd, is_blank, is_joined, grown, lone_piece, pieces_of}
-use Rattle.litmus_lexer.specs.FirstLines.{begins_with, is_quoted, is_setting, is_header_line, begins_block, behind}
+use Rattle.litmus_lexer.specs.FirstLines.{begins_with, is_quoted, is_setting, is_header_line, begins_block, text_behind}
 use Rattle.text_lines.specs.Lines.{before_line_feed}
 
 -- ---- header lines
@@ -16,7 +16,7 @@ brace-alone (first ∷ rest) e =
     rw (eqb-true first 123 e, some) refl
 
 block-no_header_line : (line : List ℕ) → begins_block line ≡ true → is_header_line line ≡ false
-block-no_header_line line e = brace-alone (behind is_blank line) e
+block-no_header_line line e = brace-alone (text_behind is_blank line) e
 
 -- a header line doesn't begin the initial block
 pub header_line-no_block : (line : List ℕ) → is_header_line line ≡ true → begins_block line ≡ false

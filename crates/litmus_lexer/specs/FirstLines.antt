@@ -44,8 +44,8 @@ unfoldable pub title_of : List ℕ → Option (List ℕ)
 title_of line = option_and_then name_behind (behind_riscv (drop (prefix_len is_blank line) line))
 
 -- a text after the bytes of this kind that it begins with
-abbrev pub behind : (ℕ → Bool) → List ℕ → List ℕ
-behind p text = drop (prefix_len p text) text
+abbrev pub text_behind : (ℕ → Bool) → List ℕ → List ℕ
+text_behind p text = drop (prefix_len p text) text
 
 abbrev pub is_key : List ℕ → Bool
 is_key [] = false
@@ -61,7 +61,7 @@ closes_quote (quote ∷ rest) = are_blanks rest
 -- a string between two " with no other ", and blanks after it
 abbrev pub is_quoted : List ℕ → Bool
 is_quoted [] = false
-is_quoted (first ∷ text) = if first == 34 then closes_quote (behind (λ b. not (b == 34)) text) else false
+is_quoted (first ∷ text) = if first == 34 then closes_quote (text_behind (λ b. not (b == 34)) text) else false
 
 abbrev pub begins_with : ℕ → List ℕ → Bool
 begins_with b [] = false
@@ -69,13 +69,13 @@ begins_with b (first ∷ rest) = first == b
 
 -- a letter followed by letters, digits and _, then blanks, then = and anything
 abbrev pub is_setting : List ℕ → Bool
-is_setting text = is_key text && begins_with EQUALS (behind is_blank (behind is_name_byte text))
+is_setting text = is_key text && begins_with EQUALS (text_behind is_blank (text_behind is_name_byte text))
 
 -- blank, a string, or key=value
 abbrev pub is_header_line : List ℕ → Bool
-is_header_line line = length (behind is_blank line) == 0 || is_quoted (behind is_blank line)
-    || is_setting (behind is_blank line)
+is_header_line line = length (text_behind is_blank line) == 0 || is_quoted (text_behind is_blank line)
+    || is_setting (text_behind is_blank line)
 
 -- the initial block begins with {
 abbrev pub begins_block : List ℕ → Bool
-begins_block line = begins_with OPENING_BRACE (behind is_blank line)
+begins_block line = begins_with OPENING_BRACE (text_behind is_blank line)

@@ -51,8 +51,8 @@ as_sign kind (Word w, line, pieces) = fails kind line
 as_sign kind (Sign b, line, pieces) = Ok (b, line, pieces)
 as_sign kind (LineEnd, line, pieces) = fails kind line
 
-unfoldable pub word_at : Kind → ℕ → List Piece → Read (List ℕ)
-word_at kind line pieces = next_at line pieces >>= as_word kind
+unfoldable pub next_word_at : Kind → ℕ → List Piece → Read (List ℕ)
+next_word_at kind line pieces = next_at line pieces >>= as_word kind
 
 unfoldable pub sign_at : Kind → ℕ → List Piece → Read ℕ
 sign_at kind line pieces = next_at line pieces >>= as_sign kind
@@ -109,9 +109,9 @@ passed_word_at wanted line (Word w ∷ pieces) = if bytes_eq w wanted then Some 
 passed_word_at wanted line (Sign b ∷ pieces) = None
 
 -- what is read after a sign, if there is one
-abbrev pub behind : {A B : Type 0} → Option A → B → (A → B) → B
-behind None none some = none
-behind (Some at) none some = some at
+abbrev pub read_behind_sign : {A B : Type 0} → Option A → B → (A → B) → B
+read_behind_sign None none some = none
+read_behind_sign (Some at) none some = some at
 
 -- steps from a state on until one says that it is the last; at most k, and then what is made of the last state
 unfoldable pub repeat_at : {S : Type 0} → ℕ → (S → Result (Bool × S) LitmusError) → (S → Result S LitmusError) → S →

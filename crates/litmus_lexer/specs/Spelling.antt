@@ -13,8 +13,8 @@ abbrev pub is_number : List ℕ → Bool
 is_number word = not (length word == 0) && list_all is_digit word
 
 -- the value of digits, leading zeros included
-abbrev pub number_of : List ℕ → ℕ
-number_of word = fold (λ value digit. 10 * value + (digit - 48)) 0 word
+abbrev pub value_of_digits : List ℕ → ℕ
+value_of_digits word = fold (λ value digit. 10 * value + (digit - 48)) 0 word
 
 -- a number from 0 to most in one or two digits, without a leading zero
 abbrev pub small_of : ℕ → List ℕ → Option ℕ

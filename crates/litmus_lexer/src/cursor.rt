@@ -38,9 +38,9 @@ pub struct Cursor<'a> {
 impl<'a> Model for Cursor<'a> {
     ghost use Rattle.std.specs.Prelude.{◌+◌, ◌<◌, ◌^◌, length};
     ghost use Rattle.litmus_lexer.specs.Pieces.{pieces_of};
-    ghost use Rattle.litmus_lexer.specs.Positions.{Position};
+    ghost use Rattle.litmus_lexer.specs.Positions.{TextPosition};
 
-    ghost Value = { Position };
+    ghost Value = { TextPosition };
 
     ghost view = { λ c. record { line = c.line; pieces = pieces_of c.rest.now } };
 

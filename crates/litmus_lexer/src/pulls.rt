@@ -1,7 +1,7 @@
 //! The next piece of a text, after line ends or within the line.
 
 ghost use Rattle.std.specs.Prelude.{◌≡◌, option_map};
-ghost use Rattle.litmus_lexer.specs.Reading.{Gives, as_word, next_at, word_at, sign_at, expect_at, here_at};
+ghost use Rattle.litmus_lexer.specs.Reading.{Gives, as_word, next_at, next_word_at, sign_at, expect_at, here_at};
 ghost use Rattle.litmus_lexer.specs.Reading.{word_here_at, expect_here_at, start_at, end_line_at, passed_at};
 ghost use Rattle.litmus_lexer.specs.Reading.{passed_word_at};
 ghost use Rattle.litmus_lexer.specs.Views.{view_piece, view_word, view_read, view_position};
@@ -42,9 +42,9 @@ fn as_word<'a>(
 }
 
 /// The next piece, a word; any other piece is a fault of this kind.
-#[tactic(auto, unfolding(crate::specs::Reading::word_at))]
+#[tactic(auto, unfolding(crate::specs::Reading::next_word_at))]
 pub fn word<'a>(cursor: Cursor<'a>, kind: Kind) -> Result<(&'a [u8], Cursor<'a>), ReadError>
-    ensures { Gives view_word result (word_at kind cursor.entry.line cursor.entry.pieces) }
+    ensures { Gives view_word result (next_word_at kind cursor.entry.line cursor.entry.pieces) }
 {
     as_word(next(cursor)?, kind)
 }

@@ -2,7 +2,8 @@
 
 ghost use Rattle.std.specs.Prelude.{◌≡◌, min};
 ghost use Rattle.std.specs.List.{list_all};
-ghost use Rattle.litmus_lexer.specs.Spelling.{is_digit, is_number, number_of, small_of, register_of, is_name_byte};
+ghost use Rattle.litmus_lexer.specs.Spelling.{is_digit, is_number, value_of_digits, small_of, register_of};
+ghost use Rattle.litmus_lexer.specs.Spelling.{is_name_byte};
 ghost use Rattle.litmus_lexer.specs.Spelling.{is_like_register, is_location};
 
 use crate::bytes::{is_digit, is_name_byte};
@@ -23,7 +24,7 @@ pub fn is_number(word: &[u8]) -> bool
 
 /// The value of digits if it is below `VALUE_BOUND`, and else `VALUE_BOUND`.
 pub fn number(word: &[u8]) -> u32
-    ensures { result ≡ min (number_of word.now) VALUE_BOUND }
+    ensures { result ≡ min (value_of_digits word.now) VALUE_BOUND }
 {
     let mut value = 0u64;
     for digit in word {

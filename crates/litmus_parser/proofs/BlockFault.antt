@@ -5,20 +5,23 @@ use Rattle.std.specs.List.{list_any}
 use Rattle.std.proofs.lemmas.Bool.{eqb-false, ltb-false}
 use Rattle.std.proofs.lemmas.List.{length-append, nil_from_length}
 use Rattle.litmus_lexer.specs.Pieces.{Piece, Word, Sign, LineEnd}
-use Rattle.litmus_lexer.specs.Spelling.{is_number, number_of, small_of, register_of, is_location}
+use Rattle.litmus_lexer.specs.Spelling.{is_number, value_of_digits, small_of, register_of, is_location}
 use Rattle.litmus_lexer.specs.declared.errors.Kind.{Kind}
 use Rattle.litmus_lexer.specs.declared.errors.Kind.TheVariants.{BadInitial, DoubleInitial, ValueRange}
 use Rattle.litmus_lexer.specs.declared.errors.LitmusError.{LitmusError}
-use Rattle.litmus_lexer.specs.Reading.{fails, next_at, word_at, sign_at, expect_at, end_line_at}
-use Rattle.litmus_parser.specs.Names.{Names, same_name, is_there}
-use Rattle.litmus_parser.specs.ReadingItems.{location_at, number_at, setting_at, register_item_at, location_item_at}
+use Rattle.litmus_lexer.specs.Reading.{fails, next_at, next_word_at, sign_at, expect_at, end_line_at}
+use Rattle.litmus_parser.specs.Names.{Names, same_name, is_present}
+use Rattle.litmus_parser.specs.ReadingItems.{location_at, small_number_at, setting_at, register_item_at}
+use Rattle.litmus_parser.specs.ReadingItems.{location_item_at}
 use Rattle.litmus_parser.specs.ReadingItems.{item_of, item_at}
-use Rattle.litmus_parser.specs.ReadingBlock.{Block, separated, added, whole_item_at, entry_of, entry_at, unended}
-use Rattle.litmus_parser.specs.ReadingBlock.{items_at, block_at}
+use Rattle.litmus_parser.specs.ReadingBlock.{Block, items_separated, added, whole_item_at, block_entry_at, entry_at}
+use Rattle.litmus_parser.specs.ReadingBlock.{unended}
+use Rattle.litmus_parser.specs.ReadingBlock.{items_at, initial_block_at}
 use Rattle.litmus_parser.specs.RestLines.{RestAt}
 use Rattle.litmus_parser.specs.BlockFaults.{BlockCause}
-use Rattle.litmus_parser.specs.BlockParts.{Wanted, OpeningBrace, ItemOrBrace, Colon, RegisterWord, RegisterEquals}
-use Rattle.litmus_parser.specs.BlockParts.{RegisterValue, LocationEquals, LocationValue, SemicolonOrBrace, fits}
+use Rattle.litmus_parser.specs.BlockParts.{WantedInBlock, OpeningBrace, ItemOrBrace, Colon, RegisterWord}
+use Rattle.litmus_parser.specs.BlockParts.{RegisterEquals}
+use Rattle.litmus_parser.specs.BlockParts.{RegisterValue, LocationEquals, LocationValue, SemicolonOrBrace, fits_block}
 use Rattle.litmus_parser.specs.BlockParts.{is_settable, ItemsUpTo, no_item, one_more, InLines, none, further}
 use Rattle.litmus_parser.specs.BlockParts.{ItemUpTo, at_item, thread_there, colon_there, register_there, equals_there}
 use Rattle.litmus_parser.specs.BlockParts.{location_there, equals_behind, BlockUpTo, at_block, in_item, behind_item}
@@ -44,8 +47,9 @@ module _ (line : ℕ) (pieces : List Piece) where
   C kind n = BlockCause line pieces kind n
 
   -- what is wanted where the block stands up to here
-  wants : (wanted : Wanted) (n : ℕ) (rest : List Piece) → RestAt line pieces n rest → BlockUpTo pieces wanted rest →
-      Wants C BadInitial (fits wanted) n rest
+  wants : (wanted : WantedInBlock) (n : ℕ) (rest : List Piece) → RestAt line pieces n rest → BlockUpTo pieces
+      wanted rest →
+      Wants C BadInitial (fits_block wanted) n rest
   wants wanted n rest at upto = record {
     ends = λ m p e. (wanted, rest, upto, e, beyond at p);
     wrong = λ p m after t unfit. inl (
@@ -63,10 +67,11 @@ module _ (line : ℕ) (pieces : List Piece) where
     );
   }
 
-  value_above : (wanted : Wanted) (n : ℕ) (rest : List Piece) → RestAt line pieces n rest → BlockUpTo pieces wanted
+  value_above : (wanted : WantedInBlock) (n : ℕ) (rest : List Piece) → RestAt line pieces n rest → BlockUpTo
+      pieces wanted
       rest → (wanted ≡ RegisterValue) ⊎ (wanted ≡ LocationValue)
       → (w : List ℕ) (m : ℕ) (after : List Piece) → Taken n rest (Word w) m after → is_number w ≡ true →
-      2147483648 ≤ number_of w → C ValueRange m
+      2147483648 ≤ value_of_digits w → C ValueRange m
   value_above wanted n rest at upto value w m after t number above = (
     wanted,
     w,
@@ -78,7 +83,7 @@ module _ (line : ℕ) (pieces : List Piece) where
 
   -- after items, of an item that begins here
   module _ (items : List Item) (names : Names) (here : List Piece) (st : ItemsUpTo pieces items names here) where
-    location_of_block : (wanted : Wanted) (there : List Piece) → ItemUpTo names here wanted there →
+    location_of_block : (wanted : WantedInBlock) (there : List Piece) → ItemUpTo names here wanted there →
         (wanted ≡ ItemOrBrace) ⊎ (wanted ≡ RegisterValue)
         → (word : List ℕ) (n : ℕ) (rest : List Piece) → Next there (Word word) rest →
         RestAt line pieces n (Word word ∷ rest) → (is_location word ≡ false → C BadInitial n)
@@ -110,13 +115,13 @@ module _ (line : ℕ) (pieces : List Piece) where
     unfolding setting_at
     setting_explains n rest at upto =
         let Q : (Setting × Names) × ℕ × List Piece → Type 0 = SettingRead n rest in
-        let value : Wants C BadInitial (fits RegisterValue) n rest =
+        let value : Wants C BadInitial (fits_block RegisterValue) n rest =
         wants RegisterValue n rest at (in_item st upto) in
         bind_explains C (λ (x : List ℕ × ℕ × List Piece). Taken n rest (Word x.0) x.1 x.2) Q
-        (word_at BadInitial n rest) _ (word_wanted C BadInitial (fits RegisterValue) n rest value
+        (next_word_at BadInitial n rest) _ (word_wanted C BadInitial (fits_block RegisterValue) n rest value
         (λ w. is_number w || is_location w) (λ p. refl)) (λ w e t.
         test_explains C Q (is_number w.0) _ _ (λ d.
-        test_explains C Q (ltb (number_of w.0) 2147483648) (Ok ((Number (number_of w.0), names), w.1, w.2))
+        test_explains C Q (ltb (value_of_digits w.0) 2147483648) (Ok ((Number (value_of_digits w.0), names), w.1, w.2))
         (fails ValueRange w.1) (λ f. over_word t.0)
         (λ f. let ge = ltb-false _ _ f in value_above RegisterValue n rest at (in_item st upto) (inl refl) w.0 w.1 w.2
         t d (omega (arith, ge)))) (λ d.
@@ -138,15 +143,15 @@ module _ (line : ℕ) (pieces : List Piece) where
     register_item_explains thread n rest at upto =
         let Q : (Item × Names) × ℕ × List Piece → Type 0 = ItemRead n rest in
         bind_explains C (λ (x : ℕ × List Piece). Taken n rest (Sign 58) x.0 x.1) Q (expect_at 58 BadInitial n rest) _
-        (expect_wanted C BadInitial (fits Colon) n rest (wants Colon n rest at (in_item st upto)) 58 (λ p. refl))
+        (expect_wanted C BadInitial (fits_block Colon) n rest (wants Colon n rest at (in_item st upto)) 58 (λ p. refl))
         (λ colon e p.
         let colon_stands : ItemUpTo names here RegisterWord colon.1 = colon_there upto p.1 in
         let behind_colon : RestAt n rest colon.0 colon.1 = over_sign p.0 in
-        let register : Wants C BadInitial (fits RegisterWord) colon.0 colon.1 =
+        let register : Wants C BadInitial (fits_block RegisterWord) colon.0 colon.1 =
         wants RegisterWord colon.0 colon.1 (beyond at behind_colon) (in_item st colon_stands) in
         bind_explains C (λ (x : List ℕ × ℕ × List Piece). Taken colon.0 colon.1 (Word x.0) x.1 x.2) Q
-        (word_at BadInitial colon.0 colon.1) _
-        (word_wanted C BadInitial (fits RegisterWord) colon.0 colon.1 register (λ w. is_settable (register_of w))
+        (next_word_at BadInitial colon.0 colon.1) _
+        (word_wanted C BadInitial (fits_block RegisterWord) colon.0 colon.1 register (λ w. is_settable (register_of w))
         (λ p. refl)) (λ w e' q.
         let behind_word : RestAt n rest w.1 w.2 = beyond behind_colon (over_word q.0) in
         found_explains C Q BadInitial (register_of w.0) w.1 _ (λ nothing. register.wrong (Word w.0) w.1 w.2 q
@@ -157,7 +162,7 @@ module _ (line : ℕ) (pieces : List Piece) where
         register_there w.0 r colon_stands q.1 some (eqb-false r 0 other) in
         bind_explains C (λ (x : ℕ × List Piece). Taken w.1 w.2 (Sign 61) x.0 x.1) Q (expect_at 61 BadInitial w.1 w.2)
         _
-        (expect_wanted C BadInitial (fits RegisterEquals) w.1 w.2
+        (expect_wanted C BadInitial (fits_block RegisterEquals) w.1 w.2
         (wants RegisterEquals w.1 w.2 (beyond at behind_word) (in_item st register_stands)) 61 (λ p. refl))
         (λ equals e'' s.
         let behind_equals : RestAt n rest equals.0 equals.1 = beyond behind_word (over_sign s.0) in
@@ -177,14 +182,14 @@ module _ (line : ℕ) (pieces : List Piece) where
         let location_stands : ItemUpTo names here LocationEquals rest =
         location_there first l.0 l.1 next (location_takes BadInitial first n names l e) in
         bind_explains C (λ (x : ℕ × List Piece). Taken n rest (Sign 61) x.0 x.1) Q (expect_at 61 BadInitial n rest) _
-        (expect_wanted C BadInitial (fits LocationEquals) n rest (wants LocationEquals n rest (over_word at)
+        (expect_wanted C BadInitial (fits_block LocationEquals) n rest (wants LocationEquals n rest (over_word at)
         (in_item st location_stands)) 61 (λ p. refl)) (λ equals e' p.
         let behind_equals : RestAt line pieces equals.0 equals.1 = beyond (over_word at) (over_sign p.0) in
         let value_stands : BlockUpTo pieces LocationValue equals.1 = in_item st (equals_behind location_stands p.1) in
         bind_explains C (λ (x : ℕ × ℕ × List Piece). RestAt equals.0 equals.1 x.1 x.2) Q
-        (number_at BadInitial equals.0 equals.1)
+        (small_number_at BadInitial equals.0 equals.1)
         (λ v. Ok ((record { line = n; name = Location l.0; setting = Number v.0 }, l.1), v.1, v.2))
-        (number_wanted C BadInitial (fits LocationValue) equals.0 equals.1 (wants LocationValue equals.0 equals.1
+        (number_wanted C BadInitial (fits_block LocationValue) equals.0 equals.1 (wants LocationValue equals.0 equals.1
         behind_equals value_stands) (λ p. refl)
         (value_above LocationValue equals.0 equals.1 behind_equals value_stands (inr refl)))
         (λ v e'' q. (refl, beyond (over_sign p.0) q))))
@@ -197,8 +202,8 @@ module _ (line : ℕ) (pieces : List Piece) where
     item_of_explains None first m n rest at t is =
         location_item_explains first n rest t.1 (beyond at t.0) (λ no_location.
         (wants ItemOrBrace m here at (in_item st at_item)).wrong (Word first) n rest t
-        (neither (is_there (small_of 15 first) || is_location first) false (neither (is_there (small_of 15 first))
-        (is_location first) (ap is_there is) no_location) refl))
+        (neither (is_present (small_of 15 first) || is_location first) false (neither (is_present (small_of 15 first))
+        (is_location first) (ap is_present is) no_location) refl))
 
     item_explains : (first : List ℕ) (m n : ℕ) (rest : List Piece) → RestAt line pieces m here →
         Taken m here (Word first) n rest → Explains C (ItemRead n rest) (item_at first names n rest)
@@ -206,13 +211,13 @@ module _ (line : ℕ) (pieces : List Piece) where
     item_explains first m n rest at t = item_of_explains (small_of 15 first) first m n rest at t refl
 
   separated_explains : (n : ℕ) (rest : List Piece) → RestAt line pieces n rest → BlockUpTo pieces SemicolonOrBrace
-      rest → Explains C (λ (x : Bool × ℕ × List Piece). RestAt n rest x.1 x.2) (separated n rest)
-  unfolding separated
+      rest → Explains C (λ (x : Bool × ℕ × List Piece). RestAt n rest x.1 x.2) (items_separated n rest)
+  unfolding items_separated
   separated_explains n rest at upto =
       let Q : Bool × ℕ × List Piece → Type 0 = λ x. RestAt n rest x.1 x.2 in
-      let either : Wants C BadInitial (fits SemicolonOrBrace) n rest = wants SemicolonOrBrace n rest at upto in
+      let either : Wants C BadInitial (fits_block SemicolonOrBrace) n rest = wants SemicolonOrBrace n rest at upto in
       bind_explains C (λ (x : ℕ × ℕ × List Piece). Taken n rest (Sign x.0) x.1 x.2) Q (sign_at BadInitial n rest) _
-      (sign_wanted C BadInitial (fits SemicolonOrBrace) n rest either (λ w. refl) refl) (λ s e p.
+      (sign_wanted C BadInitial (fits_block SemicolonOrBrace) n rest either (λ w. refl) refl) (λ s e p.
       test_explains C Q (eqb s.0 59) (Ok (true, s.1, s.2)) _ (λ t. over_sign p.0) (λ no_more.
       test_explains C Q (eqb s.0 125) (Ok (false, s.1, s.2)) (fails BadInitial s.1) (λ t. over_sign p.0) (λ no_brace.
       either.wrong (Sign s.0) s.1 s.2 p (neither (eqb s.0 59) (eqb s.0 125) no_more no_brace))))
@@ -314,7 +319,7 @@ module _ (line : ℕ) (pieces : List Piece) where
       let fresh = (added_takes s.0 x.0.0 items e').0 in
       let lines : InLines line pieces items =
       subst (InLines line pieces) (sym a) (further x.0.0 l.0.1 st (first, rest, t.1, begins)) in
-      bind_explains C (λ (y : Bool × ℕ × List Piece). RestAt x.1 x.2 y.1 y.2) Q (separated x.1 x.2)
+      bind_explains C (λ (y : Bool × ℕ × List Piece). RestAt x.1 x.2 y.1 y.2) Q (items_separated x.1 x.2)
       (λ more. Ok (more.0, (items, x.0.1, more.1, more.2)))
       (separated_explains x.1 x.2 on (behind_item x.0.0 x.0.1 st is fresh)) (λ more e'' p.
       onto-either k more.0 (items, x.0.1, more.1, more.2) (beyond on p, lines) (λ short. item-shorter s first n rest
@@ -323,7 +328,7 @@ module _ (line : ℕ) (pieces : List Piece) where
       (separated_takes x.1 x.2 more e'')))))
 
   entry_of_explains : (k : ℕ) (s : Block) (p : Piece) (n : ℕ) (rest : List Piece) → Left (suc k) s →
-      Taken s.2 s.3 p n rest → Explains C (Onto (Left k) Stands) (entry_of s.0 s.1 (p, n, rest))
+      Taken s.2 s.3 p n rest → Explains C (Onto (Left k) Stands) (block_entry_at s.0 s.1 (p, n, rest))
   entry_of_explains k s (Word first) n rest l t = whole_item_explains k s first n rest l t
   entry_of_explains k s (Sign b) n rest l t =
       test_explains C (Onto (Left k) Stands) (eqb b 125) (Ok (false, (s.0, s.1, n, rest))) (fails BadInitial n)
@@ -336,7 +341,7 @@ module _ (line : ℕ) (pieces : List Piece) where
   unfolding entry_at
   entry_explains k s l =
       bind_explains C (λ (x : Piece × ℕ × List Piece). Taken s.2 s.3 x.0 x.1 x.2) (Onto (Left k) Stands)
-      (next_at s.2 s.3) (entry_of s.0 s.1)
+      (next_at s.2 s.3) (block_entry_at s.0 s.1)
       (next_wanted C s.2 s.3 (wants ItemOrBrace s.2 s.3 l.0.0 (in_item l.2 at_item)).ends)
       (λ x e t. entry_of_explains k s x.0 x.1 x.2 l t)
 
@@ -395,14 +400,14 @@ module _ (line : ℕ) (pieces : List Piece) where
         rest_at = at;
       })
 
-  whole_block : Explains ShortCause Stands (block_at [] line pieces)
-  unfolding block_at
+  whole_block : Explains ShortCause Stands (initial_block_at [] line pieces)
+  unfolding initial_block_at
   whole_block =
       let Brace : ℕ × List Piece → Type 0 = λ x. Taken line pieces (Sign 123) x.0 x.1 in
-      let opening : Wants C BadInitial (fits OpeningBrace) line pieces =
+      let opening : Wants C BadInitial (fits_block OpeningBrace) line pieces =
       wants OpeningBrace line pieces (start line pieces) at_block in
       bind_explains ShortCause Brace Stands (expect_at 123 BadInitial line pieces) _
-      (in_short Brace (expect_at 123 BadInitial line pieces) (expect_wanted C BadInitial (fits OpeningBrace) line
+      (in_short Brace (expect_at 123 BadInitial line pieces) (expect_wanted C BadInitial (fits_block OpeningBrace) line
       pieces opening 123 (λ p. refl))) (λ brace e p.
       bind_explains ShortCause Stands Stands (items_at [] brace.0 brace.1) _
       (items_explain brace.0 brace.1 (over_sign p.0) p.1) (λ b e' st.
@@ -415,11 +420,13 @@ module _ (line : ℕ) (pieces : List Piece) where
 -- ---- the whole
 
 pub block_explains : (line : ℕ) (pieces : List Piece) (e : LitmusError) → length pieces ≤ 65536 →
-    block_at [] line pieces ≡ Err e → BlockCause line pieces e.kind e.line
+    initial_block_at [] line pieces ≡ Err e → BlockCause line pieces e.kind e.line
 block_explains line pieces e short is =
-    told (ShortCause line pieces) (Stands line pieces) (block_at [] line pieces) e (whole_block line pieces) is short
+    told (ShortCause line pieces) (Stands line pieces) (initial_block_at [] line pieces) e (whole_block line pieces) is
+    short
 
-pub block_place : (line : ℕ) (pieces : List Piece) (b : Block) → block_at [] line pieces ≡ Ok b →
+pub block_place : (line : ℕ) (pieces : List Piece) (b : Block) → initial_block_at [] line pieces ≡ Ok b →
     RestAt line pieces b.2 b.3 × InLines line pieces b.0
-block_place line pieces b is = answered (ShortCause line pieces) (Stands line pieces) (block_at [] line pieces) b
+block_place line pieces b is =
+    answered (ShortCause line pieces) (Stands line pieces) (initial_block_at [] line pieces) b
     (whole_block line pieces) is

@@ -9,18 +9,20 @@ use Rattle.std.specs.Prelude.{nat_le, not}
 use Rattle.std.specs.Str.{bytes_eq}
 use Rattle.litmus_lexer.specs.Pieces.{Piece, Word, Sign, LineEnd}
 use Rattle.litmus_lexer.specs.Naming.{place_of}
-use Rattle.litmus_lexer.specs.Spelling.{is_number, number_of, small_of, register_of, is_location}
+use Rattle.litmus_lexer.specs.Spelling.{is_number, value_of_digits, small_of, register_of, is_location}
 use Rattle.litmus_lexer.specs.declared.errors.Kind.{Kind}
 use Rattle.litmus_lexer.specs.declared.errors.Kind.TheVariants.{BadInitial, TooLarge, ValueRange}
 use Rattle.text_lines.specs.Reading.{◌>>=◌}
-use Rattle.litmus_lexer.specs.Reading.{fails, next_at, word_at, sign_at, expect_at, end_line_at}
+use Rattle.litmus_lexer.specs.Reading.{fails, next_at, next_word_at, sign_at, expect_at, end_line_at}
 use Rattle.litmus_lexer.proofs.Lemmas.{repeat-takes}
 use Rattle.litmus_parser.specs.Names.{Names, same_name}
-use Rattle.litmus_parser.specs.ReadingItems.{location_at, number_at, setting_at, register_item_at, location_item_at}
+use Rattle.litmus_parser.specs.ReadingItems.{location_at, small_number_at, setting_at, register_item_at}
+use Rattle.litmus_parser.specs.ReadingItems.{location_item_at}
 use Rattle.litmus_parser.specs.ReadingItems.{item_of, item_at}
-use Rattle.litmus_parser.specs.ReadingBlock.{Block, separated, added, whole_item_at, entry_of, entry_at, unended}
-use Rattle.litmus_parser.specs.ReadingBlock.{items_at, block_at}
-use Rattle.litmus_parser.specs.GrammarWords.{Next, IsValue, IsNumbered}
+use Rattle.litmus_parser.specs.ReadingBlock.{Block, items_separated, added, whole_item_at, block_entry_at, entry_at}
+use Rattle.litmus_parser.specs.ReadingBlock.{unended}
+use Rattle.litmus_parser.specs.ReadingBlock.{items_at, initial_block_at}
+use Rattle.litmus_parser.specs.GrammarWords.{Next, IsLitmusValue, IsNumbered}
 use Rattle.litmus_parser.specs.GrammarBlock.{IsSetting, IsItem, AreItems, IsBlock}
 use Rattle.litmus_parser.specs.declared.syntax.Name.TheVariants.{Register, Location}
 use Rattle.litmus_parser.specs.declared.syntax.Setting.{Setting}
@@ -53,14 +55,14 @@ location_takes kind word line names x e =
     ]
 
 pub value_takes : (kind : Kind) (line : ℕ) (pieces : List Piece) (x : ℕ × ℕ × List Piece) →
-    number_at kind line pieces ≡ Ok x → (w : List ℕ) × Next pieces (Word w) x.2 × IsValue w x.0
-unfolding number_at
+    small_number_at kind line pieces ≡ Ok x → (w : List ℕ) × Next pieces (Word w) x.2 × IsLitmusValue w x.0
+unfolding small_number_at
 value_takes kind line pieces x e =
-    let w = bind_ok (word_at kind line pieces) _ x e in
+    let w = bind_ok (next_word_at kind line pieces) _ x e in
     let d = then_ok (is_number w.0.0) _ _ x w.2 in
-    let f = then_ok (ltb (number_of w.0.0) 2147483648) (Ok (number_of w.0.0, w.0.1, w.0.2)) _ x d.1 in
-    subst (λ (y : ℕ × ℕ × List Piece). (w : List ℕ) × Next pieces (Word w) y.2 × IsValue w y.0)
-    (ok_is (number_of w.0.0, w.0.1, w.0.2) x f.1)
+    let f = then_ok (ltb (value_of_digits w.0.0) 2147483648) (Ok (value_of_digits w.0.0, w.0.1, w.0.2)) _ x d.1 in
+    subst (λ (y : ℕ × ℕ × List Piece). (w : List ℕ) × Next pieces (Word w) y.2 × IsLitmusValue w y.0)
+    (ok_is (value_of_digits w.0.0, w.0.1, w.0.2) x f.1)
     (w.0.0, word_takes kind line pieces w.0 w.1, (d.0, refl, ltb-true _ _ f.0))
 
 abbrev TakesSetting : List Piece → Names → (Setting × Names) × ℕ × List Piece → Type 0
@@ -70,14 +72,14 @@ setting_takes : (names : Names) (line : ℕ) (pieces : List Piece) (x : (Setting
     setting_at names line pieces ≡ Ok x → TakesSetting pieces names x
 unfolding setting_at
 setting_takes names line pieces x e =
-    let w = bind_ok (word_at BadInitial line pieces) _ x e in
+    let w = bind_ok (next_word_at BadInitial line pieces) _ x e in
     let n = word_takes BadInitial line pieces w.0 w.1 in
-    elim (either_ok (is_number w.0.0) (cond (ltb (number_of w.0.0) 2147483648)
-    (Ok ((Number (number_of w.0.0), names), w.0.1, w.0.2)) (fails ValueRange w.0.1))
+    elim (either_ok (is_number w.0.0) (cond (ltb (value_of_digits w.0.0) 2147483648)
+    (Ok ((Number (value_of_digits w.0.0), names), w.0.1, w.0.2)) (fails ValueRange w.0.1))
     (location_at BadInitial w.0.0 w.0.1 names >>= λ l. Ok ((Address l.0, l.1), w.0.1, w.0.2)) x w.2) [
-      | inl h ↦ let f = then_ok (ltb (number_of w.0.0) 2147483648)
-          (Ok ((Number (number_of w.0.0), names), w.0.1, w.0.2)) _ x h.1 in
-          subst (TakesSetting pieces names) (ok_is ((Number (number_of w.0.0), names), w.0.1, w.0.2) x f.1)
+      | inl h ↦ let f = then_ok (ltb (value_of_digits w.0.0) 2147483648)
+          (Ok ((Number (value_of_digits w.0.0), names), w.0.1, w.0.2)) _ x h.1 in
+          subst (TakesSetting pieces names) (ok_is ((Number (value_of_digits w.0.0), names), w.0.1, w.0.2) x f.1)
           (w.0.0, n, ((h.0, refl, ltb-true _ _ f.0), refl))
       | inr h ↦ let l =
           bind_ok (location_at BadInitial w.0.0 w.0.1 names) (λ l. Ok ((Address l.0, l.1), w.0.1, w.0.2)) x h.1 in
@@ -97,7 +99,7 @@ register_item_takes : (before : List Piece) (tw : List ℕ) (thread : ℕ) (name
 unfolding register_item_at
 register_item_takes before tw thread names line pieces x first is_thread e =
     let colon = bind_ok (expect_at 58 BadInitial line pieces) _ x e in
-    let w = bind_ok (word_at BadInitial colon.0.0 colon.0.1) _ x colon.2 in
+    let w = bind_ok (next_word_at BadInitial colon.0.0 colon.0.1) _ x colon.2 in
     let r = found_ok BadInitial (register_of w.0.0) w.0.1 _ x w.2 in
     let z = else_ok (eqb r.0 0) _ _ x r.2 in
     let equals = bind_ok (expect_at 61 BadInitial w.0.1 w.0.2) _ x z.1 in
@@ -132,7 +134,7 @@ unfolding location_item_at
 location_item_takes before lw names line pieces x first e =
     let l = bind_ok (location_at BadInitial lw line names) _ x e in
     let equals = bind_ok (expect_at 61 BadInitial line pieces) _ x l.2 in
-    let v = bind_ok (number_at BadInitial equals.0.0 equals.0.1)
+    let v = bind_ok (small_number_at BadInitial equals.0.0 equals.0.1)
     (λ v. Ok ((record { line = line; name = Location l.0.0; setting = Number v.0 }, l.0.1), v.1, v.2)) x
     equals.2 in
     let n = value_takes BadInitial equals.0.0 equals.0.1 v.0 v.1 in
@@ -191,9 +193,9 @@ abbrev pub Separates : List Piece → Bool × ℕ × List Piece → Type 0
 Separates pieces (true, line, rest) = Next pieces (Sign 59) rest
 Separates pieces (false, line, rest) = Next pieces (Sign 125) rest
 
-pub separated_takes : (line : ℕ) (pieces : List Piece) (x : Bool × ℕ × List Piece) → separated line pieces ≡ Ok
+pub separated_takes : (line : ℕ) (pieces : List Piece) (x : Bool × ℕ × List Piece) → items_separated line pieces ≡ Ok
     x → Separates pieces x
-unfolding separated
+unfolding items_separated
 separated_takes line pieces x e =
     let s = bind_ok (sign_at BadInitial line pieces) _ x e in
     let n = sign_takes BadInitial line pieces s.0 s.1 in
@@ -223,14 +225,14 @@ unfolding whole_item_at
 whole_item_takes s first line pieces x n e =
     let i = bind_ok (item_at first s.1 line pieces) _ x e in
     let a = bind_ok (added s.0 i.0.0.0) _ x i.2 in
-    let m = bind_ok (separated i.0.1 i.0.2) (λ more. Ok (more.0, (a.0, i.0.0.1, more.1, more.2))) x a.2 in
+    let m = bind_ok (items_separated i.0.1 i.0.2) (λ more. Ok (more.0, (a.0, i.0.0.1, more.1, more.2))) x a.2 in
     let ad = added_takes s.0 i.0.0.0 a.0 a.1 in
     subst (OneEntry s) (ok_is (m.0.0, (a.0, i.0.0.1, m.0.1, m.0.2)) x m.2)
     (entry_with s i.0.0.0 i.0.0.1 i.0.2 a.0 m.0 (item_takes s.3 first s.1 line pieces i.0 n i.1) ad.0 ad.1
     (separated_takes i.0.1 i.0.2 m.0 m.1))
 
 entry_of_takes : (s : Block) (p : Piece) (line : ℕ) (pieces : List Piece) (x : Bool × Block) → Next s.3 p pieces →
-    entry_of s.0 s.1 (p, line, pieces) ≡ Ok x → OneEntry s x
+    block_entry_at s.0 s.1 (p, line, pieces) ≡ Ok x → OneEntry s x
 entry_of_takes s (Word first) line pieces x n e = whole_item_takes s first line pieces x n e
 entry_of_takes s (Sign b) line pieces x n e =
     let t = then_ok (eqb b 125) (Ok (false, (s.0, s.1, line, pieces))) _ x e in
@@ -241,7 +243,7 @@ entry_of_takes s LineEnd line pieces x n e = absurd cc
 entry_takes : (s : Block) (x : Bool × Block) → entry_at s ≡ Ok x → OneEntry s x
 unfolding entry_at
 entry_takes s x e =
-    let p = bind_ok (next_at s.2 s.3) (entry_of s.0 s.1) x e in
+    let p = bind_ok (next_at s.2 s.3) (block_entry_at s.0 s.1) x e in
     entry_of_takes s p.0.0 p.0.1 p.0.2 x (next_takes s.2 s.3 p.0 p.1) p.2
 
 record Itemised (s t : Block) : Type 0 where
@@ -291,9 +293,9 @@ items_stand names line pieces t e =
     let i = items_take names line pieces t e in
     subst (λ (items : List Item). AreItems [] pieces names items t.1 t.3) (sym i.all) i.are
 
-pub block_takes : (line : ℕ) (pieces : List Piece) (x : Block) → block_at [] line pieces ≡ Ok x →
+pub block_takes : (line : ℕ) (pieces : List Piece) (x : Block) → initial_block_at [] line pieces ≡ Ok x →
     IsBlock pieces x.0 x.1 x.3
-unfolding block_at
+unfolding initial_block_at
 block_takes line pieces x e =
     let brace = bind_ok (expect_at 123 BadInitial line pieces) _ x e in
     let b = bind_ok (items_at [] brace.0.0 brace.0.1) _ x brace.2 in

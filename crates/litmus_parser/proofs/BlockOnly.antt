@@ -6,16 +6,18 @@ use Rattle.std.specs.List.{list_any, AllByRecursion}
 use Rattle.std.proofs.lemmas.Bool.{lt-ltb, ne_eqb}
 use Rattle.std.proofs.lemmas.List.{append-nil, map-append}
 use Rattle.litmus_lexer.specs.Pieces.{Piece, Word, Sign, LineEnd, between}
-use Rattle.litmus_lexer.specs.Spelling.{is_number, number_of, register_of}
+use Rattle.litmus_lexer.specs.Spelling.{is_number, value_of_digits, register_of}
 use Rattle.litmus_lexer.specs.declared.errors.Kind.TheVariants.{BadInitial, ValueRange}
 use Rattle.text_lines.specs.Reading.{◌>>=◌}
-use Rattle.litmus_lexer.specs.Reading.{Read, fails, next_at, word_at, sign_at, expect_at, repeat_at}
+use Rattle.litmus_lexer.specs.Reading.{Read, fails, next_at, next_word_at, sign_at, expect_at, repeat_at}
 use Rattle.litmus_lexer.proofs.Lemmas.{location-no_thread, repeat-more, repeat-last}
 use Rattle.litmus_parser.specs.Names.{Names, same_name, address_of}
-use Rattle.litmus_parser.specs.ReadingItems.{location_at, number_at, setting_at, register_item_at, location_item_at}
+use Rattle.litmus_parser.specs.ReadingItems.{location_at, small_number_at, setting_at, register_item_at}
+use Rattle.litmus_parser.specs.ReadingItems.{location_item_at}
 use Rattle.litmus_parser.specs.ReadingItems.{item_of, item_at}
-use Rattle.litmus_parser.specs.ReadingBlock.{separated, added, whole_item_at, entry_at, unended, items_at, block_at}
-use Rattle.litmus_parser.specs.GrammarWords.{Next, IsValue, IsNumbered}
+use Rattle.litmus_parser.specs.ReadingBlock.{items_separated, added, whole_item_at, entry_at, unended, items_at}
+use Rattle.litmus_parser.specs.ReadingBlock.{initial_block_at}
+use Rattle.litmus_parser.specs.GrammarWords.{Next, IsLitmusValue, IsNumbered}
 use Rattle.litmus_parser.specs.GrammarBlock.{IsSetting, IsItem, AreItems, IsBlock}
 use Rattle.litmus_parser.specs.declared.syntax.Name.{Name}
 use Rattle.litmus_parser.specs.declared.syntax.Name.TheVariants.{Register, Location}
@@ -30,9 +32,10 @@ use Rattle.litmus_parser.proofs.WordsOnly.{number_again, location_again}
 -- ---- items
 
 setting-number : (w : List ℕ) (n line : ℕ) (before after : Names) (rest : List Piece) (other : Read (Setting × Names))
-    → is_number w ≡ true → ltb (number_of w) 2147483648 ≡ true → n ≡ number_of w → after ≡ before
+    → is_number w ≡ true → ltb (value_of_digits w) 2147483648 ≡ true → n ≡ value_of_digits w → after ≡ before
     → (let r : Read (Setting × Names) =
-    cond (is_number w) (cond (ltb (number_of w) 2147483648) (Ok ((Number (number_of w), before), line, rest))
+    cond (is_number w) (cond (ltb (value_of_digits w) 2147483648)
+    (Ok ((Number (value_of_digits w), before), line, rest))
     (fails ValueRange line)) other in r) ≡ Ok ((Number n, after), line, rest)
 setting-number w n line before after rest other d f e same = rw (d, f, e, same) refl
 
@@ -48,12 +51,12 @@ setting_again : (before : Names) (line : ℕ) (pieces : List Piece) (w : List �
     (setting, after) rest
 unfolding setting_at
 setting_again before line pieces w (Number n) after rest next s =
-    let small : number_of w < 2147483648 = subst (λ x. x < 2147483648) s.0.1 s.0.2 in
-    onward (word_at BadInitial line pieces) w rest _ (Number n, after) rest
+    let small : value_of_digits w < 2147483648 = subst (λ x. x < 2147483648) s.0.1 s.0.2 in
+    onward (next_word_at BadInitial line pieces) w rest _ (Number n, after) rest
     (word_again BadInitial line pieces w rest next) (λ l.
     record { line = l; is = setting-number w n l before after rest _ s.0.0 (lt-ltb _ _ small) s.0.1 s.1 })
 setting_again before line pieces w (Address m) after rest next s =
-    onward (word_at BadInitial line pieces) w rest _ (Address m, after) rest
+    onward (next_word_at BadInitial line pieces) w rest _ (Address m, after) rest
     (word_again BadInitial line pieces w rest next) (λ l.
     record { line = l; is = setting-address w m l before after rest _ s.0 s.1 })
 
@@ -75,7 +78,7 @@ register_item_again thread r before setting after line which vw a b c d rest col
     is_register some s =
     let item : Item × Names = (record { line = line; name = Register thread r; setting = setting }, after) in
     onward_past (expect_at 58 BadInitial line a) b _ item rest (expect_again 58 BadInitial line a b colon) (λ l.
-    onward (word_at BadInitial l b) which c _ item rest (word_again BadInitial l b which c word) (λ m.
+    onward (next_word_at BadInitial l b) which c _ item rest (word_again BadInitial l b which c word) (λ m.
     moved _ _ item rest (found_again BadInitial (register_of which) m _ r _ is_register refl)
     (moved _ _ item rest (else_again (eqb r 0) _ _ _ (ne_eqb r 0 some) refl) (
     onward_past (expect_at 61 BadInitial m c) d _ item rest (expect_again 61 BadInitial m c d equals) (λ n.
@@ -84,7 +87,7 @@ register_item_again thread r before setting after line which vw a b c d rest col
     record { line = o; is = refl }))))))
 
 location_item_again : (lw vw : List ℕ) (before : Names) (l n : ℕ) (after : Names) (line : ℕ) (a b rest : List Piece)
-    → Next a (Sign 61) b → Next b (Word vw) rest → IsNumbered lw before l after → IsValue vw n
+    → Next a (Sign 61) b → Next b (Word vw) rest → IsNumbered lw before l after → IsLitmusValue vw n
     → Again (location_item_at lw before line a) (record { line = line; name = Location l; setting = Number n }, after)
     rest
 unfolding location_item_at
@@ -93,7 +96,8 @@ location_item_again lw vw before l n after line a b rest equals value numbered i
     moved _ _ item rest (bind_again (location_at BadInitial lw line before) _ (l, after) _
     (location_again BadInitial lw line before l after numbered) refl) (
     onward_past (expect_at 61 BadInitial line a) b _ item rest (expect_again 61 BadInitial line a b equals) (λ m.
-    onward (number_at BadInitial m b) n rest _ item rest (number_again BadInitial m b vw n rest value is_value) (λ o.
+    onward (small_number_at BadInitial m b) n rest _ item rest (number_again BadInitial m b vw n rest value
+    is_value) (λ o.
     record { line = o; is = refl })))
 
 -- its first word, what follows that, and what is read there
@@ -231,20 +235,20 @@ alike-all P (item' ∷ items') (item ∷ items) e h = let p = alike-parts item' 
 -- ---- the block
 
 separated-more : (line : ℕ) (pieces rest : List Piece) → Next pieces (Sign 59) rest →
-    Again (separated line pieces) true rest
-unfolding separated
+    Again (items_separated line pieces) true rest
+unfolding items_separated
 separated-more line pieces rest n = onward (sign_at BadInitial line pieces) 59 rest _ true rest (sign_again BadInitial line pieces 59 rest n) (λ l. record { line = l; is = refl })
 
 separated-last : (line : ℕ) (pieces rest : List Piece) → Next pieces (Sign 125) rest →
-    Again (separated line pieces) false rest
-unfolding separated
+    Again (items_separated line pieces) false rest
+unfolding items_separated
 separated-last line pieces rest n = onward (sign_at BadInitial line pieces) 125 rest _ false rest (sign_again BadInitial line pieces 125 rest n) (λ l. record { line = l; is = refl })
 
 entry-step : (items : List Item) (before after : Names) (line : ℕ) (pieces middle a b : List Piece) (first : List ℕ)
     (item : Item) (more : Bool)
     → (p : Again (next_at line pieces) (Word first) middle) →
     (i : Again (item_at first before p.line middle) (item, after) a)
-    → list_any (λ other. same_name other.name item.name) items ≡ false → (s : Again (separated i.line a) more b)
+    → list_any (λ other. same_name other.name item.name) items ≡ false → (s : Again (items_separated i.line a) more b)
     → entry_at (items, before, line, pieces) ≡ Ok (more, (items ++ item ∷ [], after, s.line, b))
 unfolding entry_at whole_item_at added
 entry-step items before after line pieces middle a b first item more p i fresh s = rw (p.is, i.is, fresh, s.is) refl
@@ -281,7 +285,7 @@ entry_again : (earlier earlier' : List Item) (before : Names) (line : ℕ) (piec
     (between : Names) (more : Bool) (a rest : List Piece)
     → AreAlike earlier' earlier → IsItem pieces before item.name item.setting between a →
     list_any (λ other. same_name other.name item.name) earlier ≡ false
-    → ((line : ℕ) → Again (separated line a) more rest) → Entry earlier' before line pieces item between more rest
+    → ((line : ℕ) → Again (items_separated line a) more rest) → Entry earlier' before line pieces item between more rest
 entry_again earlier earlier' before line pieces item between more a rest alike is_item fresh ends =
     let i = item_again pieces before item.name item.setting between a is_item in
     let p = next_again line pieces (Word i.first) i.middle i.next in
@@ -347,9 +351,9 @@ items_again (suc k) earlier earlier' line pieces before (item ∷ items) after r
 
 pub block_again : (line : ℕ) (pieces : List Piece) (items : List Item) (names : Names) (rest : List Piece) →
     length pieces ≤ 65536 → IsBlock pieces items names rest
-    → (items' : List Item) × (line' : ℕ) × (block_at [] line pieces ≡ Ok (items', names, line', rest)) ×
+    → (items' : List Item) × (line' : ℕ) × (initial_block_at [] line pieces ≡ Ok (items', names, line', rest)) ×
     AreAlike items' items
-unfolding block_at items_at
+unfolding initial_block_at items_at
 block_again line pieces items names rest le b =
     let brace = expect_again 123 BadInitial line pieces b.0 b.2 in
     let i = items_again 65536 [] [] brace.line b.0 [] items names b.1

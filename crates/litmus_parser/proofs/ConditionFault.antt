@@ -12,10 +12,11 @@ use Rattle.litmus_lexer.specs.declared.errors.Kind.TheVariants.{ValueAsAddress, 
 use Rattle.litmus_lexer.specs.declared.errors.Kind.TheVariants.{BadCondition, BadTable, CutShort}
 use Rattle.litmus_lexer.specs.declared.errors.LitmusError.{LitmusError}
 use Rattle.text_lines.specs.Reading.{◌>>=◌, found}
-use Rattle.litmus_lexer.specs.Reading.{Read, fails, behind, next_at, word_at, expect_at, word_here_at, fault_at}
+use Rattle.litmus_lexer.specs.Reading.{Read, fails, read_behind_sign, next_at, next_word_at, expect_at, word_here_at}
+use Rattle.litmus_lexer.specs.Reading.{fault_at}
 use Rattle.litmus_lexer.specs.Reading.{here_at, repeat_at}
 use Rattle.litmus_lexer.proofs.Lemmas.{location-no_thread}
-use Rattle.litmus_parser.specs.Names.{Names, address_of, is_there}
+use Rattle.litmus_parser.specs.Names.{Names, address_of, is_present}
 use Rattle.litmus_parser.specs.Keywords.{quantifier_of, BeginsCondition}
 use Rattle.litmus_parser.specs.Trees.{Tree, Is, Both, Either}
 use Rattle.litmus_parser.specs.RestLines.{RestAt}
@@ -23,13 +24,16 @@ use Rattle.litmus_parser.specs.GrammarWords.{Next}
 use Rattle.litmus_parser.specs.GrammarCondition.{Sight, Part, and_word, or_word, Chained, one, more, IsFactor}
 use Rattle.litmus_parser.specs.GrammarCondition.{IsExpression}
 use Rattle.litmus_parser.specs.BlockParts.{is_sign, is_word, is_settable}
-use Rattle.litmus_parser.specs.ConditionParts.{Wanted, Factor, Colon, RegisterOf, Equals, Value, Closing, is_below}
-use Rattle.litmus_parser.specs.ConditionParts.{fits, AtomUpTo, at_factor, thread_there, colon_there, name_there}
+use Rattle.litmus_parser.specs.ConditionParts.{WantedInCondition, Factor, Colon, RegisterOf, Equals, Value, Closing}
+use Rattle.litmus_parser.specs.ConditionParts.{is_thread_below}
+use Rattle.litmus_parser.specs.ConditionParts.{fits_condition, AtomUpTo, at_factor, thread_there, colon_there}
+use Rattle.litmus_parser.specs.ConditionParts.{name_there}
 use Rattle.litmus_parser.specs.ConditionParts.{equals_there, Beginning, ChainUpTo, in_first, in_further, FactorUpTo}
 use Rattle.litmus_parser.specs.ConditionParts.{ExpressionUpTo}
-use Rattle.litmus_parser.specs.ConditionFaults.{HasNoWayOn, PieceAt, HasWrongPiece, HasMoreAfter, ExpressionCause}
+use Rattle.litmus_parser.specs.ConditionFaults.{HasNoWayOn, ConditionPieceAt, ConditionHasWrongPiece, HasMoreAfter}
+use Rattle.litmus_parser.specs.ConditionFaults.{ExpressionCause}
 use Rattle.litmus_parser.specs.ConditionFaults.{ConditionCause}
-use Rattle.litmus_parser.specs.ReadingItems.{location_at, number_at}
+use Rattle.litmus_parser.specs.ReadingItems.{location_at, small_number_at}
 use Rattle.litmus_parser.specs.ReadingAtoms.{joined_at, register_name_at, location_name_at, name_of, name_at, atom_at}
 use Rattle.litmus_parser.specs.ReadingCondition.{Reader, Chain, joined_with, too_many_parts, chain_result, chained}
 use Rattle.litmus_parser.specs.ReadingCondition.{in_parentheses, factor_of, too_deep, factor_at, expression_at}
@@ -130,30 +134,31 @@ isn't test p q not_p is_q same = both_ways (is_word test p) not_p (ap (is_word t
 
 module _ (items : List Item) (threads : ℕ) (known : Names) (line : ℕ) (pieces : List Piece) where
   -- the expression stands up to there
-  abbrev Whole : Wanted → List Piece → Type 0
+  abbrev Whole : WantedInCondition → List Piece → Type 0
   Whole wanted there = ExpressionUpTo items threads 64 (known, 0) pieces wanted there
 
   -- the causes, where of a bad condition its piece alone is told
   abbrev C : Kind → ℕ → Type 0
-  C BadCondition n = HasWrongPiece items threads known line pieces n ⊎ HasMoreAfter items threads known line pieces n
+  C BadCondition n =
+      ConditionHasWrongPiece items threads known line pieces n ⊎ HasMoreAfter items threads known line pieces n
   C kind n = ExpressionCause items threads known line pieces kind n
 
-  piece_at : (wanted : Wanted) (n : ℕ) (rest : List Piece) → RestAt line pieces n rest → Whole wanted rest →
-      (p : Piece) (m : ℕ) (after : List Piece) → Taken n rest p m after → PieceAt items threads known
+  piece_at : (wanted : WantedInCondition) (n : ℕ) (rest : List Piece) → RestAt line pieces n rest → Whole wanted rest →
+      (p : Piece) (m : ℕ) (after : List Piece) → Taken n rest p m after → ConditionPieceAt items threads known
       line pieces m wanted p
   piece_at wanted n rest at upto p m after t =
       record { there = rest; rest = after; stands = upto; next = t.1; rest_at = beyond at t.0 }
 
-  wants : (wanted : Wanted) (n : ℕ) (rest : List Piece) → RestAt line pieces n rest → Whole wanted rest →
-      Wants C BadCondition (fits threads wanted) n rest
+  wants : (wanted : WantedInCondition) (n : ℕ) (rest : List Piece) → RestAt line pieces n rest → Whole wanted rest →
+      Wants C BadCondition (fits_condition threads wanted) n rest
   wants wanted n rest at upto = record {
     ends = λ m p e. (wanted, rest, upto, e, beyond at p);
     wrong = λ p m after t unfit. inl (wanted, p, piece_at wanted n rest at upto p m after t, unfit);
   }
 
   -- what begins a part begins the whole
-  abbrev Begins : (Wanted → List Piece → Type 0) → Type 0
-  Begins B = (wanted : Wanted) (there : List Piece) → B wanted there → Whole wanted there
+  abbrev Begins : (WantedInCondition → List Piece → Type 0) → Type 0
+  Begins B = (wanted : WantedInCondition) (there : List Piece) → B wanted there → Whole wanted there
 
   -- a reading of parts whose beginnings are B, with R after them
   abbrev After : (List Piece → Type 0) → (Tree × Sight) × ℕ × List Piece → Type 0
@@ -175,10 +180,11 @@ module _ (items : List Item) (threads : ℕ) (known : Names) (line : ℕ) (piece
 
     -- a word with which no atom begins
     no_atom : (w : List ℕ) (n : ℕ) (rest : List Piece) → Taken m here (Word w) n rest →
-        is_below threads (small_of 15 w) ≡ false → is_location w ≡ false → C BadCondition n
+        is_thread_below threads (small_of 15 w) ≡ false → is_location w ≡ false → C BadCondition n
     no_atom w n rest t no_thread no_location =
         (wants (Factor depth s) m here at factor).wrong (Word w) n rest t
-        (neither (is_below threads (small_of 15 w) || is_location w) false (neither (is_below threads (small_of 15 w))
+        (neither (is_thread_below threads (small_of 15 w) || is_location w) false
+        (neither (is_thread_below threads (small_of 15 w))
         (is_location w) no_thread no_location) refl)
 
     register_explains : (w : List ℕ) (thread n : ℕ) (rest : List Piece) → s.1 < 256 → Taken m here (Word w) n rest →
@@ -190,29 +196,30 @@ module _ (items : List Item) (threads : ℕ) (known : Names) (line : ℕ) (piece
         let Q : Name × ℕ × List Piece → Type 0 = λ x. RestAt line pieces x.1 x.2 in
         let behind_thread : RestAt line pieces n rest = beyond at (over_word t.0) in
         test_explains C Q (leb threads thread) (fails BadCondition n) _ (λ absent.
-        no_atom w n rest t (ap (is_below threads) is ∙ ap not absent)
+        no_atom w n rest t (ap (is_thread_below threads) is ∙ ap not absent)
         (false_from_ne_true (is_location w) (λ location. let same = sym is ∙ location-no_thread w 15 location in
         absurd cc))) (λ present.
         let colon_next : Whole (Colon thread) rest =
         begins (Colon thread) rest (thread_there w thread few t.1 is (leb-false _ _ present)) in
         bind_explains C (λ (x : ℕ × List Piece). Taken n rest (Sign 58) x.0 x.1) Q (expect_at 58 BadCondition n rest)
         _
-        (expect_wanted C BadCondition (fits threads (Colon thread)) n rest (wants (Colon thread) n rest behind_thread
+        (expect_wanted C BadCondition (fits_condition threads (Colon thread)) n rest
+        (wants (Colon thread) n rest behind_thread
         colon_next) 58 (λ p. refl)) (λ colon e p.
         let behind_colon : RestAt line pieces colon.0 colon.1 = beyond behind_thread (over_sign p.0) in
         let register_next : Whole (RegisterOf thread) colon.1 = begins (RegisterOf thread) colon.1
         (colon_there (thread_there w thread few t.1 is (leb-false _ _ present)) p.1) in
-        let register : Wants C BadCondition (fits threads (RegisterOf thread)) colon.0 colon.1 =
+        let register : Wants C BadCondition (fits_condition threads (RegisterOf thread)) colon.0 colon.1 =
         wants (RegisterOf thread) colon.0 colon.1 behind_colon register_next in
         bind_explains C (λ (x : List ℕ × ℕ × List Piece). Taken colon.0 colon.1 (Word x.0) x.1 x.2) Q
-        (word_at BadCondition colon.0 colon.1) _
-        (word_wanted C BadCondition (fits threads (RegisterOf thread)) colon.0 colon.1 register
+        (next_word_at BadCondition colon.0 colon.1) _
+        (word_wanted C BadCondition (fits_condition threads (RegisterOf thread)) colon.0 colon.1 register
         (λ w. is_settable (register_of w)) (λ p. refl)) (λ v e' q.
         found_explains C Q BadCondition (register_of v.0) v.1 _ (λ nothing. register.wrong (Word v.0) v.1 v.2 q
         (ap is_settable nothing)) (λ r some.
         test_explains C Q (eqb r 0) (fails BadCondition v.1) _ (λ zero_. register.wrong (Word v.0) v.1 v.2 q
         (ap is_settable some ∙ ap not zero_)) (λ other.
-        test_explains C Q (is_there (address_of thread r items)) (fails AddressAsValue v.1)
+        test_explains C Q (is_present (address_of thread r items)) (fails AddressAsValue v.1)
         (Ok (Register thread r, v.1, v.2))
         (λ address. (
           thread,
@@ -232,7 +239,7 @@ module _ (items : List Item) (threads : ℕ) (known : Names) (line : ℕ) (piece
         let Q : (Name × Names) × ℕ × List Piece → Type 0 = λ x. RestAt line pieces x.1 x.2 in
         bind_explains C (λ (x : ℕ × Names). Unit {0}) Q (location_at BadCondition w n s.0)
         (λ l. Ok ((Location l.0, l.1), n, rest))
-        (location_explains C BadCondition w n s.0 (no_atom w n rest t (ap (is_below threads) is))
+        (location_explains C BadCondition w n s.0 (no_atom w n rest t (ap (is_thread_below threads) is))
         (λ many. inl (depth, s, w, piece_at (Factor depth s) m here at factor (Word w) n rest t, inl many)))
         (λ l e u. beyond at (over_word t.0))
 
@@ -268,13 +275,13 @@ module _ (items : List Item) (threads : ℕ) (known : Names) (line : ℕ) (piece
         (name_of_takes items threads here (small_of 15 w) w s.0 n rest name t.1 refl e) in
         bind_explains C (λ (x : ℕ × List Piece). Taken name.1 name.2 (Sign 61) x.0 x.1) Q
         (expect_at 61 BadCondition name.1 name.2) _
-        (expect_wanted C BadCondition (fits threads Equals) name.1 name.2
+        (expect_wanted C BadCondition (fits_condition threads Equals) name.1 name.2
         (wants Equals name.1 name.2 q (begins Equals name.2 named)) 61 (λ p. refl)) (λ equals f p.
         let behind_equals : RestAt line pieces equals.0 equals.1 = beyond q (over_sign p.0) in
         let value_next : Whole Value equals.1 = begins Value equals.1 (equals_there named p.1) in
         bind_explains C (λ (x : ℕ × ℕ × List Piece). RestAt equals.0 equals.1 x.1 x.2) Q
-        (number_at BadCondition equals.0 equals.1) (λ v. Ok ((Is name.0.0 v.0, (name.0.1, s.1 + 1)), v.1, v.2))
-        (number_wanted C BadCondition (fits threads Value) equals.0 equals.1
+        (small_number_at BadCondition equals.0 equals.1) (λ v. Ok ((Is name.0.0 v.0, (name.0.1, s.1 + 1)), v.1, v.2))
+        (number_wanted C BadCondition (fits_condition threads Value) equals.0 equals.1
         (wants Value equals.0 equals.1 behind_equals value_next) (λ p. refl)
         (λ v k after u number above. (
           v,
@@ -297,7 +304,7 @@ module _ (items : List Item) (threads : ℕ) (known : Names) (line : ℕ) (piece
 
     step_of : (s : Sight) (rest : List Piece) → Begins (ChainUpTo P B sign join s rest) → (k : ℕ) (c : Chain) →
         Turn s rest (suc k) c → (o : Option (ℕ × List Piece)) → joined_at test c.2 c.3 ≡ o
-        → Explains C (Onto (Turn s rest k) Ended) (behind o (Ok (false, c)) (λ at. read c.1 at.0 at.1 >>= λ r.
+        → Explains C (Onto (Turn s rest k) Ended) (read_behind_sign o (Ok (false, c)) (λ at. read c.1 at.0 at.1 >>= λ r.
         Ok (true, (join c.0 r.0.0, r.0.1, r.1, r.2))))
     step_of s rest begins k c t None j = (t.0, t.1, not_next test c.2 c.3 j)
     step_of s rest begins k c t (Some at) j =
@@ -379,7 +386,7 @@ module _ (items : List Item) (threads : ℕ) (known : Names) (line : ℕ) (piece
   closing_explains : (n : ℕ) (rest : List Piece) → RestAt line pieces n rest → Over rest → Whole Closing rest →
       Explains C (λ (x : ℕ × List Piece). Taken n rest (Sign 41) x.0 x.1) (expect_at 41 BadCondition n rest)
   closing_explains n rest at over upto =
-      let closing : Wants C BadCondition (fits threads Closing) n rest = wants Closing n rest at upto in
+      let closing : Wants C BadCondition (fits_condition threads Closing) n rest = wants Closing n rest at upto in
       expect_wanted C BadCondition (is_sign 41) n rest
       (record {
         ends = closing.ends;
@@ -472,7 +479,7 @@ answer_fails (Ok x) f e is = absurd cc
 answer_fails (Err d) f e is = cc
 
 keyword_there : (items : List Item) (threads line : ℕ) (names : Names) (rest : List Piece) (o : Option Quantifier)
-    (e : LitmusError) → is_there o ≡ true
+    (e : LitmusError) → is_present o ≡ true
     → (found (fault_at BadTable line) o (λ q. (let r : Read Quantifier = Ok (q, line, rest) in r)) >>= λ q. whole_at
     items threads names q.1 q.2 >>= λ t. (let r : Result (Quantifier × Tree × Names) LitmusError = Ok (q.0, t.0, t.1) in
     r)) ≡ Err e
@@ -495,5 +502,5 @@ condition_explains items threads line names pieces e (w, rest, quantifier, spell
       spelled,
       is,
       refused_explains items threads names line rest e
-          (keyword_there items threads line names rest (quantifier_of w) e (ap is_there is) there),
+          (keyword_there items threads line names rest (quantifier_of w) e (ap is_present is) there),
     )

@@ -6,11 +6,12 @@ use Rattle.litmus_lexer.specs.Pieces.{Piece, Word, Sign, LineEnd}
 use Rattle.litmus_lexer.specs.Spelling.{small_of, register_of, is_and, is_or}
 use Rattle.litmus_lexer.specs.declared.errors.Kind.TheVariants.{BadCondition, BadTable, AddressAsValue}
 use Rattle.text_lines.specs.Reading.{◌>>=◌}
-use Rattle.litmus_lexer.specs.Reading.{fails, behind, next_at, word_at, expect_at, word_here_at, repeat_at}
+use Rattle.litmus_lexer.specs.Reading.{fails, read_behind_sign, next_at, next_word_at, expect_at, word_here_at}
+use Rattle.litmus_lexer.specs.Reading.{repeat_at}
 use Rattle.litmus_lexer.proofs.Lemmas.{repeat-takes}
-use Rattle.litmus_parser.specs.Names.{Names, address_of, is_there}
+use Rattle.litmus_parser.specs.Names.{Names, address_of, is_present}
 use Rattle.litmus_parser.specs.Trees.{Tree, Is, Both, Either}
-use Rattle.litmus_parser.specs.ReadingItems.{location_at, number_at}
+use Rattle.litmus_parser.specs.ReadingItems.{location_at, small_number_at}
 use Rattle.litmus_parser.specs.ReadingAtoms.{joined_at, register_name_at, location_name_at, name_of, name_at, atom_at}
 use Rattle.litmus_parser.specs.ReadingCondition.{Reader, Chain, joined_with, too_many_parts, chain_result, chained}
 use Rattle.litmus_parser.specs.ReadingCondition.{in_parentheses, factor_of, too_deep, factor_at, term_at}
@@ -38,11 +39,11 @@ unfolding register_name_at
 register_name_takes items threads before tw thread line pieces names x first is_thread e =
     let t = else_ok (leb threads thread) _ _ x e in
     let colon = bind_ok (expect_at 58 BadCondition line pieces) _ x t.1 in
-    let w = bind_ok (word_at BadCondition colon.0.0 colon.0.1) _ x colon.2 in
+    let w = bind_ok (next_word_at BadCondition colon.0.0 colon.0.1) _ x colon.2 in
     let r = found_ok BadCondition (register_of w.0.0) w.0.1 _ x w.2 in
-    let z = else_ok (eqb r.0 0) _ (cond (is_there (address_of thread r.0 items)) (fails AddressAsValue w.0.1)
+    let z = else_ok (eqb r.0 0) _ (cond (is_present (address_of thread r.0 items)) (fails AddressAsValue w.0.1)
     (Ok (Register thread r.0, w.0.1, w.0.2))) x r.2 in
-    let a = else_ok (is_there (address_of thread r.0 items)) _ (Ok (Register thread r.0, w.0.1, w.0.2)) x z.1 in
+    let a = else_ok (is_present (address_of thread r.0 items)) _ (Ok (Register thread r.0, w.0.1, w.0.2)) x z.1 in
     subst (λ (y : Name × ℕ × List Piece). IsNamed items threads before names y.0 names y.2)
     (ok_is (Register thread r.0, w.0.1, w.0.2) x a.1) (
       tw,
@@ -96,7 +97,7 @@ atom_takes items threads before first s line pieces x n e =
     let f = else_ok (leb 256 s.1) _ _ x e in
     let name = bind_ok (name_of items threads (small_of 15 first) first s.0 line pieces) _ x f.1 in
     let equals = bind_ok (expect_at 61 BadCondition name.0.1 name.0.2) _ x name.2 in
-    let v = bind_ok (number_at BadCondition equals.0.0 equals.0.1)
+    let v = bind_ok (small_number_at BadCondition equals.0.0 equals.0.1)
     (λ v. Ok ((Is name.0.0.0 v.0, (name.0.0.1, s.1 + 1)), v.1, v.2)) x equals.2 in
     let w = value_takes BadCondition equals.0.0 equals.0.1 v.0 v.1 in
     subst (TakesPart (IsAtom items threads) s before) (ok_is (
@@ -154,7 +155,8 @@ Step P sign join c (false, t) = c ≡ t
 step_of_takes : (P : Part) (sign : Piece) (join : Tree → Tree → Tree) (is_sign : List ℕ → Bool) →
     IsSignOf is_sign sign → (read : Reader) → IsSound read P
     → (c : Chain) (o : Option (ℕ × List Piece)) (x : Bool × Chain) → joined_at is_sign c.2 c.3 ≡ o
-    → behind o (Ok (false, c)) (λ at. read c.1 at.0 at.1 >>= λ r. Ok (true, (join c.0 r.0.0, r.0.1, r.1, r.2))) ≡ Ok
+    → read_behind_sign o (Ok (false, c)) (λ at. read c.1 at.0 at.1 >>= λ r. Ok
+    (true, (join c.0 r.0.0, r.0.1, r.1, r.2))) ≡ Ok
     x → Step P sign join c x
 step_of_takes P sign join is_sign s read sound c None x j e = subst (Step P sign join c) (ok_is (false, c) x e) refl
 step_of_takes P sign join is_sign s read sound c (Some at) x j e =

@@ -6,12 +6,12 @@ use Rattle.litmus_lexer.specs.Pieces.{Piece, Word, Sign, LineEnd}
 use Rattle.litmus_lexer.specs.Spelling.{register_of, is_and, is_or}
 use Rattle.litmus_lexer.specs.declared.errors.Kind.TheVariants.{BadCondition, BadTable}
 use Rattle.text_lines.specs.Reading.{◌>>=◌, found}
-use Rattle.litmus_lexer.specs.Reading.{Read, next_at, word_at, expect_at, here_at, word_here_at, fault_at}
+use Rattle.litmus_lexer.specs.Reading.{Read, next_at, next_word_at, expect_at, here_at, word_here_at, fault_at}
 use Rattle.litmus_lexer.specs.Reading.{repeat_at}
 use Rattle.litmus_lexer.proofs.Lemmas.{location-no_thread}
-use Rattle.litmus_parser.specs.Names.{Names, address_of, is_there}
+use Rattle.litmus_parser.specs.Names.{Names, address_of, is_present}
 use Rattle.litmus_parser.specs.Trees.{Tree, Is, Both, Either}
-use Rattle.litmus_parser.specs.ReadingItems.{number_at}
+use Rattle.litmus_parser.specs.ReadingItems.{small_number_at}
 use Rattle.litmus_parser.specs.ReadingAtoms.{joined_at, register_name_at, location_name_at, name_at, atom_at}
 use Rattle.litmus_parser.specs.ReadingCondition.{Reader, joined_with, too_many_parts, chain_result, chained}
 use Rattle.litmus_parser.specs.ReadingCondition.{in_parentheses, factor_of, too_deep, factor_at, term_at}
@@ -38,16 +38,16 @@ Agree items items' = (t r : ℕ) → address_of t r items' ≡ address_of t r it
 register_name_again : (items items' : List Item) (threads line : ℕ) (pieces b rest : List Piece) (thread r : ℕ)
     (w : List ℕ) → Agree items items'
     → Next pieces (Sign 58) b → Next b (Word w) rest → thread < threads → register_of w ≡ Some r → r ≢ 0 →
-    is_there (address_of thread r items) ≡ false
+    is_present (address_of thread r items) ≡ false
     → Again (register_name_at items' threads thread line pieces) (Register thread r) rest
 unfolding register_name_at
 register_name_again items items' threads line pieces b rest thread r w agree n1 n2 lt reg nz none =
     let below : leb threads thread ≡ false = lt-leb _ _ lt in
     let not_zero : eqb r 0 ≡ false = ne_eqb r 0 nz in
-    let plain : is_there (address_of thread r items') ≡ false = ap is_there (agree thread r) ∙ none in
+    let plain : is_present (address_of thread r items') ≡ false = ap is_present (agree thread r) ∙ none in
     rw below (onward_past (expect_at 58 BadCondition line pieces) b _ (Register thread r) rest
     (expect_again 58 BadCondition line pieces b n1) (λ l1.
-    onward (word_at BadCondition l1 b) w rest _ (Register thread r) rest (word_again BadCondition l1 b w rest n2)
+    onward (next_word_at BadCondition l1 b) w rest _ (Register thread r) rest (word_again BadCondition l1 b w rest n2)
     (λ l2.
     record { line = l2; is = rw (reg, not_zero, plain) refl })))
 
@@ -108,7 +108,7 @@ atom_again items items' threads s pieces (Is name n) t rest agree (v, a, b, name
           rest (m.3 line) (λ l1.
           onward_past (expect_at 61 BadCondition l1 a) b _ (Is name n, t) rest
           (expect_again 61 BadCondition l1 a b n1) (λ l2.
-          onward (number_at BadCondition l2 b) n rest _ (Is name n, t) rest (number_again BadCondition l2 b v n
+          onward (small_number_at BadCondition l2 b) n rest _ (Is name n, t) rest (number_again BadCondition l2 b v n
           rest n2 value) (λ l3.
           record { line = l3; is = rw count refl })))),
     )

@@ -5,22 +5,22 @@ use Rattle.std.proofs.Common.{arith}
 use Rattle.std.proofs.lemmas.Bool.{cases_Bool}
 use Rattle.litmus_lexer.specs.Pieces.{Piece, Word, Sign, LineEnd}
 use Rattle.litmus_lexer.specs.Naming.{place_of}
-use Rattle.litmus_lexer.specs.Spelling.{is_number, number_of, small_of, register_of, is_location, is_and, is_or}
+use Rattle.litmus_lexer.specs.Spelling.{is_number, value_of_digits, small_of, register_of, is_location, is_and, is_or}
 use Rattle.litmus_lexer.specs.declared.errors.Kind.{Kind}
 use Rattle.litmus_lexer.specs.declared.errors.Kind.TheVariants.{TooLarge, ValueRange, AddressAsValue, BadCondition}
 use Rattle.litmus_lexer.specs.declared.errors.Kind.TheVariants.{CutShort}
 use Rattle.litmus_lexer.specs.declared.errors.LitmusError.{LitmusError}
 use Rattle.text_lines.specs.Reading.{◌>>=◌}
-use Rattle.litmus_lexer.specs.Reading.{Read, fails, next_at, word_at, expect_at, repeat_at}
-use Rattle.litmus_parser.specs.Names.{Names, address_of, is_there}
+use Rattle.litmus_lexer.specs.Reading.{Read, fails, next_at, next_word_at, expect_at, repeat_at}
+use Rattle.litmus_parser.specs.Names.{Names, address_of, is_present}
 use Rattle.litmus_parser.specs.Trees.{Tree, Is, Both, Either}
-use Rattle.litmus_parser.specs.ReadingItems.{location_at, number_at}
+use Rattle.litmus_parser.specs.ReadingItems.{location_at, small_number_at}
 use Rattle.litmus_parser.specs.ReadingAtoms.{joined_at, register_name_at, location_name_at, name_of, name_at, atom_at}
 use Rattle.litmus_parser.specs.ReadingCondition.{Reader, Chain, joined_with, too_many_parts, chain_result, chained}
 use Rattle.litmus_parser.specs.ReadingCondition.{in_parentheses, factor_of, too_deep, factor_at, expression_at}
 use Rattle.litmus_parser.specs.ReadingEnd.{further_at, unless_further, whole_at}
 use Rattle.litmus_parser.specs.RestLines.{line_ends}
-use Rattle.litmus_parser.specs.ConditionFaults.{IsWhole, HasNoWayOn}
+use Rattle.litmus_parser.specs.ConditionFaults.{IsWholeCondition, HasNoWayOn}
 use Rattle.litmus_parser.specs.declared.syntax.Item.{Item}
 use Rattle.litmus_parser.specs.declared.syntax.Name.{Name}
 use Rattle.litmus_parser.specs.declared.syntax.Name.TheVariants.{Register, Location}
@@ -62,14 +62,15 @@ tested make b g h p q n rest =
 
 -- ---- atoms
 
-number_way : Loose (read {X = ℕ}) (number_at BadCondition)
-unfolding number_at
+number_way : Loose (read {X = ℕ}) (small_number_at BadCondition)
+unfolding small_number_at
 number_way =
-    then_loose read read (word_at BadCondition) _ (loosen read (word_at BadCondition) (word_way BadCondition not_short
+    then_loose read read (next_word_at BadCondition) _ (loosen read (next_word_at BadCondition)
+    (word_way BadCondition not_short
     BadCondition)) (λ w.
     tested read (is_number w) _ (λ n u. fails BadCondition n)
-    (tested read (ltb (number_of w) 2147483648) (λ n u. Ok (number_of w, n, u)) (λ n u. fails ValueRange n)
-    (answers read (number_of w)) (faults read ValueRange)) (faults read BadCondition))
+    (tested read (ltb (value_of_digits w) 2147483648) (λ n u. Ok (value_of_digits w, n, u)) (λ n u. fails ValueRange n)
+    (answers read (value_of_digits w)) (faults read ValueRange)) (faults read BadCondition))
 
 -- what is said of a location depends on its word alone
 location_steady : (word : List ℕ) (names : Names) →
@@ -105,14 +106,15 @@ register_name_way items threads thread =
     tested read (leb threads thread) (λ n u. fails BadCondition n) _ (faults read BadCondition)
     (then_loose past read (expect_at 58 BadCondition) _ (loosen past (expect_at 58 BadCondition)
     (expect_way BadCondition not_short 58 BadCondition)) (λ t.
-    then_loose read read (word_at BadCondition) _ (loosen read (word_at BadCondition) (word_way BadCondition not_short
+    then_loose read read (next_word_at BadCondition) _ (loosen read (next_word_at BadCondition)
+    (word_way BadCondition not_short
     BadCondition)) (λ w n rest.
     found_way BadCondition (Unit {0}) Anything read BadCondition (register_of w)
     (λ register n u. cond (eqb register 0) (fails BadCondition n)
-    (cond (is_there (address_of thread register items)) (fails AddressAsValue n)
+    (cond (is_present (address_of thread register items)) (fails AddressAsValue n)
     (Ok (Register thread register, n, u)))) n rest (λ register e.
     tested read (eqb register 0) (λ n u. fails BadCondition n) _ (faults read BadCondition)
-    (tested read (is_there (address_of thread register items)) (λ n u. fails AddressAsValue n)
+    (tested read (is_present (address_of thread register items)) (λ n u. fails AddressAsValue n)
     (λ n u. Ok (Register thread register, n, u)) (faults read AddressAsValue)
     (answers read (Register thread register))) n rest))))
 
@@ -132,7 +134,8 @@ atom_way items threads w s =
     (name_of_way items threads (small_of 15 w) w s.0) (λ name.
     then_loose past read (expect_at 61 BadCondition) _ (loosen past (expect_at 61 BadCondition)
     (expect_way BadCondition not_short 61 BadCondition)) (λ t.
-    then_loose read read (number_at BadCondition) (λ v. Ok ((Is name.0 v.0, (name.1, s.1 + 1)), v.1, v.2)) number_way
+    then_loose read read (small_number_at BadCondition) (λ v. Ok ((Is name.0 v.0, (name.1, s.1 + 1)), v.1, v.2))
+    number_way
     (λ v. answers read (Is name.0 v, (name.1, s.1 + 1))))))
 
 -- ---- chains
@@ -147,12 +150,12 @@ starts is_sign (Some LineEnd) = false
 starts is_sign (Some (Word w)) = is_sign w
 starts is_sign (Some (Sign b)) = false
 
-joined_if : (b : Bool) (x : ℕ × List Piece) → is_there (let o : Option (ℕ × List Piece) = cond b (Some x) None in
+joined_if : (b : Bool) (x : ℕ × List Piece) → is_present (let o : Option (ℕ × List Piece) = cond b (Some x) None in
     o) ≡ b
 joined_if true x = refl
 joined_if false x = refl
 
-joined_there : (is_sign : List ℕ → Bool) (n : ℕ) (rest : List Piece) → is_there (joined_at is_sign n rest) ≡ starts
+joined_there : (is_sign : List ℕ → Bool) (n : ℕ) (rest : List Piece) → is_present (joined_at is_sign n rest) ≡ starts
     is_sign (first_of rest)
 unfolding joined_at first_of starts
 joined_there is_sign n [] = refl
@@ -160,14 +163,14 @@ joined_there is_sign n (LineEnd ∷ rest) = joined_there is_sign (n + 1) rest
 joined_there is_sign n (Word w ∷ rest) = joined_if (is_sign w) (n, rest)
 joined_there is_sign n (Sign b ∷ rest) = refl
 
-none_there : {A : Type 0} (o : Option A) → is_there o ≡ false → o ≡ None
+none_there : {A : Type 0} (o : Option A) → is_present o ≡ false → o ≡ None
 none_there None e = refl
 none_there (Some x) e = absurd cc
 
 none_joined : (is_sign : List ℕ → Bool) (n : ℕ) (rest u : List Piece) → joined_at is_sign n rest ≡ None →
     SameFirst rest u → joined_at is_sign n u ≡ None
 none_joined is_sign n rest u e same = none_there (joined_at is_sign n u) (joined_there is_sign n u
-    ∙ ap (starts is_sign) (sym same) ∙ sym (joined_there is_sign n rest) ∙ ap is_there e)
+    ∙ ap (starts is_sign) (sym same) ∙ sym (joined_there is_sign n rest) ∙ ap is_present e)
 
 -- what a sign took, when it is there
 record Joins (is_sign : List ℕ → Bool) (n : ℕ) (rest : List Piece) (at : ℕ × List Piece) : Type 0 where
@@ -351,7 +354,7 @@ expression_way items threads s = expression_from (factor_at items threads 64) (f
 abbrev alone : {X : Type 0} → X → ℕ → List Piece → X
 alone x m u = x
 
-further_there : (n : ℕ) (rest : List Piece) → is_there (further_at n rest) ≡ is_there (first_of rest)
+further_there : (n : ℕ) (rest : List Piece) → is_present (further_at n rest) ≡ is_present (first_of rest)
 unfolding further_at first_of
 further_there n [] = refl
 further_there n (LineEnd ∷ rest) = further_there (n + 1) rest
@@ -359,8 +362,8 @@ further_there n (Word w ∷ rest) = refl
 further_there n (Sign b ∷ rest) = refl
 
 none_further : (n m : ℕ) (rest u : List Piece) → further_at n rest ≡ None → SameFirst rest u → further_at m u ≡ None
-none_further n m rest u e same = none_there (further_at m u) (further_there m u ∙ ap is_there (sym same)
-    ∙ sym (further_there n rest) ∙ ap is_there e)
+none_further n m rest u e same = none_there (further_at m u) (further_there m u ∙ ap is_present (sym same)
+    ∙ sym (further_there n rest) ∙ ap is_present e)
 
 -- the first piece, which is refused
 record Furthers (n : ℕ) (rest : List Piece) (m : ℕ) : Type 0 where
@@ -441,7 +444,7 @@ error_is : {X : Type 0} (d e : LitmusError) → (let r : Result X LitmusError = 
 error_is d e is = cc
 
 whole_again : (items : List Item) (threads : ℕ) (names : Names) (line : ℕ) (pieces : List Piece)
-    (w : IsWhole items threads names pieces) → whole_at items threads names line pieces ≡ Ok (w.0, w.1.0)
+    (w : IsWholeCondition items threads names pieces) → whole_at items threads names line pieces ≡ Ok (w.0, w.1.0)
 unfolding whole_at
 whole_again items threads names line pieces (tree, after, rest, expression, ends) =
     let e = expression_again items items threads 64 (λ t r. refl) (names, 0) line pieces tree after rest

@@ -1,14 +1,14 @@
 -- An instruction is read within its line, or its fault is one of that line.
 use Rattle.std.proofs.Common.{◌≡◌, ℕ, eqb, List, ◌∷◌, min, Ok, Err, refl, ◌∙◌}
 use Rattle.litmus_lexer.specs.Pieces.{Piece, Word, Sign}
-use Rattle.litmus_lexer.specs.Spelling.{is_number, number_of, register_of}
+use Rattle.litmus_lexer.specs.Spelling.{is_number, value_of_digits, register_of}
 use Rattle.litmus_lexer.specs.declared.errors.Kind.{Kind}
 use Rattle.litmus_lexer.specs.declared.errors.Kind.TheVariants.{BadInstruction}
 use Rattle.text_lines.specs.Reading.{◌>>=◌}
 use Rattle.litmus_lexer.specs.Reading.{Read, Passed, fails, word_here_at, expect_here_at}
 use Rattle.litmus_parser.specs.Mnemonics.{mnemonic_of, is_zero, is_fence_set}
 use Rattle.litmus_parser.specs.RestLines.{RestAt}
-use Rattle.litmus_parser.specs.ReadingForms.{register_at, based_at, offset_at, swapped_at, number_word_at, set_at}
+use Rattle.litmus_parser.specs.ReadingForms.{register_at, based_at, offset_at, swapped_at, number_word_at, fence_set_at}
 use Rattle.litmus_parser.specs.ReadingForms.{fence_at, li_at, ori_at, operands_at, form_at}
 use Rattle.litmus_parser.specs.declared.forms.Mnemonic.{Mnemonic}
 use Rattle.litmus_parser.specs.declared.forms.Mnemonic.TheVariants as word
@@ -110,7 +110,7 @@ module _ (line : ℕ) (pieces : List Piece) where
   number_on n rest o =
       behind_read (word_here_at BadInstruction n rest) _ (word_on n rest o) (λ w m after p.
       test_explains (BadHere line) (λ (x : ℕ × ℕ × List Piece). On line pieces x.1 x.2) (is_number w)
-      (Ok (min (number_of w) 2147483648, m, after)) (fails BadInstruction m) (λ e. p) (λ e. (refl, p.0)))
+      (Ok (min (value_of_digits w) 2147483648, m, after)) (fails BadInstruction m) (λ e. p) (λ e. (refl, p.0)))
 
   li_on : ReadsOn li_at
   unfolding li_at
@@ -132,8 +132,8 @@ module _ (line : ℕ) (pieces : List Piece) where
       behind_read (number_word_at i d) (λ value. Ok ((target, value.0), value.1, value.2)) (number_on i d s)
       (λ value h after z. z))) (λ e. (refl, r.0)))))
 
-  set_on : PassesOn set_at
-  unfolding set_at
+  set_on : PassesOn fence_set_at
+  unfolding fence_set_at
   set_on n rest o =
       bind_explains (BadHere line) (λ (x : List ℕ × ℕ × List Piece). On line pieces x.1 x.2) (λ (x : ℕ × List Piece).
       On line pieces x.0 x.1) (word_here_at BadInstruction n rest) _ (word_on n rest o) (λ w e p.
@@ -143,7 +143,7 @@ module _ (line : ℕ) (pieces : List Piece) where
   fence_on : PassesOn fence_at
   unfolding fence_at
   fence_on n rest o =
-      behind_pass (set_at n rest) _ (set_on n rest o) (λ m a p.
+      behind_pass (fence_set_at n rest) _ (set_on n rest o) (λ m a p.
       behind_pass (expect_here_at 44 BadInstruction m a) _ (sign_on 44 m a p) (λ k b q. set_on k b q))
 
   operands_on : (m : Mnemonic) → ReadsOn (operands_at m)

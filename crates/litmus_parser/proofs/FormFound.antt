@@ -3,13 +3,13 @@ use Rattle.std.proofs.Common.{◌≡◌, ℕ, true, eqb, ltb, List, ◌∷◌, m
 use Rattle.std.proofs.Common.{◌∙◌}
 use Rattle.std.proofs.lemmas.Bool.{eqb-true, ltb-true, ltb-false}
 use Rattle.litmus_lexer.specs.Pieces.{Piece, Word, Sign}
-use Rattle.litmus_lexer.specs.Spelling.{is_number, number_of, register_of}
+use Rattle.litmus_lexer.specs.Spelling.{is_number, value_of_digits, register_of}
 use Rattle.litmus_lexer.specs.declared.errors.Kind.TheVariants.{BadInstruction}
 use Rattle.text_lines.specs.Reading.{◌>>=◌}
 use Rattle.litmus_lexer.specs.Reading.{word_here_at, expect_here_at}
-use Rattle.litmus_parser.specs.Names.{address_of, is_there}
+use Rattle.litmus_parser.specs.Names.{address_of, is_present}
 use Rattle.litmus_parser.specs.Mnemonics.{mnemonic_of, is_zero, is_fence_set}
-use Rattle.litmus_parser.specs.ReadingForms.{register_at, based_at, offset_at, swapped_at, number_word_at, set_at}
+use Rattle.litmus_parser.specs.ReadingForms.{register_at, based_at, offset_at, swapped_at, number_word_at, fence_set_at}
 use Rattle.litmus_parser.specs.ReadingForms.{fence_at, li_at, ori_at, operands_at, form_at}
 use Rattle.litmus_parser.specs.Verdicts.{same_width, kept_at, value_register_at, or_no_address, base_at, judged_at}
 use Rattle.litmus_parser.specs.GrammarForms.{IsRegister, IsBased, IsOffset, IsSwapped, IsAnyNumber, IsFenceSet}
@@ -109,9 +109,9 @@ number_takes : (line : ℕ) (pieces : List Piece) (x : ℕ × ℕ × List Piece)
 unfolding number_word_at
 number_takes line pieces x e =
     let w = bind_ok (word_here_at BadInstruction line pieces) _ x e in
-    let n = then_ok (is_number w.0.0) (Ok (min (number_of w.0.0) 2147483648, w.0.1, w.0.2)) _ x w.2 in
+    let n = then_ok (is_number w.0.0) (Ok (min (value_of_digits w.0.0) 2147483648, w.0.1, w.0.2)) _ x w.2 in
     subst (λ (y : ℕ × ℕ × List Piece). IsAnyNumber pieces y.0 y.2)
-    (ok_is (min (number_of w.0.0) 2147483648, w.0.1, w.0.2) x n.1)
+    (ok_is (min (value_of_digits w.0.0) 2147483648, w.0.1, w.0.2) x n.1)
     (w.0.0, word_here_takes BadInstruction line pieces w.0 w.1, n.0, refl)
 
 abbrev IsLi : List Piece → ℕ → ℕ → List Piece → Type 0
@@ -162,8 +162,9 @@ ori_takes line pieces x e =
       number_takes second.0.0 second.0.1 value.0 value.1,
     )
 
-set_takes : (line : ℕ) (pieces : List Piece) (x : ℕ × List Piece) → set_at line pieces ≡ Ok x → IsFenceSet pieces x.1
-unfolding set_at
+set_takes : (line : ℕ) (pieces : List Piece) (x : ℕ × List Piece) → fence_set_at line pieces ≡ Ok x → IsFenceSet pieces
+    x.1
+unfolding fence_set_at
 set_takes line pieces x e =
     let w = bind_ok (word_here_at BadInstruction line pieces) _ x e in
     let s = then_ok (is_fence_set w.0.0) (Ok (w.0.1, w.0.2)) _ x w.2 in
@@ -176,7 +177,7 @@ IsFence pieces rest = (c : List Piece) × IsFenceSet pieces (Sign 44 ∷ c) × I
 fence_takes : (line : ℕ) (pieces : List Piece) (x : ℕ × List Piece) → fence_at line pieces ≡ Ok x → IsFence pieces x.1
 unfolding fence_at
 fence_takes line pieces x e =
-    let first = bind_ok (set_at line pieces) _ x e in
+    let first = bind_ok (fence_set_at line pieces) _ x e in
     let comma = bind_ok (expect_here_at 44 BadInstruction first.0.0 first.0.1) _ x first.2 in (
       comma.0.1,
       subst (IsFenceSet pieces) (expect_here_takes 44 BadInstruction first.0.0 first.0.1 comma.0 comma.1)
@@ -247,7 +248,7 @@ kept_takes (Some first) own line after e =
 value_register_takes : (items : List Item) (t r line : ℕ) (x : ℕ) → value_register_at items t r line ≡ Ok x →
     HoldsValue items t r × (r ≡ x)
 unfolding value_register_at
-value_register_takes items t r line x e = let h = else_ok (is_there (address_of t r items)) _ (Ok r) x e in
+value_register_takes items t r line x e = let h = else_ok (is_present (address_of t r items)) _ (Ok r) x e in
     (h.0, ok_is r x h.1)
 
 no_address_takes : (o : Option ℕ) (line x : ℕ) → or_no_address o line ≡ Ok x → o ≡ Some x

@@ -5,7 +5,7 @@ use Rattle.litmus_lexer.specs.Pieces.{Piece, Word, Sign}
 use Rattle.litmus_lexer.specs.declared.errors.Kind.TheVariants.{BadInstruction}
 use Rattle.litmus_parser.specs.Names.{address_of}
 use Rattle.litmus_parser.specs.Mnemonics.{mnemonic_of}
-use Rattle.litmus_parser.specs.ReadingForms.{register_at, based_at, offset_at, swapped_at, number_word_at, set_at}
+use Rattle.litmus_parser.specs.ReadingForms.{register_at, based_at, offset_at, swapped_at, number_word_at, fence_set_at}
 use Rattle.litmus_parser.specs.ReadingForms.{fence_at, li_at, ori_at, operands_at, form_at}
 use Rattle.litmus_parser.specs.Verdicts.{same_width, kept_at, value_register_at, base_at, judged_at}
 use Rattle.litmus_parser.specs.GrammarForms.{IsRegister, IsBased, IsOffset, IsSwapped, IsAnyNumber, IsFenceSet}
@@ -89,8 +89,8 @@ ori_again line pieces d n c e rest r z h =
       number_again line e n rest h,
     ) refl
 
-set_again : (line : ℕ) (pieces rest : List Piece) → IsFenceSet pieces rest → set_at line pieces ≡ Ok (line, rest)
-unfolding set_at
+set_again : (line : ℕ) (pieces rest : List Piece) → IsFenceSet pieces rest → fence_set_at line pieces ≡ Ok (line, rest)
+unfolding fence_set_at
 set_again line pieces rest h = rw (word_here_again BadInstruction line pieces h.0 rest h.1, h.2) refl
 
 fence_again : (line : ℕ) (pieces c rest : List Piece) → IsFenceSet pieces (Sign 44 ∷ c) → IsFenceSet c rest →

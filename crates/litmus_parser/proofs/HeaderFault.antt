@@ -10,8 +10,9 @@ use Rattle.text_lines.specs.Reading.{◌>>=◌}
 use Rattle.litmus_lexer.specs.Reading.{fails, here_at, word_here_at, start_at, end_line_at, repeat_at}
 use Rattle.litmus_parser.specs.RestLines.{RestAt}
 use Rattle.litmus_parser.specs.GrammarWords.{EndsLine}
-use Rattle.litmus_parser.specs.ReadingTable.{is_thread, separated_by, separated, Headings, heading_at, too_many}
-use Rattle.litmus_parser.specs.ReadingTable.{headings_at, header_at}
+use Rattle.litmus_parser.specs.ReadingTable.{is_thread, separated_by, headings_separated, Headings, heading_at}
+use Rattle.litmus_parser.specs.ReadingTable.{too_many}
+use Rattle.litmus_parser.specs.ReadingTable.{headings_at, header_row_at}
 use Rattle.litmus_parser.specs.GrammarTable.{Begins, AreHeadings, last, more, IsHeaderRow}
 use Rattle.litmus_parser.specs.TableFaults.{LineAt, HeadingsUpTo, no_heading, one_more, HasSeventeenth, HeaderCause}
 use Rattle.litmus_parser.proofs.Causes.{Explains, Onto, start, beyond, over_word, over_sign, bind_explains}
@@ -66,8 +67,8 @@ module _ (C : Kind → ℕ → Type 0) (first : ℕ) (row : List Piece) (bad : C
       (end_line_explains C first row BadTable n rest (rw e bad) (over_sign p)) (λ next is q. q.0)) (λ g. rw e bad))
 
   separated_explains : (n : ℕ) (rest : List Piece) → On first row n rest →
-      Explains C (Goes first row rest) (separated n rest)
-  unfolding separated
+      Explains C (Goes first row rest) (headings_separated n rest)
+  unfolding headings_separated
   separated_explains n rest o =
       bind_explains C (λ (x : Piece × ℕ × List Piece). (x.1 ≡ n) × (rest ≡ x.0 ∷ x.2)) (Goes first row rest)
       (here_at BadTable n rest) separated_by
@@ -96,7 +97,8 @@ module _ (C : Kind → ℕ → Type 0) (first : ℕ) (row : List Piece) (bad : C
       test_explains C (Onto (NextHeading first row k) (Headed first row)) (leb 16 h.0) (fails TooLarge w.1) _ (λ many.
       let le = leb-true _ _ many in
       seventeenth w.0 w.1 h.0 w.2 here stand (omega (arith, s.1, le)) named_is) (λ few.
-      bind_explains C (Goes first row w.2) (Onto (NextHeading first row k) (Headed first row)) (separated w.1 w.2)
+      bind_explains C (Goes first row w.2) (Onto (NextHeading first row k) (Headed first row))
+      (headings_separated w.1 w.2)
       (λ s. Ok (s.0, (h.0 + 1, s.1, s.2))) (separated_explains w.1 w.2 (here, over_word rest_at)) (λ x is g.
       goes_onto first row k h.0 w.0 w.2 x (omega (arith, s.0)) (let lt = leb-false _ _ few in omega (arith, lt)) stand
       named_is g))) (λ other. rw here bad))
@@ -112,8 +114,8 @@ header_from : (C : Kind → ℕ → Type 0) (line : ℕ) (pieces : List Piece) �
     ((n : ℕ) (row : List Piece) → LineAt line pieces n row → C BadTable n)
     → ((n : ℕ) (row : List Piece) → LineAt line pieces n row → HasSeventeenth row → C TooLarge n)
     → ((n : ℕ) → RestAt line pieces n [] → ((row : List Piece) → Begins pieces row → ⊥) → C CutShort n) →
-    Explains C (Headed line pieces) (header_at line pieces)
-unfolding header_at
+    Explains C (Headed line pieces) (header_row_at line pieces)
+unfolding header_row_at
 header_from C line pieces bad large short =
     bind_explains C (λ (x : ℕ × List Piece). RestAt line pieces x.0 x.1 × Begins pieces x.1) (Headed line pieces)
     (start_at line pieces) (λ at. headings_at at.0 at.1)
@@ -122,7 +124,7 @@ header_from C line pieces bad large short =
     (headings_explain C at.0 at.1 (bad at.0 at.1 (p.1, p.0)) (large at.0 at.1 (p.1, p.0))))
 
 -- where the reading fails no header row stands
-pub no_header : (line : ℕ) (pieces : List Piece) (e : LitmusError) → header_at line pieces ≡ Err e →
+pub no_header : (line : ℕ) (pieces : List Piece) (e : LitmusError) → header_row_at line pieces ≡ Err e →
     (threads : ℕ) (rest : List Piece) → IsHeaderRow pieces threads rest → ⊥
 no_header line pieces e fault threads rest h =
     let a = header_again line pieces threads rest h in
@@ -147,8 +149,8 @@ seventeenth_read line w rest named = rw named refl
 
 -- a seventeenth heading is too many
 seventeenth_again : (line : ℕ) (pieces row : List Piece) → Begins pieces row → HasSeventeenth row → (n : ℕ) ×
-    (header_at line pieces ≡ fails TooLarge n)
-unfolding header_at
+    (header_row_at line pieces ≡ fails TooLarge n)
+unfolding header_row_at
 seventeenth_again line pieces row b (w, rest, st, named) =
     let s = start_again line pieces row b in
     (s.line, rw s.is (sym (headings_reached s.line row st (omega arith)) ∙ seventeenth_read s.line w rest named))
@@ -160,11 +162,11 @@ other_kind n e same bad =
     let kinds : TooLarge ≡ BadTable = ap (λ (x : LitmusError). x.kind) large ∙ sym bad in
     absurd cc
 
-pub header_explains : (line : ℕ) (pieces : List Piece) (e : LitmusError) → header_at line pieces ≡ Err e →
+pub header_explains : (line : ℕ) (pieces : List Piece) (e : LitmusError) → header_row_at line pieces ≡ Err e →
     HeaderCause line pieces e.kind e.line
 header_explains line pieces e fault =
     let C : Kind → ℕ → Type 0 = λ kind n. kind ≡ e.kind → HeaderCause line pieces kind n in
-    told C (Headed line pieces) (header_at line pieces) e
+    told C (Headed line pieces) (header_row_at line pieces) e
     (header_from C line pieces
     (λ n row l same. (
       row,
@@ -175,9 +177,9 @@ header_explains line pieces e fault =
     ))
     (λ n row l seventeen same. (row, l, seventeen)) (λ n p no same. (no, p))) fault refl
 
-pub header_place : (line : ℕ) (pieces : List Piece) (h : Headings) → header_at line pieces ≡ Ok h →
+pub header_place : (line : ℕ) (pieces : List Piece) (h : Headings) → header_row_at line pieces ≡ Ok h →
     RestAt line pieces h.1 h.2
-header_place line pieces h is = answered AnyCause (Headed line pieces) (header_at line pieces) h
+header_place line pieces h is = answered AnyCause (Headed line pieces) (header_row_at line pieces) h
     (header_from AnyCause line pieces (λ n row l. tt) (λ n row l seventeen. tt) (λ n p no. tt)) is
 
 headings_more : {t threads : ℕ} {pieces rest : List Piece} → AreHeadings t pieces threads rest → t < threads

@@ -6,7 +6,7 @@ use Rattle.litmus_lexer.specs.Pieces.{Piece, Word, Sign, LineEnd}
 use Rattle.litmus_lexer.specs.declared.errors.Kind.{Kind}
 use Rattle.litmus_lexer.specs.declared.errors.LitmusError.{LitmusError}
 use Rattle.text_lines.specs.Reading.{◌>>=◌, found}
-use Rattle.litmus_lexer.specs.Reading.{Read, Passed, fails, as_word, as_sign, next_at, word_at, sign_at, fault_at}
+use Rattle.litmus_lexer.specs.Reading.{Read, Passed, fails, as_word, as_sign, next_at, next_word_at, sign_at, fault_at}
 use Rattle.litmus_lexer.specs.Reading.{expect_at}
 use Rattle.litmus_parser.specs.GrammarWords.{Next}
 
@@ -82,8 +82,8 @@ next_again line (Sign b ∷ pieces) p rest n = record {
 }
 
 pub word_again : (kind : Kind) (line : ℕ) (pieces : List Piece) (w : List ℕ) (rest : List Piece) →
-    Next pieces (Word w) rest → Again (word_at kind line pieces) w rest
-unfolding word_at
+    Next pieces (Word w) rest → Again (next_word_at kind line pieces) w rest
+unfolding next_word_at
 word_again kind line pieces w rest n =
     let a = next_again line pieces (Word w) rest n in
     record { line = a.line; is = ap (λ (r : Read Piece). r >>= as_word kind) a.is }

@@ -7,12 +7,12 @@ use Rattle.litmus_lexer.specs.Pieces.{Piece, Word, Sign, LineEnd}
 use Rattle.litmus_lexer.specs.declared.errors.Kind.{Kind}
 use Rattle.litmus_lexer.specs.declared.errors.Kind.TheVariants.{BadTable, BadInstruction}
 use Rattle.litmus_lexer.specs.declared.errors.LitmusError.{LitmusError}
-use Rattle.litmus_lexer.specs.Reading.{fails, behind, expect_here_at, end_line_at, passed_at, repeat_at}
+use Rattle.litmus_lexer.specs.Reading.{fails, read_behind_sign, expect_here_at, end_line_at, passed_at, repeat_at}
 use Rattle.litmus_parser.specs.RestLines.{RestAt}
 use Rattle.litmus_parser.specs.ReadingForms.{form_at}
 use Rattle.litmus_parser.specs.Verdicts.{judged_at}
 use Rattle.litmus_parser.specs.ReadingRows.{Rows, Columns, ends_line, has_shape, instruction_at, cell_at, column_at}
-use Rattle.litmus_parser.specs.ReadingRows.{ended, columns_at, row_at}
+use Rattle.litmus_parser.specs.ReadingRows.{row_ended, columns_at, table_row_at}
 use Rattle.litmus_parser.specs.GrammarForms.{IsForm}
 use Rattle.litmus_parser.specs.GrammarTable.{IsCell, AreCells}
 use Rattle.litmus_parser.specs.TableFaults.{RowAt, CellAt, end_of, FormAt, RowsCause}
@@ -81,9 +81,9 @@ no_end : (end line : ℕ) (here : List Piece) (f : Form × ℕ × List Piece) (e
     expect_here_at end BadInstruction f.1 f.2 ≡ Err e → NoForm end here
 no_end end line here f e is fault form rest h =
     let same = sym (form_again line here form (Sign end ∷ rest) h) ∙ is in
-    let behind : f.2 ≡ Sign end ∷ rest =
+    let read_behind_sign : f.2 ≡ Sign end ∷ rest =
     sym (ap (λ (x : Form × ℕ × List Piece). x.2) (let x : (form, line, Sign end ∷ rest) ≡ f = cc in x)) in
-    let ends = sym (expect_here_again end BadInstruction f.1 f.2 rest behind) ∙ fault in
+    let ends = sym (expect_here_again end BadInstruction f.1 f.2 rest read_behind_sign) ∙ fault in
     absurd cc
 
 module _ (items : List Item) (threads line : ℕ) (pieces : List Piece) where
@@ -143,7 +143,7 @@ module _ (items : List Item) (threads line : ℕ) (pieces : List Piece) where
   behind_explains : (t : ℕ) (s : Rows) → CellAt items threads line pieces t s.2 s.1 s.3 → t < threads →
       WidthFrom items threads line pieces s.1 s.2 s.3
       → (o : Option (ℕ × List Piece)) → passed_at (end_of threads t) s.2 s.3 ≡ o →
-      Explains C (Stays s) (behind o (instruction_at items t (end_of threads t) s)
+      Explains C (Stays s) (read_behind_sign o (instruction_at items t (end_of threads t) s)
       (λ at. Ok (s.0, s.1, at.0, at.1)))
   behind_explains t s cell lt w None e = instruction_explains t s cell lt w (λ rest here. let same =
       sym (passed_again (end_of threads t) s.2 s.3 rest here) ∙ e in absurd cc)
@@ -210,14 +210,15 @@ module _ (items : List Item) (threads line : ℕ) (pieces : List Piece) where
 
   pub row_explains : (rows : ℕ) (s : Rows) → 0 < threads → rows < 1024 → RowAt items threads line pieces rows s.2 s.1
       s.3 → WidthFrom items threads line pieces s.1 s.2 s.3
-      → Explains C (λ (x : Rows). Follows x.1 x.2 x.3) (row_at items threads s)
-  unfolding row_at columns_at
+      → Explains C (λ (x : Rows). Follows x.1 x.2 x.3) (table_row_at items threads s)
+  unfolding table_row_at columns_at
   row_explains rows s lt few row w =
       test_explains C (λ (x : Rows). Follows x.1 x.2 x.3) (has_shape (threads - 1) s.3) _
       (fails BadTable s.2) (λ shaped.
-      bind_explains C (Left 0) (λ (x : Rows). Follows x.1 x.2 x.3) (repeat_at threads (column_at items threads) ended
+      bind_explains C (Left 0) (λ (x : Rows). Follows x.1 x.2 x.3)
+      (repeat_at threads (column_at items threads) row_ended
       (0, s.0, s.1, s.2, s.3)) _
-      (repeat_counted C Left (Left 0) (column_at items threads) ended column_explains (λ c h. h) threads
+      (repeat_counted C Left (Left 0) (column_at items threads) row_ended column_explains (λ c h. h) threads
       (0, s.0, s.1, s.2, s.3) (
         omega arith,
         record {

@@ -3,17 +3,17 @@ use Rattle.std.proofs.Common.{◌≡◌, ℕ, ◌+◌, ◌-◌, Bool, true, fals
 use Rattle.std.proofs.Common.{refl, ap, subst, inl, inr, arith}
 use Rattle.std.proofs.lemmas.Bool.{eqb-true, eqb-false, ne_eqb, and_parts}
 use Rattle.litmus_lexer.specs.Pieces.{Piece, Word, Sign, LineEnd}
-use Rattle.litmus_parser.specs.Names.{is_there}
+use Rattle.litmus_parser.specs.Names.{is_present}
 use Rattle.litmus_parser.specs.Keywords.{quantifier_of, BeginsCondition}
 use Rattle.litmus_parser.specs.ReadingTable.{quantifier_next}
 use Rattle.litmus_parser.specs.ReadingRows.{ends_line, has_shape}
 use Rattle.litmus_parser.specs.GrammarWords.{EndsLine}
-use Rattle.litmus_parser.specs.TableFaults.{HasShape, ends, bar, word, sign}
+use Rattle.litmus_parser.specs.TableFaults.{HasRowShape, ends, bar, word, sign}
 use Rattle.litmus_parser.specs.declared.syntax.Quantifier.{Quantifier}
 
 -- ---- the keyword
 
-some_there : (o : Option Quantifier) → is_there o ≡ true → (q : Quantifier) × (o ≡ Some q)
+some_there : (o : Option Quantifier) → is_present o ≡ true → (q : Quantifier) × (o ≡ Some q)
 some_there (Some q) e = (q, refl)
 some_there None e = absurd cc
 
@@ -42,19 +42,19 @@ ends_line_there pieces after (inr e) = ap ends_line e.0
 
 fewer_bars : (bars : ℕ) (pieces : List Piece) (none : Bool) → eqb bars 0 ≡ none →
     cond none false (has_shape (bars - 1) pieces) ≡ true → (has_shape (bars - 1) pieces ≡ true →
-    HasShape (bars - 1) pieces)
-    → HasShape bars (Sign 124 ∷ pieces)
+    HasRowShape (bars - 1) pieces)
+    → HasRowShape bars (Sign 124 ∷ pieces)
 fewer_bars bars pieces true z e go = absurd cc
 fewer_bars bars pieces false z e go =
     let some = eqb-false bars 0 z in
     let same : bars - 1 + 1 ≡ bars = omega (arith, some) in
-    subst (λ n. HasShape n (Sign 124 ∷ pieces)) same (bar (go e))
+    subst (λ n. HasRowShape n (Sign 124 ∷ pieces)) same (bar (go e))
 
 -- by whether the sign is ; and whether it is |
 sign_shape : (bars b : ℕ) (pieces : List Piece) (last middle : Bool) → eqb b 59 ≡ last → eqb b 124 ≡ middle
     → cond last (eqb bars 0 && ends_line pieces) (cond middle (cond (eqb bars 0) false (has_shape (bars - 1) pieces))
     (has_shape bars pieces)) ≡ true
-    → ((n : ℕ) → has_shape n pieces ≡ true → HasShape n pieces) → HasShape bars (Sign b ∷ pieces)
+    → ((n : ℕ) → has_shape n pieces ≡ true → HasRowShape n pieces) → HasRowShape bars (Sign b ∷ pieces)
 sign_shape bars b pieces true middle l m e go =
     let parts = and_parts (eqb bars 0) (ends_line pieces) e in
     let end = line_ends_here pieces parts.1 in
@@ -63,7 +63,7 @@ sign_shape bars b pieces false true l m e go =
     rw (eqb-true b 124 m) (fewer_bars bars pieces (eqb bars 0) refl e (go (bars - 1)))
 sign_shape bars b pieces false false l m e go = sign b (eqb-false b 59 l) (eqb-false b 124 m) (go bars e)
 
-pub shape_stands : (bars : ℕ) (pieces : List Piece) → has_shape bars pieces ≡ true → HasShape bars pieces
+pub shape_stands : (bars : ℕ) (pieces : List Piece) → has_shape bars pieces ≡ true → HasRowShape bars pieces
 unfolding has_shape
 shape_stands bars [] e = absurd cc
 shape_stands bars (LineEnd ∷ pieces) e = absurd cc
@@ -71,7 +71,7 @@ shape_stands bars (Word w ∷ pieces) e = word w (shape_stands bars pieces e)
 shape_stands bars (Sign b ∷ pieces) e =
     sign_shape bars b pieces (eqb b 59) (eqb b 124) refl refl e (λ n. shape_stands n pieces)
 
-pub shape_again : {bars : ℕ} {pieces : List Piece} → HasShape bars pieces → has_shape bars pieces ≡ true
+pub shape_again : {bars : ℕ} {pieces : List Piece} → HasRowShape bars pieces → has_shape bars pieces ≡ true
 unfolding has_shape
 shape_again (ends {rest = rest} {after = after} end) = rw (ends_line_there rest after end) refl
 shape_again (bar {bars = bars} h) =

@@ -6,7 +6,7 @@ use Rattle.litmus_lexer.specs.Pieces.{Piece, Word, Sign, LineEnd}
 use Rattle.litmus_lexer.specs.declared.errors.Kind.{Kind}
 use Rattle.litmus_lexer.specs.declared.errors.LitmusError.{LitmusError}
 use Rattle.text_lines.specs.Reading.{◌>>=◌, found}
-use Rattle.litmus_lexer.specs.Reading.{fails, as_word, as_sign, as_wanted, next_at, word_at, sign_at, fault_at}
+use Rattle.litmus_lexer.specs.Reading.{fails, as_word, as_sign, as_wanted, next_at, next_word_at, sign_at, fault_at}
 use Rattle.litmus_lexer.specs.Reading.{expect_at, here_at, word_here_at, expect_here_at, start_at, end_line_at}
 use Rattle.litmus_lexer.specs.Reading.{passed_at}
 use Rattle.litmus_parser.specs.GrammarWords.{Next, EndsLine}
@@ -82,8 +82,8 @@ pub same_next : (pieces : List Piece) (p q : Piece) (r s : List Piece) → p ≡
 same_next pieces p q r s e f n = subst (λ x. Next pieces q x) f (subst (λ x. Next pieces x r) e n)
 
 pub word_takes : (kind : Kind) (line : ℕ) (pieces : List Piece) (x : List ℕ × ℕ × List Piece) →
-    word_at kind line pieces ≡ Ok x → Next pieces (Word x.0) x.2
-unfolding word_at
+    next_word_at kind line pieces ≡ Ok x → Next pieces (Word x.0) x.2
+unfolding next_word_at
 word_takes kind line pieces x e =
     let b = bind_ok (next_at line pieces) (as_word kind) x e in
     let w = as_word_is kind b.0.0 b.0.1 b.0.2 x b.2 in

@@ -8,7 +8,7 @@ use Rattle.litmus_lexer.specs.declared.errors.Kind.TheVariants.{TooLarge}
 use Rattle.litmus_lexer.specs.declared.errors.LitmusError.{LitmusError}
 use Rattle.litmus_lexer.specs.Reading.{fails, start_at}
 use Rattle.litmus_parser.specs.RestLines.{RestAt}
-use Rattle.litmus_parser.specs.ReadingRows.{Rows, row_at}
+use Rattle.litmus_parser.specs.ReadingRows.{Rows, table_row_at}
 use Rattle.litmus_parser.specs.Keywords.{BeginsCondition}
 use Rattle.litmus_parser.specs.ReadingTable.{quantifier_next, Table, next_row_at, too_long, table_at, rows_at}
 use Rattle.litmus_parser.specs.GrammarTable.{AreRows, Begins}
@@ -61,7 +61,7 @@ module _ (items : List Item) (threads line : ℕ) (pieces : List Piece) (some : 
       (λ few.
       let lt = leb-false _ _ few in
       bind_explains C (λ (x : Rows). Follows items threads line pieces x.1 x.2 x.3) (Onto (NextRow k) Through)
-      (row_at items threads (t.1, t.2, at.0, at.1)) (λ r. Ok (true, (t.0 + 1, r.0, r.1, r.2, r.3)))
+      (table_row_at items threads (t.1, t.2, at.0, at.1)) (λ r. Ok (true, (t.0 + 1, r.0, r.1, r.2, r.3)))
       (row_explains items threads line pieces t.0 (t.1, t.2, at.0, at.1) some (omega (arith, lt)) row_there
       (width_beyond items threads line pieces t.2 t.3 t.4 at.0 at.1 h.3.1 p.0)) (λ r read f.
       let taken = row_takes items threads (t.1, t.2, at.0, at.1) r read in

@@ -6,15 +6,16 @@ use Rattle.std.proofs.lemmas.List.{append-nil}
 use Rattle.litmus_lexer.specs.Pieces.{Piece, Word, Sign, LineEnd}
 use Rattle.litmus_lexer.specs.declared.errors.Kind.TheVariants.{BadInstruction, BadTable, TooLarge}
 use Rattle.text_lines.specs.Reading.{◌>>=◌}
-use Rattle.litmus_lexer.specs.Reading.{fails, behind, here_at, word_here_at, expect_here_at, start_at}
+use Rattle.litmus_lexer.specs.Reading.{fails, read_behind_sign, here_at, word_here_at, expect_here_at, start_at}
 use Rattle.litmus_lexer.specs.Reading.{end_line_at, passed_at, repeat_at}
 use Rattle.litmus_lexer.proofs.Lemmas.{repeat-takes}
 use Rattle.litmus_parser.specs.ReadingForms.{form_at}
 use Rattle.litmus_parser.specs.Verdicts.{judged_at}
-use Rattle.litmus_parser.specs.ReadingRows.{Rows, Columns, has_shape, instruction_at, cell_at, column_at, ended}
-use Rattle.litmus_parser.specs.ReadingRows.{columns_at, row_at}
-use Rattle.litmus_parser.specs.ReadingTable.{is_thread, separated_by, separated, Headings, heading_at, too_many}
-use Rattle.litmus_parser.specs.ReadingTable.{headings_at, header_at, quantifier_next, Table, next_row_at, too_long}
+use Rattle.litmus_parser.specs.ReadingRows.{Rows, Columns, has_shape, instruction_at, cell_at, column_at, row_ended}
+use Rattle.litmus_parser.specs.ReadingRows.{columns_at, table_row_at}
+use Rattle.litmus_parser.specs.ReadingTable.{is_thread, separated_by, headings_separated, Headings, heading_at}
+use Rattle.litmus_parser.specs.ReadingTable.{too_many}
+use Rattle.litmus_parser.specs.ReadingTable.{headings_at, header_row_at, quantifier_next, Table, next_row_at, too_long}
 use Rattle.litmus_parser.specs.ReadingTable.{table_at, rows_at}
 use Rattle.litmus_parser.specs.GrammarWords.{EndsLine}
 use Rattle.litmus_parser.specs.GrammarForms.{IsForm}
@@ -59,7 +60,8 @@ instruction_takes items t end s x e =
     )
 
 behind_takes : (items : List Item) (t end : ℕ) (s x : Rows) (o : Option (ℕ × List Piece)) → passed_at end s.2 s.3 ≡ o
-    → behind o (instruction_at items t end s) (λ at. Ok (s.0, s.1, at.0, at.1)) ≡ Ok x → TakesCell items t end s x
+    → read_behind_sign o (instruction_at items t end s) (λ at. Ok (s.0, s.1, at.0, at.1)) ≡ Ok x → TakesCell
+    items t end s x
 behind_takes items t end s x None p e = instruction_takes items t end s x e
 behind_takes items t end s x (Some at) p e =
     subst (TakesCell items t end s) (ok_is (s.0, s.1, at.0, at.1) x e) (
@@ -98,17 +100,18 @@ cond_true : {A : Type 0} (b : Bool) (x y : A) → b ≡ true → cond b x y ≡ 
 cond_true true x y e = refl
 cond_true false x y e = absurd cc
 
-cells_take : (items : List Item) (threads k : ℕ) (c t : Columns) → repeat_at k (column_at items threads) ended c ≡ Ok
+cells_take : (items : List Item) (threads k : ℕ) (c t : Columns) → repeat_at k (column_at items threads)
+    row_ended c ≡ Ok
     t → TakesCells items threads k c t
 unfolding repeat_at
 cells_take items threads zero c t e =
     subst (TakesCells items threads zero c) (ok_is c t e) ([], sym (append-nil c.1), (refl, refl, refl))
 cells_take items threads (suc k) c t e =
-    let x = bind_ok (column_at items threads c) (λ r. cond r.0 (repeat_at k (column_at items threads) ended r.1)
+    let x = bind_ok (column_at items threads c) (λ r. cond r.0 (repeat_at k (column_at items threads) row_ended r.1)
     (Ok r.1)) t e in
     let s = column_takes items threads c x.0 x.1 in
     let rest = cells_take items threads k x.0.1 t
-    (sym (cond_true x.0.0 (repeat_at k (column_at items threads) ended x.0.1) (Ok x.0.1) s.goes_on) ∙ x.2) in
+    (sym (cond_true x.0.0 (repeat_at k (column_at items threads) row_ended x.0.1) (Ok x.0.1) s.goes_on) ∙ x.2) in
     let others : AreCells items threads k (c.0 + 1) x.0.1.4 x.0.1.2 rest.0 t.2 t.4 =
     subst (λ (n : ℕ). AreCells items threads k n x.0.1.4 x.0.1.2 rest.0 t.2 t.4) s.thread rest.2 in (
       s.added ++ rest.0,
@@ -119,12 +122,12 @@ cells_take items threads (suc k) c t e =
 abbrev pub TakesRow : List Item → ℕ → Rows → Rows → Type 0
 TakesRow items threads s x = (added : List Cell) × (x.0 ≡ s.0 ++ added) × IsRow items threads s.3 s.1 added x.1 x.3
 
-pub row_takes : (items : List Item) (threads : ℕ) (s x : Rows) → row_at items threads s ≡ Ok x →
+pub row_takes : (items : List Item) (threads : ℕ) (s x : Rows) → table_row_at items threads s ≡ Ok x →
     TakesRow items threads s x
-unfolding row_at columns_at
+unfolding table_row_at columns_at
 row_takes items threads s x e =
     let shape = then_ok (has_shape (threads - 1) s.3) _ _ x e in
-    let c = bind_ok (repeat_at threads (column_at items threads) ended (0, s.0, s.1, s.2, s.3)) _ x shape.1 in
+    let c = bind_ok (repeat_at threads (column_at items threads) row_ended (0, s.0, s.1, s.2, s.3)) _ x shape.1 in
     let next = bind_ok (end_line_at BadTable c.0.3 c.0.4) (λ next. Ok (c.0.1, c.0.2, next.0, next.1)) x c.2 in
     let t = cells_take items threads threads (0, s.0, s.1, s.2, s.3) c.0 c.1 in
     subst (TakesRow items threads s) (ok_is (c.0.1, c.0.2, next.0.0, next.0.1) x next.2)
@@ -158,9 +161,9 @@ separated_by_takes before (Sign s) line pieces x b e =
           )
     ]
 
-separated_takes : (line : ℕ) (pieces : List Piece) (x : Bool × ℕ × List Piece) → separated line pieces ≡ Ok
+separated_takes : (line : ℕ) (pieces : List Piece) (x : Bool × ℕ × List Piece) → headings_separated line pieces ≡ Ok
     x → Separates pieces x
-unfolding separated
+unfolding headings_separated
 separated_takes line pieces x e =
     let h = bind_ok (here_at BadTable line pieces) separated_by x e in
     separated_by_takes pieces h.0.0 h.0.1 h.0.2 x (here_takes BadTable line pieces h.0 h.1) h.2
@@ -184,9 +187,9 @@ unfolding heading_at
 heading_takes h x e =
     let w = bind_ok (word_here_at BadTable h.1 h.2) _ x e in
     let i = then_ok (is_thread (thread_named w.0.0) h.0) (cond (leb 16 h.0) (fails TooLarge w.0.1)
-    (separated w.0.1 w.0.2 >>= λ s. Ok (s.0, (h.0 + 1, s.1, s.2)))) _ x w.2 in
-    let f = else_ok (leb 16 h.0) _ (separated w.0.1 w.0.2 >>= λ s. Ok (s.0, (h.0 + 1, s.1, s.2))) x i.1 in
-    let s = bind_ok (separated w.0.1 w.0.2) (λ s. Ok (s.0, (h.0 + 1, s.1, s.2))) x f.1 in
+    (headings_separated w.0.1 w.0.2 >>= λ s. Ok (s.0, (h.0 + 1, s.1, s.2)))) _ x w.2 in
+    let f = else_ok (leb 16 h.0) _ (headings_separated w.0.1 w.0.2 >>= λ s. Ok (s.0, (h.0 + 1, s.1, s.2))) x i.1 in
+    let s = bind_ok (headings_separated w.0.1 w.0.2) (λ s. Ok (s.0, (h.0 + 1, s.1, s.2))) x f.1 in
     subst (TakesHeading h) (ok_is (s.0.0, (h.0 + 1, s.0.1, s.0.2)) x s.2)
     (record {
       w = w.0.0;
@@ -218,9 +221,9 @@ heading_last h t k =
     (subst (λ (ps : List Piece). AreHeadings h.0 ps (h.0 + 1) t.2) (sym parts)
     (last k.named k.few k.separated_by.2))
 
-pub header_takes : (line : ℕ) (pieces : List Piece) (t : Headings) → header_at line pieces ≡ Ok t →
+pub header_takes : (line : ℕ) (pieces : List Piece) (t : Headings) → header_row_at line pieces ≡ Ok t →
     IsHeaderRow pieces t.0 t.2
-unfolding header_at headings_at
+unfolding header_row_at headings_at
 header_takes line pieces t e =
     let s = bind_ok (start_at line pieces) (λ at. headings_at at.0 at.1) t e in (
       s.0.1,
@@ -243,13 +246,13 @@ next_row_takes items threads s x e =
     let at = bind_ok (start_at s.3 s.4) _ x e in
     let b = start_takes s.3 s.4 at.0 at.1 in
     elim (either_ok (quantifier_next at.0.1) (Ok (false, (s.0 + 1, s.1, s.2, at.0.0, at.0.1)))
-    (cond (leb 1024 s.0) (fails TooLarge at.0.0) (row_at items threads (s.1, s.2, at.0.0, at.0.1) >>= λ r.
+    (cond (leb 1024 s.0) (fails TooLarge at.0.0) (table_row_at items threads (s.1, s.2, at.0.0, at.0.1) >>= λ r.
     Ok (true, (s.0 + 1, r.0, r.1, r.2, r.3)))) x at.2) [
       | inl h ↦ subst (TakesNext items threads s) (ok_is (false, (s.0 + 1, s.1, s.2, at.0.0, at.0.1)) x h.1) (b, refl)
       | inr h ↦
-          let f = else_ok (leb 1024 s.0) _ (row_at items threads (s.1, s.2, at.0.0, at.0.1) >>= λ r.
+          let f = else_ok (leb 1024 s.0) _ (table_row_at items threads (s.1, s.2, at.0.0, at.0.1) >>= λ r.
           Ok (true, (s.0 + 1, r.0, r.1, r.2, r.3))) x h.1 in
-          let r = bind_ok (row_at items threads (s.1, s.2, at.0.0, at.0.1))
+          let r = bind_ok (table_row_at items threads (s.1, s.2, at.0.0, at.0.1))
           (λ r. Ok (true, (s.0 + 1, r.0, r.1, r.2, r.3))) x f.1 in
           let t = row_takes items threads (s.1, s.2, at.0.0, at.0.1) r.0 r.1 in
           subst (TakesNext items threads s) (ok_is (true, (s.0 + 1, r.0.0, r.0.1, r.0.2, r.0.3)) x r.2)

@@ -10,11 +10,12 @@ use Rattle.litmus_lexer.specs.Pieces.{Piece, Word, Sign, LineEnd}
 use Rattle.litmus_lexer.specs.declared.errors.Kind.TheVariants.{BadInstruction, BadTable}
 use Rattle.litmus_lexer.specs.Reading.{here_at, word_here_at, passed_at, repeat_at}
 use Rattle.litmus_lexer.proofs.Lemmas.{goes-on, is-done}
-use Rattle.litmus_parser.specs.Names.{address_of, is_there}
+use Rattle.litmus_parser.specs.Names.{address_of, is_present}
 use Rattle.litmus_parser.specs.Mnemonics.{mnemonic_of}
-use Rattle.litmus_parser.specs.ReadingRows.{Rows, ends_line, has_shape, instruction_at, cell_at, column_at, ended}
-use Rattle.litmus_parser.specs.ReadingRows.{columns_at, row_at}
-use Rattle.litmus_parser.specs.ReadingTable.{separated, heading_at, too_many, headings_at, header_at, quantifier_next}
+use Rattle.litmus_parser.specs.ReadingRows.{Rows, ends_line, has_shape, instruction_at, cell_at, column_at, row_ended}
+use Rattle.litmus_parser.specs.ReadingRows.{columns_at, table_row_at}
+use Rattle.litmus_parser.specs.ReadingTable.{headings_separated, heading_at, too_many, headings_at, header_row_at}
+use Rattle.litmus_parser.specs.ReadingTable.{quantifier_next}
 use Rattle.litmus_parser.specs.ReadingTable.{Table, next_row_at, too_long, table_at, rows_at}
 use Rattle.litmus_parser.specs.GrammarWords.{EndsLine}
 use Rattle.litmus_parser.specs.GrammarForms.{IsRegister, IsBased, IsOffset, IsSwapped, IsAnyNumber, IsFenceSet}
@@ -39,13 +40,13 @@ use Rattle.litmus_parser.specs.Keywords.{quantifier_of}
 
 pub heading_more_again : (t line : ℕ) (w : List ℕ) (ps : List Piece) → thread_named w ≡ Some t → t < 16 →
     heading_at (t, line, Word w ∷ Sign 124 ∷ ps) ≡ Ok (true, (t + 1, line, ps))
-unfolding heading_at word_here_at here_at separated
+unfolding heading_at word_here_at here_at headings_separated
 heading_more_again t line w ps named few = rw (named, eq-eqb t t refl, lt-leb 16 t few) refl
 
 heading_last_again : (t line : ℕ) (w : List ℕ) (ps rest : List Piece) → thread_named w ≡ Some t →
     t < 16 → EndsLine ps rest
     → (line' : ℕ) × (heading_at (t, line, Word w ∷ Sign 59 ∷ ps) ≡ Ok (false, (t + 1, line', rest)))
-unfolding heading_at word_here_at here_at separated
+unfolding heading_at word_here_at here_at headings_separated
 heading_last_again t line w ps rest named few end =
     let e = end_line_again BadTable line ps rest end in
     (e.line, rw (named, eq-eqb t t refl, lt-leb 16 t few, e.is) refl)
@@ -66,8 +67,8 @@ headings_again line (more {t = t} {w = w} {ps = ps} named few others) =
     )
 
 pub header_again : (line : ℕ) (pieces : List Piece) (threads : ℕ) (rest : List Piece) → IsHeaderRow pieces threads
-    rest → (line' : ℕ) × (header_at line pieces ≡ Ok (threads, line', rest))
-unfolding header_at headings_at
+    rest → (line' : ℕ) × (header_row_at line pieces ≡ Ok (threads, line', rest))
+unfolding header_row_at headings_at
 header_again line pieces threads rest h =
     let s = start_again line pieces h.0 h.1 in
     let t = headings_again s.line h.2 in
@@ -131,7 +132,7 @@ cells_again : (items items' : List Item) (threads n t : ℕ) (so_far : List Cell
     (pieces : List Piece) (cells : List Cell) (after : Option Width) (rest : List Piece)
     → ((t r : ℕ) → address_of t r items' ≡ address_of t r items) → AreCells items threads n t pieces
     before cells after rest
-    → (t' : ℕ) × (repeat_at n (column_at items' threads) ended (t, so_far, before, line, pieces) ≡ Ok (
+    → (t' : ℕ) × (repeat_at n (column_at items' threads) row_ended (t, so_far, before, line, pieces) ≡ Ok (
       t',
       so_far
           ++ cells,
@@ -266,14 +267,14 @@ row_shape items (suc n) pieces qs before cells after rest b h =
 -- a row is read, at some line
 abbrev ReadsRow : List Item → ℕ → Rows → List Cell → Option Width → List Piece → Type 0
 ReadsRow items threads s cells after rest =
-    (line : ℕ) × (row_at items threads s ≡ Ok (s.0 ++ cells, after, line, rest))
+    (line : ℕ) × (table_row_at items threads s ≡ Ok (s.0 ++ cells, after, line, rest))
 
 row_again : (items items' : List Item) (threads : ℕ) (above : List Piece) (so_far : List Cell) (before : Option Width)
     (line : ℕ) (pieces : List Piece) (cells : List Cell) (after : Option Width) (rest : List Piece)
     → ((t r : ℕ) → address_of t r items' ≡ address_of t r items) → Begins above pieces → IsRow items threads pieces
     before cells after rest
     → ReadsRow items' threads (so_far, before, line, pieces) cells after rest
-unfolding row_at columns_at
+unfolding table_row_at columns_at
 row_again items items' threads above so_far before line pieces cells after rest same b h =
     let c = cells_again items items' threads threads 0 so_far before line pieces cells after h.0 same h.1 in
     let n = end_line_again BadTable line h.0 rest h.2 in
@@ -290,7 +291,7 @@ other_word m keyword k n e =
       | inr other ↦ other
     ]
 
-no_keyword : (m : List ℕ) (k : Mnemonic) → mnemonic_of m ≡ Some k → is_there (quantifier_of m) ≡ false
+no_keyword : (m : List ℕ) (k : Mnemonic) → mnemonic_of m ≡ Some k → is_present (quantifier_of m) ≡ false
 no_keyword m k e = rw (
   other_word m (codes "exists") k refl e,
   other_word m (codes "~exists") k refl e,

@@ -5,7 +5,7 @@ use Rattle.litmus_lexer.specs.Pieces.{Piece}
 use Rattle.litmus_lexer.specs.declared.errors.Kind.{Kind}
 use Rattle.litmus_lexer.specs.declared.errors.Kind.TheVariants.{MixedWidth, ValueRange, AddressAsValue}
 use Rattle.litmus_lexer.specs.Reading.{fails}
-use Rattle.litmus_parser.specs.Names.{address_of, is_there}
+use Rattle.litmus_parser.specs.Names.{address_of, is_present}
 use Rattle.litmus_parser.specs.RestLines.{RestAt}
 use Rattle.litmus_parser.specs.Verdicts.{same_width, kept_at, value_register_at, or_no_address, base_at, judged_at}
 use Rattle.litmus_parser.specs.GrammarForms.{HasWidth, Means}
@@ -59,7 +59,7 @@ module _ (items : List Item) (threads line : ℕ) (pieces : List Piece) where
 
     value_register_explains : (r : ℕ) → HasValueIn form r → Explains C Any (value_register_at items t r n)
     unfolding value_register_at
-    value_register_explains r h = test_explains C Any (is_there (address_of t r items)) (fails AddressAsValue n)
+    value_register_explains r h = test_explains C Any (is_present (address_of t r items)) (fails AddressAsValue n)
         (Ok r) (λ e. (t, r, form, f, h, e)) (λ e. tt)
 
     or_no_address_explains : (r : ℕ) → HasAddressIn form r → (o : Option ℕ) → address_of t r items ≡ o →

@@ -3,11 +3,11 @@ use Rattle.std.proofs.Common.{◌≡◌, ℕ, ◌+◌, ◌≤◌, Bool, true, fa
 use Rattle.std.proofs.Common.{subst, ◌∙◌, arith}
 use Rattle.std.proofs.lemmas.Bool.{eqb-true, ltb-false}
 use Rattle.litmus_lexer.specs.Pieces.{Piece, Word, Sign, LineEnd}
-use Rattle.litmus_lexer.specs.Spelling.{is_number, number_of}
+use Rattle.litmus_lexer.specs.Spelling.{is_number, value_of_digits}
 use Rattle.litmus_lexer.specs.declared.errors.Kind.{Kind}
 use Rattle.litmus_lexer.specs.declared.errors.Kind.TheVariants.{ValueRange, CutShort}
-use Rattle.litmus_lexer.specs.Reading.{fails, as_word, as_sign, next_at, word_at, sign_at, expect_at}
-use Rattle.litmus_parser.specs.ReadingItems.{number_at}
+use Rattle.litmus_lexer.specs.Reading.{fails, as_word, as_sign, next_at, next_word_at, sign_at, expect_at}
+use Rattle.litmus_parser.specs.ReadingItems.{small_number_at}
 use Rattle.litmus_parser.specs.RestLines.{RestAt}
 use Rattle.litmus_parser.specs.GrammarWords.{Next, AtTextEnd}
 use Rattle.litmus_parser.specs.BlockParts.{is_sign, is_word}
@@ -55,8 +55,8 @@ module _ (C : Kind → ℕ → Type 0) (kind : Kind) (fit : Piece → Bool) (n :
   as_word_wanted test same LineEnd m after t = wants.wrong LineEnd m after t (same LineEnd)
 
   pub word_wanted : (test : List ℕ → Bool) → ((p : Piece) → fit p ≡ is_word test p) →
-      Explains C WordTaken (word_at kind n rest)
-  unfolding word_at
+      Explains C WordTaken (next_word_at kind n rest)
+  unfolding next_word_at
   word_wanted test same =
       bind_explains C (λ (x : Piece × ℕ × List Piece). Taken n rest x.0 x.1 x.2) WordTaken (next_at n rest)
       (as_word kind) (next_wanted C n rest wants.ends) (λ x e t.
@@ -91,14 +91,15 @@ module _ (C : Kind → ℕ → Type 0) (kind : Kind) (fit : Piece → Bool) (n :
 
   -- a number that fits
   pub number_wanted : ((p : Piece) → fit p ≡ is_word is_number p) → ((w : List ℕ) (m : ℕ) (after : List Piece) →
-      Taken n rest (Word w) m after → is_number w ≡ true → 2147483648 ≤ number_of w → C ValueRange m)
-      → Explains C (λ (x : ℕ × ℕ × List Piece). RestAt n rest x.1 x.2) (number_at kind n rest)
-  unfolding number_at
+      Taken n rest (Word w) m after → is_number w ≡ true → 2147483648 ≤ value_of_digits w → C ValueRange m)
+      → Explains C (λ (x : ℕ × ℕ × List Piece). RestAt n rest x.1 x.2) (small_number_at kind n rest)
+  unfolding small_number_at
   number_wanted same above =
       let Q : ℕ × ℕ × List Piece → Type 0 = λ x. RestAt n rest x.1 x.2 in
-      bind_explains C WordTaken Q (word_at kind n rest) _ (word_wanted is_number same) (λ w e t.
+      bind_explains C WordTaken Q (next_word_at kind n rest) _ (word_wanted is_number same) (λ w e t.
       test_explains C Q (is_number w.0) _ (fails kind w.1) (λ d.
-      test_explains C Q (ltb (number_of w.0) 2147483648) (Ok (number_of w.0, w.1, w.2)) (fails ValueRange w.1)
+      test_explains C Q (ltb (value_of_digits w.0) 2147483648) (Ok (value_of_digits w.0, w.1, w.2))
+      (fails ValueRange w.1)
       (λ f. over_word t.0)
       (λ f. let ge = ltb-false _ _ f in above w.0 w.1 w.2 t d (omega (arith, ge))))
       (λ d. wants.wrong (Word w.0) w.1 w.2 t (same (Word w.0) ∙ d)))

@@ -8,7 +8,7 @@ use Rattle.litmus_lexer.specs.declared.errors.Kind.{Kind}
 use Rattle.litmus_lexer.specs.declared.errors.Kind.TheVariants.{CutShort}
 use Rattle.litmus_lexer.specs.declared.errors.LitmusError.{LitmusError}
 use Rattle.text_lines.specs.Reading.{◌>>=◌, found}
-use Rattle.litmus_lexer.specs.Reading.{fails, as_word, as_sign, next_at, word_at, sign_at, expect_at, fault_at}
+use Rattle.litmus_lexer.specs.Reading.{fails, as_word, as_sign, next_at, next_word_at, sign_at, expect_at, fault_at}
 use Rattle.litmus_parser.specs.RestLines.{line_ends}
 use Rattle.litmus_parser.proofs.Causes.{line-ends-append}
 
@@ -248,8 +248,8 @@ then_way K B make make' g f first then = bind_way K B (Unit {0}) (Unit {0}) Anyt
     (λ a t u. tt) make make' g f first then
 
 pub word_way : (K : Kind) → CutShort ≢ K → (kind : Kind) (n : ℕ) (rest : List Piece) →
-    Way K ⊥ ⊥ Anything (read {X = List ℕ}) (word_at kind) n rest
-unfolding word_at
+    Way K ⊥ ⊥ Anything (read {X = List ℕ}) (next_word_at kind) n rest
+unfolding next_word_at
 word_way K ne kind n rest = then_way K ⊥ read read next_at (as_word kind) (next_way K ne) (as_word_way K kind) n rest
 
 pub sign_way : (K : Kind) → CutShort ≢ K → (kind : Kind) (n : ℕ) (rest : List Piece) →

@@ -5,23 +5,23 @@ use Rattle.litmus_lexer.specs.declared.limits.TheConstants.{LAST_THREAD}
 use Rattle.litmus_lexer.specs.declared.signs.TheConstants.{CLOSING_BRACE, COLON, EQUALS, OPENING_BRACE, SEMICOLON}
 use Rattle.litmus_lexer.specs.Pieces.{Piece, Word, Sign, LineEnd}
 use Rattle.litmus_lexer.specs.Spelling.{is_number, small_of, register_of, is_location}
-use Rattle.litmus_parser.specs.Names.{Names, same_name, is_there}
+use Rattle.litmus_parser.specs.Names.{Names, same_name, is_present}
 use Rattle.litmus_parser.specs.RestLines.{RestAt}
 use Rattle.litmus_parser.specs.GrammarWords.{Next, IsNumbered}
 use Rattle.litmus_parser.specs.GrammarBlock.{IsItem}
 use Rattle.litmus_parser.specs.declared.syntax.Item.{Item}
 
 -- what the grammar has next, at a place of a block
-pub data Wanted : Type 0 where
-  OpeningBrace : Wanted
-  ItemOrBrace : Wanted
-  Colon : Wanted
-  RegisterWord : Wanted
-  RegisterEquals : Wanted
-  RegisterValue : Wanted
-  LocationEquals : Wanted
-  LocationValue : Wanted
-  SemicolonOrBrace : Wanted
+pub data WantedInBlock : Type 0 where
+  OpeningBrace : WantedInBlock
+  ItemOrBrace : WantedInBlock
+  Colon : WantedInBlock
+  RegisterWord : WantedInBlock
+  RegisterEquals : WantedInBlock
+  RegisterValue : WantedInBlock
+  LocationEquals : WantedInBlock
+  LocationValue : WantedInBlock
+  SemicolonOrBrace : WantedInBlock
 
 -- the piece is this sign
 abbrev pub is_sign : ℕ → Piece → Bool
@@ -41,26 +41,26 @@ is_settable (Some r) = not (r == 0)
 is_settable None = false
 
 -- whether the piece is one that is wanted
-abbrev pub fits : Wanted → Piece → Bool
+abbrev pub fits_block : WantedInBlock → Piece → Bool
 -- {
-fits OpeningBrace piece = is_sign OPENING_BRACE piece
+fits_block OpeningBrace piece = is_sign OPENING_BRACE piece
 -- a thread from 0 to 15 or a location, with which an item begins; or }
-fits ItemOrBrace piece = is_word (λ w. is_there (small_of LAST_THREAD w) || is_location w) piece
+fits_block ItemOrBrace piece = is_word (λ w. is_present (small_of LAST_THREAD w) || is_location w) piece
     || is_sign CLOSING_BRACE piece
 -- :
-fits Colon piece = is_sign COLON piece
+fits_block Colon piece = is_sign COLON piece
 -- a register from x1 to x31
-fits RegisterWord piece = is_word (λ w. is_settable (register_of w)) piece
+fits_block RegisterWord piece = is_word (λ w. is_settable (register_of w)) piece
 -- =
-fits RegisterEquals piece = is_sign EQUALS piece
+fits_block RegisterEquals piece = is_sign EQUALS piece
 -- a number or a location
-fits RegisterValue piece = is_word (λ w. is_number w || is_location w) piece
+fits_block RegisterValue piece = is_word (λ w. is_number w || is_location w) piece
 -- =
-fits LocationEquals piece = is_sign EQUALS piece
+fits_block LocationEquals piece = is_sign EQUALS piece
 -- a number
-fits LocationValue piece = is_word is_number piece
+fits_block LocationValue piece = is_word is_number piece
 -- ; or }
-fits SemicolonOrBrace piece = is_sign SEMICOLON piece || is_sign CLOSING_BRACE piece
+fits_block SemicolonOrBrace piece = is_sign SEMICOLON piece || is_sign CLOSING_BRACE piece
 
 -- after the opening brace these items stand up to this place, each ended by ; and none setting a name that an earlier
 -- one set
@@ -84,7 +84,7 @@ pub data InLines (line : ℕ) (pieces : List Piece) : List Item → Type 0 where
       InLines line pieces (items ++ item ∷ [])
 
 -- of an item that begins here all parts stand up to the place where this is wanted
-pub data ItemUpTo (names : Names) (here : List Piece) : Wanted → List Piece → Type 0 where
+pub data ItemUpTo (names : Names) (here : List Piece) : WantedInBlock → List Piece → Type 0 where
   -- nothing yet
   at_item : ItemUpTo names here ItemOrBrace here
   -- T
@@ -108,11 +108,12 @@ pub data ItemUpTo (names : Names) (here : List Piece) : Wanted → List Piece �
       rest → ItemUpTo names here LocationValue rest
 
 -- of a block all parts stand up to the place where this is wanted
-pub data BlockUpTo (pieces : List Piece) : Wanted → List Piece → Type 0 where
+pub data BlockUpTo (pieces : List Piece) : WantedInBlock → List Piece → Type 0 where
   -- nothing yet
   at_block : BlockUpTo pieces OpeningBrace pieces
   -- items and, after them, the beginning of one
-  in_item : {items : List Item} {names : Names} {here rest_at : List Piece} {wanted : Wanted} → ItemsUpTo pieces items
+  in_item : {items : List Item} {names : Names} {here rest_at : List Piece} {wanted : WantedInBlock} →
+      ItemsUpTo pieces items
       names here → ItemUpTo names here wanted rest_at → BlockUpTo pieces wanted rest_at
   -- items and, after them, one of a name that they don't set
   behind_item : {items : List Item} {before : Names} {here rest_at : List Piece} (item : Item) (after : Names) →

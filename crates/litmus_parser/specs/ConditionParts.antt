@@ -14,39 +14,40 @@ use Rattle.litmus_parser.specs.declared.syntax.Item.{Item}
 use Rattle.litmus_parser.specs.declared.syntax.Name.{Name}
 
 -- what the grammar has next, at a place of an expression
-pub data Wanted : Type 0 where
+pub data WantedInCondition : Type 0 where
   -- a factor, with parentheses at most that deep, after what was seen so far
-  Factor : ℕ → Sight → Wanted
+  Factor : ℕ → Sight → WantedInCondition
   -- after this thread
-  Colon : ℕ → Wanted
-  RegisterOf : ℕ → Wanted
-  Equals : Wanted
-  Value : Wanted
-  Closing : Wanted
+  Colon : ℕ → WantedInCondition
+  RegisterOf : ℕ → WantedInCondition
+  Equals : WantedInCondition
+  Value : WantedInCondition
+  Closing : WantedInCondition
 
 -- a thread below this number
-abbrev pub is_below : ℕ → Option ℕ → Bool
-is_below threads (Some t) = not (nat_le threads t)
-is_below threads None = false
+abbrev pub is_thread_below : ℕ → Option ℕ → Bool
+is_thread_below threads (Some t) = not (nat_le threads t)
+is_thread_below threads None = false
 
 -- whether the piece is one that is wanted
-abbrev pub fits : ℕ → Wanted → Piece → Bool
+abbrev pub fits_condition : ℕ → WantedInCondition → Piece → Bool
 -- a thread that is there or a location, with which an atom begins; or (
-fits threads (Factor depth before) piece = is_word (λ w. is_below threads (small_of LAST_THREAD w) || is_location w)
+fits_condition threads (Factor depth before) piece =
+    is_word (λ w. is_thread_below threads (small_of LAST_THREAD w) || is_location w)
     piece || is_sign OPENING_PARENTHESIS piece
 -- :
-fits threads (Colon t) piece = is_sign COLON piece
+fits_condition threads (Colon t) piece = is_sign COLON piece
 -- a register from x1 to x31
-fits threads (RegisterOf t) piece = is_word (λ w. is_settable (register_of w)) piece
+fits_condition threads (RegisterOf t) piece = is_word (λ w. is_settable (register_of w)) piece
 -- =
-fits threads Equals piece = is_sign EQUALS piece
+fits_condition threads Equals piece = is_sign EQUALS piece
 -- a number
-fits threads Value piece = is_word is_number piece
+fits_condition threads Value piece = is_word is_number piece
 -- ), or a sign after which the expression goes on
-fits threads Closing piece = is_sign CLOSING_PARENTHESIS piece || is_word (λ w. is_and w || is_or w) piece
+fits_condition threads Closing piece = is_sign CLOSING_PARENTHESIS piece || is_word (λ w. is_and w || is_or w) piece
 
 -- of an atom that begins here all parts stand up to the place where this is wanted; at most 255 atoms stand before it
-pub data AtomUpTo (items : List Item) (threads depth : ℕ) (before : Sight) (here : List Piece) : Wanted →
+pub data AtomUpTo (items : List Item) (threads depth : ℕ) (before : Sight) (here : List Piece) : WantedInCondition →
     List Piece → Type 0 where
   -- nothing yet
   at_factor : AtomUpTo items threads depth before here (Factor depth before) here
@@ -65,14 +66,14 @@ pub data AtomUpTo (items : List Item) (threads depth : ℕ) (before : Sight) (he
 
 -- of a part that begins here, after what was seen so far, all stands up to the place where this is wanted
 abbrev pub Beginning : Type 1
-Beginning = Sight → List Piece → Wanted → List Piece → Type 0
+Beginning = Sight → List Piece → WantedInCondition → List Piece → Type 0
 
 -- the same of parts with a sign between each two: of the first one, or, after some and a sign, of a further one
 pub data ChainUpTo (P : Part) (B : Beginning) (sign : Piece) (join : Tree → Tree → Tree) (before : Sight)
-    (here : List Piece) : Wanted → List Piece → Type 0 where
-  in_first : {wanted : Wanted} {there : List Piece} → B before here wanted there → ChainUpTo P B sign join
+    (here : List Piece) : WantedInCondition → List Piece → Type 0 where
+  in_first : {wanted : WantedInCondition} {there : List Piece} → B before here wanted there → ChainUpTo P B sign join
       before here wanted there
-  in_further : {wanted : Wanted} {there : List Piece} {tree : Tree} (after : Sight) (qs rs : List Piece) →
+  in_further : {wanted : WantedInCondition} {there : List Piece} {tree : Tree} (after : Sight) (qs rs : List Piece) →
       Chained P sign join before here tree after qs → Next qs sign rs → B after rs wanted there
       → ChainUpTo P B sign join before here wanted there
 

@@ -6,7 +6,7 @@ use Rattle.litmus_lexer.specs.declared.signs.TheConstants.{CLOSING_BRACE, COLON,
 use Rattle.litmus_lexer.specs.Pieces.{Piece, Word, Sign}
 use Rattle.litmus_lexer.specs.Spelling.{is_number, small_of, register_of}
 use Rattle.litmus_parser.specs.Names.{Names, same_name}
-use Rattle.litmus_parser.specs.GrammarWords.{Next, EndsLine, IsValue, IsNumbered}
+use Rattle.litmus_parser.specs.GrammarWords.{Next, EndsLine, IsLitmusValue, IsNumbered}
 use Rattle.litmus_parser.specs.declared.syntax.Name.{Name}
 use Rattle.litmus_parser.specs.declared.syntax.Name.TheVariants.{Register, Location}
 use Rattle.litmus_parser.specs.declared.syntax.Setting.{Setting}
@@ -15,7 +15,7 @@ use Rattle.litmus_parser.specs.declared.syntax.Item.{Item}
 
 -- what a register is set to: a number, or a location
 abbrev pub IsSetting : List ℕ → Names → Setting → Names → Type 0
-IsSetting word before (Number n) after = IsValue word n × (after ≡ before)
+IsSetting word before (Number n) after = IsLitmusValue word n × (after ≡ before)
 IsSetting word before (Address l) after = (is_number word ≡ false) × IsNumbered word before l after
 
 -- T:xR=V with R not 0; or L=N
@@ -26,7 +26,7 @@ IsItem pieces before (Register t r) setting after rest = (tw rw vw : List ℕ) �
     × (small_of LAST_THREAD tw ≡ Some t) × (register_of rw ≡ Some r) × (r ≢ 0) × IsSetting vw before setting after
 IsItem pieces before (Location l) (Number n) after rest = (lw vw : List ℕ) × (a b : List Piece)
     × Next pieces (Word lw) a × Next a (Sign EQUALS) b × Next b (Word vw) rest × IsNumbered lw before l
-    after × IsValue vw n
+    after × IsLitmusValue vw n
 IsItem pieces before (Location l) (Address m) after rest = ⊥
 
 -- items up to }, each ended by ;, which the last one may lack; none sets a name that an earlier one set

@@ -4,10 +4,10 @@ use Rattle.litmus_lexer.specs.declared.limits.TheConstants.{LAST_THREAD, MOST_AT
 use Rattle.litmus_lexer.specs.declared.signs.TheConstants.{CLOSING_PARENTHESIS, COLON, EQUALS, OPENING_PARENTHESIS}
 use Rattle.litmus_lexer.specs.Pieces.{Piece, Word, Sign}
 use Rattle.litmus_lexer.specs.Spelling.{small_of, register_of}
-use Rattle.litmus_parser.specs.Names.{Names, address_of, is_there}
+use Rattle.litmus_parser.specs.Names.{Names, address_of, is_present}
 use Rattle.litmus_parser.specs.Trees.{Tree, Is, Both, Either}
 use Rattle.litmus_parser.specs.Keywords.{quantifier_of}
-use Rattle.litmus_parser.specs.GrammarWords.{Next, AtTextEnd, IsValue, IsNumbered}
+use Rattle.litmus_parser.specs.GrammarWords.{Next, AtTextEnd, IsLitmusValue, IsNumbered}
 use Rattle.litmus_parser.specs.declared.syntax.Item.{Item}
 use Rattle.litmus_parser.specs.declared.syntax.Name.{Name}
 use Rattle.litmus_parser.specs.declared.syntax.Name.TheVariants.{Register, Location}
@@ -18,7 +18,7 @@ abbrev pub IsNamed : List Item → ℕ → List Piece → Names → Name → Nam
 IsNamed items threads pieces before (Register t r) after rest = (tw rw : List ℕ) × (a b : List Piece)
     × Next pieces (Word tw) a × Next a (Sign COLON) b × Next b (Word rw) rest
     × (small_of LAST_THREAD tw ≡ Some t) × (t < threads) × (register_of rw ≡ Some r) × (r ≢ 0) ×
-    (is_there (address_of t r items) ≡ false) × (after ≡ before)
+    (is_present (address_of t r items) ≡ false) × (after ≡ before)
 IsNamed items threads pieces before (Location l) after rest =
     (w : List ℕ) × Next pieces (Word w) rest × IsNumbered w before l after
 
@@ -30,7 +30,7 @@ Sight = Names × ℕ
 abbrev pub IsAtom : List Item → ℕ → Sight → List Piece → Tree → Sight → List Piece → Type 0
 IsAtom items threads before pieces (Is name n) after rest = (w : List ℕ) × (a b : List Piece)
     × IsNamed items threads pieces before.0 name after.0 a × Next a (Sign EQUALS) b ×
-    Next b (Word w) rest × IsValue w n
+    Next b (Word w) rest × IsLitmusValue w n
     × (before.1 < MOST_ATOMS) × (after.1 ≡ before.1 + 1)
 IsAtom items threads before pieces (Both a b) after rest = ⊥
 IsAtom items threads before pieces (Either a b) after rest = ⊥

@@ -3,8 +3,8 @@ use Rattle.std.specs.Prelude.{◌≡◌, ℕ, ◌<◌, ◌≤◌, min, true, fal
 use Rattle.litmus_lexer.specs.declared.limits.TheConstants.{MOST_ORI, VALUE_BOUND}
 use Rattle.litmus_lexer.specs.declared.signs.TheConstants.{CLOSING_PARENTHESIS, COMMA, OPENING_PARENTHESIS}
 use Rattle.litmus_lexer.specs.Pieces.{Piece, Word, Sign}
-use Rattle.litmus_lexer.specs.Spelling.{is_number, number_of, register_of}
-use Rattle.litmus_parser.specs.Names.{address_of, is_there}
+use Rattle.litmus_lexer.specs.Spelling.{is_number, value_of_digits, register_of}
+use Rattle.litmus_parser.specs.Names.{address_of, is_present}
 use Rattle.litmus_parser.specs.Mnemonics.{mnemonic_of, is_zero, is_fence_set}
 use Rattle.litmus_parser.specs.declared.syntax.Width.{Width}
 use Rattle.litmus_parser.specs.declared.syntax.Item.{Item}
@@ -36,7 +36,7 @@ IsSwapped pieces d s b rest = (a c : List Piece) × IsRegister pieces d (Sign CO
 -- a number; all that are no value count as the bound of values
 abbrev pub IsAnyNumber : List Piece → ℕ → List Piece → Type 0
 IsAnyNumber pieces n rest = (w : List ℕ) × (pieces ≡ Word w ∷ rest) × (is_number w ≡ true) ×
-    (n ≡ min (number_of w) VALUE_BOUND)
+    (n ≡ min (value_of_digits w) VALUE_BOUND)
 
 abbrev pub IsFenceSet : List Piece → List Piece → Type 0
 IsFenceSet pieces rest = (w : List ℕ) × (pieces ≡ Word w ∷ rest) × (is_fence_set w ≡ true)
@@ -64,7 +64,7 @@ HasWidth (Some first) own after = (first ≡ own) × (after ≡ Some own)
 
 -- the register holds no address
 abbrev pub HoldsValue : List Item → ℕ → ℕ → Type 0
-HoldsValue items t r = is_there (address_of t r items) ≡ false
+HoldsValue items t r = is_present (address_of t r items) ≡ false
 
 -- what a form of a thread stands for: numbers fit, the width is kept, and a register holds an address exactly where
 -- an address is wanted

@@ -3,7 +3,7 @@ use Rattle.std.specs.Prelude.{◌≡◌, ℕ, ◌<◌, ◌⊎◌, true, List, []
 use Rattle.litmus_lexer.specs.declared.limits.TheConstants.{MOST_LOCATIONS, VALUE_BOUND}
 use Rattle.litmus_lexer.specs.Pieces.{Piece, Word, Sign, LineEnd}
 use Rattle.litmus_lexer.specs.Naming.{place_of}
-use Rattle.litmus_lexer.specs.Spelling.{is_number, number_of, is_location}
+use Rattle.litmus_lexer.specs.Spelling.{is_number, value_of_digits, is_location}
 use Rattle.litmus_parser.specs.Names.{Names}
 
 -- after line ends, which count as blanks, the piece comes next, and the rest follows
@@ -25,8 +25,8 @@ AtTextEnd (Word w ∷ pieces) = ⊥
 AtTextEnd (Sign b ∷ pieces) = ⊥
 
 -- a number below 2147483648
-abbrev pub IsValue : List ℕ → ℕ → Type 0
-IsValue word n = (is_number word ≡ true) × (n ≡ number_of word) × (n < VALUE_BOUND)
+abbrev pub IsLitmusValue : List ℕ → ℕ → Type 0
+IsLitmusValue word n = (is_number word ≡ true) × (n ≡ value_of_digits word) × (n < VALUE_BOUND)
 
 -- a location has its index among those named before; a new one, if they are below 64, comes after them
 abbrev pub IsNumbered : List ℕ → Names → ℕ → Names → Type 0

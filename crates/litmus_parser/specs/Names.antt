@@ -16,16 +16,16 @@ same_name (Location l) (Location m) = l == m
 same_name (Register s q) (Location m) = false
 same_name (Location l) (Register t r) = false
 
-abbrev pub address_in : Setting → Option ℕ
-address_in (Address l) = Some l
-address_in (Number n) = None
+abbrev pub setting_address : Setting → Option ℕ
+setting_address (Address l) = Some l
+setting_address (Number n) = None
 
 -- the location to which the first item that sets the thread's register sets it
 unfoldable pub address_of : ℕ → ℕ → List Item → Option ℕ
 address_of thread register [] = None
-address_of thread register (item ∷ items) = if same_name item.name (Register thread register) then address_in
+address_of thread register (item ∷ items) = if same_name item.name (Register thread register) then setting_address
     item.setting else address_of thread register items
 
-abbrev pub is_there : {A : Type 0} → Option A → Bool
-is_there None = false
-is_there (Some x) = true
+abbrev pub is_present : {A : Type 0} → Option A → Bool
+is_present None = false
+is_present (Some x) = true

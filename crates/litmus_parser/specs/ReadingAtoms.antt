@@ -6,9 +6,9 @@ use Rattle.litmus_lexer.specs.Pieces.{Piece, Word, Sign, LineEnd}
 use Rattle.litmus_lexer.specs.Spelling.{small_of, register_of}
 use Rattle.litmus_lexer.specs.declared.errors.Kind.TheVariants.{TooLarge, AddressAsValue, BadCondition}
 use Rattle.text_lines.specs.Reading.{◌>>=◌, found}
-use Rattle.litmus_lexer.specs.Reading.{Read, fails, word_at, expect_at, fault_at}
-use Rattle.litmus_parser.specs.Names.{Names, address_of, is_there}
-use Rattle.litmus_parser.specs.ReadingItems.{location_at, number_at}
+use Rattle.litmus_lexer.specs.Reading.{Read, fails, next_word_at, expect_at, fault_at}
+use Rattle.litmus_parser.specs.Names.{Names, address_of, is_present}
+use Rattle.litmus_parser.specs.ReadingItems.{location_at, small_number_at}
 use Rattle.litmus_parser.specs.Trees.{Tree, Is}
 use Rattle.litmus_parser.specs.GrammarCondition.{Sight}
 use Rattle.litmus_parser.specs.declared.syntax.Item.{Item}
@@ -27,10 +27,10 @@ unfoldable pub register_name_at : List Item → ℕ → ℕ → ℕ → List Pie
 register_name_at items threads thread line pieces =
     if nat_le threads thread then fails BadCondition line else (do
       colon ← expect_at COLON BadCondition line pieces
-      w ← word_at BadCondition colon.0 colon.1
+      w ← next_word_at BadCondition colon.0 colon.1
       found (fault_at BadCondition w.1) (register_of w.0) (λ register.
           if register == 0 then fails BadCondition w.1
-          else if is_there (address_of thread register items) then fails AddressAsValue w.1
+          else if is_present (address_of thread register items) then fails AddressAsValue w.1
           else Ok (Register thread register, w.1, w.2)))
 
 unfoldable pub location_name_at : List ℕ → Names → ℕ → List Piece → Read (Name × Names)
@@ -52,5 +52,5 @@ atom_at items threads first sight line pieces =
     if nat_le MOST_ATOMS sight.1 then fails TooLarge line else (do
       name ← name_at items threads first sight.0 line pieces
       equals ← expect_at EQUALS BadCondition name.1 name.2
-      v ← number_at BadCondition equals.0 equals.1
+      v ← small_number_at BadCondition equals.0 equals.1
       Ok ((Is name.0.0 v.0, (name.0.1, sight.1 + 1)), v.1, v.2))

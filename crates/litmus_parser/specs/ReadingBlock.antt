@@ -17,8 +17,8 @@ abbrev pub Block : Type 0
 Block = List Item × Names × ℕ × List Piece
 
 -- after an item: whether a further one may follow
-unfoldable pub separated : ℕ → List Piece → Result (Bool × ℕ × List Piece) LitmusError
-separated line pieces = do
+unfoldable pub items_separated : ℕ → List Piece → Result (Bool × ℕ × List Piece) LitmusError
+items_separated line pieces = do
   s ← sign_at BadInitial line pieces
   if s.0 == SEMICOLON then Ok (true, s.1, s.2) else if s.0 == CLOSING_BRACE then Ok (false, s.1, s.2) else
       fails BadInitial s.1
@@ -32,18 +32,18 @@ unfoldable pub whole_item_at : List ℕ → Block → Result (Bool × Block) Lit
 whole_item_at first block = do
   read ← item_at first block.1 block.2 block.3
   items ← added block.0 read.0.0
-  more ← separated read.1 read.2
+  more ← items_separated read.1 read.2
   Ok (more.0, (items, read.0.1, more.1, more.2))
 
-abbrev pub entry_of : List Item → Names → Piece × ℕ × List Piece → Result (Bool × Block) LitmusError
-entry_of items names (Word first, line, pieces) = whole_item_at first (items, names, line, pieces)
-entry_of items names (Sign b, line, pieces) =
+abbrev pub block_entry_at : List Item → Names → Piece × ℕ × List Piece → Result (Bool × Block) LitmusError
+block_entry_at items names (Word first, line, pieces) = whole_item_at first (items, names, line, pieces)
+block_entry_at items names (Sign b, line, pieces) =
     if b == CLOSING_BRACE then Ok (false, (items, names, line, pieces)) else fails BadInitial line
-entry_of items names (LineEnd, line, pieces) = fails BadInitial line
+block_entry_at items names (LineEnd, line, pieces) = fails BadInitial line
 
 -- an item and what parts it from the next one, or the closing brace
 unfoldable pub entry_at : Block → Result (Bool × Block) LitmusError
-entry_at block = next_at block.2 block.3 >>= entry_of block.0 block.1
+entry_at block = next_at block.2 block.3 >>= block_entry_at block.0 block.1
 
 abbrev pub unended : Block → Result Block LitmusError
 unended block = fails CutShort block.2
@@ -53,8 +53,8 @@ unfoldable pub items_at : Names → ℕ → List Piece → Result Block LitmusEr
 items_at names line pieces = repeat_at MOST_BYTES entry_at unended ([], names, line, pieces)
 
 -- { items } and the line's end
-unfoldable pub block_at : Names → ℕ → List Piece → Result Block LitmusError
-block_at names line pieces = do
+unfoldable pub initial_block_at : Names → ℕ → List Piece → Result Block LitmusError
+initial_block_at names line pieces = do
   brace ← expect_at OPENING_BRACE BadInitial line pieces
   b ← items_at names brace.0 brace.1
   next ← end_line_at BadInitial b.2 b.3

@@ -6,7 +6,7 @@ use Rattle.litmus_lexer.specs.Pieces.{Piece, Word, Sign, LineEnd}
 use Rattle.litmus_lexer.specs.declared.errors.Kind.TheVariants.{TooLarge, BadCondition}
 use Rattle.litmus_lexer.specs.declared.errors.LitmusError.{LitmusError}
 use Rattle.text_lines.specs.Reading.{◌>>=◌}
-use Rattle.litmus_lexer.specs.Reading.{Read, fails, behind, next_at, expect_at, repeat_at}
+use Rattle.litmus_lexer.specs.Reading.{Read, fails, read_behind_sign, next_at, expect_at, repeat_at}
 use Rattle.litmus_parser.specs.Trees.{Tree, Both, Either}
 use Rattle.litmus_parser.specs.ReadingAtoms.{joined_at, atom_at}
 use Rattle.litmus_parser.specs.declared.expressions.Connective.{Connective}
@@ -25,7 +25,7 @@ Chain = Tree × Sight × ℕ × List Piece
 
 -- a further part after a sign, if there is one
 abbrev pub joined_with : (List ℕ → Bool) → (Tree → Tree → Tree) → Reader → Chain → Result (Bool × Chain) LitmusError
-joined_with is_sign join part c = behind (joined_at is_sign c.2 c.3) (Ok (false, c))
+joined_with is_sign join part c = read_behind_sign (joined_at is_sign c.2 c.3) (Ok (false, c))
     (λ at. part c.1 at.0 at.1 >>= λ r. Ok (true, (join c.0 r.0.0, r.0.1, r.1, r.2)))
 
 abbrev pub too_many_parts : Chain → Result Chain LitmusError

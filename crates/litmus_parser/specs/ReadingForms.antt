@@ -3,7 +3,7 @@ use Rattle.std.specs.Prelude.{ℕ, ◌==◌, min, if◌then◌else◌, List, Ok}
 use Rattle.litmus_lexer.specs.declared.limits.TheConstants.{VALUE_BOUND}
 use Rattle.litmus_lexer.specs.declared.signs.TheConstants.{CLOSING_PARENTHESIS, COMMA, OPENING_PARENTHESIS}
 use Rattle.litmus_lexer.specs.Pieces.{Piece}
-use Rattle.litmus_lexer.specs.Spelling.{is_number, number_of, register_of}
+use Rattle.litmus_lexer.specs.Spelling.{is_number, value_of_digits, register_of}
 use Rattle.litmus_lexer.specs.declared.errors.Kind.TheVariants.{BadInstruction}
 use Rattle.text_lines.specs.Reading.{◌>>=◌, found}
 use Rattle.litmus_lexer.specs.Reading.{Read, Passed, fails, word_here_at, expect_here_at, fault_at}
@@ -50,7 +50,7 @@ swapped_at line pieces = do
 unfoldable pub number_word_at : ℕ → List Piece → Read ℕ
 number_word_at line pieces = do
   w ← word_here_at BadInstruction line pieces
-  if is_number w.0 then Ok (min (number_of w.0) VALUE_BOUND, w.1, w.2) else fails BadInstruction w.1
+  if is_number w.0 then Ok (min (value_of_digits w.0) VALUE_BOUND, w.1, w.2) else fails BadInstruction w.1
 
 -- xD,N
 unfoldable pub li_at : ℕ → List Piece → Read (ℕ × ℕ)
@@ -71,17 +71,17 @@ ori_at line pieces = do
     value ← number_word_at second.0 second.1
     Ok ((target.0, value.0), value.1, value.2)) else fails BadInstruction zero.1
 
-unfoldable pub set_at : ℕ → List Piece → Passed
-set_at line pieces = do
+unfoldable pub fence_set_at : ℕ → List Piece → Passed
+fence_set_at line pieces = do
   w ← word_here_at BadInstruction line pieces
   if is_fence_set w.0 then Ok (w.1, w.2) else fails BadInstruction w.1
 
 -- A,B
 unfoldable pub fence_at : ℕ → List Piece → Passed
 fence_at line pieces = do
-  first ← set_at line pieces
+  first ← fence_set_at line pieces
   comma ← expect_here_at COMMA BadInstruction first.0 first.1
-  set_at comma.0 comma.1
+  fence_set_at comma.0 comma.1
 
 unfoldable pub operands_at : Mnemonic → ℕ → List Piece → Read Form
 operands_at (word.Load width) line pieces = offset_at line pieces >>= λ r. Ok (form.Load width r.0.0 r.0.1, r.1, r.2)

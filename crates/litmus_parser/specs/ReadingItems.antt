@@ -5,12 +5,12 @@ use Rattle.litmus_lexer.specs.declared.limits.TheConstants.{LAST_THREAD, MOST_LO
 use Rattle.litmus_lexer.specs.declared.signs.TheConstants.{COLON, EQUALS}
 use Rattle.litmus_lexer.specs.Pieces.{Piece}
 use Rattle.litmus_lexer.specs.Naming.{place_of}
-use Rattle.litmus_lexer.specs.Spelling.{is_number, number_of, small_of, register_of, is_location}
+use Rattle.litmus_lexer.specs.Spelling.{is_number, value_of_digits, small_of, register_of, is_location}
 use Rattle.litmus_lexer.specs.declared.errors.Kind.{Kind}
 use Rattle.litmus_lexer.specs.declared.errors.Kind.TheVariants.{TooLarge, BadInitial, ValueRange}
 use Rattle.litmus_lexer.specs.declared.errors.LitmusError.{LitmusError}
 use Rattle.text_lines.specs.Reading.{◌>>=◌, found}
-use Rattle.litmus_lexer.specs.Reading.{Read, fails, word_at, expect_at, fault_at}
+use Rattle.litmus_lexer.specs.Reading.{Read, fails, next_word_at, expect_at, fault_at}
 use Rattle.litmus_parser.specs.Names.{Names}
 use Rattle.litmus_parser.specs.declared.syntax.Name.TheVariants.{Register, Location}
 use Rattle.litmus_parser.specs.declared.syntax.Setting.{Setting}
@@ -27,19 +27,20 @@ location_at kind word line names =
     else fails kind line
 
 -- a number that fits
-unfoldable pub number_at : Kind → ℕ → List Piece → Read ℕ
-number_at kind line pieces = do
-  w ← word_at kind line pieces
+unfoldable pub small_number_at : Kind → ℕ → List Piece → Read ℕ
+small_number_at kind line pieces = do
+  w ← next_word_at kind line pieces
   if is_number w.0
-      then (if nat_lt (number_of w.0) VALUE_BOUND then Ok (number_of w.0, w.1, w.2) else fails ValueRange w.1)
+      then (if nat_lt (value_of_digits w.0) VALUE_BOUND then Ok (value_of_digits w.0, w.1, w.2) else fails
+      ValueRange w.1)
       else fails kind w.1
 
 -- a number that fits, or a location
 unfoldable pub setting_at : Names → ℕ → List Piece → Read (Setting × Names)
 setting_at names line pieces = do
-  w ← word_at BadInitial line pieces
+  w ← next_word_at BadInitial line pieces
   if is_number w.0
-      then (if nat_lt (number_of w.0) VALUE_BOUND then Ok ((Number (number_of w.0), names), w.1, w.2) else
+      then (if nat_lt (value_of_digits w.0) VALUE_BOUND then Ok ((Number (value_of_digits w.0), names), w.1, w.2) else
       fails ValueRange w.1)
       else (do
         l ← location_at BadInitial w.0 w.1 names
@@ -49,7 +50,7 @@ setting_at names line pieces = do
 unfoldable pub register_item_at : ℕ → Names → ℕ → List Piece → Read (Item × Names)
 register_item_at thread names line pieces = do
   colon ← expect_at COLON BadInitial line pieces
-  w ← word_at BadInitial colon.0 colon.1
+  w ← next_word_at BadInitial colon.0 colon.1
   found (fault_at BadInitial w.1) (register_of w.0) (λ register.
       if register == 0 then fails BadInitial w.1 else (do
         equals ← expect_at EQUALS BadInitial w.1 w.2
@@ -61,7 +62,7 @@ unfoldable pub location_item_at : List ℕ → Names → ℕ → List Piece → 
 location_item_at first names line pieces = do
   l ← location_at BadInitial first line names
   equals ← expect_at EQUALS BadInitial line pieces
-  v ← number_at BadInitial equals.0 equals.1
+  v ← small_number_at BadInitial equals.0 equals.1
   Ok ((record { line = line; name = Location l.0; setting = Number v.0 }, l.1), v.1, v.2)
 
 abbrev pub item_of : Option ℕ → List ℕ → Names → ℕ → List Piece → Read (Item × Names)

@@ -6,7 +6,7 @@ use Rattle.litmus_lexer.specs.Pieces.{Piece, Word, Sign, LineEnd}
 use Rattle.litmus_lexer.specs.declared.errors.Kind.TheVariants.{BadTable, BadInstruction}
 use Rattle.litmus_lexer.specs.declared.errors.LitmusError.{LitmusError}
 use Rattle.text_lines.specs.Reading.{◌>>=◌}
-use Rattle.litmus_lexer.specs.Reading.{fails, behind, expect_here_at, end_line_at, passed_at, repeat_at}
+use Rattle.litmus_lexer.specs.Reading.{fails, read_behind_sign, expect_here_at, end_line_at, passed_at, repeat_at}
 use Rattle.litmus_parser.specs.ReadingForms.{form_at}
 use Rattle.litmus_parser.specs.Verdicts.{judged_at}
 use Rattle.litmus_parser.specs.declared.syntax.Width.{Width}
@@ -42,7 +42,7 @@ instruction_at items thread end rows = do
 
 -- a blank cell, or an instruction
 unfoldable pub cell_at : List Item → ℕ → ℕ → Rows → Result Rows LitmusError
-cell_at items thread end rows = behind (passed_at end rows.2 rows.3) (instruction_at items thread end rows)
+cell_at items thread end rows = read_behind_sign (passed_at end rows.2 rows.3) (instruction_at items thread end rows)
     (λ at. Ok (rows.0, rows.1, at.0, at.1))
 
 -- the same with the thread whose cell comes next
@@ -54,15 +54,15 @@ column_at items threads c = do
   r ← cell_at items c.0 (if c.0 + 1 == threads then SEMICOLON else BAR) (c.1, c.2, c.3, c.4)
   Ok (true, (c.0 + 1, r.0, r.1, r.2, r.3))
 
-abbrev pub ended : Columns → Result Columns LitmusError
-ended c = Ok c
+abbrev pub row_ended : Columns → Result Columns LitmusError
+row_ended c = Ok c
 
 unfoldable pub columns_at : List Item → ℕ → Columns → Result Columns LitmusError
-columns_at items threads c = repeat_at threads (column_at items threads) ended c
+columns_at items threads c = repeat_at threads (column_at items threads) row_ended c
 
 -- a row's shape is tested before its cells
-unfoldable pub row_at : List Item → ℕ → Rows → Result Rows LitmusError
-row_at items threads rows =
+unfoldable pub table_row_at : List Item → ℕ → Rows → Result Rows LitmusError
+table_row_at items threads rows =
     if has_shape (threads - 1) rows.3 then (do
       c ← columns_at items threads (0, rows.0, rows.1, rows.2, rows.3)
       next ← end_line_at BadTable c.3 c.4

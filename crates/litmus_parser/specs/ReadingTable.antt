@@ -9,9 +9,9 @@ use Rattle.litmus_lexer.specs.declared.errors.Kind.TheVariants.{TooLarge, BadTab
 use Rattle.litmus_lexer.specs.declared.errors.LitmusError.{LitmusError}
 use Rattle.text_lines.specs.Reading.{◌>>=◌}
 use Rattle.litmus_lexer.specs.Reading.{Read, fails, here_at, word_here_at, start_at, end_line_at, repeat_at}
-use Rattle.litmus_parser.specs.Names.{is_there}
+use Rattle.litmus_parser.specs.Names.{is_present}
 use Rattle.litmus_parser.specs.Keywords.{quantifier_of}
-use Rattle.litmus_parser.specs.ReadingRows.{row_at}
+use Rattle.litmus_parser.specs.ReadingRows.{table_row_at}
 use Rattle.litmus_parser.specs.declared.syntax.Width.{Width}
 use Rattle.litmus_parser.specs.declared.syntax.Item.{Item}
 use Rattle.litmus_parser.specs.declared.syntax.Name.{Name}
@@ -31,8 +31,8 @@ separated_by (Sign b, line, pieces) =
     else fails BadTable line
 
 -- after a heading: whether a further one follows
-unfoldable pub separated : ℕ → List Piece → Result (Bool × ℕ × List Piece) LitmusError
-separated line pieces = here_at BadTable line pieces >>= separated_by
+unfoldable pub headings_separated : ℕ → List Piece → Result (Bool × ℕ × List Piece) LitmusError
+headings_separated line pieces = here_at BadTable line pieces >>= separated_by
 
 -- the thread whose heading comes next, the line and the pieces that are left
 abbrev pub Headings : Type 0
@@ -43,7 +43,7 @@ heading_at h = do
   w ← word_here_at BadTable h.1 h.2
   if is_thread (thread_named w.0) h.0 then
       (if nat_le MOST_THREADS h.0 then fails TooLarge w.1 else (do
-        s ← separated w.1 w.2
+        s ← headings_separated w.1 w.2
         Ok (s.0, (h.0 + 1, s.1, s.2)))) else fails BadTable w.1
 
 abbrev pub too_many : Headings → Result Headings LitmusError
@@ -52,8 +52,8 @@ too_many h = fails TooLarge h.1
 unfoldable pub headings_at : ℕ → List Piece → Result Headings LitmusError
 headings_at line pieces = repeat_at (MOST_THREADS + 1) heading_at too_many (0, line, pieces)
 
-unfoldable pub header_at : ℕ → List Piece → Result Headings LitmusError
-header_at line pieces = start_at line pieces >>= λ at. headings_at at.0 at.1
+unfoldable pub header_row_at : ℕ → List Piece → Result Headings LitmusError
+header_row_at line pieces = start_at line pieces >>= λ at. headings_at at.0 at.1
 
 abbrev pub is_absent : ℕ → Name → Bool
 is_absent threads (Register thread register) = nat_le threads thread
@@ -68,7 +68,7 @@ unfoldable pub quantifier_next : List Piece → Bool
 quantifier_next [] = false
 quantifier_next (LineEnd ∷ pieces) = false
 quantifier_next (Sign b ∷ pieces) = false
-quantifier_next (Word w ∷ pieces) = is_there (quantifier_of w)
+quantifier_next (Word w ∷ pieces) = is_present (quantifier_of w)
 
 -- how many rows there are so far, their instructions, the width, the line and the pieces that are left
 abbrev pub Table : Type 0
@@ -81,7 +81,7 @@ next_row_at items threads t = do
   if quantifier_next at.1 then Ok (false, (t.0 + 1, t.1, t.2, at.0, at.1))
       else if nat_le MOST_ROWS t.0 then fails TooLarge at.0
       else (do
-        r ← row_at items threads (t.1, t.2, at.0, at.1)
+        r ← table_row_at items threads (t.1, t.2, at.0, at.1)
         Ok (true, (t.0 + 1, r.0, r.1, r.2, r.3)))
 
 abbrev pub too_long : Table → Result Table LitmusError

@@ -8,7 +8,7 @@ use Rattle.litmus_lexer.specs.Spelling.{thread_named}
 use Rattle.litmus_lexer.specs.declared.errors.Kind.{Kind}
 use Rattle.litmus_lexer.specs.declared.errors.Kind.TheVariants.{TooLarge, BadTable, BadInstruction, ValueRange}
 use Rattle.litmus_lexer.specs.declared.errors.Kind.TheVariants.{MixedWidth, AddressAsValue, ValueAsAddress, CutShort}
-use Rattle.litmus_parser.specs.Names.{address_of, is_there}
+use Rattle.litmus_parser.specs.Names.{address_of, is_present}
 use Rattle.litmus_parser.specs.RestLines.{RestAt}
 use Rattle.litmus_parser.specs.GrammarWords.{EndsLine}
 use Rattle.litmus_parser.specs.Keywords.{BeginsCondition}
@@ -55,12 +55,12 @@ pub data RowsUpTo (items : List Item) (threads : ℕ) (pieces : List Piece) : �
       → RowsUpTo items threads pieces (n + 1) v rest
 
 -- the shape of a row: words and signs, among them so many |, up to its only ;, with which its line ends
-pub data HasShape : ℕ → List Piece → Type 0 where
-  ends : {rest after : List Piece} → EndsLine rest after → HasShape 0 (Sign SEMICOLON ∷ rest)
-  bar : {bars : ℕ} {rest : List Piece} → HasShape bars rest → HasShape (bars + 1) (Sign BAR ∷ rest)
-  word : {bars : ℕ} {rest : List Piece} (w : List ℕ) → HasShape bars rest → HasShape bars (Word w ∷ rest)
-  sign : {bars : ℕ} {rest : List Piece} (b : ℕ) → b ≢ SEMICOLON → b ≢ BAR → HasShape bars rest →
-      HasShape bars (Sign b ∷ rest)
+pub data HasRowShape : ℕ → List Piece → Type 0 where
+  ends : {rest after : List Piece} → EndsLine rest after → HasRowShape 0 (Sign SEMICOLON ∷ rest)
+  bar : {bars : ℕ} {rest : List Piece} → HasRowShape bars rest → HasRowShape (bars + 1) (Sign BAR ∷ rest)
+  word : {bars : ℕ} {rest : List Piece} (w : List ℕ) → HasRowShape bars rest → HasRowShape bars (Word w ∷ rest)
+  sign : {bars : ℕ} {rest : List Piece} (b : ℕ) → b ≢ SEMICOLON → b ≢ BAR → HasRowShape bars rest →
+      HasRowShape bars (Sign b ∷ rest)
 
 -- after so many rows a line begins here, not with the condition, and it is line n
 pub record RowAt (items : List Item) (threads line : ℕ) (pieces : List Piece) (rows n : ℕ) (before : Option Width)
@@ -81,7 +81,7 @@ pub record CellAt (items : List Item) (threads line : ℕ) (pieces : List Piece)
   pub cells : List Cell
   pub row : RowAt items threads line pieces rows n width start
   pub few : rows < MOST_ROWS
-  pub shaped : HasShape (threads - 1) start
+  pub shaped : HasRowShape (threads - 1) start
   pub stand : AreCells items threads t 0 start width cells before here
   pub rest_at : RestAt n start n here
 
@@ -131,7 +131,7 @@ HasAddressIn f r = ⊥
 abbrev pub RowsCause : List Item → ℕ → ℕ → List Piece → Kind → ℕ → Type 0
 -- after less than 1024 rows a further one begins, and has not the shape of a row
 RowsCause items threads line pieces BadTable n = (rows : ℕ) × (before : Option Width) × (start : List Piece) ×
-    RowAt items threads line pieces rows n before start × (rows < MOST_ROWS) × (HasShape (threads - 1) start → ⊥)
+    RowAt items threads line pieces rows n before start × (rows < MOST_ROWS) × (HasRowShape (threads - 1) start → ⊥)
 -- after 1024 rows a further row begins
 RowsCause items threads line pieces TooLarge n =
     (before : Option Width) × (start : List Piece) × RowAt items threads line pieces MOST_ROWS n before start
@@ -154,7 +154,7 @@ RowsCause items threads line pieces MixedWidth n = (t s m : ℕ) × (form other 
     × (width_of form ≡ Some own) × (width_of other ≡ Some first) × (first ≢ own)
 -- an instruction has a register as a value that the block sets to an address
 RowsCause items threads line pieces AddressAsValue n = (t r : ℕ) × (form : Form) × FormAt items threads line pieces t
-    n form × HasValueIn form r × (is_there (address_of t r items) ≡ true)
+    n form × HasValueIn form r × (is_present (address_of t r items) ≡ true)
 -- an instruction has a register in parentheses that the block sets to no address
 RowsCause items threads line pieces ValueAsAddress n = (t r : ℕ) × (form : Form) × FormAt items threads line pieces t
     n form × HasAddressIn form r × (address_of t r items ≡ None)

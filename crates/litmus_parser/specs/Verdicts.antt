@@ -6,7 +6,7 @@ use Rattle.litmus_lexer.specs.declared.errors.Kind.TheVariants.{ValueAsAddress}
 use Rattle.litmus_lexer.specs.declared.errors.LitmusError.{LitmusError}
 use Rattle.text_lines.specs.Reading.{◌>>=◌}
 use Rattle.litmus_lexer.specs.Reading.{fails}
-use Rattle.litmus_parser.specs.Names.{address_of, is_there}
+use Rattle.litmus_parser.specs.Names.{address_of, is_present}
 use Rattle.litmus_parser.specs.declared.syntax.Width.{Width}
 use Rattle.litmus_parser.specs.declared.syntax.Width.TheVariants.{Single, Double}
 use Rattle.litmus_parser.specs.declared.syntax.Item.{Item}
@@ -29,7 +29,7 @@ kept_at (Some first) own line = if same_width first own then Ok (Some first) els
 -- an address register holds no value
 unfoldable pub value_register_at : List Item → ℕ → ℕ → ℕ → Result ℕ LitmusError
 value_register_at items thread register line =
-    if is_there (address_of thread register items) then fails AddressAsValue line else Ok register
+    if is_present (address_of thread register items) then fails AddressAsValue line else Ok register
 
 abbrev pub or_no_address : Option ℕ → ℕ → Result ℕ LitmusError
 or_no_address (Some location) line = Ok location

@@ -3,7 +3,8 @@
 ghost use Rattle.std.specs.Prelude.{◌≡◌};
 ghost use Rattle.litmus_lexer.specs.Views.{view_read};
 ghost use Rattle.litmus_lexer.specs.Reading.{Gives};
-ghost use Rattle.litmus_parser.specs.ReadingBlock.{entry_at, block_at, separated, added, whole_item_at, items_at};
+ghost use Rattle.litmus_parser.specs.ReadingBlock.{entry_at, initial_block_at, items_separated, added, whole_item_at};
+ghost use Rattle.litmus_parser.specs.ReadingBlock.{items_at};
 
 use crate::items::{is_set, item};
 use crate::syntax::Item;
@@ -14,9 +15,9 @@ use litmus_lexer::{
 use std::alloc::Global;
 
 /// Whether an item may follow: the position after a `;` or a `}`.
-#[tactic(auto, unfolding(crate::specs::ReadingBlock::separated))]
+#[tactic(auto, unfolding(crate::specs::ReadingBlock::items_separated))]
 fn separator<'a>(cursor: Cursor<'a>) -> Result<(bool, Cursor<'a>), ReadError>
-    ensures { Gives view_read result (separated cursor.entry.line cursor.entry.pieces) }
+    ensures { Gives view_read result (items_separated cursor.entry.line cursor.entry.pieces) }
 {
     let (found, after) = sign(cursor, Kind::BadInitial)?;
     match found {
@@ -96,14 +97,14 @@ fn items<'a>(
 }
 
 /// The items of the initial block, and the line after it.
-#[tactic(auto, unfolding(crate::specs::ReadingBlock::block_at))]
+#[tactic(auto, unfolding(crate::specs::ReadingBlock::initial_block_at))]
 pub fn block<'a>(
     alloc: Global,
     locations: &mut Locations,
     cursor: Cursor<'a>,
 ) -> Result<(Vec<Item>, Cursor<'a>), ReadError>
     ensures { Gives (λ r. (r.0.items, locations.new, r.1.line, r.1.pieces)) result
-        (block_at locations.old cursor.entry.line cursor.entry.pieces) }
+        (initial_block_at locations.old cursor.entry.line cursor.entry.pieces) }
 {
     let after = expect(cursor, OPENING_BRACE, Kind::BadInitial)?;
     let (items, after) = items(alloc, locations, after)?;

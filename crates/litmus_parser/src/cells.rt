@@ -4,7 +4,7 @@ ghost use Rattle.std.specs.Prelude.{◌≡◌, ◌<◌, ◌+◌, ◌++◌, [], �
 ghost use Rattle.litmus_lexer.specs.Reading.{Gives};
 ghost use Rattle.litmus_lexer.specs.Pieces.{pieces_of};
 ghost use Rattle.litmus_parser.specs.ReadingRows.{ends_line, has_shape, instruction_at, cell_at, column_at};
-ghost use Rattle.litmus_parser.specs.ReadingRows.{columns_at, row_at};
+ghost use Rattle.litmus_parser.specs.ReadingRows.{columns_at, table_row_at};
 
 use crate::forms::read_form;
 use crate::instructions::judge;
@@ -144,7 +144,7 @@ fn columns<'a>(
 }
 
 /// A row: its shape is tested before its cells.
-#[tactic(auto, unfolding(crate::specs::ReadingRows::row_at))]
+#[tactic(auto, unfolding(crate::specs::ReadingRows::table_row_at))]
 pub fn row<'a>(
     items: &[Item],
     cells: &mut Vec<Cell>,
@@ -153,7 +153,7 @@ pub fn row<'a>(
     cursor: Cursor<'a>,
 ) -> Result<(Option<Width>, Cursor<'a>), ReadError>
     ensures { Gives (λ r. (cells.new.items, r.0, r.1.line, r.1.pieces)) result
-        (row_at items.now threads
+        (table_row_at items.now threads
         (cells.old.items, width, cursor.entry.line, cursor.entry.pieces)) }
 {
     if !has_shape(threads.saturating_sub(1), cursor.rest()) {

@@ -6,7 +6,7 @@ ghost use Rattle.litmus_lexer.specs.Views.{view_read, view_position};
 ghost use Rattle.litmus_lexer.specs.Reading.{Gives};
 ghost use Rattle.litmus_parser.specs.Mnemonics.{mnemonic_of, swap_width, is_zero, is_fence_set};
 ghost use Rattle.litmus_parser.specs.ReadingForms.{register_at, based_at, offset_at, swapped_at, number_word_at};
-ghost use Rattle.litmus_parser.specs.ReadingForms.{set_at, fence_at, li_at, ori_at, operands_at, form_at};
+ghost use Rattle.litmus_parser.specs.ReadingForms.{fence_set_at, fence_at, li_at, ori_at, operands_at, form_at};
 
 use crate::syntax::Width;
 use litmus_lexer::{
@@ -189,9 +189,9 @@ fn ori<'a>(cursor: Cursor<'a>) -> Result<((u8, u32), Cursor<'a>), ReadError>
 }
 
 /// `r`, `w` or `rw`.
-#[tactic(auto, unfolding(crate::specs::ReadingForms::set_at))]
+#[tactic(auto, unfolding(crate::specs::ReadingForms::fence_set_at))]
 fn fence_set<'a>(cursor: Cursor<'a>) -> Result<Cursor<'a>, ReadError>
-    ensures { Gives view_position result (set_at cursor.entry.line cursor.entry.pieces) }
+    ensures { Gives view_position result (fence_set_at cursor.entry.line cursor.entry.pieces) }
 {
     let (word, after) = word_here(cursor, Kind::BadInstruction)?;
     if is_fence_set(word) {

@@ -4,8 +4,8 @@ ghost use Rattle.std.specs.Prelude.{◌≡◌, IfOk, ◌<◌, length};
 ghost use Rattle.std.specs.List.{list_any};
 ghost use Rattle.litmus_lexer.specs.Views.{view_read, view_as};
 ghost use Rattle.litmus_lexer.specs.Reading.{Gives};
-ghost use Rattle.litmus_parser.specs.Names.{same_name, address_of, is_there};
-ghost use Rattle.litmus_parser.specs.ReadingItems.{location_at, number_at, setting_at, register_item_at};
+ghost use Rattle.litmus_parser.specs.Names.{same_name, address_of, is_present};
+ghost use Rattle.litmus_parser.specs.ReadingItems.{location_at, small_number_at, setting_at, register_item_at};
 ghost use Rattle.litmus_parser.specs.ReadingItems.{location_item_at, item_at};
 
 use crate::syntax::{Item, Name, Setting};
@@ -49,7 +49,7 @@ pub fn address_of(items: &[Item], thread: u8, register: u8) -> Option<u8>
 
 /// Whether the items set the thread's register to a location.
 pub fn is_address(items: &[Item], thread: u8, register: u8) -> bool
-    ensures { result ≡ is_there (address_of thread register items.now) }
+    ensures { result ≡ is_present (address_of thread register items.now) }
 {
     address_of(items, thread, register).is_some()
 }
@@ -81,9 +81,9 @@ pub fn location(
 }
 
 /// A number that is a value.
-#[tactic(auto, unfolding(crate::specs::ReadingItems::number_at))]
+#[tactic(auto, unfolding(crate::specs::ReadingItems::small_number_at))]
 pub fn value<'a>(cursor: Cursor<'a>, kind: Kind) -> Result<(u32, Cursor<'a>), ReadError>
-    ensures { Gives view_read result (number_at kind cursor.entry.line cursor.entry.pieces) }
+    ensures { Gives view_read result (small_number_at kind cursor.entry.line cursor.entry.pieces) }
 {
     let (digits, after) = word(cursor, kind)?;
     if !is_number(digits) {

@@ -5,8 +5,8 @@ ghost use Rattle.litmus_lexer.specs.Views.{view_read, view_as};
 ghost use Rattle.litmus_lexer.specs.Reading.{Gives};
 ghost use Rattle.litmus_lexer.specs.Spelling.{thread_named};
 ghost use Rattle.litmus_parser.specs.Keywords.{quantifier_of};
-ghost use Rattle.litmus_parser.specs.ReadingTable.{is_absent, absent_line, separated, heading_at, headings_at};
-ghost use Rattle.litmus_parser.specs.ReadingTable.{header_at, quantifier_next, next_row_at, table_at, rows_at};
+ghost use Rattle.litmus_parser.specs.ReadingTable.{is_absent, absent_line, headings_separated, heading_at, headings_at};
+ghost use Rattle.litmus_parser.specs.ReadingTable.{header_row_at, quantifier_next, next_row_at, table_at, rows_at};
 
 use crate::cells::row;
 use crate::forms::is;
@@ -28,9 +28,9 @@ fn thread_named(word: &[u8]) -> Option<u8>
 }
 
 /// Whether a further heading follows: the position after a `|`, or the line after a `;`.
-#[tactic(auto, unfolding(crate::specs::ReadingTable::separated))]
+#[tactic(auto, unfolding(crate::specs::ReadingTable::headings_separated))]
 fn separator<'a>(cursor: Cursor<'a>) -> Result<(bool, Cursor<'a>), ReadError>
-    ensures { Gives view_read result (separated cursor.entry.line cursor.entry.pieces) }
+    ensures { Gives view_read result (headings_separated cursor.entry.line cursor.entry.pieces) }
 {
     let (token, after) = here(cursor, Kind::BadTable)?;
     match token {
@@ -77,9 +77,9 @@ fn headings<'a>(cursor: Cursor<'a>) -> Result<(u8, Cursor<'a>), ReadError>
 }
 
 /// The header row, after blank lines.
-#[tactic(auto, unfolding(crate::specs::ReadingTable::header_at))]
+#[tactic(auto, unfolding(crate::specs::ReadingTable::header_row_at))]
 pub fn header_row<'a>(cursor: Cursor<'a>) -> Result<(u8, Cursor<'a>), ReadError>
-    ensures { Gives view_read result (header_at cursor.entry.line cursor.entry.pieces) }
+    ensures { Gives view_read result (header_row_at cursor.entry.line cursor.entry.pieces) }
 {
     let after = start(cursor)?;
     let (threads, after) = headings(after)?;

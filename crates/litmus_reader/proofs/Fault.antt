@@ -22,7 +22,7 @@ use Rattle.litmus_parser.specs.Extents.{is_allowed, line_feeds, inner_line_feeds
 use Rattle.litmus_parser.proofs.Lemmas.{Explains, test_explains, told}
 use Rattle.litmus_reader.specs.Litmus.{Litmus}
 use Rattle.litmus_reader.specs.TestViews.{test_of}
-use Rattle.litmus_reader.specs.ReadingTest.{parts_at, is_cut_short, ended_by, read_at, Told, ToldSurely}
+use Rattle.litmus_reader.specs.ReadingTest.{parts_at, is_cut_short, ended_by, test_at, IsReadOrNoMemory, ToldSurely}
 use Rattle.litmus_reader.specs.Faults.{FaultBefore, FaultIn, good_lines, Fault, too_large, in_part, bad_byte}
 use Rattle.litmus_reader.specs.Faults.{cut_short}
 use Rattle.litmus_reader.specs.declared.contents.Test.{Test}
@@ -155,14 +155,14 @@ no-memory (ReadFault d) read h sure fault is = let same = sym h ∙ is in cc
 
 -- ---- the whole
 
-pub read_explains : (text : List ℕ) (e : LitmusError) → read_at text ≡ Err e → Fault text e.kind e.line
-unfolding read_at
+pub read_explains : (text : List ℕ) (e : LitmusError) → test_at text ≡ Err e → Fault text e.kind e.line
+unfolding test_at
 read_explains text e is =
-    told (Fault text) (λ (test : Litmus). Unit {0}) (read_at text) e
+    told (Fault text) (λ (test : Litmus). Unit {0}) (test_at text) e
     (test_explains (Fault text) (λ (test : Litmus). Unit {0}) (ltb 65536 (length text)) _ _
     (λ more. too_large (ltb-true _ _ more)) (λ few. within_explains text (ltb-false _ _ few))) is
 
-pub fault-told : (text : List ℕ) (r : Result Test LitmusError) → Told test_of r (read_at text) →
+pub fault-told : (text : List ℕ) (r : Result Test LitmusError) → IsReadOrNoMemory test_of r (test_at text) →
     IfErr r (λ e. (e ≡ record { line = 0; kind = NoMemory }) ⊎ Fault text e.kind e.line)
 fault-told text (Ok test) h = tt
 fault-told text (Err e) (inl memory) = inl memory
@@ -171,7 +171,7 @@ fault-told text (Err e) (inr fault) = inr (read_explains text e fault)
 -- a text with a fault before its initial block is told its fault, and never that memory ran out
 pub early-told : (text : List ℕ) (r : Result Test LitmusError) →
     (65536 < length text → r ≡ Err (record { line = 1; kind = TooLarge })) →
-    ((e : LitmusError) → preamble_at (reach text).0 ≡ Err e → ToldSurely test_of r (read_at text))
+    ((e : LitmusError) → preamble_at (reach text).0 ≡ Err e → ToldSurely test_of r (test_at text))
     → (kind : Kind) (n : ℕ) → FaultBefore (good_lines text) kind n →
     IfErr r (λ e. (e.kind ≢ NoMemory) × Fault text e.kind e.line)
 early-told text r large sure kind n fault =
@@ -190,7 +190,7 @@ early-told text r large sure kind n fault =
         subst (λ (x : LitmusError). (x.kind ≢ NoMemory) × Fault text x.kind x.line) (sym same)
         (λ lacks. absurd cc, too_large more)
 
-    told-sure : (text : List ℕ) (r : Result Test LitmusError) → ToldSurely test_of r (read_at text) →
+    told-sure : (text : List ℕ) (r : Result Test LitmusError) → ToldSurely test_of r (test_at text) →
         IfErr r (λ e. (e.kind ≢ NoMemory) × Fault text e.kind e.line)
     told-sure text (Ok test) h = tt
     told-sure text (Err e) h =

@@ -17,8 +17,8 @@ use Rattle.litmus_parser.specs.Names.{Names}
 use Rattle.litmus_parser.specs.Trees.{Tree}
 use Rattle.litmus_parser.specs.ReadingHeader.{Lines, first_line_at, header_line_at, cut_short, preamble_at}
 use Rattle.litmus_parser.specs.ReadingHeader as heads
-use Rattle.litmus_parser.specs.ReadingBlock.{Block, block_at}
-use Rattle.litmus_parser.specs.ReadingTable.{Headings, is_absent, absent_line, header_at, rows_at}
+use Rattle.litmus_parser.specs.ReadingBlock.{Block, initial_block_at}
+use Rattle.litmus_parser.specs.ReadingTable.{Headings, is_absent, absent_line, header_row_at, rows_at}
 use Rattle.litmus_parser.specs.ReadingEnd.{condition_at}
 use Rattle.litmus_parser.specs.declared.syntax.Name.{Name}
 use Rattle.litmus_parser.specs.declared.syntax.Name.TheVariants.{Register, Location}
@@ -32,7 +32,7 @@ use Rattle.litmus_parser.proofs.Lemmas.{header_threads, begins-next, rows_explai
 use Rattle.litmus_parser.proofs.Lemmas.{condition_explains}
 use Rattle.litmus_reader.specs.Litmus.{Litmus, settings_of}
 use Rattle.litmus_reader.specs.Seen.{seen_in}
-use Rattle.litmus_reader.specs.ReadingTest.{unless_absent, table_at, parts_at}
+use Rattle.litmus_reader.specs.ReadingTest.{unless_absent, whole_table_at, parts_at}
 use Rattle.litmus_reader.specs.Grammar.{IsThere}
 use Rattle.litmus_reader.specs.Faults.{AreHeaderLines, none, more, IsHeaded, OpensBlock, HasBlock, HasHeaderRow}
 use Rattle.litmus_reader.specs.Faults.{HasRows, HasAbsentThread, FaultBefore, empty, first_line, header_line}
@@ -181,10 +181,10 @@ abbrev Blocked : List ℕ → Block → Type 0
 Blocked text b = HasBlock text b.0 b.1 b.2 b.3
 
 block_part : (text : List ℕ) (s : Lines) → InBlock text s → Explains (FaultIn text) (Blocked text)
-    (block_at [] s.0 (pieces_of s.1))
+    (initial_block_at [] s.0 (pieces_of s.1))
 block_part text s h =
     let few : length (pieces_of s.1) ≤ 65536 = omega (arith, h.1, length-pieces s.1) in
-    let r : Result Block LitmusError = block_at [] s.0 (pieces_of s.1) in
+    let r : Result Block LitmusError = initial_block_at [] s.0 (pieces_of s.1) in
     explained (FaultIn text) (Blocked text) r (λ e fault.
     block h.0 (λ items names rest is. let again = block_again s.0 (pieces_of s.1) items names rest few is in
     not_both r e _ fault again.2) (block_explains s.0 (pieces_of s.1) e few fault)) (λ b answer.
@@ -205,10 +205,10 @@ abbrev HeadedRow : List ℕ → Block → Headings → Type 0
 HeadedRow text b h = HasHeaderRow text b.0 b.1 h.0 h.1 h.2
 
 header_part : (text : List ℕ) (b : Block) → HasBlock text b.0 b.1 b.2 b.3 → Explains (FaultIn text) (HeadedRow text b)
-    (header_at b.2 b.3)
+    (header_row_at b.2 b.3)
 header_part text b has =
-    explained (FaultIn text) (HeadedRow text b) (header_at b.2 b.3) (λ e fault.
-    header_row has (λ threads rest is. not_both (header_at b.2 b.3) e _ fault (header_again b.2 b.3 threads rest
+    explained (FaultIn text) (HeadedRow text b) (header_row_at b.2 b.3) (λ e fault.
+    header_row has (λ threads rest is. not_both (header_row_at b.2 b.3) e _ fault (header_again b.2 b.3 threads rest
     is).1) (header_explains b.2 b.3 e fault)) (λ h answer.
     record {
       first = b.2;
@@ -306,10 +306,10 @@ rows_part text b h has there =
     })
 
 table_part : (text : List ℕ) (b : Block) → HasBlock text b.0 b.1 b.2 b.3 → Explains (FaultIn text) (Rowed text b)
-    (table_at b.0 b.2 b.3)
-unfolding table_at
+    (whole_table_at b.0 b.2 b.3)
+unfolding whole_table_at
 table_part text b has =
-    bind_explains (FaultIn text) (HeadedRow text b) (Rowed text b) (header_at b.2 b.3) _
+    bind_explains (FaultIn text) (HeadedRow text b) (Rowed text b) (header_row_at b.2 b.3) _
     (header_part text b has) (λ h is headed.
     unless_explains (FaultIn text) (Rowed text b) (absent_line h.0 b.0) _
     (λ n e. absent_thread headed (absent-first h.0 b.0 n e)) (λ e.
@@ -334,9 +334,10 @@ parts_explain text le =
     let Any : Litmus → Type 0 = λ test. Unit {0} in
     bind_explains (FaultIn text) (Opened text) Any (preamble_at text) _ (above_explains text (Opened text)
     (preamble_at text) (opening_explains text le)) (λ o is h.
-    bind_explains (FaultIn text) (Blocked text) Any (block_at [] o.1.0 (pieces_of o.1.1)) _
+    bind_explains (FaultIn text) (Blocked text) Any (initial_block_at [] o.1.0 (pieces_of o.1.1)) _
     (block_part text o.1 h) (λ b is_b has.
-    bind_explains (FaultIn text) (Rowed text b) Any (table_at b.0 b.2 b.3) _ (table_part text b has) (λ t is_t rowed.
+    bind_explains (FaultIn text) (Rowed text b) Any (whole_table_at b.0 b.2 b.3) _
+    (table_part text b has) (λ t is_t rowed.
     bind_explains (FaultIn text) (λ (c : Quantifier × Tree × Names). Unit {0}) Any (condition_at b.0 t.0 b.1 t.2 t.3)
     (λ c. Ok (record {
       name = o.0;

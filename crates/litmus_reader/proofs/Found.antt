@@ -14,8 +14,8 @@ use Rattle.litmus_lexer.specs.Reading.{fails, fault_at}
 use Rattle.litmus_lexer.proofs.Lemmas.{repeat-takes, title-takes, whole-front}
 use Rattle.litmus_parser.specs.ReadingHeader.{Lines, first_line_at, header_line_at, cut_short, preamble_at}
 use Rattle.litmus_parser.specs.ReadingHeader as heads
-use Rattle.litmus_parser.specs.ReadingBlock.{block_at}
-use Rattle.litmus_parser.specs.ReadingTable.{is_absent, absent_line, header_at, rows_at}
+use Rattle.litmus_parser.specs.ReadingBlock.{initial_block_at}
+use Rattle.litmus_parser.specs.ReadingTable.{is_absent, absent_line, header_row_at, rows_at}
 use Rattle.litmus_parser.specs.ReadingEnd.{condition_at}
 use Rattle.litmus_parser.specs.Extents.{is_allowed, good, whole_lines, inner_line_feeds, line_feeds, reach}
 use Rattle.litmus_parser.specs.GrammarTable.{IsHeaderRow, AreRows}
@@ -28,7 +28,8 @@ use Rattle.litmus_parser.proofs.Lemmas.{header_takes, rows_take, condition_takes
 use Rattle.litmus_reader.specs.Litmus.{Litmus, settings_of}
 use Rattle.litmus_reader.specs.Seen.{seen_in}
 use Rattle.litmus_reader.specs.TestViews.{test_of}
-use Rattle.litmus_reader.specs.ReadingTest.{unless_absent, table_at, parts_at, is_cut_short, ended_by, read_at, Told}
+use Rattle.litmus_reader.specs.ReadingTest.{unless_absent, whole_table_at, parts_at, is_cut_short, ended_by, test_at}
+use Rattle.litmus_reader.specs.ReadingTest.{IsReadOrNoMemory}
 use Rattle.litmus_reader.specs.Grammar.{IsHeader, ends, more, IsThere, IsTest}
 use Rattle.litmus_reader.specs.declared.contents.Test.{Test}
 
@@ -114,10 +115,10 @@ TakesTable items pieces x = (rows : List Piece) × IsHeaderRow pieces x.0 rows �
     AllByRecursion (λ item. IsThere x.0 item.name) items × AreRows items x.0 0 rows None x.1 x.3
 
 table_takes : (items : List Item) (line : ℕ) (pieces : List Piece) (x : ℕ × List Cell × ℕ × List Piece) →
-    table_at items line pieces ≡ Ok x → TakesTable items pieces x
-unfolding table_at
+    whole_table_at items line pieces ≡ Ok x → TakesTable items pieces x
+unfolding whole_table_at
 table_takes items line pieces x e =
-    let h = bind_ok (header_at line pieces) _ x e in
+    let h = bind_ok (header_row_at line pieces) _ x e in
     let a = none_absent (absent_line h.0.0 items) (rows_at items h.0.0 [] h.0.1 h.0.2 >>= λ r.
     Ok (h.0.0, r.0, r.1, r.2)) x h.2 in
     let r = bind_ok (rows_at items h.0.0 [] h.0.1 h.0.2) (λ r. Ok (h.0.0, r.0, r.1, r.2)) x a.1 in
@@ -131,8 +132,8 @@ pub parts_take : (text : List ℕ) (test : Litmus) → length text ≤ 65536 →
 unfolding parts_at
 parts_take text test le allowed e =
     let o = bind_ok (preamble_at text) _ test e in
-    let b = bind_ok (block_at [] o.0.1.0 (pieces_of o.0.1.1)) _ test o.2 in
-    let t = bind_ok (table_at b.0.0 b.0.2 b.0.3) _ test b.2 in
+    let b = bind_ok (initial_block_at [] o.0.1.0 (pieces_of o.0.1.1)) _ test o.2 in
+    let t = bind_ok (whole_table_at b.0.0 b.0.2 b.0.3) _ test b.2 in
     let c = bind_ok (condition_at b.0.0 t.0.0 b.0.1 t.0.2 t.0.3)
     (λ c. Ok (record {
       name = o.0.0;
@@ -190,8 +191,8 @@ reached true x y l m r e h = (refl, ap (λ (p : List ℕ × LitmusError). p.0) e
 reached false x y l m r e h = let no : is_cut_short r.1.kind ≡ false =
     ap (λ (p : List ℕ × LitmusError). is_cut_short p.1.kind) e in absurd cc
 
-read_takes : (text : List ℕ) (test : Litmus) → read_at text ≡ Ok test → IsTest text test
-unfolding read_at
+read_takes : (text : List ℕ) (test : Litmus) → test_at text ≡ Ok test → IsTest text test
+unfolding test_at
 read_takes text test e =
     let small = else_ok (ltb 65536 (length text)) _ (ended_by (reach text).1 (parts_at (reach text).0)) test e in
     let end = ended-ok (reach text).1 (parts_at (reach text).0) test small.1 in
@@ -200,7 +201,7 @@ read_takes text test e =
     parts_take text test (ltb-false _ _ small.0) (whole-front is_allowed text (eqb-true _ _ r.0))
     (ap parts_at (sym r.1) ∙ end.1)
 
-pub found-told : (text : List ℕ) (r : Result Test LitmusError) → Told test_of r (read_at text) →
+pub found-told : (text : List ℕ) (r : Result Test LitmusError) → IsReadOrNoMemory test_of r (test_at text) →
     IfOk r (λ test. IsTest text (test_of test))
 found-told text (Ok test) h = read_takes text (test_of test) h
 found-told text (Err e) h = tt

@@ -25,7 +25,7 @@ use Rattle.litmus_parser.proofs.Lemmas.{AreAlike, alike-address, alike-all, bloc
 use Rattle.litmus_parser.proofs.Lemmas.{condition_again}
 use Rattle.litmus_reader.specs.Litmus.{Litmus}
 use Rattle.litmus_reader.specs.TestViews.{test_of}
-use Rattle.litmus_reader.specs.ReadingTest.{table_at, parts_at, read_at, Told}
+use Rattle.litmus_reader.specs.ReadingTest.{whole_table_at, parts_at, test_at, IsReadOrNoMemory}
 use Rattle.litmus_reader.specs.Grammar.{IsHeader, ends, more, IsThere, IsTest}
 use Rattle.litmus_reader.specs.declared.contents.Test.{Test}
 use Rattle.litmus_parser.specs.Keywords.{quantifier_of}
@@ -102,8 +102,8 @@ table_again : (items items' : List Item) (line : ℕ) (pieces : List Piece) (thr
     → AreAlike items' items → IsHeaderRow pieces threads body_rows →
     AllByRecursion (λ item. IsThere threads item.name) items → AreRows items threads 0 body_rows None cells rest →
     quantifier_next rest ≡ true
-    → (line' : ℕ) × (table_at items' line pieces ≡ Ok (threads, cells, line', rest))
-unfolding table_at
+    → (line' : ℕ) × (whole_table_at items' line pieces ≡ Ok (threads, cells, line', rest))
+unfolding whole_table_at
 table_again items items' line pieces threads body_rows cells rest alike header there rows ahead =
     let h = header_again line pieces threads body_rows header in
     let r = rows_again items items' threads h.0 body_rows cells rest (alike-address items' items alike) rows ahead in
@@ -125,14 +125,15 @@ parts_again text test h =
     (alike-address b.0 h.items b.3) h.condition in
     rw (o.1, b.2, t.1, c, b.3, ← h.items_are, ← h.seen) refl
 
-pub read_again : (text : List ℕ) (test : Litmus) → IsTest text test → read_at text ≡ Ok test
-unfolding read_at
+pub read_again : (text : List ℕ) (test : Litmus) → IsTest text test → test_at text ≡ Ok test
+unfolding test_at
 read_again text test h =
     let small : ltb 65536 (length text) ≡ false = le-ltb _ _ h.length_is in
     let whole : eqb (prefix_len is_allowed text) (length text) ≡ true =
     eq-eqb _ _ (front-whole is_allowed text h.allowed) in
     rw (small, whole, parts_again text test h) refl
 
-pub only-told : (text : List ℕ) (r : Result Test LitmusError) → Told test_of r (read_at text) → (test : Litmus) →
-    IsTest text test → Told test_of r (Ok test)
-only-told text r told test h = subst (Told test_of r) (read_again text test h) told
+pub only-told : (text : List ℕ) (r : Result Test LitmusError) → IsReadOrNoMemory test_of r (test_at text) →
+    (test : Litmus) →
+    IsTest text test → IsReadOrNoMemory test_of r (Ok test)
+only-told text r told test h = subst (IsReadOrNoMemory test_of r) (read_again text test h) told

@@ -126,8 +126,8 @@ abbrev pub good_lines : List ℕ → List ℕ
 good_lines text = (reach text).0
 
 -- the text is a test, or the beginning of one, after which more is wanted
-abbrev pub GoesOn : List ℕ → Type 0
-GoesOn text = ((test : Litmus) × IsTest text test) ⊎ ((n : ℕ) × FaultIn text CutShort n)
+abbrev pub IsTestOrBeginning : List ℕ → Type 0
+IsTestOrBeginning text = ((test : Litmus) × IsTest text test) ⊎ ((n : ℕ) × FaultIn text CutShort n)
 
 -- The cause of a kind of fault, in line n of a text.
 pub data Fault (text : List ℕ) : Kind → ℕ → Type 0 where
@@ -137,7 +137,7 @@ pub data Fault (text : List ℕ) : Kind → ℕ → Type 0 where
   in_part : {kind : Kind} {n : ℕ} → length text ≤ MOST_BYTES → FaultIn (good_lines text) kind n →
       kind ≢ CutShort → Fault text kind n
   -- a byte isn't allowed; the first such one stands in this line, and the lines before it have no fault of their own
-  bad_byte : length text ≤ MOST_BYTES → list_all is_allowed text ≡ false → GoesOn (good_lines text) →
+  bad_byte : length text ≤ MOST_BYTES → list_all is_allowed text ≡ false → IsTestOrBeginning (good_lines text) →
       Fault text BadByte (1 + line_feeds (good text))
   -- every byte is allowed, but they end too early; the line is the last
   cut_short : {n : ℕ} → length text ≤ MOST_BYTES → list_all is_allowed text ≡ true → FaultIn text CutShort n →

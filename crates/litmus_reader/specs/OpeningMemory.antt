@@ -16,13 +16,13 @@ is_of_location (Location l) = true
 is_of_location (Register t r) = false
 
 -- an item that sets a location sets its word
-abbrev pub with_word : Name → Setting → Words → Words
-with_word (Location l) (Number value) words = finite.insert words l value
-with_word (Location l) (Address m) words = words
-with_word (Register t r) (Number value) words = words
-with_word (Register t r) (Address l) words = words
+abbrev pub with_setting : Name → Setting → Words → Words
+with_setting (Location l) (Number value) words = finite.insert words l value
+with_setting (Location l) (Address m) words = words
+with_setting (Register t r) (Number value) words = words
+with_setting (Register t r) (Address l) words = words
 
 -- the words that the items set
 unfoldable pub words_opened : List (Name × Setting) → Words → Words
 words_opened [] words = words
-words_opened (item ∷ items) words = words_opened items (with_word item.0 item.1 words)
+words_opened (item ∷ items) words = words_opened items (with_setting item.0 item.1 words)

@@ -9,8 +9,8 @@ use Rattle.litmus_lexer.specs.declared.errors.LitmusError.{LitmusError}
 use Rattle.text_lines.specs.Reading.{◌>>=◌}
 use Rattle.litmus_lexer.specs.Reading.{fails}
 use Rattle.litmus_parser.specs.ReadingHeader.{preamble_at}
-use Rattle.litmus_parser.specs.ReadingBlock.{block_at}
-use Rattle.litmus_parser.specs.ReadingTable.{header_at, absent_line, rows_at}
+use Rattle.litmus_parser.specs.ReadingBlock.{initial_block_at}
+use Rattle.litmus_parser.specs.ReadingTable.{header_row_at, absent_line, rows_at}
 use Rattle.litmus_parser.specs.ReadingEnd.{condition_at}
 use Rattle.litmus_parser.specs.Extents.{reach}
 use Rattle.litmus_parser.specs.declared.syntax.Item.{Item}
@@ -23,16 +23,16 @@ unless_absent None read = read
 unless_absent (Some line) read = fails BadInitial line
 
 -- items for threads that are not there are tested once the header row is read
-unfoldable pub table_at : List Item → ℕ → List Piece → Result (ℕ × List Cell × ℕ × List Piece) LitmusError
-table_at items line pieces = do
-  h ← header_at line pieces
+unfoldable pub whole_table_at : List Item → ℕ → List Piece → Result (ℕ × List Cell × ℕ × List Piece) LitmusError
+whole_table_at items line pieces = do
+  h ← header_row_at line pieces
   unless_absent (absent_line h.0 items) (rows_at items h.0 [] h.1 h.2 >>= λ r. Ok (h.0, r.0, r.1, r.2))
 
 unfoldable pub parts_at : List ℕ → Result Litmus LitmusError
 parts_at text = do
   o ← preamble_at text
-  b ← block_at [] o.1.0 (pieces_of o.1.1)
-  t ← table_at b.0 b.2 b.3
+  b ← initial_block_at [] o.1.0 (pieces_of o.1.1)
+  t ← whole_table_at b.0 b.2 b.3
   c ← condition_at b.0 t.0 b.1 t.2 t.3
   Ok (record {
     name = o.0;
@@ -55,14 +55,14 @@ abbrev pub ended_by : LitmusError → Result Litmus LitmusError → Result Litmu
 ended_by end (Ok test) = if is_cut_short end.kind then Ok test else Err end
 ended_by end (Err fault) = if is_cut_short fault.kind then Err end else Err fault
 
-unfoldable pub read_at : List ℕ → Result Litmus LitmusError
-read_at text = if nat_lt MOST_BYTES (length text) then fails TooLarge 1 else ended_by (reach text).1
+unfoldable pub test_at : List ℕ → Result Litmus LitmusError
+test_at text = if nat_lt MOST_BYTES (length text) then fails TooLarge 1 else ended_by (reach text).1
     (parts_at (reach text).0)
 
 -- what a function answered, seen by view, is what is read, unless memory ran out
-abbrev pub Told : {X : Type 0} → (X → Litmus) → Result X LitmusError → Result Litmus LitmusError → Type 0
-Told view (Ok test) read = read ≡ Ok (view test)
-Told view (Err e) read = (e ≡ record { line = 0; kind = NoMemory }) ⊎ (read ≡ Err e)
+abbrev pub IsReadOrNoMemory : {X : Type 0} → (X → Litmus) → Result X LitmusError → Result Litmus LitmusError → Type 0
+IsReadOrNoMemory view (Ok test) read = read ≡ Ok (view test)
+IsReadOrNoMemory view (Err e) read = (e ≡ record { line = 0; kind = NoMemory }) ⊎ (read ≡ Err e)
 
 -- the same without fail
 abbrev pub ToldSurely : {X : Type 0} → (X → Litmus) → Result X LitmusError → Result Litmus LitmusError → Type 0

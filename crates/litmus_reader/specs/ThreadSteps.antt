@@ -21,12 +21,12 @@ or_zero (Some value) = value
 or_zero None = 0
 
 -- a register's value
-abbrev pub value_in : List ℕ → ℕ → ℕ
-value_in registers register = or_zero (slice_get registers register)
+abbrev pub register_value : List ℕ → ℕ → ℕ
+register_value registers register = or_zero (slice_get registers register)
 
 -- writes to x0 are ignored
-abbrev pub written : List ℕ → ℕ → ℕ → List ℕ
-written registers register value =
+abbrev pub with_register : List ℕ → ℕ → ℕ → List ℕ
+with_register registers register value =
     if nat_lt 0 register && nat_lt register 32 then slice_set registers register value else registers
 
 -- an instruction that the thread does without memory: what its registers are then
@@ -34,7 +34,7 @@ abbrev pub after_local : Instruction → List ℕ → Option (List ℕ)
 after_local (does.Load target location) registers = None
 after_local (does.Store source location) registers = None
 after_local (does.Swap target source location) registers = None
-after_local (does.Set target value) registers = Some (written registers target value)
+after_local (does.Set target value) registers = Some (with_register registers target value)
 after_local does.Fence registers = Some registers
 
 abbrev pub goes_on : {A B : Type 0} → Option A → (A → B) → B → B
@@ -42,55 +42,57 @@ goes_on (Some x) f stop = f x
 goes_on None f stop = stop
 
 -- a thread whose next instruction is a memory instruction, or which has finished
-unfoldable pub settled : ℕ → List ℕ → List Cell → Thread
-settled thread registers [] = record { thread = thread; registers = registers; rest = [] }
-settled thread registers (cell ∷ rest) =
+unfoldable pub settled_thread : ℕ → List ℕ → List Cell → Thread
+settled_thread thread registers [] = record { thread = thread; registers = registers; rest = [] }
+settled_thread thread registers (cell ∷ rest) =
     if cell.thread == thread
-    then goes_on (after_local cell.instruction registers) (λ registers. settled thread registers rest)
+    then goes_on (after_local cell.instruction registers) (λ registers. settled_thread thread registers rest)
     (record { thread = thread; registers = registers; rest = cell ∷ rest })
-    else settled thread registers rest
+    else settled_thread thread registers rest
 
 abbrev pub with_item : ℕ → Name → Setting → List ℕ → List ℕ
 with_item thread (Register owner register) (Number value) registers =
-    if owner == thread then written registers register value else registers
+    if owner == thread then with_register registers register value else registers
 with_item thread (Register owner register) (Address l) registers = registers
 with_item thread (Location l) (Number value) registers = registers
 with_item thread (Location l) (Address m) registers = registers
 
 -- the registers as the items set them
-unfoldable pub opened : ℕ → List (Name × Setting) → List ℕ → List ℕ
-opened thread [] registers = registers
-opened thread (item ∷ items) registers = opened thread items (with_item thread item.0 item.1 registers)
+unfoldable pub with_items : ℕ → List (Name × Setting) → List ℕ → List ℕ
+with_items thread [] registers = registers
+with_items thread (item ∷ items) registers = with_items thread items (with_item thread item.0 item.1 registers)
 
-abbrev pub operation_of : Instruction → List ℕ → Option Op
-operation_of (does.Load target location) registers = Some (op.Load location)
-operation_of (does.Store source location) registers = Some (op.Store location (value_in registers source))
-operation_of (does.Swap target source location) registers = Some (op.Swap location (value_in registers source))
-operation_of (does.Set target value) registers = None
-operation_of does.Fence registers = None
+abbrev pub instruction_operation : Instruction → List ℕ → Option Op
+instruction_operation (does.Load target location) registers = Some (op.Load location)
+instruction_operation (does.Store source location) registers =
+    Some (op.Store location (register_value registers source))
+instruction_operation (does.Swap target source location) registers =
+    Some (op.Swap location (register_value registers source))
+instruction_operation (does.Set target value) registers = None
+instruction_operation does.Fence registers = None
 
 abbrev pub first_operation : List Cell → List ℕ → Option Op
 first_operation [] registers = None
-first_operation (cell ∷ rest) registers = operation_of cell.instruction registers
+first_operation (cell ∷ rest) registers = instruction_operation cell.instruction registers
 
 -- the operation that a thread does next
-abbrev pub next_of : Thread → Option Op
-next_of t = first_operation t.rest t.registers
+abbrev pub next_operation : Thread → Option Op
+next_operation t = first_operation t.rest t.registers
 
 -- where a received value goes
 abbrev pub received_by : Instruction → Option ℕ → List ℕ → List ℕ
 received_by instruction None registers = registers
-received_by (does.Load target location) (Some value) registers = written registers target value
+received_by (does.Load target location) (Some value) registers = with_register registers target value
 received_by (does.Store source location) (Some value) registers = registers
-received_by (does.Swap target source location) (Some value) registers = written registers target value
+received_by (does.Swap target source location) (Some value) registers = with_register registers target value
 received_by (does.Set target n) (Some value) registers = registers
 received_by does.Fence (Some value) registers = registers
 
-abbrev pub behind_first : ℕ → List ℕ → Option ℕ → List Cell → Thread
-behind_first thread registers received [] = record { thread = thread; registers = registers; rest = [] }
-behind_first thread registers received (cell ∷ rest) =
-    settled thread (received_by cell.instruction received registers) rest
+abbrev pub behind_first_cell : ℕ → List ℕ → Option ℕ → List Cell → Thread
+behind_first_cell thread registers received [] = record { thread = thread; registers = registers; rest = [] }
+behind_first_cell thread registers received (cell ∷ rest) =
+    settled_thread thread (received_by cell.instruction received registers) rest
 
 -- a thread whose next operation is done, with the value that it received
 abbrev pub done_with : Thread → Option ℕ → Thread
-done_with t received = behind_first t.thread t.registers received t.rest
+done_with t received = behind_first_cell t.thread t.registers received t.rest

@@ -4,10 +4,10 @@ use Rattle.litmus_parser.specs.Names.{same_name}
 use Rattle.litmus_parser.specs.Trees.{Tree, Is, Both, Either}
 use Rattle.litmus_parser.specs.declared.syntax.Name.{Name}
 use Rattle.litmus_parser.specs.declared.syntax.Name.TheVariants.{Register, Location}
-use Rattle.litmus_reader.specs.ThreadSteps.{Thread, or_zero, value_in}
+use Rattle.litmus_reader.specs.ThreadSteps.{Thread, or_zero, register_value}
 
 abbrev pub register_in : Option Thread → ℕ → ℕ
-register_in (Some thread) register = value_in thread.registers register
+register_in (Some thread) register = register_value thread.registers register
 register_in None register = 0
 
 -- a register's value in its thread, or a location's in memory

@@ -2,7 +2,7 @@
 
 ghost use Rattle.std.specs.Prelude.{◌≡◌, ◌≤◌, ◌<◌, length, replicate, slice_get, option_map};
 ghost use Rattle.litmus_reader.specs.TestViews.{test_of};
-ghost use Rattle.litmus_reader.specs.ThreadSteps.{settled, opened};
+ghost use Rattle.litmus_reader.specs.ThreadSteps.{settled_thread, with_items};
 
 use crate::threads::ThreadState;
 use litmus_lexer::Locations;
@@ -72,8 +72,8 @@ impl Test {
 
     /// A thread as the test opens it; one that is not there has finished.
     pub fn start(&self, thread: u8) -> ThreadState<'_>
-        ensures { result ≡ settled thread (opened thread (test_of self.now).items (replicate 32 0))
-            (test_of self.now).cells }
+        ensures { result ≡ settled_thread thread (with_items thread (test_of self.now).items
+            (replicate 32 0)) (test_of self.now).cells }
     {
         ThreadState::open(thread, &self.items, &self.cells)
     }

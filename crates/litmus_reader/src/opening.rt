@@ -4,7 +4,7 @@ ghost use Rattle.std.specs.Prelude.{◌≡◌, false, IfOk, IsOk, OnOk};
 ghost use Rattle.std.specs.List.{list_any};
 ghost use Rattle.std.specs.FinMap as finite;
 ghost use Rattle.litmus_reader.specs.TestViews.{test_of};
-ghost use Rattle.litmus_reader.specs.OpeningMemory.{is_of_location, with_word, words_opened};
+ghost use Rattle.litmus_reader.specs.OpeningMemory.{is_of_location, with_setting, words_opened};
 
 use crate::contents::Test;
 use crate::threads::address;
@@ -14,7 +14,7 @@ use std::alloc::AllocError;
 
 /// Sets the word of an item that sets a location.
 fn set_word(memory: &mut Memory, item: Item) -> Result<(), AllocError>
-    ensures set { OnOk result (memory.new ≡ with_word item.name item.setting memory.old) }
+    ensures set { OnOk result (memory.new ≡ with_setting item.name item.setting memory.old) }
     ensures sure { is_of_location item.name ≡ false → IsOk result }
 {
     match (item.name, item.setting) {

@@ -8,7 +8,8 @@ ghost use Rattle.litmus_parser.specs.TreeViews.{tree_of};
 ghost use Rattle.litmus_reader.specs.Litmus.{Litmus};
 ghost use Rattle.litmus_reader.specs.TestViews.{test_of};
 ghost use Rattle.litmus_reader.specs.Seen.{seen_in, with_name};
-ghost use Rattle.litmus_reader.specs.ReadingTest.{table_at, parts_at, is_cut_short, read_at, Told, ToldSurely};
+ghost use Rattle.litmus_reader.specs.ReadingTest.{whole_table_at, parts_at, is_cut_short, test_at, IsReadOrNoMemory};
+ghost use Rattle.litmus_reader.specs.ReadingTest.{ToldSurely};
 ghost use Rattle.litmus_reader.specs.Grammar.{IsTest};
 ghost use Rattle.litmus_reader.specs.Faults.{FaultBefore, good_lines, Fault};
 ghost use Rattle.litmus_lexer.specs.declared.errors.Kind.TheVariants.{NoMemory};
@@ -24,14 +25,14 @@ use std::alloc::{AllocError, Global};
 
 /// The table after the initial block: how many threads there are, their instructions, and the
 /// position at which the condition begins.
-#[tactic(auto, unfolding(crate::specs::ReadingTest::table_at))]
+#[tactic(auto, unfolding(crate::specs::ReadingTest::whole_table_at))]
 fn table<'a>(
     alloc: Global,
     items: &[Item],
     cursor: Cursor<'a>,
 ) -> Result<(u8, Vec<Cell>, Cursor<'a>), ReadError>
     ensures { Gives (λ r. (r.0, r.1.items, r.2.line, r.2.pieces)) result
-        (table_at items.now cursor.entry.line cursor.entry.pieces) }
+        (whole_table_at items.now cursor.entry.line cursor.entry.pieces) }
 {
     let (threads, after) = header_row(cursor)?;
     if let Some(line) = absent_line(items, threads) {
@@ -105,13 +106,13 @@ fn is_cut_short(kind: Kind) -> bool
     matches!(kind, Kind::CutShort)
 }
 
-#[tactic(auto, unfolding(crate::specs::ReadingTest::read_at))]
+#[tactic(auto, unfolding(crate::specs::ReadingTest::test_at))]
 fn read_whole(alloc: Global, text: &[u8]) -> Result<Test, LitmusError>
-    ensures told { Told test_of result (read_at text.now) }
+    ensures told { IsReadOrNoMemory test_of result (test_at text.now) }
     ensures large { MOST_BYTES < length text.now →
         result ≡ Err (record { line = 1; kind = Kind.TooLarge }) }
     ensures sure { (e : LitmusError) → preamble_at (good_lines text.now) ≡ Err e →
-        ToldSurely test_of result (read_at text.now) }
+        ToldSurely test_of result (test_at text.now) }
 {
     if text.len() > MOST_BYTES {
         return Err(LitmusError {
@@ -150,7 +151,8 @@ pub fn read(alloc: Global, text: &[u8]) -> Result<Test, LitmusError>
     // What is read is what the text says.
     ensures found { IfOk result (λ test. IsTest text.now (test_of test)) }
     // Every text of the grammar is read, as the test that it stands for, unless memory ran out.
-    ensures only { (test : Litmus) → IsTest text.now test → Told test_of result (Ok test) }
+    ensures only { (test : Litmus) → IsTest text.now test →
+        IsReadOrNoMemory test_of result (Ok test) }
     // It has 1 to 16 threads.
     ensures few { IfOk result (λ test.
         (0 < (test_of test).threads) × ((test_of test).threads ≤ MOST_THREADS)) }
@@ -164,7 +166,7 @@ pub fn read(alloc: Global, text: &[u8]) -> Result<Test, LitmusError>
     ensures large { MOST_BYTES < length text.now →
         result ≡ Err (record { line = 1; kind = Kind.TooLarge }) }
     // The test or the first fault, front to back, unless memory ran out.
-    ensures told { Told test_of result (read_at text.now) }
+    ensures told { IsReadOrNoMemory test_of result (test_at text.now) }
 {
     read_whole(alloc, text)
 }

@@ -5,10 +5,10 @@ use programs::{Program, Step};
 
 /// The threads of a litmus test are programs of operations.
 impl<'a> Program for ThreadState<'a> {
-    ghost use Rattle.litmus_reader.specs.ThreadSteps.{next_of, done_with};
+    ghost use Rattle.litmus_reader.specs.ThreadSteps.{next_operation, done_with};
     ghost use Rattle.programs.specs.Acts.{as_step};
 
-    ghost acts = { record { next = λ thread. as_step (next_of thread); done = done_with } };
+    ghost acts = { record { next = λ thread. as_step (next_operation thread); done = done_with } };
 
     fn next(&mut self) -> Option<Step> {
         match ThreadState::next(self) {

@@ -2,7 +2,8 @@
 
 ghost use Rattle.std.specs.Prelude.{◌≡◌, ℕ, List, Some, replicate};
 ghost use Rattle.litmus_reader.specs.Litmus.{settings_of};
-ghost use Rattle.litmus_reader.specs.ThreadSteps.{Thread, value_in, written, settled, opened, next_of, done_with};
+ghost use Rattle.litmus_reader.specs.ThreadSteps.{Thread, register_value, with_register, settled_thread, with_items};
+ghost use Rattle.litmus_reader.specs.ThreadSteps.{next_operation, done_with};
 ghost use Rattle.litmus_reader.specs.ThreadSteps.{received_by};
 
 use litmus_parser::{Cell, Instruction, Item, Name, Setting};
@@ -28,7 +29,7 @@ impl<'a> Model for ThreadState<'a> {
 
 /// A register's value; x0 reads as 0.
 fn value_in(registers: &[u64; 32], register: u8) -> u64
-    ensures { result ≡ value_in registers.now register }
+    ensures { result ≡ register_value registers.now register }
 {
     match registers.get(usize::from(register)) {
         Some(value) => *value,
@@ -38,7 +39,7 @@ fn value_in(registers: &[u64; 32], register: u8) -> u64
 
 /// Sets a register; writes to x0 are ignored.
 fn write(registers: &mut [u64; 32], register: u8, value: u64)
-    ensures { registers.new ≡ written registers.old register value }
+    ensures { registers.new ≡ with_register registers.old register value }
 {
     if register > 0 && register < 32 {
         registers[usize::from(register)] = value;
@@ -46,9 +47,9 @@ fn write(registers: &mut [u64; 32], register: u8, value: u64)
 }
 
 /// Does a thread's instructions up to its next memory instruction: what is left from there on.
-#[tactic(auto, unfolding(crate::specs::ThreadSteps::settled))]
+#[tactic(auto, unfolding(crate::specs::ThreadSteps::settled_thread))]
 fn settle<'a>(thread: u8, registers: &mut [u64; 32], cells: &'a [Cell]) -> &'a [Cell]
-    ensures { settled thread registers.old cells.now ≡
+    ensures { settled_thread thread registers.old cells.now ≡
         record { thread = thread; registers = registers.new; rest = result.now } }
 {
     let mut rest = cells;
@@ -66,9 +67,9 @@ fn settle<'a>(thread: u8, registers: &mut [u64; 32], cells: &'a [Cell]) -> &'a [
 }
 
 /// The registers of a thread as the items set them; what isn't set is 0.
-#[tactic(auto, unfolding(crate::specs::ThreadSteps::opened))]
+#[tactic(auto, unfolding(crate::specs::ThreadSteps::with_items))]
 fn open_registers(thread: u8, items: &[Item], registers: &mut [u64; 32])
-    ensures { registers.new ≡ opened thread (settings_of items.now) registers.old }
+    ensures { registers.new ≡ with_items thread (settings_of items.now) registers.old }
 {
     let mut left = items;
     while let Some((item, rest)) = left.split_first() {
@@ -94,7 +95,8 @@ impl<'a> ThreadState<'a> {
     /// A thread as the test opens it.
     pub(crate) fn open(thread: u8, items: &[Item], cells: &'a [Cell]) -> ThreadState<'a>
         ensures { result ≡
-            settled thread (opened thread (settings_of items.now) (replicate 32 0)) cells.now }
+            settled_thread thread (with_items thread (settings_of items.now) (replicate 32 0))
+            cells.now }
     {
         let mut registers = [0; 32];
         open_registers(thread, items, &mut registers);
@@ -108,7 +110,7 @@ impl<'a> ThreadState<'a> {
 
     /// The thread's next operation, the same until `done`; `None` if it has finished.
     pub fn next(&self) -> Option<Op>
-        ensures { result ≡ next_of self.now }
+        ensures { result ≡ next_operation self.now }
     {
         let cell = self.rest.first()?;
         match cell.instruction {
@@ -147,7 +149,7 @@ impl<'a> ThreadState<'a> {
 
     /// A register's value.
     pub fn register(&self, register: u8) -> u64
-        ensures { result ≡ value_in self.now.registers register }
+        ensures { result ≡ register_value self.now.registers register }
     {
         value_in(&self.registers, register)
     }

@@ -44,7 +44,7 @@ has_shared None = false
 has_shared (Some entry) = is_shared entry
 
 -- a line that no core owned is granted to the requester, who owns it from then on
-pub record IsGranted (bank : BankState) (m sent : Message) (after : BankState) : Type 0 where
+pub record GrantsLine (bank : BankState) (m sent : Message) (after : BankState) : Type 0 where
   pub shared : has_shared (entry_of bank m.line) ≡ true
   pub requester : sent.to ≡ m.from
   pub line : sent.line ≡ m.line
@@ -54,7 +54,7 @@ pub record IsGranted (bank : BankState) (m sent : Message) (after : BankState) :
 abbrev pub GrantsUnownedLines : Type 0
 GrantsUnownedLines =
     (bank after : BankState) (m sent : Message) → 0 < length bank.table.sets → Sends bank m sent after →
-    is_grant sent.body ≡ true → IsGranted bank m sent after
+    is_grant sent.body ≡ true → GrantsLine bank m sent after
 
 -- a line is loaded only if the bank doesn't have it: not while it is being stored
 abbrev pub LoadsAbsentLines : Type 0

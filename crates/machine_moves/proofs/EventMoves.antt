@@ -247,7 +247,7 @@ module _ (m : Machine) (s : Invariant m) where
         ((part : S) → Same (puts part) (seen (put part))) → ((part : S) → (puts part).counts ≡ m.mail.counts) →
         (r : Option (Reaction × S)) →
         ((answer : Option Message) (part : S) → r ≡ Some (Done answer, part) →
-        Move m.config a (moves.answered (puts part) rest answer)) →
+        Move m.config a (moves.with_answer (puts part) rest answer)) →
         ((part : S) → r ≡ Some (Dropped, part) → Move m.config a (record a { bag = rest })) →
         ((q : Message) (part : S) → r ≡ Some (HeldAfter q, part) →
         Move m.config a (moves.sent_beside (puts part) a.bag q)) →

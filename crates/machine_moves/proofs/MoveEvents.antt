@@ -170,15 +170,15 @@ module _ (config : Config) (a : State) where
 
       copy_leads : (line : ℕ) (back : Option Message) (core : CoreState) →
           core_table.evict (a.cores c) line ≡ (Ok back, core) →
-          Led (moves.answered (moves.with_core a c core) a.bag back) (transition m (event.EvictCache c line))
+          Led (moves.with_answer (moves.with_core a c core) a.bag back) (transition m (event.EvictCache c line))
       copy_leads line back core e =
-          let b = moves.answered (moves.with_core a c core) a.bag back in
+          let b = moves.with_answer (moves.with_core a c core) a.bag back in
           by_event b (event.EvictCache c line) (by_core b (λ o. evict_copy m c line o)
           (subst (λ (r : Result (Option Message) CacheError × CoreState). Led b
           (changed m (with_core m c) (change.copy_evicted capacity m.mail r))) (sym e) (go back)))
         where
           go : (back : Option Message) →
-              Led (moves.answered (moves.with_core a c core) a.bag back)
+              Led (moves.with_answer (moves.with_core a c core) a.bag back)
               (changed m (with_core m c) (change.copy_evicted capacity m.mail (Ok back, core)))
           go None = (put_core core, k.runs)
           go (Some q) = sends_leads (moves.sent_beside (moves.with_core a c core) a.bag q)
@@ -204,16 +204,16 @@ module _ (config : Config) (a : State) where
 
       entry_leads : (line : ℕ) (done : Evict) (bank : BankState) →
           bank_table.evict (a.banks i) line ≡ (Ok done, bank) →
-          Led (moves.answered (moves.with_bank a i bank) a.bag (moves.sent_by done))
+          Led (moves.with_answer (moves.with_bank a i bank) a.bag (moves.sent_by_eviction done))
           (transition m (event.EvictBank i line))
       entry_leads line done bank e =
-          let b = moves.answered (moves.with_bank a i bank) a.bag (moves.sent_by done) in
+          let b = moves.with_answer (moves.with_bank a i bank) a.bag (moves.sent_by_eviction done) in
           by_event b (event.EvictBank i line) (by_bank b (λ o. evict_entry m i line o)
           (subst (λ (r : Result Evict EvictError × BankState). Led b
           (changed m (with_bank m i) (change.entry_evicted capacity m.mail r))) (sym e) (go done)))
         where
           go : (done : Evict) →
-              Led (moves.answered (moves.with_bank a i bank) a.bag (moves.sent_by done))
+              Led (moves.with_answer (moves.with_bank a i bank) a.bag (moves.sent_by_eviction done))
               (changed m (with_bank m i) (change.entry_evicted capacity m.mail (Ok done, bank)))
           go evict.Clean = (put_bank bank, k.runs)
           go (evict.Stored q) = bank_sends Evicted q bank
@@ -246,7 +246,7 @@ module _ (config : Config) (a : State) where
     answer_leads : {S : Type 0} (put : S → Machine) (puts : S → State) (part : S) →
         Same (puts part) (seen (put part)) → (puts part).counts ≡ a.counts → (put part).is_stopped ≡ m.is_stopped →
         (answer : Option Message) →
-        Led (moves.answered (puts part) rest answer)
+        Led (moves.with_answer (puts part) rest answer)
         (changed m put (change.reacted room m.mail 0 (Some (Done answer, part))))
     answer_leads put puts part here counts runs None = (
       answer_put (puts part) (put part) here rest (taken m.mail 0) left (counts ∙ k.same.counts) None,
@@ -276,7 +276,7 @@ module _ (config : Config) (a : State) where
 
       core_leads : (answer : Option Message) (core : CoreState) →
           core_table.core_table (a.cores c) message ≡ Some (Done answer, core) →
-          Led (moves.answered (moves.with_core a c core) rest answer) (transition m (event.Deliver 0))
+          Led (moves.with_answer (moves.with_core a c core) rest answer) (transition m (event.Deliver 0))
       core_leads answer core e =
           by_core_delivery _ (Some (Done answer, core)) e
           (answer_leads (with_core m c) (λ part. moves.with_core a c part) core
@@ -300,7 +300,7 @@ module _ (config : Config) (a : State) where
 
       bank_leads : (answer : Option Message) (bank : BankState) →
           bank_table.bank_table (a.banks i) message ≡ Some (Done answer, bank) →
-          Led (moves.answered (moves.with_bank a i bank) rest answer) (transition m (event.Deliver 0))
+          Led (moves.with_answer (moves.with_bank a i bank) rest answer) (transition m (event.Deliver 0))
       bank_leads answer bank e =
           by_bank_delivery _ (Some (Done answer, bank)) e
           (answer_leads (with_bank m i) (λ part. moves.with_bank a i part) bank
@@ -316,9 +316,9 @@ module _ (config : Config) (a : State) where
         (has : dram_has_case (a.drams i) message ≡ true) where
       dram_leads : (answer : Option Message) (lines : FinMap nat_cmp (List ℕ)) →
           dram_table (a.drams i) message ≡ Some (Done answer, lines) →
-          Led (moves.answered (moves.with_dram a i lines) rest answer) (transition m (event.Deliver 0))
+          Led (moves.with_answer (moves.with_dram a i lines) rest answer) (transition m (event.Deliver 0))
       dram_leads answer lines e =
-          let b = moves.answered (moves.with_dram a i lines) rest answer in
+          let b = moves.with_answer (moves.with_dram a i lines) rest answer in
           by_delivery b (node.Dram i) to
           (by_part (message ∷ rest) m k b a.drams m.drams
           (λ j. dram_of m.config j (entries m.opening)) config.banks i k.dram_count k.same.drams lt

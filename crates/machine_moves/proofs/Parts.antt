@@ -15,7 +15,7 @@ use Rattle.machine_table.specs.Change.{record_of}
 use Rattle.machine_table.specs.Opening.{core_config, bank_config, geometry, dram_of}
 use Rattle.machine_theorem.specs.Bags.{SameBag, bag_of}
 use Rattle.machine_moves.specs.States.{State, Same, with_at, seen}
-use Rattle.machine_moves.specs.Moves.{with_core, with_bank, with_dram, sent_beside, answered}
+use Rattle.machine_moves.specs.Moves.{with_core, with_bank, with_dram, sent_beside, with_answer}
 use Rattle.machine_moves.proofs.Bags.{bag-sent}
 use Rattle.machine_moves.proofs.Lists.{part_put}
 
@@ -166,6 +166,6 @@ module _ (b : State) (m : Machine) (k : Same b (seen m)) (bag : List Message) (m
       }
 
   pub answer_put : (answer : Option Message) →
-      Same (answered b bag answer) (seen (record m { mail = replied mail answer }))
+      Same (with_answer b bag answer) (seen (record m { mail = replied mail answer }))
   answer_put None = bag_put
   answer_put (Some message) = sent_put message

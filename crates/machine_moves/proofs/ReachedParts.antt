@@ -22,7 +22,8 @@ use Rattle.machine_table.specs.Machine.{Machine, operation_of}
 use Rattle.machine_table.specs.SetUp.{is_good}
 use Rattle.machine_moves.specs.Laws.{Laws}
 use Rattle.machine_moves.specs.States.{State, numbered}
-use Rattle.machine_moves.specs.Moves.{answered, with_core, with_bank, with_dram, sent_by, Move, issues, completes}
+use Rattle.machine_moves.specs.Moves.{with_answer, with_core, with_bank, with_dram, sent_by_eviction, Move, issues}
+use Rattle.machine_moves.specs.Moves.{completes}
 use Rattle.machine_moves.specs.Moves.{asks_to_read, asks_to_write, core_gets, core_drops, bank_gets, bank_starts}
 use Rattle.machine_moves.specs.Moves.{dram_gets, evicts_copy, evicts_entry, advances, Reached, opens, goes_on, same}
 use Rattle.machine_moves.specs.Events.{Shows}
@@ -87,7 +88,7 @@ Adds a b = (b.records ≡ a.records) ⊎
     ((r : Record) × (r.number ≡ length a.records) × (b.records ≡ a.records ++ r ∷ []))
 
 answer_adds : (a : State) (rest : List Message) (answer : Option Message) →
-    (answered a rest answer).records ≡ a.records
+    (with_answer a rest answer).records ≡ a.records
 answer_adds a rest None = refl
 answer_adds a rest (Some message) = refl
 
@@ -107,7 +108,7 @@ move_adds config a b (dram_gets i message rest answer lines lt without to has e)
     inl (answer_adds (with_dram a i lines) rest answer)
 move_adds config a b (evicts_copy c line back core lt e) = inl (answer_adds (with_core a c core) a.bag back)
 move_adds config a b (evicts_entry i line done bank lt e) =
-    inl (answer_adds (with_bank a i bank) a.bag (sent_by done))
+    inl (answer_adds (with_bank a i bank) a.bag (sent_by_eviction done))
 move_adds config a b (advances c core lt e) = inl refl
 
 -- each record's number is its index

@@ -20,7 +20,7 @@ use Rattle.machine_table.specs.Machine.{Machine}
 use Rattle.machine_table.specs.SetUp.{is_good}
 use Rattle.machine_table.specs.Opening.{core_config, bank_config, geometry, dram_of}
 use Rattle.machine_theorem.specs.Bags.{SameBag}
-use Rattle.machine_theorem.specs.Cases.{core_case, bank_case, dram_case, has_case_at, has_case}
+use Rattle.machine_theorem.specs.Cases.{core_case, bank_case, dram_takes, has_case_at, has_case}
 use Rattle.machine_theorem.specs.Coherence.{coherent}
 use Rattle.machine_theorem.specs.Shape.{GoesHome}
 use Rattle.machine_moves.specs.Laws.{Laws}
@@ -77,7 +77,7 @@ module _ (laws : Laws) (config : Config) (opening : FinMap nat_cmp ℕ) (good : 
         (λ j. empty_bank (bank_config config j)) config.banks b
         reordered.invariant.whole.bank_count reordered.shows.same.banks has
     case_at x (node.Dram b) has =
-        part_found (λ o. dram_case o x) refl a.drams reordered.machine.drams
+        part_found (λ o. dram_takes o x) refl a.drams reordered.machine.drams
         (λ j. dram_of config j
         (entries opening)) config.banks b reordered.invariant.whole.dram_count reordered.shows.same.drams has
 

@@ -39,9 +39,9 @@ abbrev pub sent_beside : State → List Message → Message → State
 sent_beside a rest message = record a { bag = message ∷ rest; counts = counted a.counts message.body }
 
 -- these are in flight, and an answer is sent, if there is one
-abbrev pub answered : State → List Message → Option Message → State
-answered a rest None = record a { bag = rest }
-answered a rest (Some message) = sent_beside a rest message
+abbrev pub with_answer : State → List Message → Option Message → State
+with_answer a rest None = record a { bag = rest }
+with_answer a rest (Some message) = sent_beside a rest message
 
 -- a core's request is out, and is sent to the bank of its operation's line
 abbrev pub requested : State → ℕ → Op → Body → State
@@ -50,18 +50,18 @@ requested a c op body =
     (core_table.to_bank (a.cores c) (core_table.line_of (a.cores c) op) body)
 
 -- a core's operation is completed, and its record is added
-abbrev pub completed : State → ℕ → Op → Option ℕ → ℕ → CoreState → State
-completed a c op received ts core =
+abbrev pub with_completion : State → ℕ → Op → Option ℕ → ℕ → CoreState → State
+with_completion a c op received ts core =
     record (with_core a c core) {
       records = a.records ++ record_of c (length a.records)
           (a.cores c) op received ts ∷ [];
     }
 
 -- the message that an eviction of a line from a bank sends, if there is one
-abbrev pub sent_by : Evict → Option Message
-sent_by Clean = None
-sent_by (Stored store) = Some store
-sent_by (Recalled recall) = Some recall
+abbrev pub sent_by_eviction : Evict → Option Message
+sent_by_eviction Clean = None
+sent_by_eviction (Stored store) = Some store
+sent_by_eviction (Recalled recall) = Some recall
 
 pub data Move (config : Config) : State → State → Type 0 where
   -- a core is given its next operation
@@ -71,7 +71,7 @@ pub data Move (config : Config) : State → State → Type 0 where
   -- a core completes its open operation
   completes : {a : State} (c : ℕ) (op : Op) (received : Option ℕ) (ts : ℕ) (core : CoreState) → c < config.cores →
       (a.cores c).open_op ≡ Some op → core_table.attempt (a.cores c) ≡ (Some (Completed received ts), core) →
-      Move config a (completed a c op received ts core)
+      Move config a (with_completion a c op received ts core)
   -- a core sends the request that its open operation needs: to read the line, or to own it
   asks_to_read : {a : State} (c : ℕ) (op : Op) (pts : ℕ) (version : Option ℕ) (core : CoreState) → c < config.cores →
       (a.cores c).open_op ≡ Some op → core_table.attempt (a.cores c) ≡ (Some (NeedShared pts version), core) →
@@ -84,7 +84,7 @@ pub data Move (config : Config) : State → State → Type 0 where
       (core : CoreState) → c < config.cores →
       SameBag a.bag (message ∷ rest) → message.to ≡ Core c → core_table.core_has_case (a.cores c) message ≡ true →
       core_table.core_table (a.cores c) message ≡ Some (Done answer, core) →
-      Move config a (answered (with_core a c core) rest answer)
+      Move config a (with_answer (with_core a c core) rest answer)
   -- a message has no effect on a core
   core_drops : {a : State} (c : ℕ) (message : Message) (rest : List Message) (core : CoreState) → c < config.cores →
       SameBag a.bag (message ∷ rest) → message.to ≡ Core c → core_table.core_has_case (a.cores c) message ≡ true →
@@ -95,7 +95,7 @@ pub data Move (config : Config) : State → State → Type 0 where
       (bank : BankState) → b < config.banks →
       SameBag a.bag (message ∷ rest) → message.to ≡ Bank b → bank_table.bank_has_case (a.banks b) message ≡ true →
       bank_table.bank_table (a.banks b) message ≡ Some (Done answer, bank) →
-      Move config a (answered (with_bank a b bank) rest answer)
+      Move config a (with_answer (with_bank a b bank) rest answer)
   -- a bank starts what a message waits for: the message stays in flight, and another is sent on its behalf
   bank_starts : {a : State} (b : ℕ) (message : Message) (rest : List Message) (started : Message) (bank : BankState) →
       b < config.banks →
@@ -107,15 +107,15 @@ pub data Move (config : Config) : State → State → Type 0 where
       (lines : FinMap nat_cmp (List ℕ)) → b < config.banks →
       SameBag a.bag (message ∷ rest) → message.to ≡ Dram b → dram_has_case (a.drams b) message ≡ true →
       dram_table (a.drams b) message ≡ Some (Done answer, lines) →
-      Move config a (answered (with_dram a b lines) rest answer)
+      Move config a (with_answer (with_dram a b lines) rest answer)
   -- a copy of a line leaves a core's cache, and is sent back if it was owned
   evicts_copy : {a : State} (c line : ℕ) (back : Option Message) (core : CoreState) → c < config.cores →
       core_table.evict (a.cores c) line ≡ (Ok back, core) →
-      Move config a (answered (with_core a c core) a.bag back)
+      Move config a (with_answer (with_core a c core) a.bag back)
   -- a line leaves a bank, or is stored or recalled for that
   evicts_entry : {a : State} (b line : ℕ) (done : Evict) (bank : BankState) → b < config.banks →
       bank_table.evict (a.banks b) line ≡ (Ok done, bank) →
-      Move config a (answered (with_bank a b bank) a.bag (sent_by done))
+      Move config a (with_answer (with_bank a b bank) a.bag (sent_by_eviction done))
   -- a core's time goes on by itself
   advances : {a : State} (c : ℕ) (core : CoreState) → c < config.cores →
       core_table.advance (a.cores c) ≡ (Some tt, core) →

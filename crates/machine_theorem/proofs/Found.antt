@@ -22,7 +22,7 @@ use Rattle.machine_table.specs.Transition.{changed, refused, deliver_core, deliv
 use Rattle.machine_table.specs.Transition.{deliver_message, transition}
 use Rattle.machine_theorem.proofs.PartChanges.{reacted}
 use Rattle.machine_table.specs.declared.event.Answer.{Answer}
-use Rattle.machine_theorem.specs.Cases.{core_case, bank_case, dram_case, has_case_at, has_case}
+use Rattle.machine_theorem.specs.Cases.{core_case, bank_case, dram_takes, has_case_at, has_case}
 use Rattle.machine_theorem.proofs.Lookups.{each_at_number}
 
 abbrev IsFound : Answer × Machine → Type 0
@@ -62,7 +62,7 @@ module _ (m : Machine) (n : ℕ) where
           case_found (bank_has_case bank message) _ _ has (reacted_found (with_bank m b) (bank_table bank message))
   to_found message (node.Dram b) has = by_dram (slice_get m.drams b) has
     where
-      by_dram : (o : Option (FinMap nat_cmp (List ℕ))) → dram_case o message ≡ true →
+      by_dram : (o : Option (FinMap nat_cmp (List ℕ))) → dram_takes o message ≡ true →
           IsFound (deliver_dram m n message b o)
       by_dram None has = absurd (let z : false ≡ true = has in cc)
       by_dram (Some lines) has =

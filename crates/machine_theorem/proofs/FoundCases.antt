@@ -31,7 +31,7 @@ use Rattle.machine_theorem.specs.View.{copy_or_none, copy_in, core_seen, entry_s
 use Rattle.machine_theorem.specs.View.{message_seen, messages_of, set_up, line_in, view}
 use Rattle.machine_theorem.specs.Shape.{IsHome, IsCore, GoesHome}
 use Rattle.machine_theorem.specs.Kept.{Invariant}
-use Rattle.machine_theorem.specs.Cases.{core_case, bank_case, dram_case, has_case_at, has_case}
+use Rattle.machine_theorem.specs.Cases.{core_case, bank_case, dram_takes, has_case_at, has_case}
 use Rattle.machine_theorem.proofs.Routes.{both, up_ends, back_ends}
 
 -- what is in a list at an index within it
@@ -155,7 +155,7 @@ module _ (m : Machine) (s : Invariant m) (x : Message) (n : ℕ) (goes : GoesHom
       has_case m x ≡ true
   dram_end b e k to below comes =
       let found = at_index m.drams k (let a = s.whole.dram_count in omega arith) in
-      by_node (node.Dram k) to (subst (λ (o : Option (FinMap nat_cmp (List ℕ))). dram_case o x ≡ true) (sym found.1)
+      by_node (node.Dram k) to (subst (λ (o : Option (FinMap nat_cmp (List ℕ))). dram_takes o x ≡ true) (sym found.1)
       (both _ _ (ap is_dram to) (ap comes_to_dram e ∙ comes)))
 
   from_core : (c : ℕ) → x.from ≡ node.Core c → is_core x.from ≡ true

@@ -19,14 +19,14 @@ abbrev pub bank_case : Option BankState → Message → Bool
 bank_case None message = false
 bank_case (Some bank) message = bank_has_case bank message
 
-abbrev pub dram_case : Option (FinMap nat_cmp (List ℕ)) → Message → Bool
-dram_case None message = false
-dram_case (Some lines) message = dram_has_case lines message
+abbrev pub dram_takes : Option (FinMap nat_cmp (List ℕ)) → Message → Bool
+dram_takes None message = false
+dram_takes (Some lines) message = dram_has_case lines message
 
 abbrev pub has_case_at : Machine → Message → Node → Bool
 has_case_at m message (Core c) = core_case (slice_get m.cores c) message
 has_case_at m message (Bank b) = bank_case (slice_get m.banks b) message
-has_case_at m message (Dram b) = dram_case (slice_get m.drams b) message
+has_case_at m message (Dram b) = dram_takes (slice_get m.drams b) message
 
 -- the part that the message goes to is there, and its table has a case for it
 abbrev pub has_case : Machine → Message → Bool

@@ -21,11 +21,11 @@ use Rattle.inbox.specs.Effects.{SameMessages, messages_of, LiesAt, others, IsAsk
 use Rattle.inbox.specs.Effects.{delivered, dropped, started, moved, unchanged}
 use Rattle.seat_rule.specs.declared.views.SetUp.{SetUp}
 use Rattle.seat_rule.specs.declared.views.Hold.{Hold}
-use Rattle.seat_rule.specs.Rule.{bag_of}
+use Rattle.seat_rule.specs.Rule.{bag_of_hold}
 use Rattle.mailboxes.specs.declared.sending.SendingBank.{SendingBank}
 use Rattle.mailboxes.specs.Sending.{OutboxState, noted, sent_out}
 use Rattle.mailboxes.specs.Stored.{stored_bank}
-use Rattle.mailboxes.specs.Places.{AllOwn, AllLinked, has_link, is_own}
+use Rattle.mailboxes.specs.Places.{AllOwn, AllLinked, has_link_to, is_own}
 use Rattle.mailboxes.specs.BankServing.{leaves, told, sending_bank_table, sending_bank_has_case}
 use Rattle.mailboxes.specs.BankCalls.{posted_if, told_if}
 use Rattle.mailboxes.proofs.BankReactions.{consumes, starts, weigh-append}
@@ -53,10 +53,10 @@ all-zero f (x ∷ xs) each =
 -- one more message that has a link
 module _ (cores banks number : ℕ) where
   linked-more : (ms : List Message) (s : Message) → AllLinked cores banks number ms →
-      has_link cores banks number s.to ≡ true → AllLinked cores banks number (ms ++ s ∷ [])
+      has_link_to cores banks number s.to ≡ true → AllLinked cores banks number (ms ++ s ∷ [])
   linked-more [] s all one zero m e =
       let same : s ≡ m = cc in
-      ap (λ (x : Message). has_link cores banks number x.to) (sym same) ∙ one
+      ap (λ (x : Message). has_link_to cores banks number x.to) (sym same) ∙ one
   linked-more [] s all one (suc k) m e = absurd (let no : None ≡ Some m = e in cc)
   linked-more (x ∷ ms) s all one zero m e = all zero m e
   linked-more (x ∷ ms) s all one (suc k) m e = linked-more ms s (λ j y f. all (suc j) y f) one k m e
@@ -174,7 +174,7 @@ module _ (z : SetUp) (id i : ℕ) (below : i < z.config.banks) (named : id ≡ z
       m.to ≡ node.Dram i → sending_bank_has_case p m ≡ true →
       dram_table p.dram m ≡ Some (does.HeldAfter s, lines) → ⊥)
       (no_drop : (at : Place) (m : Message) (q : SendingBank) → IsAsked sending_bank_table b p at m Dropped q → ⊥)
-      (ends : (s : Message) (xs : List Message) → SameBag (bag_of (stored_bank a q c)) (s ∷ xs) →
+      (ends : (s : Message) (xs : List Message) → SameBag (bag_of_hold (stored_bank a q c)) (s ∷ xs) →
       has_endpoints z.config.cores z.config.banks s ≡ true) where
     -- what was sent goes between nodes of its kind
     sent-ends : (sent answer : Option Message) (xs : List Message) →
@@ -183,7 +183,7 @@ module _ (z : SetUp) (id i : ℕ) (below : i < z.config.banks) (named : id ≡ z
         (s : Message) → answer ≡ Some s → has_endpoints cores banks s ≡ true
     sent-ends sent answer xs same bag s e =
         ends s (p.outbox.messages ++ xs)
-        (subst (λ (o : Option Message). SameBag (bag_of (stored_bank a q c))
+        (subst (λ (o : Option Message). SameBag (bag_of_hold (stored_bank a q c))
         (option_to_list o ++ (p.outbox.messages ++ xs))) e
         (after-sent z id i below named a p b holds q c sent xs (option_to_list answer) same bag))
 

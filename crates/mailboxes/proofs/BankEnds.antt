@@ -19,7 +19,7 @@ use Rattle.llc_bank.specs.declared.decision.Decision.TheVariants as decision
 use Rattle.llc_bank.specs.BankTable.{BankState, after_decision, bank_table, decided}
 use Rattle.dram_mts.specs.Table.{dram_case, dram_table}
 use Rattle.mailboxes.specs.BankServing.{leaves}
-use Rattle.mailboxes.specs.Places.{has_link, is_own}
+use Rattle.mailboxes.specs.Places.{has_link_to, is_own}
 
 left_of : (a b : Bool) → (a && b) ≡ true → a ≡ true
 left_of true b h = refl
@@ -178,7 +178,7 @@ module _ (cores banks number i : ℕ) (named : number ≡ cores + i) where
       ]
 
   linked-to : (from to : Node) (ends : Bool) → ends ≡ true → Goes cores banks from to ends → leaves to ≡ true →
-      has_link cores banks number to ≡ true
+      has_link_to cores banks number to ≡ true
   linked-to from (node.Core c) ends h g l =
       both (nat_le cores number) (nat_lt c cores) (le-leb cores number (omega (arith, named)))
       (lt-ltb c cores (core-is-there cores banks from (node.Core c) c ends refl h g))
@@ -186,6 +186,6 @@ module _ (cores banks number i : ℕ) (named : number ≡ cores + i) where
   linked-to from (node.Dram d) ends h g l = absurd (true≢false (sym l))
 
   pub sent-leaves : (s : Message) → has_endpoints cores banks s ≡ true → leaves s.to ≡ true →
-      has_link cores banks number s.to ≡ true
+      has_link_to cores banks number s.to ≡ true
   sent-leaves s ends l =
       linked-to s.from s.to (has_endpoints cores banks s) ends (goes cores banks s.from s.to s.body) l

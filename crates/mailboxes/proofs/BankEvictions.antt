@@ -14,13 +14,13 @@ use Rattle.llc_bank.specs.OnEntry.{evicted}
 use Rattle.llc_bank.specs.BankTable as bank_table
 use Rattle.llc_bank.specs.BankTable.{BankState, after_eviction, entry_of}
 use Rattle.machine_theorem.specs.Bags.{SameBag}
-use Rattle.machine_moves.specs.Moves.{sent_by}
+use Rattle.machine_moves.specs.Moves.{sent_by_eviction}
 use Rattle.inbox.specs.Inboxes.{InboxState}
 use Rattle.inbox.specs.Serving.{sent_list}
 use Rattle.inbox.specs.Effects.{messages_of}
 use Rattle.seat_rule.specs.declared.views.SetUp.{SetUp}
 use Rattle.seat_rule.specs.declared.views.Hold.{Hold}
-use Rattle.seat_rule.specs.Rule.{bag_of}
+use Rattle.seat_rule.specs.Rule.{bag_of_hold}
 use Rattle.seat_rule.specs.Serving.{counted_if}
 use Rattle.seat_rule.specs.SeatMoves.{SeatMove, evicts_entry}
 use Rattle.mailboxes.specs.declared.sending.SendingBank.{SendingBank}
@@ -47,13 +47,13 @@ evicted-from bank line (eviction.Drops rts) n e = cc
 evicted-from bank line (eviction.Stores rts words) n e = cc
 evicted-from bank line (eviction.AsksBack owner) n e = cc
 
-sent-from : (e : Evict) (s : Message) → sent_by e ≡ Some s → evict-sender (Ok e) ≡ Some s.from
+sent-from : (e : Evict) (s : Message) → sent_by_eviction e ≡ Some s → evict-sender (Ok e) ≡ Some s.from
 sent-from evict.Clean s is = absurd (let no : None ≡ Some s = is in cc)
 sent-from (evict.Stored t) s is = let same : t ≡ s = cc in ap (λ (x : Message). Some x.from) same
 sent-from (evict.Recalled t) s is = let same : t ≡ s = cc in ap (λ (x : Message). Some x.from) same
 
 pub evict-from : (bank : BankState) (line : ℕ) (e : Evict) (s : Message) → (bank_table.evict bank line).0 ≡ Ok e →
-    sent_by e ≡ Some s → s.from ≡ node.Bank bank.number
+    sent_by_eviction e ≡ Some s → s.from ≡ node.Bank bank.number
 evict-from bank line e s did is =
     evicted-from bank line (evicted (entry_of bank line)) s.from (ap evict-sender did ∙ sent-from e s is)
 
@@ -76,21 +76,21 @@ module _ (z : SetUp) (id i : ℕ) (below : i < z.config.banks) (named : id ≡ z
   abbrev c : InboxState Message
   c = evicted_inbox b e
 
-  inbox-bag : SameBag (messages_of c) (sent_list (told_if (sent_by e)) ++ messages_of b)
+  inbox-bag : SameBag (messages_of c) (sent_list (told_if (sent_by_eviction e)) ++ messages_of b)
   inbox-bag f =
       let hand = option_to_list b.hand in
-      let sent = sent_list (told_if (sent_by e)) in
+      let sent = sent_list (told_if (sent_by_eviction e)) in
       let u = weigh-append f hand (b.held ++ sent) in
       let v = weigh-append f b.held sent in
       let w = weigh-append f sent (hand ++ b.held) in
       let y = weigh-append f hand b.held in
       omega arith
 
-  pub evicted-bag : SameBag (bag_of (stored_bank a q c))
-      (option_to_list (sent_by e) ++ (p.outbox.messages ++ messages_of b))
+  pub evicted-bag : SameBag (bag_of_hold (stored_bank a q c))
+      (option_to_list (sent_by_eviction e) ++ (p.outbox.messages ++ messages_of b))
   evicted-bag =
-      after-sent z id i below named a p b holds q c (told_if (sent_by e)) (messages_of b)
-      (option_to_list (sent_by e)) inbox-bag (posted-if-bag p.outbox (sent_by e) (messages_of b))
+      after-sent z id i below named a p b holds q c (told_if (sent_by_eviction e)) (messages_of b)
+      (option_to_list (sent_by_eviction e)) inbox-bag (posted-if-bag p.outbox (sent_by_eviction e) (messages_of b))
 
   pub eviction-moves : SeatMove z id a (stored_bank a q c)
   eviction-moves =
@@ -98,23 +98,24 @@ module _ (z : SetUp) (id i : ℕ) (below : i < z.config.banks) (named : id ≡ z
       (ap (λ x. bank_table.evict x line) holds.bank ∙ ap (λ r. (r, (bank_table.evict p.bank line).1)) did)
       (record { core = refl; issued = refl }) (sym holds.dram)
       (record {
-        bag = subst (λ xs. SameBag (bag_of (stored_bank a q c)) (option_to_list (sent_by e) ++ xs))
+        bag = subst (λ xs. SameBag (bag_of_hold (stored_bank a q c)) (option_to_list (sent_by_eviction e) ++ xs))
             (sym (bag-before z id i below named a p b holds)) evicted-bag;
-        counts = posted-if-counts p.outbox (sent_by e)
-            ∙ ap (λ n. counted_if n (sent_by e)) (sym holds.counts);
+        counts = posted-if-counts p.outbox (sent_by_eviction e)
+            ∙ ap (λ n. counted_if n (sent_by_eviction e)) (sym holds.counts);
       })
 
   pub eviction-settled : (numbered : p.bank.number ≡ i) (own : AllOwn z.config.cores id b)
       (linked : AllLinked z.config.cores z.config.banks id p.outbox.messages) →
-      ((s : Message) (xs : List Message) → SameBag (bag_of (stored_bank a q c)) (s ∷ xs) →
+      ((s : Message) (xs : List Message) → SameBag (bag_of_hold (stored_bank a q c)) (s ∷ xs) →
       has_endpoints z.config.cores z.config.banks s ≡ true) →
       AllOwn z.config.cores id c × AllLinked z.config.cores z.config.banks id q.outbox.messages
   eviction-settled numbered own linked ends =
-      settle z id i below named a p b holds numbered own linked q c (told_if (sent_by e)) (sent_by e) (messages_of b)
+      settle z id i below named a p b holds numbered own linked q c (told_if (sent_by_eviction e)) (sent_by_eviction e)
+      (messages_of b)
       refl refl inbox-bag (own-list z.config.cores z.config.banks id b own)
       (λ s is. (
         ends s (p.outbox.messages ++ messages_of b)
-            (subst (λ o. SameBag (bag_of (stored_bank a q c))
+            (subst (λ o. SameBag (bag_of_hold (stored_bank a q c))
             (option_to_list o ++ (p.outbox.messages ++ messages_of b)))
             is evicted-bag),
         inl (evict-from p.bank line e s did is ∙ ap (λ k. node.Bank k) numbered),

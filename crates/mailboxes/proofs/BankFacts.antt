@@ -22,10 +22,10 @@ use Rattle.inbox.specs.Serving.{Place, in_hand, held_at, HaveCases}
 use Rattle.inbox.specs.Effects.{LiesAt, Effect}
 use Rattle.seat_rule.specs.declared.views.SetUp.{SetUp}
 use Rattle.seat_rule.specs.declared.views.Hold.{Hold}
-use Rattle.seat_rule.specs.Rule.{bag_of, seat_count}
+use Rattle.seat_rule.specs.Rule.{bag_of_hold, seat_count}
 use Rattle.seat_views.specs.Seated.{with_hold}
 use Rattle.seat_rule.specs.Plays.{SeatState, Standing}
-use Rattle.mailboxes.specs.Ties.{BankTied, BoxTied, Chair}
+use Rattle.mailboxes.specs.Ties.{BankTied, BoxTied, SlotSeat}
 use Rattle.seat_rule.specs.Found.{FindsHere}
 use Rattle.seat_rule.specs.SeatMoves.{SeatMove}
 use Rattle.mailboxes.specs.declared.machine.Machine.{Machine}
@@ -35,7 +35,7 @@ use Rattle.mailboxes.specs.BoxMoves.{hold}
 use Rattle.mailboxes.specs.Stored.{stored_bank}
 use Rattle.mailboxes.specs.Places.{AllOwn, AllLinked}
 use Rattle.mailboxes.specs.BankCalls.{IsBankMail, PartOf, evicted_part, evicted_inbox}
-use Rattle.mailboxes.specs.BankServing.{has_case_at, sending_bank_table, sending_bank_has_case}
+use Rattle.mailboxes.specs.BankServing.{bank_has_case_at, sending_bank_table, sending_bank_has_case}
 use Rattle.mailboxes.proofs.BankEnds.{own-ends}
 use Rattle.mailboxes.proofs.BankMoves.{Holds, serving-moves, no-drop, no-start}
 use Rattle.mailboxes.proofs.BankAfter.{settled}
@@ -46,7 +46,7 @@ abbrev pub OfStanding : (SetUp → ℕ → Hold → Type 0) → Type 0
 OfStanding holds = (z : SetUp) (n id : ℕ) (a : Hold) → is_good z.config ≡ true → Standing z n id a → holds z id a
 
 pub record BankLaws : Type 0 where
-  pub any : OfStanding (λ z id a. (m : Message) (others : List Message) → SameBag (bag_of a) (m ∷ others) →
+  pub any : OfStanding (λ z id a. (m : Message) (others : List Message) → SameBag (bag_of_hold a) (m ∷ others) →
       FindsHere z id a m)
   pub hand : OfStanding (λ z id a. (m : Message) → a.hand ≡ Some m → FindsHere z id a m)
   pub held : OfStanding (λ z id a. (i : ℕ) (m : Message) → slice_get a.held i ≡ Some m → FindsHere z id a m)
@@ -121,16 +121,16 @@ module _ (laws : BankLaws) (m : Machine) (b : Mailbox) (p : SendingBank) (is : I
         let goes = goes-here at x lies in (
           goes,
           elim goes [
-            | inl to ↦ ap (λ n. has_case_at n p x) to
+            | inl to ↦ ap (λ n. bank_has_case_at n p x) to
                 ∙ sym (ap (λ y. bank_has_case y x) has.tied.bank) ∙ (found.bank i named to).1
-            | inr to ↦ ap (λ n. has_case_at n p x) to
+            | inr to ↦ ap (λ n. bank_has_case_at n p x) to
                 ∙ sym (ap (λ y. dram_has_case y x) has.tied.dram) ∙ (found.dram i named to).1
           ],
         )
 
     -- what the seat has goes between nodes of its kind, once it stands
     ends : (a : Hold) → Standing z (seat_count z) id a → (s : Message) (xs : List Message) →
-        SameBag (bag_of a) (s ∷ xs) → has_endpoints z.config.cores z.config.banks s ≡ true
+        SameBag (bag_of_hold a) (s ∷ xs) → has_endpoints z.config.cores z.config.banks s ≡ true
     ends a standing s xs bag = (laws.any z (seat_count z) id a m.good standing s xs bag).endpoints
 
     abbrev Settled : SendingBank → InboxState Message → Type 0
@@ -143,18 +143,18 @@ module _ (laws : BankLaws) (m : Machine) (b : Mailbox) (p : SendingBank) (is : I
       subst (λ (k : ℕ × ℕ). AllLinked k.0 k.1 id q.outbox.messages) (λ j. (sym is.0.2 j, sym is.0.3 j)) s.1,
     )
 
-    abbrev pub chair : ℕ
-    chair = b.seat.me.0.number
+    abbrev pub seat_number : ℕ
+    seat_number = b.seat.me.0.number
 
     -- the part has a case for each message
     pub all-cases : HaveCases sending_bank_has_case b.inbox p
     all-cases = record { hand = λ x e. (here in_hand x e).1; held = λ k x e. (here (held_at k) x e).1 }
 
     -- what the seat holds is again what it stores
-    abbrev pub Stored : Chair → SendingBank → InboxState Message → Type 0
+    abbrev pub Stored : SlotSeat → SendingBank → InboxState Message → Type 0
     Stored seat q c = seat.me ≡ (with_hold b.seat.me.0 (stored_bank (hold b) q c), b.seat.me.1)
 
-    pub box-tied : (seat : Chair) (q : SendingBank) (c : InboxState Message) → Stored seat q c →
+    pub box-tied : (seat : SlotSeat) (q : SendingBank) (c : InboxState Message) → Stored seat q c →
         BoxTied seat b.number c.hand c.held
     box-tied seat q c is = record {
       number = ap (λ (y : SeatState). y.0.number) is ∙ b.tied.number;
@@ -165,7 +165,7 @@ module _ (laws : BankLaws) (m : Machine) (b : Mailbox) (p : SendingBank) (is : I
       held = ap (λ (y : SeatState). y.0.mine.held) is;
     }
 
-    pub bank-tied : (seat : Chair) (q : SendingBank) (c : InboxState Message) → Stored seat q c →
+    pub bank-tied : (seat : SlotSeat) (q : SendingBank) (c : InboxState Message) → Stored seat q c →
         BankTied seat.me.0.mine q.bank q.dram q.outbox
     bank-tied seat q c is = record {
       bank = ap (λ (y : SeatState). y.0.mine.bank) is;
@@ -179,7 +179,7 @@ module _ (laws : BankLaws) (m : Machine) (b : Mailbox) (p : SendingBank) (is : I
     module _ (stay : StayLaws) where
       pub serve-moves : (result : Result Served Refusal) (c : InboxState Message) (q : SendingBank) →
           Effect sending_bank_table b.inbox p result c q →
-          SeatMove z chair (hold b) (stored_bank (hold b) q c)
+          SeatMove z seat_number (hold b) (stored_bank (hold b) q c)
       serve-moves result c q effect =
           subst (λ n. SeatMove z n (hold b) (stored_bank (hold b) q c)) (sym b.tied.number)
           (serving-moves z id i below named (hold b) p b.inbox holds stay.drops stay.answers here result c q
@@ -187,7 +187,7 @@ module _ (laws : BankLaws) (m : Machine) (b : Mailbox) (p : SendingBank) (is : I
 
       pub serve-settled : (result : Result Served Refusal) (c : InboxState Message) (q : SendingBank) →
           Effect sending_bank_table b.inbox p result c q →
-          Standing z (seat_count z) chair (stored_bank (hold b) q c) → Settled q c
+          Standing z (seat_count z) seat_number (stored_bank (hold b) q c) → Settled q c
       serve-settled result c q effect standing =
           at-mail q c
           (settled z id i below named (hold b) p b.inbox holds numbered own linked here q c
@@ -202,7 +202,7 @@ module _ (laws : BankLaws) (m : Machine) (b : Mailbox) (p : SendingBank) (is : I
     pub evict-moves : (line : ℕ) (e : Evict) (c : InboxState Message) (q : SendingBank) →
         (bank_table.evict p.bank line).0 ≡ Ok e →
         q ≡ evicted_part p (bank_table.evict p.bank line).1 e → c ≡ evicted_inbox b.inbox e →
-        SeatMove z chair (hold b) (stored_bank (hold b) q c)
+        SeatMove z seat_number (hold b) (stored_bank (hold b) q c)
     evict-moves line e c q did part messages =
         subst (λ (y : ℕ × SendingBank × InboxState Message). SeatMove z y.0 (hold b)
         (stored_bank (hold b) y.1 y.2))
@@ -212,7 +212,7 @@ module _ (laws : BankLaws) (m : Machine) (b : Mailbox) (p : SendingBank) (is : I
     pub evict-settled : (line : ℕ) (e : Evict) (c : InboxState Message) (q : SendingBank) →
         (bank_table.evict p.bank line).0 ≡ Ok e →
         q ≡ evicted_part p (bank_table.evict p.bank line).1 e → c ≡ evicted_inbox b.inbox e →
-        Standing z (seat_count z) chair (stored_bank (hold b) q c) → Settled q c
+        Standing z (seat_count z) seat_number (stored_bank (hold b) q c) → Settled q c
     evict-settled line e c q did part messages standing =
         let q0 = evicted_part p (bank_table.evict p.bank line).1 e in
         let c0 = evicted_inbox b.inbox e in

@@ -21,12 +21,12 @@ use Rattle.inbox.specs.Effects.{SameMessages, messages_of, LiesAt, others, IsAsk
 use Rattle.inbox.specs.Effects.{delivered, dropped, started, moved, unchanged}
 use Rattle.seat_rule.specs.declared.views.SetUp.{SetUp}
 use Rattle.seat_rule.specs.declared.views.Hold.{Hold}
-use Rattle.seat_rule.specs.Rule.{bag_of}
+use Rattle.seat_rule.specs.Rule.{bag_of_hold}
 use Rattle.seat_rule.specs.Serving.{counted_if}
 use Rattle.seat_rule.specs.SeatMoves.{SeatMove, sorts, bank_gets, bank_starts, dram_gets}
 use Rattle.mailboxes.specs.declared.sending.SendingBank.{SendingBank}
 use Rattle.mailboxes.specs.Stored.{stored_bank}
-use Rattle.mailboxes.specs.BankServing.{reacts, reacts_at, has_case_at, sending_bank_table}
+use Rattle.mailboxes.specs.BankServing.{reacts, reacts_at, bank_has_case_at, sending_bank_table}
 use Rattle.mailboxes.specs.BankServing.{sending_bank_has_case}
 use Rattle.mailboxes.proofs.BankReactions.{consumes, starts, drops, weigh-append}
 
@@ -56,7 +56,7 @@ pub record Holds (a : Hold) (p : SendingBank) (b : InboxState Message) : Type 0 
 
 module _ (z : SetUp) (id i : ℕ) (below : i < z.config.banks) (named : id ≡ z.config.cores + i) (a : Hold)
     (p : SendingBank) (b : InboxState Message) (holds : Holds a p b) where
-  pub bag-before : bag_of a ≡ p.outbox.messages ++ messages_of b
+  pub bag-before : bag_of_hold a ≡ p.outbox.messages ++ messages_of b
   bag-before = λ k. holds.outbox k ++ (option_to_list (holds.hand k) ++ holds.held k)
 
   -- the messages of the seat but for one
@@ -64,7 +64,7 @@ module _ (z : SetUp) (id i : ℕ) (below : i < z.config.banks) (named : id ≡ z
   rest at = p.outbox.messages ++ others b at
 
   one-apart : (at : Place) (m : Message) → SameMessages (messages_of b) (m ∷ others b at) →
-      SameBag (bag_of a) (m ∷ rest at)
+      SameBag (bag_of_hold a) (m ∷ rest at)
   one-apart at m same f =
       let x = ap (weigh f) bag-before in
       let y = weigh-append f p.outbox.messages (messages_of b) in
@@ -76,7 +76,7 @@ module _ (z : SetUp) (id i : ℕ) (below : i < z.config.banks) (named : id ≡ z
   pub after-sent : (q : SendingBank) (c : InboxState Message) (sent : Option Message) (xs answer : List Message) →
       SameBag (messages_of c) (sent_list sent ++ xs) →
       SameBag (q.outbox.messages ++ (sent_list sent ++ xs)) (answer ++ (p.outbox.messages ++ xs)) →
-      SameBag (bag_of (stored_bank a q c)) (answer ++ (p.outbox.messages ++ xs))
+      SameBag (bag_of_hold (stored_bank a q c)) (answer ++ (p.outbox.messages ++ xs))
   after-sent q c sent xs answer same bag f =
       let x = weigh-append f q.outbox.messages (messages_of c) in
       let y = weigh-append f q.outbox.messages (sent_list sent ++ xs) in
@@ -89,7 +89,7 @@ module _ (z : SetUp) (id i : ℕ) (below : i < z.config.banks) (named : id ≡ z
   counts-are u answer is = is ∙ ap (λ n. counted_if n answer) (sym holds.counts)
 
   abbrev beside : Place → SendingBank → InboxState Message → Option Message → Type 0
-  beside at q c answer = SameBag (bag_of (stored_bank a q c)) (option_to_list answer ++ rest at)
+  beside at q c answer = SameBag (bag_of_hold (stored_bank a q c)) (option_to_list answer ++ rest at)
 
   -- The bank
 
@@ -104,7 +104,7 @@ module _ (z : SetUp) (id i : ℕ) (below : i < z.config.banks) (named : id ≡ z
 
   pub bank-case : (m : Message) → m.to ≡ node.Bank i → sending_bank_has_case p m ≡ true → bank_has_case a.bank m ≡ true
   bank-case m to has =
-      ap (λ x. bank_has_case x m) holds.bank ∙ sym (ap (λ t. has_case_at t p m) to) ∙ has
+      ap (λ x. bank_has_case x m) holds.bank ∙ sym (ap (λ t. bank_has_case_at t p m) to) ∙ has
 
   bank-did : (m : Message) (d : Reaction) (q : SendingBank) → bank_table p.bank m ≡ Some (d, q.bank) →
       bank_table a.bank m ≡ Some (d, q.bank)
@@ -140,7 +140,7 @@ module _ (z : SetUp) (id i : ℕ) (below : i < z.config.banks) (named : id ≡ z
       (bank-did m (does.HeldAfter did.started) q did.did) (record { core = refl; issued = refl })
       (e.1 ∙ sym holds.dram)
       (record {
-        bag = subst (λ xs. SameBag (bag_of (stored_bank a q c)) (did.started ∷ xs)) (sym bag-before)
+        bag = subst (λ xs. SameBag (bag_of_hold (stored_bank a q c)) (did.started ∷ xs)) (sym bag-before)
             (after-sent q c sent (messages_of b) (did.started ∷ [])
             (bag-is (messages_of c) (sent_list sent ++ messages_of b) after) (did.bag (messages_of b)));
         counts = counts-are q.outbox.counts (Some did.started) did.counts;
@@ -159,7 +159,7 @@ module _ (z : SetUp) (id i : ℕ) (below : i < z.config.banks) (named : id ≡ z
 
   pub dram-case : (m : Message) → m.to ≡ node.Dram i → sending_bank_has_case p m ≡ true → dram_has_case a.dram m ≡ true
   dram-case m to has =
-      ap (λ x. dram_has_case x m) holds.dram ∙ sym (ap (λ t. has_case_at t p m) to) ∙ has
+      ap (λ x. dram_has_case x m) holds.dram ∙ sym (ap (λ t. bank_has_case_at t p m) to) ∙ has
 
   dram-consumed : (at : Place) (m : Message) (sent : Option Message) (q : SendingBank) (c : InboxState Message) →
       m.to ≡ node.Dram i → sending_bank_has_case p m ≡ true →
@@ -211,7 +211,7 @@ module _ (z : SetUp) (id i : ℕ) (below : i < z.config.banks) (named : id ≡ z
     pub dram-done : (m : Message) (d : Reaction) (lines : FinMap nat_cmp (List ℕ)) → m.to ≡ node.Dram i →
         sending_bank_has_case p m ≡ true → dram_table p.dram m ≡ Some (d, lines) → is-done d ≡ true
     dram-done m d lines to has did =
-        let x = dram_answers p.dram m (sym (ap (λ t. has_case_at t p m) to) ∙ has) in
+        let x = dram_answers p.dram m (sym (ap (λ t. bank_has_case_at t p m) to) ∙ has) in
         ap (λ (y : Option (Reaction × FinMap nat_cmp (List ℕ))). done-in y) (sym did ∙ x.2)
 
     -- no message is dropped

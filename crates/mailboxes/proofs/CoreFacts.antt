@@ -24,7 +24,7 @@ use Rattle.mailboxes.specs.BoxMoves.{hold}
 use Rattle.mailboxes.specs.CoreServing.{CorePartOf, IsCoreMail, sending_core_has_case, sending_core_table}
 use Rattle.mailboxes.specs.Places.{AllOwn, AllLinked}
 use Rattle.mailboxes.specs.Stored.{stored_core}
-use Rattle.mailboxes.specs.Ties.{BoxTied, Chair, CoreTied}
+use Rattle.mailboxes.specs.Ties.{BoxTied, SlotSeat, CoreTied}
 use Rattle.mailboxes.proofs.BankFacts.{OfStanding}
 use Rattle.mailboxes.proofs.SentMessages.{box_stands, core_stands}
 use Rattle.mailboxes.proofs.ServedCores.{StayingCores, own_core, served_moves, served_own, served_linked}
@@ -63,20 +63,20 @@ module _ (laws : CoreLaws) (m : Machine) (b : Mailbox) (p : SendingCore) (ops : 
   pub all_cases : HaveCases sending_core_has_case b.inbox p
   all_cases = record { hand = λ x e. case in_hand x e; held = λ k x e. case (held_at k) x e }
 
-  abbrev pub chair : ℕ
-  chair = b.seat.me.0.number
+  abbrev pub seat_number : ℕ
+  seat_number = b.seat.me.0.number
 
   -- what the seat holds is again what it stores
-  abbrev pub Stored : Chair → SendingCore → InboxState Message → Type 0
+  abbrev pub Stored : SlotSeat → SendingCore → InboxState Message → Type 0
   Stored seat q c = seat.me ≡ (with_hold b.seat.me.0 (stored_core (hold b) q ops c), b.seat.me.1)
 
-  pub box_tied : (seat : Chair) (q : SendingCore) (c : InboxState Message) → Stored seat q c →
+  pub box_tied : (seat : SlotSeat) (q : SendingCore) (c : InboxState Message) → Stored seat q c →
       BoxTied seat b.number c.hand c.held
   box_tied seat q c changed =
       box_stands b.seat seat (stored_core (hold b) q ops c) b.number b.inbox.hand b.inbox.held c changed b.tied refl
       refl refl
 
-  pub core_tied : (seat : Chair) (q : SendingCore) (c : InboxState Message) → Stored seat q c →
+  pub core_tied : (seat : SlotSeat) (q : SendingCore) (c : InboxState Message) → Stored seat q c →
       CoreTied seat.me.0.mine q.core ops seat.me.0.mine.records q.outbox
   core_tied seat q c changed =
       core_stands b.seat seat q ops seat.me.0.mine.records c changed
@@ -84,7 +84,7 @@ module _ (laws : CoreLaws) (m : Machine) (b : Mailbox) (p : SendingCore) (ops : 
 
   module _ (stay : StayingCores) (result : Result Served Refusal) (c : InboxState Message) (q : SendingCore)
       (effect : Effect sending_core_table b.inbox p result c q) where
-    pub moves : SeatMove z chair (hold b) (stored_core (hold b) q ops c)
+    pub moves : SeatMove z seat_number (hold b) (stored_core (hold b) q ops c)
     moves =
         subst (λ n. SeatMove z n (hold b) (stored_core (hold b) q ops c)) (sym b.tied.number)
         (served_moves stay z id (hold b) ops p q b.inbox c is.1 has.tied.core has.tied.issued has.tied.outbox
@@ -93,9 +93,10 @@ module _ (laws : CoreLaws) (m : Machine) (b : Mailbox) (p : SendingCore) (ops : 
     pub own_after : AllOwn b.cores id c
     own_after = served_own stay b.cores b.banks id p q b.inbox c result effect b.own
 
-    pub linked_after : Standing z (seat_count z) chair (stored_core (hold b) q ops c) →
+    pub linked_after : Standing z (seat_count z) seat_number (stored_core (hold b) q ops c) →
         AllLinked b.cores b.banks id q.outbox.messages
     linked_after standing =
         let a = stored_core (hold b) q ops c in
-        served_linked stay b.cores b.banks id p q b.inbox c z chair a (subst (λ k. id < k) (sym is.0.2) is.1) is.0.2
-        is.0.3 (laws.outbox z (seat_count z) chair a m.good standing) has.linked result effect
+        served_linked stay b.cores b.banks id p q b.inbox c z seat_number a (subst (λ k. id < k) (sym is.0.2) is.1)
+        is.0.2
+        is.0.3 (laws.outbox z (seat_count z) seat_number a m.good standing) has.linked result effect

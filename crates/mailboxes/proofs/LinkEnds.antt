@@ -9,7 +9,7 @@ use Rattle.network.specs.declared.message.Node.TheVariants.{Core, Bank, Dram}
 use Rattle.machine_table.specs.declared.config.Config.{Config}
 use Rattle.seat_rule.specs.declared.views.SetUp.{SetUp}
 use Rattle.seat_rule.specs.Rule.{source, target, node_of, to_of}
-use Rattle.mailboxes.specs.Places.{has_link, link_to, incoming_count}
+use Rattle.mailboxes.specs.Places.{has_link_to, link_to, incoming_count}
 
 -- so many cores and banks have few slots
 pub few_slots : (cores banks : ℕ) → cores ≤ 64 → banks ≤ 8 → 8 * cores * banks ≤ 4096
@@ -77,7 +77,7 @@ bank_node z b =
 
 -- where there is a link to a node, it joins the seat and that node
 joins : (z : SetUp) (number : ℕ) (to : Node) → number < z.config.cores + z.config.banks →
-    has_link z.config.cores z.config.banks number to ≡ true →
+    has_link_to z.config.cores z.config.banks number to ≡ true →
     (source z (link_to z.config.cores z.config.banks number to) ≡ number)
     × (to ≡ node_of z (target z (link_to z.config.cores z.config.banks number to)))
 joins z number (Core c) below has =
@@ -97,13 +97,13 @@ joins z number (Dram d) below has = absurd (false≢true has)
 
 -- the same of a machine that is set up so
 pub joined : (c : Config) (number : ℕ) (to : Node) → number < c.cores + c.banks →
-    has_link c.cores c.banks number to ≡ true → (z : SetUp) → z.config ≡ c →
+    has_link_to c.cores c.banks number to ≡ true → (z : SetUp) → z.config ≡ c →
     (source z (link_to c.cores c.banks number to) ≡ number)
     × (to ≡ node_of z (target z (link_to c.cores c.banks number to)))
 joined c number to below has z is =
     subst
     (λ (y : Config).
-    number < y.cores + y.banks → has_link y.cores y.banks number to ≡ true →
+    number < y.cores + y.banks → has_link_to y.cores y.banks number to ≡ true →
     (source z (link_to y.cores y.banks number to) ≡ number)
     × (to ≡ node_of z (target z (link_to y.cores y.banks number to))))
     is (joins z number to) below has

@@ -11,7 +11,7 @@ use Rattle.mailboxes.specs.declared.mailbox.Mailbox.{Mailbox}
 use Rattle.mailboxes.specs.BoxMoves.{Stands}
 use Rattle.mailboxes.specs.declared.core_seat.CoreSeat.{CoreSeat}
 use Rattle.mailboxes.specs.declared.bank_seat.BankSeat.{BankSeat}
-use Rattle.mailboxes.specs.Ties.{Chair}
+use Rattle.mailboxes.specs.Ties.{SlotSeat}
 use Rattle.mailboxes.specs.Sending.{no_outbox}
 use Rattle.mailboxes.specs.Seats.{IsNewCore, IsNewBank, AllNewCores, AllNewBanks}
 
@@ -31,17 +31,18 @@ opened_stands : (m : Machine) (n : ℕ) (p : Mailbox) → p.number ≡ n → p.s
 opened_stands m n p number opens stands =
     subst (λ (y : ℕ × Hold). Standing m.set_up (seat_count m.set_up) y.0 y.1) (λ i. (sym number i, sym opens i)) stands
 
--- what a seat is once it is made of a chair of this number
-pub new_core : (m : Machine) (n : ℕ) (p : CoreSeat) (chair : Chair) → n < m.set_up.config.cores →
-    chair.table_id ≡ m.table.shared.table_id → chair.me.0.mine ≡ opening_hold m.set_up n → p.mail.seat ≡ chair →
+-- what a seat is once it is made of a slot_seat of this number
+pub new_core : (m : Machine) (n : ℕ) (p : CoreSeat) (slot_seat : SlotSeat) → n < m.set_up.config.cores →
+    slot_seat.table_id ≡ m.table.shared.table_id → slot_seat.me.0.mine ≡ opening_hold m.set_up n → p.mail.seat
+    ≡ slot_seat →
     p.mail.number ≡ n → p.mail.cores ≡ m.set_up.config.cores → p.mail.banks ≡ m.set_up.config.banks →
     p.mail.cursor ≡ 0 → p.is_stopped ≡ false → p.part.outbox ≡ no_outbox →
     Standing m.set_up (seat_count m.set_up) n (opening_hold m.set_up n) →
     IsNewCore m n p
-new_core m n p chair lt table mine seat number cores banks cursor runs nothing stands =
-    let opens = ap (λ (y : Chair). y.me.0.mine) seat ∙ mine in (
+new_core m n p slot_seat lt table mine seat number cores banks cursor runs nothing stands =
+    let opens = ap (λ (y : SlotSeat). y.me.0.mine) seat ∙ mine in (
       (
-        (ap (λ (y : Chair). y.table_id) seat ∙ table, omega arith, cores, banks),
+        (ap (λ (y : SlotSeat). y.table_id) seat ∙ table, omega arith, cores, banks),
         subst (λ k. k < m.set_up.config.cores) (sym number) lt,
         opened_stands m n p.mail number opens stands,
       ),
@@ -52,17 +53,17 @@ new_core m n p chair lt table mine seat number cores banks cursor runs nothing s
       nothing,
     )
 
-pub new_bank : (m : Machine) (n : ℕ) (p : BankSeat) (chair : Chair) → m.set_up.config.cores ≤ n →
-    n < m.set_up.config.cores + m.set_up.config.banks → chair.table_id ≡ m.table.shared.table_id →
-    chair.me.0.mine ≡ opening_hold m.set_up n → p.mail.seat ≡ chair → p.mail.number ≡ n →
+pub new_bank : (m : Machine) (n : ℕ) (p : BankSeat) (slot_seat : SlotSeat) → m.set_up.config.cores ≤ n →
+    n < m.set_up.config.cores + m.set_up.config.banks → slot_seat.table_id ≡ m.table.shared.table_id →
+    slot_seat.me.0.mine ≡ opening_hold m.set_up n → p.mail.seat ≡ slot_seat → p.mail.number ≡ n →
     p.mail.cores ≡ m.set_up.config.cores → p.mail.banks ≡ m.set_up.config.banks →
     p.mail.cursor ≡ 0 → p.is_stopped ≡ false → p.part.outbox ≡ no_outbox →
     Standing m.set_up (seat_count m.set_up) n (opening_hold m.set_up n) →
     IsNewBank m n p
-new_bank m n p chair le lt table mine seat number cores banks cursor runs nothing stands =
-    let opens = ap (λ (y : Chair). y.me.0.mine) seat ∙ mine in (
+new_bank m n p slot_seat le lt table mine seat number cores banks cursor runs nothing stands =
+    let opens = ap (λ (y : SlotSeat). y.me.0.mine) seat ∙ mine in (
       (
-        (ap (λ (y : Chair). y.table_id) seat ∙ table, omega arith, cores, banks),
+        (ap (λ (y : SlotSeat). y.table_id) seat ∙ table, omega arith, cores, banks),
         subst (λ k. m.set_up.config.cores ≤ k) (sym number) le,
         opened_stands m n p.mail number opens stands,
       ),

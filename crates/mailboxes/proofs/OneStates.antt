@@ -19,7 +19,7 @@ use Rattle.mailboxes.specs.declared.mailbox.Mailbox.{Mailbox}
 use Rattle.mailboxes.specs.declared.core_seat.CoreSeat.{CoreSeat}
 use Rattle.mailboxes.specs.declared.bank_seat.BankSeat.{BankSeat}
 use Rattle.mailboxes.specs.Places.{Belongs}
-use Rattle.mailboxes.specs.Ties.{Chair}
+use Rattle.mailboxes.specs.Ties.{SlotSeat}
 use Rattle.mailboxes.specs.Seats.{AllCoreSeats, HasCores, HasBanks}
 use Rattle.mailboxes.specs.BoxMoves.{hold}
 use Rattle.mailboxes.specs.Remains.{backwards, core_entry, bank_entry, entry, knows_all, OneState}
@@ -89,11 +89,11 @@ pub split_of : (all rest : List CoreSeat) (o : Option CoreSeat) (first : CoreSea
 split_of all rest o first a is = a ∙ ap (λ (x : Option CoreSeat). rest ++ option_to_list x) is
 
 -- its seat is of the machine's table
-pub table_of_first : (m : Machine) (all rest : List CoreSeat) (first : CoreSeat) (chair : Chair) →
-    AllCoreSeats m all → all ≡ rest ++ first ∷ [] → chair ≡ first.mail.seat →
-    chair.table_id ≡ m.table.shared.table_id
-table_of_first m all rest first chair seats split is =
-    ap (λ (y : Chair). y.table_id) is
+pub table_of_first : (m : Machine) (all rest : List CoreSeat) (first : CoreSeat) (slot_seat : SlotSeat) →
+    AllCoreSeats m all → all ≡ rest ++ first ∷ [] → slot_seat ≡ first.mail.seat →
+    slot_seat.table_id ≡ m.table.shared.table_id
+table_of_first m all rest first slot_seat seats split is =
+    ap (λ (y : SlotSeat). y.table_id) is
     ∙ (seats (length rest) first (ap (λ y. slice_get y (length rest)) split ∙ get_middle rest first [])).0.0
 
 pub at_table : (m : Machine) (t : TableId) → t ≡ m.table.shared.table_id →
@@ -101,12 +101,12 @@ pub at_table : (m : Machine) (t : TableId) → t ≡ m.table.shared.table_id →
 at_table m t is = (is, m.sized.1 ∙ ap (λ z. slot_count z + 1) (sym m.keyed), m.sized.2 ∙ ap slot_count (sym m.keyed))
 
 -- what is known after the others were joined, those of cores and then those of banks
-pub view_of_first : (first : CoreSeat) (rest : List CoreSeat) (banks : List BankSeat) (chair cores all : Chair) →
-    chair ≡ first.mail.seat → cores.me ≡ (knows_all chair.me.0 (backwards core_entry rest), chair.me.1) →
+pub view_of_first : (first : CoreSeat) (rest : List CoreSeat) (banks : List BankSeat) (slot_seat cores all : SlotSeat) →
+    slot_seat ≡ first.mail.seat → cores.me ≡ (knows_all slot_seat.me.0 (backwards core_entry rest), slot_seat.me.1) →
     all.me ≡ (knows_all cores.me.0 (backwards bank_entry banks), cores.me.1) →
     all.me.0 ≡
     knows_all (knows_all first.mail.seat.me.0 (backwards core_entry rest)) (backwards bank_entry banks)
-view_of_first first rest banks chair cores all is a b =
+view_of_first first rest banks slot_seat cores all is a b =
     ap (λ y. y.0) b
     ∙ ap (λ (y : View Hold). knows_all y (backwards bank_entry banks))
-    (ap (λ y. y.0) a ∙ ap (λ (y : Chair). knows_all y.me.0 (backwards core_entry rest)) is)
+    (ap (λ y. y.0) a ∙ ap (λ (y : SlotSeat). knows_all y.me.0 (backwards core_entry rest)) is)

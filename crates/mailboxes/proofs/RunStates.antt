@@ -7,7 +7,7 @@ use Rattle.std.proofs.lemmas.Option.{slice_get_read, slice_get_within}
 use Rattle.seat_views.proofs.Lemmas.{some_is}
 use Rattle.mailboxes.specs.declared.run.Run.{Run}
 use Rattle.mailboxes.specs.declared.closed_machine.CorePart.{CorePart}
-use Rattle.mailboxes.specs.RunParts.{Parts, state_of}
+use Rattle.mailboxes.specs.RunParts.{Parts, state_of_run}
 
 -- records that stand at the places of their numbers rise
 rises_from : (n : ℕ) (rs : List Record) →
@@ -25,9 +25,9 @@ rises rs at = rises_from 0 rs (λ k r e. let a = at k r e in omega arith)
 
 -- a core's part has what the core was issued
 pub issued_is : (run : Run) (parts : Parts run) (core i : ℕ) (p : CorePart) → slice_get run.cores.items i ≡ Some p →
-    p.number ≡ core → p.issued.items ≡ (state_of run parts).issued core
+    p.number ≡ core → p.issued.items ≡ (state_of_run run parts).issued core
 issued_is run parts core i p e n =
-    sym (parts.of_cores i p e).issued ∙ ap (λ c. (state_of run parts).issued c) n
+    sym (parts.of_cores i p e).issued ∙ ap (λ c. (state_of_run run parts).issued c) n
 
 -- the part that is read at a place where one of a number stands
 pub found : {A : Type 0} → (number : A → ℕ) (items : List A) (n at : ℕ) (p q : A) → slice_get items at ≡ Some p →
@@ -39,7 +39,7 @@ found number items n at p q e is read =
 -- and so has the part that is read at a place where one of its number stands
 pub found_issued : (run : Run) (parts : Parts run) (core at : ℕ) (p q : CorePart) →
     slice_get run.cores.items at ≡ Some p → p.number ≡ core → q ≡ get_or run.cores.items at q →
-    q.issued.items ≡ (state_of run parts).issued core
+    q.issued.items ≡ (state_of_run run parts).issued core
 found_issued run parts core at p q e n is =
     let here = found (λ (x : CorePart). x.number) run.cores.items core at p q e n is in
     issued_is run parts core at q here.0 here.1

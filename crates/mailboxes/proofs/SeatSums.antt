@@ -10,14 +10,14 @@ use Rattle.machine_theorem.specs.Bags.{weigh}
 use Rattle.inbox.specs.Inboxes.{InboxState}
 use Rattle.seat_views.specs.Seated.{over}
 use Rattle.seat_views.proofs.Lemmas.{some_is}
-use Rattle.seat_rule.specs.Rule.{bag_of, content, counts_of, slot_count}
+use Rattle.seat_rule.specs.Rule.{bag_of_hold, content, counts_of, slot_count}
 use Rattle.seat_rule.specs.Ended.{lies}
 use Rattle.seat_rule.proofs.Lemmas.{weigh-append}
 use Rattle.mailboxes.specs.declared.run.Run.{Run}
 use Rattle.mailboxes.specs.declared.closed_machine.CorePart.{CorePart}
 use Rattle.mailboxes.specs.Sending.{OutboxState}
 use Rattle.mailboxes.specs.RunParts.{Parts}
-use Rattle.mailboxes.specs.RunSums.{Left, AreCountsOf, messages_of, plus}
+use Rattle.mailboxes.specs.RunSums.{Left, AreCountsOf, messages_left, plus}
 use Rattle.mailboxes.proofs.RunStates.{found}
 
 -- with one number more
@@ -58,7 +58,7 @@ weigh_more f xs n sum more a b = rw (add-one n) (let r = weigh_take f xs n in om
 -- the messages that a seat left, added up place by place
 pub weigh_left : (f : Message → ℕ) (outbox : OutboxState) (inbox : InboxState Message) (out hand held : ℕ) →
     out ≡ weigh f outbox.messages → hand ≡ weigh f (option_to_list inbox.hand) → held ≡ weigh f inbox.held →
-    out + hand + held ≡ weigh f (messages_of outbox inbox)
+    out + hand + held ≡ weigh f (messages_left outbox inbox)
 weigh_left f outbox inbox out hand held a b c =
     let first = weigh-append f outbox.messages (option_to_list inbox.hand ++ inbox.held) in
     let second = weigh-append f (option_to_list inbox.hand) inbox.held in
@@ -74,19 +74,19 @@ module _ (run : Run) (number : ℕ) (outbox : OutboxState) (inbox : InboxState M
       (λ x. ap (λ (o : OutboxState). o.counts) (sym x.4) ∙ sym (counts.1 x.0 x.1 x.2) ∙ ap each x.3)
       left
 
-  pub left_messages : (parts : Parts run) → messages_of outbox inbox ≡ bag_of (parts.seats number)
+  pub left_messages : (parts : Parts run) → messages_left outbox inbox ≡ bag_of_hold (parts.seats number)
   left_messages parts =
       ⊎_elim
       (λ x.
       let is = parts.of_cores x.0 x.1 x.2 in
-      (λ i. messages_of (sym x.4 i) (sym x.5 i))
+      (λ i. messages_left (sym x.4 i) (sym x.5 i))
       ∙ (λ i. sym is.outbox i ++ (option_to_list (sym is.hand i) ++ sym is.held i))
-      ∙ ap (λ j. bag_of (parts.seats j)) x.3)
+      ∙ ap (λ j. bag_of_hold (parts.seats j)) x.3)
       (λ x.
       let is = parts.of_banks x.0 x.1 x.2 in
-      (λ i. messages_of (sym x.4 i) (sym x.5 i))
+      (λ i. messages_left (sym x.4 i) (sym x.5 i))
       ∙ (λ i. sym is.outbox i ++ (option_to_list (sym is.hand i) ++ sym is.held i))
-      ∙ ap (λ j. bag_of (parts.seats j)) x.3)
+      ∙ ap (λ j. bag_of_hold (parts.seats j)) x.3)
       left
 
 -- the core that is read at a place where a part of its number stands

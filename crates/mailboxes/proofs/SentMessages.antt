@@ -9,7 +9,7 @@ use Rattle.physiological_order.specs.declared.operation.Record.{Record}
 use Rattle.seat_views.proofs.Lemmas.{some_is}
 use Rattle.seat_views.specs.Seated.{with_hold}
 use Rattle.seat_rule.specs.Plays.{SeatState}
-use Rattle.mailboxes.specs.Ties.{BoxTied, Chair, CoreTied}
+use Rattle.mailboxes.specs.Ties.{BoxTied, SlotSeat, CoreTied}
 use Rattle.network.specs.declared.message.Node.{Node}
 use Rattle.network.specs.declared.message.Node.TheVariants.{Core, Bank, Dram}
 use Rattle.network.specs.declared.message.Body.{Body}
@@ -32,14 +32,14 @@ use Rattle.inbox.specs.Inboxes.{InboxState}
 use Rattle.seat_rule.specs.declared.views.SetUp.{SetUp}
 use Rattle.seat_rule.specs.declared.views.Hold.{Hold}
 use Rattle.seat_rule.specs.Found.{FindsHere}
-use Rattle.seat_rule.specs.Rule.{bag_of}
-use Rattle.seat_rule.specs.SeatMoves.{SeatMove, Sends, asks_to_read, asks_to_write, evicts_copy}
+use Rattle.seat_rule.specs.Rule.{bag_of_hold}
+use Rattle.seat_rule.specs.SeatMoves.{SeatMove, HoldSends, asks_to_read, asks_to_write, evicts_copy}
 use Rattle.seat_rule.specs.Serving.{core_now}
 use Rattle.mailboxes.specs.declared.sending.SendingCore.{SendingCore}
 use Rattle.mailboxes.specs.Attempts.{Asks, to_read, to_write, asking}
 use Rattle.mailboxes.specs.CoreCalls.{sending_hold}
 use Rattle.mailboxes.specs.Evictions.{TakesOut}
-use Rattle.mailboxes.specs.Places.{AllLinked, has_link}
+use Rattle.mailboxes.specs.Places.{AllLinked, has_link_to}
 use Rattle.mailboxes.specs.Sending.{OutboxState, sent_if, sent_out}
 use Rattle.mailboxes.specs.Stored.{stored_core}
 use Rattle.mailboxes.proofs.NewSeats.{get_snoc, none_some}
@@ -57,7 +57,7 @@ stored_sending a part issued b ops hand held =
 
 -- the seat has what it sent besides its other messages, and it is counted
 pub sent_more : (a : Hold) (core : CoreState) (out new : OutboxState) (m : Message) → a.outbox ≡ out.messages →
-    a.counts ≡ out.counts → new ≡ sent_out out m → Sends a (sending_hold a core new) (bag_of a) (Some m)
+    a.counts ≡ out.counts → new ≡ sent_out out m → HoldSends a (sending_hold a core new) (bag_of_hold a) (Some m)
 sent_more a core out new m outbox counts is =
     record {
       bag = λ f. let others : List Message = option_to_list a.hand ++ a.held in
@@ -72,7 +72,7 @@ sent_more a core out new m outbox counts is =
     }
 
 pub sent_none : (a : Hold) (core : CoreState) (out new : OutboxState) → a.outbox ≡ out.messages →
-    a.counts ≡ out.counts → new ≡ out → Sends a (sending_hold a core new) (bag_of a) None
+    a.counts ≡ out.counts → new ≡ out → HoldSends a (sending_hold a core new) (bag_of_hold a) None
 sent_none a core out new outbox counts is =
     record {
       bag = λ f.
@@ -83,7 +83,7 @@ sent_none a core out new outbox counts is =
 
 pub sent_some : (a : Hold) (core : CoreState) (out new : OutboxState) (back : Option Message) →
     a.outbox ≡ out.messages → a.counts ≡ out.counts → new ≡ sent_if out back →
-    Sends a (sending_hold a core new) (bag_of a) back
+    HoldSends a (sending_hold a core new) (bag_of_hold a) back
 sent_some a core out new None outbox counts is = sent_none a core out new outbox counts is
 sent_some a core out new (Some m) outbox counts is = sent_more a core out new m outbox counts is
 
@@ -93,11 +93,11 @@ pub ask_moves : (z : SetUp) (id : ℕ) (a : Hold) (m : Message) (core : CoreStat
     new ≡ sent_out out m → SeatMove z id a (sending_hold a core new)
 ask_moves z id a m core out new below (to_read op pts version after opened answer is) asks outbox counts sent =
     asks_to_read op pts version after below opened answer asks refl (record { bank = refl; dram = refl })
-    (subst (λ x. Sends a (sending_hold a core new) (bag_of a) (Some x)) is
+    (subst (λ x. HoldSends a (sending_hold a core new) (bag_of_hold a) (Some x)) is
     (sent_more a core out new m outbox counts sent))
 ask_moves z id a m core out new below (to_write op version after opened answer is) asks outbox counts sent =
     asks_to_write op version after below opened answer asks refl (record { bank = refl; dram = refl })
-    (subst (λ x. Sends a (sending_hold a core new) (bag_of a) (Some x)) is
+    (subst (λ x. HoldSends a (sending_hold a core new) (bag_of_hold a) (Some x)) is
     (sent_more a core out new m outbox counts sent))
 
 -- a copy is taken out
@@ -110,9 +110,9 @@ evict_moves z id a line p q below core outbox counts t =
 
 -- one more message that has a link
 pub linked_more : (cores banks number : ℕ) (ms : List Message) (m : Message) → AllLinked cores banks number ms →
-    has_link cores banks number m.to ≡ true → AllLinked cores banks number (ms ++ m ∷ [])
+    has_link_to cores banks number m.to ≡ true → AllLinked cores banks number (ms ++ m ∷ [])
 linked_more cores banks number ms m all one i x e =
-    ⊎_elim (λ t. all i x t) (λ t. ap (λ (y : Message). has_link cores banks number y.to) (sym t.1) ∙ one)
+    ⊎_elim (λ t. all i x t) (λ t. ap (λ (y : Message). has_link_to cores banks number y.to) (sym t.1) ∙ one)
     (get_snoc ms m x i e)
 
 -- a message to a bank goes to one of those that there are
@@ -164,11 +164,11 @@ below_banks cores banks b from (DramLdRep words) e = back banks b from e
 below_banks cores banks b from DramStRep e = back banks b from e
 
 pub linked_to_bank : (cores banks number b : ℕ) (m : Message) → number < cores → m.to ≡ Bank b →
-    has_endpoints cores banks m ≡ true → has_link cores banks number m.to ≡ true
+    has_endpoints cores banks m ≡ true → has_link_to cores banks number m.to ≡ true
 linked_to_bank cores banks number b m lt to e =
     let below = below_banks cores banks b m.from m.body
     (ap (λ t. has_route cores banks m.from t m.body) (sym to) ∙ e) in
-    ap (has_link cores banks number) to ∙ both _ _ (lt-ltb number cores lt) (lt-ltb b banks below)
+    ap (has_link_to cores banks number) to ∙ both _ _ (lt-ltb number cores lt) (lt-ltb b banks below)
 
 -- what is sent back goes to the bank of the line
 abbrev got : Result (Option Message) CacheError → Option Message
@@ -251,7 +251,7 @@ linked_back z id cores banks number line b p q below cs bs t found all =
     linked_if z id cores banks number line b p.core q.core t.0 p.outbox q.outbox below cs bs t.1 t.2 found all
 
 -- what is stored is what the view has, after a change
-pub box_stands : (old new : Chair) (b : Hold) (n : ℕ) (h : Option Message) (waiting : List Message)
+pub box_stands : (old new : SlotSeat) (b : Hold) (n : ℕ) (h : Option Message) (waiting : List Message)
     (now : InboxState Message) → new.me ≡ (with_hold old.me.0 b, old.me.1) → BoxTied old n h waiting →
     b.stage ≡ old.me.0.mine.stage → b.hand ≡ now.hand → b.held ≡ now.held → BoxTied new n now.hand now.held
 box_stands old new b n h waiting now changed tied stage hand held =
@@ -264,7 +264,7 @@ box_stands old new b n h waiting now changed tied stage hand held =
       held = ap (λ (y : SeatState). y.0.mine.held) changed ∙ held;
     }
 
-pub core_stands : (old new : Chair) (part : SendingCore) (issued : List Op) (records : List Record)
+pub core_stands : (old new : SlotSeat) (part : SendingCore) (issued : List Op) (records : List Record)
     (now : InboxState Message) →
     new.me ≡ (with_hold old.me.0 (stored_core old.me.0.mine part issued now), old.me.1) →
     old.me.0.mine.records ≡ records → CoreTied new.me.0.mine part.core issued records part.outbox

@@ -26,7 +26,7 @@ use Rattle.inbox.specs.Effects.{delivered, dropped, started, moved, unchanged}
 use Rattle.seat_views.proofs.Lemmas.{some_is}
 use Rattle.seat_rule.specs.declared.views.SetUp.{SetUp}
 use Rattle.seat_rule.specs.declared.views.Hold.{Hold}
-use Rattle.seat_rule.specs.Rule.{bag_of}
+use Rattle.seat_rule.specs.Rule.{bag_of_hold}
 use Rattle.seat_rule.specs.Found.{FindsHere}
 use Rattle.seat_rule.specs.SeatMoves.{SeatMove, core_gets, core_drops, sorts}
 use Rattle.seat_rule.specs.Serving.{counted_if}
@@ -194,12 +194,12 @@ module _ (stay : StayingCores) (z : SetUp) (id : ℕ) (a : Hold) (ops : List Op)
   abbrev after : Hold
   after = stored_core a q ops c
 
-  bag_before : bag_of a ≡ p.outbox.messages ++ messages_of b
+  bag_before : bag_of_hold a ≡ p.outbox.messages ++ messages_of b
   bag_before = λ k. outbox k ++ (option_to_list (hand k) ++ held k)
 
   -- a message lies somewhere, and the others
   apart : (m : Message) (rest : List Message) → SameMessages (messages_of b) (m ∷ rest) →
-      SameBag (bag_of a) (m ∷ (p.outbox.messages ++ rest))
+      SameBag (bag_of_hold a) (m ∷ (p.outbox.messages ++ rest))
   apart m rest same f =
       let e = ap (weigh f) bag_before in
       let x = weigh-append f p.outbox.messages (messages_of b) in
@@ -208,7 +208,8 @@ module _ (stay : StayingCores) (z : SetUp) (id : ℕ) (a : Hold) (ops : List Op)
       omega arith
 
   whole : (reply : Option Message) (rest : List Message) → q.outbox ≡ sent_if p.outbox reply →
-      SameMessages (messages_of c) rest → SameBag (bag_of after) (option_to_list reply ++ (p.outbox.messages ++ rest))
+      SameMessages (messages_of c) rest → SameBag (bag_of_hold after)
+      (option_to_list reply ++ (p.outbox.messages ++ rest))
   whole reply rest sent same f =
       let x = weigh-append f q.outbox.messages (messages_of c) in
       let y = weigh-append f (option_to_list reply) (p.outbox.messages ++ rest) in

@@ -25,7 +25,7 @@ use Rattle.mailboxes.specs.Sending.{OutboxState, can_send_out, sent_out}
 use Rattle.mailboxes.specs.CoreCalls.{SameHold, sending_hold}
 
 -- the core's table completes the open operation, which has this place, and no operation is open then
-pub record IsCompletion (p : CoreState) (op : Op) (place : ℕ) (received : Option ℕ) (ts : ℕ) (q : CoreState) : Type 0
+pub record CoreCompletes (p : CoreState) (op : Op) (place : ℕ) (received : Option ℕ) (ts : ℕ) (q : CoreState) : Type 0
   where
     pub is_open : p.open_op ≡ Some op
     pub answer : core_table.attempt p ≡ (Some (attempted.Completed received ts), q)
@@ -36,7 +36,7 @@ pub record IsCompletion (p : CoreState) (op : Op) (place : ℕ) (received : Opti
 -- the seat completed its open operation with this record, which it drew the number of
 abbrev pub Completes : Machine → Record → CoreSeat → CoreSeat → Type 0
 Completes m r p q =
-    IsCompletion p.part.core r.op r.place r.received r.ts q.part.core
+    CoreCompletes p.part.core r.op r.place r.received r.ts q.part.core
     × (r ≡ record_of p.mail.number r.number p.part.core r.op r.received r.ts)
     × finished m.set_up (seat_count m.set_up) q.part.core r.op r.received r.ts p.mail.seat.me r.number q.mail.seat.me
 
@@ -73,19 +73,19 @@ abbrev pub Tries : CoreState → Outcome → CoreState → Type 0
 Tries p (Keeps answer) q = (q ≡ p) × (answer ≢ Refused NoMemory)
 Tries p Exhausts q = q ≡ p
 Tries p (Requests m) q = (q ≡ p) × Asks p m
-Tries p (CompletesWith d) q = IsCompletion p d.op d.place d.received d.ts q
+Tries p (CompletesWith d) q = CoreCompletes p d.op d.place d.received d.ts q
 
 -- a request is sent if the seat has a place for it, and can still send
-abbrev pub sent_if : OutboxState → Outcome → Outcome
-sent_if out (Keeps answer) = Keeps answer
-sent_if out Exhausts = Exhausts
-sent_if out (Requests m) = cond (can_send_out out) (Requests m) (Keeps (Refused NetworkFull))
-sent_if out (CompletesWith d) = CompletesWith d
+abbrev pub sent_if_room : OutboxState → Outcome → Outcome
+sent_if_room out (Keeps answer) = Keeps answer
+sent_if_room out Exhausts = Exhausts
+sent_if_room out (Requests m) = cond (can_send_out out) (Requests m) (Keeps (Refused NetworkFull))
+sent_if_room out (CompletesWith d) = CompletesWith d
 
 -- what an attempt comes to: by the core's table, but a stopped seat refuses
 abbrev pub outcome : Bool → SendingCore → Outcome
 outcome true part = Keeps (Refused Stopped)
-outcome false part = sent_if part.outbox (tried part.core)
+outcome false part = sent_if_room part.outbox (tried part.core)
 
 -- the core with its request out
 abbrev pub asking : CoreState → CoreState

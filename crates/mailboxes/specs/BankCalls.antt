@@ -14,7 +14,7 @@ use Rattle.llc_bank.specs.declared.entry.EvictError.TheVariants as evict_error
 use Rattle.llc_bank.specs.BankTable.{BankState, make_room, or_else, sent_to}
 use Rattle.machine_table.specs.declared.event.Refusal.{Refusal}
 use Rattle.machine_table.specs.declared.event.Refusal.TheVariants.{Busy, NoSuch, NetworkFull, Stopped}
-use Rattle.machine_moves.specs.Moves.{sent_by}
+use Rattle.machine_moves.specs.Moves.{sent_by_eviction}
 use Rattle.inbox.specs.Inboxes.{InboxState, inbox}
 use Rattle.inbox.specs.Serving.{Place, order_of, sent_list, served_of}
 use Rattle.mailboxes.specs.declared.bank_seat.BankSeat.{BankSeat}
@@ -69,11 +69,11 @@ abbrev pub eviction_fits : OutboxState → List Message → Evict → Bool
 eviction_fits out held done = finds_places out (256 - length held) (to_post (sent_to done))
 
 -- an eviction by the bank's table, if what it sends finds its place; a stopped seat refuses
-abbrev pub evict_answer : Bool → OutboxState → List Message → Result Evict EvictError → Result Eviction Refusal
-evict_answer true out held done = Err Stopped
-evict_answer false out held (Err evict_error.NotHere) = Err NoSuch
-evict_answer false out held (Err evict_error.Busy) = Err Busy
-evict_answer false out held (Ok done) = cond (eviction_fits out held done) (Ok (became done)) (Err NetworkFull)
+abbrev pub bank_evict_answer : Bool → OutboxState → List Message → Result Evict EvictError → Result Eviction Refusal
+bank_evict_answer true out held done = Err Stopped
+bank_evict_answer false out held (Err evict_error.NotHere) = Err NoSuch
+bank_evict_answer false out held (Err evict_error.Busy) = Err Busy
+bank_evict_answer false out held (Ok done) = cond (eviction_fits out held done) (Ok (became done)) (Err NetworkFull)
 
 -- a message is sent, if there is one: the outbox, and the messages that came in, with what is told at the end of the
 -- held list
@@ -87,10 +87,10 @@ told_if (Some m) = told m
 
 -- the part and the messages that came in, after an eviction
 abbrev pub evicted_part : SendingBank → BankState → Evict → SendingBank
-evicted_part p bank done = record p { bank = bank; outbox = posted_if p.outbox (sent_by done) }
+evicted_part p bank done = record p { bank = bank; outbox = posted_if p.outbox (sent_by_eviction done) }
 
 abbrev pub evicted_inbox : InboxState Message → Evict → InboxState Message
-evicted_inbox b done = inbox b.hand (b.held ++ sent_list (told_if (sent_by done)))
+evicted_inbox b done = inbox b.hand (b.held ++ sent_list (told_if (sent_by_eviction done)))
 
 -- the line was evicted: the bank's table did this
 abbrev pub Evicts : Result Evict EvictError × BankState → InboxState Message → SendingBank → InboxState Message →

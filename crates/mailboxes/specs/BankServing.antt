@@ -13,7 +13,7 @@ use Rattle.inbox.specs.declared.answer.Answer.TheVariants.{Delivered, Dropped, S
 use Rattle.inbox.specs.declared.answer.Refusal.TheVariants.{Full, NoMemory, Exhausted}
 use Rattle.inbox.specs.Serving.{is_quiet}
 use Rattle.mailboxes.specs.declared.sending.SendingBank.{SendingBank}
-use Rattle.mailboxes.specs.Sending.{OutboxState, can_send, can_send_out, noted, sent_out}
+use Rattle.mailboxes.specs.Sending.{OutboxState, can_still_send, can_send_out, noted, sent_out}
 
 -- whether a message of the bank or its DRAM leaves the seat: it goes to a core
 abbrev pub leaves : Node → Bool
@@ -33,7 +33,7 @@ places_for false false = 1
 abbrev pub finds_places : OutboxState → ℕ → Option (Node × Bool) → Bool
 finds_places out places None = true
 finds_places out places (Some (to, stays)) =
-    cond (leaves to) (can_send_out out) (can_send out) && nat_le (places_for stays (leaves to)) places
+    cond (leaves to) (can_send_out out) (can_still_send out) && nat_le (places_for stays (leaves to)) places
 
 -- a message is sent: one that leaves goes to the outbox, and any other is told, for the held list
 abbrev pub posted : OutboxState → Message → OutboxState
@@ -43,12 +43,12 @@ abbrev pub told : Message → Option Message
 told m = cond (leaves m.to) None (Some m)
 
 -- what is answered to a delivered message, by what the part did with it, and the outbox afterwards
-abbrev pub answer_of : Reaction → Answer Message
-answer_of (does.Done None) = Delivered None
-answer_of (does.Done (Some m)) = Delivered (told m)
-answer_of does.Dropped = Dropped
-answer_of does.Held = Held
-answer_of (does.HeldAfter m) = Started (told m)
+abbrev pub reaction_answer : Reaction → Answer Message
+reaction_answer (does.Done None) = Delivered None
+reaction_answer (does.Done (Some m)) = Delivered (told m)
+reaction_answer does.Dropped = Dropped
+reaction_answer does.Held = Held
+reaction_answer (does.HeldAfter m) = Started (told m)
 
 abbrev pub sent_for : OutboxState → Reaction → OutboxState
 sent_for out (does.Done None) = out
@@ -61,7 +61,7 @@ module _ {P : Type 0} where
   -- the answer of a part that does this, with the part and the outbox afterwards
   abbrev pub replied : OutboxState → P → Option (Reaction × P) → Answer Message × P × OutboxState
   replied out p None = (Refused Exhausted, p, out)
-  replied out p (Some r) = (answer_of r.0, r.1, sent_for out r.0)
+  replied out p (Some r) = (reaction_answer r.0, r.1, sent_for out r.0)
 
   -- that, if what it would send finds its places; else Full, and nothing changed
   abbrev pub reacts : OutboxState → ℕ → P → Option (Reaction × P) → Answer Message × P × OutboxState
@@ -90,13 +90,13 @@ abbrev pub sending_bank_table : SendingBank → Message → ℕ → Answer Messa
 sending_bank_table p m places = reacts_at m.to p m places
 
 -- the part that the message goes to has a case for it
-abbrev pub has_case_at : Node → SendingBank → Message → Bool
-has_case_at (node.Core c) p m = false
-has_case_at (node.Bank b) p m = bank_has_case p.bank m
-has_case_at (node.Dram d) p m = dram_has_case p.dram m
+abbrev pub bank_has_case_at : Node → SendingBank → Message → Bool
+bank_has_case_at (node.Core c) p m = false
+bank_has_case_at (node.Bank b) p m = bank_has_case p.bank m
+bank_has_case_at (node.Dram d) p m = dram_has_case p.dram m
 
 abbrev pub sending_bank_has_case : SendingBank → Message → Bool
-sending_bank_has_case p m = has_case_at m.to p m
+sending_bank_has_case p m = bank_has_case_at m.to p m
 
 -- memory is taken for a line that the DRAM was never given before
 abbrev pub takes_memory_at : Node → SendingBank → Message → Bool

@@ -11,14 +11,14 @@ use Rattle.mailboxes.specs.BankCalls.{SameBankPlace, ServesStore}
 use Rattle.mailboxes.specs.BankServing.{sending_bank_table, sending_bank_takes_memory}
 use Rattle.mailboxes.specs.BoxMoves.{Puts, Stays, Takes, hold}
 use Rattle.mailboxes.specs.SeatServing.{SeatServes, is_exhausted}
-use Rattle.mailboxes.specs.Seats.{SameBank}
+use Rattle.mailboxes.specs.Seats.{SameBankPart}
 use Rattle.mailboxes.specs.Stored.{stored_bank}
 use Rattle.mailboxes.specs.Turns.{Turns}
 
 -- a message was put, or none found a free slot
 abbrev pub BankPuts : Machine → Bool → BankSeat → BankSeat → Type 0
 BankPuts m done p q =
-    SameBank p q × Stays p.mail q.mail
+    SameBankPart p q × Stays p.mail q.mail
     × Puts done p.mail p.part.outbox.messages q.mail q.part.outbox.messages
 
 -- a message was served, or none
@@ -34,7 +34,7 @@ BankServes m result p q =
 -- a message was taken, or none
 abbrev pub BankTakes : Machine → Take → BankSeat → BankSeat → Type 0
 BankTakes m result p q =
-    SameBank p q × Stays p.mail q.mail × (q.part.outbox ≡ p.part.outbox) × Takes m.set_up result p.mail q.mail
+    SameBankPart p q × Stays p.mail q.mail × (q.part.outbox ≡ p.part.outbox) × Takes m.set_up result p.mail q.mail
 
 -- whether a message is in the hand, how many are to be put, and the seat's number
 abbrev pub bank_hand : BankSeat → Bool

@@ -17,18 +17,18 @@ use Rattle.mailboxes.specs.Sending.{can_send_out, sent_out}
 use Rattle.mailboxes.specs.Ties.{CoreTied}
 
 -- that, with a message sent to the outbox, if it can be sent; else Full, and nothing changed
-abbrev pub sends : SendingCore → CoreState → Message → Answer Message → Answer Message × SendingCore
-sends p core m answer =
+abbrev pub sends_or_full : SendingCore → CoreState → Message → Answer Message → Answer Message × SendingCore
+sends_or_full p core m answer =
     cond (can_send_out p.outbox) (answer, record { core = core; outbox = sent_out p.outbox m }) (Refused Full, p)
 
 -- what is answered to a delivered message, by what the core did with it, and the part afterwards
 abbrev pub core_reacts : SendingCore → Option (Reaction × CoreState) → Answer Message × SendingCore
 core_reacts p None = (Refused Exhausted, p)
 core_reacts p (Some (does.Done None, core)) = (Delivered None, record p { core = core })
-core_reacts p (Some (does.Done (Some m), core)) = sends p core m (Delivered None)
+core_reacts p (Some (does.Done (Some m), core)) = sends_or_full p core m (Delivered None)
 core_reacts p (Some (does.Dropped, core)) = (Dropped, record p { core = core })
 core_reacts p (Some (does.Held, core)) = (Held, record p { core = core })
-core_reacts p (Some (does.HeldAfter m, core)) = sends p core m (Started None)
+core_reacts p (Some (does.HeldAfter m, core)) = sends_or_full p core m (Started None)
 
 -- the core answers by its table
 abbrev pub sending_core_table : SendingCore → Message → ℕ → Answer Message × SendingCore

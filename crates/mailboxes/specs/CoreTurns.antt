@@ -11,14 +11,14 @@ use Rattle.mailboxes.specs.BoxMoves.{Puts, Stays, Takes, hold}
 use Rattle.mailboxes.specs.CoreCalls.{SamePlace}
 use Rattle.mailboxes.specs.CoreServing.{sending_core_table, sending_core_takes_memory}
 use Rattle.mailboxes.specs.SeatServing.{SeatServes, is_exhausted}
-use Rattle.mailboxes.specs.Seats.{SameCore}
+use Rattle.mailboxes.specs.Seats.{SameCorePart}
 use Rattle.mailboxes.specs.Stored.{stored_core}
 use Rattle.mailboxes.specs.Turns.{Turns}
 
 -- a message was put, or none found a free slot
 abbrev pub CorePuts : Machine → Bool → CoreSeat → CoreSeat → Type 0
 CorePuts m done p q =
-    SameCore p q × Stays p.mail q.mail
+    SameCorePart p q × Stays p.mail q.mail
     × Puts done p.mail p.part.outbox.messages q.mail q.part.outbox.messages
 
 -- a message was served, or none
@@ -33,7 +33,7 @@ CoreServes m result p q =
 -- a message was taken, or none
 abbrev pub CoreTakes : Machine → Take → CoreSeat → CoreSeat → Type 0
 CoreTakes m result p q =
-    SameCore p q × Stays p.mail q.mail × (q.part.outbox ≡ p.part.outbox) × Takes m.set_up result p.mail q.mail
+    SameCorePart p q × Stays p.mail q.mail × (q.part.outbox ≡ p.part.outbox) × Takes m.set_up result p.mail q.mail
 
 -- whether a message is in the hand, how many are to be put, and the seat's number
 abbrev pub core_hand : CoreSeat → Bool

@@ -11,9 +11,9 @@ use Rattle.mailboxes.specs.declared.sending.SendingCore.{SendingCore}
 use Rattle.mailboxes.specs.Sending.{can_send_out, sent_if, sent_out}
 
 -- the copy is gone, and this is sent back, if the seat has a place for it and can still send
-abbrev pub sent_back : SendingCore → CoreState → Option Message → Result (Unit {0}) Refusal × SendingCore
-sent_back part core None = (Ok tt, record part { core = core })
-sent_back part core (Some m) =
+abbrev pub sent_back_if_room : SendingCore → CoreState → Option Message → Result (Unit {0}) Refusal × SendingCore
+sent_back_if_room part core None = (Ok tt, record part { core = core })
+sent_back_if_room part core (Some m) =
     cond (can_send_out part.outbox) (Ok tt, record { core = core; outbox = sent_out part.outbox m })
     (Err refusal.NetworkFull, part)
 
@@ -23,15 +23,15 @@ abbrev pub evicts : SendingCore → Result (Option Message) CacheError × CoreSt
 evicts part (Err NotHere, core) = (Err refusal.NoSuch, part)
 evicts part (Err NoRoom, core) = (Err refusal.NoSuch, part)
 evicts part (Err Pinned, core) = (Err refusal.Pinned, part)
-evicts part (Ok back, core) = sent_back part core back
+evicts part (Ok back, core) = sent_back_if_room part core back
 
-abbrev pub evicted : SendingCore → ℕ → Result (Unit {0}) Refusal × SendingCore
-evicted part line = evicts part (core_table.evict part.core line)
+abbrev pub evicted_by_core : SendingCore → ℕ → Result (Unit {0}) Refusal × SendingCore
+evicted_by_core part line = evicts part (core_table.evict part.core line)
 
 -- a stopped seat refuses
-abbrev pub evict_answer : Bool → SendingCore → ℕ → Result (Unit {0}) Refusal
-evict_answer true part line = Err refusal.Stopped
-evict_answer false part line = (evicted part line).0
+abbrev pub core_evict_answer : Bool → SendingCore → ℕ → Result (Unit {0}) Refusal
+core_evict_answer true part line = Err refusal.Stopped
+core_evict_answer false part line = (evicted_by_core part line).0
 
 -- the core's table takes the copy out, and what is sent back is sent
 abbrev pub TakesOut : SendingCore → ℕ → SendingCore → Type 0

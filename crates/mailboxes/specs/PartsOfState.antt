@@ -7,7 +7,7 @@ use Rattle.seat_rule.specs.declared.views.SetUp.{SetUp}
 use Rattle.seat_rule.specs.declared.views.Hold.{Hold}
 use Rattle.machine_moves.specs.States.{State}
 use Rattle.seat_rule.specs.Rule.{Phase, seat_count, slot_count, state_of, in_flight}
-use Rattle.seat_rule.specs.Ended.{Whole, lies, IsHome}
+use Rattle.seat_rule.specs.Ended.{Whole, lies, IsNotOut}
 use Rattle.mailboxes.specs.declared.closed_machine.CorePart.{CorePart}
 use Rattle.mailboxes.specs.declared.closed_machine.BankPart.{BankPart}
 
@@ -46,7 +46,7 @@ pub record PartsOfState (z : SetUp) (cores : List CorePart) (banks : List BankPa
       (i : ℕ) × (p : BankPart) × (slice_get banks i ≡ Some p) × (p.number ≡ z.config.cores + j)
   -- no slot is out with a seat, and each has its message or none
   pub lying : (k : ℕ) → k < slot_count z → slice_get slots k ≡ Some (lies (phases k))
-  pub home : (k : ℕ) → k < slot_count z → IsHome (phases k)
+  pub home : (k : ℕ) → k < slot_count z → IsNotOut (phases k)
 
 -- that state
 abbrev pub state_of_parts : {z : SetUp} {cores : List CorePart} {banks : List BankPart} {slots : List (Option Message)}

@@ -23,10 +23,10 @@ abbrev pub EndsAt : SetUp → ℕ → ℕ → Type 0
 EndsAt z slot number = (slot < slot_count z) × (to_of z slot ≡ number)
 
 -- whether there is a link from the seat of a number to a node: cores have links to banks, and banks to cores
-abbrev pub has_link : ℕ → ℕ → ℕ → Node → Bool
-has_link cores banks number (Core c) = nat_le cores number && nat_lt c cores
-has_link cores banks number (Bank b) = nat_lt number cores && nat_lt b banks
-has_link cores banks number (Dram d) = false
+abbrev pub has_link_to : ℕ → ℕ → ℕ → Node → Bool
+has_link_to cores banks number (Core c) = nat_le cores number && nat_lt c cores
+has_link_to cores banks number (Bank b) = nat_lt number cores && nat_lt b banks
+has_link_to cores banks number (Dram d) = false
 
 -- its number: first come the links from core to bank, by core, and then those from bank to core, by bank
 abbrev pub link_to : ℕ → ℕ → ℕ → Node → ℕ
@@ -37,7 +37,7 @@ link_to cores banks number (Dram d) = 0
 -- there is a link from the seat to where each of these messages goes
 abbrev pub AllLinked : ℕ → ℕ → ℕ → List Message → Type 0
 AllLinked cores banks number ms =
-    (i : ℕ) (m : Message) → slice_get ms i ≡ Some m → has_link cores banks number m.to ≡ true
+    (i : ℕ) (m : Message) → slice_get ms i ≡ Some m → has_link_to cores banks number m.to ≡ true
 
 -- the node is the seat's own: its core, or its bank, or the DRAM behind that
 abbrev pub is_own : ℕ → ℕ → Node → Bool

@@ -7,7 +7,7 @@ use Rattle.seat_views.specs.declared.views.View.{View}
 use Rattle.seat_rule.specs.declared.views.SetUp.{SetUp}
 use Rattle.seat_rule.specs.declared.views.Hold.{Hold}
 use Rattle.seat_rule.specs.Rule.{Phase, slot_count}
-use Rattle.seat_rule.specs.Ended.{Whole, lies, IsHome}
+use Rattle.seat_rule.specs.Ended.{Whole, lies, IsNotOut}
 use Rattle.mailboxes.specs.declared.mailbox.Mailbox.{Mailbox}
 use Rattle.mailboxes.specs.declared.core_seat.CoreSeat.{CoreSeat}
 use Rattle.mailboxes.specs.declared.bank_seat.BankSeat.{BankSeat}
@@ -73,4 +73,4 @@ pub record OneState (z : SetUp) (cores : List CoreSeat) (banks : List BankSeat) 
   pub of_cores : (i : ℕ) (p : CoreSeat) → slice_get cores i ≡ Some p → seats p.mail.number ≡ hold p.mail
   pub of_banks : (i : ℕ) (p : BankSeat) → slice_get banks i ≡ Some p → seats p.mail.number ≡ hold p.mail
   pub lying : (k : ℕ) → k < slot_count z → slice_get slots k ≡ Some (lies (phases k))
-  pub home : (k : ℕ) → k < slot_count z → IsHome (phases k)
+  pub home : (k : ℕ) → k < slot_count z → IsNotOut (phases k)

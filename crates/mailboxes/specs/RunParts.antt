@@ -8,5 +8,5 @@ abbrev pub Parts : Run → Type 0
 Parts run = PartsOfState run.set_up run.cores.items run.banks.items run.slots.items run.records.items
 
 -- that state
-abbrev pub state_of : (run : Run) → Parts run → State
-state_of run parts = state_of_parts parts
+abbrev pub state_of_run : (run : Run) → Parts run → State
+state_of_run run parts = state_of_parts parts

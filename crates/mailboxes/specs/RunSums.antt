@@ -32,5 +32,5 @@ plus a b = record {
 }
 
 -- the messages that a seat left: those to be put, the one in the hand, and those that waited
-abbrev pub messages_of : OutboxState → InboxState Message → List Message
-messages_of outbox inbox = outbox.messages ++ (option_to_list inbox.hand ++ inbox.held)
+abbrev pub messages_left : OutboxState → InboxState Message → List Message
+messages_left outbox inbox = outbox.messages ++ (option_to_list inbox.hand ++ inbox.held)

@@ -5,15 +5,15 @@ use Rattle.seat_rule.specs.Rule.{opening_hold, seat_count}
 use Rattle.mailboxes.specs.declared.machine.Machine.{Machine}
 use Rattle.mailboxes.specs.declared.core_seat.CoreSeat.{CoreSeat}
 use Rattle.mailboxes.specs.declared.bank_seat.BankSeat.{BankSeat}
-use Rattle.mailboxes.specs.Ties.{Chair}
+use Rattle.mailboxes.specs.Ties.{SlotSeat}
 use Rattle.mailboxes.specs.Sending.{OutboxState, no_outbox}
 use Rattle.mailboxes.specs.BoxMoves.{IsAt, Stands, hold}
 
 -- a seat at the machine's table of slots, which isn't joined to another
-abbrev pub IsLive : Machine → Chair → Type 0
-IsLive m chair =
-    (chair.table_id ≡ m.table.shared.table_id) × (chair.me.0.spent ≡ false)
-    × (chair.me.0.number < seat_count m.set_up)
+abbrev pub IsLive : Machine → SlotSeat → Type 0
+IsLive m slot_seat =
+    (slot_seat.table_id ≡ m.table.shared.table_id) × (slot_seat.me.0.spent ≡ false)
+    × (slot_seat.me.0.number < seat_count m.set_up)
 
 -- the seat is that of one of the machine's cores, or of one of its banks, and holds a part of a reached state
 abbrev pub IsCoreSeat : Machine → CoreSeat → Type 0
@@ -27,13 +27,13 @@ abbrev pub SameCounts : OutboxState → OutboxState → Type 0
 SameCounts o u = (u.counts ≡ o.counts) × (u.sent ≡ o.sent)
 
 -- a core's seat but for its messages, and a bank's
-abbrev pub SameCore : CoreSeat → CoreSeat → Type 0
-SameCore p q =
+abbrev pub SameCorePart : CoreSeat → CoreSeat → Type 0
+SameCorePart p q =
     (q.part.core ≡ p.part.core) × (q.issued.items ≡ p.issued.items) × (q.records.items ≡ p.records.items)
     × SameCounts p.part.outbox q.part.outbox × (q.is_stopped ≡ p.is_stopped)
 
-abbrev pub SameBank : BankSeat → BankSeat → Type 0
-SameBank p q =
+abbrev pub SameBankPart : BankSeat → BankSeat → Type 0
+SameBankPart p q =
     (q.part.bank ≡ p.part.bank) × (q.part.dram ≡ p.part.dram) × SameCounts p.part.outbox q.part.outbox
     × (q.is_stopped ≡ p.is_stopped)
 
@@ -57,10 +57,10 @@ abbrev pub AllNewBanks : Machine → ℕ → List BankSeat → Type 0
 AllNewBanks m from ps = (i : ℕ) (p : BankSeat) → slice_get ps i ≡ Some p → IsNewBank m (from + i) p
 
 -- the first seat, which has made all seats below this number
-abbrev pub HasMade : Machine → ℕ → Chair → Type 0
-HasMade m n chair =
-    (chair.table_id ≡ m.table.shared.table_id)
-    × (chair.me ≡ (record (first_view (opening_hold m.set_up 0)) { made = n }, []))
+abbrev pub HasMade : Machine → ℕ → SlotSeat → Type 0
+HasMade m n slot_seat =
+    (slot_seat.table_id ≡ m.table.shared.table_id)
+    × (slot_seat.me ≡ (record (first_view (opening_hold m.set_up 0)) { made = n }, []))
 
 -- all seats of a list are of this machine
 abbrev pub AllCoreSeats : Machine → List CoreSeat → Type 0

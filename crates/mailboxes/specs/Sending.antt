@@ -16,12 +16,12 @@ abbrev pub no_outbox : OutboxState
 no_outbox = record { messages = []; counts = no_counts; sent = 0 }
 
 -- there is place for one more of 256 messages
-abbrev pub has_place : OutboxState → Bool
-has_place o = nat_lt (length o.messages) 256
+abbrev pub has_outbox_place : OutboxState → Bool
+has_outbox_place o = nat_lt (length o.messages) 256
 
 -- the seat sent fewer messages than the 2 ^ 64 - 1 that it can send
-abbrev pub can_send : OutboxState → Bool
-can_send o = nat_lt o.sent (2 ^ 64 - 1)
+abbrev pub can_still_send : OutboxState → Bool
+can_still_send o = nat_lt o.sent (2 ^ 64 - 1)
 
 -- a message was sent, and is counted: it went to the held list of the seat itself
 abbrev pub noted : OutboxState → Message → OutboxState
@@ -33,7 +33,7 @@ sent_out o m = record { messages = o.messages ++ m ∷ []; counts = counted o.co
 
 -- one more message can be sent: there is place for it, and a number
 abbrev pub can_send_out : OutboxState → Bool
-can_send_out o = has_place o && can_send o
+can_send_out o = has_outbox_place o && can_still_send o
 
 -- a message was sent, if there is one
 abbrev pub sent_if : OutboxState → Option Message → OutboxState

@@ -13,17 +13,17 @@ use Rattle.seat_rule.specs.declared.views.Stage.TheVariants.{Idle}
 use Rattle.seat_rule.specs.declared.views.Hold.{Hold}
 use Rattle.mailboxes.specs.Sending.{OutboxState}
 
-abbrev pub Chair : Type 0
-Chair = Seat (Option Message) (View Hold)
+abbrev pub SlotSeat : Type 0
+SlotSeat = Seat (Option Message) (View Hold)
 
 -- no slot is out with the seat, and the number and the messages that came in are what the view has
-pub record BoxTied (chair : Chair) (n : ℕ) (h : Option Message) (waiting : List Message) : Type 0 where
-  pub number : chair.me.0.number ≡ n
-  pub live : chair.me.0.spent ≡ false
-  pub none_out : chair.me.1 ≡ []
-  pub idle : chair.me.0.mine.stage ≡ Idle
-  pub hand : chair.me.0.mine.hand ≡ h
-  pub held : chair.me.0.mine.held ≡ waiting
+pub record BoxTied (slot_seat : SlotSeat) (n : ℕ) (h : Option Message) (waiting : List Message) : Type 0 where
+  pub number : slot_seat.me.0.number ≡ n
+  pub live : slot_seat.me.0.spent ≡ false
+  pub none_out : slot_seat.me.1 ≡ []
+  pub idle : slot_seat.me.0.mine.stage ≡ Idle
+  pub hand : slot_seat.me.0.mine.hand ≡ h
+  pub held : slot_seat.me.0.mine.held ≡ waiting
 
 -- the core, its operations, its records, and the messages and counts of the outbox are what the view has
 pub record CoreTied (a : Hold) (p : CoreState) (ops : List Op) (rs : List Record) (out : OutboxState) : Type 0 where

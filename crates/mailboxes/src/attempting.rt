@@ -1,7 +1,7 @@
 //! A core's seat attempts its open operation.
 ghost use Rattle.std.specs.Prelude.{◌≡◌, ◌≢◌};
 ghost use Rattle.core_pts.specs.CoreTable as core_table;
-ghost use Rattle.mailboxes.specs.Attempts.{Asks, Attempts, AttemptsSo, Tries, sent_if, tried};
+ghost use Rattle.mailboxes.specs.Attempts.{Asks, Attempts, AttemptsSo, Tries, sent_if_room, tried};
 ghost use Rattle.mailboxes.specs.CoreCalls.{SamePlace};
 ghost use Rattle.mailboxes.specs.Seats.{IsCoreSeat};
 
@@ -122,7 +122,7 @@ impl CoreSeat {
         requires asks { Asks self.old.part.core request }
         ensures seat { IsCoreSeat machine.now self.new × SamePlace self.old self.new }
         ensures asked { AttemptsSo machine.now self.old result self.new
-            (sent_if self.old.part.outbox (Outcome.Requests request)) }
+            (sent_if_room self.old.part.outbox (Outcome.Requests request)) }
         ensures sure { result ≢ Answer.Refused Refusal.NoMemory }
     {
         messages_of_seats_find_their_parts();

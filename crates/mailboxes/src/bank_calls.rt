@@ -1,7 +1,8 @@
 //! A bank's seat serves messages, evicts lines, and says which line to evict.
 ghost use Rattle.std.specs.Prelude.{◌≡◌, ◌≢◌, ◌||◌, OnOk, OnErr, IfSome, IsOk, Err};
 ghost use Rattle.llc_bank.specs.BankTable.{evict};
-ghost use Rattle.mailboxes.specs.BankCalls.{Evicts, SameBankPlace, ServesStore, evict_answer, first_room, room_for};
+ghost use Rattle.mailboxes.specs.BankCalls.{Evicts, SameBankPlace, ServesStore, bank_evict_answer, first_room};
+ghost use Rattle.mailboxes.specs.BankCalls.{room_for};
 ghost use Rattle.mailboxes.specs.BankServing.{sending_bank_table, sending_bank_takes_memory};
 ghost use Rattle.mailboxes.specs.BoxMoves.{hold};
 ghost use Rattle.mailboxes.specs.SeatServing.{SeatServes, is_exhausted, seat_refusal};
@@ -81,7 +82,7 @@ impl BankSeat {
     pub fn evict(&mut self, machine: &Machine, line: LineNo) -> Result<Eviction, Refusal>
         requires { IsBankSeat machine.now self.old }
         ensures seat { IsBankSeat machine.now self.new × SameBankPlace self.old self.new }
-        ensures answer { result ≡ evict_answer self.old.is_stopped self.old.part.outbox
+        ensures answer { result ≡ bank_evict_answer self.old.is_stopped self.old.part.outbox
             self.old.mail.inbox.held (evict self.old.part.bank line).0 }
         ensures done { OnOk result (Evicts (evict self.old.part.bank line) self.old.mail.inbox
             self.old.part self.new.mail.inbox self.new.part) }

@@ -5,7 +5,8 @@ ghost use Rattle.machine_table.specs.declared.event.Refusal.{Refusal};
 ghost use Rattle.llc_bank.specs.BankTable.{evict};
 ghost use Rattle.inbox.specs.Inboxes.{inbox};
 ghost use Rattle.inbox.specs.Serving.{sent_list};
-ghost use Rattle.mailboxes.specs.BankCalls.{became, evict_answer, evicted_inbox, evicted_part, eviction_fits, to_post};
+ghost use Rattle.mailboxes.specs.BankCalls.{became, bank_evict_answer, evicted_inbox, evicted_part, eviction_fits};
+ghost use Rattle.mailboxes.specs.BankCalls.{to_post};
 ghost use Rattle.mailboxes.specs.BankServing.{finds_places, posted, told};
 
 use crate::bank_serving::{finds_places, post};
@@ -44,7 +45,7 @@ pub(crate) fn evictable(
     ensures done { OnOk result ((e : Evict) × ((evict part.now.bank line).0 ≡ Ok e) ×
         IsTrue (eviction_fits part.now.outbox came_in.now.held e)) }
     ensures refused { (refusal : Refusal) → result ≡ Err refusal →
-        evict_answer false part.now.outbox came_in.now.held (evict part.now.bank line).0
+        bank_evict_answer false part.now.outbox came_in.now.held (evict part.now.bank line).0
         ≡ Err refusal }
 {
     match part.bank.evicts(line) {

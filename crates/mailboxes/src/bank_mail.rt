@@ -1,7 +1,7 @@
 //! The messages of a bank's seat are served, and its lines evicted.
 ghost use Rattle.std.specs.Prelude.{◌≡◌, OnOk, OnErr, Err, false};
 ghost use Rattle.llc_bank.specs.BankTable.{evict};
-ghost use Rattle.mailboxes.specs.BankCalls.{Evicts, IsBankMail, PartOf, SameMailPlace, ServesStore, evict_answer};
+ghost use Rattle.mailboxes.specs.BankCalls.{Evicts, IsBankMail, PartOf, SameMailPlace, ServesStore, bank_evict_answer};
 ghost use Rattle.mailboxes.specs.BankServing.{sending_bank_table, sending_bank_takes_memory};
 ghost use Rattle.mailboxes.specs.BoxMoves.{hold};
 ghost use Rattle.mailboxes.specs.Stored.{stored_bank};
@@ -59,7 +59,7 @@ impl Mailbox {
         requires part { PartOf self.old part.old }
         ensures seat { IsBankMail machine.now self.new × SameMailPlace self.old self.new }
         ensures part { PartOf self.new part.new }
-        ensures answer { result ≡ evict_answer false part.old.outbox self.old.inbox.held
+        ensures answer { result ≡ bank_evict_answer false part.old.outbox self.old.inbox.held
             (evict part.old.bank line).0 }
         ensures done { OnOk result (Evicts (evict part.old.bank line) self.old.inbox part.old
             self.new.inbox part.new) }

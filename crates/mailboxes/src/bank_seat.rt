@@ -15,7 +15,7 @@ use crate::machine::Machine;
 use crate::mailbox::Mailbox;
 use crate::outbox::Outbox;
 use crate::sending::SendingBank;
-use crate::steps::Chair;
+use crate::steps::SlotSeat;
 use dram_mts::Dram;
 use inbox::Inbox;
 use llc_bank::{Bank, BankConfig};
@@ -38,7 +38,7 @@ impl BankSeat {
     pub(crate) fn new(
         alloc: Global,
         machine: &Machine,
-        seat: Chair,
+        seat: SlotSeat,
         number: u32,
         dram: Dram,
     ) -> Result<BankSeat, AllocError>

@@ -4,7 +4,7 @@ ghost use Rattle.llc_bank.specs.BankTable.{bank_has_case, bank_table};
 ghost use Rattle.dram_mts.specs.Table.{dram_has_case, dram_table};
 ghost use Rattle.network.specs.Sends.{sent_in};
 ghost use Rattle.inbox.specs.Serving.{is_quiet, needs};
-ghost use Rattle.mailboxes.specs.BankServing.{Reacts, answer_of, finds_places, leaves, places_for, posted};
+ghost use Rattle.mailboxes.specs.BankServing.{Reacts, reaction_answer, finds_places, leaves, places_for, posted};
 ghost use Rattle.mailboxes.specs.BankServing.{sent_for, told};
 
 use crate::outbox::Outbox;
@@ -67,7 +67,7 @@ pub(crate) fn post(outbox: &mut Outbox, message: Message) -> Option<Message>
 // Sends what a part sends, if anything, and answers what it did.
 fn answered(outbox: &mut Outbox, reaction: Reaction) -> Answer<Message>
     requires { (places : ℕ) × IsTrue (finds_places outbox.old places (sent_in reaction)) }
-    ensures answer { result ≡ answer_of reaction }
+    ensures answer { result ≡ reaction_answer reaction }
     ensures sent { outbox.new ≡ sent_for outbox.old reaction }
 {
     match reaction {

@@ -12,7 +12,7 @@ ghost use Rattle.mailboxes.specs.Seats.{IsLive};
 
 use crate::machine::Machine;
 use crate::sending::{SendingBank, SendingCore};
-use crate::steps::{Aim, Chair, Desk};
+use crate::steps::{SlotSeat, SlotTable, StepChoice};
 use atomic_table::Play;
 use inbox::{Inbox, Refusal, Served};
 use network::Message;
@@ -27,24 +27,24 @@ struct Stands<C> {
     marker: PhantomData<C>,
 }
 
-impl<C: Aim> Play<Option<Message>, View<Hold>> for Stands<C> {
+impl<C: StepChoice> Play<Option<Message>, View<Hold>> for Stands<C> {
     ghost then = { λ s m r n. stood C.set_up (seat_count C.set_up) C.to m n };
 }
 
 // What the seat holds becomes what the call picks.
-fn stand<C: Aim>(desk: &Desk, seat: &mut Chair, word: usize)
-    requires desk { Belongs seat.old.table_id desk.now.table_id desk.now.key }
-    requires word { word ≡ slot_count desk.now.key }
+fn stand<C: StepChoice>(table: &SlotTable, seat: &mut SlotSeat, word: usize)
+    requires table { Belongs seat.old.table_id table.now.table_id table.now.key }
+    requires word { word ≡ slot_count table.now.key }
     requires live { seat.old.me.0.spent ≡ false }
-    requires aim { C.set_up ≡ desk.now.key }
+    requires choice { C.set_up ≡ table.now.key }
     requires change { (h : Hold) × (C.to ≡ with_hold seat.old.me.0 h) ×
         Serves seat.old.me.0.mine h ×
         Changes C.set_up (seat_count C.set_up) seat.old.me.0.number seat.old.me.0.mine h }
-    ensures desk { (seat.new.table_id ≡ seat.old.table_id) × (seat.new.id ≡ seat.old.id) }
+    ensures table { (seat.new.table_id ≡ seat.old.table_id) × (seat.new.id ≡ seat.old.id) }
     ensures stood { stood C.set_up (seat_count C.set_up) C.to seat.old.me seat.new.me }
 {
     changes_keep_the_rule();
-    desk.fetch_add::<Stands<C>>(seat, word, 0);
+    table.fetch_add::<Stands<C>>(seat, word, 0);
 }
 
 /// Whether a serving changes anything, if the hand was full before, or empty.
@@ -63,7 +63,7 @@ pub(crate) fn may_change(was_full: bool, served: &Result<Served, Refusal>) -> bo
 pub(crate) fn change_core_if(
     changes: bool,
     machine: &Machine,
-    seat: &mut Chair,
+    seat: &mut SlotSeat,
     part: &SendingCore,
     issued: &Vec<Op>,
     inbox: &Inbox<Message>,
@@ -95,7 +95,7 @@ pub(crate) fn change_core_if(
 pub(crate) fn change_bank_if(
     changes: bool,
     machine: &Machine,
-    seat: &mut Chair,
+    seat: &mut SlotSeat,
     part: &SendingBank,
     inbox: &Inbox<Message>,
 )
@@ -122,7 +122,7 @@ pub(crate) fn change_bank_if(
 /// What a core's seat holds becomes what it stores, if that is a move of the seat.
 pub(crate) fn change_core(
     machine: &Machine,
-    seat: &mut Chair,
+    seat: &mut SlotSeat,
     part: &SendingCore,
     issued: &Vec<Op>,
     inbox: &Inbox<Message>,
@@ -146,7 +146,7 @@ pub(crate) fn change_core(
 /// What a bank's seat holds becomes what it stores, if that is a move of the seat.
 pub(crate) fn change_bank(
     machine: &Machine,
-    seat: &mut Chair,
+    seat: &mut SlotSeat,
     part: &SendingBank,
     inbox: &Inbox<Message>,
 )
@@ -165,15 +165,15 @@ pub(crate) fn change_bank(
 }
 
 // What a seat holds becomes what the call picks by what the seat stores.
-fn change<C: Aim, P, I>(
+fn change<C: StepChoice, P, I>(
     machine: &Machine,
-    seat: &mut Chair,
+    seat: &mut SlotSeat,
     part: &P,
     issued: &I,
     inbox: &Inbox<Message>,
 )
     requires seat { IsLive machine.now seat.old }
-    requires aim { C.set_up ≡ machine.now.set_up }
+    requires choice { C.set_up ≡ machine.now.set_up }
     requires change { (h : Hold) × (C.to ≡ with_hold seat.old.me.0 h) ×
         Serves seat.old.me.0.mine h ×
         SeatMove C.set_up seat.old.me.0.number seat.old.me.0.mine h }

@@ -17,7 +17,7 @@ use crate::mailbox::Mailbox;
 use crate::merging::merged;
 use crate::run::Run;
 use crate::sending::{SendingBank, SendingCore};
-use crate::steps::{Chair, Desk, meet};
+use crate::steps::{SlotSeat, SlotTable, meet};
 use atomic_table::Closed;
 use network::{Body, Message};
 use seat_rule::laws::closed_machines_are_one_state;
@@ -104,43 +104,53 @@ impl Machine {
 }
 
 // Joins seats of cores from the last to the first.
-fn join_cores(desk: &Desk, seat: &mut Chair, mut cores: Vec<CoreSeat>, parts: &mut Vec<CorePart>)
-    requires desk { Belongs seat.old.table_id desk.now.table_id desk.now.key }
-    requires cores { CoresAt desk.now.table_id cores.items }
+fn join_cores(
+    table: &SlotTable,
+    seat: &mut SlotSeat,
+    mut cores: Vec<CoreSeat>,
+    parts: &mut Vec<CorePart>,
+)
+    requires table { Belongs seat.old.table_id table.now.table_id table.now.key }
+    requires cores { CoresAt table.now.table_id cores.items }
     requires live { seat.old.me.0.spent ≡ false }
     requires room { length parts.old.items + length cores.items ≤ vec_capacity parts.old }
-    ensures desk { (seat.new.table_id ≡ seat.old.table_id) × (seat.new.id ≡ seat.old.id) }
+    ensures table { (seat.new.table_id ≡ seat.old.table_id) × (seat.new.id ≡ seat.old.id) }
     ensures met { seat.new.me ≡
         (knows_all seat.old.me.0 (backwards core_entry cores.items), seat.old.me.1) }
     ensures parts { parts.new.items ≡ parts.old.items ++ backwards core_part cores.items }
 {
     while let Some(port) = cores.pop() {
         let other = leave_core(port, parts);
-        meet(desk, seat, other);
+        meet(table, seat, other);
     }
 }
 
 // Joins seats of banks from the last to the first.
-fn join_banks(desk: &Desk, seat: &mut Chair, mut banks: Vec<BankSeat>, parts: &mut Vec<BankPart>)
-    requires desk { Belongs seat.old.table_id desk.now.table_id desk.now.key }
-    requires banks { BanksAt desk.now.table_id banks.items }
+fn join_banks(
+    table: &SlotTable,
+    seat: &mut SlotSeat,
+    mut banks: Vec<BankSeat>,
+    parts: &mut Vec<BankPart>,
+)
+    requires table { Belongs seat.old.table_id table.now.table_id table.now.key }
+    requires banks { BanksAt table.now.table_id banks.items }
     requires live { seat.old.me.0.spent ≡ false }
     requires room { length parts.old.items + length banks.items ≤ vec_capacity parts.old }
-    ensures desk { (seat.new.table_id ≡ seat.old.table_id) × (seat.new.id ≡ seat.old.id) }
+    ensures table { (seat.new.table_id ≡ seat.old.table_id) × (seat.new.id ≡ seat.old.id) }
     ensures met { seat.new.me ≡
         (knows_all seat.old.me.0 (backwards bank_entry banks.items), seat.old.me.1) }
     ensures parts { parts.new.items ≡ parts.old.items ++ backwards bank_part banks.items }
 {
     while let Some(port) = banks.pop() {
         let other = leave_bank(port, parts);
-        meet(desk, seat, other);
+        meet(table, seat, other);
     }
 }
 
 // Puts what a core's seat stores at the end of a list, and gives its seat at the table.
-fn leave_core(port: CoreSeat, parts: &mut Vec<CorePart>) -> Chair
+fn leave_core(port: CoreSeat, parts: &mut Vec<CorePart>) -> SlotSeat
     requires { length parts.old.items < vec_capacity parts.old }
-    ensures chair { result ≡ port.mail.seat }
+    ensures slot_seat { result ≡ port.mail.seat }
     ensures part { parts.new.items ≡ parts.old.items ++ core_part port ∷ [] }
     ensures room { vec_capacity parts.new ≡ vec_capacity parts.old }
 {
@@ -170,9 +180,9 @@ fn leave_core(port: CoreSeat, parts: &mut Vec<CorePart>) -> Chair
 }
 
 // Puts what a bank's seat stores at the end of a list, and gives its seat at the table.
-fn leave_bank(port: BankSeat, parts: &mut Vec<BankPart>) -> Chair
+fn leave_bank(port: BankSeat, parts: &mut Vec<BankPart>) -> SlotSeat
     requires { length parts.old.items < vec_capacity parts.old }
-    ensures chair { result ≡ port.mail.seat }
+    ensures slot_seat { result ≡ port.mail.seat }
     ensures part { parts.new.items ≡ parts.old.items ++ bank_part port ∷ [] }
     ensures room { vec_capacity parts.new ≡ vec_capacity parts.old }
 {

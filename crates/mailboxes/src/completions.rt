@@ -9,7 +9,7 @@ ghost use Rattle.seat_rule.specs.Rule.{no_hold, no_set_up, seat_count, slot_coun
 ghost use Rattle.seat_rule.specs.Plays.{finished};
 ghost use Rattle.mailboxes.specs.Places.{Belongs};
 
-use crate::steps::{Chair, Desk};
+use crate::steps::{SlotSeat, SlotTable};
 use atomic_table::Play;
 use core_pts::Core;
 use network::Message;
@@ -64,50 +64,50 @@ impl<C: End> Play<Option<Message>, View<Hold>> for Finishes<C> {
 /// The open operation of the seat's core is completed, by the core's table, which leaves this core; answers the number
 /// of the record. `word` is the number of the word that counts completions.
 pub(crate) fn finish(
-    desk: &Desk,
-    seat: &mut Chair,
+    table: &SlotTable,
+    seat: &mut SlotSeat,
     word: usize,
     op: &Op,
     received: Option<u64>,
     ts: u64,
     core: &Core,
 ) -> u64
-    requires desk { Belongs seat.old.table_id desk.now.table_id desk.now.key }
-    requires word { (word ≡ slot_count desk.now.key) × (is_good desk.now.key.config ≡ true) }
+    requires table { Belongs seat.old.table_id table.now.table_id table.now.key }
+    requires word { (word ≡ slot_count table.now.key) × (is_good table.now.key.config ≡ true) }
     requires live { (seat.old.me.0.spent ≡ false) ×
-        (seat.old.me.0.number < desk.now.key.config.cores) }
+        (seat.old.me.0.number < table.now.key.config.cores) }
     requires attempt { (seat.old.me.0.mine.core.open_op ≡ Some op.now) ×
         (core_table.attempt seat.old.me.0.mine.core ≡ (Some (Completed received ts), core.now)) ×
         (seat.old.me.0.mine.core.issued < 2 ^ 32) }
-    ensures desk { (seat.new.table_id ≡ seat.old.table_id) × (seat.new.id ≡ seat.old.id) }
-    ensures finished { finished desk.now.key (seat_count desk.now.key) core.now op.now received ts
+    ensures table { (seat.new.table_id ≡ seat.old.table_id) × (seat.new.id ≡ seat.old.id) }
+    ensures finished { finished table.now.key (seat_count table.now.key) core.now op.now received ts
         seat.old.me result seat.new.me }
 {
-    finish_as::<Brand>(desk, seat, word, op, received, ts, core)
+    finish_as::<Brand>(table, seat, word, op, received, ts, core)
 }
 
 fn finish_as<C: End>(
-    desk: &Desk,
-    seat: &mut Chair,
+    table: &SlotTable,
+    seat: &mut SlotSeat,
     word: usize,
     op: &Op,
     received: Option<u64>,
     ts: u64,
     core: &Core,
 ) -> u64
-    requires desk { Belongs seat.old.table_id desk.now.table_id desk.now.key }
-    requires word { (word ≡ slot_count desk.now.key) × (is_good desk.now.key.config ≡ true) }
+    requires table { Belongs seat.old.table_id table.now.table_id table.now.key }
+    requires word { (word ≡ slot_count table.now.key) × (is_good table.now.key.config ≡ true) }
     requires live { (seat.old.me.0.spent ≡ false) ×
-        (seat.old.me.0.number < desk.now.key.config.cores) }
-    requires aim { (C.set_up ≡ desk.now.key) × (C.op ≡ op.now) × (C.received ≡ received) ×
+        (seat.old.me.0.number < table.now.key.config.cores) }
+    requires choice { (C.set_up ≡ table.now.key) × (C.op ≡ op.now) × (C.received ≡ received) ×
         (C.ts ≡ ts) × (C.core ≡ core.now) }
     requires attempt { (seat.old.me.0.mine.core.open_op ≡ Some C.op) ×
         (core_table.attempt seat.old.me.0.mine.core ≡ (Some (Completed C.received C.ts), C.core)) ×
         (seat.old.me.0.mine.core.issued < 2 ^ 32) }
-    ensures desk { (seat.new.table_id ≡ seat.old.table_id) × (seat.new.id ≡ seat.old.id) }
+    ensures table { (seat.new.table_id ≡ seat.old.table_id) × (seat.new.id ≡ seat.old.id) }
     ensures finished { finished C.set_up (seat_count C.set_up) C.core C.op C.received C.ts
         seat.old.me result seat.new.me }
 {
     completions_keep_the_rule();
-    desk.fetch_add::<Finishes<C>>(seat, word, 1)
+    table.fetch_add::<Finishes<C>>(seat, word, 1)
 }

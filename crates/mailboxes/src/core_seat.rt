@@ -11,7 +11,7 @@ use crate::machine::Machine;
 use crate::mailbox::Mailbox;
 use crate::outbox::Outbox;
 use crate::sending::SendingCore;
-use crate::steps::Chair;
+use crate::steps::SlotSeat;
 use core_pts::{Core, CoreConfig};
 use inbox::Inbox;
 use physiological_order::{Op, Record};
@@ -38,7 +38,7 @@ impl CoreSeat {
     pub(crate) fn new(
         alloc: Global,
         machine: &Machine,
-        seat: Chair,
+        seat: SlotSeat,
         number: u32,
     ) -> Result<CoreSeat, AllocError>
         requires number { number < machine.now.set_up.config.cores }

@@ -3,7 +3,7 @@ ghost use Rattle.std.specs.Prelude.{◌≡◌, ◌+◌, ◌*◌, ◌≤◌, ◌<
 ghost use Rattle.machine_table.specs.SetUp.{is_good};
 ghost use Rattle.seat_rule.specs.declared.views.SetUp.{SetUp};
 ghost use Rattle.seat_rule.specs.Rule.{slot_count, source, target, node_of, to_of};
-ghost use Rattle.mailboxes.specs.Places.{has_link, link_to, incoming, incoming_count, incoming_link};
+ghost use Rattle.mailboxes.specs.Places.{has_link_to, link_to, incoming, incoming_count, incoming_link};
 
 use machine_table::Config;
 use network::Node;
@@ -12,7 +12,7 @@ use network::Node;
 pub fn link_to(config: &Config, number: u32, to: &Node) -> usize
     requires good { is_good config.now ≡ true }
     requires number { number < config.now.cores + config.now.banks }
-    requires link { has_link config.now.cores config.now.banks number to.now ≡ true }
+    requires link { has_link_to config.now.cores config.now.banks number to.now ≡ true }
     ensures link { result ≡ link_to config.now.cores config.now.banks number to.now }
     ensures within { 4 * result + 4 ≤ 8 * config.now.cores * config.now.banks }
     ensures ends { (z : SetUp) → z.config ≡ config.now →

@@ -3,7 +3,7 @@ ghost use Rattle.std.specs.Prelude.{◌≡◌, ◌≢◌, ◌&&◌, not, Err, On
 ghost use Rattle.core_pts.specs.CoreTable as core_table;
 ghost use Rattle.mailboxes.specs.BoxMoves.{hold};
 ghost use Rattle.mailboxes.specs.CoreCalls.{SameHold, SamePlace, sending_hold};
-ghost use Rattle.mailboxes.specs.Evictions.{TakesOut, evict_answer, evicted, is_sent_back};
+ghost use Rattle.mailboxes.specs.Evictions.{TakesOut, core_evict_answer, evicted_by_core, is_sent_back};
 ghost use Rattle.mailboxes.specs.Seats.{IsCoreSeat};
 
 use crate::changes::change_core;
@@ -28,7 +28,7 @@ fn sends_back(core: &Core, line: LineNo) -> bool
 
 // Takes the copy of a line out of the core, and sends it back, if the core owned it. An error changes nothing.
 fn take_out(part: &mut SendingCore, line: LineNo) -> Result<(), Refusal>
-    ensures answer { (result, part.new) ≡ evicted part.old line }
+    ensures answer { (result, part.new) ≡ evicted_by_core part.old line }
     ensures done { OnOk result (TakesOut part.old line part.new) }
     ensures refused { OnErr result (part.new ≡ part.old) }
 {
@@ -58,8 +58,8 @@ impl CoreSeat {
     pub fn evict(&mut self, machine: &Machine, line: LineNo) -> Result<(), Refusal>
         requires { IsCoreSeat machine.now self.old }
         ensures seat { IsCoreSeat machine.now self.new × SamePlace self.old self.new }
-        ensures answer { result ≡ evict_answer self.old.is_stopped self.old.part line }
-        ensures part { OnOk result (self.new.part ≡ (evicted self.old.part line).1) }
+        ensures answer { result ≡ core_evict_answer self.old.is_stopped self.old.part line }
+        ensures part { OnOk result (self.new.part ≡ (evicted_by_core self.old.part line).1) }
         ensures done { OnOk result (hold self.new.mail ≡ sending_hold (hold self.old.mail)
             self.new.part.core self.new.part.outbox) }
         ensures refused { OnErr result (SameHold self.old self.new) }

@@ -5,7 +5,7 @@ ghost use Rattle.machine_table.specs.SetUp.{is_good};
 ghost use Rattle.seat_rule.specs.declared.views.SetUp.{SetUp};
 ghost use Rattle.mailboxes.specs.Places.{AllFoundEmpty, AllFoundFull};
 ghost use Rattle.mailboxes.specs.Places.{found_empty, found_full, incoming_count};
-ghost use Rattle.mailboxes.specs.Sending.{OutboxState, can_send, can_send_out};
+ghost use Rattle.mailboxes.specs.Sending.{OutboxState, can_still_send, can_send_out};
 
 /// A seat that takes nothing has looked at each slot that comes in to it: the slots that it looks at, from the cursor
 /// on and going round, are all of them.
@@ -25,8 +25,8 @@ pub fn all_slots_of_a_link_are_looked_at()
 /// A seat can send a message exactly if it sent fewer than 18,446,744,073,709,551,615. It can send one out exactly if
 /// it also has fewer than 256 messages to be put.
 pub fn seats_send_up_to_the_last_number()
-    ensures sends { (o : OutboxState) → o.sent < 18446744073709551615 → can_send o ≡ true }
-    ensures ends { (o : OutboxState) → 18446744073709551615 ≤ o.sent → can_send o ≡ false }
+    ensures sends { (o : OutboxState) → o.sent < 18446744073709551615 → can_still_send o ≡ true }
+    ensures ends { (o : OutboxState) → 18446744073709551615 ≤ o.sent → can_still_send o ≡ false }
     ensures sends_out { (o : OutboxState) → length o.messages < 256 →
         o.sent < 18446744073709551615 → can_send_out o ≡ true }
     ensures is_full { (o : OutboxState) → 256 ≤ length o.messages → can_send_out o ≡ false }

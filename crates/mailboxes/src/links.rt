@@ -6,16 +6,16 @@ ghost use Rattle.seat_rule.specs.Rule.{slot_count, source};
 ghost use Rattle.seat_rule.specs.Plays.{looking, ones};
 ghost use Rattle.mailboxes.specs.Places.{Belongs};
 
-use crate::steps::{Chair, Desk, look_out};
+use crate::steps::{SlotSeat, SlotTable, look_out};
 
 /// The first slot of the link that is found empty, which is then out with the seat; all four are looked at if none is.
-pub fn find_free(desk: &Desk, seat: &mut Chair, link: usize) -> Option<usize>
-    requires desk { Belongs seat.old.table_id desk.now.table_id desk.now.key }
-    requires link { (4 * link + 4 ≤ slot_count desk.now.key) ×
-        (slot_count desk.now.key ≤ 4096) × (source desk.now.key link ≡ seat.old.me.0.number) }
+pub fn find_free(table: &SlotTable, seat: &mut SlotSeat, link: usize) -> Option<usize>
+    requires table { Belongs seat.old.table_id table.now.table_id table.now.key }
+    requires link { (4 * link + 4 ≤ slot_count table.now.key) ×
+        (slot_count table.now.key ≤ 4096) × (source table.now.key link ≡ seat.old.me.0.number) }
     requires idle { (seat.old.me.0.spent ≡ false) × (seat.old.me.0.mine.stage ≡ Idle) ×
         (seat.old.me.1 ≡ []) }
-    ensures desk { (seat.new.table_id ≡ seat.old.table_id) × (seat.new.id ≡ seat.old.id) }
+    ensures table { (seat.new.table_id ≡ seat.old.table_id) × (seat.new.id ≡ seat.old.id) }
     ensures found { MatchOption result
         (seat.new.me ≡
         (with_hold seat.old.me.0 (looking seat.old.me.0.mine (ones link 4) Idle), []))
@@ -27,7 +27,7 @@ pub fn find_free(desk: &Desk, seat: &mut Chair, link: usize) -> Option<usize>
 {
     for s in 0..4 {
         let slot = 4 * link + s;
-        if look_out(desk, seat, slot) == 0 {
+        if look_out(table, seat, slot) == 0 {
             return Some(slot);
         }
     }

@@ -3,7 +3,7 @@ ghost use Rattle.std.specs.Prelude.{◌≡◌, ◌<◌, is_some};
 ghost use Rattle.mailboxes.specs.Places.{AllOwn};
 ghost use Rattle.mailboxes.specs.Ties.{BoxTied};
 
-use crate::steps::Chair;
+use crate::steps::SlotSeat;
 use inbox::Inbox;
 use network::Message;
 
@@ -11,7 +11,7 @@ use network::Message;
 /// to its bank or the DRAM behind that.
 #[derive(Drop)]
 pub struct Mailbox {
-    pub seat: Chair,
+    pub seat: SlotSeat,
     /// The seat's number: first come the cores, and then the banks.
     pub number: u32,
     /// How many cores and banks the machine has.

@@ -9,7 +9,7 @@ use crate::core_seat::CoreSeat;
 use crate::ends::slots_are_few;
 use crate::machine::Machine;
 use crate::opened_dram::open_dram;
-use crate::steps::{Chair, make};
+use crate::steps::{SlotSeat, make};
 use atomic_table::Table;
 use machine_table::{Config, OpenError};
 use physiological_order::{Memory, WordAddr};
@@ -65,7 +65,7 @@ fn open_seats(
 }
 
 // The machine, whose slots are all empty, and the first seat.
-fn open_table(alloc: Global, set_up: SetUp) -> Result<(Machine, Chair), AllocError>
+fn open_table(alloc: Global, set_up: SetUp) -> Result<(Machine, SlotSeat), AllocError>
     requires { is_good set_up.config ≡ true }
     ensures { IfOk result (λ r. (r.0.set_up ≡ set_up) × HasMade r.0 1 r.1) }
 {
@@ -82,7 +82,7 @@ fn open_table(alloc: Global, set_up: SetUp) -> Result<(Machine, Chair), AllocErr
 fn open_cores(
     alloc: Global,
     machine: &Machine,
-    first: &mut Chair,
+    first: &mut SlotSeat,
 ) -> Result<Vec<CoreSeat>, AllocError>
     requires { HasMade machine.now 1 first.old }
     ensures cores { IfOk result (λ cores.
@@ -104,7 +104,7 @@ fn open_cores(
 fn open_banks(
     alloc: Global,
     machine: &Machine,
-    first: &mut Chair,
+    first: &mut SlotSeat,
 ) -> Result<Vec<BankSeat>, AllocError>
     requires { HasMade machine.now machine.now.set_up.config.cores first.old }
     ensures banks { IfOk result (λ banks. (length banks.items ≡ machine.now.set_up.config.banks) ×

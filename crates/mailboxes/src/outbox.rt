@@ -4,7 +4,7 @@ ghost use Rattle.network.specs.Mail.{AreCounts};
 ghost use Rattle.machine_theorem.specs.Bags.{weigh};
 ghost use Rattle.machine_moves.specs.Ownership.{ownership_in};
 ghost use Rattle.inbox.specs.Queues.{values_of};
-ghost use Rattle.mailboxes.specs.Sending.{can_send, can_send_out, has_place, no_outbox, noted, sent_out};
+ghost use Rattle.mailboxes.specs.Sending.{can_still_send, can_send_out, has_outbox_place, no_outbox, noted, sent_out};
 
 use crate::run_owners::grants_of;
 use inbox::Queue;
@@ -95,14 +95,14 @@ impl Outbox {
 
     /// Whether there is place for one more message.
     pub fn has_place(&self) -> bool
-        ensures { result ≡ has_place self.now }
+        ensures { result ≡ has_outbox_place self.now }
     {
         self.queue.len() < 256
     }
 
     /// Whether the seat sent fewer messages than the 2 ^ 64 - 1 that it can send.
     pub fn can_send(&self) -> bool
-        ensures { result ≡ can_send self.now }
+        ensures { result ≡ can_still_send self.now }
     {
         self.sent < u64::MAX
     }

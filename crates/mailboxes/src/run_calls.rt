@@ -7,7 +7,7 @@ ghost use Rattle.protocol.specs.Issued.{IsIssued};
 ghost use Rattle.machine_moves.specs.Ownership.{coherent};
 ghost use Rattle.merged_records.specs.ValuesLeft.{ValuesLeft};
 ghost use Rattle.mailboxes.specs.declared.closed_machine.CorePart.{CorePart};
-ghost use Rattle.mailboxes.specs.RunParts.{Parts, state_of};
+ghost use Rattle.mailboxes.specs.RunParts.{Parts, state_of_run};
 
 use crate::run::Run;
 use machine_moves::laws::{places_count_records, records_are_in_order};
@@ -22,11 +22,12 @@ impl Run {
     pub fn records(&self) -> &[Record]
         ensures records { result.now ≡ self.now.records.items }
         ensures legal { (parts : Parts self.now) → Legal (flat self.now.set_up.memory)
-            (state_of self.now parts).issued result.now }
+            (state_of_run self.now parts).issued result.now }
         ensures rising { Parts self.now → RisesByNumber result.now }
         ensures issued { (parts : Parts self.now) (core : ℕ) →
-            core < self.now.set_up.config.cores → IsIssued ((state_of self.now parts).issued core)
-            (of_core core result.now) ((state_of self.now parts).cores core).open_op }
+            core < self.now.set_up.config.cores →
+            IsIssued ((state_of_run self.now parts).issued core)
+            (of_core core result.now) ((state_of_run self.now parts).cores core).open_op }
     {
         places_count_records();
         records_are_in_order();
@@ -37,7 +38,7 @@ impl Run {
     pub fn issued(&self, core: u32) -> &[Op]
         requires { Parts self.now }
         ensures issued { (parts : Parts self.now) → core < self.now.set_up.config.cores →
-            result.now ≡ (state_of self.now parts).issued core }
+            result.now ≡ (state_of_run self.now parts).issued core }
         ensures accepted { core < self.now.set_up.config.cores → (i : ℕ) (p : CorePart) →
             slice_get self.now.cores.items i ≡ Some p → p.number ≡ core →
             result.now ≡ p.issued.items }
@@ -55,7 +56,7 @@ impl Run {
     /// their times, on the opening memory. It is found in the records, each of which is looked at once.
     pub fn value(&self, addr: WordAddr) -> u64
         ensures value { (parts : Parts self.now) → result ≡ coherent self.now.set_up.config
-            self.now.set_up.memory (state_of self.now parts) addr }
+            self.now.set_up.memory (state_of_run self.now parts) addr }
         ensures left { (arranged : List Record) → Arrangement self.now.records.items arranged →
             result ≡ replay_end (flat self.now.set_up.memory) (map (λ r. r.op) arranged) addr }
     {
@@ -67,7 +68,7 @@ impl Run {
     pub fn values(&self, alloc: Global, words: &[WordAddr]) -> Result<Vec<u64>, AllocError>
         ensures value { IfOk result (λ values. (parts : Parts self.now) →
             values.items ≡ map (coherent self.now.set_up.config self.now.set_up.memory
-            (state_of self.now parts)) words.now) }
+            (state_of_run self.now parts)) words.now) }
         ensures left { IfOk result (λ values. ValuesLeft
             (flat self.now.set_up.memory) self.now.records.items words.now values.items) }
     {

@@ -3,7 +3,7 @@ ghost use Rattle.std.specs.Prelude.{◌≡◌, ℕ, ◌*◌, ◌-◌, ◌^◌};
 ghost use Rattle.network.specs.declared.counts.Counts.{Counts};
 ghost use Rattle.network.specs.Mail.{AreCounts};
 ghost use Rattle.seat_rule.specs.Rule.{counts_of, seat_count};
-ghost use Rattle.mailboxes.specs.RunParts.{Parts, state_of};
+ghost use Rattle.mailboxes.specs.RunParts.{Parts, state_of_run};
 ghost use Rattle.mailboxes.specs.RunSums.{AreCountsOf, plus};
 
 use crate::run::Run;
@@ -15,7 +15,7 @@ impl Run {
     /// numbers of seats. Those are the counts of the state that the run shows.
     pub fn counts(&self) -> Counts
         requires { Parts self.now }
-        ensures counts { (parts : Parts self.now) → result ≡ (state_of self.now parts).counts }
+        ensures counts { (parts : Parts self.now) → result ≡ (state_of_run self.now parts).counts }
         ensures sum { (each : ℕ → Counts) → AreCountsOf self.now each →
             result ≡ counts_of (seat_count self.now.set_up) each }
     {

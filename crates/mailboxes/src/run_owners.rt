@@ -6,9 +6,9 @@ ghost use Rattle.machine_theorem.specs.Bags.{weigh};
 ghost use Rattle.machine_theorem.specs.Coherence.{owner_in};
 ghost use Rattle.machine_moves.specs.Ownership.{owners, ownership_in};
 ghost use Rattle.seat_views.specs.Seated.{over};
-ghost use Rattle.seat_rule.specs.Rule.{bag_of, content, seat_count, slot_count};
-ghost use Rattle.mailboxes.specs.RunParts.{Parts, state_of};
-ghost use Rattle.mailboxes.specs.RunSums.{messages_of};
+ghost use Rattle.seat_rule.specs.Rule.{bag_of_hold, content, seat_count, slot_count};
+ghost use Rattle.mailboxes.specs.RunParts.{Parts, state_of_run};
+ghost use Rattle.mailboxes.specs.RunSums.{messages_left};
 
 use crate::ends::slots_are_few;
 use crate::outbox::Outbox;
@@ -26,7 +26,7 @@ impl Run {
     pub fn owners(&self, line: LineNo) -> u32
         requires { Parts self.now }
         ensures owners { (parts : Parts self.now) → result ≡
-            owners self.now.set_up.config (state_of self.now parts) line }
+            owners self.now.set_up.config (state_of_run self.now parts) line }
         ensures one { result ≤ 1 }
     {
         owners_are_added_up();
@@ -52,7 +52,7 @@ impl Run {
     fn grants_with_seats(&self, line: LineNo) -> u32
         requires { Parts self.now }
         ensures grants { (parts : Parts self.now) → result ≡ over (seat_count self.now.set_up)
-            (λ j. weigh (ownership_in line) (bag_of (parts.seats j))) }
+            (λ j. weigh (ownership_in line) (bag_of_hold (parts.seats j))) }
         ensures within { result ≤ 513 * 72 }
     {
         seats_are_few();
@@ -95,7 +95,7 @@ fn owner_in(core: &Core, line: LineNo) -> u32
 
 // How many grants and returns of a line a seat left.
 fn grants_with(outbox: &Outbox, inbox: &Inbox<Message>, line: LineNo) -> u32
-    ensures value { result ≡ weigh (ownership_in line) (messages_of outbox.now inbox.now) }
+    ensures value { result ≡ weigh (ownership_in line) (messages_left outbox.now inbox.now) }
     ensures within { result ≤ 513 }
 {
     outbox.grants(line) + grants_of(inbox.hand(), line) + grants_held(inbox, line)

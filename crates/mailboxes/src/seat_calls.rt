@@ -1,7 +1,7 @@
 //! A core's seat and a bank's seat put and take messages.
 ghost use Rattle.std.specs.Prelude.{◌≡◌};
 ghost use Rattle.mailboxes.specs.BoxMoves.{Puts, Stays, Takes};
-ghost use Rattle.mailboxes.specs.Seats.{IsBankSeat, IsCoreSeat, SameBank, SameCore};
+ghost use Rattle.mailboxes.specs.Seats.{IsBankSeat, IsCoreSeat, SameBankPart, SameCorePart};
 
 use crate::bank_seat::BankSeat;
 use crate::core_seat::CoreSeat;
@@ -12,7 +12,7 @@ impl CoreSeat {
     /// Puts the oldest message of the outbox whose link has a free slot; false if there is no such message.
     pub fn put(&mut self, machine: &Machine) -> bool
         requires { IsCoreSeat machine.now self.old }
-        ensures seat { IsCoreSeat machine.now self.new × SameCore self.old self.new }
+        ensures seat { IsCoreSeat machine.now self.new × SameCorePart self.old self.new }
         ensures mail { Stays self.old.mail self.new.mail }
         ensures put { Puts result self.old.mail self.old.part.outbox.messages self.new.mail
             self.new.part.outbox.messages }
@@ -23,7 +23,7 @@ impl CoreSeat {
     /// Takes the first message that came in, from the cursor on and going round, into the empty hand.
     pub fn take(&mut self, machine: &Machine) -> Take
         requires { IsCoreSeat machine.now self.old }
-        ensures seat { IsCoreSeat machine.now self.new × SameCore self.old self.new }
+        ensures seat { IsCoreSeat machine.now self.new × SameCorePart self.old self.new }
         ensures mail { Stays self.old.mail self.new.mail }
         ensures outbox { self.new.part.outbox ≡ self.old.part.outbox }
         ensures taken { Takes machine.now.set_up result self.old.mail self.new.mail }
@@ -36,7 +36,7 @@ impl BankSeat {
     /// Puts the oldest message of the outbox whose link has a free slot; false if there is no such message.
     pub fn put(&mut self, machine: &Machine) -> bool
         requires { IsBankSeat machine.now self.old }
-        ensures seat { IsBankSeat machine.now self.new × SameBank self.old self.new }
+        ensures seat { IsBankSeat machine.now self.new × SameBankPart self.old self.new }
         ensures mail { Stays self.old.mail self.new.mail }
         ensures put { Puts result self.old.mail self.old.part.outbox.messages self.new.mail
             self.new.part.outbox.messages }
@@ -47,7 +47,7 @@ impl BankSeat {
     /// Takes the first message that came in, from the cursor on and going round, into the empty hand.
     pub fn take(&mut self, machine: &Machine) -> Take
         requires { IsBankSeat machine.now self.old }
-        ensures seat { IsBankSeat machine.now self.new × SameBank self.old self.new }
+        ensures seat { IsBankSeat machine.now self.new × SameBankPart self.old self.new }
         ensures mail { Stays self.old.mail self.new.mail }
         ensures outbox { self.new.part.outbox ≡ self.old.part.outbox }
         ensures taken { Takes machine.now.set_up result self.old.mail self.new.mail }

@@ -34,10 +34,10 @@ impl TableRule<Option<Message>, Known, SetUp> for Law {
 }
 
 /// A seat at the table of slots.
-pub type Chair = Seat<Option<Message>, Known>;
+pub type SlotSeat = Seat<Option<Message>, Known>;
 
 /// The table of slots, as seats share it.
-pub type Desk = Shared<Option<Message>, Known, SetUp, Law>;
+pub type SlotTable = Shared<Option<Message>, Known, SetUp, Law>;
 
 struct LookOut;
 
@@ -46,7 +46,7 @@ impl Play<Option<Message>, Known> for LookOut {
 }
 
 /// How the machine was set up, and the view after a step. Each call picks them.
-pub trait Aim {
+pub trait StepChoice {
     ghost use Rattle.seat_views.specs.declared.views.View.{View};
     ghost use Rattle.seat_rule.specs.declared.views.SetUp.{SetUp};
     ghost use Rattle.seat_rule.specs.declared.views.Hold.{Hold};
@@ -56,7 +56,7 @@ pub trait Aim {
     ghost to: { View Hold };
 }
 
-impl Aim for Brand {
+impl StepChoice for Brand {
     ghost set_up = { no_set_up };
 
     ghost to = { first_view no_hold };
@@ -66,7 +66,7 @@ struct LookIn<C> {
     marker: PhantomData<C>,
 }
 
-impl<C: Aim> Play<Option<Message>, Known> for LookIn<C> {
+impl<C: StepChoice> Play<Option<Message>, Known> for LookIn<C> {
     ghost then = { saw_in C.set_up };
 }
 
@@ -74,23 +74,23 @@ struct Gives<C> {
     marker: PhantomData<C>,
 }
 
-impl<C: Aim> Play<Option<Message>, Known> for Gives<C> {
+impl<C: StepChoice> Play<Option<Message>, Known> for Gives<C> {
     ghost then = { λ s m r n. gave C.set_up (seat_count C.set_up) C.to m n };
 }
 
-struct Maker<C> {
+struct SeatSplit<C> {
     marker: PhantomData<C>,
 }
 
-impl<C: Aim> Split<Known> for Maker<C> {
+impl<C: StepChoice> Split<Known> for SeatSplit<C> {
     ghost left = { one_more };
 
     ghost right = { λ v. seat_view v.made (opening_hold C.set_up v.made) };
 }
 
-struct Meeting;
+struct SeatJoin;
 
-impl Join<Known> for Meeting {
+impl Join<Known> for SeatJoin {
     ghost both = { knows };
 
     ghost spent = { spent_view no_hold };
@@ -98,167 +98,178 @@ impl Join<Known> for Meeting {
 
 /// Looks at a slot that goes out from the seat, and answers its word. A slot that is found empty is then out with the
 /// seat.
-pub fn look_out(desk: &Desk, seat: &mut Chair, slot: usize) -> u64
-    requires desk { Belongs seat.old.table_id desk.now.table_id desk.now.key }
-    requires slot { (slot < slot_count desk.now.key) ×
-        (from_of desk.now.key slot ≡ seat.old.me.0.number) }
+pub fn look_out(table: &SlotTable, seat: &mut SlotSeat, slot: usize) -> u64
+    requires table { Belongs seat.old.table_id table.now.table_id table.now.key }
+    requires slot { (slot < slot_count table.now.key) ×
+        (from_of table.now.key slot ≡ seat.old.me.0.number) }
     requires idle { (seat.old.me.0.spent ≡ false) × (seat.old.me.0.mine.stage ≡ Idle) }
-    ensures desk { (seat.new.table_id ≡ seat.old.table_id) × (seat.new.id ≡ seat.old.id) }
+    ensures table { (seat.new.table_id ≡ seat.old.table_id) × (seat.new.id ≡ seat.old.id) }
     ensures saw { saw_out (step 0 slot 0 0 none) seat.old.me result seat.new.me }
 {
     looks_keep_the_rule();
-    desk.load::<LookOut>(seat, slot)
+    table.load::<LookOut>(seat, slot)
 }
 
 /// Looks at a slot that comes in to the seat, and answers its word. A slot that is found full is then out with the
 /// seat, and its message is addressed to the seat.
-pub fn look_in(desk: &Desk, seat: &mut Chair, slot: usize) -> u64
-    requires desk { Belongs seat.old.table_id desk.now.table_id desk.now.key }
-    requires slot { (slot < slot_count desk.now.key) ×
-        (to_of desk.now.key slot ≡ seat.old.me.0.number) }
+pub fn look_in(table: &SlotTable, seat: &mut SlotSeat, slot: usize) -> u64
+    requires table { Belongs seat.old.table_id table.now.table_id table.now.key }
+    requires slot { (slot < slot_count table.now.key) ×
+        (to_of table.now.key slot ≡ seat.old.me.0.number) }
     requires idle { (seat.old.me.0.spent ≡ false) × (seat.old.me.0.mine.stage ≡ Idle) }
-    ensures desk { (seat.new.table_id ≡ seat.old.table_id) × (seat.new.id ≡ seat.old.id) }
-    ensures saw { saw_in desk.now.key (step 0 slot 0 0 none) seat.old.me result seat.new.me }
+    ensures table { (seat.new.table_id ≡ seat.old.table_id) × (seat.new.id ≡ seat.old.id) }
+    ensures saw { saw_in table.now.key (step 0 slot 0 0 none) seat.old.me result seat.new.me }
 {
-    looked_in::<Brand>(desk, seat, slot)
+    looked_in::<Brand>(table, seat, slot)
 }
 
-fn looked_in<C: Aim>(desk: &Desk, seat: &mut Chair, slot: usize) -> u64
-    requires desk { Belongs seat.old.table_id desk.now.table_id desk.now.key }
-    requires slot { (slot < slot_count desk.now.key) ×
-        (to_of desk.now.key slot ≡ seat.old.me.0.number) }
+fn looked_in<C: StepChoice>(table: &SlotTable, seat: &mut SlotSeat, slot: usize) -> u64
+    requires table { Belongs seat.old.table_id table.now.table_id table.now.key }
+    requires slot { (slot < slot_count table.now.key) ×
+        (to_of table.now.key slot ≡ seat.old.me.0.number) }
     requires idle { (seat.old.me.0.spent ≡ false) × (seat.old.me.0.mine.stage ≡ Idle) }
-    requires aim { C.set_up ≡ desk.now.key }
-    ensures desk { (seat.new.table_id ≡ seat.old.table_id) × (seat.new.id ≡ seat.old.id) }
+    requires choice { C.set_up ≡ table.now.key }
+    ensures table { (seat.new.table_id ≡ seat.old.table_id) × (seat.new.id ≡ seat.old.id) }
     ensures saw { saw_in C.set_up (step 0 slot 0 0 none) seat.old.me result seat.new.me }
 {
     looks_keep_the_rule();
-    desk.load::<LookIn<C>>(seat, slot)
+    table.load::<LookIn<C>>(seat, slot)
 }
 
 // Gives the slot back with the word, and the view becomes what the call picks.
-fn give<C: Aim>(desk: &Desk, seat: &mut Chair, slot: usize, word: u64)
-    requires desk { (seat.old.table_id ≡ desk.now.table_id) × (slot < desk.now.table_id.words) }
-    requires rule { Allows (Holds desk.now.key) desk.now.table_id.slots seat.old.id seat.old.me
+fn give<C: StepChoice>(table: &SlotTable, seat: &mut SlotSeat, slot: usize, word: u64)
+    requires table { (seat.old.table_id ≡ table.now.table_id) × (slot < table.now.table_id.words) }
+    requires rule { Allows (Holds table.now.key) table.now.table_id.slots seat.old.id seat.old.me
         slot (λ _. word) (λ _. gave C.set_up (seat_count C.set_up) C.to seat.old.me) }
-    ensures desk { (seat.new.table_id ≡ seat.old.table_id) × (seat.new.id ≡ seat.old.id) }
+    ensures table { (seat.new.table_id ≡ seat.old.table_id) × (seat.new.id ≡ seat.old.id) }
     ensures gave { gave C.set_up (seat_count C.set_up) C.to seat.old.me seat.new.me }
 {
-    desk.swap::<Gives<C>>(seat, slot, word);
+    table.swap::<Gives<C>>(seat, slot, word);
 }
 
 /// Writes a message into the slot that is out with the seat, and gives it back full. The message was that at `index`
 /// of the outbox.
-pub fn send(desk: &Desk, seat: &mut Chair, slot: usize, message: Message, index: usize)
-    requires desk { Belongs seat.old.table_id desk.now.table_id desk.now.key }
-    requires slot { (slot < slot_count desk.now.key) × (seat.old.me.1 ≡ (slot, None) ∷ []) }
+pub fn send(table: &SlotTable, seat: &mut SlotSeat, slot: usize, message: Message, index: usize)
+    requires table { Belongs seat.old.table_id table.now.table_id table.now.key }
+    requires slot { (slot < slot_count table.now.key) × (seat.old.me.1 ≡ (slot, None) ∷ []) }
     requires writing { (seat.old.me.0.spent ≡ false) ×
         (seat.old.me.0.mine.stage ≡ Writing slot) ×
         (slice_get seat.old.me.0.mine.outbox index ≡ Some message) ×
-        (message.to ≡ node_of desk.now.key (to_of desk.now.key slot)) }
-    ensures desk { (seat.new.table_id ≡ seat.old.table_id) × (seat.new.id ≡ seat.old.id) }
+        (message.to ≡ node_of table.now.key (to_of table.now.key slot)) }
+    ensures table { (seat.new.table_id ≡ seat.old.table_id) × (seat.new.id ≡ seat.old.id) }
     ensures sent { seat.new.me ≡
         (with_hold seat.old.me.0 (put_hold seat.old.me.0.mine slot message index), []) }
-    ensures standing { Standing desk.now.key (seat_count desk.now.key) seat.old.me.0.number
+    ensures standing { Standing table.now.key (seat_count table.now.key) seat.old.me.0.number
         (put_hold seat.old.me.0.mine slot message index) }
 {
-    sent::<Brand>(desk, seat, slot, message, index);
+    sent::<Brand>(table, seat, slot, message, index);
 }
 
-fn sent<C: Aim>(desk: &Desk, seat: &mut Chair, slot: usize, message: Message, index: usize)
-    requires desk { Belongs seat.old.table_id desk.now.table_id desk.now.key }
-    requires slot { (slot < slot_count desk.now.key) × (seat.old.me.1 ≡ (slot, None) ∷ []) }
+fn sent<C: StepChoice>(
+    table: &SlotTable,
+    seat: &mut SlotSeat,
+    slot: usize,
+    message: Message,
+    index: usize,
+)
+    requires table { Belongs seat.old.table_id table.now.table_id table.now.key }
+    requires slot { (slot < slot_count table.now.key) × (seat.old.me.1 ≡ (slot, None) ∷ []) }
     requires writing { (seat.old.me.0.spent ≡ false) ×
         (seat.old.me.0.mine.stage ≡ Writing slot) ×
         (slice_get seat.old.me.0.mine.outbox index ≡ Some message) ×
-        (message.to ≡ node_of desk.now.key (to_of desk.now.key slot)) }
-    requires aim { (C.to ≡
+        (message.to ≡ node_of table.now.key (to_of table.now.key slot)) }
+    requires choice { (C.to ≡
         with_hold seat.old.me.0 (put_hold seat.old.me.0.mine slot message index)) ×
-        (C.set_up ≡ desk.now.key) }
-    ensures desk { (seat.new.table_id ≡ seat.old.table_id) × (seat.new.id ≡ seat.old.id) }
+        (C.set_up ≡ table.now.key) }
+    ensures table { (seat.new.table_id ≡ seat.old.table_id) × (seat.new.id ≡ seat.old.id) }
     ensures sent { (seat.new.me ≡ (C.to, [])) ×
         Standing C.set_up (seat_count C.set_up) C.to.number C.to.mine }
 {
     puts_and_takes_keep_the_rule();
-    match desk.exchange(seat, slot, Some(message)) {
+    match table.exchange(seat, slot, Some(message)) {
         None => {}
         Some(_) => unreachable!(),
     }
-    give::<C>(desk, seat, slot, 1);
+    give::<C>(table, seat, slot, 1);
 }
 
 /// Moves the message out of the slot that is out with the seat, and gives it back empty.
-pub fn receive(desk: &Desk, seat: &mut Chair, slot: usize) -> Message
-    requires desk { Belongs seat.old.table_id desk.now.table_id desk.now.key }
-    requires slot { (slot < slot_count desk.now.key) × (seat.old.me.0.spent ≡ false) ×
+pub fn receive(table: &SlotTable, seat: &mut SlotSeat, slot: usize) -> Message
+    requires table { Belongs seat.old.table_id table.now.table_id table.now.key }
+    requires slot { (slot < slot_count table.now.key) × (seat.old.me.0.spent ≡ false) ×
         (seat.old.me.0.mine.hand ≡ None) }
     requires reading { (m : Message) × (seat.old.me.0.mine.stage ≡ Reading slot m) ×
         (seat.old.me.1 ≡ (slot, Some m) ∷ []) }
-    ensures desk { (seat.new.table_id ≡ seat.old.table_id) × (seat.new.id ≡ seat.old.id) }
+    ensures table { (seat.new.table_id ≡ seat.old.table_id) × (seat.new.id ≡ seat.old.id) }
     ensures taken { (seat.old.me.0.mine.stage ≡ Reading slot result) × (seat.new.me ≡
         (with_hold seat.old.me.0 (take_hold seat.old.me.0.mine slot result), [])) }
-    ensures standing { Standing desk.now.key (seat_count desk.now.key) seat.old.me.0.number
+    ensures standing { Standing table.now.key (seat_count table.now.key) seat.old.me.0.number
         (take_hold seat.old.me.0.mine slot result) }
 {
-    let found = desk.exchange(seat, slot, None);
+    let found = table.exchange(seat, slot, None);
     let message = found.unwrap();
     let _body: Body = message.body;
-    received::<Brand>(desk, seat, slot, message)
+    received::<Brand>(table, seat, slot, message)
 }
 
-fn received<C: Aim>(desk: &Desk, seat: &mut Chair, slot: usize, message: Message) -> Message
-    requires desk { Belongs seat.old.table_id desk.now.table_id desk.now.key }
-    requires slot { (slot < slot_count desk.now.key) × (seat.old.me.0.spent ≡ false) ×
+fn received<C: StepChoice>(
+    table: &SlotTable,
+    seat: &mut SlotSeat,
+    slot: usize,
+    message: Message,
+) -> Message
+    requires table { Belongs seat.old.table_id table.now.table_id table.now.key }
+    requires slot { (slot < slot_count table.now.key) × (seat.old.me.0.spent ≡ false) ×
         (seat.old.me.0.mine.hand ≡ None) × (seat.old.me.1 ≡ (slot, None) ∷ []) }
     requires reading { seat.old.me.0.mine.stage ≡ Reading slot message }
-    requires aim { (C.to ≡ with_hold seat.old.me.0 (take_hold seat.old.me.0.mine slot message)) ×
-        (C.set_up ≡ desk.now.key) }
-    ensures desk { (seat.new.table_id ≡ seat.old.table_id) × (seat.new.id ≡ seat.old.id) }
+    requires choice { (C.to ≡ with_hold seat.old.me.0 (take_hold seat.old.me.0.mine slot message)) ×
+        (C.set_up ≡ table.now.key) }
+    ensures table { (seat.new.table_id ≡ seat.old.table_id) × (seat.new.id ≡ seat.old.id) }
     ensures message { result ≡ message }
     ensures taken { (seat.new.me ≡ (C.to, [])) ×
         Standing C.set_up (seat_count C.set_up) C.to.number C.to.mine }
 {
     puts_and_takes_keep_the_rule();
-    give::<C>(desk, seat, slot, 0);
+    give::<C>(table, seat, slot, 0);
     message
 }
 
 /// Makes the next seat.
-pub fn make(desk: &Desk, first: &mut Chair) -> Chair
-    requires desk { Belongs first.old.table_id desk.now.table_id desk.now.key }
+pub fn make(table: &SlotTable, first: &mut SlotSeat) -> SlotSeat
+    requires table { Belongs first.old.table_id table.now.table_id table.now.key }
     requires more { (first.old.me.0.spent ≡ false) × (0 < first.old.me.0.made) ×
-        (first.old.me.0.made < seat_count desk.now.key) }
-    ensures desk { (first.new.table_id ≡ first.old.table_id) × (first.new.id ≡ first.old.id) ×
+        (first.old.me.0.made < seat_count table.now.key) }
+    ensures table { (first.new.table_id ≡ first.old.table_id) × (first.new.id ≡ first.old.id) ×
         (result.table_id ≡ first.old.table_id) }
     ensures made { (first.new.me ≡ (one_more first.old.me.0, first.old.me.1)) × (result.me ≡
-        (seat_view first.old.me.0.made (opening_hold desk.now.key first.old.me.0.made), [])) }
+        (seat_view first.old.me.0.made (opening_hold table.now.key first.old.me.0.made), [])) }
 {
-    make_as::<Brand>(desk, first)
+    make_as::<Brand>(table, first)
 }
 
-fn make_as<C: Aim>(desk: &Desk, first: &mut Chair) -> Chair
-    requires desk { Belongs first.old.table_id desk.now.table_id desk.now.key }
+fn make_as<C: StepChoice>(table: &SlotTable, first: &mut SlotSeat) -> SlotSeat
+    requires table { Belongs first.old.table_id table.now.table_id table.now.key }
     requires more { (first.old.me.0.spent ≡ false) × (0 < first.old.me.0.made) ×
-        (first.old.me.0.made < seat_count desk.now.key) }
-    requires aim { C.set_up ≡ desk.now.key }
-    ensures desk { (first.new.table_id ≡ first.old.table_id) × (first.new.id ≡ first.old.id) ×
+        (first.old.me.0.made < seat_count table.now.key) }
+    requires choice { C.set_up ≡ table.now.key }
+    ensures table { (first.new.table_id ≡ first.old.table_id) × (first.new.id ≡ first.old.id) ×
         (result.table_id ≡ first.old.table_id) }
     ensures made { (first.new.me ≡ (one_more first.old.me.0, first.old.me.1)) × (result.me ≡
         (seat_view first.old.me.0.made (opening_hold C.set_up first.old.me.0.made), [])) }
 {
     made_and_joined_seats_keep_the_rule();
-    desk.split_seat::<Maker<C>>(first)
+    table.split_seat::<SeatSplit<C>>(first)
 }
 
 /// Takes in what another seat knows, which is then given up.
-pub fn meet(desk: &Desk, seat: &mut Chair, other: Chair)
-    requires desk { Belongs seat.old.table_id desk.now.table_id desk.now.key ×
-        (other.table_id ≡ desk.now.table_id) }
+pub fn meet(table: &SlotTable, seat: &mut SlotSeat, other: SlotSeat)
+    requires table { Belongs seat.old.table_id table.now.table_id table.now.key ×
+        (other.table_id ≡ table.now.table_id) }
     requires live { (seat.old.me.0.spent ≡ false) × (other.me.0.spent ≡ false) ×
         (other.me.1 ≡ []) }
-    ensures desk { (seat.new.table_id ≡ seat.old.table_id) × (seat.new.id ≡ seat.old.id) }
+    ensures table { (seat.new.table_id ≡ seat.old.table_id) × (seat.new.id ≡ seat.old.id) }
     ensures met { seat.new.me ≡ (knows seat.old.me.0 other.me.0, seat.old.me.1) }
 {
     made_and_joined_seats_keep_the_rule();
-    desk.join_seat::<Meeting>(seat, other);
+    table.join_seat::<SeatJoin>(seat, other);
 }

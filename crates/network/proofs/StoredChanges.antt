@@ -8,7 +8,7 @@ use Rattle.network.specs.declared.message.Message.{Message}
 use Rattle.network.specs.LinkNumbers.{link_of}
 use Rattle.network.specs.NumberedMessages.{IsRising, at_number, without_number, still_there}
 use Rattle.network.specs.Routes.{has_endpoints}
-use Rattle.network.specs.Stored.{IsStored, messages_of}
+use Rattle.network.specs.Stored.{IsStored, cell_messages}
 use Rattle.network.proofs.LinkLaws.{link-low}
 use Rattle.network.proofs.SlotChanges.{still_there-append, IsRising-append, IsRising-still_there}
 use Rattle.network.proofs.SlotChanges.{length-without_number, without_number-none}
@@ -25,14 +25,14 @@ if-ok P r x h e = rw e at h
 -- how many messages there are
 pub stored-count : (cores banks next count places : ℕ) (slots : List (ℕ × Option ℕ)) (arena : Lists (ℕ × Message)) →
     IsStored cores banks next count places slots arena →
-    count ≡ length (messages_of arena.lists (still_there slots))
+    count ≡ length (cell_messages arena.lists (still_there slots))
 stored-count cores banks next count places slots arena stored =
     stored.counted ∙ sym (messages-length arena.lists (still_there slots) stored.linked.placed)
 
 -- where there are fewer than there is room for, a cell is free
 pub stored-free : (cores banks next count places : ℕ) (slots : List (ℕ × Option ℕ)) (arena : Lists (ℕ × Message)) →
     IsStored cores banks next count places slots arena →
-    length (messages_of arena.lists (still_there slots)) < arena.cells → free_cells arena ≡ 0 → ⊥
+    length (cell_messages arena.lists (still_there slots)) < arena.cells → free_cells arena ≡ 0 → ⊥
 stored-free cores banks next count places slots arena stored room none =
     let many = messages-length arena.lists (still_there slots) stored.linked.placed in
     omega (arith, many, room, none, stored.linked.total)
@@ -41,15 +41,15 @@ stored-free cores banks next count places slots arena stored room none =
 pub record Sends (cores banks next count places : ℕ) (m : Message) (slots : List (ℕ × Option ℕ))
     (arena : Lists (ℕ × Message)) (messages : List (ℕ × Message)) : Type 0 where
   pub stored : IsStored cores banks (next + 1) (count + 1) places slots arena
-  pub are : messages_of arena.lists (still_there slots) ≡ messages ++ (next, m) ∷ []
+  pub are : cell_messages arena.lists (still_there slots) ≡ messages ++ (next, m) ∷ []
 
 pub stored-sent : (cores banks next count places l c : ℕ) (m : Message) (slots : List (ℕ × Option ℕ))
     (arena : Lists (ℕ × Message)) → IsStored cores banks next count places slots arena → AppendLaws (ℕ × Message) →
     IsTrue (has_endpoints cores banks m) → next < 2 ^ 64 - 1 →
-    length (messages_of arena.lists (still_there slots)) < arena.cells → look_up c arena.lists ≡ None →
+    length (cell_messages arena.lists (still_there slots)) < arena.cells → look_up c arena.lists ≡ None →
     link_of cores banks m.from m.to ≡ Some l →
     Sends cores banks next count places m (slots ++ (next, Some c) ∷ []) (pushed l (c, (next, m)) arena)
-    (messages_of arena.lists (still_there slots))
+    (cell_messages arena.lists (still_there slots))
 stored-sent cores banks next count places l c m slots arena stored laws here number room fresh link =
     let xs : List (ℕ × ℕ) = still_there slots in
     let there : still_there (slots ++ (next, Some c) ∷ []) ≡ xs ++ (next, c) ∷ [] = still_there-append next c slots in
@@ -99,13 +99,13 @@ stored-none cores banks next count places n slots new arena stored none after ri
 pub record Takes (cores banks next count places n : ℕ) (slots : List (ℕ × Option ℕ)) (arena : Lists (ℕ × Message))
     (messages : List (ℕ × Message)) : Type 0 where
   pub stored : IsStored cores banks next (count - 1) places slots arena
-  pub are : messages_of arena.lists (still_there slots) ≡ without_number n messages
+  pub are : cell_messages arena.lists (still_there slots) ≡ without_number n messages
 
 pub stored-taken : (cores banks next count places n c : ℕ) (slots new : List (ℕ × Option ℕ))
     (arena : Lists (ℕ × Message)) → IsStored cores banks next count places slots arena → LookUpLaws (ℕ × Message) →
     WithoutLaws (ℕ × Message) → IsOnce arena.lists → at_number n (still_there slots) ≡ Some c →
     still_there new ≡ without_number n (still_there slots) → IsRising 0 new next → length new ≤ 2 * (count - 1) + 1 →
-    Takes cores banks next count places n new (unlinked c arena) (messages_of arena.lists (still_there slots))
+    Takes cores banks next count places n new (unlinked c arena) (cell_messages arena.lists (still_there slots))
 stored-taken cores banks next count places n c slots new arena stored finds laws once e after rising few =
     let there = placed-at n c arena.lists (still_there slots) stored.linked.placed e in
     let cut = linked-cut cores banks n c next there.0 arena.lists (still_there slots) stored.linked
@@ -131,7 +131,7 @@ stored-taken cores banks next count places n c slots new arena stored finds laws
 pub record Answers (cores banks next count places n : ℕ) (m : Message) (slots : List (ℕ × Option ℕ))
     (arena : Lists (ℕ × Message)) (messages : List (ℕ × Message)) : Type 0 where
   pub stored : IsStored cores banks (next + 1) count places slots arena
-  pub are : messages_of arena.lists (still_there slots) ≡ without_number n messages ++ (next, m) ∷ []
+  pub are : cell_messages arena.lists (still_there slots) ≡ without_number n messages ++ (next, m) ∷ []
 
 pub stored-answered : (cores banks next count places n l c : ℕ) (m : Message) (slots left new : List (ℕ × Option ℕ))
     (arena : Lists (ℕ × Message)) → IsStored cores banks next count places slots arena → LookUpLaws (ℕ × Message) →
@@ -141,7 +141,7 @@ pub stored-answered : (cores banks next count places n l c : ℕ) (m : Message) 
     still_there new ≡ still_there (left ++ (next, Some c) ∷ []) → IsRising 0 new (next + 1) →
     length new ≤ 2 * count + 1 →
     Answers cores banks next count places n m new (pushed l (c, (next, m)) (unlinked c arena))
-    (messages_of arena.lists (still_there slots))
+    (cell_messages arena.lists (still_there slots))
 stored-answered cores banks next count places n l c m slots left new arena stored finds laws appends once here number e
     link taken same rising few =
     let xs : List (ℕ × ℕ) = still_there slots in

@@ -15,7 +15,7 @@ use Rattle.network.specs.NumberedMessages.{IsRising, at_number, without_number, 
 use Rattle.network.specs.LinkNumbers.{link_of, has_link, is_on}
 use Rattle.network.specs.Routes.{has_endpoints}
 use Rattle.network.specs.Search.{first_message}
-use Rattle.network.specs.Stored.{held, messages_of, at_cell, ArePlaced, AreLinked}
+use Rattle.network.specs.Stored.{held, cell_messages, at_cell, ArePlaced, AreLinked}
 use Rattle.network.proofs.SlotChanges.{given-append, length-without_number, AllHaveEndpoints-append}
 use Rattle.network.proofs.SlotChanges.{AllHaveEndpoints-without_number}
 
@@ -31,30 +31,30 @@ front ls x xs all = (all.0.0, ap (λ o. given x.1 o (held ls xs)) all.0.1)
 
 -- the numbers, how many there are, and their order
 pub messages-numbers : (ls : Lists) (xs : List (ℕ × ℕ)) → ArePlaced ls xs →
-    map (λ x. x.0) (messages_of ls xs) ≡ map (λ x. x.0) xs
+    map (λ x. x.0) (cell_messages ls xs) ≡ map (λ x. x.0) xs
 messages-numbers ls [] all = refl
 messages-numbers ls (x ∷ xs) all = let f = front ls x xs all in
     ap (λ h. map (λ x. x.0) (map (λ a. a.1) h)) f.1 ∙ ap (λ ns. x.0 ∷ ns) (messages-numbers ls xs all.1)
 
-pub messages-length : (ls : Lists) (xs : List (ℕ × ℕ)) → ArePlaced ls xs → length (messages_of ls xs) ≡ length xs
+pub messages-length : (ls : Lists) (xs : List (ℕ × ℕ)) → ArePlaced ls xs → length (cell_messages ls xs) ≡ length xs
 messages-length ls [] all = refl
 messages-length ls (x ∷ xs) all = let f = front ls x xs all in
     ap (λ h. length (map (λ a. a.1) h)) f.1 ∙ ap suc (messages-length ls xs all.1)
 
 pub messages-rising : (low high : ℕ) (ls : Lists) (xs : List (ℕ × ℕ)) → ArePlaced ls xs → IsRising low xs high →
-    IsRising low (messages_of ls xs) high
+    IsRising low (cell_messages ls xs) high
 messages-rising low high ls [] all rising = rising
 messages-rising low high ls (x ∷ xs) all rising = let f = front ls x xs all in
     rw f.1 (rising.0, messages-rising (x.0 + 1) high ls xs all.1 rising.1)
 
 -- what has a number lies in its cell
 pub messages-at_number : (n : ℕ) (ls : Lists) (xs : List (ℕ × ℕ)) → ArePlaced ls xs →
-    at_number n (messages_of ls xs) ≡ at_cell ls (at_number n xs)
+    at_number n (cell_messages ls xs) ≡ at_cell ls (at_number n xs)
 messages-at_number n ls [] all = refl
 messages-at_number n ls (x ∷ xs) all = let f = front ls x xs all in
     let rest = messages-at_number n ls xs all.1 in
     ap (λ h. at_number n (map (λ a. a.1) h)) f.1 ∙ elim (nat_eq x.0 n) as (λ b.
-    cond b (Some f.0) (at_number n (messages_of ls xs)) ≡ at_cell ls (cond b (Some x.1) (at_number n xs))) [
+    cond b (Some f.0) (at_number n (cell_messages ls xs)) ≡ at_cell ls (cond b (Some x.1) (at_number n xs))) [
       | true ↦ sym (ap (option_map (λ (p : ℕ × Message). p.1)) all.0.1)
       | false ↦ rest
     ]
@@ -65,7 +65,7 @@ some-cell ls (Some c) some = refl
 
 -- where a number has a message, it has a cell
 pub placed-some : (n : ℕ) (ls : Lists) (xs : List (ℕ × ℕ)) → ArePlaced ls xs →
-    IsSome (at_number n (messages_of ls xs)) → IsSome (at_number n xs)
+    IsSome (at_number n (cell_messages ls xs)) → IsSome (at_number n xs)
 placed-some n ls xs all some =
     some-cell ls (at_number n xs) (sym (ap is_some (messages-at_number n ls xs all)) ∙ some)
 
@@ -110,12 +110,12 @@ placed-append ls (x ∷ xs) ys all more = (all.0, placed-append ls xs ys all.1 m
 pub record AreSent (cores banks n : ℕ) (m : Message) (new : Lists) (cells : List (ℕ × ℕ))
     (messages : List (ℕ × Message)) : Type 0 where
   pub linked : AreLinked cores banks new cells
-  pub are : messages_of new cells ≡ messages ++ (n, m) ∷ []
+  pub are : cell_messages new cells ≡ messages ++ (n, m) ∷ []
 
 pub linked-sent : (cores banks l c n : ℕ) (m : Message) (old : Lists) (xs : List (ℕ × ℕ)) →
     AreLinked cores banks old xs → AppendLaws (ℕ × Message) → look_up c old ≡ None →
     link_of cores banks m.from m.to ≡ Some l → l < length old → IsTrue (has_endpoints cores banks m) →
-    AreSent cores banks n m (append_to l (c, (n, m)) old) (xs ++ (n, c) ∷ []) (messages_of old xs)
+    AreSent cores banks n m (append_to l (c, (n, m)) old) (xs ++ (n, c) ∷ []) (cell_messages old xs)
 linked-sent cores banks l c n m old xs linked laws fresh link lt here =
     let a : ℕ × (ℕ × Message) = (c, (n, m)) in
     let new : Lists = append_to l a old in
@@ -126,7 +126,7 @@ linked-sent cores banks l c n m old xs linked laws fresh link lt here =
     let all : held new (xs ++ (n, c) ∷ []) ≡ held old xs ++ a ∷ [] =
     held-append new xs ((n, c) ∷ []) ∙ ap (λ h. h ++ held new ((n, c) ∷ [])) kept.1
     ∙ ap (λ o. held old xs ++ given c o []) found in
-    let messages : messages_of new (xs ++ (n, c) ∷ []) ≡ messages_of old xs ++ (n, m) ∷ [] =
+    let messages : cell_messages new (xs ++ (n, c) ∷ []) ≡ cell_messages old xs ++ (n, m) ∷ [] =
     ap (map (λ (b : ℕ × (ℕ × Message)). b.1)) all ∙ map_push (λ (b : ℕ × (ℕ × Message)). b.1) (held old xs) a in
     record {
       linked = record {
@@ -157,7 +157,7 @@ linked-sent cores banks l c n m old xs linked laws fresh link lt here =
               length-append (get_or old l []) (a ∷ []),
               length-append xs ((n, c) ∷ []),
             ));
-        endpoints = rw messages (AllHaveEndpoints-append cores banks n m (messages_of old xs) linked.endpoints here);
+        endpoints = rw messages (AllHaveEndpoints-append cores banks n m (cell_messages old xs) linked.endpoints here);
       };
       are = messages;
     }
@@ -201,7 +201,7 @@ pub cut-placed : (n c low high : ℕ) (m : Message) (ls : Lists) (xs : List (ℕ
     IsRising low xs high → at_number n xs ≡ Some c → look_up c ls ≡ Some (n, m) → WithoutLaws (ℕ × Message) →
     ArePlaced (map (without c) ls) (without_number n xs)
     × (held (map (without c) ls) (without_number n xs) ≡ without c (held ls xs))
-    × (messages_of (map (without c) ls) (without_number n xs) ≡ without_number n (messages_of ls xs))
+    × (cell_messages (map (without c) ls) (without_number n xs) ≡ without_number n (cell_messages ls xs))
 cut-placed n c low high m ls [] all rising e is laws = cc
 cut-placed n c low high m ls (x ∷ xs) all rising e is laws =
     let new : Lists = map (without c) ls in
@@ -218,9 +218,9 @@ cut-placed n c low high m ls (x ∷ xs) all rising e is laws =
             ap (held new) left ∙ rest.1 ∙ sym (ap (without c) first.1
                 ∙ ap (λ b. if b then without c (held ls xs) else (x.1, (x.0, first.0)) ∷ without c (held ls xs))
                 (eq-eqb x.1 c cell) ∙ rest.2),
-            ap (messages_of new) left ∙ ap (map (λ (a : ℕ × (ℕ × Message)). a.1)) rest.1
+            ap (cell_messages new) left ∙ ap (map (λ (a : ℕ × (ℕ × Message)). a.1)) rest.1
                 ∙ sym (ap (λ h. without_number n (map (λ (a : ℕ × (ℕ × Message)). a.1) h)) first.1
-                ∙ ap (λ b. if b then messages_of ls xs else (x.0, first.0) ∷ without_number n (messages_of ls xs))
+                ∙ ap (λ b. if b then cell_messages ls xs else (x.0, first.0) ∷ without_number n (cell_messages ls xs))
                 (eq-eqb x.0 n same)),
           )
       | inr other ↦
@@ -234,10 +234,10 @@ cut-placed n c low high m ls (x ∷ xs) all rising e is laws =
           ap (λ o. given x.1 o (held new (without_number n xs))) step.0 in (
             rw left ((all.0.0, step.0), rest.0),
             ap (held new) left ∙ front_new ∙ ap (λ us. (x.1, (x.0, first.0)) ∷ us) rest.1 ∙ sym step.2,
-            ap (messages_of new) left ∙ ap (map (λ (a : ℕ × (ℕ × Message)). a.1)) front_new
+            ap (cell_messages new) left ∙ ap (map (λ (a : ℕ × (ℕ × Message)). a.1)) front_new
                 ∙ ap (λ us. (x.0, first.0) ∷ us) rest.2
                 ∙ sym (ap (λ h. without_number n (map (λ (a : ℕ × (ℕ × Message)). a.1) h)) first.1
-                ∙ ap (λ b. if b then messages_of ls xs else (x.0, first.0) ∷ without_number n (messages_of ls xs))
+                ∙ ap (λ b. if b then cell_messages ls xs else (x.0, first.0) ∷ without_number n (cell_messages ls xs))
                 (ne_eqb x.0 n other)),
           )
     ]
@@ -251,7 +251,7 @@ second-of o p e = ap (option_map (λ (q : ℕ × Message). q.1)) e
 pub record AreCut (cores banks n : ℕ) (new : Lists) (cells : List (ℕ × ℕ)) (messages : List (ℕ × Message)) : Type 0
   where
     pub linked : AreLinked cores banks new cells
-    pub are : messages_of new cells ≡ without_number n messages
+    pub are : cell_messages new cells ≡ without_number n messages
 
 filter-without : (test : Message → Bool) (c : ℕ) (hs : List (ℕ × (ℕ × Message))) →
     filter (λ a. test a.1.1) (without c hs) ≡ without c (filter (λ a. test a.1.1) hs)
@@ -303,7 +303,7 @@ total-cut c p ls finds laws once is =
 pub linked-cut : (cores banks n c high : ℕ) (m : Message) (old : Lists) (xs : List (ℕ × ℕ)) →
     AreLinked cores banks old xs → IsRising 0 xs high → at_number n xs ≡ Some c → look_up c old ≡ Some (n, m) →
     LookUpLaws (ℕ × Message) → WithoutLaws (ℕ × Message) → IsOnce old →
-    AreCut cores banks n (map (without c) old) (without_number n xs) (messages_of old xs)
+    AreCut cores banks n (map (without c) old) (without_number n xs) (cell_messages old xs)
 linked-cut cores banks n c high m old xs linked rising e is finds laws once =
     let new : Lists = map (without c) old in
     let cut = cut-placed n c 0 high m old xs linked.placed rising e is laws in
@@ -319,7 +319,7 @@ linked-cut cores banks n c high m old xs linked rising e is finds laws once =
             ∙ filter-without (is_on cores banks l) c (held old xs));
         total = omega (arith, less, fewer, linked.total);
         endpoints = rw cut.2
-            (AllHaveEndpoints-without_number cores banks n (messages_of old xs) linked.endpoints);
+            (AllHaveEndpoints-without_number cores banks n (cell_messages old xs) linked.endpoints);
       };
       are = cut.2;
     }
@@ -337,7 +337,7 @@ none-held test (a ∷ hs) e =
 
 pub first-held : (test : Message → Bool) (c : ℕ) (ls : Lists) (xs : List (ℕ × ℕ)) → ArePlaced ls xs →
     first_cell (filter (λ a. test a.1.1) (held ls xs)) ≡ Some c →
-    (is_some (look_up c ls) ≡ true) × (first_message test (messages_of ls xs) ≡ look_up c ls)
+    (is_some (look_up c ls) ≡ true) × (first_message test (cell_messages ls xs) ≡ look_up c ls)
 first-held test c ls [] all e = cc
 first-held test c ls (x ∷ xs) all e =
     let first = front ls x xs all in
@@ -345,7 +345,7 @@ first-held test c ls (x ∷ xs) all e =
     let found = rw first.1 at e in
     rw first.1 (elim (test first.0) as (λ b. first_cell (cond b ((x.1, (x.0, first.0))
     ∷ filter (λ a. test a.1.1) (held ls xs)) (filter (λ a. test a.1.1) (held ls xs))) ≡ Some c →
-    (is_some (look_up c ls) ≡ true) × (cond b (Some (x.0, first.0)) (first_message test (messages_of ls xs))
+    (is_some (look_up c ls) ≡ true) × (cond b (Some (x.0, first.0)) (first_message test (cell_messages ls xs))
     ≡ look_up c ls)) [
       | true ↦ λ is. (let same : x.1 ≡ c = cc in
           let here : look_up c ls ≡ Some (x.0, first.0) = ap (λ d. look_up d ls) (sym same) ∙ all.0.1 in

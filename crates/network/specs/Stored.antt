@@ -31,8 +31,8 @@ held lists [] = []
 held lists (x ∷ xs) = given x.1 (look_up x.1 lists) (held lists xs)
 
 -- the messages that lie in the cells of these numbers
-abbrev pub messages_of : List (List (ℕ × (ℕ × Message))) → List (ℕ × ℕ) → List (ℕ × Message)
-messages_of lists xs = map (λ a. a.1) (held lists xs)
+abbrev pub cell_messages : List (List (ℕ × (ℕ × Message))) → List (ℕ × ℕ) → List (ℕ × Message)
+cell_messages lists xs = map (λ a. a.1) (held lists xs)
 
 -- in the cell of each number lies that number, with a message
 abbrev pub ArePlaced : List (List (ℕ × (ℕ × Message))) → List (ℕ × ℕ) → Type 0
@@ -49,7 +49,7 @@ linked_of cores banks next places slots arena =
       slots = length slots;
       room = places;
       next = next;
-      messages = messages_of arena.lists (still_there slots);
+      messages = cell_messages arena.lists (still_there slots);
     }
 
 -- what is true of the lists and of the numbers with their cells: in each cell lies its number with a message, each list
@@ -59,7 +59,7 @@ pub record AreLinked (cores banks : ℕ) (lists : List (List (ℕ × (ℕ × Mes
   pub placed : ArePlaced lists cells
   pub each : (l : ℕ) → l < length lists → get_or lists l [] ≡ filter (λ a. is_on cores banks l a.1.1) (held lists cells)
   pub total : sum_by length lists ≡ length cells
-  pub endpoints : AllHaveEndpoints cores banks (messages_of lists cells)
+  pub endpoints : AllHaveEndpoints cores banks (cell_messages lists cells)
 
 -- what is true of all that is stored: the numbers of the slots rise and are below the next one, so many slots still
 -- have their cell, no more than the arena has cells, at most one slot more than these has none, and there is room for

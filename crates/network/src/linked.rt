@@ -8,7 +8,7 @@ ghost use Rattle.network.specs.Requests.{is_wanted};
 ghost use Rattle.network.specs.Routes.{has_endpoints};
 ghost use Rattle.network.specs.Search.{count_messages, earlier, first_message, is_between, is_store_of};
 ghost use Rattle.network.specs.Search.{kept_if, with_message};
-ghost use Rattle.network.specs.Stored.{ArePlaced, messages_of, at_cell};
+ghost use Rattle.network.specs.Stored.{ArePlaced, cell_messages, at_cell};
 
 use crate::criteria::Wanted;
 use crate::links::{count_links, link_of};
@@ -73,7 +73,7 @@ fn first_wanted<'a>(
 ) -> Option<(u64, &'a Message)>
     requires { ArePlaced arena.now.lists (still_there slots.now) }
     ensures { option_map with_message result ≡ first_message (is_wanted wanted.now)
-        (messages_of arena.now.lists (still_there slots.now)) }
+        (cell_messages arena.now.lists (still_there slots.now)) }
 {
     for slot in slots {
         if let Some(message) = wanted_in(arena, slot, wanted) {
@@ -86,7 +86,7 @@ fn first_wanted<'a>(
 /// How many messages are looked for.
 fn count_wanted(arena: &Arena<(u64, Message)>, slots: &[Slot], wanted: &Wanted) -> usize
     requires { ArePlaced arena.now.lists (still_there slots.now) }
-    ensures { result ≡ count_messages (is_wanted wanted.now) (messages_of arena.now.lists
+    ensures { result ≡ count_messages (is_wanted wanted.now) (cell_messages arena.now.lists
         (still_there slots.now)) }
 {
     let mut count = 0;

@@ -13,7 +13,7 @@ use Rattle.physiological_order.specs.declared.operation.Op.{Op}
 use Rattle.physiological_order.specs.declared.operation.Record.{Record}
 use Rattle.physiological_order.specs.Order.{Memory, Follows, of_core, KeepsProgramOrder, ReceivesAsReplayed}
 use Rattle.physiological_order.specs.Order.{flat_received, flat_after, replay, replay_end}
-use Rattle.physiological_order.specs.Faults.{Lists, issued_by}
+use Rattle.physiological_order.specs.Faults.{IssuedLists, issued_by}
 use Rattle.physiological_order.specs.Walking.{IsNext}
 use Rattle.physiological_order.proofs.ArrangedRecords.{Follows-push}
 use Rattle.physiological_order.proofs.ReplaySteps.{replay-push, replay_end-push}
@@ -131,7 +131,7 @@ split_at rs i r lt is =
     ∙ ap (λ s. s ∷ drop (suc i) rs) (sym is))
 
 -- past the lists nothing was issued
-issued_within : (issued : Lists) (core k : ℕ) (op : Op) → slice_get (issued_by issued core) k ≡ Some op →
+issued_within : (issued : IssuedLists) (core k : ℕ) (op : Op) → slice_get (issued_by issued core) k ≡ Some op →
     core < length issued
 issued_within issued core k op h =
     ⊎_elim (λ (lt : core < length issued). lt)
@@ -145,14 +145,16 @@ issued_within issued core k op h =
     none_there k op h = let lt = slice_get_within [] k op h in omega arith
 
 -- a record that may stand next in the program order is the next of its core's list
-pub next_from : (issued : Lists) (places : List ℕ) (rs : List Record) (r : Record) → length places ≡ length issued →
+pub next_from : (issued : IssuedLists) (places : List ℕ) (rs : List Record) (r : Record) → length places
+    ≡ length issued →
     Counted places rs → KeepsProgramOrder (issued_by issued) (rs ++ r ∷ []) → IsNext issued places r
 next_from issued places rs r long counted h =
     let last = order-last (issued_by issued) rs r h in
     let there = issued_within issued r.core r.place r.op last.1 in
     record { core_there = there; place = counted r.core (omega arith) ∙ sym last.0; operation = last.1 }
 
-pub order_with : (issued : Lists) (places : List ℕ) (rs : List Record) (r : Record) → length places ≡ length issued →
+pub order_with : (issued : IssuedLists) (places : List ℕ) (rs : List Record) (r : Record) → length places
+    ≡ length issued →
     Counted places rs → KeepsProgramOrder (issued_by issued) rs → IsNext issued places r →
     KeepsProgramOrder (issued_by issued) (rs ++ r ∷ [])
 order_with issued places rs r long counted h next =

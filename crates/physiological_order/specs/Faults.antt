@@ -62,9 +62,9 @@ IsVerdict opening issued records (OutOfProgramOrder number) =
 IsVerdict opening issued records (WrongValue number) = IsWalked opening issued records (WrongValue number)
 
 -- the lists that cores were issued, by core
-abbrev pub Lists : Type 0
-Lists = List (Vec Op Global)
+abbrev pub IssuedLists : Type 0
+IssuedLists = List (Vec Op Global)
 
 -- a core past the end was issued none
-abbrev pub issued_by : Lists → ℕ → List Op
+abbrev pub issued_by : IssuedLists → ℕ → List Op
 issued_by lists core = slice_index_or (map (λ ops. ops.items) lists) core []

@@ -5,7 +5,7 @@ use Rattle.std.specs.Option.{is_some}
 use Rattle.std.proofs.lemmas.Bool.{cases_eq, eq-eqb, false_from_ne_true, ne_eqb}
 use Rattle.std.proofs.lemmas.List.{length-append}
 use Rattle.std.proofs.lemmas.List.Elements.{filter-append}
-use Rattle.line_sets.specs.Order.{find, is_there, listed, IsDistinct}
+use Rattle.line_sets.specs.Order.{find, is_there, lines_passing, IsDistinct}
 use Rattle.line_sets.specs.Rising.{all_but}
 use Rattle.line_sets.specs.SetTable.{Sets, all_listed, set_at}
 use Rattle.private_cache.specs.declared.line_copy.LineCopy.{LineCopy}
@@ -24,7 +24,7 @@ all-free (x ∷ xs) = ap suc (all-free xs)
 
 -- the copies of one set, and of all
 abbrev lines : List (ℕ × LineCopy) → List ℕ
-lines ps = listed (λ copy. true) ps
+lines ps = lines_passing (λ copy. true) ps
 
 abbrev all_lines : List (List (ℕ × LineCopy)) → List ℕ
 all_lines sets = all_listed (λ copy. true) sets

@@ -44,10 +44,10 @@ filled cache line state timed true = (Ok tt, with_used cache line (arrived state
 filled cache line state timed false = (Err NoRoom, cache)
 
 -- a changed copy, with the copy of the line that was there
-abbrev pub changed :
+abbrev pub copy_changed :
     Sets LineCopy → ℕ → (LineCopy → LineCopy) → Option LineCopy → Result (Unit {0}) CacheError × Sets LineCopy
-changed cache line change None = (Err NotHere, cache)
-changed cache line change (Some copy) = (Ok tt, with_changed cache line (change copy))
+copy_changed cache line change None = (Err NotHere, cache)
+copy_changed cache line change (Some copy) = (Ok tt, with_changed cache line (change copy))
 
 -- a lease that is renewed
 abbrev pub renewed : ℕ → LineCopy → LineCopy

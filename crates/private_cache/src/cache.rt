@@ -72,7 +72,7 @@ impl Model for Cache {
 }
 
 impl Cache {
-    ghost use Rattle.private_cache.specs.CopyTable.{changed, completed, copy_of, downgraded, evicted, filled};
+    ghost use Rattle.private_cache.specs.CopyTable.{copy_changed, completed, copy_of, downgraded, evicted, filled};
     ghost use Rattle.private_cache.specs.CopyTable.{place_for, renewed, set_of, upgraded, victim_for, with_changed};
     ghost use Rattle.private_cache.specs.CopyTable.{with_used, without_copy};
 
@@ -149,7 +149,8 @@ impl Cache {
 
     /// Leases the copy of a line up to a time. NotHere exactly when there is no copy.
     pub fn renew(&mut self, line: LineNo, rts: u64) -> Result<(), CacheError>
-        ensures { (result, self.new) ≡ changed self.old line (renewed rts) (copy_of self.old line) }
+        ensures { (result, self.new) ≡ copy_changed self.old line (renewed rts)
+            (copy_of self.old line) }
     {
         let Some(copy) = self.find(line).copied() else {
             return Err(CacheError::NotHere);
@@ -161,7 +162,7 @@ impl Cache {
     /// Makes the copy of a line Exclusive, not written yet, which others may read up to a time. NotHere exactly when
     /// there is no copy.
     pub fn upgrade(&mut self, line: LineNo, rts: u64) -> Result<(), CacheError>
-        ensures { (result, self.new) ≡ changed self.old line (upgraded rts)
+        ensures { (result, self.new) ≡ copy_changed self.old line (upgraded rts)
             (copy_of self.old line) }
     {
         let Some(copy) = self.find(line).copied() else {
@@ -173,7 +174,7 @@ impl Cache {
 
     /// Makes the copy of a line Shared, leased up to a time. NotHere exactly when there is no copy.
     pub fn downgrade(&mut self, line: LineNo, rts: u64) -> Result<(), CacheError>
-        ensures { (result, self.new) ≡ changed self.old line (downgraded rts)
+        ensures { (result, self.new) ≡ copy_changed self.old line (downgraded rts)
             (copy_of self.old line) }
     {
         let Some(copy) = self.find(line).copied() else {

@@ -19,7 +19,7 @@ use Rattle.trace_reader.specs.Grammar.{IsTrace, TellSteps, TellTrace}
 use Rattle.text_lines.specs.Lines.{lines_of}
 use Rattle.trace_reader.specs.Lines.{with_fields, worded}
 use Rattle.trace_reader.specs.Steps.{lane, ops_of, steps_of}
-use Rattle.report.specs.Runs.{issued_in}
+use Rattle.report.specs.Runs.{trace_ops}
 use Rattle.report.proofs.InTrace.{issued_is}
 
 -- ---- a list of which each number stands as often in another one is no longer than that
@@ -165,7 +165,7 @@ trace_count (first ∷ lines) told (inr is) =
     let same = told_count Two lines told is.1 in omega (arith, same)
 
 pub few_records : (bytes : List ℕ) (lanes : List (List Step)) (records : List Record) → IsTrace bytes lanes →
-    Legal (flat empty) (issued_in lanes) records → length records ≤ MOST_LINES
+    Legal (flat empty) (trace_ops lanes) records → length records ≤ MOST_LINES
 few_records bytes lanes records is legal =
     let told = is.1.0 in
     let arranged = legal.arranged in
@@ -178,7 +178,7 @@ few_records bytes lanes records is legal =
     let each = no_longer (map (λ (r : Record). r.core) arranged) (map (λ (t : ℕ × Step). t.0) told) (λ core.
     let own = of_core_count core arranged in
     let given = steps_count core told in
-    let kept = few_follow 0 (issued_in lanes core) (of_core core arranged) (omega arith) (legal.program_order core) in
+    let kept = few_follow 0 (trace_ops lanes core) (of_core core arranged) (omega arith) (legal.program_order core) in
     let ops = ap length (issued_is lanes core) in
     let most = few_ops (lane lanes core) in
     let lane_is = ap length (is.1.2.1 core) in

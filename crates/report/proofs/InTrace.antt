@@ -31,7 +31,7 @@ use Rattle.trace_reader.specs.Steps.{lane, ops_of}
 use Rattle.machine_theorem.specs.Service.{AreServed}
 use Rattle.programs.specs.Performs.{Performs, Told, rests, advances, does}
 use Rattle.schedules.specs.declared.policy.Policy.{Policy}
-use Rattle.report.specs.Runs.{IsRun, core_count, issued_in, programs_below, step_acts}
+use Rattle.report.specs.Runs.{IsTraceRun, trace_cores, trace_ops, programs_below, step_acts}
 use Rattle.report.proofs.CoreCounts.{programs_count}
 
 -- ---- what a program of steps gave
@@ -83,7 +83,7 @@ lane_there lanes (suc n) core below = elim (cases_lt core n) [
     last [] y = refl
     last (x ∷ xs) y = last xs y
 
-pub issued_is : (lanes : List (List Step)) (core : ℕ) → issued_in lanes core ≡ ops_of (lane lanes core)
+pub issued_is : (lanes : List (List Step)) (core : ℕ) → trace_ops lanes core ≡ ops_of (lane lanes core)
 unfolding ops_of
 issued_is [] zero = refl
 issued_is [] (suc core) = refl
@@ -134,8 +134,8 @@ both (r ∷ rs) n few there has =
 -- ---- a run of a trace
 
 module _ (lanes : List (List Step)) (config : Config) (m : Machine) (programs : List (List Step))
-    (cores : config.cores ≡ core_count lanes)
-    (served : AreServed step_acts (at_start config empty) m (programs_below lanes (core_count lanes)) programs) where
+    (cores : config.cores ≡ trace_cores lanes)
+    (served : AreServed step_acts (at_start config empty) m (programs_below lanes (trace_cores lanes)) programs) where
   abbrev issued_to : ℕ → List Op
   issued_to core = slice_index_or m.issued core []
 
@@ -153,7 +153,7 @@ module _ (lanes : List (List Step)) (config : Config) (m : Machine) (programs : 
       let s = served.each core below (nothing_open config 0 config.cores core) in
       let now_open = operation_of (slice_get m.cores core) in
       let told = subst (λ (o : Option (List Step)). Told step_acts (of_core core served.added) now_open o
-      (slice_get programs core)) (lane_there lanes (core_count lanes) core (subst (λ (n : ℕ). core < n) cores below))
+      (slice_get programs core)) (lane_there lanes (trace_cores lanes) core (subst (λ (n : ℕ). core < n) cores below))
       s.told in
       let left = opened now_open told.now told.ahead in
       let done = map (λ (r : Record). r.op) (of_core core served.added) in
@@ -167,19 +167,19 @@ module _ (lanes : List (List Step)) (config : Config) (m : Machine) (programs : 
       )
 
   follows : (rs : List Record) → AllByRecursion (λ (r : Record). r.core < config.cores) rs → (core : ℕ) →
-      Follows 0 (issued_to core) (of_core core rs) → Follows 0 (issued_in lanes core) (of_core core rs)
+      Follows 0 (issued_to core) (of_core core rs) → Follows 0 (trace_ops lanes core) (of_core core rs)
   follows rs each core in_order = elim (cases_lt core config.cores) [
     | inl below ↦
         let more = in_lane core below in
         subst (λ (ops : List Op). Follows 0 ops (of_core core rs)) (sym (issued_is lanes core ∙ more.1))
         (Follows-issued 0 (issued_to core) more.0 (of_core core rs) in_order)
     | inr past ↦
-        subst (λ (own : List Record). Follows 0 (issued_in lanes core) own)
+        subst (λ (own : List Record). Follows 0 (trace_ops lanes core) own)
         (sym (none_past config.cores core rs each past)) tt
   ]
 
   module _ (legal : Legal (flat empty) (λ core. slice_index_or m.issued core []) m.records) where
-    legal_in_trace : Legal (flat empty) (issued_in lanes) m.records
+    legal_in_trace : Legal (flat empty) (trace_ops lanes) m.records
     legal_in_trace =
         let each = recursion_from_All (λ (r : Record). r.core < config.cores) legal.arranged
         (All-permutation (λ (r : Record). r.core < config.cores) m.records legal.arranged
@@ -203,8 +203,8 @@ module _ (lanes : List (List Step)) (config : Config) (m : Machine) (programs : 
   -- a run that came to a consistent machine
   pub is_run : IsConsistent m → m.opening ≡ empty → RisesByNumber m.records → config.cores ≤ 64 →
       (policy : Option Policy) (limit : ℕ) (end : End) →
-      LeadsTo step_acts policy limit config empty (programs_below lanes (core_count lanes)) m programs end →
-      IsRun policy limit config lanes end m
+      LeadsTo step_acts policy limit config empty (programs_below lanes (trace_cores lanes)) m programs end →
+      IsTraceRun policy limit config lanes end m
   is_run consistent opened rising few policy limit end led =
       let legal = subst (λ (ws : FinMap nat_cmp ℕ). Legal (flat ws) (λ core. slice_index_or m.issued core []) m.records)
       opened consistent.legal in

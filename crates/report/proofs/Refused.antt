@@ -16,14 +16,14 @@ use Rattle.litmus_lexer.specs.declared.limits.TheConstants.{MOST_BYTES}
 use Rattle.litmus_reader.specs.Faults.{Fault, FaultBefore, empty, good_lines, too_large}
 use Rattle.litmus_reader.specs.Grammar.{IsTest}
 use Rattle.litmus_reader.specs.Litmus.{Litmus}
-use Rattle.litmus_reader.specs.ReadingTest.{Told, read_at}
+use Rattle.litmus_reader.specs.ReadingTest.{IsReadOrNoMemory, test_at}
 use Rattle.litmus_reader.specs.TestViews.{test_of}
 use Rattle.run_options.specs.declared.options.LitmusOptions.{LitmusOptions}
 use Rattle.run_results.specs.declared.results.RunError.{RunError}
 use Rattle.run_results.specs.declared.results.RunError.TheVariants.{Read, Write, NoMemory, Litmus as Refused}
 use Rattle.run_results.specs.declared.results.RunError.TheVariants.{Trace, BadConfig}
 use Rattle.report.specs.Bytes.{HasNoText, OfBytes}
-use Rattle.report.specs.Litmus.{HasNoReport, IsFault, refusal, refusal_of}
+use Rattle.report.specs.Litmus.{HasNoReport, IsLitmusFault, litmus_refusal, litmus_refusal_of}
 
 module _ (options : LitmusOptions) (text : List ℕ) (error : LitmusError) where
   -- an answer of reading that isn't want of memory
@@ -31,8 +31,9 @@ module _ (options : LitmusOptions) (text : List ℕ) (error : LitmusError) where
   or_memory P found (inl none) = absurd (found (ap (λ (e : LitmusError). e.kind) none))
   or_memory P found (inr is) = is
 
-  refused_as : (kind : Kind) → (kind ≡ LackOfMemory → 0 < length text) → (kind ≢ LackOfMemory → IsFault text error) →
-      HasNoReport options text (refusal_of kind error)
+  refused_as : (kind : Kind) → (kind ≡ LackOfMemory → 0 < length text) → (kind ≢ LackOfMemory → IsLitmusFault
+      text error) →
+      HasNoReport options text (litmus_refusal_of kind error)
   refused_as LackOfMemory some is = some refl
   refused_as TooLarge some is = is (λ e. absurd cc)
   refused_as BadByte some is = is (λ e. absurd cc)
@@ -49,9 +50,10 @@ module _ (options : LitmusOptions) (text : List ℕ) (error : LitmusError) where
   refused_as CutShort some is = is (λ e. absurd cc)
 
   pub refused : (error ≡ record { line = 0; kind = LackOfMemory }) ⊎ Fault text error.kind error.line
-      → ((test : Litmus) → IsTest text test → Told test_of (Err error) (Ok test)) → Told test_of (Err error)
-      (read_at text) → ((kind : Kind) (n : ℕ) → FaultBefore (good_lines text) kind n →
-      (error.kind ≢ LackOfMemory) × Fault text error.kind error.line) → HasNoReport options text (refusal error)
+      → ((test : Litmus) → IsTest text test → IsReadOrNoMemory test_of (Err error) (Ok test)) → IsReadOrNoMemory
+      test_of (Err error)
+      (test_at text) → ((kind : Kind) (n : ℕ) → FaultBefore (good_lines text) kind n →
+      (error.kind ≢ LackOfMemory) × Fault text error.kind error.line) → HasNoReport options text (litmus_refusal error)
   refused fault only told early = refused_as error.kind (some_text text early) (λ found. (
     or_memory _ found told,
     (
@@ -81,8 +83,8 @@ some_test (b ∷ text) test is = omega arith
 
 -- nor are too many bytes
 refused_long : (text : List ℕ) → MOST_BYTES < length text →
-    read_at text ≡ Err (record { line = 1; kind = TooLarge })
-unfolding read_at
+    test_at text ≡ Err (record { line = 1; kind = TooLarge })
+unfolding test_at
 refused_long text long = cond-true (nat_lt MOST_BYTES (length text)) _ _ (lt-ltb MOST_BYTES (length text) long)
 
 too_long : (options : LitmusOptions) (text : List ℕ) → MOST_BYTES < length text →

@@ -15,10 +15,10 @@ abbrev pub IsCutOff : (List ℕ → Type 0) → Option (List ℕ) → Option (Li
 IsCutOff IsRight old new = (text : List ℕ) × IsRight text × GrowsByFront old new text
 
 -- failures of the source and of the sink are counted exactly where they are told
-abbrev pub AreCounted : Result Done RunError → (read read' written written' : ℕ) → Type 0
-AreCounted (Err Read) read read' written written' = (read < read') × (written' ≡ written)
-AreCounted (Err Write) read read' written written' = (read' ≡ read) × (written < written')
-AreCounted came read read' written written' = (read' ≡ read) × (written' ≡ written)
+abbrev pub FailuresAreCounted : Result Done RunError → (read read' written written' : ℕ) → Type 0
+FailuresAreCounted (Err Read) read read' written written' = (read < read') × (written' ≡ written)
+FailuresAreCounted (Err Write) read read' written written' = (read' ≡ read) × (written < written')
+FailuresAreCounted came read read' written written' = (read' ≡ read) × (written' ≡ written)
 
 -- writing failed: that is counted, and what went out is a beginning of the text
 abbrev pub IsWriteError : Option (List ℕ) → Option (List ℕ) → (before after : ℕ) → List ℕ → RunError → Type 0

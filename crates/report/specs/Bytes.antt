@@ -12,15 +12,15 @@ abbrev pub OfBytes : Option (List ℕ) → (List ℕ → Type 0) → Type 0
 OfBytes known P = (bytes : List ℕ) × ReadsAll known bytes × P bytes
 
 -- the bytes are more than a litmus text has, which is told of its first line
-abbrev pub IsTooLong : Option (List ℕ) → LitmusError → Type 0
-IsTooLong known e =
+abbrev pub IsTooLargeTest : Option (List ℕ) → LitmusError → Type 0
+IsTooLargeTest known e =
     (e ≡ record { line = 1; kind = TooLarge }) × IfSome known (λ bytes. MOST_BYTES < length bytes)
 
 -- Why there is no text: a failure is counted; or memory was refused for bytes that there are; or these are too many.
 abbrev pub HasNoText : Option (List ℕ) → (before after : ℕ) → RunError → Type 0
 HasNoText known before after Read = before < after
 HasNoText known before after NoMemory = (after ≡ before) × IfSome known (λ bytes. 0 < length bytes)
-HasNoText known before after (Litmus e) = (after ≡ before) × IsTooLong known e
+HasNoText known before after (Litmus e) = (after ≡ before) × IsTooLargeTest known e
 HasNoText known before after Write = ⊥
 HasNoText known before after (Trace e) = ⊥
 HasNoText known before after BadConfig = ⊥

@@ -7,7 +7,7 @@ use Rattle.litmus_lexer.specs.declared.errors.LitmusError.{LitmusError}
 use Rattle.litmus_reader.specs.Faults.{Fault}
 use Rattle.litmus_reader.specs.Grammar.{IsTest}
 use Rattle.litmus_reader.specs.Litmus.{Litmus}
-use Rattle.litmus_reader.specs.ReadingTest.{read_at}
+use Rattle.litmus_reader.specs.ReadingTest.{test_at}
 use Rattle.machine_table.specs.SetUp.{is_good}
 use Rattle.worker_driver.specs.SetUp.{config_of, limit_of, policy_of}
 use Rattle.report_text.specs.Ends.{ends_as}
@@ -46,12 +46,12 @@ abbrev pub IsNoTest : List ℕ → LitmusError → Type 0
 IsNoTest bytes e = ((test : Litmus) → IsTest bytes test → ⊥) × Fault bytes e.kind e.line
 
 -- the fault that reading tells of the bytes: want of memory is none
-abbrev pub IsFault : List ℕ → LitmusError → Type 0
-IsFault bytes e = (read_at bytes ≡ Err e) × IsNoTest bytes e × (e.kind ≢ LackOfMemory)
+abbrev pub IsLitmusFault : List ℕ → LitmusError → Type 0
+IsLitmusFault bytes e = (test_at bytes ≡ Err e) × IsNoTest bytes e × (e.kind ≢ LackOfMemory)
 
 -- why bytes have no report
 abbrev pub HasNoReport : LitmusOptions → List ℕ → RunError → Type 0
-HasNoReport options bytes (Refused e) = IsFault bytes e
+HasNoReport options bytes (Refused e) = IsLitmusFault bytes e
 HasNoReport options bytes (Trace e) = ⊥
 HasNoReport options bytes BadConfig =
     (test : Litmus) × IsTest bytes test × (is_good (config_of options.run.machine test.threads) ≡ false)
@@ -61,9 +61,9 @@ HasNoReport options bytes Read = ⊥
 HasNoReport options bytes Write = ⊥
 
 -- why a text is refused: want of memory is no fault of it
-abbrev pub refusal_of : Kind → LitmusError → RunError
-refusal_of LackOfMemory error = NoMemory
-refusal_of kind error = Refused error
+abbrev pub litmus_refusal_of : Kind → LitmusError → RunError
+litmus_refusal_of LackOfMemory error = NoMemory
+litmus_refusal_of kind error = Refused error
 
-abbrev pub refusal : LitmusError → RunError
-refusal error = refusal_of error.kind error
+abbrev pub litmus_refusal : LitmusError → RunError
+litmus_refusal error = litmus_refusal_of error.kind error

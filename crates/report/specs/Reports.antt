@@ -11,16 +11,16 @@ use Rattle.run_results.specs.declared.results.RunError.TheVariants.{Read, Write,
 use Rattle.trace_lines.specs.declared.errors.TraceError.{TraceError}
 use Rattle.programs.specs.declared.steps.Step.{Step}
 use Rattle.trace_reader.specs.declared.limits.TheConstants.{MOST_LINES}
-use Rattle.trace_reader.specs.Causes.{Fault}
+use Rattle.trace_reader.specs.Causes.{TraceFault}
 use Rattle.trace_reader.specs.Grammar.{AreRecords, IsTrace}
 use Rattle.text_lines.specs.Lines.{lines_of}
-use Rattle.trace_reader.specs.Reading.{read_at}
+use Rattle.trace_reader.specs.Reading.{steps_read}
 use Rattle.report.specs.Refusals.{IsFault, IsRead, WantsMemory}
-use Rattle.report.specs.Runs.{IsRun, core_count, is_all_done, run_text}
+use Rattle.report.specs.Runs.{IsTraceRun, trace_cores, is_all_done, run_text}
 
 -- the text has a line for each record, and if these are no more than a text may have, it is the text of the records
-abbrev pub Stands : List ℕ → List Record → Type 0
-Stands text records =
+abbrev pub TellsRecords : List ℕ → List Record → Type 0
+TellsRecords text records =
     (length (lines_of text) ≡ length records) × (length records ≤ MOST_LINES → AreRecords text records)
 
 -- the text tells a run that came to this end and machine, and says whether that ended all done; records that are told
@@ -28,31 +28,32 @@ Stands text records =
 pub record TellsOf (records : Bool) (lanes : List (List Step)) (end : End) (machine : Machine) (all_done : Bool)
     (text : List ℕ) : Type 0 where
   pub text_is : text ≡ run_text records lanes end machine
-  pub read_back : records ≡ true → Stands text machine.records
+  pub read_back : records ≡ true → TellsRecords text machine.records
   pub done : all_done ≡ is_all_done end
 
 -- it tells a run of the trace on a good machine
-pub record Tells (options : TraceOptions) (lanes : List (List Step)) (all_done : Bool) (text : List ℕ) : Type 0 where
-  pub good : is_good (config_of options.run.machine (core_count lanes)) ≡ true
+pub record TellsTraceRun (options : TraceOptions) (lanes : List (List Step)) (all_done : Bool) (text : List ℕ)
+    : Type 0 where
+  pub good : is_good (config_of options.run.machine (trace_cores lanes)) ≡ true
   pub end : End
   pub machine : Machine
-  pub run : IsRun (policy_of options.run) (limit_of options.run)
-      (config_of options.run.machine (core_count lanes)) lanes end machine
+  pub run : IsTraceRun (policy_of options.run) (limit_of options.run)
+      (config_of options.run.machine (trace_cores lanes)) lanes end machine
   pub told : TellsOf options.records lanes end machine all_done text
 
 -- it tells a run of the trace that the source had
 abbrev pub IsTraceReport : TraceOptions → Option (List ℕ) → Bool → List ℕ → Type 0
 IsTraceReport options known all_done text =
-    (lanes : List (List Step)) × IsRead known lanes × Tells options lanes all_done text
+    (lanes : List (List Step)) × IsRead known lanes × TellsTraceRun options lanes all_done text
 
 -- the fault of a text that is no trace
 abbrev pub IsTraceFault : Option (List ℕ) → TraceError → Type 0
-IsTraceFault known e = IsFault IsTrace Fault read_at known e
+IsTraceFault known e = IsFault IsTrace TraceFault steps_read known e
 
 -- why a trace that was read has no report; a machine that is not good is told, and no memory is wanted for it
 abbrev pub HasNoRun : TraceOptions → List (List Step) → RunError → Type 0
-HasNoRun options lanes NoMemory = is_good (config_of options.run.machine (core_count lanes)) ≡ true
-HasNoRun options lanes BadConfig = is_good (config_of options.run.machine (core_count lanes)) ≡ false
+HasNoRun options lanes NoMemory = is_good (config_of options.run.machine (trace_cores lanes)) ≡ true
+HasNoRun options lanes BadConfig = is_good (config_of options.run.machine (trace_cores lanes)) ≡ false
 HasNoRun options lanes Read = ⊥
 HasNoRun options lanes Write = ⊥
 HasNoRun options lanes (Litmus e) = ⊥
@@ -62,9 +63,10 @@ HasNoRun options lanes (Trace e) = ⊥
 abbrev pub HasNoTraceReport : TraceOptions → Option (List ℕ) → RunError → Type 0
 HasNoTraceReport options known (Trace e) = IsTraceFault known e
 HasNoTraceReport options known BadConfig = (lanes : List (List Step)) × IsRead known lanes
-    × (is_good (config_of options.run.machine (core_count lanes)) ≡ false)
-HasNoTraceReport options known NoMemory = WantsMemory read_at known ⊎ ((lanes : List (List Step)) × IsRead known lanes
-    × (is_good (config_of options.run.machine (core_count lanes)) ≡ true))
+    × (is_good (config_of options.run.machine (trace_cores lanes)) ≡ false)
+HasNoTraceReport options known NoMemory =
+    WantsMemory steps_read known ⊎ ((lanes : List (List Step)) × IsRead known lanes
+    × (is_good (config_of options.run.machine (trace_cores lanes)) ≡ true))
 HasNoTraceReport options known Read = ⊥
 HasNoTraceReport options known Write = ⊥
 HasNoTraceReport options known (Litmus e) = ⊥

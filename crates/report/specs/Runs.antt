@@ -26,8 +26,8 @@ abbrev pub step_acts : Acts (List Step)
 step_acts = record { next = first_step; done = behind_first }
 
 -- a machine has a core for each of the trace, and one if no line has a step
-abbrev pub core_count : List (List Step) → ℕ
-core_count lanes = max 1 (length lanes)
+abbrev pub trace_cores : List (List Step) → ℕ
+trace_cores lanes = max 1 (length lanes)
 
 -- the programs of the cores below a number
 abbrev pub programs_below : List (List Step) → ℕ → List (List Step)
@@ -35,18 +35,18 @@ programs_below lanes zero = []
 programs_below lanes (suc core) = programs_below lanes core ++ lane lanes core ∷ []
 
 -- the operations of each core of a trace; a core that it hasn't has none
-abbrev pub issued_in : List (List Step) → ℕ → List Op
-issued_in lanes core = slice_index_or (map ops_of lanes) core []
+abbrev pub trace_ops : List (List Step) → ℕ → List Op
+trace_ops lanes core = slice_index_or (map ops_of lanes) core []
 
 -- A run of a trace over a memory of zeros, by a policy or by threads. Its records are a legal history of what the cores
 -- were issued, and so of the operations of the trace. They stand by rising number, and are such as a text of records
 -- can tell. The words have the values that the records leave, one after the other in the order of their times.
-pub record IsRun (policy : Option Policy) (limit : ℕ) (config : Config) (lanes : List (List Step)) (end : End)
+pub record IsTraceRun (policy : Option Policy) (limit : ℕ) (config : Config) (lanes : List (List Step)) (end : End)
     (machine : Machine) : Type 0 where
   pub programs : List (List Step)
-  pub led : LeadsTo step_acts policy limit config empty (programs_below lanes (core_count lanes)) machine programs end
+  pub led : LeadsTo step_acts policy limit config empty (programs_below lanes (trace_cores lanes)) machine programs end
   pub legal : Legal (flat empty) (λ core. slice_index_or machine.issued core []) machine.records
-  pub legal_in_trace : Legal (flat empty) (issued_in lanes) machine.records
+  pub legal_in_trace : Legal (flat empty) (trace_ops lanes) machine.records
   pub rising : RisesByNumber machine.records
   pub complete : AreComplete machine.records
   pub left : (arranged : List Record) → Arrangement machine.records arranged → (word : ℕ) →
@@ -72,10 +72,10 @@ abbrev pub values_in : Machine → FinMap nat_cmp ℕ → List (ℕ × ℕ)
 values_in m words = map (λ entry. (entry.0, coherent m entry.0)) (entries words)
 
 -- what the report says of a run beside its records and its words
-abbrev pub end_of : List (List Step) → End → Machine → TraceEnd
-end_of lanes end m = record {
-  cores = core_count lanes;
-  issued = issued_below m (core_count lanes);
+abbrev pub trace_end_of : List (List Step) → End → Machine → TraceEnd
+trace_end_of lanes end m = record {
+  cores = trace_cores lanes;
+  issued = issued_below m (trace_cores lanes);
   end = end;
   counts = m.mail.counts;
   stale = stale_count m.records;
@@ -85,7 +85,7 @@ end_of lanes end m = record {
 abbrev pub run_text : Bool → List (List Step) → End → Machine → List ℕ
 run_text true lanes end m = records_text m.records
 run_text false lanes end m =
-    trace_text (end_of lanes end m) m.records (values_in m (words_below lanes (core_count lanes)))
+    trace_text (trace_end_of lanes end m) m.records (values_in m (words_below lanes (trace_cores lanes)))
 
 abbrev pub is_all_done : End → Bool
 is_all_done AllDone = true

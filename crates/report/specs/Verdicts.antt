@@ -14,10 +14,10 @@ use Rattle.trace_lines.specs.declared.errors.TraceError.{TraceError}
 use Rattle.programs.specs.declared.steps.Step.{Step}
 use Rattle.trace_reader.specs.Causes.{RecordFault}
 use Rattle.trace_reader.specs.Grammar.{AreRecords}
-use Rattle.trace_reader.specs.Reading.{read_at, records_at}
+use Rattle.trace_reader.specs.Reading.{steps_read, records_at}
 use Rattle.report.specs.Refusals.{IsFault, IsRead, WantsMemory}
 use Rattle.report.specs.Reports.{IsTraceFault}
-use Rattle.report.specs.Runs.{issued_in}
+use Rattle.report.specs.Runs.{trace_ops}
 use Rattle.trace_texts.specs.Verdicts.{check_text}
 
 -- the records that were read: their text is all that the source had, where that is known
@@ -38,7 +38,7 @@ is_legal (WrongValue number) = false
 pub record IsVerdictLine (lanes : List (List Step)) (records : List Record) (legal : Bool) (text : List ℕ) :
     Type 0 where
   pub verdict : Verdict
-  pub is_verdict : IsVerdict (flat empty) (issued_in lanes) records verdict
+  pub is_verdict : IsVerdict (flat empty) (trace_ops lanes) records verdict
   pub text_is : text ≡ check_text verdict
   pub legal_is : legal ≡ is_legal verdict
 
@@ -52,7 +52,8 @@ IsCheckReport trace records legal text = (lanes : List (List Step)) × (told : L
 abbrev pub HasNoVerdict : (trace records : Option (List ℕ)) → RunError → Type 0
 HasNoVerdict trace records (Trace e) =
     IsTraceFault trace e ⊎ (((lanes : List (List Step)) × IsRead trace lanes) × IsRecordsFault records e)
-HasNoVerdict trace records NoMemory = WantsMemory read_at trace ⊎ (((lanes : List (List Step)) × IsRead trace lanes) ×
+HasNoVerdict trace records NoMemory =
+    WantsMemory steps_read trace ⊎ (((lanes : List (List Step)) × IsRead trace lanes) ×
     (WantsMemory records_at records ⊎ ((told : List Record) × AreRead records told)))
 HasNoVerdict trace records Read = ⊥
 HasNoVerdict trace records Write = ⊥

@@ -8,14 +8,14 @@ ghost use Rattle.litmus_reader.specs.Litmus.{Litmus};
 ghost use Rattle.litmus_reader.specs.Truth.{holds};
 ghost use Rattle.physiological_order.specs.declared.verdict.Verdict.TheVariants.{Legal};
 ghost use Rattle.programs.specs.declared.ends.End.TheVariants.{AllDone};
-ghost use Rattle.report_text.specs.Ends.{ended, held};
+ghost use Rattle.report_text.specs.Ends.{runs_ended, runs_held};
 ghost use Rattle.report_text.specs.Text.{is_yes};
 ghost use Rattle.report_text.specs.declared.run_end.RunEnd.{RunEnd};
 ghost use Rattle.run_options.specs.declared.options.LitmusOptions.{LitmusOptions};
 ghost use Rattle.run_options.specs.declared.options.TraceOptions.{TraceOptions};
 ghost use Rattle.run_results.specs.declared.results.RunError.{RunError};
 ghost use Rattle.run_results.specs.declared.results.RunError.TheVariants.{NoMemory};
-ghost use Rattle.sequential_machine.specs.SequentialMachine.{State, Steps, initial, value_at};
+ghost use Rattle.sequential_machine.specs.SequentialMachine.{SequentialState, Steps, sequential_opening, value_at};
 ghost use Rattle.trace_texts.specs.Verdicts.{check_text};
 ghost use Rattle.worker_driver.specs.Outcomes.{HasOutcome};
 ghost use Rattle.report.specs.Litmus.{turns};
@@ -30,8 +30,8 @@ use trace_reader::laws::one_text_tells_one_list;
 pub fn a_yes_shows_an_outcome()
     ensures { (text : List ℕ) (test : Litmus) (runs : List RunEnd) → IsTest text test →
         AllByRecursion (HasOutcome test) runs →
-        is_yes Exists (held test runs) (ended AllDone runs) ≡ true →
-        (last : State) × Steps (initial test) last
+        is_yes Exists (runs_held test runs) (runs_ended AllDone runs) ≡ true →
+        (last : SequentialState) × Steps (sequential_opening test) last
         × ((t : ℕ) → t < test.threads → last.left t ≡ [])
         × (holds (value_at last) test.tree ≡ true) }
 {}

@@ -5,11 +5,11 @@ ghost use Rattle.byte_streams.specs.Whole.{TakesAtMost};
 ghost use Rattle.litmus_reader.specs.Grammar.{IsTest};
 ghost use Rattle.litmus_reader.specs.TestViews.{test_of};
 ghost use Rattle.machine_table.specs.SetUp.{is_good};
-ghost use Rattle.report.specs.Answers.{AreCounted, IsCutOff, IsReported};
+ghost use Rattle.report.specs.Answers.{FailuresAreCounted, IsCutOff, IsReported};
 ghost use Rattle.worker_driver.specs.SetUp.{policy_of};
 ghost use Rattle.report_text.specs.Ends.{ends_as};
 ghost use Rattle.report.specs.Bytes.{OfBytes};
-ghost use Rattle.report.specs.Litmus.{HasNoReport, IsLitmusReport, refusal, turns};
+ghost use Rattle.report.specs.Litmus.{HasNoReport, IsLitmusReport, litmus_refusal, turns};
 ghost use Rattle.worker_driver.specs.Outcomes.{HasOutcome};
 ghost use Rattle.worker_driver.specs.Runs.{AreFrom};
 
@@ -55,7 +55,7 @@ pub fn run_litmus<R: Threads + Sync, S: Source, K: Sink>(
     ensures taken { TakesAtMost (65536 + 4096) (S.remaining source.old) (S.remaining source.new) }
 
     // Failures are told, and nothing else is written.
-    ensures counted { AreCounted result
+    ensures counted { FailuresAreCounted result
         (S.failures source.old) (S.failures source.new)
         (K.failures sink.old) (K.failures sink.new) }
     ensures nothing { IfErr result (λ e. e ≢ RunError.Write → sink.new ≡ sink.old) }
@@ -134,7 +134,7 @@ fn runs_of<R: Threads + Sync>(
 
 // Why a text is refused: want of memory is no fault of it.
 fn refusal(error: LitmusError) -> RunError
-    ensures { result ≡ refusal error }
+    ensures { result ≡ litmus_refusal error }
 {
     if matches!(error.kind, Kind::NoMemory) {
         RunError::NoMemory

@@ -6,8 +6,8 @@ ghost use Rattle.mailboxes.specs.RunParts.{Parts};
 ghost use Rattle.physiological_order.specs.StaleHits.{RisesByNumber};
 ghost use Rattle.trace_texts.specs.Records.{AreComplete, records_text};
 ghost use Rattle.thread_driver.specs.ThreadRuns.{machine_of};
-ghost use Rattle.report.specs.Reports.{Stands};
-ghost use Rattle.report.specs.Runs.{IsRun, core_count, end_of, run_text};
+ghost use Rattle.report.specs.Reports.{TellsRecords};
+ghost use Rattle.report.specs.Runs.{IsTraceRun, trace_cores, trace_end_of, run_text};
 
 use crate::trace_programs::programs_of;
 use crate::words::{issued_below, values_of};
@@ -42,8 +42,9 @@ pub(crate) fn run_by_policy(
     limit: u32,
 ) -> Result<Ran<System>, AllocError>
     requires good { is_good config ≡ true }
-    requires cores { config.cores ≡ core_count trace.now }
-    ensures { IfOk result (λ ran. IsRun (Some policy) limit config trace.now ran.end ran.machine) }
+    requires cores { config.cores ≡ trace_cores trace.now }
+    ensures { IfOk result (λ ran. IsTraceRun (Some policy) limit config trace.now ran.end
+        ran.machine) }
 {
     every_history_is_legal();
     // Its contract says how few cores there are.
@@ -71,10 +72,10 @@ pub(crate) fn run_by_threads<R: Threads + Sync>(
     workers: u32,
 ) -> Result<Ran<Run>, AllocError>
     requires good { is_good config ≡ true }
-    requires cores { config.cores ≡ core_count trace.now }
+    requires cores { config.cores ≡ trace_cores trace.now }
     requires workers { (0 < workers) × (workers ≤ 16) }
     ensures { IfOk result (λ ran. (parts : Parts ran.machine) ×
-        IsRun None limit config trace.now ran.end (machine_of ran.machine parts)) }
+        IsTraceRun None limit config trace.now ran.end (machine_of ran.machine parts)) }
 {
     closed_machines_are_consistent();
     // Its contract says how few cores there are.
@@ -98,7 +99,7 @@ fn end_of<M: Finished + Drop>(
 ) -> Result<TraceEnd, AllocError>
     requires { (m : Machine) × M.shows ran.now.machine m }
     ensures { IfOk result (λ end. (m : Machine) → M.shows ran.now.machine m →
-        end ≡ end_of trace.now ran.now.end m) }
+        end ≡ trace_end_of trace.now ran.now.end m) }
 {
     let stale = stale_hits(alloc, ran.machine.records())?;
     Ok(TraceEnd {
@@ -121,7 +122,7 @@ pub(crate) fn text_of<M: Finished + Drop>(
     ensures text { IfOk result (λ text. (m : Machine) → M.shows ran.now.machine m →
         text.items ≡ run_text records trace.now ran.now.end m) }
     ensures stands { IfOk result (λ text. (m : Machine) → M.shows ran.now.machine m →
-        records ≡ true → Stands text.items m.records) }
+        records ≡ true → TellsRecords text.items m.records) }
 {
     if records {
         return records_text(alloc, ran.machine.records());

@@ -4,11 +4,11 @@ ghost use Rattle.byte_streams.specs.Device.{AtEnd};
 ghost use Rattle.machine_table.specs.Machine.{Machine};
 ghost use Rattle.machine_table.specs.SetUp.{is_good};
 ghost use Rattle.trace_texts.specs.Records.{AreComplete};
-ghost use Rattle.report.specs.Answers.{AreCounted, IsCutOff, IsReported};
+ghost use Rattle.report.specs.Answers.{FailuresAreCounted, IsCutOff, IsReported};
 ghost use Rattle.worker_driver.specs.SetUp.{config_of, policy_of};
 ghost use Rattle.report.specs.Refusals.{OnAccepted};
-ghost use Rattle.report.specs.Reports.{HasNoTraceReport, HasNoRun, IsTraceReport, Tells, TellsOf};
-ghost use Rattle.report.specs.Runs.{core_count, is_all_done};
+ghost use Rattle.report.specs.Reports.{HasNoTraceReport, HasNoRun, IsTraceReport, TellsTraceRun, TellsOf};
+ghost use Rattle.report.specs.Runs.{trace_cores, is_all_done};
 
 use crate::one_run::{Ran, run_by_policy, run_by_threads, text_of};
 use crate::outputs::put_out;
@@ -51,7 +51,7 @@ pub fn run_trace<R: Threads + Sync, S: Source, K: Sink>(
         (λ known. AtEnd (S.remaining source.new))) }
 
     // Failures are told, and nothing else is written.
-    ensures counted { AreCounted result
+    ensures counted { FailuresAreCounted result
         (S.failures source.old) (S.failures source.new)
         (K.failures sink.old) (K.failures sink.new) }
     ensures nothing { IfErr result (λ e. e ≢ RunError.Write → sink.new ≡ sink.old) }
@@ -85,7 +85,7 @@ fn report_of<R: Threads + Sync>(
     options: &TraceOptions,
 ) -> Result<Report, RunError>
     ensures report { IfOk result (λ report.
-        Tells options.now trace.now report.all_done report.text.items) }
+        TellsTraceRun options.now trace.now report.all_done report.text.items) }
     ensures refused { IfErr result (HasNoRun options.now trace.now) }
 {
     let Some(config) = config_of(&options.run.machine, trace.cores()) else {
@@ -106,9 +106,9 @@ fn told<R: Threads + Sync>(
     options: &TraceOptions,
 ) -> Result<Report, AllocError>
     requires good { is_good config ≡ true }
-    requires config { config ≡ config_of options.now.run.machine (core_count trace.now) }
+    requires config { config ≡ config_of options.now.run.machine (trace_cores trace.now) }
     ensures { IfOk result (λ report.
-        Tells options.now trace.now report.all_done report.text.items) }
+        TellsTraceRun options.now trace.now report.all_done report.text.items) }
 {
     match policy_of(&options.run) {
         Some(policy) => told_by_policy(alloc, trace, config, policy, options),
@@ -125,10 +125,10 @@ fn told_by_policy(
     options: &TraceOptions,
 ) -> Result<Report, AllocError>
     requires good { is_good config ≡ true }
-    requires config { config ≡ config_of options.now.run.machine (core_count trace.now) }
+    requires config { config ≡ config_of options.now.run.machine (trace_cores trace.now) }
     requires policy { policy_of options.now.run ≡ Some policy }
     ensures { IfOk result (λ report.
-        Tells options.now trace.now report.all_done report.text.items) }
+        TellsTraceRun options.now trace.now report.all_done report.text.items) }
 {
     let ran = run_by_policy(alloc, trace, config, policy, limit_of(&options.run))?;
     report_on(alloc, trace, &ran, options.records)
@@ -143,10 +143,10 @@ fn told_by_threads<R: Threads + Sync>(
     options: &TraceOptions,
 ) -> Result<Report, AllocError>
     requires good { is_good config ≡ true }
-    requires config { config ≡ config_of options.now.run.machine (core_count trace.now) }
+    requires config { config ≡ config_of options.now.run.machine (trace_cores trace.now) }
     requires policy { policy_of options.now.run ≡ None }
     ensures { IfOk result (λ report.
-        Tells options.now trace.now report.all_done report.text.items) }
+        TellsTraceRun options.now trace.now report.all_done report.text.items) }
 {
     let (limit, workers) = (limit_of(&options.run), workers_of(&options.run));
     let ran = run_by_threads(rt, alloc, trace, config, limit, workers)?;

@@ -1,6 +1,6 @@
 //! The programs of a trace's cores.
 ghost use Rattle.std.specs.Prelude.{◌≡◌, IfOk};
-ghost use Rattle.report.specs.Runs.{core_count, programs_below};
+ghost use Rattle.report.specs.Runs.{trace_cores, programs_below};
 
 use programs::StepProgram;
 use std::alloc::{AllocError, Global};
@@ -12,7 +12,7 @@ pub(crate) fn programs_of<'a>(
     trace: &'a Trace,
 ) -> Result<Vec<StepProgram<'a>>, AllocError>
     ensures { IfOk result (λ programs. programs.items ≡
-        programs_below trace.now (core_count trace.now)) }
+        programs_below trace.now (trace_cores trace.now)) }
 {
     let mut programs = Vec::new(alloc);
     for core in 0..trace.cores() {

@@ -4,7 +4,7 @@ ghost use Rattle.std.specs.Prelude.{◌≡◌, ◌≤◌, max, map, length, IfOk
 ghost use Rattle.std.specs.FinMap.{entries};
 ghost use Rattle.machine_table.specs.Machine.{Machine};
 ghost use Rattle.trace_reader.specs.Steps.{ops_of};
-ghost use Rattle.report.specs.Runs.{core_count, issued_below, values_in, with_words, words_below};
+ghost use Rattle.report.specs.Runs.{trace_cores, issued_below, values_in, with_words, words_below};
 
 use physiological_order::{Memory, Op, WordAddr};
 use std::alloc::{AllocError, Global};
@@ -23,7 +23,7 @@ fn add_words(words: &mut Memory, ops: &[Op]) -> Result<(), AllocError>
 
 // The words that the operations of a trace name.
 fn words_of(alloc: Global, trace: &Trace) -> Result<Memory, AllocError>
-    ensures { IfOk result (λ words. words ≡ words_below trace.now (core_count trace.now)) }
+    ensures { IfOk result (λ words. words ≡ words_below trace.now (trace_cores trace.now)) }
 {
     let mut words = Memory::new(alloc);
     for core in 0..trace.cores() {
@@ -69,7 +69,7 @@ pub(crate) fn values_of<M: Finished>(
     machine: &M,
 ) -> Result<Vec<(WordAddr, u64)>, AllocError>
     ensures { IfOk result (λ values. (m : Machine) → M.shows machine.now m →
-        values.items ≡ values_in m (words_below trace.now (core_count trace.now))) }
+        values.items ≡ values_in m (words_below trace.now (trace_cores trace.now))) }
 {
     let words = words_of(alloc, trace)?;
     values_in(alloc, machine, &words)

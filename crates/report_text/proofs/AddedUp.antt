@@ -1,7 +1,7 @@
 -- Sums over one more run.
 use Rattle.std.proofs.Common.{◌≡◌, ℕ, ◌+◌, List, [], ◌∷◌, ◌++◌, sym, ap, ◌∙◌, arith}
 use Rattle.report_text.specs.declared.run_end.RunEnd.{RunEnd}
-use Rattle.report_text.specs.Sums.{capped, plus, summed, sums_of}
+use Rattle.report_text.specs.Sums.{capped, sums_after, summed, sums_of}
 
 summed-next : (amount : RunEnd → ℕ) (runs : List RunEnd) (run : RunEnd) → summed amount (runs ++ run ∷ []) ≡ summed
     amount runs + amount run
@@ -16,7 +16,7 @@ one : (amount : RunEnd → ℕ) (runs : List RunEnd) (run : RunEnd) → capped (
     capped (summed amount (runs ++ run ∷ []))
 one amount runs run = capped-next (summed amount runs) (amount run) ∙ ap capped (sym (summed-next amount runs run))
 
-pub sums_next : (runs : List RunEnd) (run : RunEnd) → plus (sums_of runs) run ≡ sums_of (runs ++ run ∷ [])
+pub sums_next : (runs : List RunEnd) (run : RunEnd) → sums_after (sums_of runs) run ≡ sums_of (runs ++ run ∷ [])
 sums_next runs run = λ j. record {
   completed = one (λ r. r.completed) runs run j;
   counts = record {

@@ -6,7 +6,7 @@ use Rattle.litmus_reader.specs.Litmus.{Litmus}
 use Rattle.programs.specs.declared.ends.End.TheVariants.{AllDone, Stalled, TurnsUsed, Exhausted, NoMemory}
 use Rattle.report_text.specs.declared.run_end.RunEnd.{RunEnd}
 use Rattle.report_text.specs.declared.ends.Endings.{Endings}
-use Rattle.report_text.specs.Ends.{AreFew, endings_of, ends_as, is_held, with_run}
+use Rattle.report_text.specs.Ends.{AreFew, endings_of, ends_as, condition_holds, with_run}
 
 one : (test : RunEnd → Bool) (runs : List RunEnd) (run : RunEnd) →
     count_by test runs + cond (test run) 1 0 ≡ count_by test (runs ++ run ∷ [])
@@ -20,7 +20,7 @@ endings_next test runs run = λ j. record {
   turns_used = one (ends_as TurnsUsed) runs run j;
   exhausted = one (ends_as Exhausted) runs run j;
   no_memory = one (ends_as NoMemory) runs run j;
-  held = one (is_held test) runs run j;
+  held = one (condition_holds test) runs run j;
 }
 
 -- fewer runs are counted than there are
@@ -39,5 +39,5 @@ are_few test runs k endings e within fits = subst AreFew (sym e) (
   few (ends_as TurnsUsed) runs k within fits,
   few (ends_as Exhausted) runs k within fits,
   few (ends_as NoMemory) runs k within fits,
-  few (is_held test) runs k within fits,
+  few (condition_holds test) runs k within fits,
 )

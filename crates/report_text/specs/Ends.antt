@@ -20,8 +20,8 @@ abbrev pub ends_as : End → RunEnd → Bool
 ends_as end run = same_end run.end end
 
 -- how many runs ended in this way
-abbrev pub ended : End → List RunEnd → ℕ
-ended end runs = count_by (ends_as end) runs
+abbrev pub runs_ended : End → List RunEnd → ℕ
+runs_ended end runs = count_by (ends_as end) runs
 
 -- the values of the condition's names, where a run is all done
 abbrev pub done_state : End → Option (List ℕ) → Option (List ℕ)
@@ -33,22 +33,22 @@ abbrev pub holds_in : Litmus → Option (List ℕ) → Bool
 holds_in test (Some values) = holds (value_of test.seen values) test.tree
 holds_in test None = false
 
-abbrev pub is_held : Litmus → RunEnd → Bool
-is_held test run = holds_in test (done_state run.end run.state)
+abbrev pub condition_holds : Litmus → RunEnd → Bool
+condition_holds test run = holds_in test (done_state run.end run.state)
 
 -- how many runs are all done with an end state in which the condition's expression holds
-abbrev pub held : Litmus → List RunEnd → ℕ
-held test runs = count_by (is_held test) runs
+abbrev pub runs_held : Litmus → List RunEnd → ℕ
+runs_held test runs = count_by (condition_holds test) runs
 
 -- how many runs ended in each way, and in how many the condition's expression holds
 abbrev pub endings_of : Litmus → List RunEnd → Endings
 endings_of test runs = record {
-  all_done = ended AllDone runs;
-  stalled = ended Stalled runs;
-  turns_used = ended TurnsUsed runs;
-  exhausted = ended Exhausted runs;
-  no_memory = ended NoMemory runs;
-  held = held test runs;
+  all_done = runs_ended AllDone runs;
+  stalled = runs_ended Stalled runs;
+  turns_used = runs_ended TurnsUsed runs;
+  exhausted = runs_ended Exhausted runs;
+  no_memory = runs_ended NoMemory runs;
+  held = runs_held test runs;
 }
 
 -- the same after one more run
@@ -59,7 +59,7 @@ with_run test endings run = record {
   turns_used = endings.turns_used + cond (ends_as TurnsUsed run) 1 0;
   exhausted = endings.exhausted + cond (ends_as Exhausted run) 1 0;
   no_memory = endings.no_memory + cond (ends_as NoMemory run) 1 0;
-  held = endings.held + cond (is_held test run) 1 0;
+  held = endings.held + cond (condition_holds test run) 1 0;
 }
 
 -- one more of each fits 64 bits

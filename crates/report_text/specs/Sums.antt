@@ -24,8 +24,8 @@ sums_of runs = record {
 }
 
 -- the sums after one more run
-abbrev pub plus : Sums → RunEnd → Sums
-plus sums run = record {
+abbrev pub sums_after : Sums → RunEnd → Sums
+sums_after sums run = record {
   completed = capped (sums.completed + run.completed);
   counts = record {
     renewals = capped (sums.counts.renewals + run.counts.renewals);

@@ -10,7 +10,7 @@ use Rattle.report_text.specs.declared.sums.Sums.{Sums}
 use Rattle.report_text.specs.Ends.{endings_of}
 use Rattle.report_lines.specs.Lines.{counts_text, field, word_line}
 use Rattle.report_text.specs.Lines.{state_line, quantifier_text}
-use Rattle.report_text.specs.States.{State, done_states, tallied}
+use Rattle.report_text.specs.States.{NamedValues, done_states, tallied}
 use Rattle.report_text.specs.Sums.{sums_of}
 
 -- the test, and how many runs ended in which way
@@ -25,7 +25,7 @@ ends_text test runs endings = word_line (codes "test") test.name
     ++ field (codes "memory") endings.no_memory
 
 -- how many end states there are, and a line for each
-abbrev pub states_text : Litmus → List (ℕ × State) → List ℕ
+abbrev pub states_text : Litmus → List (ℕ × NamedValues) → List ℕ
 states_text test states = field (codes "states") (length states) ++ flat_map (state_line test) states
 
 -- exists: in some run; ~exists: in none; forall: in all that are all done

@@ -2,7 +2,7 @@
 
 ghost use Rattle.std.specs.Prelude.{◌≡◌};
 ghost use Rattle.litmus_reader.specs.TestViews.{test_of};
-ghost use Rattle.report_text.specs.Ends.{AreFew, endings_of, ends_as, is_held, with_run};
+ghost use Rattle.report_text.specs.Ends.{AreFew, endings_of, ends_as, condition_holds, with_run};
 
 use crate::run_end::RunEnd;
 use litmus_reader::Test;
@@ -35,7 +35,7 @@ fn ends_as(run: &RunEnd, end: End) -> bool
 
 /// Whether a run is all done with an end state in which the condition's expression holds.
 fn is_held(test: &Test, run: &RunEnd) -> bool
-    ensures { result ≡ is_held (test_of test.now) run.now }
+    ensures { result ≡ condition_holds (test_of test.now) run.now }
 {
     match (run.end, &run.state) {
         (End::AllDone, Some(state)) => test.state_holds(state),

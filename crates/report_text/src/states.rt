@@ -3,7 +3,7 @@
 
 ghost use Rattle.std.specs.Prelude.{◌≡◌, ◌<◌, ◌-◌, ◌^◌, OnOk, IfOk, option_map};
 ghost use Rattle.report_text.specs.Ends.{done_state};
-ghost use Rattle.report_text.specs.States.{counted, count_of, done_states, one_more, tallied};
+ghost use Rattle.report_text.specs.States.{state_entries, count_of_state, done_states, one_more, tallied};
 
 use crate::run_end::RunEnd;
 use indexmap::IndexMap;
@@ -22,7 +22,7 @@ fn done_state(run: &RunEnd) -> Option<&[u64]>
 
 /// How many runs with this end state are counted.
 fn count_so_far(states: &IndexMap<&[u64], u64>, values: &[u64]) -> u64
-    ensures { result ≡ count_of values.now (counted states.now.entries) }
+    ensures { result ≡ count_of_state values.now (state_entries states.now.entries) }
 {
     match states.get(values) {
         Some(count) => *count,
@@ -32,9 +32,9 @@ fn count_so_far(states: &IndexMap<&[u64], u64>, values: &[u64]) -> u64
 
 /// One more run with this end state.
 fn count_one<'a>(states: &mut IndexMap<&'a [u64], u64>, values: &'a [u64]) -> Result<(), AllocError>
-    requires { count_of values.now (counted states.old.entries) < 2 ^ 64 - 1 }
-    ensures { OnOk result (counted states.new.entries ≡
-        one_more values.now (counted states.old.entries)) }
+    requires { count_of_state values.now (state_entries states.old.entries) < 2 ^ 64 - 1 }
+    ensures { OnOk result (state_entries states.new.entries ≡
+        one_more values.now (state_entries states.old.entries)) }
 {
     let count = count_so_far(states, values);
     states.insert(values, count + 1)?;
@@ -46,7 +46,8 @@ pub(crate) fn count_states(
     alloc: Global,
     runs: &[RunEnd],
 ) -> Result<IndexMap<&[u64], u64>, AllocError>
-    ensures { IfOk result (λ states. counted states.entries ≡ tallied (done_states runs.now)) }
+    ensures { IfOk result (λ states. state_entries states.entries ≡
+        tallied (done_states runs.now)) }
 {
     let mut states = IndexMap::new(alloc);
     for run in runs {

@@ -1,7 +1,7 @@
 //! Sums over all runs.
 
 ghost use Rattle.std.specs.Prelude.{◌≡◌};
-ghost use Rattle.report_text.specs.Sums.{plus, sums_of};
+ghost use Rattle.report_text.specs.Sums.{sums_after, sums_of};
 
 use crate::run_end::RunEnd;
 use machine_table::Counts;
@@ -16,7 +16,7 @@ pub(crate) struct Sums {
 
 /// One more run.
 fn plus(sums: Sums, run: &RunEnd) -> Sums
-    ensures { result ≡ plus sums run.now }
+    ensures { result ≡ sums_after sums run.now }
 {
     Sums {
         completed: sums.completed.saturating_add(u128::from(run.completed)),

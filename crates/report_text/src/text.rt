@@ -2,7 +2,7 @@
 
 ghost use Rattle.std.specs.Prelude.{◌≡◌, ◌++◌, OnOk, IfOk};
 ghost use Rattle.litmus_reader.specs.TestViews.{test_of};
-ghost use Rattle.report_text.specs.States.{counted};
+ghost use Rattle.report_text.specs.States.{state_entries};
 ghost use Rattle.report_text.specs.Text.{ends_text, states_text, is_yes, condition_text, sums_text, litmus_text};
 
 use crate::ends::{Endings, endings_of};
@@ -37,7 +37,7 @@ fn put_states(
     states: &IndexMap<&[u64], u64>,
 ) -> Result<(), AllocError>
     ensures { OnOk result (out.new.items ≡
-        out.old.items ++ states_text (test_of test.now) (counted states.now.entries)) }
+        out.old.items ++ states_text (test_of test.now) (state_entries states.now.entries)) }
 {
     put_field(out, b"states", states.len() as u128)?;
     let mut index = 0;

@@ -8,13 +8,13 @@ use Rattle.std.proofs.Math.ListN.{set, length-set}
 use Rattle.std.proofs.lemmas.Bool.{cases_eq, cases_lt}
 use Rattle.std.proofs.lemmas.Nat.{mod_below}
 use Rattle.std.proofs.lemmas.Option.{slice_get-get_or, slice_get_within, get_or_from_slice_get}
-use Rattle.round_robin.specs.Dealing.{IsDealt, HasLengths, hand_of}
+use Rattle.round_robin.specs.Dealing.{IsDealtInTurn, HasLengths, hand_of}
 use Rattle.round_robin.proofs.Places.{hand_there, same_hand, same_place, split_place, turn_of, lower_place, lower_row, snoc_here, snoc_there}
 use Rattle.round_robin.proofs.Places.{same_by_get, within_both, nothing_at, BothAt, zip_at, zip_from_places}
 
 module _ {A : Type 0} where
   -- the hands of a dealt list have the lengths of its items
-  pub lengths_of : (all : List A) (first n : ℕ) (lists : List (List A)) → IsDealt all first n lists →
+  pub lengths_of : (all : List A) (first n : ℕ) (lists : List (List A)) → IsDealtInTurn all first n lists →
       HasLengths (length all) first n lists
   lengths_of all first n lists d = record {
     some = d.some;
@@ -42,9 +42,11 @@ module _ {A : Type 0} where
       (cases_lt l q)
 
   -- one more item is dealt
-  pub one_more : (front : List A) (first n : ℕ) (lists : List (List A)) (q r : ℕ) (x : A) → IsDealt front first n lists →
+  pub one_more : (front : List A) (first n : ℕ) (lists : List (List A)) (q r : ℕ) (x : A) → IsDealtInTurn front
+      first n lists →
       length front ≡ n * q + r → r < n →
-      IsDealt (front ++ x ∷ []) first n (set lists (hand_of first n r) (get_or lists (hand_of first n r) [] ++ x ∷ []))
+      IsDealtInTurn (front ++ x ∷ []) first n (set lists (hand_of first n r) (get_or lists (hand_of first n r)
+      [] ++ x ∷ []))
   one_more front first n lists q r x d e rn =
       let l = get_or lists (hand_of first n r) [] in
       let long : length l ≡ q = next_length (length front) first n lists q r (lengths_of front first n lists d) e rn in
@@ -123,7 +125,7 @@ module _ {A : Type 0} where
       }
 
   -- hands of no items are those of the empty list
-  pub none_dealt : (first n : ℕ) (lists : List (List A)) → HasLengths 0 first n lists → IsDealt [] first n lists
+  pub none_dealt : (first n : ℕ) (lists : List (List A)) → HasLengths 0 first n lists → IsDealtInTurn [] first n lists
   none_dealt first n lists d = record {
     some = d.some;
     count = d.count;
@@ -131,13 +133,14 @@ module _ {A : Type 0} where
   }
 
   -- the hand and the place at which an item is
-  pub item_at : (all : List A) (first n : ℕ) (lists : List (List A)) → IsDealt all first n lists → (i : ℕ) →
+  pub item_at : (all : List A) (first n : ℕ) (lists : List (List A)) → IsDealtInTurn all first n lists → (i : ℕ) →
       slice_get all i ≡ slice_get (get_or lists (hand_of first n (i % n)) []) (i / n)
   item_at all first n lists d i =
       ap (slice_get all) (split_place n i) ∙ sym (d.at (i % n) (i / n) (mod_below i n d.some))
 
   -- each item of a hand is one of the list
-  pub item_of : (all : List A) (first n : ℕ) (lists : List (List A)) → IsDealt all first n lists → (i k : ℕ) (x : A) →
+  pub item_of : (all : List A) (first n : ℕ) (lists : List (List A)) → IsDealtInTurn all first n lists →
+      (i k : ℕ) (x : A) →
       slice_get (get_or lists i []) k ≡ Some x → (j : ℕ) × (slice_get all j ≡ Some x)
   item_of all first n lists d i k x e =
       let there = hand_there lists i k x e in
@@ -146,8 +149,8 @@ module _ {A : Type 0} where
       (n * k + h.0, sym (d.at h.0 k h.1) ∙ ap (λ z. slice_get (get_or lists z []) k) h.2 ∙ e)
 
   -- the list that was dealt is known by its hands
-  pub same_list : (all others : List A) (first n : ℕ) (lists : List (List A)) → IsDealt all first n lists →
-      IsDealt others first n lists → all ≡ others
+  pub same_list : (all others : List A) (first n : ℕ) (lists : List (List A)) → IsDealtInTurn all first n lists →
+      IsDealtInTurn others first n lists → all ≡ others
   same_list all others first n lists d e =
       same_by_get all others (λ i. item_at all first n lists d i ∙ sym (item_at others first n lists e i))
 
@@ -167,7 +170,7 @@ module _ {A B : Type 0} where
 
   -- where R holds item by item in each hand, it does so in the lists that were dealt
   pub related : (R : A → B → Type 0) (xs : List A) (ys : List B) (first n : ℕ) (before : List (List A))
-      (after : List (List B)) → IsDealt xs first n before → IsDealt ys first n after →
+      (after : List (List B)) → IsDealtInTurn xs first n before → IsDealtInTurn ys first n after →
       ((h : ℕ) → h < n → AllZip R (get_or before (hand_of first n h) []) (get_or after (hand_of first n h) [])) → AllZip R xs ys
   related R xs ys first n before after d e each =
       zip_from_places R xs ys (λ i.
@@ -176,7 +179,8 @@ module _ {A B : Type 0} where
       subst (λ z. BothAt R z (slice_get ys i)) (sym (item_at xs first n before d i))
       (subst (BothAt R (slice_get (get_or before (hand_of first n (i % n)) []) (i / n))) (sym (item_at ys first n after e i)) here))
 
-module _ {A : Type 0} (P : A → Type 0) (xs : List A) (first n : ℕ) (lists : List (List A)) (d : IsDealt xs first n lists) where
+module _ {A : Type 0} (P : A → Type 0) (xs : List A) (first n : ℕ) (lists : List (List A))
+    (d : IsDealtInTurn xs first n lists) where
   -- what holds of each item of each hand holds of each item
   pub each_item : ((h : ℕ) → h < n → All P (get_or lists (hand_of first n h) [])) → All P xs
   each_item each i x lt =

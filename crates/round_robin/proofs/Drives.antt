@@ -5,13 +5,13 @@ use Rattle.std.proofs.lemmas.List.{get_or-map, length-map}
 use Rattle.std.proofs.lemmas.Option.{slice_get_cases}
 use Rattle.std.proofs.lemmas.Slice.Zip.{AllZip-long}
 use Rattle.std.proofs.lemmas.Nat.{mod_below}
-use Rattle.round_robin.specs.Dealing.{IsDealt, HasLengths, hand_of}
+use Rattle.round_robin.specs.Dealing.{IsDealtInTurn, HasLengths, hand_of}
 use Rattle.round_robin.proofs.Deals.{lengths_of, same_lengths, related}
 
 -- Each hand of vs, a Vec or whatever has a list f, was changed to that of ws, so that R holds of each item before and
 -- after.
 module _ {A V : Type 0} (R : A → A → Type 0) (f : V → List A) (xs : List A) (first n : ℕ) (vs ws : List V)
-    (d : IsDealt xs first n (map f vs)) (long : length ws ≡ length vs)
+    (d : IsDealtInTurn xs first n (map f vs)) (long : length ws ≡ length vs)
     (each : (h : ℕ) (v : V) → h < length vs → AllZip R (f (get_or vs h v)) (f (get_or ws h v))) where
   hands_count : length vs ≡ n
   hands_count = sym (length-map vs f) ∙ d.count
@@ -38,7 +38,8 @@ module _ {A V : Type 0} (R : A → A → Type 0) (f : V → List A) (xs : List A
       (each_list k (mod_below (first + h) n d.some))))
 
   -- R holds of each item of the list that was dealt and of the one that is gathered
-  pub changed_hands_are_related : (ys : List A) → IsDealt ys first (length ws) (map f ws) → AllZip R xs ys
+  pub changed_hands_are_related : (ys : List A) → IsDealtInTurn ys first (length ws) (map f ws) → AllZip R xs ys
   changed_hands_are_related ys e =
-      related R xs ys first n (map f vs) (map f ws) d (subst (λ m. IsDealt ys first m (map f ws)) (long ∙ hands_count) e)
+      related R xs ys first n (map f vs) (map f ws) d (subst (λ m. IsDealtInTurn ys first m (map f ws))
+      (long ∙ hands_count) e)
       (λ h hn. each_list (hand_of first n h) (mod_below (first + h) n d.some))

@@ -9,7 +9,7 @@ use Rattle.std.proofs.Math.ListN.{set}
 use Rattle.std.proofs.Math.Nat.{div-mul-le_self}
 use Rattle.std.proofs.lemmas.List.{get_or-map, map-set, set-set, set-get_or, length-map}
 use Rattle.std.proofs.lemmas.Nat.{le-div, mod_below}
-use Rattle.round_robin.specs.Dealing.{IsDealt, HasLengths, hand_of}
+use Rattle.round_robin.specs.Dealing.{IsDealtInTurn, HasLengths, hand_of}
 use Rattle.round_robin.proofs.Places.{split_place}
 use Rattle.round_robin.proofs.Deals.{lengths_of, next_length, last_length, one_more, one_less}
 
@@ -34,7 +34,7 @@ module _ {A V : Type 0} (f : V → List A) where
 
   -- empty hands are those of the empty list
   pub empty_dealt : (first n : ℕ) (vs : List V) (P : V → Type 0) → 0 < n → length vs ≡ n →
-      All (λ v. (f v ≡ []) × P v) vs → IsDealt [] first n (map f vs)
+      All (λ v. (f v ≡ []) × P v) vs → IsDealtInTurn [] first n (map f vs)
   empty_dealt first n vs P some long a = record {
     some = some;
     count = length-map vs f ∙ long;
@@ -48,24 +48,26 @@ module _ {A V : Type 0} (f : V → List A) where
       map-set f vs h w ∙ ap (set (map f vs) h) (more ∙ ap (λ z. z ++ x ∷ []) (sym (hand_read vs h v lt e)))
 
   -- dealt hands can be gathered
-  pub lengths_of_hands : (all : List A) (first n : ℕ) (vs : List V) → IsDealt all first n (map f vs) →
+  pub lengths_of_hands : (all : List A) (first n : ℕ) (vs : List V) → IsDealtInTurn all first n (map f vs) →
       HasLengths (length all) first (length vs) (map f vs)
   lengths_of_hands all first n vs d =
       subst (λ m. HasLengths (length all) first m (map f vs)) (sym d.count ∙ length-map vs f)
       (lengths_of all first n (map f vs) d)
 
   -- the next item goes to its hand
-  pub goes_to_hand : (front : List A) (first n : ℕ) (vs : List V) (m : ℕ) (v w : V) (x : A) → IsDealt front first n (map f vs) →
+  pub goes_to_hand : (front : List A) (first n : ℕ) (vs : List V) (m : ℕ) (v w : V) (x : A) → IsDealtInTurn front first
+      n (map f vs) →
       length front ≡ m → v ≡ get_or vs (hand_of first n (m % n)) v → f w ≡ f v ++ x ∷ [] →
-      IsDealt (front ++ x ∷ []) first n (map f (set vs (hand_of first n (m % n)) w))
+      IsDealtInTurn (front ++ x ∷ []) first n (map f (set vs (hand_of first n (m % n)) w))
   goes_to_hand front first n vs m v w x d long e more =
       let r = mod_below m n d.some in
       let inside = hand_is_there m first n vs d.some d.count in
-      subst (IsDealt (front ++ x ∷ []) first n) (sym (hand_put vs (hand_of first n (m % n)) v w x inside e more))
+      subst (IsDealtInTurn (front ++ x ∷ []) first n) (sym (hand_put vs (hand_of first n (m % n)) v w x inside e more))
       (one_more front first n (map f vs) (m / n) (m % n) x d (long ∙ split_place n m) r)
 
   -- the hand of the next item has so many items that it has room for one more
-  pub hand_has_room : (front : List A) (first n : ℕ) (vs : List V) (m all : ℕ) (v : V) → IsDealt front first n (map f vs) →
+  pub hand_has_room : (front : List A) (first n : ℕ) (vs : List V) (m all : ℕ) (v : V) → IsDealtInTurn front first
+      n (map f vs) →
       length front ≡ m → v ≡ get_or vs (hand_of first n (m % n)) v → m < all → length (f v) ≤ all / n
   hand_has_room front first n vs m all v d long e below =
       let r = mod_below m n d.some in
@@ -102,8 +104,9 @@ module _ {A V : Type 0} (f : V → List A) where
 
   -- the last item comes from its hand: what is left, and this item, are what there was
   pub is_dealt_with_last : (m first n : ℕ) (vs : List V) (v w : V) (x : A) (front : List A) →
-      IsDealt front first n (map f (set vs (hand_of first n (m % n)) w)) → hand_of first n (m % n) < length vs → length front ≡ m → v ≡ get_or vs (hand_of first n (m % n)) v →
-      f v ≡ f w ++ x ∷ [] → IsDealt (front ++ x ∷ []) first n (map f vs)
+      IsDealtInTurn front first n (map f (set vs (hand_of first n (m % n)) w)) → hand_of first n (m % n) < length vs →
+      length front ≡ m → v ≡ get_or vs (hand_of first n (m % n)) v →
+      f v ≡ f w ++ x ∷ [] → IsDealtInTurn (front ++ x ∷ []) first n (map f vs)
   is_dealt_with_last m first n vs v w x front d inside long e less =
       let r = mod_below m n d.some in
       let h : ℕ = hand_of first n (m % n) in
@@ -115,5 +118,6 @@ module _ {A V : Type 0} (f : V → List A) where
       ∙ ap (λ z. set lists h (z ++ x ∷ [])) (get_or-set_same lists h (f w) [] within)
       ∙ ap (set lists h) (sym less ∙ sym (hand_read vs h v inside e))
       ∙ set-get_or lists h [] in
-      subst (IsDealt (front ++ x ∷ []) first n) back
-      (one_more front first n (set lists h (f w)) (m / n) (m % n) x (subst (IsDealt front first n) put d) (long ∙ split_place n m) r)
+      subst (IsDealtInTurn (front ++ x ∷ []) first n) back
+      (one_more front first n (set lists h (f w)) (m / n) (m % n) x (subst (IsDealtInTurn front first n) put d)
+      (long ∙ split_place n m) r)

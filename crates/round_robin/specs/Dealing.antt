@@ -11,7 +11,7 @@ hand_of first hands h = (first + h) % hands
 -- There are so many hands, at least one. Item i of the list goes to the i-th hand from the first one on, going round.
 -- Each hand has its items in their order: item k of the h-th hand is item hands * k + h, and there is the one exactly
 -- if there is the other.
-pub record IsDealt {A : Type 0} (all : List A) (first hands : ℕ) (lists : List (List A)) : Type 0 where
+pub record IsDealtInTurn {A : Type 0} (all : List A) (first hands : ℕ) (lists : List (List A)) : Type 0 where
   pub some : 0 < hands
   pub count : length lists ≡ hands
   pub at : (h k : ℕ) → h < hands →

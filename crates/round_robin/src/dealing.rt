@@ -1,7 +1,7 @@
 //! A list is dealt to hands.
 ghost use Rattle.std.specs.Prelude.{◌≡◌, ℕ, ◌+◌, ◌<◌, ◌≤◌, ◌^◌, [], length, map, IfOk, All};
 ghost use Rattle.std.specs.Vec.{vec_capacity};
-ghost use Rattle.round_robin.specs.Dealing.{HaveRoom, IsDealt};
+ghost use Rattle.round_robin.specs.Dealing.{HaveRoom, IsDealtInTurn};
 
 use std::alloc::{AllocError, Global};
 
@@ -41,7 +41,7 @@ pub fn deal<T: Drop>(items: &mut Vec<T>, first: usize, hands: &mut Vec<Vec<T>>)
     requires some { 0 < length hands.old.items }
     requires room { HaveRoom (length items.old.items) hands.old.items }
     requires few { first + length hands.old.items < 2 ^ 64 }
-    ensures dealt { IsDealt items.old.items first (length hands.old.items)
+    ensures dealt { IsDealtInTurn items.old.items first (length hands.old.items)
         (map (λ v. v.items) hands.new.items) }
     ensures long { length hands.new.items ≡ length hands.old.items }
     ensures empty { items.new.items ≡ [] }

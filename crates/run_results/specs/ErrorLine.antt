@@ -15,5 +15,5 @@ error_line Read = codes "tardis: read failed\n"
 error_line Write = codes "tardis: write failed\n"
 error_line NoMemory = codes "tardis: no memory\n"
 error_line (Litmus e) = fault_line e.line (litmus.number_of_kind e.kind) (litmus.name_of_kind e.kind)
-error_line (Trace e) = fault_line e.line (trace.number_of_kind e.kind) (trace.name_of_kind e.kind)
+error_line (Trace e) = fault_line e.line (trace.number_of_trace_kind e.kind) (trace.name_of_trace_kind e.kind)
 error_line BadConfig = codes "tardis: bad configuration\n"

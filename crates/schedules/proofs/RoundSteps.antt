@@ -7,7 +7,7 @@ use Rattle.programs.specs.declared.steps.Step.TheVariants as step
 use Rattle.machine_table.specs.Machine.{Machine, open_op}
 use Rattle.programs.specs.Acts.{Acts, next_in}
 use Rattle.schedules.specs.RoundSchedule.{Round, RoundStage, Stepping, Attempting, AttemptingAgain, Delivering}
-use Rattle.schedules.specs.RoundSchedule.{rounds, round_next, step_of, attempt_of, to_stage, in_flight}
+use Rattle.schedules.specs.RoundSchedule.{rounds, round_next, step_of, attempt_of, to_stage, numbers_in_flight}
 use Rattle.schedules.specs.GivenSteps.{GivesSteps}
 use Rattle.schedules.proofs.GivenSteps.{Gives, gives_steps}
 
@@ -29,7 +29,8 @@ module _ {P : Type 0} (acts : Acts P) (m : Machine) (programs : List P) where
   stage_gives : (round : Round) (stage : RoundStage) → Gives acts m programs (round_next acts m programs round stage)
   unfolding Gives
   stage_gives round (Stepping core) = cond_both (nat_lt core round.cores)
-      (step_of round core (open_op m core) (next_in acts programs core)) (to_stage round (Delivering (in_flight m)))
+      (step_of round core (open_op m core) (next_in acts programs core))
+      (to_stage round (Delivering (numbers_in_flight m)))
       (Gives acts m programs) (λ t. step_gives round core (open_op m core) (next_in acts programs core) refl refl)
       (λ t. tt)
   stage_gives round (Attempting core) = attempt_gives round core (open_op m core)

@@ -12,11 +12,12 @@ use Rattle.programs.specs.declared.ends.End.{End}
 use Rattle.programs.specs.declared.ends.End.TheVariants.{AllDone, Stalled, TurnsUsed, Exhausted, NoMemory}
 use Rattle.programs.specs.Acts.{next_in}
 use Rattle.schedules.specs.Schedules.{Choice, Does, Tries, Delivers, Advances, Goes, Over}
-use Rattle.schedules.specs.Runs.{Plan, Stage, Before, Within, Evicting, MakingRoom, OutOfTimes, Position, Next}
-use Rattle.schedules.specs.Runs.{Makes, Moves, Ends, next, next_at, begin, chosen, evict, evict_bank}
-use Rattle.schedules.specs.Runs.{does, tries, delivers, advances, evicts, onward, at_stage, answered, victim_for}
-use Rattle.schedules.specs.Runs.{is_progress, is_exhausted, is_no_room, are_over}
-use Rattle.schedules.specs.RunEvents.{Follows, stays, moves, makes, Ended}
+use Rattle.schedules.specs.Runs.{Plan, Stage, Before, Within, Evicting, MakingRoom, OutOfTimes, Position, Continuation}
+use Rattle.schedules.specs.Runs.{Makes, Moves, Ends, next, next_at, begin, chosen, next_eviction, evict_bank}
+use Rattle.schedules.specs.Runs.{does, tries, delivers, advances, eviction_leads, onward, at_stage, after_answer}
+use Rattle.schedules.specs.Runs.{victim_for_core}
+use Rattle.schedules.specs.Runs.{is_progress, is_times_end, is_no_room, are_over}
+use Rattle.schedules.specs.RunEvents.{FollowsPlan, stays, moves, makes, Ended}
 use Rattle.schedules.proofs.Over.{each_over}
 
 -- one more event
@@ -31,15 +32,15 @@ module _ {P S : Type 0} (plan : Plan P S) where
   Arrives leads = (a : Answer) (d : Position P S) → (leads a d).machine ≡ d.machine
 
   arrives : (d : Position P S) (leads : Answer → Position P S → Position P S) → Arrives leads →
-      (o : Answer × Machine) → (answered d leads o).machine ≡ o.1
+      (o : Answer × Machine) → (after_answer d leads o).machine ≡ o.1
   unfolding Arrives
   arrives d leads keeps (a, m) =
       let e = record d { machine = m; has_progressed = d.has_progressed || is_progress a } in
-      cond_both (is_exhausted a) (at_stage e OutOfTimes) (leads a e) (λ x. x.machine ≡ m) (λ t. refl)
+      cond_both (is_times_end a) (at_stage e OutOfTimes) (leads a e) (λ x. x.machine ≡ m) (λ t. refl)
       (λ t. keeps a e)
 
   -- without an event the machine and the programs stay
-  Keeps : Position P S → Next P S → Type 0
+  Keeps : Position P S → Continuation P S → Type 0
   Keeps d (Moves e) = (e.machine ≡ d.machine) × (e.programs ≡ d.programs)
   Keeps d (Makes event leads) = (o : Answer × Machine) → (leads o).machine ≡ o.1
   Keeps d (Ends e) = Unit {0}
@@ -66,21 +67,21 @@ module _ {P S : Type 0} (plan : Plan P S) where
   chosen_keeps d Over = cond_both (plan.schedule.stalls && not d.has_progressed) (Ends Stalled)
       (Moves (record d { stage = Before; turns = d.turns + 1 })) (Keeps d) (λ t. tt) (λ t. (refl, refl))
 
-  evict_keeps : (d : Position P S) (core : ℕ) (o : Option ℕ) → Keeps d (evict d core o)
+  evict_keeps : (d : Position P S) (core : ℕ) (o : Option ℕ) → Keeps d (next_eviction d core o)
   unfolding Keeps Arrives
   evict_keeps d core None = (refl, refl)
-  evict_keeps d core (Some line) = arrives d evicts (λ a e. refl)
+  evict_keeps d core (Some line) = arrives d eviction_leads (λ a e. refl)
 
   evict_bank_keeps : (d : Position P S) (o : Option (ℕ × ℕ)) → Keeps d (evict_bank d o)
   unfolding Keeps Arrives
   evict_bank_keeps d None = (refl, refl)
-  evict_bank_keeps d (Some x) = arrives d evicts (λ a e. refl)
+  evict_bank_keeps d (Some x) = arrives d eviction_leads (λ a e. refl)
 
   next_keeps : (d : Position P S) (stage : Stage) → Keeps d (next_at plan d stage)
   unfolding Keeps
   next_keeps d Before = begin_keeps d (are_over plan.acts d.machine d.programs d.machine.config.cores)
   next_keeps d Within = chosen_keeps d (plan.schedule.next d.machine d.programs d.own)
-  next_keeps d (Evicting core) = evict_keeps d core (victim_for d.machine core (open_op d.machine core))
+  next_keeps d (Evicting core) = evict_keeps d core (victim_for_core d.machine core (open_op d.machine core))
   next_keeps d (MakingRoom number) = evict_bank_keeps d (make_room d.machine number)
   next_keeps d OutOfTimes = tt
 
@@ -95,7 +96,7 @@ module _ {P S : Type 0} (plan : Plan P S) where
   makes_keeps d event leads is = subst (Keeps d) is (next_keeps d d.stage)
 
   -- the events make the machine
-  pub made_by : (start d : Position P S) (events : List Event) → Follows plan start events d →
+  pub made_by : (start d : Position P S) (events : List Event) → FollowsPlan plan start events d →
       d.machine ≡ after_all start.machine events
   made_by start d events stays = refl
   made_by start d events (moves {events = taken} {d = before} {e = e} follows is) =
@@ -106,7 +107,7 @@ module _ {P S : Type 0} (plan : Plan P S) where
       ∙ sym (after_more start.machine taken event)
 
   -- whether the end is that all is done
-  says_done : Next P S → Bool
+  says_done : Continuation P S → Bool
   says_done (Ends AllDone) = true
   says_done (Ends Stalled) = false
   says_done (Ends TurnsUsed) = false
@@ -133,7 +134,7 @@ module _ {P S : Type 0} (plan : Plan P S) where
   chosen_says d Over = cond_both (plan.schedule.stalls && not d.has_progressed) (Ends Stalled)
       (Moves (record d { stage = Before; turns = d.turns + 1 })) (λ x. says_done x ≡ false) (λ t. refl) (λ t. refl)
 
-  evict_says : (d : Position P S) (core : ℕ) (o : Option ℕ) → says_done (evict d core o) ≡ false
+  evict_says : (d : Position P S) (core : ℕ) (o : Option ℕ) → says_done (next_eviction d core o) ≡ false
   unfolding says_done
   evict_says d core None = refl
   evict_says d core (Some line) = refl
@@ -152,7 +153,7 @@ module _ {P S : Type 0} (plan : Plan P S) where
   next_says d Before done = begin_says d (are_over plan.acts d.machine d.programs d.machine.config.cores) done
   next_says d Within done = never done (chosen_says d (plan.schedule.next d.machine d.programs d.own))
   next_says d (Evicting core) done =
-      never done (evict_says d core (victim_for d.machine core (open_op d.machine core)))
+      never done (evict_says d core (victim_for_core d.machine core (open_op d.machine core)))
   next_says d (MakingRoom number) done = never done (evict_bank_says d (make_room d.machine number))
   next_says d OutOfTimes done = absurd (false≢true done)
 

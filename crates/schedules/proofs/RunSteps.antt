@@ -12,10 +12,10 @@ use Rattle.programs.specs.declared.ends.End.{End}
 use Rattle.programs.specs.declared.ends.End.TheVariants as end
 use Rattle.programs.specs.Acts.{Acts}
 use Rattle.schedules.specs.Schedules.{Schedule}
-use Rattle.schedules.specs.Runs.{Plan, Stage, OutOfTimes, Position, Makes, Moves, Ends, next, answered}
-use Rattle.schedules.specs.Runs.{is_exhausted}
+use Rattle.schedules.specs.Runs.{Plan, Stage, OutOfTimes, Position, Makes, Moves, Ends, next, after_answer}
+use Rattle.schedules.specs.Runs.{is_times_end}
 use Rattle.schedules.specs.Runs.{plan_of}
-use Rattle.schedules.specs.RunEvents.{Follows, stays, makes, moves, Arrives, Finishes, Ended}
+use Rattle.schedules.specs.RunEvents.{FollowsPlan, stays, makes, moves, Arrives, Finishes, Ended}
 use Rattle.schedules.specs.Notes.{Log, IsNoted, Noted, KeepsAs, Point, at, position, Leads, Stops, Led}
 
 module _ {P S : Type 0} (plan : Plan P S) (start : Position P S) where
@@ -38,7 +38,8 @@ module _ {P S : Type 0} (plan : Plan P S) (start : Position P S) where
 
   pub finished : (kept : Option (List Event)) (d : Position P S) (m : Machine) (programs : List P) (end : End) →
       Arrives plan start kept d →
-      ((events : List Event) → Follows plan start events d → Ended (is_some kept) plan start events m programs end) →
+      ((events : List Event) → FollowsPlan plan start events d → Ended (is_some kept) plan start events m
+      programs end) →
       Finishes plan start kept m programs end
   finished None d m programs end before ends = (before.0, ends before.0 before.1)
   finished (Some events) d m programs end before ends = ends events before
@@ -61,17 +62,18 @@ noted_keeps p m after event (Err end.TurnsUsed) log noted = absurd noted
 module _ {P S : Type 0} (plan : Plan P S) (start : Position P S) (p : Point P S) (turns : ℕ) (event : Event)
     (leads : Answer → Position P S → Position P S)
     (before : Arrives plan start p.log.events (position p turns))
-    (is_next : next plan (position p turns) ≡ Makes event (answered (position p turns) leads)) where
+    (is_next : next plan (position p turns) ≡ Makes event (after_answer (position p turns) leads)) where
   -- the position that an answered event leads to
   lands : (answer : Answer) (m : Machine) (log : Log) → (answer, m) ≡ transition p.machine event →
       IsNoted p.log event answer log →
-      Arrives plan start log.events (if is_exhausted answer then
+      Arrives plan start log.events (if is_times_end answer then
       position (at m p.programs log p.own OutOfTimes) turns else
       leads answer (position (at m p.programs log p.own p.stage) turns))
   lands answer m log stepped noted =
       let by_answer = subst (λ (o : Answer × Machine). Arrives plan start
-      (option_map (λ events. events ++ event ∷ []) p.log.events) (answered (position p turns) leads o)) (sym stepped)
-      (made plan start p.log.events (position p turns) event (answered (position p turns) leads) before is_next) in
+      (option_map (λ events. events ++ event ∷ []) p.log.events) (after_answer (position p turns) leads o))
+      (sym stepped)
+      (made plan start p.log.events (position p turns) event (after_answer (position p turns) leads) before is_next) in
       rw (noted.events, noted.has_progressed) by_answer
 
   did : (answer : Answer) (m : Machine) (log : Log) → Noted p.machine p.log event (Ok answer) m log →
@@ -99,9 +101,10 @@ module _ {P S : Type 0} (plan : Plan P S) (start : Position P S) (p : Point P S)
         programs_are = refl;
         ends = inr (
           refl,
-          λ other ends. let bad : Makes event (answered (position p turns) leads) ≡ Ends other = sym is_next ∙ ends in
+          λ other ends. let bad : Makes event (after_answer (position p turns) leads) ≡ Ends other = sym
+              is_next ∙ ends in
               absurd cc,
-          inl (event, answered (position p turns) leads, is_next, rw (noted.1.events) (noted.2)),
+          inl (event, after_answer (position p turns) leads, is_next, rw (noted.1.events) (noted.2)),
         );
       })
   stopped end.AllDone m log noted = absurd noted
@@ -112,7 +115,7 @@ module _ {P S : Type 0} (acts : Acts P) (schedule : Schedule P S) where
   -- the event that comes next at a point, and where its answer leads
   unfoldable pub Next : Point P S → Event → (Answer → Position P S → Position P S) → Type 0
   Next p event leads = (limit turns : ℕ) → next (plan_of acts schedule limit) (position p turns) ≡ Makes event
-      (answered (position p turns) leads)
+      (after_answer (position p turns) leads)
 
   -- by an event that is answered, where the answer leads to the point
   pub leads_by : (p : Point P S) (event : Event) (leads : Answer → Position P S → Position P S) (answer : Answer)

@@ -12,12 +12,12 @@ use Rattle.programs.specs.Acts.{Acts}
 use Rattle.schedules.specs.Policies.{EndedBy}
 use Rattle.schedules.specs.RoundSchedule.{no_round, rounds}
 use Rattle.schedules.specs.SeedSchedule.{of_seed, seeded}
-use Rattle.schedules.specs.Runs.{Next, Plan, Position, Makes, Moves, Ends, next, plan_of}
-use Rattle.schedules.specs.RunEvents.{Follows, stays, moves, makes, Ended, WantsMemory, initial}
+use Rattle.schedules.specs.Runs.{Continuation, Plan, Position, Makes, Moves, Ends, next, plan_of}
+use Rattle.schedules.specs.RunEvents.{FollowsPlan, stays, moves, makes, Ended, WantsMemoryAt, initial_position}
 
 module _ {P S : Type 0} (plan : Plan P S) (start : Position P S) where
   -- the events so far and the position, after what comes next
-  onward : List Event → Position P S → Next P S → List Event × Position P S
+  onward : List Event → Position P S → Continuation P S → List Event × Position P S
   onward events d (Makes event leads) = (events ++ event ∷ [], leads (transition d.machine event))
   onward events d (Moves e) = (events, e)
   onward events d (Ends end) = (events, d)
@@ -30,13 +30,13 @@ module _ {P S : Type 0} (plan : Plan P S) (start : Position P S) where
   steps zero = ([], start)
   steps (suc n) = after (steps n)
 
-  one_more : (n : ℕ) (events : List Event) (d : Position P S) (comes : Next P S) → steps n ≡ (events, d) →
+  one_more : (n : ℕ) (events : List Event) (d : Position P S) (comes : Continuation P S) → steps n ≡ (events, d) →
       next plan d ≡ comes → steps (suc n) ≡ onward events d comes
   unfolding steps after
   one_more n events d comes here is = ap after here ∙ ap (onward events d) is
 
   -- events that follow the plan are those of some number of steps
-  counted : (d : Position P S) (events : List Event) → Follows plan start events d →
+  counted : (d : Position P S) (events : List Event) → FollowsPlan plan start events d →
       (n : ℕ) × (steps n ≡ (events, d))
   unfolding onward steps
   counted d events stays = (0, refl)
@@ -59,8 +59,8 @@ module _ {P S : Type 0} (plan : Plan P S) (start : Position P S) where
       (one_more (k + n) events d (Ends end) (rests n events d end here is k) is)
 
   -- the plan ends in one place alone
-  one_place : (events more : List Event) (d e : Position P S) (end last : End) → Follows plan start events d →
-      Follows plan start more e → next plan d ≡ Ends end → next plan e ≡ Ends last →
+  one_place : (events more : List Event) (d e : Position P S) (end last : End) → FollowsPlan plan start events d →
+      FollowsPlan plan start more e → next plan d ≡ Ends end → next plan e ≡ Ends last →
       ◌≡◌ {A = List Event × Position P S} (events, d) (more, e)
   one_place events more d e end last first second stops too =
       let a = counted d events first in
@@ -68,13 +68,13 @@ module _ {P S : Type 0} (plan : Plan P S) (start : Position P S) where
       let turned : b.0 + a.0 ≡ a.0 + b.0 = omega arith in
       sym (rests a.0 events d end a.1 stops b.0) ∙ ap steps turned ∙ rests b.0 more e last b.1 too a.0
 
-  end_of : Next P S → End
+  end_of : Continuation P S → End
   end_of (Ends end) = end
   end_of (Makes event leads) = NoMemory
   end_of (Moves d) = NoMemory
 
   end_in : (d : Position P S) (end : End) → (next plan d ≡ Ends end) ⊎
-      ((end ≡ NoMemory) × ((other : End) → next plan d ≢ Ends other) × WantsMemory false plan d) → end ≢ NoMemory →
+      ((end ≡ NoMemory) × ((other : End) → next plan d ≢ Ends other) × WantsMemoryAt false plan d) → end ≢ NoMemory →
       next plan d ≡ Ends end
   end_in d end ends not = ⊎_elim (λ is. is) (λ refused. absurd (not refused.0)) ends
 
@@ -100,8 +100,8 @@ pub same_list : {P : Type 0} (acts : Acts P) (policy : Policy) (limit : ℕ) (st
     EndedBy acts policy limit start opening more n others last →
     end ≢ NoMemory → last ≢ NoMemory → (events ≡ more) × (m ≡ n) × (programs ≡ others) × (end ≡ last)
 same_list acts Rounds limit start opening events more m n programs others end last first second =
-    same_run (plan_of acts (rounds acts) limit) (initial start opening (no_round start.config.cores))
+    same_run (plan_of acts (rounds acts) limit) (initial_position start opening (no_round start.config.cores))
     events more m n programs others end last first second
 same_list acts (Seed seed) limit start opening events more m n programs others end last first second =
-    same_run (plan_of acts (seeded acts) limit) (initial start opening (of_seed seed))
+    same_run (plan_of acts (seeded acts) limit) (initial_position start opening (of_seed seed))
     events more m n programs others end last first second

@@ -20,7 +20,7 @@ use Rattle.line_sets.specs.Rising.{put_in, risen}
 use Rattle.schedules.specs.declared.schedule.Choice.{Choice as Chosen}
 use Rattle.programs.specs.Acts.{Acts, next_in}
 use Rattle.schedules.specs.Schedules.{Choice, Does, Delivers, Over}
-use Rattle.schedules.specs.SeedSchedule.{Seeded, advances, core_step, core_steps, entry, line_events}
+use Rattle.schedules.specs.SeedSchedule.{Seeded, advances, core_step, core_steps, choice_at, line_events}
 use Rattle.schedules.specs.SeedViews.{Picks, StepsAt}
 use Rattle.schedules.proofs.Pieces.{at_piece, length_more}
 
@@ -29,12 +29,12 @@ is_end Over = true
 is_end _ = false
 
 -- an empty list has none
-pub no_entry : (choices : List (Choice Seeded)) (b : ℕ) → length choices ≡ 0 → entry choices b ≡ Over
+pub no_entry : (choices : List (Choice Seeded)) (b : ℕ) → length choices ≡ 0 → choice_at choices b ≡ Over
 no_entry [] b empty = get_or_past [] (b % 0) Over (omega arith)
 no_entry (x ∷ xs) b empty = absurd (omega (arith, empty))
 
 pub advance_entry : (m : Machine) (b core : ℕ) → 0 < m.config.cores → core ≡ b % m.config.cores →
-    entry (advances m) b ≡ Does (event.Advance core)
+    choice_at (advances m) b ≡ Does (event.Advance core)
 advance_entry m b core some is =
     let f : ℕ → Choice Seeded = λ c. Does (event.Advance c) in
     let long : length (advances m) ≡ m.config.cores = length-map-range_with_len f 0 m.config.cores in
@@ -68,7 +68,7 @@ module _ (eviction : ℕ → ℕ → Event) (lines : ℕ → List ℕ) where
   pub line_at : (n b holder at line : ℕ) → holder < n → at < length (lines holder) →
       slice_get (risen (lines holder)) at ≡ Some line →
       length (line_events eviction lines holder) + at ≡ b % length (line_events eviction lines n) →
-      entry (line_events eviction lines n) b ≡ Does (eviction holder line)
+      choice_at (line_events eviction lines n) b ≡ Does (eviction holder line)
   line_at n b holder at line below within is here =
       let inside : at < length (piece holder) = rw (piece_length holder) within in
       let risen_inside : at < length (risen (lines holder)) = rw (length-risen (lines holder)) within in
@@ -80,12 +80,12 @@ module _ (eviction : ℕ → ℕ → Event) (lines : ℕ → List ℕ) where
   -- so there is an entry
   pub line_is_there : (n b holder at : ℕ) → holder < n → at < length (lines holder) →
       length (line_events eviction lines holder) + at ≡ b % length (line_events eviction lines n) →
-      entry (line_events eviction lines n) b ≢ Over
+      choice_at (line_events eviction lines n) b ≢ Over
   unfolding is_end
   line_is_there n b holder at below within here over =
       let risen_inside : at < length (risen (lines holder)) = rw (length-risen (lines holder)) within in
       let line : ℕ = get_or (risen (lines holder)) at 0 in
-      let is : entry (line_events eviction lines n) b ≡ Does (eviction holder line) =
+      let is : choice_at (line_events eviction lines n) b ≡ Does (eviction holder line) =
       line_at n b holder at line below within (slice_get-get_or (risen (lines holder)) at 0 risen_inside) here in
       false≢true (ap is_end (sym is ∙ over))
 
@@ -144,14 +144,14 @@ module _ {P : Type 0} (acts : Acts P) (m : Machine) (programs : List P) where
 
 -- an entry of the front, and one of the deliveries behind it
 pub front_entry : (xs ys : List (Choice Seeded)) (b at : ℕ) (next : Choice Seeded) → at ≡ b % length (xs ++ ys) →
-    slice_get xs at ≡ Some next → entry (xs ++ ys) b ≡ next
+    slice_get xs at ≡ Some next → choice_at (xs ++ ys) b ≡ next
 front_entry xs ys b at next here is =
     ap (λ k. get_or (xs ++ ys) k Over) (sym here)
     ∙ get_or_append_left xs ys Over at (slice_get_within xs at next is) ∙ get_or_from_slice_get xs at next Over is
 
 pub delivery_entry : (xs : List (Choice Seeded)) (numbers : List ℕ) (b at number : ℕ) →
     length xs + at ≡ b % length (xs ++ map (λ n. Delivers n) numbers) → slice_get numbers at ≡ Some number →
-    entry (xs ++ map (λ n. Delivers n) numbers) b ≡ Delivers number
+    choice_at (xs ++ map (λ n. Delivers n) numbers) b ≡ Delivers number
 delivery_entry xs numbers b at number here is =
     let f : ℕ → Choice Seeded = λ n. Delivers n in
     ap (λ k. get_or (xs ++ map f numbers) k Over) (sym here) ∙ get_or-append-add xs (map f numbers) at Over

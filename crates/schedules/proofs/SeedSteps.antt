@@ -10,7 +10,7 @@ use Rattle.line_sets.specs.Rising.{risen}
 use Rattle.interleaving_core.specs.LookUps.{entries, free_copies}
 use Rattle.programs.specs.Acts.{Acts, next_in}
 use Rattle.schedules.specs.Schedules.{Choice, Does, Delivers}
-use Rattle.schedules.specs.RoundSchedule.{in_flight}
+use Rattle.schedules.specs.RoundSchedule.{numbers_in_flight}
 use Rattle.schedules.specs.SeedSchedule.{Seeded, core_step, core_steps, drawn_list, seeded, seeded_next}
 use Rattle.schedules.specs.GivenSteps.{GivesSteps}
 use Rattle.schedules.proofs.GivenSteps.{Gives, AllGive, give_both, give_mapped, give_pieces, give_one, gives_steps}
@@ -41,7 +41,7 @@ module _ {P : Type 0} (acts : Acts P) (m : Machine) (programs : List P) where
   list_gives (suc (suc (suc k))) = give_both acts m programs (core_steps acts m programs m.config.cores) _
       (give_pieces acts m programs _ (λ core. step_gives core (open_op m core) (next_in acts programs core) refl refl)
       (range_with_len 0 m.config.cores))
-      (give_mapped acts m programs (λ number. Delivers number) (λ number. tt) (in_flight m))
+      (give_mapped acts m programs (λ number. Delivers number) (λ number. tt) (numbers_in_flight m))
 
   words_give : (words : Option (ℕ × ℕ)) → Gives acts m programs (seeded_next acts m programs words)
   unfolding Gives

@@ -25,11 +25,12 @@ use Rattle.programs.specs.declared.ends.End.{End}
 use Rattle.programs.specs.declared.ends.End.TheVariants.{Stalled, TurnsUsed}
 use Rattle.programs.specs.Acts.{Acts, done_in}
 use Rattle.schedules.specs.Schedules.{Choice, Does, Tries, Delivers, Advances, Goes, Over}
-use Rattle.schedules.specs.Runs.{Plan, Stage, Before, Within, Evicting, MakingRoom, OutOfTimes, Position, Next}
-use Rattle.schedules.specs.Runs.{Makes, Moves, Ends, next, next_at, begin, chosen, evict, evict_bank}
-use Rattle.schedules.specs.Runs.{does, tries, delivers, advances, evicts, onward, told, at_stage}
-use Rattle.schedules.specs.Runs.{answered, victim_for, is_progress, is_exhausted, is_advanced, is_no_room, are_over}
-use Rattle.schedules.specs.RunEvents.{Follows, stays, moves, makes, Ended}
+use Rattle.schedules.specs.Runs.{Plan, Stage, Before, Within, Evicting, MakingRoom, OutOfTimes, Position, Continuation}
+use Rattle.schedules.specs.Runs.{Makes, Moves, Ends, next, next_at, begin, chosen, next_eviction, evict_bank}
+use Rattle.schedules.specs.Runs.{does, tries, delivers, advances, eviction_leads, onward, programs_told, at_stage}
+use Rattle.schedules.specs.Runs.{after_answer, victim_for_core, is_progress, is_times_end, is_advanced, is_no_room}
+use Rattle.schedules.specs.Runs.{are_over}
+use Rattle.schedules.specs.RunEvents.{FollowsPlan, stays, moves, makes, Ended}
 use Rattle.machine_theorem.specs.Service.{AreServed}
 use Rattle.schedules.specs.GivenSteps.{GivesSteps}
 use Rattle.schedules.proofs.InProgram.{behind}
@@ -93,7 +94,7 @@ module _ (m after : Machine) (s : Issues m) (t : Issues after) (added : List Rec
 
 -- a program is told of completions alone
 untold : {P : Type 0} (acts : Acts P) (programs : List P) (a : Answer) → is_completion a ≡ false →
-    told acts programs a ≡ programs
+    programs_told acts programs a ≡ programs
 untold acts programs (answer.Completed done) silent = absurd (true≢false silent)
 untold acts programs answer.Issued silent = refl
 untold acts programs answer.Requested silent = refl
@@ -133,17 +134,17 @@ module _ {P S : Type 0} (plan : Plan P S) (gives : GivesSteps plan.acts plan.sch
 
   -- where an answer leads
   lands : (d : Position P S) (leads : Answer → Position P S → Position P S) (o : Answer × Machine) →
-      (is_exhausted o.0 ≡ true → Kept o.1 d.programs) →
+      (is_times_end o.0 ≡ true → Kept o.1 d.programs) →
       ((e : Position P S) → e.machine ≡ o.1 → e.programs ≡ d.programs → KeptAt (leads o.0 e)) →
-      KeptAt (answered d leads o)
+      KeptAt (after_answer d leads o)
   lands d leads (a, m) out on =
       let e : Position P S = record d { machine = m; has_progressed = d.has_progressed || is_progress a } in
-      cond_both (is_exhausted a) (at_stage e OutOfTimes) (leads a e) KeptAt out (λ t. on e refl refl)
+      cond_both (is_times_end a) (at_stage e OutOfTimes) (leads a e) KeptAt out (λ t. on e refl refl)
 
   module _ (d : Position P S) (so_far : KeptAt d)
       (count : length d.machine.cores ≡ start.machine.config.cores) where
     -- an event leads to where it is so again
-    Onward : Next P S → Type 0
+    Onward : Continuation P S → Type 0
     Onward (Makes event leads) = KeptAt (leads (transition d.machine event))
     Onward (Moves e) = Unit {0}
     Onward (Ends e) = Unit {0}
@@ -153,7 +154,7 @@ module _ {P S : Type 0} (plan : Plan P S) (gives : GivesSteps plan.acts plan.sch
         IsQuiet d.machine (transition d.machine event).1 →
         ((e : Position P S) (a : Answer) → is_completion a ≡ false →
         ((leads a e).machine ≡ e.machine) × ((leads a e).programs ≡ e.programs)) →
-        KeptAt (answered d leads (transition d.machine event))
+        KeptAt (after_answer d leads (transition d.machine event))
     quietly leads event quiet same =
         let on = served_quiet plan.acts start.machine start.programs d.machine (transition d.machine event).1
         d.programs so_far quiet in
@@ -169,8 +170,8 @@ module _ {P S : Type 0} (plan : Plan P S) (gives : GivesSteps plan.acts plan.sch
     -- a completion is told
     tells : (leads : Answer → Position P S → Position P S) (core : ℕ) →
         ((e : Position P S) (a : Answer) → ((leads a e).machine ≡ e.machine) ×
-        ((leads a e).programs ≡ told plan.acts e.programs a)) →
-        KeptAt (answered d leads (transition d.machine (Attempt core)))
+        ((leads a e).programs ≡ programs_told plan.acts e.programs a)) →
+        KeptAt (after_answer d leads (transition d.machine (Attempt core)))
     tells leads core same =
         let o = transition d.machine (Attempt core) in
         ⊎_elim
@@ -189,21 +190,21 @@ module _ {P S : Type 0} (plan : Plan P S) (gives : GivesSteps plan.acts plan.sch
         let on = subst (λ (c : ℕ). Kept o.1 (done_in plan.acts d.programs c ends.0.received)) (sym ends.2.core)
         (served_done plan.acts start.machine start.programs d.machine o.1 d.programs so_far core ends.0 below
         ends.2) in
-        lands d leads o (λ t. absurd (true≢false (sym t ∙ ap is_exhausted ends.1))) (λ e machine programs.
+        lands d leads o (λ t. absurd (true≢false (sym t ∙ ap is_times_end ends.1))) (λ e machine programs.
         rw ((same e o.0).0, (same e o.0).1, machine, programs, ends.1) on))
         (attempt_does d.machine core)
 
     tries_same : (core : ℕ) (e : Position P S) (a : Answer) →
         ((tries plan.acts plan.schedule core a e).machine ≡ e.machine) ×
-        ((tries plan.acts plan.schedule core a e).programs ≡ told plan.acts e.programs a)
+        ((tries plan.acts plan.schedule core a e).programs ≡ programs_told plan.acts e.programs a)
     tries_same core e a = cond_both (is_no_room a) (onward plan.acts plan.schedule true (Evicting core) e)
         (does plan.acts plan.schedule a e)
-        (λ x. (x.machine ≡ e.machine) × (x.programs ≡ told plan.acts e.programs a))
+        (λ x. (x.machine ≡ e.machine) × (x.programs ≡ programs_told plan.acts e.programs a))
         (λ t. (refl, sym (untold plan.acts e.programs a (room_silent a t)))) (λ t. (refl, refl))
 
     -- an event that a schedule has next
     does_onward : (event : Event) → plan.schedule.next d.machine d.programs d.own ≡ Does event →
-        KeptAt (answered d (does plan.acts plan.schedule) (transition d.machine event))
+        KeptAt (after_answer d (does plan.acts plan.schedule) (transition d.machine event))
     does_onward (Issue core op) is =
         let step = gives.issues d.machine d.programs d.own core op is in
         ⊎_elim
@@ -231,7 +232,7 @@ module _ {P S : Type 0} (plan : Plan P S) (gives : GivesSteps plan.acts plan.sch
         (advance_stays d.machine core) does_same
 
     advances_onward : (core : ℕ) → plan.schedule.next d.machine d.programs d.own ≡ Advances core →
-        KeptAt (answered d (advances plan.acts plan.schedule core) (transition d.machine (Advance core)))
+        KeptAt (after_answer d (advances plan.acts plan.schedule core) (transition d.machine (Advance core)))
     advances_onward core is =
         let step = gives.advances d.machine d.programs d.own core is in
         let o = transition d.machine (Advance core) in
@@ -255,16 +256,17 @@ module _ {P S : Type 0} (plan : Plan P S) (gives : GivesSteps plan.acts plan.sch
     chosen_onward Over is = cond_both (plan.schedule.stalls && not d.has_progressed) (Ends Stalled)
         (Moves (record d { stage = Before; turns = d.turns + 1 })) Onward (λ t. tt) (λ t. tt)
 
-    evict_onward : (core : ℕ) (o : Option ℕ) → Onward (evict d core o)
+    evict_onward : (core : ℕ) (o : Option ℕ) → Onward (next_eviction d core o)
     unfolding Onward
     evict_onward core None = tt
-    evict_onward core (Some line) = quietly evicts (EvictCache core line) (cache_eviction_stays d.machine core line)
+    evict_onward core (Some line) =
+        quietly eviction_leads (EvictCache core line) (cache_eviction_stays d.machine core line)
         (λ e a silent. (refl, refl))
 
     evict_bank_onward : (o : Option (ℕ × ℕ)) → Onward (evict_bank d o)
     unfolding Onward
     evict_bank_onward None = tt
-    evict_bank_onward (Some x) = quietly evicts (EvictBank x.0 x.1) (bank_eviction_stays d.machine x.0 x.1)
+    evict_bank_onward (Some x) = quietly eviction_leads (EvictBank x.0 x.1) (bank_eviction_stays d.machine x.0 x.1)
         (λ e a silent. (refl, refl))
 
     begin_onward : (over : Bool) → Onward (begin plan d over)
@@ -278,7 +280,7 @@ module _ {P S : Type 0} (plan : Plan P S) (gives : GivesSteps plan.acts plan.sch
     unfolding Onward
     next_onward Before = begin_onward (are_over plan.acts d.machine d.programs d.machine.config.cores)
     next_onward Within = chosen_onward (plan.schedule.next d.machine d.programs d.own) refl
-    next_onward (Evicting core) = evict_onward core (victim_for d.machine core (open_op d.machine core))
+    next_onward (Evicting core) = evict_onward core (victim_for_core d.machine core (open_op d.machine core))
     next_onward (MakingRoom number) = evict_bank_onward (make_room d.machine number)
     next_onward OutOfTimes = tt
 
@@ -288,7 +290,7 @@ module _ {P S : Type 0} (plan : Plan P S) (gives : GivesSteps plan.acts plan.sch
     goes_on event leads is = subst Onward is (next_onward d.stage)
 
   follows_kept : length start.machine.cores ≡ start.machine.config.cores → (d : Position P S) (events : List Event) →
-      Follows plan start events d → KeptAt d
+      FollowsPlan plan start events d → KeptAt d
   follows_kept count d events stays = served_none plan.acts start.machine start.programs
   follows_kept count d events (moves {events = taken} {d = before} {e = e} follows is) =
       let same = moves_keeps plan before e is in

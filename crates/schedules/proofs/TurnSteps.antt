@@ -11,7 +11,8 @@ use Rattle.programs.specs.Acts.{Acts}
 use Rattle.schedules.specs.Schedules.{Schedule, Choice, Does, Tries, Delivers, Advances, Goes, Over}
 use Rattle.schedules.specs.Runs.{Within, Evicting, MakingRoom, chosen, does, tries, delivers}
 use Rattle.schedules.specs.Runs.{advances}
-use Rattle.schedules.specs.Runs.{evict, evict_bank, evicts, victim_for, told, told_advance, is_held, is_no_room}
+use Rattle.schedules.specs.Runs.{next_eviction, evict_bank, eviction_leads, victim_for_core, programs_told}
+use Rattle.schedules.specs.Runs.{told_advance, is_held, is_no_room}
 use Rattle.schedules.specs.Runs.{plan_of, Ends}
 use Rattle.schedules.specs.Notes.{Log, Noted, Point, at, position, Leads, Stops, Led}
 use Rattle.schedules.proofs.RunSteps.{Next, finished, leads_by, stops_by, leads_over}
@@ -28,16 +29,18 @@ module _ {P S : Type 0} (acts : Acts P) (schedule : Schedule P S) (m : Machine) 
   module _ (after : Machine) (after_log : Log) where
     -- the run goes on in the turn with these programs, the schedule at the stage behind
     abbrev On : List P → Bool → Point P S
-    On told full = at after told after_log (schedule.behind full own) Within
+    On programs_told full = at after programs_told after_log (schedule.behind full own) Within
 
     does_next : (event : Event) → Chooses (Does event) → Next acts schedule Here event (does acts schedule)
     unfolding Next
     does_next event is limit turns = ap (chosen (plan_of acts schedule limit) (position Here turns)) is
 
     pub did : (event : Event) → Chooses (Does event) → (answer : Answer) →
-        Noted m log event (Ok answer) after after_log → Leads acts schedule Here (On (told acts programs answer) false)
+        Noted m log event (Ok answer) after after_log → Leads acts schedule Here
+        (On (programs_told acts programs answer) false)
     did event is answer noted =
-        leads_by acts schedule Here event (does acts schedule) answer after (told acts programs answer) after_log
+        leads_by acts schedule Here event (does acts schedule) answer after (programs_told acts programs answer)
+        after_log
         (schedule.behind false own) Within (does_next event is) noted (λ turns. refl)
 
     pub did_not : (event : Event) → Chooses (Does event) → (e : End) → Noted m log event (Err e) after after_log →
@@ -52,9 +55,10 @@ module _ {P S : Type 0} (acts : Acts P) (schedule : Schedule P S) (m : Machine) 
 
     pub tried : (core : ℕ) → Chooses (Tries core) → (answer : Answer) →
         Noted m log (Attempt core) (Ok answer) after after_log → is_no_room answer ≡ false →
-        Leads acts schedule Here (On (told acts programs answer) false)
+        Leads acts schedule Here (On (programs_told acts programs answer) false)
     tried core is answer noted room =
-        leads_by acts schedule Here (Attempt core) (tries acts schedule core) answer after (told acts programs answer)
+        leads_by acts schedule Here (Attempt core) (tries acts schedule core) answer after
+        (programs_told acts programs answer)
         after_log (schedule.behind false own) Within (tries_next core is) noted (λ turns. rw room refl)
 
     pub found_no_room : (core : ℕ) → Chooses (Tries core) → (answer : Answer) →
@@ -116,23 +120,26 @@ module _ {P S : Type 0} (acts : Acts P) (schedule : Schedule P S) (m : Machine) 
         (advances_next core is) noted
 
     -- evictions
-    evicts_next : (core line : ℕ) → victim_for m core (open_op m core) ≡ Some line →
-        Next acts schedule (at m programs log own (Evicting core)) (EvictCache core line) evicts
+    evicts_next : (core line : ℕ) → victim_for_core m core (open_op m core) ≡ Some line →
+        Next acts schedule (at m programs log own (Evicting core)) (EvictCache core line) eviction_leads
     unfolding Next
-    evicts_next core line is limit turns = ap (evict (position (at m programs log own (Evicting core)) turns) core) is
+    evicts_next core line is limit turns =
+        ap (next_eviction (position (at m programs log own (Evicting core)) turns) core) is
 
-    pub evicted : (core line : ℕ) → victim_for m core (open_op m core) ≡ Some line → (r : Result Answer End) →
+    pub evicted : (core line : ℕ) → victim_for_core m core (open_op m core) ≡ Some line → (r : Result Answer End) →
         Noted m log (EvictCache core line) r after after_log →
         Led acts schedule (at m programs log own (Evicting core)) r (at after programs after_log own Within)
     evicted core line is (Ok answer) noted =
-        leads_by acts schedule (at m programs log own (Evicting core)) (EvictCache core line) evicts answer after
+        leads_by acts schedule (at m programs log own (Evicting core)) (EvictCache core line) eviction_leads answer
+        after
         programs after_log own Within (evicts_next core line is) noted (λ turns. refl)
     evicted core line is (Err e) noted =
-        stops_by acts schedule (at m programs log own (Evicting core)) (EvictCache core line) evicts e after after_log
+        stops_by acts schedule (at m programs log own (Evicting core)) (EvictCache core line) eviction_leads e
+        after after_log
         (evicts_next core line is) noted
 
     makes_room_next : (number bank line : ℕ) → make_room m number ≡ Some (bank, line) →
-        Next acts schedule (at m programs log own (MakingRoom number)) (EvictBank bank line) evicts
+        Next acts schedule (at m programs log own (MakingRoom number)) (EvictBank bank line) eviction_leads
     unfolding Next
     makes_room_next number bank line is limit turns =
         ap (evict_bank (position (at m programs log own (MakingRoom number)) turns)) is
@@ -141,16 +148,17 @@ module _ {P S : Type 0} (acts : Acts P) (schedule : Schedule P S) (m : Machine) 
         Noted m log (EvictBank bank line) r after after_log →
         Led acts schedule (at m programs log own (MakingRoom number)) r (at after programs after_log own Within)
     room_made number bank line is (Ok answer) noted =
-        leads_by acts schedule (at m programs log own (MakingRoom number)) (EvictBank bank line) evicts answer after
+        leads_by acts schedule (at m programs log own (MakingRoom number)) (EvictBank bank line) eviction_leads answer
+        after
         programs after_log own Within (makes_room_next number bank line is) noted (λ turns. refl)
     room_made number bank line is (Err e) noted =
-        stops_by acts schedule (at m programs log own (MakingRoom number)) (EvictBank bank line) evicts e after
+        stops_by acts schedule (at m programs log own (MakingRoom number)) (EvictBank bank line) eviction_leads e after
         after_log (makes_room_next number bank line is) noted
 
-  pub no_victim : (core : ℕ) → victim_for m core (open_op m core) ≡ None →
+  pub no_victim : (core : ℕ) → victim_for_core m core (open_op m core) ≡ None →
       Leads acts schedule (at m programs log own (Evicting core)) Here
   no_victim core none = leads_over acts schedule m programs log own own (Evicting core) Within
-      (λ limit turns. ap (evict (position (at m programs log own (Evicting core)) turns) core) none)
+      (λ limit turns. ap (next_eviction (position (at m programs log own (Evicting core)) turns) core) none)
 
   pub no_line : (number : ℕ) → make_room m number ≡ None →
       Leads acts schedule (at m programs log own (MakingRoom number)) Here

@@ -12,7 +12,7 @@ use Rattle.programs.specs.declared.ends.End.{End}
 use Rattle.programs.specs.declared.ends.End.TheVariants.{AllDone, Stalled, TurnsUsed, Exhausted, NoMemory}
 use Rattle.programs.specs.Acts.{Acts}
 use Rattle.schedules.specs.Schedules.{Schedule}
-use Rattle.schedules.specs.Runs.{Stage, Position, plan_of, is_progress, is_exhausted}
+use Rattle.schedules.specs.Runs.{Stage, Position, plan_of, is_progress, is_times_end}
 use Rattle.schedules.specs.RunEvents.{Arrives, Finishes}
 
 -- the events so far, if they are kept, whether an answer of this turn was progress, and how many more can be noted
@@ -40,7 +40,7 @@ is_no_memory _ = false
 -- memory was refused nothing changed, and the event asks for some or is to be kept
 abbrev pub Noted : Machine → Log → Event → Result Answer End → Machine → Log → Type 0
 Noted m log event (Ok answer) after after_log =
-    ((answer, after) ≡ transition m event) × (is_exhausted answer ≡ false) × IsNoted log event answer after_log
+    ((answer, after) ≡ transition m event) × (is_times_end answer ≡ false) × IsNoted log event answer after_log
 Noted m log event (Err Exhausted) after after_log =
     ((Refused TimesEnd, after) ≡ transition m event) × IsNoted log event (Refused TimesEnd) after_log
 Noted m log event (Err NoMemory) after after_log =

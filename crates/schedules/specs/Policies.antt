@@ -9,14 +9,15 @@ use Rattle.programs.specs.Acts.{Acts}
 use Rattle.schedules.specs.RoundSchedule.{no_round, rounds}
 use Rattle.schedules.specs.SeedSchedule.{of_seed, seeded}
 use Rattle.schedules.specs.Runs.{plan_of}
-use Rattle.schedules.specs.RunEvents.{Ended, initial}
+use Rattle.schedules.specs.RunEvents.{Ended, initial_position}
 
 -- the events, by the policy's schedule and at most so many turns, lead from a machine and programs to others and an
 -- end; they aren't kept in a list
 abbrev pub EndedBy : {P : Type 0} → Acts P → Policy → ℕ → Machine → List P → List Event → Machine → List P → End →
     Type 0
 EndedBy acts Rounds limit m programs events after programs_after end =
-    Ended false (plan_of acts (rounds acts) limit) (initial m programs (no_round m.config.cores)) events after
+    Ended false (plan_of acts (rounds acts) limit) (initial_position m programs (no_round m.config.cores)) events after
     programs_after end
 EndedBy acts (Seed seed) limit m programs events after programs_after end =
-    Ended false (plan_of acts (seeded acts) limit) (initial m programs (of_seed seed)) events after programs_after end
+    Ended false (plan_of acts (seeded acts) limit) (initial_position m programs (of_seed seed)) events after
+    programs_after end

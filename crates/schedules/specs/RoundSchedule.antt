@@ -42,13 +42,13 @@ attempt_of round core None = to_stage round (Stepping (core + 1))
 attempt_of round core (Some x) = Tries core
 
 -- the numbers of the messages in flight, which rise: a machine has its messages in the order of sending
-abbrev pub in_flight : Machine → List ℕ
-in_flight m = map (λ message. message.0) m.mail.messages
+abbrev pub numbers_in_flight : Machine → List ℕ
+numbers_in_flight m = map (λ message. message.0) m.mail.messages
 
 abbrev pub round_next : {P : Type 0} → Acts P → Machine → List P → Round → RoundStage → Choice Round
 round_next acts m programs round (Stepping core) =
     if nat_lt core round.cores then step_of round core (open_op m core) (next_in acts programs core)
-    else to_stage round (Delivering (in_flight m))
+    else to_stage round (Delivering (numbers_in_flight m))
 round_next acts m programs round (Attempting core) = attempt_of round core (open_op m core)
 round_next acts m programs round (AttemptingAgain core) = Does (event.Attempt core)
 round_next acts m programs round (Delivering []) = Over

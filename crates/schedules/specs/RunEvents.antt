@@ -11,18 +11,18 @@ use Rattle.programs.specs.declared.ends.End.TheVariants.{NoMemory}
 use Rattle.schedules.specs.Runs.{Plan, Before, Within, Position, Makes, Moves, Ends, next}
 
 -- the events, each as the plan has it, lead from the start to a position
-pub data Follows {P S : Type 0} (plan : Plan P S) (start : Position P S) : List Event →
+pub data FollowsPlan {P S : Type 0} (plan : Plan P S) (start : Position P S) : List Event →
     Position P S → Type 0 where
-  stays : Follows plan start [] start
-  moves : {events : List Event} {d e : Position P S} → Follows plan start events d → next plan d ≡ Moves e →
-      Follows plan start events e
+  stays : FollowsPlan plan start [] start
+  moves : {events : List Event} {d e : Position P S} → FollowsPlan plan start events d → next plan d ≡ Moves e →
+      FollowsPlan plan start events e
   makes : {events : List Event} {d : Position P S} {event : Event} {leads : Answer × Machine → Position P S} →
-      Follows plan start events d → next plan d ≡ Makes event leads →
-      Follows plan start (events ++ event ∷ []) (leads (transition d.machine event))
+      FollowsPlan plan start events d → next plan d ≡ Makes event leads →
+      FollowsPlan plan start (events ++ event ∷ []) (leads (transition d.machine event))
 
 -- a run opens before its first turn
-abbrev pub initial : {P S : Type 0} → Machine → List P → S → Position P S
-initial m programs own = record {
+abbrev pub initial_position : {P S : Type 0} → Machine → List P → S → Position P S
+initial_position m programs own = record {
   machine = m;
   programs = programs;
   own = own;
@@ -33,8 +33,8 @@ initial m programs own = record {
 
 -- memory is asked for at a position: by the event that comes next, which may have to be kept in the list of events; or
 -- by the schedule, to know what comes next
-abbrev pub WantsMemory : {P S : Type 0} → Bool → Plan P S → Position P S → Type 0
-WantsMemory {P} {S} keeps plan d =
+abbrev pub WantsMemoryAt : {P S : Type 0} → Bool → Plan P S → Position P S → Type 0
+WantsMemoryAt {P} {S} keeps plan d =
     ((event : Event) × (leads : Answer × Machine → Position P S) × (next plan d ≡ Makes event leads)
     × IsTrue (keeps || asks_memory d.machine event))
     ⊎ ((d.stage ≡ Within) × IsTrue (plan.schedule.lists d.own))
@@ -44,11 +44,11 @@ WantsMemory {P} {S} keeps plan d =
 pub record Ended {P S : Type 0} (keeps : Bool) (plan : Plan P S) (start : Position P S) (events : List Event)
     (m : Machine) (programs : List P) (end : End) : Type 0 where
   pub last : Position P S
-  pub follows : Follows plan start events last
+  pub follows : FollowsPlan plan start events last
   pub machine_is : last.machine ≡ m
   pub programs_are : last.programs ≡ programs
   pub ends : (next plan last ≡ Ends end) ⊎
-      ((end ≡ NoMemory) × ((other : End) → next plan last ≢ Ends other) × WantsMemory keeps plan last)
+      ((end ≡ NoMemory) × ((other : End) → next plan last ≢ Ends other) × WantsMemoryAt keeps plan last)
 
 -- what is so of the events: of those that were kept, or else of some
 abbrev pub Known : Option (List Event) → (List Event → Type 0) → Type 0
@@ -56,7 +56,7 @@ Known (Some events) Holds = Holds events
 Known None Holds = (events : List Event) × Holds events
 
 abbrev pub Arrives : {P S : Type 0} → Plan P S → Position P S → Option (List Event) → Position P S → Type 0
-Arrives plan start kept d = Known kept (λ events. Follows plan start events d)
+Arrives plan start kept d = Known kept (λ events. FollowsPlan plan start events d)
 
 abbrev pub Finishes : {P S : Type 0} → Plan P S → Position P S → Option (List Event) → Machine → List P → End → Type 0
 Finishes plan start kept m programs end = Known kept (λ events. Ended (is_some kept) plan start events m programs end)

@@ -46,10 +46,10 @@ pub record Position (P S : Type 0) : Type 0 where
 
 -- what comes next: an event, with where its answer and the machine afterwards lead; another position without one; or
 -- the end
-pub data Next (P S : Type 0) : Type 0 where
-  Makes : Event → (Answer × Machine → Position P S) → Next P S
-  Moves : Position P S → Next P S
-  Ends : End → Next P S
+pub data Continuation (P S : Type 0) : Type 0 where
+  Makes : Event → (Answer × Machine → Position P S) → Continuation P S
+  Moves : Position P S → Continuation P S
+  Ends : End → Continuation P S
 
 abbrev pub at_stage : {P S : Type 0} → Position P S → Stage → Position P S
 at_stage d stage = record d { stage = stage }
@@ -69,29 +69,29 @@ abbrev pub is_advanced : Answer → Bool
 is_advanced Advanced = true
 is_advanced _ = false
 
-abbrev pub is_exhausted : Answer → Bool
-is_exhausted (Refused TimesEnd) = true
-is_exhausted _ = false
+abbrev pub is_times_end : Answer → Bool
+is_times_end (Refused TimesEnd) = true
+is_times_end _ = false
 
 abbrev pub is_no_room : Answer → Bool
 is_no_room (Refused NoRoom) = true
 is_no_room _ = false
 
 -- a core's program is told of a completion
-abbrev pub told : {P : Type 0} → Acts P → List P → Answer → List P
-told acts programs (Completed done) = done_in acts programs done.core done.received
-told acts programs _ = programs
+abbrev pub programs_told : {P : Type 0} → Acts P → List P → Answer → List P
+programs_told acts programs (Completed done) = done_in acts programs done.core done.received
+programs_told acts programs _ = programs
 
 -- a core's program is told that it has advanced
 abbrev pub told_advance : {P : Type 0} → Acts P → List P → ℕ → Answer → List P
 told_advance acts programs core answer = if is_advanced answer then done_in acts programs core None else programs
 
 -- a run after an answer; exhausted times end it wherever it stands
-abbrev pub answered : {P S : Type 0} → Position P S → (Answer → Position P S → Position P S) →
+abbrev pub after_answer : {P S : Type 0} → Position P S → (Answer → Position P S → Position P S) →
     Answer × Machine → Position P S
-answered d leads (answer, after) =
+after_answer d leads (answer, after) =
     let e = record d { machine = after; has_progressed = d.has_progressed || is_progress answer } in
-    if is_exhausted answer then at_stage e OutOfTimes else leads answer e
+    if is_times_end answer then at_stage e OutOfTimes else leads answer e
 
 -- whether a core has no open operation and its program no next step
 abbrev pub is_over : {P : Type 0} → Acts P → Machine → List P → ℕ → Bool
@@ -103,9 +103,9 @@ are_over acts m programs zero = true
 are_over acts m programs (suc core) = are_over acts m programs core && is_over acts m programs core
 
 -- the copy that goes so that there is a place for the line of a core's open operation
-abbrev pub victim_for : Machine → ℕ → Option (Op × Bool) → Option ℕ
-victim_for m core None = None
-victim_for m core (Some x) = victim m core (address x.0 / m.config.line_words)
+abbrev pub victim_for_core : Machine → ℕ → Option (Op × Bool) → Option ℕ
+victim_for_core m core None = None
+victim_for_core m core (Some x) = victim m core (address x.0 / m.config.line_words)
 
 abbrev pub plan_of : {P S : Type 0} → Acts P → Schedule P S → ℕ → Plan P S
 plan_of acts schedule limit = record { acts = acts; schedule = schedule; limit = limit }
@@ -116,7 +116,7 @@ module _ {P S : Type 0} (acts : Acts P) (schedule : Schedule P S) where
   onward full stage d = record d { own = schedule.behind full d.own; stage = stage }
 
   abbrev pub does : Answer → Position P S → Position P S
-  does answer d = onward false Within (record d { programs = told acts d.programs answer })
+  does answer d = onward false Within (record d { programs = programs_told acts d.programs answer })
 
   abbrev pub tries : ℕ → Answer → Position P S → Position P S
   tries core answer d = if is_no_room answer then onward true (Evicting core) d else does answer d
@@ -128,46 +128,46 @@ module _ {P S : Type 0} (acts : Acts P) (schedule : Schedule P S) where
   advances core answer d = onward false Within (record d { programs = told_advance acts d.programs core answer })
 
 -- after an eviction the schedule says what comes next
-abbrev pub evicts : {P S : Type 0} → Answer → Position P S → Position P S
-evicts answer d = at_stage d Within
+abbrev pub eviction_leads : {P S : Type 0} → Answer → Position P S → Position P S
+eviction_leads answer d = at_stage d Within
 
-abbrev pub evict : {P S : Type 0} → Position P S → ℕ → Option ℕ → Next P S
-evict d core None = Moves (at_stage d Within)
-evict d core (Some line) = Makes (event.EvictCache core line) (answered d evicts)
+abbrev pub next_eviction : {P S : Type 0} → Position P S → ℕ → Option ℕ → Continuation P S
+next_eviction d core None = Moves (at_stage d Within)
+next_eviction d core (Some line) = Makes (event.EvictCache core line) (after_answer d eviction_leads)
 
-abbrev pub evict_bank : {P S : Type 0} → Position P S → Option (ℕ × ℕ) → Next P S
+abbrev pub evict_bank : {P S : Type 0} → Position P S → Option (ℕ × ℕ) → Continuation P S
 evict_bank d None = Moves (at_stage d Within)
-evict_bank d (Some x) = Makes (event.EvictBank x.0 x.1) (answered d evicts)
+evict_bank d (Some x) = Makes (event.EvictBank x.0 x.1) (after_answer d eviction_leads)
 
 module _ {P S : Type 0} (plan : Plan P S) where
   -- before a turn: all done, or as many turns made as may be, or another one
-  abbrev pub begin : Position P S → Bool → Next P S
+  abbrev pub begin : Position P S → Bool → Continuation P S
   begin d true = Ends AllDone
   begin d false =
       if d.turns == plan.limit then Ends TurnsUsed
       else Moves (record d { own = plan.schedule.first d.own; stage = Within; has_progressed = false })
 
   -- after a turn: without progress it may be the last
-  abbrev pub finish : Position P S → Next P S
+  abbrev pub finish : Position P S → Continuation P S
   finish d =
       if plan.schedule.stalls && not d.has_progressed then Ends Stalled
       else Moves (record d { stage = Before; turns = d.turns + 1 })
 
   -- within a turn
-  abbrev pub chosen : Position P S → Choice S → Next P S
-  chosen d (Does e) = Makes e (answered d (does plan.acts plan.schedule))
-  chosen d (Tries core) = Makes (event.Attempt core) (answered d (tries plan.acts plan.schedule core))
-  chosen d (Delivers number) = Makes (event.Deliver number) (answered d (delivers plan.acts plan.schedule number))
-  chosen d (Advances core) = Makes (event.Advance core) (answered d (advances plan.acts plan.schedule core))
+  abbrev pub chosen : Position P S → Choice S → Continuation P S
+  chosen d (Does e) = Makes e (after_answer d (does plan.acts plan.schedule))
+  chosen d (Tries core) = Makes (event.Attempt core) (after_answer d (tries plan.acts plan.schedule core))
+  chosen d (Delivers number) = Makes (event.Deliver number) (after_answer d (delivers plan.acts plan.schedule number))
+  chosen d (Advances core) = Makes (event.Advance core) (after_answer d (advances plan.acts plan.schedule core))
   chosen d (Goes own) = Moves (record d { own = own })
   chosen d Over = finish d
 
-  abbrev pub next_at : Position P S → Stage → Next P S
+  abbrev pub next_at : Position P S → Stage → Continuation P S
   next_at d Before = begin d (are_over plan.acts d.machine d.programs d.machine.config.cores)
   next_at d Within = chosen d (plan.schedule.next d.machine d.programs d.own)
-  next_at d (Evicting core) = evict d core (victim_for d.machine core (open_op d.machine core))
+  next_at d (Evicting core) = next_eviction d core (victim_for_core d.machine core (open_op d.machine core))
   next_at d (MakingRoom number) = evict_bank d (make_room d.machine number)
   next_at d OutOfTimes = Ends Exhausted
 
-  abbrev pub next : Position P S → Next P S
+  abbrev pub next : Position P S → Continuation P S
   next d = next_at d d.stage

@@ -15,7 +15,7 @@ use Rattle.line_sets.specs.Rising.{risen}
 use Rattle.interleaving_core.specs.LookUps.{entries, free_copies}
 use Rattle.programs.specs.Acts.{Acts, next_in}
 use Rattle.schedules.specs.Schedules.{Schedule, Choice, Does, Tries, Delivers, Advances, Over}
-use Rattle.schedules.specs.RoundSchedule.{in_flight}
+use Rattle.schedules.specs.RoundSchedule.{numbers_in_flight}
 
 -- the generator, and the two words that were drawn for the turn, until its event is answered
 pub record Seeded : Type 0 where
@@ -51,7 +51,8 @@ core_steps acts m programs cores =
     flat_map (λ core. core_step core (open_op m core) (next_in acts programs core)) (range_with_len 0 cores)
 
 abbrev pub steps : {P : Type 0} → Acts P → Machine → List P → List (Choice Seeded)
-steps acts m programs = core_steps acts m programs m.config.cores ++ map (λ number. Delivers number) (in_flight m)
+steps acts m programs =
+    core_steps acts m programs m.config.cores ++ map (λ number. Delivers number) (numbers_in_flight m)
 
 -- of sixteen draws one is of an advance, one of each kind of eviction, and thirteen of a step
 abbrev pub drawn_list : {P : Type 0} → Acts P → Machine → List P → ℕ → List (Choice Seeded)
@@ -61,13 +62,13 @@ drawn_list acts m programs (suc (suc zero)) = bank_evictions m
 drawn_list acts m programs (suc (suc (suc k))) = steps acts m programs
 
 -- what stands at a number over the list's length; the turn of an empty list is over
-abbrev pub entry : List (Choice Seeded) → ℕ → Choice Seeded
-entry choices b = get_or choices (b % length choices) Over
+abbrev pub choice_at : List (Choice Seeded) → ℕ → Choice Seeded
+choice_at choices b = get_or choices (b % length choices) Over
 
 -- the first word draws the list, the second one its entry
 abbrev pub seeded_next : {P : Type 0} → Acts P → Machine → List P → Option (ℕ × ℕ) → Choice Seeded
 seeded_next acts m programs None = Over
-seeded_next acts m programs (Some words) = entry (drawn_list acts m programs (words.0 % 16)) words.1
+seeded_next acts m programs (Some words) = choice_at (drawn_list acts m programs (words.0 % 16)) words.1
 
 -- the line of an eviction is found in a list of lines
 abbrev pub draws_eviction : Option (ℕ × ℕ) → Bool

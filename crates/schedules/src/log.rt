@@ -2,7 +2,7 @@
 ghost use Rattle.std.specs.Prelude.{◌≡◌, ◌<◌, ◌++◌, ◌∷◌, [], false, ◌||◌, IsSome, None, OnErr, OnOk, Some};
 ghost use Rattle.std.specs.Prelude.{is_some, option_map, true};
 ghost use Rattle.schedules.specs.Notes.{Noted, is_no_memory};
-ghost use Rattle.schedules.specs.Runs.{is_advanced, is_exhausted, is_held, is_progress, is_no_room};
+ghost use Rattle.schedules.specs.Runs.{is_advanced, is_times_end, is_held, is_progress, is_no_room};
 
 use interleaving_core::{Answer, Event, Refusal, System};
 use machine_table::laws::every_answer_keeps_its_word;
@@ -64,7 +64,7 @@ fn is_no_memory(answer: &Answer) -> bool
 }
 
 fn is_exhausted(answer: &Answer) -> bool
-    ensures { result ≡ is_exhausted answer.now }
+    ensures { result ≡ is_times_end answer.now }
 {
     matches!(*answer, Answer::Refused(Refusal::Exhausted))
 }

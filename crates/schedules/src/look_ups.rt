@@ -2,7 +2,7 @@
 ghost use Rattle.std.specs.Prelude.{◌≡◌};
 ghost use Rattle.machine_table.specs.Machine.{open_op};
 ghost use Rattle.programs.specs.Acts.{next_in, done_in};
-ghost use Rattle.schedules.specs.Runs.{are_over, is_over, told, told_advance, victim_for};
+ghost use Rattle.schedules.specs.Runs.{are_over, is_over, programs_told, told_advance, victim_for_core};
 
 use crate::log::is_advanced;
 use interleaving_core::{Answer, System};
@@ -12,7 +12,7 @@ use programs::program::Program;
 
 // The copy to evict for the line of a core's open operation.
 pub(crate) fn victim_for(system: &System, core: u32) -> Option<LineNo>
-    ensures { result ≡ victim_for system.now core (open_op system.now core) }
+    ensures { result ≡ victim_for_core system.now core (open_op system.now core) }
 {
     let (op, _) = system.open_op(core)?;
     system.victim(core, LineNo(op.word() / u64::from(system.line_words())))
@@ -42,7 +42,7 @@ fn tell_done<P: Program>(programs: &mut [P], core: u32, received: Option<u64>)
 
 // Tells a core's program of a completion.
 pub(crate) fn tell<P: Program>(programs: &mut [P], answer: &Answer)
-    ensures { programs.new ≡ told P.acts programs.old answer.now }
+    ensures { programs.new ≡ programs_told P.acts programs.old answer.now }
 {
     if let Answer::Completed(record) = *answer {
         tell_done(programs, record.core, record.received);

@@ -4,7 +4,7 @@ ghost use Rattle.machine_table.specs.Runs.{after_all};
 ghost use Rattle.machine_table.specs.Machine.{open_op};
 ghost use Rattle.programs.specs.Acts.{next_in};
 ghost use Rattle.schedules.specs.RoundSchedule.{no_round, rounds};
-ghost use Rattle.schedules.specs.RunEvents.{Ended, initial};
+ghost use Rattle.schedules.specs.RunEvents.{Ended, initial_position};
 ghost use Rattle.schedules.specs.Runs.{plan_of};
 ghost use Rattle.machine_theorem.specs.Service.{AreServed};
 
@@ -30,7 +30,7 @@ pub fn drive_round<P: Program>(
 ) -> Driven
     requires one_each { length programs.old ≡ system.old.config.cores }
     ensures schedule { Ended true (plan_of P.acts (rounds P.acts) limit)
-        (initial system.old programs.old (no_round system.old.config.cores))
+        (initial_position system.old programs.old (no_round system.old.config.cores))
         result.events.items system.new programs.new result.end }
     ensures machine { system.new ≡ after_all system.old result.events.items }
     ensures all_done { result.end ≡ End.AllDone → (core : ℕ) → core < system.old.config.cores →

@@ -1,7 +1,7 @@
 //! Turns of a schedule, until a run ends.
 ghost use Rattle.std.specs.Prelude.{◌≡◌, ◌&&◌, [], false, not, IfSome};
 ghost use Rattle.schedules.specs.Notes.{KeepsAs};
-ghost use Rattle.schedules.specs.RunEvents.{Finishes, initial};
+ghost use Rattle.schedules.specs.RunEvents.{Finishes, initial_position};
 ghost use Rattle.schedules.specs.Runs.{plan_of};
 
 use crate::log::Log;
@@ -30,7 +30,7 @@ pub(crate) fn run<P: Program, S: Schedule<P>>(
 ) -> End
     requires nothing_yet { IfSome log.old.events (λ events. events ≡ []) }
     requires no_progress_yet { log.old.has_progressed ≡ false }
-    ensures ended { Finishes (plan_of P.acts S.rule limit) (initial system.old programs.old
+    ensures ended { Finishes (plan_of P.acts S.rule limit) (initial_position system.old programs.old
         schedule.old)
         log.new.events system.new programs.new result }
     ensures kept { KeepsAs log.old log.new }

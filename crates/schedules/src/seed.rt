@@ -7,7 +7,7 @@ ghost use Rattle.interleaving_core.specs.LookUps.{entries, free_copies};
 ghost use Rattle.machine_table.specs.Machine.{open_op};
 ghost use Rattle.line_sets.specs.Rising.{risen};
 ghost use Rattle.programs.specs.Acts.{next_in};
-ghost use Rattle.schedules.specs.SeedSchedule.{advances, core_step, core_steps, entry, line_events, of_seed, steps};
+ghost use Rattle.schedules.specs.SeedSchedule.{advances, core_step, core_steps, choice_at, line_events, of_seed, steps};
 ghost use Rattle.schedules.specs.SeedViews.{Picks, PicksAny, PicksOne, StepsAt};
 
 use crate::look_ups::next_in;
@@ -141,7 +141,7 @@ impl Holder for Entries {
 
 // An advance of a core.
 fn advance(system: &System, b: u32) -> Choice
-    ensures { Picks (entry (advances system.now) b) result }
+    ensures { Picks (choice_at (advances system.now) b) result }
 {
     let cores = system.cores();
     if cores == 0 {
@@ -181,7 +181,7 @@ fn line_count<H: Holder>(system: &System, counts: &mut [usize]) -> u128
 
 // The eviction of a line. Each holder is asked once how many it has; there are at most 64 cores and eight banks.
 fn evict<H: Holder>(system: &System, b: u32) -> Result<Choice, AllocError>
-    ensures { PicksOne (entry
+    ensures { PicksOne (choice_at
         (line_events H.eviction (H.lines system.now) (H.holders system.now)) b) result }
 {
     let holders = H::holders(system);
@@ -297,7 +297,7 @@ fn step_at<P: Program>(system: &System, programs: &mut [P], ready: &[u8], place:
 
 // A step of a core, or the delivery of a message.
 fn step<P: Program>(system: &System, programs: &mut [P], b: u32) -> Choice
-    ensures step { Picks (entry (steps P.acts system.now programs.old) b) result }
+    ensures step { Picks (choice_at (steps P.acts system.now programs.old) b) result }
     ensures same { programs.new ≡ programs.old }
 {
     let mut ready = [0; 64];

@@ -8,10 +8,10 @@ use Rattle.mailboxes.specs.declared.mailbox.Mailbox.{Mailbox}
 use Rattle.mailboxes.specs.declared.taken.Take.TheVariants.{Taken, Nothing, HandFull}
 use Rattle.mailboxes.specs.BoxMoves.{hold}
 use Rattle.mailboxes.specs.Places.{found_empty, incoming, incoming_count}
-use Rattle.seat_edges.specs.TurnLaws.{IsNext, TakesBegin, TakesMoveOn}
+use Rattle.seat_edges.specs.TurnLaws.{IsNextGoingRound, TakesBegin, TakesMoveOn}
 
 module _ (count place : ℕ) (within : place < count) where
-  next : (b : Bool) → nat_lt (place + 1) count ≡ b → IsNext count place ((place + 1) % count)
+  next : (b : Bool) → nat_lt (place + 1) count ≡ b → IsNextGoingRound count place ((place + 1) % count)
   next true e = let lt = ltb-true (place + 1) count e in inl (lt, mod-eq_of_lt lt)
   next false e =
       let last : place + 1 ≡ count = (let ge = ltb-false (place + 1) count e in omega (arith, ge, within)) in
@@ -32,7 +32,7 @@ moves_on z p q t =
         taken = from.2;
         hand = from.0;
         next =
-            subst (IsNext count place) (sym t.1.4)
+            subst (IsNextGoingRound count place) (sym t.1.4)
             (next count place within (nat_lt (place + 1) count) refl);
       },
     )

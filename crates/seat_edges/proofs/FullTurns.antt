@@ -23,7 +23,7 @@ use Rattle.mailboxes.specs.BankTurns.{BankPuts, BankServes, BankTakes, BankTurns
 use Rattle.mailboxes.specs.BoxMoves.{hold}
 use Rattle.mailboxes.specs.CoreServing.{sending_core_table, sending_core_takes_memory}
 use Rattle.mailboxes.specs.CoreTurns.{CorePuts, CoreServes, CoreTakes, CoreTurns, core_hand}
-use Rattle.seat_edges.specs.PlaceLaws.{AsksBack, Fits, IsFull, Owns, ReturnsWantPlace}
+use Rattle.seat_edges.specs.PlaceLaws.{AsksBack, LeaseFits, IsFull, Owns, ReturnsWantPlace}
 use Rattle.mailboxes.specs.SeatServing.{SeatServes}
 use Rattle.seat_edges.specs.TurnLaws.{FullBanksTakeNothing, FullCoresTakeNothing, TookNothing}
 use Rattle.mailboxes.specs.Turns.{PutSo, Goes, Rests, TurnsBy, is_idle}
@@ -48,7 +48,7 @@ served-or-not x e = absurd (cc)
 
 module _ (law : ReturnsWantPlace) (m : Machine) (p q : CoreSeat) (x : Message) (copy : LineCopy)
     (goes_on : p.is_stopped ≡ false) (only : p.mail.inbox ≡ inbox None (x ∷ [])) (asks : AsksBack x.body)
-    (owns : Owns p.part.core x.line copy) (fits : Fits p.part.core copy) (is_full : IsFull p.part.outbox) where
+    (owns : Owns p.part.core x.line copy) (fits : LeaseFits p.part.core copy) (is_full : IsFull p.part.outbox) where
   -- a serving that comes after no put
   core-serving : (r s : CoreSeat) (told : Result Served Refusal) → CorePuts m false p r → CoreServes m told r s →
       (told ≡ Err NetworkFull) × TookNothing p.mail s.mail
@@ -61,7 +61,7 @@ module _ (law : ReturnsWantPlace) (m : Machine) (p q : CoreSeat) (x : Message) (
       told s.mail.inbox s.part) (put.0.4 ∙ goes_on) serves.1 in
       let lacks = law r.mail.inbox s.mail.inbox r.part s.part told x copy (inr here) asks
       (subst (λ (k : CoreState). Owns k x.line copy) (sym put.0.0) owns)
-      (subst (λ (k : CoreState). Fits k copy) (sym put.0.0) fits)
+      (subst (λ (k : CoreState). LeaseFits k copy) (sym put.0.0) fits)
       (subst (λ (ms : List Message). 256 ≤ length ms) (sym put.2.1) is_full) by in (
         lacks.answer,
         (ap (λ (h : Hold). h.taken) serves.2 ∙ i.taken, serves.0.1 ∙ i.cursor),

@@ -36,7 +36,7 @@ use Rattle.mailboxes.specs.BankTurns.{BankServes}
 use Rattle.mailboxes.specs.CoreServing.{core_reacts, sending_core_table, sending_core_takes_memory}
 use Rattle.seat_edges.specs.PlaceLaws.{Owns}
 use Rattle.mailboxes.specs.SeatServing.{SeatServes, is_exhausted, seat_result}
-use Rattle.seat_edges.specs.StopLaws.{IsLate, LateReadersStop, LateRecallsStop, LateReturnsStop, Stops}
+use Rattle.seat_edges.specs.StopLaws.{IsLate, LateReadersStop, LateRecallsStop, LateReturnsStop, StopsSeat}
 
 -- The serving
 
@@ -144,7 +144,7 @@ bank-stops : (x : Machine) (p q : BankSeat) (result : Result Served SeatRefusal)
     (version : Option ℕ) → p.is_stopped ≡ false →
     p.mail.inbox.hand ≡ Some (asked core n line (ShReq pts version)) →
     bank_table p.part.bank (asked core n line (ShReq pts version)) ≡ None → BankServes x result p q →
-    Stops result q.is_stopped p.mail.inbox q.mail.inbox p.part q.part
+    StopsSeat result q.is_stopped p.mail.inbox q.mail.inbox p.part q.part
 bank-stops x p q result core n line pts version goes_on hand none s =
     let y = asked core n line (ShReq pts version) in
     let by = subst (λ stopped. SeatServes sending_bank_table sending_bank_takes_memory stopped p.mail.inbox p.part

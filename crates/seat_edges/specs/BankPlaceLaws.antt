@@ -18,7 +18,7 @@ use Rattle.inbox.specs.declared.answer.Served.TheVariants.{Delivered, Started}
 use Rattle.inbox.specs.Inboxes.{InboxState, inbox}
 use Rattle.mailboxes.specs.declared.bank_evicting.Eviction.TheVariants.{Evicted, Recalled}
 use Rattle.mailboxes.specs.declared.sending.SendingBank.{SendingBank}
-use Rattle.mailboxes.specs.BankCalls.{evict_answer}
+use Rattle.mailboxes.specs.BankCalls.{bank_evict_answer}
 use Rattle.mailboxes.specs.BankServing.{sending_bank_table, sending_bank_takes_memory}
 use Rattle.mailboxes.specs.SeatServing.{SeatServes}
 use Rattle.mailboxes.specs.Sending.{OutboxState}
@@ -119,30 +119,30 @@ RecallsGoOut =
 abbrev pub CleanLinesWantNone : Type 0
 CleanLinesWantNone =
     (bank : BankState) (out : OutboxState) (held : List Message) (line : ℕ) (timed : TimedLine) →
-    entry_of bank line ≡ Some (Shared false timed) → evict_answer false out held (evict bank line).0 ≡ Ok Evicted
+    entry_of bank line ≡ Some (Shared false timed) → bank_evict_answer false out held (evict bank line).0 ≡ Ok Evicted
 
 -- one that is dirty is stored by a held message, whatever is to be put
 abbrev pub DirtyLinesWantHeld : Type 0
 DirtyLinesWantHeld =
     (bank : BankState) (out : OutboxState) (held : List Message) (line : ℕ) (timed : TimedLine) →
     entry_of bank line ≡ Some (Shared true timed) → 256 ≤ length held →
-    evict_answer false out held (evict bank line).0 ≡ Err NetworkFull
+    bank_evict_answer false out held (evict bank line).0 ≡ Err NetworkFull
 
 abbrev pub DirtyLinesWantNoOutbox : Type 0
 DirtyLinesWantNoOutbox =
     (bank : BankState) (out : OutboxState) (held : List Message) (line : ℕ) (timed : TimedLine) →
     entry_of bank line ≡ Some (Shared true timed) → length held < 256 → CanNumber out →
-    evict_answer false out held (evict bank line).0 ≡ Ok Evicted
+    bank_evict_answer false out held (evict bank line).0 ≡ Ok Evicted
 
 -- one that is owned is asked back by a message that goes out, whatever is held
 abbrev pub OwnedLinesWantPlace : Type 0
 OwnedLinesWantPlace =
     (bank : BankState) (out : OutboxState) (held : List Message) (line owner : ℕ) →
     entry_of bank line ≡ Some (Exclusive owner) → IsFull out →
-    evict_answer false out held (evict bank line).0 ≡ Err NetworkFull
+    bank_evict_answer false out held (evict bank line).0 ≡ Err NetworkFull
 
 abbrev pub OwnedLinesWantNoHeld : Type 0
 OwnedLinesWantNoHeld =
     (bank : BankState) (out : OutboxState) (held : List Message) (line owner : ℕ) →
     entry_of bank line ≡ Some (Exclusive owner) → HasPlace out →
-    evict_answer false out held (evict bank line).0 ≡ Ok Recalled
+    bank_evict_answer false out held (evict bank line).0 ≡ Ok Recalled

@@ -90,20 +90,20 @@ abbrev pub AsksBack : Body → Type 0
 AsksBack body = (body ≡ FlushReq) ⊎ ((until : ℕ) × (body ≡ WbReq until))
 
 -- and the lease of the copy that would stay ends at a time that fits
-abbrev pub Fits : CoreState → LineCopy → Type 0
-Fits core copy = copy.wts + core.lease < 18446744073709551616
+abbrev pub LeaseFits : CoreState → LineCopy → Type 0
+LeaseFits core copy = copy.wts + core.lease < 18446744073709551616
 
 -- a line that its owner gives back goes out
 abbrev pub ReturnsWantPlace : Type 0
 ReturnsWantPlace =
     (b c : InboxState Message) (p q : SendingCore) (result : Result Served Refusal) (m : Message) (copy : LineCopy) →
-    IsOnly m b → AsksBack m.body → Owns p.core m.line copy → Fits p.core copy → IsFull p.outbox →
+    IsOnly m b → AsksBack m.body → Owns p.core m.line copy → LeaseFits p.core copy → IsFull p.outbox →
     CoreServed b p result c q → LacksPlace b p result c q
 
 abbrev pub ReturnsGoOut : Type 0
 ReturnsGoOut =
     (b c : InboxState Message) (p q : SendingCore) (result : Result Served Refusal) (m : Message) (copy : LineCopy) →
-    IsOnly m b → AsksBack m.body → Owns p.core m.line copy → Fits p.core copy → HasPlace p.outbox →
+    IsOnly m b → AsksBack m.body → Owns p.core m.line copy → LeaseFits p.core copy → HasPlace p.outbox →
     CoreServed b p result c q → GoesOut result p.outbox c (inbox None []) q.outbox Delivered
 
 -- a reply that a core takes in: it brings the line, or is about the copy that is there
@@ -145,16 +145,16 @@ OpenLinesWantNone =
 abbrev pub ReadCopiesWantNone : Type 0
 ReadCopiesWantNone =
     (p : SendingCore) (line : ℕ) (copy : LineCopy) → Reads p.core line copy →
-    (copies.evict_answer false p line ≡ Ok tt) × ((copies.evicted p line).1.outbox ≡ p.outbox)
+    (copies.core_evict_answer false p line ≡ Ok tt) × ((copies.evicted_by_core p line).1.outbox ≡ p.outbox)
 
 abbrev pub OwnedCopiesWantPlace : Type 0
 OwnedCopiesWantPlace =
     (p : SendingCore) (line : ℕ) (copy : LineCopy) → Owns p.core line copy → IsFull p.outbox →
-    copies.evict_answer false p line ≡ Err NetworkFull
+    copies.core_evict_answer false p line ≡ Err NetworkFull
 
 abbrev pub OwnedCopiesGoOut : Type 0
 OwnedCopiesGoOut =
     (p : SendingCore) (line : ℕ) (copy : LineCopy) → Owns p.core line copy → HasPlace p.outbox →
-    (copies.evict_answer false p line ≡ Ok tt)
-    × ((copies.evicted p line).1.outbox.messages ≡
+    (copies.core_evict_answer false p line ≡ Ok tt)
+    × ((copies.evicted_by_core p line).1.outbox.messages ≡
     p.outbox.messages ++ to_bank p.core line (FlushRep (words_of_copy copy)) ∷ [])

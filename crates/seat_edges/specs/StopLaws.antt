@@ -23,7 +23,8 @@ abbrev pub IsLate : ℕ → Type 0
 IsLate time = 18446744073709551616 ≤ time
 
 -- the answer is Exhausted and the seat is stopped; its messages and its part are as before
-pub record Stops {P : Type 0} (result : Result Served Refusal) (stopped : Bool) (b c : InboxState Message) (p q : P) :
+pub record StopsSeat {P : Type 0} (result : Result Served Refusal) (stopped : Bool) (b c : InboxState Message)
+    (p q : P) :
     Type 0 where
   pub answer : result ≡ Err Exhausted
   pub is_stopped : stopped ≡ true
@@ -38,7 +39,7 @@ LateReadersStop =
     p.mail.inbox.hand ≡ Some (asked core bank line (ShReq pts version)) →
     entry_of p.part.bank line ≡ Some (Shared dirty timed) →
     IsLate (timed.wts + p.part.bank.lease) ⊎ IsLate (pts + p.part.bank.lease) → BankServes m result p q →
-    Stops result q.is_stopped p.mail.inbox q.mail.inbox p.part q.part
+    StopsSeat result q.is_stopped p.mail.inbox q.mail.inbox p.part q.part
 
 -- or the lease that its owner would be asked to keep
 abbrev pub LateRecallsStop : Type 0
@@ -47,7 +48,7 @@ LateRecallsStop =
     (version : Option ℕ) → p.is_stopped ≡ false →
     p.mail.inbox.hand ≡ Some (asked core bank line (ShReq pts version)) →
     entry_of p.part.bank line ≡ Some (Exclusive owner) → IsLate (pts + p.part.bank.lease) → BankServes m result p q →
-    Stops result q.is_stopped p.mail.inbox q.mail.inbox p.part q.part
+    StopsSeat result q.is_stopped p.mail.inbox q.mail.inbox p.part q.part
 
 -- a core is asked for the words of a line that it owns, and the lease of the copy that would stay would end too late
 abbrev pub LateReturnsStop : Type 0
@@ -55,4 +56,4 @@ LateReturnsStop =
     (m : Machine) (p q : CoreSeat) (result : Result Served Refusal) (x : Message) (until : ℕ) (copy : LineCopy) →
     p.is_stopped ≡ false → p.mail.inbox.hand ≡ Some x → x.body ≡ WbReq until → Owns p.part.core x.line copy →
     IsLate (copy.wts + p.part.core.lease) → CoreServes m result p q →
-    Stops result q.is_stopped p.mail.inbox q.mail.inbox p.part q.part
+    StopsSeat result q.is_stopped p.mail.inbox q.mail.inbox p.part q.part

@@ -26,20 +26,20 @@ use Rattle.mailboxes.specs.BankTurns.{BankTurns}
 use Rattle.mailboxes.specs.BoxMoves.{IsAt, Takes, hold}
 use Rattle.mailboxes.specs.CoreTurns.{CoreTurns}
 use Rattle.mailboxes.specs.Places.{AllFoundEmpty, found_full, incoming, incoming_count}
-use Rattle.seat_edges.specs.PlaceLaws.{AsksBack, Fits, IsFull, Owns}
+use Rattle.seat_edges.specs.PlaceLaws.{AsksBack, LeaseFits, IsFull, Owns}
 
 -- Takes
 
 -- the place after this one of so many, going round
-abbrev pub IsNext : ℕ → ℕ → ℕ → Type 0
-IsNext count place next = ((place + 1 < count) × (next ≡ place + 1)) ⊎ ((place + 1 ≡ count) × (next ≡ 0))
+abbrev pub IsNextGoingRound : ℕ → ℕ → ℕ → Type 0
+IsNextGoingRound count place next = ((place + 1 < count) × (next ≡ place + 1)) ⊎ ((place + 1 ≡ count) × (next ≡ 0))
 
 -- a message was taken from the slot at this place of those that come in, and the next look begins at the place after it
 pub record TakesMoveOnAt (p q : Mailbox) (place : ℕ) (m : Message) : Type 0 where
   pub within : place < incoming_count p.cores p.banks p.number
   pub taken : (hold q).taken ≡ (hold p).taken ++ (incoming p.cores p.banks p.number place, m) ∷ []
   pub hand : q.inbox.hand ≡ Some m
-  pub next : IsNext (incoming_count p.cores p.banks p.number) place q.cursor
+  pub next : IsNextGoingRound (incoming_count p.cores p.banks p.number) place q.cursor
 
 abbrev pub TakesMoveOn : Type 0
 TakesMoveOn =
@@ -142,7 +142,7 @@ abbrev pub FullCoresTakeNothing : Type 0
 FullCoresTakeNothing =
     (m : Machine) (p q : CoreSeat) (result : Result Turn Refusal) (x : Message) (copy : LineCopy) →
     p.is_stopped ≡ false → p.mail.inbox ≡ inbox None (x ∷ []) → AsksBack x.body → Owns p.part.core x.line copy →
-    Fits p.part.core copy → IsFull p.part.outbox → CoreTurns m p result q → (hold q.mail).put ≡ (hold p.mail).put →
+    LeaseFits p.part.core copy → IsFull p.part.outbox → CoreTurns m p result q → (hold q.mail).put ≡ (hold p.mail).put →
     (result ≡ Err NetworkFull) × TookNothing p.mail q.mail
 
 abbrev pub FullBanksTakeNothing : Type 0

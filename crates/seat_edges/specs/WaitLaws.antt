@@ -15,14 +15,14 @@ use Rattle.inbox.specs.Inboxes.{InboxState, inbox}
 use Rattle.mailboxes.specs.declared.sending.SendingCore.{SendingCore}
 use Rattle.mailboxes.specs.declared.sending.SendingBank.{SendingBank}
 use Rattle.seat_edges.specs.BankPlaceLaws.{BankServed, IsTimely, asked}
-use Rattle.seat_edges.specs.PlaceLaws.{AsksBack, CoreServed, Fits, IsFull, IsReply, Owns}
+use Rattle.seat_edges.specs.PlaceLaws.{AsksBack, CoreServed, LeaseFits, IsFull, IsReply, Owns}
 
 -- a core that owns a line is asked for it, and the outbox is full: the message stays where it is, in the hand or first
 -- among the held ones, and the reply behind it is served
 abbrev pub CoresServeBehind : Type 0
 CoresServeBehind =
     (b c : InboxState Message) (p q : SendingCore) (result : Result Served Refusal) (m reply : Message)
-    (copy : LineCopy) (others : List Message) → AsksBack m.body → Owns p.core m.line copy → Fits p.core copy →
+    (copy : LineCopy) (others : List Message) → AsksBack m.body → Owns p.core m.line copy → LeaseFits p.core copy →
     IsFull p.outbox → IsReply (copy_of p.core.cache reply.line) reply.body → CoreServed b p result c q →
     ((b ≡ inbox (Some m) (reply ∷ others)) → (result ≡ Ok Delivered) × (c ≡ inbox (Some m) others))
     × ((b ≡ inbox None (m ∷ reply ∷ others)) → (result ≡ Ok Delivered) × (c ≡ inbox None (m ∷ others)))

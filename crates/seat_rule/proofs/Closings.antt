@@ -17,9 +17,10 @@ use Rattle.seat_rule.specs.declared.views.SetUp.{SetUp}
 use Rattle.seat_rule.specs.declared.views.Stage.TheVariants.{Idle}
 use Rattle.seat_rule.specs.declared.views.Hold.{Hold}
 use Rattle.seat_rule.specs.StateLaws.{StateLaws}
-use Rattle.seat_rule.specs.Rule.{Phase, free, writing, full, reading, content, InPhase, Busy, Kept, Holds, from_of}
+use Rattle.seat_rule.specs.Rule.{Phase, free, writing, full, reading, content, InPhase, Busy, RuleIsKept, Holds}
+use Rattle.seat_rule.specs.Rule.{from_of}
 use Rattle.seat_rule.specs.Rule.{to_of, seat_count, slot_count, state_of, in_flight}
-use Rattle.seat_rule.specs.Ended.{Whole, on_link, lies, Agrees, AllIdle, Closes, IsHome}
+use Rattle.seat_rule.specs.Ended.{Whole, on_link, lies, Agrees, AllIdle, Closes, IsNotOut}
 use Rattle.seat_rule.proofs.Phases.{idle_writing, idle_reading}
 
 module _ {A : Type 0} where
@@ -30,7 +31,7 @@ module _ {A : Type 0} where
 
 -- a slot that no seat has taken out has its message or none
 module _ (z : SetUp) (n : ℕ) (from to : ℕ → ℕ) (slots : ℕ) (s : State (Option Message) (View Hold))
-    (r : Kept z n from to slots s) (idle : (j : ℕ) → j < n → (r.seats j).stage ≡ Idle) where
+    (r : RuleIsKept z n from to slots s) (idle : (j : ℕ) → j < n → (r.seats j).stage ≡ Idle) where
   all_idle : (j : ℕ) → (r.seats j).stage ≡ Idle
   all_idle j =
       dite (dec_lt j n) (λ l. idle j l)
@@ -48,10 +49,10 @@ module _ (z : SetUp) (n : ℕ) (from to : ℕ → ℕ) (slots : ℕ) (s : State 
       by (full m) p b = final k (Some m) p.1
       by (reading m) p b = idle_reading (sym (all_idle (to k)) ∙ b)
 
-  slot_home : (k : ℕ) → k < slots → IsHome (r.phases k)
+  slot_home : (k : ℕ) → k < slots → IsNotOut (r.phases k)
   slot_home k l = by (r.phases k) (r.busy k l)
     where
-      by : (phase : Phase) → Busy from to (λ j. (r.seats j).stage) k phase → IsHome phase
+      by : (phase : Phase) → Busy from to (λ j. (r.seats j).stage) k phase → IsNotOut phase
       by free b = refl
       by writing b = idle_writing (sym (all_idle (from k)) ∙ b)
       by (full m) b = refl

@@ -20,13 +20,14 @@ use Rattle.protocol.specs.Issued.{listed}
 use Rattle.machine_table.specs.SetUp.{is_good}
 use Rattle.machine_table.specs.Change.{record_of}
 use Rattle.seat_views.specs.declared.views.View.{View}
-use Rattle.seat_views.specs.Seated.{over, put, Shown, seat_view, with_hold, one_more, spent_view, knows}
+use Rattle.seat_views.specs.Seated.{over, with_value_at, Shown, seat_view, with_hold, one_more, spent_view, knows}
 use Rattle.seat_views.proofs.Lemmas.{put_here, at_put}
 use Rattle.seat_views.proofs.Lemmas.{within, shown_split, shown_join}
 use Rattle.seat_rule.specs.declared.views.SetUp.{SetUp}
 use Rattle.seat_rule.specs.declared.views.Hold.{Hold}
 use Rattle.seat_rule.specs.StateLaws.{StateLaws}
-use Rattle.seat_rule.specs.Rule.{bag_of, opening_hold, no_hold, state_of, Reaches, in_flight, IsPrefix, Kept, Changes}
+use Rattle.seat_rule.specs.Rule.{bag_of_hold, opening_hold, no_hold, state_of, MovesReach, in_flight, IsPrefix}
+use Rattle.seat_rule.specs.Rule.{RuleIsKept, Changes}
 use Rattle.seat_rule.specs.Plays.{SeatState, Serves, stood, drawn, complete_hold, finished}
 use Rattle.seat_rule.proofs.Frames.{old_is, seated, others, alone, whole_again, count_moves, standing_of}
 use Rattle.seat_rule.proofs.SeatMoves.{completed}
@@ -56,7 +57,7 @@ few_records (suc n) f b = let a = few_records n f b in let c = b n in omega arit
 
 module _ (z : SetUp) (n : ℕ) (from to : ℕ → ℕ) (slots : ℕ) where
   abbrev K : Sets → Type 0
-  K = Kept z n from to slots
+  K = RuleIsKept z n from to slots
 
   -- other views of the same
   reshown : (s : Sets) (r : K s) {views : List (View Hold)} → Shown (opening_hold z) n views r.seats →
@@ -152,21 +153,23 @@ module _ (z : SetUp) (n : ℕ) (from to : ℕ → ℕ) (slots : ℕ) where
         let one : length (listed v.mine.core.open_op) ≡ 1 = ap (λ o. length (listed o)) opened in
         omega arith
 
-    reaches : Reaches z n (put r.seats id h) (bag_of v.mine ++ others z n from to slots s r id v at live) log
+    reaches : MovesReach z n (with_value_at r.seats id h) (bag_of_hold v.mine ++ others z n from to slots s r id
+        v at live) log
     reaches =
         let rest : List Message = others z n from to slots s r id v at live in
         let seat : id < n = seated z n from to slots s r id v at live in
         subst (λ (y : Hold × ℕ × ℕ).
         let w : Record = record_of y.1 y.2 y.0.core op received ts in
-        Reaches z n (put r.seats id (complete_hold y.0 core r.log w)) (bag_of y.0 ++ rest) (r.log ++ w ∷ []))
+        MovesReach z n (with_value_at r.seats id (complete_hold y.0 core r.log w)) (bag_of_hold y.0 ++ rest)
+        (r.log ++ w ∷ []))
         (λ i. (is i, sym named i, sym r.count i))
         (completed z n r.seats rest r.log id seat op received ts core
         (subst (λ j. j < z.config.cores) named is_core) (ap (λ (g : Hold). g.core.open_op) is ∙ opened)
         (ap (λ (g : Hold). core_table.attempt g.core) is ∙ attempted)
-        (subst (λ (g : Hold). Reaches z n r.seats (bag_of g ++ rest) r.log) (sym is)
+        (subst (λ (g : Hold). MovesReach z n r.seats (bag_of_hold g ++ rest) r.log) (sym is)
         (alone z n from to slots s r id v at live)))
 
-    whole : Reaches z n (put r.seats id h) (in_flight n slots (put r.seats id h) r.phases) log
+    whole : MovesReach z n (with_value_at r.seats id h) (in_flight n slots (with_value_at r.seats id h) r.phases) log
     whole = whole_again z n from to slots s r id v at live h log reaches
 
     own_before : of_core id r.log ≡ v.mine.records
@@ -217,10 +220,11 @@ module _ (z : SetUp) (n : ℕ) (from to : ℕ → ℕ) (slots : ℕ) where
           above = above;
           place = let c = counted in omega arith;
           legal = (
-            (λ c. (put r.seats id h c).issued),
-            ap (λ y. (put r.seats id h y).issued) named ∙ ap (λ (g : Hold). g.issued) (put_here r.seats id h),
+            (λ c. (with_value_at r.seats id h c).issued),
+            ap (λ y. (with_value_at r.seats id h y).issued) named ∙ ap (λ (g : Hold). g.issued) (put_here r.seats id h),
             (laws.consistent z.config z.memory
-                (state_of z n (put r.seats id h) (in_flight n slots (put r.seats id h) r.phases) log) good whole).legal,
+                (state_of z n (with_value_at r.seats id h) (in_flight n slots (with_value_at r.seats id h) r.phases)
+                log) good whole).legal,
           );
           own = subst (λ j. of_core j log ≡ v.mine.records ++ new ∷ []) (sym named) own;
           view = refl;

@@ -16,7 +16,7 @@ use Rattle.seat_views.specs.Seated.{over, Shown, first_view}
 use Rattle.seat_rule.specs.declared.views.SetUp.{SetUp}
 use Rattle.seat_rule.specs.declared.views.Hold.{Hold}
 use Rattle.seat_rule.specs.StateLaws.{StateLaws}
-use Rattle.seat_rule.specs.Rule.{free, opening_hold, gather, Reaches, Kept}
+use Rattle.seat_rule.specs.Rule.{free, opening_hold, gather, MovesReach, RuleIsKept}
 use Rattle.seat_rule.specs.Plays.{Standing}
 
 at_first : (v u : View Hold) (j : ℕ) → get_elem? (v ∷ []) j ≡ some u → (j ≡ 0) × (v ≡ u)
@@ -47,7 +47,7 @@ long_homes zero = refl
 long_homes (suc m) = ap suc (long_homes m)
 
 -- the initial state, as seats hold it
-opens_seated : (laws : StateLaws) (z : SetUp) (n : ℕ) → Reaches z n (opening_hold z) [] []
+opens_seated : (laws : StateLaws) (z : SetUp) (n : ℕ) → MovesReach z n (opening_hold z) [] []
 opens_seated laws z n =
     same (laws.opens z.config z.memory) (record {
       cores = λ c. refl;
@@ -81,7 +81,7 @@ module _ (z : SetUp) (n : ℕ) (from to : ℕ → ℕ) (slots : ℕ) where
       }
 
   pub opening_kept : StateLaws → 0 < n →
-      Kept z n from to slots
+      RuleIsKept z n from to slots
       (opening (replicate (slots + 1) 0) (replicate slots None) (first_view (opening_hold z 0)))
   opening_kept laws pos =
       record {

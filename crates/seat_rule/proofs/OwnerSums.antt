@@ -7,7 +7,7 @@ use Rattle.machine_moves.specs.Ownership.{owners, ownership_in, sum_first}
 use Rattle.seat_views.specs.Seated.{over}
 use Rattle.seat_rule.specs.declared.views.SetUp.{SetUp}
 use Rattle.seat_rule.specs.declared.views.Hold.{Hold}
-use Rattle.seat_rule.specs.Rule.{Phase, bag_of, content, in_flight, seat_count, slot_count, state_of}
+use Rattle.seat_rule.specs.Rule.{Phase, bag_of_hold, content, in_flight, seat_count, slot_count, state_of}
 use Rattle.seat_rule.specs.Ended.{owners_by_place}
 use Rattle.seat_rule.proofs.Weights.{weigh_together}
 
@@ -29,6 +29,6 @@ pub owners_added : (z : SetUp) (seats : ℕ → Hold) (phases : ℕ → Phase) (
     owners_by_place z seats phases line
 owners_added z seats phases log line =
     let copies = sums_agree z.config.cores (λ c. owner_in (copy_of (seats c).core.cache line)) in
-    let messages = weigh_together (ownership_in line) (seat_count z) (slot_count z) (λ j. bag_of (seats j))
+    let messages = weigh_together (ownership_in line) (seat_count z) (slot_count z) (λ j. bag_of_hold (seats j))
     (λ k. content (phases k)) in
     omega arith

@@ -2,14 +2,14 @@
 use Rattle.std.proofs.Common.{◌≡◌, ◌≢◌, ℕ, sym, refl, ap, ◌∙◌, subst}
 use lib.ListN.{get_elem?}
 use Rattle.network.specs.declared.message.Message.{Message}
-use Rattle.seat_views.specs.Seated.{put}
+use Rattle.seat_views.specs.Seated.{with_value_at}
 use Rattle.seat_views.proofs.Lemmas.{put_else, at_put}
 use Rattle.seat_rule.specs.declared.views.Stage.{Stage}
 use Rattle.seat_rule.specs.declared.views.Stage.TheVariants.{Idle, Writing, Reading}
 use Rattle.seat_rule.specs.declared.views.Hold.{Hold}
 use Rattle.seat_rule.specs.Rule.{Phase, free, writing, full, reading, Homes, InPhase, At, Busy}
 
-put_same : {A : Type 0} → (f : ℕ → A) (i j : ℕ) → put f i (f i) j ≡ f j
+put_same : {A : Type 0} → (f : ℕ → A) (i j : ℕ) → with_value_at f i (f i) j ≡ f j
 put_same f i j = at_put f i (f i) (λ q x. x ≡ f q) j refl (λ _. refl)
 
 -- the seat isn't out with slot k
@@ -27,13 +27,13 @@ Only k (Reading i m) = i ≡ k
 module _ (from to : ℕ → ℕ) where
   module _ (slots : ℕ) (phases : ℕ → Phase) (j k : ℕ) where
     pub at_elsewhere : (phase : Phase) (stage : Stage) → Elsewhere k stage → At from to slots phases j stage →
-        At from to slots (put phases k phase) j stage
+        At from to slots (with_value_at phases k phase) j stage
     at_elsewhere phase Idle e a = tt
     at_elsewhere phase (Writing i) e a = (a.0, a.1, put_else phases k phase i e ∙ a.2)
     at_elsewhere phase (Reading i m) e a = (a.0, a.1, put_else phases k phase i e ∙ a.2)
 
     pub at_same : (stage : Stage) → At from to slots phases j stage →
-        At from to slots (put phases k (phases k)) j stage
+        At from to slots (with_value_at phases k (phases k)) j stage
     at_same Idle a = tt
     at_same (Writing i) a = (a.0, a.1, put_same phases k i ∙ a.2)
     at_same (Reading i m) a = (a.0, a.1, put_same phases k i ∙ a.2)
@@ -41,13 +41,13 @@ module _ (from to : ℕ → ℕ) where
   -- a slot other than the one that a seat is out with stays out with its own seat
   module _ (seats : ℕ → Hold) (id k : ℕ) (h : Hold) (i : ℕ) (only : Only k (seats id).stage) (ne : i ≢ k) where
     stays_out : (j : ℕ) (stage : Stage) → (Only k stage → i ≡ k) → (seats j).stage ≡ stage →
-        (put seats id h j).stage ≡ stage
+        (with_value_at seats id h j).stage ≡ stage
     stays_out j stage here is =
         let other : j ≢ id = λ e. ne (here (subst (Only k) (ap (λ q. (seats q).stage) (sym e) ∙ is) only)) in
         ap (λ (g : Hold). g.stage) (put_else seats id h j other) ∙ is
 
     pub busy_moves : (phase : Phase) → Busy from to (λ j. (seats j).stage) i phase →
-        Busy from to (λ j. (put seats id h j).stage) i phase
+        Busy from to (λ j. (with_value_at seats id h j).stage) i phase
     busy_moves free b = tt
     busy_moves writing b = stays_out (from i) (Writing i) (λ o. o) b
     busy_moves (full m) b = tt

@@ -16,15 +16,17 @@ use Rattle.machine_theorem.specs.Bags.{SameBag}
 use Rattle.machine_moves.specs.States as moves
 use Rattle.machine_moves.specs.States.{with_at, Same}
 use Rattle.machine_moves.specs.Moves as move
-use Rattle.machine_moves.specs.Moves.{Move, Reached, goes_on, same, answered, with_core, with_bank, with_dram, sent_by}
-use Rattle.seat_views.specs.Seated.{put}
+use Rattle.machine_moves.specs.Moves.{Move, Reached, goes_on, same, with_answer, with_core, with_bank, with_dram}
+use Rattle.machine_moves.specs.Moves.{sent_by_eviction}
+use Rattle.seat_views.specs.Seated.{with_value_at}
 use Rattle.seat_views.proofs.Lemmas.{put_here, put_else, at_put}
 use Rattle.seat_rule.specs.declared.views.SetUp.{SetUp}
 use Rattle.seat_rule.specs.declared.views.Hold.{Hold}
-use Rattle.seat_rule.specs.Rule.{bag_of, counts_of, state_of, Reaches, Changes}
+use Rattle.seat_rule.specs.Rule.{bag_of_hold, counts_of, state_of, MovesReach, Changes}
 use Rattle.seat_rule.specs.Plays.{complete_hold}
 use Rattle.seat_rule.specs.Serving.{counted_if}
-use Rattle.seat_rule.specs.SeatMoves.{SameCore, SameBank, Sends, SeatMove, sorts, issues, asks_to_read, asks_to_write}
+use Rattle.seat_rule.specs.SeatMoves.{SameCore, SameBank, HoldSends, SeatMove, sorts, issues, asks_to_read}
+use Rattle.seat_rule.specs.SeatMoves.{asks_to_write}
 use Rattle.seat_rule.specs.SeatMoves.{core_gets, core_drops, evicts_copy, advances, bank_gets, bank_starts, dram_gets}
 use Rattle.seat_rule.specs.SeatMoves.{evicts_entry}
 use Rattle.seat_rule.proofs.Weights.{beside}
@@ -33,19 +35,19 @@ use Rattle.seat_rule.proofs.Frames.{same_of}
 
 -- what a seat has of its own is replaced, for all seats
 with_of : {X : Type 0} (g : Hold → X) (seats : ℕ → Hold) (id : ℕ) (h : Hold) (x : X) → g h ≡ x →
-    (j : ℕ) → with_at (λ c. g (seats c)) id x j ≡ g (put seats id h j)
+    (j : ℕ) → with_at (λ c. g (seats c)) id x j ≡ g (with_value_at seats id h j)
 with_of g seats id h x e j =
     at_put seats id h (λ i y. with_at (λ c. g (seats c)) id x i ≡ g y) j (put_here (λ c. g (seats c)) id x ∙ sym e)
     (λ ne. put_else (λ c. g (seats c)) id x j ne)
 
 -- what the seat of bank i has of its own is replaced, for all banks
 with_bank_of : {X : Type 0} (g : Hold → X) (seats : ℕ → Hold) (cores i id : ℕ) (h : Hold) → id ≡ cores + i →
-    (j : ℕ) → with_at (λ b. g (seats (cores + b))) i (g h) j ≡ g (put seats id h (cores + j))
+    (j : ℕ) → with_at (λ b. g (seats (cores + b))) i (g h) j ≡ g (with_value_at seats id h (cores + j))
 with_bank_of g seats cores i id h named j =
     dite (ℕ_discrete j i)
     (λ (e : j ≡ i).
     ap (with_at (λ b. g (seats (cores + b))) i (g h)) e ∙ put_here (λ b. g (seats (cores + b))) i (g h)
-    ∙ ap g (sym (put_here seats id h)) ∙ ap (λ q. g (put seats id h q)) (omega (arith, named, e)))
+    ∙ ap g (sym (put_here seats id h)) ∙ ap (λ q. g (with_value_at seats id h q)) (omega (arith, named, e)))
     (λ (ne : j ≢ i).
     put_else (λ b. g (seats (cores + b))) i (g h) j ne
     ∙ ap g (sym (put_else seats id h (cores + j) (λ e. ne (omega arith)))))
@@ -56,24 +58,25 @@ module _ (z : SetUp) (n : ℕ) (seats : ℕ → Hold) (xs : List Message) (log :
     a = seats id
 
     abbrev before : moves.State
-    before = state_of z n seats (bag_of a ++ xs) log
+    before = state_of z n seats (bag_of_hold a ++ xs) log
 
     abbrev after : moves.State
-    after = state_of z n (put seats id b) (bag_of b ++ xs) log
+    after = state_of z n (with_value_at seats id b) (bag_of_hold b ++ xs) log
 
     -- a state with the seats' parts as they are afterwards, in which a message was sent or not
     lands : (s : moves.State) (rest : List Message) (sent : Option Message) →
         ((c : ℕ) → s.cores c ≡ after.cores c) → ((i : ℕ) → s.banks i ≡ after.banks i) →
         ((i : ℕ) → s.drams i ≡ after.drams i) → ((c : ℕ) → s.issued c ≡ after.issued c) →
-        s.records ≡ log → s.counts ≡ before.counts → Sends a b rest sent → Same (answered s (rest ++ xs) sent) after
+        s.records ≡ log → s.counts ≡ before.counts → HoldSends a b rest sent → Same (with_answer s (rest ++ xs) sent)
+        after
     lands s rest sent cores banks drams issued records counts sends = by sent sends
       where
-        by : (o : Option Message) → Sends a b rest o → Same (answered s (rest ++ xs) o) after
+        by : (o : Option Message) → HoldSends a b rest o → Same (with_answer s (rest ++ xs) o) after
         by None sends = record {
           cores = cores;
           banks = banks;
           drams = drams;
-          bag = λ f. sym (beside (bag_of b) [] rest xs sends.bag f);
+          bag = λ f. sym (beside (bag_of_hold b) [] rest xs sends.bag f);
           issued = issued;
           records = records;
           counts = counts ∙ sums_count n seats id b is_seat None sends.counts;
@@ -82,7 +85,7 @@ module _ (z : SetUp) (n : ℕ) (seats : ℕ → Hold) (xs : List Message) (log :
           cores = cores;
           banks = banks;
           drams = drams;
-          bag = λ f. sym (beside (bag_of b) (m ∷ []) rest xs sends.bag f);
+          bag = λ f. sym (beside (bag_of_hold b) (m ∷ []) rest xs sends.bag f);
           issued = issued;
           records = records;
           counts = ap (λ c. counted_if c (Some m)) counts ∙ sums_count n seats id b is_seat (Some m) sends.counts;
@@ -102,16 +105,16 @@ module _ (z : SetUp) (n : ℕ) (seats : ℕ → Hold) (xs : List Message) (log :
     lists_stay e = same_of (λ y. y.issued) seats id b e
 
     core_lands : (core : CoreState) (rest : List Message) (sent : Option Message) → b.core ≡ core →
-        b.issued ≡ a.issued → SameBank a b → Sends a b rest sent →
-        Same (answered (with_core before id core) (rest ++ xs) sent) after
+        b.issued ≡ a.issued → SameBank a b → HoldSends a b rest sent →
+        Same (with_answer (with_core before id core) (rest ++ xs) sent) after
     core_lands core rest sent is issued bank sends =
         lands (with_core before id core) rest sent (with_of (λ y. y.core) seats id b core is) (banks_stay bank.bank)
         (drams_stay bank.dram) (lists_stay issued) refl refl sends
 
     -- the messages of the seat, one of them apart
-    one_of : (m : Message) (rest : List Message) → SameBag (bag_of a) (m ∷ rest) →
-        SameBag (bag_of a ++ xs) (m ∷ (rest ++ xs))
-    one_of m rest e = beside (bag_of a) (m ∷ []) rest xs e
+    one_of : (m : Message) (rest : List Message) → SameBag (bag_of_hold a) (m ∷ rest) →
+        SameBag (bag_of_hold a ++ xs) (m ∷ (rest ++ xs))
+    one_of m rest e = beside (bag_of_hold a) (m ∷ []) rest xs e
 
     -- the seat of bank i
     module _ (i : ℕ) (named : id ≡ z.config.cores + i) where
@@ -119,14 +122,14 @@ module _ (z : SetUp) (n : ℕ) (seats : ℕ → Hold) (xs : List Message) (log :
       at_bank f = ap (λ q. f (seats q)) (sym named)
 
       bank_lands : (rest : List Message) (sent : Option Message) → SameCore a b → b.dram ≡ a.dram →
-          Sends a b rest sent → Same (answered (with_bank before i b.bank) (rest ++ xs) sent) after
+          HoldSends a b rest sent → Same (with_answer (with_bank before i b.bank) (rest ++ xs) sent) after
       bank_lands rest sent core dram sends =
           lands (with_bank before i b.bank) rest sent (cores_stay core.core)
           (with_bank_of (λ y. y.bank) seats z.config.cores i id b named) (drams_stay dram) (lists_stay core.issued)
           refl refl sends
 
       dram_lands : (rest : List Message) (sent : Option Message) → SameCore a b → b.bank ≡ a.bank →
-          Sends a b rest sent → Same (answered (with_dram before i b.dram) (rest ++ xs) sent) after
+          HoldSends a b rest sent → Same (with_answer (with_dram before i b.dram) (rest ++ xs) sent) after
       dram_lands rest sent core bank sends =
           lands (with_dram before i b.dram) rest sent (cores_stay core.core) (banks_stay bank)
           (with_bank_of (λ y. y.dram) seats z.config.cores i id b named) (lists_stay core.issued) refl refl sends
@@ -134,20 +137,20 @@ module _ (z : SetUp) (n : ℕ) (seats : ℕ → Hold) (xs : List Message) (log :
     -- what a seat does by itself
     moved : SeatMove z id a b → Reached z.config z.memory before → Reached z.config z.memory after
     moved (sorts core bank sends) r =
-        same r (lands before (bag_of a) None (cores_stay core.core) (banks_stay bank.bank) (drams_stay bank.dram)
+        same r (lands before (bag_of_hold a) None (cores_stay core.core) (banks_stay bank.bank) (drams_stay bank.dram)
         (lists_stay core.issued) refl refl sends)
     moved (issues op is e more bank sends) r =
         let issued = with_at before.issued id (a.issued ++ op ∷ []) in
         same (goes_on r (move.issues id op b.core is e))
-        (lands (record (with_core before id b.core) { issued = issued }) (bag_of a) None
+        (lands (record (with_core before id b.core) { issued = issued }) (bag_of_hold a) None
         (with_of (λ y. y.core) seats id b b.core refl) (banks_stay bank.bank) (drams_stay bank.dram)
         (with_of (λ y. y.issued) seats id b (a.issued ++ op ∷ []) more) refl refl sends)
     moved (asks_to_read op pts version core is opened e out issued bank sends) r =
         same (goes_on r (move.asks_to_read id op pts version core is opened e))
-        (core_lands (record (a.core) { is_out = true }) (bag_of a) _ out issued bank sends)
+        (core_lands (record (a.core) { is_out = true }) (bag_of_hold a) _ out issued bank sends)
     moved (asks_to_write op version core is opened e out issued bank sends) r =
         same (goes_on r (move.asks_to_write id op version core is opened e))
-        (core_lands (record (a.core) { is_out = true }) (bag_of a) _ out issued bank sends)
+        (core_lands (record (a.core) { is_out = true }) (bag_of_hold a) _ out issued bank sends)
     moved (core_gets m rest answer is took to has e issued bank sends) r =
         same (goes_on r (move.core_gets id m (rest ++ xs) answer b.core is (one_of m rest took) to has e))
         (core_lands b.core rest answer refl issued bank sends)
@@ -157,9 +160,9 @@ module _ (z : SetUp) (n : ℕ) (seats : ℕ → Hold) (xs : List Message) (log :
         (lists_stay same_core.issued) refl refl sends)
     moved (evicts_copy line back is e issued bank sends) r =
         same (goes_on r (move.evicts_copy id line back b.core is e))
-        (core_lands b.core (bag_of a) back refl issued bank sends)
+        (core_lands b.core (bag_of_hold a) back refl issued bank sends)
     moved (advances is e issued bank sends) r =
-        same (goes_on r (move.advances id b.core is e)) (core_lands b.core (bag_of a) None refl issued bank sends)
+        same (goes_on r (move.advances id b.core is e)) (core_lands b.core (bag_of_hold a) None refl issued bank sends)
     moved (bank_gets i m rest answer is named took to has e core dram sends) r =
         same (goes_on r (move.bank_gets i m (rest ++ xs) answer b.bank is (one_of m rest took) to
         (at_bank i named (λ y. bank_table.bank_has_case y.bank m) ∙ has)
@@ -169,7 +172,7 @@ module _ (z : SetUp) (n : ℕ) (seats : ℕ → Hold) (xs : List Message) (log :
         same (goes_on r (move.bank_starts i m (rest ++ xs) started b.bank is (one_of m rest took) to
         (at_bank i named (λ y. bank_table.bank_has_case y.bank m) ∙ has)
         (at_bank i named (λ y. bank_table.bank_table y.bank m) ∙ e)))
-        (bank_lands i named (bag_of a) (Some started) core dram sends)
+        (bank_lands i named (bag_of_hold a) (Some started) core dram sends)
     moved (dram_gets i m rest answer is named took to has e core bank sends) r =
         same (goes_on r (move.dram_gets i m (rest ++ xs) answer b.dram is (one_of m rest took) to
         (at_bank i named (λ y. dram_has_case y.dram m) ∙ has) (at_bank i named (λ y. dram_table y.dram m) ∙ e)))
@@ -177,7 +180,7 @@ module _ (z : SetUp) (n : ℕ) (seats : ℕ → Hold) (xs : List Message) (log :
     moved (evicts_entry i line done is named e core dram sends) r =
         same (goes_on r (move.evicts_entry i line done b.bank is
         (at_bank i named (λ y. bank_table.evict y.bank line) ∙ e)))
-        (bank_lands i named (bag_of a) (sent_by done) core dram sends)
+        (bank_lands i named (bag_of_hold a) (sent_by_eviction done) core dram sends)
 
   -- an operation is completed, with the number of all records before it
   module _ (id : ℕ) (is_seat : id < n) (op : Op) (received : Option ℕ) (ts : ℕ) (core : CoreState)
@@ -189,10 +192,10 @@ module _ (z : SetUp) (n : ℕ) (seats : ℕ → Hold) (xs : List Message) (log :
     abbrev h : Hold
     h = complete_hold (seats id) core log new
 
-    pub completed : Reaches z n seats (bag_of (seats id) ++ xs) log →
-        Reaches z n (put seats id h) (bag_of (seats id) ++ xs) (log ++ new ∷ [])
+    pub completed : MovesReach z n seats (bag_of_hold (seats id) ++ xs) log →
+        MovesReach z n (with_value_at seats id h) (bag_of_hold (seats id) ++ xs) (log ++ new ∷ [])
     completed r =
-        let counts : (λ j. (seats j).counts) ≡ (λ j. (put seats id h j).counts) =
+        let counts : (λ j. (seats j).counts) ≡ (λ j. (with_value_at seats id h j).counts) =
         λ i j. same_of (λ x. x.counts) seats id h refl j i in
         same (goes_on r (move.completes id op received ts core is_core opened is)) (record {
           cores = with_of (λ y. y.core) seats id h core refl;
@@ -208,4 +211,4 @@ module _ (z : SetUp) (n : ℕ) (seats : ℕ → Hold) (xs : List Message) (log :
 pub changes : (z : SetUp) (n id : ℕ) (a b : Hold) → id < n → SeatMove z id a b → Changes z n id a b
 changes z n id a b l m seats xs log is r =
     moved z n seats xs log id b l (subst (λ (y : Hold). SeatMove z id y b) (sym is) m)
-    (subst (λ (y : Hold). Reaches z n seats (bag_of y ++ xs) log) (sym is) r)
+    (subst (λ (y : Hold). MovesReach z n seats (bag_of_hold y ++ xs) log) (sym is) r)

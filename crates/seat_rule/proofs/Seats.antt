@@ -18,7 +18,7 @@ use Rattle.machine_moves.specs.Consistent.{FindsCase}
 use Rattle.seat_rule.specs.declared.views.SetUp.{SetUp}
 use Rattle.seat_rule.specs.declared.views.Hold.{Hold}
 use Rattle.seat_rule.specs.StateLaws.{StateLaws}
-use Rattle.seat_rule.specs.Rule.{bag_of, state_of}
+use Rattle.seat_rule.specs.Rule.{bag_of_hold, state_of}
 use Rattle.seat_rule.specs.Plays.{Standing}
 use Rattle.seat_rule.specs.Found.{FindsHere}
 use Rattle.seat_rule.proofs.Weights.{weigh-append, weigh-remove, beside}
@@ -44,35 +44,35 @@ module _ (laws : StateLaws) (z : SetUp) (good : is_good z.config ≡ true) (n id
     unfolding Standing
     core_shape l =
         subst (λ (y : Hold). IsCore z.config id y.issued y.core) s.3
-        (laws.cores z.config z.memory (state_of z n s.0 (bag_of a ++ s.1) s.2) good s.4 id l)
+        (laws.cores z.config z.memory (state_of z n s.0 (bag_of_hold a ++ s.1) s.2) good s.4 id l)
 
     pub bank_shape : (b : ℕ) → b < z.config.banks → id ≡ z.config.cores + b → IsBank z.config b a.bank
     unfolding Standing
     bank_shape b l named =
         subst (λ (y : Hold). IsBank z.config b y.bank) (ap s.0 (sym named) ∙ s.3)
-        (laws.banks z.config z.memory (state_of z n s.0 (bag_of a ++ s.1) s.2) good s.4 b l)
+        (laws.banks z.config z.memory (state_of z n s.0 (bag_of_hold a ++ s.1) s.2) good s.4 b l)
 
     pub issued_so : id < z.config.cores → IsIssued a.issued a.records a.core.open_op
     unfolding Standing
     issued_so l =
         subst (λ (y : Hold). IsIssued y.issued a.records y.core.open_op) s.3
         (subst (λ (rs : List Record). IsIssued (s.0 id).issued rs (s.0 id).core.open_op) s.5
-        (laws.issued z.config z.memory (state_of z n s.0 (bag_of a ++ s.1) s.2) good s.4 id l))
+        (laws.issued z.config z.memory (state_of z n s.0 (bag_of_hold a ++ s.1) s.2) good s.4 id l))
 
     pub counts_issued : id < z.config.cores → a.core.issued ≡ length a.records + length (listed a.core.open_op)
     unfolding Standing
     counts_issued l =
         subst (λ (y : Hold). y.core.issued ≡ length a.records + length (listed y.core.open_op)) s.3
         (subst (λ (rs : List Record). (s.0 id).core.issued ≡ length rs + length (listed (s.0 id).core.open_op)) s.5
-        (laws.count z.config z.memory (state_of z n s.0 (bag_of a ++ s.1) s.2) good s.4 id l))
+        (laws.count z.config z.memory (state_of z n s.0 (bag_of_hold a ++ s.1) s.2) good s.4 id l))
 
     -- one of its messages, wherever it is
-    pub finds : (m : Message) (rest : List Message) → SameBag (bag_of a) (m ∷ rest) → FindsHere z id a m
+    pub finds : (m : Message) (rest : List Message) → SameBag (bag_of_hold a) (m ∷ rest) → FindsHere z id a m
     unfolding Standing
     finds m rest bag =
-        let state : moves.State = state_of z n s.0 (bag_of a ++ s.1) s.2 in
+        let state : moves.State = state_of z n s.0 (bag_of_hold a ++ s.1) s.2 in
         let all = laws.found z.config z.memory state good s.4 (m ∷ (rest ++ s.1))
-        (beside (bag_of a) (m ∷ []) rest s.1 bag) in
+        (beside (bag_of_hold a) (m ∷ []) rest s.1 bag) in
         record {
           endpoints = all.0.endpoints;
           core = λ to.
@@ -90,7 +90,7 @@ module _ (laws : StateLaws) (z : SetUp) (good : is_good z.config ≡ true) (n id
 
 -- the messages of a seat, one of them apart
 pub of_outbox : (a : Hold) (i : ℕ) (m : Message) → slice_get a.outbox i ≡ Some m →
-    SameBag (bag_of a) (m ∷ (remove a.outbox i ++ (option_to_list a.hand ++ a.held)))
+    SameBag (bag_of_hold a) (m ∷ (remove a.outbox i ++ (option_to_list a.hand ++ a.held)))
 of_outbox a i m e f =
     let others : List Message = option_to_list a.hand ++ a.held in
     let b = weigh-append f a.outbox others in
@@ -98,7 +98,7 @@ of_outbox a i m e f =
     let d = weigh-remove f a.outbox i m e in
     omega arith
 
-pub of_hand : (a : Hold) (m : Message) → a.hand ≡ Some m → SameBag (bag_of a) (m ∷ (a.outbox ++ a.held))
+pub of_hand : (a : Hold) (m : Message) → a.hand ≡ Some m → SameBag (bag_of_hold a) (m ∷ (a.outbox ++ a.held))
 of_hand a m e f =
     let b = weigh-append f a.outbox (option_to_list a.hand ++ a.held) in
     let c = weigh-append f a.outbox a.held in
@@ -107,7 +107,7 @@ of_hand a m e f =
     omega arith
 
 pub of_held : (a : Hold) (i : ℕ) (m : Message) → slice_get a.held i ≡ Some m →
-    SameBag (bag_of a) (m ∷ (a.outbox ++ (option_to_list a.hand ++ remove a.held i)))
+    SameBag (bag_of_hold a) (m ∷ (a.outbox ++ (option_to_list a.hand ++ remove a.held i)))
 of_held a i m e f =
     let b = weigh-append f a.outbox (option_to_list a.hand ++ a.held) in
     let c = weigh-append f a.outbox (option_to_list a.hand ++ remove a.held i) in

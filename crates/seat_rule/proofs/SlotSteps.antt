@@ -11,7 +11,7 @@ use Rattle.atomic_table.proofs.Lists.{set_here, set_else}
 use Rattle.network.specs.declared.message.Message.{Message}
 use Rattle.machine_theorem.specs.Bags.{weigh}
 use Rattle.seat_views.specs.declared.views.View.{View}
-use Rattle.seat_views.specs.Seated.{put, with_hold}
+use Rattle.seat_views.specs.Seated.{with_value_at, with_hold}
 use Rattle.seat_views.proofs.Lemmas.{put_here, at_put}
 use Rattle.seat_views.proofs.Lemmas.{within}
 use Rattle.seat_rule.specs.declared.views.SetUp.{SetUp}
@@ -19,8 +19,9 @@ use Rattle.seat_rule.specs.declared.views.Stage.{Stage}
 use Rattle.seat_rule.specs.declared.views.Stage.TheVariants.{Idle, Writing, Reading}
 use Rattle.seat_rule.specs.declared.views.Hold.{Hold}
 use Rattle.seat_rule.specs.Rule.{Phase, free, writing, full, reading, content, InPhase, At, Busy, Addressed, node_of}
-use Rattle.seat_rule.specs.Rule.{bag_of, weigh_links, Kept}
-use Rattle.seat_rule.specs.Plays.{SeatState, looked, saw_out, saw_in, gave, SamePart, Puts, Takes, put_hold, take_hold}
+use Rattle.seat_rule.specs.Rule.{bag_of_hold, weigh_links, RuleIsKept}
+use Rattle.seat_rule.specs.Plays.{SeatState, looked, saw_out, saw_in, gave, SamePart, HoldPuts, HoldTakes, put_hold}
+use Rattle.seat_rule.specs.Plays.{take_hold}
 use Rattle.seat_rule.proofs.Weights.{weigh-append, weigh-remove, weigh_links-append}
 use Rattle.seat_rule.proofs.Phases.{Only, at_elsewhere, at_same, idle_writing, idle_reading, free_reading, full_writing}
 use Rattle.seat_rule.proofs.Phases.{writing_reading, reading_writing}
@@ -35,7 +36,7 @@ unmoved = record { core = refl; bank = refl; dram = refl; issued = refl; records
 
 module _ (z : SetUp) (n : ℕ) (from to : ℕ → ℕ) (slots : ℕ) where
   abbrev K : Sets → Type 0
-  K = Kept z n from to slots
+  K = RuleIsKept z n from to slots
 
   -- what a step has to give: a view and an act that keep the rule, of which `then` holds
   abbrev Goes : Sets → ℕ → ℕ → SeatState → (SeatState → Type 0) → ℕ → Type 0
@@ -54,7 +55,7 @@ module _ (z : SetUp) (n : ℕ) (from to : ℕ → ℕ) (slots : ℕ) where
     -- another seat stays out with its slot if slot k isn't out with a seat, or is out with this one
     away : (k : ℕ) (phase : Phase) → (from k ≡ id) ⊎ (r.phases k ≢ writing) →
         (to k ≡ id) ⊎ ((m : Message) → r.phases k ≢ reading m) → (j : ℕ) → j ≢ id → (stage : Stage) →
-        At from to slots r.phases j stage → At from to slots (put r.phases k phase) j stage
+        At from to slots r.phases j stage → At from to slots (with_value_at r.phases k phase) j stage
     away k phase f t j ne Idle a = tt
     away k phase f t j ne (Writing i) a =
         at_elsewhere from to slots r.phases j k phase (Writing i)
@@ -71,7 +72,7 @@ module _ (z : SetUp) (n : ℕ) (from to : ℕ → ℕ) (slots : ℕ) where
       idle_at j e = ap (λ q. (r.seats q).stage) e ∙ ap (λ (h : Hold). h.stage) is ∙ idle
 
       still_busy : (h : Hold) (phase : Phase) → Busy from to (λ j. (r.seats j).stage) k phase →
-          Busy from to (λ j. (put r.seats id h j).stage) k phase
+          Busy from to (λ j. (with_value_at r.seats id h j).stage) k phase
       still_busy h free b = tt
       still_busy h writing b =
           at_put r.seats id h (λ q g. q ≡ from k → g.stage ≡ Writing k) (from k)
@@ -94,26 +95,27 @@ module _ (z : SetUp) (n : ℕ) (from to : ℕ → ℕ) (slots : ℕ) where
       -- a look that takes the slot out, with what it has
       goes_out : (x : ℕ) (stage : Stage) (phase : Phase) (y : Option Message) → k < slots →
           content (r.phases k) ≡ content phase → InPhase (get_or s.words k 0) (set s.homes k none) k phase →
-          ((j : ℕ) → j ≢ id → At from to slots (put r.phases k phase) j (r.seats j).stage) →
+          ((j : ℕ) → j ≢ id → At from to slots (with_value_at r.phases k phase) j (r.seats j).stage) →
           Addressed (λ i. node_of z (to i)) k phase →
-          Busy from to (λ j. (put r.seats id (looked v.mine k x stage) j).stage) k phase →
-          At from to slots (put r.phases k phase) id stage →
+          Busy from to (λ j. (with_value_at r.seats id (looked v.mine k x stage) j).stage) k phase →
+          At from to slots (with_value_at r.phases k phase) id stage →
           K (stepped s k (get_or s.words k 0) id me.1 (with_hold v (looked v.mine k x stage)) (takes k y))
       goes_out x stage phase y near same here others there busy mine =
           slot_moves z n from to slots s r id v at live (looked v.mine k x stage) k (get_or s.words k 0)
           (set s.homes k none) phase near (length-set s.homes k none) (λ i ne. set_else s.homes k i none ne) here
           others there (subst (Only k) (sym idle) tt) busy mine unmoved
-          (λ f. ap (λ xs. weigh f (bag_of v.mine) + weigh f xs) (sym same))
+          (λ f. ap (λ xs. weigh f (bag_of_hold v.mine) + weigh f xs) (sym same))
           (λ f. ap (λ xs. weigh_links f v.mine.put + weigh_links f v.mine.taken + weigh (f (k / 4)) xs) same)
 
     -- the slot that was taken out last is given back
     gives_back : (k x : ℕ) (h : Hold) (y : Option Message) (phase : Phase) → me.1 ≡ (k, y) ∷ rest me.1 → k < slots →
         InPhase x (set s.homes k (some y)) k phase →
-        ((j : ℕ) → j ≢ id → At from to slots (put r.phases k phase) j (r.seats j).stage) →
+        ((j : ℕ) → j ≢ id → At from to slots (with_value_at r.phases k phase) j (r.seats j).stage) →
         Addressed (λ i. node_of z (to i)) k phase → Only k v.mine.stage →
-        Busy from to (λ j. (put r.seats id h j).stage) k phase → h.stage ≡ Idle → SamePart v.mine h →
+        Busy from to (λ j. (with_value_at r.seats id h j).stage) k phase → h.stage ≡ Idle → SamePart v.mine h →
         ((f : Message → ℕ) →
-        weigh f (bag_of h) + weigh f (content phase) ≡ weigh f (bag_of v.mine) + weigh f (content (r.phases k))) →
+        weigh f (bag_of_hold h) + weigh f (content phase) ≡ weigh f (bag_of_hold v.mine) + weigh f
+        (content (r.phases k))) →
         ((f : ℕ → Message → ℕ) →
         weigh_links f h.put + weigh_links f v.mine.taken + weigh (f (k / 4)) (content (r.phases k)) ≡
         weigh_links f v.mine.put + weigh_links f h.taken + weigh (f (k / 4)) (content phase)) →
@@ -124,7 +126,7 @@ module _ (z : SetUp) (n : ℕ) (from to : ℕ → ℕ) (slots : ℕ) where
         subst (λ (c : List (ℕ × Option Message)). K (stepped s k x id c w gives)) (sym held)
         (slot_moves z n from to slots s r id v at live h k x (set s.homes k (some y)) phase near
         (length-set s.homes k (some y)) (λ i ne. set_else s.homes k i (some y) ne) here others there only busy
-        (subst (At from to slots (put r.phases k phase) id) (sym idle) tt) part bag links) in
+        (subst (At from to slots (with_value_at r.phases k phase) id) (sym idle) tt) part bag links) in
         let there : get_elem? (set s.views id w) id ≡ some w = set_here s.views id w (within s.views id v at) in (
           w,
           gives,
@@ -152,7 +154,8 @@ module _ (z : SetUp) (n : ℕ) (from to : ℕ → ℕ) (slots : ℕ) where
                 (λ j ne.
                 away s r id me at live k writing (inl mine) (inr (λ m q. free_reading (sym e ∙ q))) j ne
                 (r.seats j).stage (r.each_seat j)) tt
-                (ap (λ q. (put r.seats id h q).stage) mine ∙ ap (λ (g : Hold). g.stage) (put_here r.seats id h))
+                (ap (λ q. (with_value_at r.seats id h q).stage) mine ∙ ap (λ (g : Hold). g.stage)
+                (put_here r.seats id h))
                 (near, mine, put_here r.phases k writing),
             inl (p.0, refl, refl),
           )
@@ -209,7 +212,8 @@ module _ (z : SetUp) (n : ℕ) (from to : ℕ → ℕ) (slots : ℕ) where
                 (λ j ne.
                 away s r id me at live k (reading m) (inr (λ q. full_writing (sym e ∙ q))) (inl mine) j ne
                 (r.seats j).stage (r.each_seat j)) goes
-                (ap (λ q. (put r.seats id h q).stage) mine ∙ ap (λ (g : Hold). g.stage) (put_here r.seats id h))
+                (ap (λ q. (with_value_at r.seats id h q).stage) mine ∙ ap (λ (g : Hold). g.stage)
+                (put_here r.seats id h))
                 (near, mine, put_here r.phases k (reading m)),
             inr (p.0, (m, refl, refl, goes ∙ ap (node_of z) own)),
           )
@@ -221,7 +225,7 @@ module _ (z : SetUp) (n : ℕ) (from to : ℕ → ℕ) (slots : ℕ) where
   -- a message is put into the slot that the seat writes
   pub puts : (id : ℕ) (me : SeatState) (k : ℕ) (m : Message) (h : Hold) → me.0.spent ≡ false →
       me.0.mine.stage ≡ Writing k → me.1 ≡ (k, Some m) ∷ rest me.1 → m.to ≡ node_of z (to k) →
-      Puts me.0.mine k m h → Allows K slots id me k (λ _. 1) (λ _. gave z n (with_hold me.0 h) me)
+      HoldPuts me.0.mine k m h → Allows K slots id me k (λ _. 1) (λ _. gave z n (with_hold me.0 h) me)
   puts id me k m h live stage held goes p s r wide at fits =
       let a = subst (At from to slots r.phases id)
       (ap (λ (g : Hold). g.stage) (is s r id me at live) ∙ stage) (r.each_seat id) in
@@ -243,7 +247,7 @@ module _ (z : SetUp) (n : ℕ) (from to : ℕ → ℕ) (slots : ℕ) where
 
   -- the message of the slot that the seat reads is taken
   pub taking : (id : ℕ) (me : SeatState) (k : ℕ) (m : Message) (h : Hold) → me.0.spent ≡ false →
-      me.0.mine.stage ≡ Reading k m → me.1 ≡ (k, None) ∷ rest me.1 → Takes me.0.mine k m h →
+      me.0.mine.stage ≡ Reading k m → me.1 ≡ (k, None) ∷ rest me.1 → HoldTakes me.0.mine k m h →
       Allows K slots id me k (λ _. 0) (λ _. gave z n (with_hold me.0 h) me)
   taking id me k m h live stage held p s r wide at fits =
       let a = subst (At from to slots r.phases id)
@@ -267,7 +271,7 @@ module _ (z : SetUp) (n : ℕ) (from to : ℕ → ℕ) (slots : ℕ) where
 
 -- what a put from the outbox and a take into the hand do to the messages of a seat
 pub puts_hold : (a : Hold) (k : ℕ) (m : Message) (i : ℕ) → slice_get a.outbox i ≡ Some m →
-    Puts a k m (put_hold a k m i)
+    HoldPuts a k m (put_hold a k m i)
 puts_hold a k m i e = (
   record { core = refl; bank = refl; dram = refl; issued = refl; records = refl; counts = refl; seen = refl },
   refl,
@@ -279,7 +283,7 @@ puts_hold a k m i e = (
       omega arith,
 )
 
-pub takes_hold : (a : Hold) (k : ℕ) (m : Message) → a.hand ≡ None → Takes a k m (take_hold a k m)
+pub takes_hold : (a : Hold) (k : ℕ) (m : Message) → a.hand ≡ None → HoldTakes a k m (take_hold a k m)
 takes_hold a k m e = (
   record { core = refl; bank = refl; dram = refl; issued = refl; records = refl; counts = refl; seen = refl },
   refl,

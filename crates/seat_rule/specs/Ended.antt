@@ -16,12 +16,12 @@ use Rattle.seat_rule.specs.declared.views.SetUp.{SetUp}
 use Rattle.seat_rule.specs.declared.views.Stage.TheVariants.{Idle}
 use Rattle.seat_rule.specs.declared.views.Hold.{Hold}
 use Rattle.seat_rule.specs.Rule.{Phase, free, writing, full, reading, content, seat_count, slot_count, state_of}
-use Rattle.seat_rule.specs.Rule.{bag_of, in_flight, Reaches, IsPrefix, weigh_links}
+use Rattle.seat_rule.specs.Rule.{bag_of_hold, in_flight, MovesReach, IsPrefix, weigh_links}
 
 -- One reached state, which is consistent: each seat has the records of its core, these are all, and they begin with
 -- what any seat has seen. On each link, the messages put are those taken and those in its slots.
 pub record Whole (z : SetUp) (seats : ℕ → Hold) (phases : ℕ → Phase) (log : List Record) : Type 0 where
-  pub reached : Reaches z (seat_count z) seats (in_flight (seat_count z) (slot_count z) seats phases) log
+  pub reached : MovesReach z (seat_count z) seats (in_flight (seat_count z) (slot_count z) seats phases) log
   pub consistent : Consistent z.config z.memory
       (state_of z (seat_count z) seats (in_flight (seat_count z) (slot_count z) seats phases) log)
   pub own : (j : ℕ) → of_core j log ≡ (seats j).records
@@ -44,15 +44,15 @@ lies (full m) = Some m
 lies (reading m) = None
 
 -- the slot isn't out with a seat: no message of it is in flight but the one that lies in it
-abbrev pub IsHome : Phase → Type 0
-IsHome phase = content phase ≡ option_to_list (lies phase)
+abbrev pub IsNotOut : Phase → Type 0
+IsNotOut phase = content phase ≡ option_to_list (lies phase)
 
 -- the owners of a line, place by place: the Exclusive copies in the cores' caches, and the grants and returns of the
 -- line among the messages of each seat and in each slot
 abbrev pub owners_by_place : SetUp → (ℕ → Hold) → (ℕ → Phase) → ℕ → ℕ
 owners_by_place z seats phases line =
     over z.config.cores (λ c. owner_in (copy_of (seats c).core.cache line))
-    + (over (seat_count z) (λ j. weigh (ownership_in line) (bag_of (seats j)))
+    + (over (seat_count z) (λ j. weigh (ownership_in line) (bag_of_hold (seats j)))
     + over (slot_count z) (λ k. weigh (ownership_in line) (content (phases k))))
 
 -- each hold that is known is that of the seat of its number
@@ -75,4 +75,4 @@ pub record Closes (z : SetUp) (known : List (ℕ × Hold)) (count : ℕ) (slots 
   pub counted : length log ≡ count
   pub agrees : Agrees seats known
   pub lying : AllIdle z known → (k : ℕ) → k < slot_count z → get_elem? slots k ≡ some (lies (phases k))
-  pub home : AllIdle z known → (k : ℕ) → k < slot_count z → IsHome (phases k)
+  pub home : AllIdle z known → (k : ℕ) → k < slot_count z → IsNotOut (phases k)

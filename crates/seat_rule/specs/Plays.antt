@@ -16,7 +16,7 @@ use Rattle.seat_rule.specs.declared.views.SetUp.{SetUp}
 use Rattle.seat_rule.specs.declared.views.Stage.{Stage}
 use Rattle.seat_rule.specs.declared.views.Stage.TheVariants.{Idle, Writing, Reading}
 use Rattle.seat_rule.specs.declared.views.Hold.{Hold}
-use Rattle.seat_rule.specs.Rule.{node_of, bag_of, Reaches, IsPrefix}
+use Rattle.seat_rule.specs.Rule.{node_of, bag_of_hold, MovesReach, IsPrefix}
 
 -- a seat's view, and the slots that are out with it
 abbrev pub SeatState : Type 0
@@ -26,7 +26,7 @@ SeatState = Me (Option Message) (View Hold)
 unfoldable pub Standing : SetUp → ℕ → ℕ → Hold → Type 0
 Standing z n id a =
     (seats : ℕ → Hold) × (xs : List Message) × (log : List Record) × (seats id ≡ a) ×
-    Reaches z n seats (bag_of a ++ xs) log × (of_core id log ≡ a.records)
+    MovesReach z n seats (bag_of_hold a ++ xs) log × (of_core id log ≡ a.records)
 
 -- Looks
 
@@ -63,16 +63,16 @@ pub record SamePart (a b : Hold) : Type 0 where
   pub seen : b.seen ≡ a.seen
 
 -- one of the seat's messages is put into slot k, and the seat has the others
-abbrev pub Puts : Hold → ℕ → Message → Hold → Type 0
-Puts a k m b =
+abbrev pub HoldPuts : Hold → ℕ → Message → Hold → Type 0
+HoldPuts a k m b =
     SamePart a b × (b.stage ≡ Idle) × (b.put ≡ a.put ++ (k, m) ∷ []) × (b.taken ≡ a.taken) ×
-    ((f : Message → ℕ) → weigh f (bag_of b) + f m ≡ weigh f (bag_of a))
+    ((f : Message → ℕ) → weigh f (bag_of_hold b) + f m ≡ weigh f (bag_of_hold a))
 
 -- the message of slot k is taken, and the seat has it besides its others
-abbrev pub Takes : Hold → ℕ → Message → Hold → Type 0
-Takes a k m b =
+abbrev pub HoldTakes : Hold → ℕ → Message → Hold → Type 0
+HoldTakes a k m b =
     SamePart a b × (b.stage ≡ Idle) × (b.put ≡ a.put) × (b.taken ≡ a.taken ++ (k, m) ∷ []) ×
-    ((f : Message → ℕ) → weigh f (bag_of b) ≡ weigh f (bag_of a) + f m)
+    ((f : Message → ℕ) → weigh f (bag_of_hold b) ≡ weigh f (bag_of_hold a) + f m)
 
 -- the message at index i of the outbox is put into slot k
 abbrev pub put_hold : Hold → ℕ → Message → ℕ → Hold

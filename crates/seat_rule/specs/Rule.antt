@@ -21,7 +21,7 @@ use Rattle.machine_theorem.specs.Bags.{weigh}
 use Rattle.machine_moves.specs.States as moves
 use Rattle.machine_moves.specs.Moves.{Reached}
 use Rattle.seat_views.specs.declared.views.View.{View}
-use Rattle.seat_views.specs.Seated.{over, put, Shown}
+use Rattle.seat_views.specs.Seated.{over, with_value_at, Shown}
 use Rattle.seat_rule.specs.declared.views.SetUp.{SetUp}
 use Rattle.seat_rule.specs.declared.views.Stage.{Stage}
 use Rattle.seat_rule.specs.declared.views.Stage.TheVariants.{Idle, Writing, Reading}
@@ -111,8 +111,8 @@ Addressed goes k (reading m) = m.to ≡ goes k
 -- A seat
 
 -- the messages of a seat, all in flight
-abbrev pub bag_of : Hold → List Message
-bag_of h = h.outbox ++ (option_to_list h.hand ++ h.held)
+abbrev pub bag_of_hold : Hold → List Message
+bag_of_hold h = h.outbox ++ (option_to_list h.hand ++ h.held)
 
 -- nothing was counted
 abbrev pub no_counts : Counts
@@ -188,12 +188,12 @@ state_of z n seats bag log = record {
 }
 
 -- moves reach this state from the opening
-abbrev pub Reaches : SetUp → ℕ → (ℕ → Hold) → List Message → List Record → Type 0
-Reaches z n seats bag log = Reached z.config z.memory (state_of z n seats bag log)
+abbrev pub MovesReach : SetUp → ℕ → (ℕ → Hold) → List Message → List Record → Type 0
+MovesReach z n seats bag log = Reached z.config z.memory (state_of z n seats bag log)
 
 -- all messages in flight: those of the seats, and those in slots
 abbrev pub in_flight : ℕ → ℕ → (ℕ → Hold) → (ℕ → Phase) → List Message
-in_flight n slots seats phases = gather n (λ j. bag_of (seats j)) ++ gather slots (λ k. content (phases k))
+in_flight n slots seats phases = gather n (λ j. bag_of_hold (seats j)) ++ gather slots (λ k. content (phases k))
 
 -- the one list is a beginning of the other
 abbrev pub IsPrefix : List Record → List Record → Type 0
@@ -205,7 +205,7 @@ weigh_links h [] = 0
 weigh_links h (x ∷ xs) = h (x.0 / 4) x.1 + weigh_links h xs
 
 -- n seats, and slots from seats to seats
-pub record Kept (z : SetUp) (n : ℕ) (from to : ℕ → ℕ) (slots : ℕ) (s : State (Option Message) (View Hold)) :
+pub record RuleIsKept (z : SetUp) (n : ℕ) (from to : ℕ → ℕ) (slots : ℕ) (s : State (Option Message) (View Hold)) :
     Type 0 where
   -- what each seat holds, made or not, where each slot stands, and all records by number
   pub seats : ℕ → Hold
@@ -227,7 +227,7 @@ pub record Kept (z : SetUp) (n : ℕ) (from to : ℕ → ℕ) (slots : ℕ) (s :
       over n (λ j. weigh_links h (seats j).put) ≡
       over n (λ j. weigh_links h (seats j).taken) + over slots (λ k. weigh (h (k / 4)) (content (phases k)))
   -- all parts, all messages and all records are one reached state
-  pub reached : Reaches z n seats (in_flight n slots seats phases) log
+  pub reached : MovesReach z n seats (in_flight n slots seats phases) log
   -- what a seat has seen is a beginning of the records; each seat has the records of its core, and they are all
   pub seen : (j : ℕ) → IsPrefix (seats j).seen log
   pub total : length log ≡ over n (λ j. length (seats j).records)
@@ -236,11 +236,11 @@ pub record Kept (z : SetUp) (n : ℕ) (from to : ℕ → ℕ) (slots : ℕ) (s :
 
 -- the rule of a machine that is set up so
 abbrev pub Holds : SetUp → State (Option Message) (View Hold) → Type 0
-Holds z = Kept z (seat_count z) (from_of z) (to_of z) (slot_count z)
+Holds z = RuleIsKept z (seat_count z) (from_of z) (to_of z) (slot_count z)
 
 -- one seat may come to hold b in place of a: beside any other messages, and whatever the other seats hold, moves lead
 -- from the state before to the state afterwards
 abbrev pub Changes : SetUp → ℕ → ℕ → Hold → Hold → Type 0
 Changes z n id a b =
     (seats : ℕ → Hold) (xs : List Message) (log : List Record) → seats id ≡ a →
-    Reaches z n seats (bag_of a ++ xs) log → Reaches z n (put seats id b) (bag_of b ++ xs) log
+    MovesReach z n seats (bag_of_hold a ++ xs) log → MovesReach z n (with_value_at seats id b) (bag_of_hold b ++ xs) log

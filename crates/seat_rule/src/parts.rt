@@ -7,7 +7,7 @@ ghost use Rattle.machine_theorem.specs.Bags.{SameBag};
 ghost use Rattle.machine_theorem.specs.Shape.{IsCore, IsBank};
 ghost use Rattle.seat_rule.specs.declared.views.SetUp.{SetUp};
 ghost use Rattle.seat_rule.specs.declared.views.Hold.{Hold};
-ghost use Rattle.seat_rule.specs.Rule.{Changes, bag_of, opening_hold};
+ghost use Rattle.seat_rule.specs.Rule.{Changes, bag_of_hold, opening_hold};
 ghost use Rattle.seat_rule.specs.Plays.{SamePart, Standing};
 ghost use Rattle.seat_rule.specs.SeatMoves.{SeatMove};
 ghost use Rattle.seat_rule.specs.Found.{FindsHere};
@@ -25,7 +25,7 @@ pub fn moves_of_seats_are_changes()
 pub fn seats_stand()
     ensures opened { (z : SetUp) (n id : ℕ) → Standing z n id (opening_hold z id) }
     ensures kept { (z : SetUp) (n id : ℕ) (a b : Hold) → SamePart a b →
-        SameBag (bag_of a) (bag_of b) → Standing z n id a → Standing z n id b }
+        SameBag (bag_of_hold a) (bag_of_hold b) → Standing z n id a → Standing z n id b }
 {
     laws_of_states();
 }
@@ -60,7 +60,7 @@ pub fn records_of_seats_are_counted()
 pub fn messages_of_seats_find_their_parts()
     ensures any { (z : SetUp) (n id : ℕ) (a : Hold) → is_good z.config ≡ true →
         Standing z n id a → (m : Message) (others : List Message) →
-        SameBag (bag_of a) (m ∷ others) → FindsHere z id a m }
+        SameBag (bag_of_hold a) (m ∷ others) → FindsHere z id a m }
     ensures outbox { (z : SetUp) (n id : ℕ) (a : Hold) → is_good z.config ≡ true →
         Standing z n id a → (i : ℕ) (m : Message) → slice_get a.outbox i ≡ Some m →
         FindsHere z id a m }

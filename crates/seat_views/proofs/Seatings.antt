@@ -7,7 +7,7 @@ use lib.ListN.{get_elem?}
 use Rattle.atomic_table.proofs.Lists.{at_set, set_here, set_else, at_longer}
 use Rattle.seat_views.proofs.Sums.{put_here, put_else}
 use Rattle.seat_views.specs.declared.views.View.{View}
-use Rattle.seat_views.specs.Seated.{put, Shown, IsSpent, Once, seat_view, with_hold, one_more, spent_view}
+use Rattle.seat_views.specs.Seated.{with_value_at, Shown, IsSpent, Once, seat_view, with_hold, one_more, spent_view}
 use Rattle.seat_views.specs.Seated.{knows}
 
 module _ {A : Type 0} where
@@ -60,7 +60,7 @@ module _ (H : Type 0) (blank : ℕ → H) where
       spent_still : (j : ℕ) → IsSpent views j → IsSpent (set views id w) j
       spent_still j t = still_spent views id j w (not_spent views id j v at live t) t
 
-    set_shown : (h : H) → Shown blank n (set views id (with_hold v h)) (put seats id h)
+    set_shown : (h : H) → Shown blank n (set views id (with_hold v h)) (with_value_at seats id h)
     set_shown h =
         let w : V = with_hold v h in
         record {
@@ -71,7 +71,7 @@ module _ (H : Type 0) (blank : ℕ → H) where
               (λ x. s.number j u x.1 lives);
           mine = λ j u e lives.
               split w j u e
-              (λ x. ap (put seats id h) x.0 ∙ put_here seats id h ∙ ap (λ (y : V). y.mine) x.1)
+              (λ x. ap (with_value_at seats id h) x.0 ∙ put_here seats id h ∙ ap (λ (y : V). y.mine) x.1)
               (λ x. put_else seats id h j x.0 ∙ s.mine j u x.1 lives);
           known = λ j u e q p k.
               let old : (seats p.0 ≡ p.1) × IsSpent views p.0 =
@@ -289,7 +289,8 @@ module _ (H : Type 0) (blank : ℕ → H) where
 
   -- what one seat holds changes
   pub shown_set : (n : ℕ) (views : List V) (seats : ℕ → H) (id : ℕ) (v : V) (h : H) → Shown blank n views seats →
-      get_elem? views id ≡ some v → v.spent ≡ false → Shown blank n (set views id (with_hold v h)) (put seats id h)
+      get_elem? views id ≡ some v → v.spent ≡ false → Shown blank n (set views id (with_hold v h))
+      (with_value_at seats id h)
   shown_set n views seats id v h s at live = set_shown n views seats id v s at live h
 
   -- the first seat makes one more

@@ -10,8 +10,8 @@ over zero f = 0
 over (suc n) f = over n f + f n
 
 -- f, with x at i
-abbrev pub put : {A : Type 0} → (ℕ → A) → ℕ → A → ℕ → A
-put f i x j = cond (eqb j i) x (f j)
+abbrev pub with_value_at : {A : Type 0} → (ℕ → A) → ℕ → A → ℕ → A
+with_value_at f i x j = cond (eqb j i) x (f j)
 
 -- the view of this index is of a seat that was joined
 abbrev pub IsSpent : {H : Type 0} → List (View H) → ℕ → Type 0

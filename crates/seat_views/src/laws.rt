@@ -3,14 +3,14 @@ ghost use Rattle.std.specs.Prelude.{◌≡◌, ℕ, ◌+◌, ◌<◌, ◌≤◌,
 ghost use mathlib.Core.Option.{some};
 ghost use lib.ListN.{get_elem?};
 ghost use Rattle.seat_views.specs.declared.views.View.{View};
-ghost use Rattle.seat_views.specs.Seated.{over, put, Shown, seat_view, first_view};
+ghost use Rattle.seat_views.specs.Seated.{over, with_value_at, Shown, seat_view, first_view};
 ghost use Rattle.seat_views.specs.Seated.{with_hold, one_more, spent_view, knows};
 
 /// Where one value changes, a sum of weights changes by the weight of that value alone; sums whose terms are equal one
 /// by one are equal; and no term is above its sum.
 pub fn sums_change_by_one_term<A>()
     ensures changed { (n : ℕ) (weight : ℕ → A → ℕ) (f : ℕ → A) (i : ℕ) (x : A) → i < n →
-        over n (λ j. weight j (put f i x j)) + weight i (f i) ≡
+        over n (λ j. weight j (with_value_at f i x j)) + weight i (f i) ≡
         over n (λ j. weight j (f j)) + weight i x }
     ensures alike { (n : ℕ) (f g : ℕ → ℕ) → ((j : ℕ) → j < n → f j ≡ g j) →
         over n f ≡ over n g }
@@ -28,7 +28,7 @@ pub fn one_seat_is_shown<H>()
 pub fn changed_seats_are_shown<H>()
     ensures { (blank : ℕ → H) (n : ℕ) (views : List (View H)) (seats : ℕ → H) (id : ℕ)
         (v : View H) (h : H) → Shown blank n views seats → get_elem? views id ≡ some v →
-        v.spent ≡ false → Shown blank n (set views id (with_hold v h)) (put seats id h) }
+        v.spent ≡ false → Shown blank n (set views id (with_hold v h)) (with_value_at seats id h) }
 {}
 
 /// The first seat makes one more, of the next number, which holds what a seat of this number opens with: what seats

@@ -7,8 +7,9 @@ use Rattle.std.proofs.lemmas.Bool.{cond-false, ne_eqb}
 use Rattle.litmus_parser.specs.declared.syntax.Cell.{Cell}
 use Rattle.litmus_parser.specs.declared.syntax.Instruction.{Instruction}
 use Rattle.litmus_parser.specs.declared.syntax.Instruction.TheVariants as does
-use Rattle.litmus_reader.specs.ThreadSteps.{value_in, written, opened}
-use Rattle.sequential_machine.specs.SequentialMachine.{State, cells_of, initial, memory_after, registers_after}
+use Rattle.litmus_reader.specs.ThreadSteps.{register_value, with_register, with_items}
+use Rattle.sequential_machine.specs.SequentialMachine.{SequentialState, cells_of, sequential_opening, memory_after}
+use Rattle.sequential_machine.specs.SequentialMachine.{registers_after}
 use Rattle.sequential_machine.specs.SequentialMachine.{after_one, Step, next, Steps, none, more, IsOutcome}
 use Rattle.sequential_machine.specs.Example.{cell, store_buffering}
 use Rattle.sequential_machine.proofs.Tables.{here, elsewhere}
@@ -30,9 +31,9 @@ left_at t u (HasLoaded value) = []
 
 abbrev registers_at : Place → List ℕ
 registers_at Begins = replicate 32 0
-registers_at HasSet = written (replicate 32 0) 5 1
-registers_at HasStored = written (replicate 32 0) 5 1
-registers_at (HasLoaded value) = written (written (replicate 32 0) 5 1) 6 value
+registers_at HasSet = with_register (replicate 32 0) 5 1
+registers_at HasStored = with_register (replicate 32 0) 5 1
+registers_at (HasLoaded value) = with_register (with_register (replicate 32 0) 5 1) 6 value
 
 -- the word of a thread's own location
 abbrev word_at : Place → ℕ
@@ -41,7 +42,7 @@ word_at HasSet = 0
 word_at HasStored = 1
 word_at (HasLoaded value) = 1
 
-record IsAt (s : State) (t u : ℕ) (p : Place) : Type 0 where
+record IsAt (s : SequentialState) (t u : ℕ) (p : Place) : Type 0 where
   pub left : s.left t ≡ left_at t u p
   pub registers : s.registers t ≡ registers_at p
   pub word : s.memory t ≡ word_at p
@@ -68,13 +69,14 @@ loads HasStored = λ v w a b. absurd cc
 loads (HasLoaded x) = λ v w a b. inl cc
 
 -- a thread has come to a place, and the other is where it was
-record Comes (s : State) (t u : ℕ) (q : Place) : Type 0 where
+record Comes (s : SequentialState) (t u : ℕ) (q : Place) : Type 0 where
   pub place : Place
   pub own : IsAt s t u place
   pub other : IsAt s u t q
   pub one_of : OneOf place q
 
-comes_to : (s : State) (t u : ℕ) (p q : Place) (i : Instruction) (rest : List Cell) → u ≢ t → rest ≡ left_at t u p →
+comes_to : (s : SequentialState) (t u : ℕ) (p q : Place) (i : Instruction) (rest : List Cell) → u ≢ t → rest
+    ≡ left_at t u p →
     registers_after i (s.registers t) s.memory ≡ registers_at p →
     memory_after i (s.registers t) s.memory t ≡ word_at p → memory_after i (s.registers t) s.memory u ≡ s.memory u →
     OneOf p q → IsAt s u t q → Comes (after_one s t i rest) t u q
@@ -95,29 +97,30 @@ comes_to s t u p q i rest ne left registers word same one_of other =
 both_same : {X : Type 0} (x y : X) (xs ys : List X) → x ∷ xs ≡ y ∷ ys → (x ≡ y) × (ys ≡ xs)
 both_same x y xs ys e = (cc, cc)
 
-comes : (s : State) (t u : ℕ) (p q : Place) (c : Cell) (rest : List Cell) → u ≢ t → left_at t u p ≡ c ∷ rest →
+comes : (s : SequentialState) (t u : ℕ) (p q : Place) (c : Cell) (rest : List Cell) → u ≢ t → left_at t u p ≡ c ∷ rest →
     IsAt s t u p → IsAt s u t q → Comes (after_one s t c.instruction rest) t u q
 comes s t u Begins q c rest ne l own other =
     let e = both_same (cell t (does.Set 5 1)) c (left_at t u HasSet) rest l in
     subst (λ (x : Cell). Comes (after_one s t x.instruction rest) t u q) e.0
-    (comes_to s t u HasSet q (does.Set 5 1) rest ne e.1 (ap (λ (rs : List ℕ). written rs 5 1) own.registers) own.word
+    (comes_to s t u HasSet q (does.Set 5 1) rest ne e.1 (ap (λ (rs : List ℕ). with_register rs 5 1) own.registers)
+    own.word
     refl (λ v w a b. absurd cc) other)
 comes s t u HasSet q c rest ne l own other =
     let e = both_same (cell t (does.Store 5 t)) c (left_at t u HasStored) rest l in
-    let value = value_in (s.registers t) 5 in
+    let value = register_value (s.registers t) 5 in
     subst (λ (x : Cell). Comes (after_one s t x.instruction rest) t u q) e.0
     (comes_to s t u HasStored q (does.Store 5 t) rest ne e.1 own.registers (here s.memory t value
-    ∙ ap (λ (rs : List ℕ). value_in rs 5) own.registers) (elsewhere s.memory t value u ne)
+    ∙ ap (λ (rs : List ℕ). register_value rs 5) own.registers) (elsewhere s.memory t value u ne)
     (λ v w a b. absurd cc) other)
 comes s t u HasStored q c rest ne l own other =
     let e = both_same (cell t (does.Load 6 u)) c [] rest l in
     subst (λ (x : Cell). Comes (after_one s t x.instruction rest) t u q) e.0
     (comes_to s t u (HasLoaded (word_at q)) q (does.Load 6 u) rest ne e.1
-    (ap₂ (λ (rs : List ℕ) (n : ℕ). written rs 6 n) own.registers other.word) own.word refl (loads q) other)
+    (ap₂ (λ (rs : List ℕ) (n : ℕ). with_register rs 6 n) own.registers other.word) own.word refl (loads q) other)
 comes s t u (HasLoaded v) q c rest ne l own other = absurd cc
 
 -- what holds of every state
-record Stands (s : State) : Type 0 where
+record Stands (s : SequentialState) : Type 0 where
   pub first : Place
   pub second : Place
   pub own : IsAt s 0 1 first
@@ -130,8 +133,8 @@ none_of t [] h = refl
 none_of t (c ∷ cells) h = cond-false (eqb c.thread t) (c ∷ cells_of t cells) (cells_of t cells)
     (ne_eqb c.thread t h.0) ∙ none_of t cells h.1
 
-opens : Stands (initial store_buffering)
-unfolding opened
+opens : Stands (sequential_opening store_buffering)
+unfolding with_items
 opens =
     record {
       first = Begins;
@@ -145,7 +148,7 @@ opens =
           none_of t store_buffering.cells (zeroth, (first, (zeroth, (first, (zeroth, (first, tt))))));
     }
 
-turn_keeps : (s : State) (t : ℕ) (c : Cell) (rest : List Cell) → s.left t ≡ c ∷ rest → Stands s →
+turn_keeps : (s : SequentialState) (t : ℕ) (c : Cell) (rest : List Cell) → s.left t ≡ c ∷ rest → Stands s →
     Stands (after_one s t c.instruction rest)
 turn_keeps s zero c rest l h =
     let n = comes s 0 1 h.first h.second c rest (λ e. absurd (omega arith)) (sym h.own.left ∙ l) h.own h.other in
@@ -170,16 +173,16 @@ turn_keeps s (suc zero) c rest l h =
     }
 turn_keeps s (suc (suc t)) c rest l h = absurd (let e = sym (h.no_others (suc (suc t)) (omega arith)) ∙ l in cc)
 
-step_keeps : (s u : State) → Step s u → Stands s → Stands u
+step_keeps : (s u : SequentialState) → Step s u → Stands s → Stands u
 step_keeps s u (next t c rest l) h = turn_keeps s t c rest l h
 
-steps_keep : (s u : State) → Steps s u → Stands s → Stands u
+steps_keep : (s u : SequentialState) → Steps s u → Stands s → Stands u
 steps_keep s u none h = h
 steps_keep s u (more {u = w} a b) h = step_keeps w u b (steps_keep s w a h)
 
 -- no two places where both threads are through, and have 0
-no_end : (p q : Place) → OneOf p q → left_at 0 1 p ≡ [] → left_at 1 0 q ≡ [] → 0 ≡ value_in (registers_at p) 6 →
-    0 ≡ value_in (registers_at q) 6 → ⊥
+no_end : (p q : Place) → OneOf p q → left_at 0 1 p ≡ [] → left_at 1 0 q ≡ [] → 0 ≡ register_value (registers_at p) 6 →
+    0 ≡ register_value (registers_at q) 6 → ⊥
 no_end Begins q h a b v w = absurd cc
 no_end HasSet q h a b v w = absurd cc
 no_end HasStored q h a b v w = absurd cc
@@ -194,11 +197,11 @@ values_of v w x y e = (cc, cc)
 
 pub never_both : IsOutcome store_buffering (0 ∷ 0 ∷ []) → ⊥
 never_both o =
-    let h = steps_keep (initial store_buffering) o.last o.steps opens in
-    let value = λ (t : ℕ). value_in (o.last.registers t) 6 in
+    let h = steps_keep (sequential_opening store_buffering) o.last o.steps opens in
+    let value = λ (t : ℕ). register_value (o.last.registers t) 6 in
     let v = values_of 0 0 (value 0) (value 1) o.values_are in
     no_end h.first h.second h.one_of
     (sym h.own.left ∙ o.finished 0 (omega arith))
     (sym h.other.left ∙ o.finished 1 (omega arith))
-    (v.0 ∙ ap (λ (rs : List ℕ). value_in rs 6) h.own.registers)
-    (v.1 ∙ ap (λ (rs : List ℕ). value_in rs 6) h.other.registers)
+    (v.0 ∙ ap (λ (rs : List ℕ). register_value rs 6) h.own.registers)
+    (v.1 ∙ ap (λ (rs : List ℕ). register_value rs 6) h.other.registers)

@@ -11,10 +11,10 @@ use Rattle.physiological_order.proofs.Lemmas.{one_arrangement}
 use Rattle.litmus_parser.specs.declared.syntax.Name.{Name}
 use Rattle.litmus_parser.specs.declared.syntax.Name.TheVariants.{Register, Location}
 use Rattle.litmus_reader.specs.Litmus.{Litmus}
-use Rattle.litmus_reader.specs.ThreadSteps.{Thread, or_zero, value_in, next_of}
+use Rattle.litmus_reader.specs.ThreadSteps.{Thread, or_zero, register_value, next_operation}
 use Rattle.litmus_reader.specs.Truth.{register_in, end_value}
 use Rattle.litmus_reader.specs.Grammar.{IsTest}
-use Rattle.sequential_machine.specs.SequentialMachine.{State, memory_opened, value_at, IsOutcome}
+use Rattle.sequential_machine.specs.SequentialMachine.{SequentialState, memory_opened, value_at, IsOutcome}
 use Rattle.sequential_machine.specs.Performed.{ArePerformed}
 use Rattle.sequential_machine.specs.Threads.{ThreadIsAt}
 use Rattle.sequential_machine.proofs.Doing.{Does, does}
@@ -32,14 +32,14 @@ abbrev thread_of : List Thread → ℕ → Thread
 thread_of threads t = or_none (slice_get threads t)
 
 -- each name has the same value in the threads and memory and in the state
-same_value : (threads : List Thread) (memory : List ℕ) (s : State) (n locations : ℕ) →
+same_value : (threads : List Thread) (memory : List ℕ) (s : SequentialState) (n locations : ℕ) →
     ((t : ℕ) → t < n → slice_get threads t ≡ Some (thread_of threads t)) →
     ((t : ℕ) → t < n → ThreadIsAt s t (thread_of threads t)) →
     ((l : ℕ) → l < locations → slice_get memory l ≡ Some (s.memory l)) →
     (name : Name) → IsThere n locations name → end_value threads memory name ≡ value_at s name
 same_value threads memory s n locations found stand words (Register t r) lt =
     ap (λ (o : Option Thread). register_in o r) (found t lt)
-    ∙ sym (ap (λ (rs : List ℕ). value_in rs r) (stand t lt).registers)
+    ∙ sym (ap (λ (rs : List ℕ). register_value rs r) (stand t lt).registers)
 same_value threads memory s n locations found stand words (Location l) lt = ap or_zero (words l lt)
 
 same_values : (f g : Name → ℕ) (P : Name → Type 0) → ((name : Name) → P name → f name ≡ g name) →
@@ -62,8 +62,8 @@ module _ (test : Litmus) (issued : ℕ → List Op) (records arranged : List Rec
       (subst (λ (q : Thread). Does (start test t) (of_core t records) q) (sym (ap or_none p.1))
       (does (start test t) (of_core t records) p.0 p.2))
 
-  at_end : (t : ℕ) → t < test.threads → next_of (thread_of threads t) ≡ None
-  at_end t lt = let p = performed.performed t lt in ap (λ (o : Option Thread). next_of (or_none o)) p.1 ∙ p.3
+  at_end : (t : ℕ) → t < test.threads → next_operation (thread_of threads t) ≡ None
+  at_end t lt = let p = performed.performed t lt in ap (λ (o : Option Thread). next_operation (or_none o)) p.1 ∙ p.3
 
   outcome : (memory : List ℕ) → Each (IsThere test.threads (length test.locations)) test.seen →
       ReceivesAsReplayed (memory_opened test) arranged →

@@ -7,8 +7,9 @@ use Rattle.physiological_order.specs.declared.operation.Record.{Record}
 use Rattle.physiological_order.specs.Order.{Memory, flat_received, flat_after, replay, replay_end, of_core}
 use Rattle.physiological_order.specs.Order.{ReceivesAsReplayed}
 use Rattle.litmus_reader.specs.Litmus.{Litmus}
-use Rattle.litmus_reader.specs.ThreadSteps.{Thread, settled, done_with}
-use Rattle.sequential_machine.specs.SequentialMachine.{State, cells_of, registers_opened, memory_opened, initial}
+use Rattle.litmus_reader.specs.ThreadSteps.{Thread, settled_thread, done_with}
+use Rattle.sequential_machine.specs.SequentialMachine.{SequentialState, cells_of, registers_opened, memory_opened}
+use Rattle.sequential_machine.specs.SequentialMachine.{sequential_opening}
 use Rattle.sequential_machine.specs.SequentialMachine.{with_at, Steps, none}
 use Rattle.sequential_machine.proofs.Doing.{Does}
 use Rattle.sequential_machine.proofs.Tables.{everywhere}
@@ -16,14 +17,14 @@ use Rattle.sequential_machine.specs.Threads.{ThreadIsAt}
 use Rattle.sequential_machine.proofs.ThreadSteps.{joined, settles, performs}
 
 -- steps after which the memory is this one, and the first n threads stand so
-pub record Runs (n : ℕ) (s : State) (m : Memory) (threads : ℕ → Thread) : Type 0 where
-  pub end : State
+pub record Runs (n : ℕ) (s : SequentialState) (m : Memory) (threads : ℕ → Thread) : Type 0 where
+  pub end : SequentialState
   pub steps : Steps s end
   pub memory : end.memory ≡ m
   pub stand : (t : ℕ) → t < n → ThreadIsAt end t (threads t)
 
 -- another thread's steps leave where a thread stands
-still : (s u : State) (t : ℕ) (q : Thread) → (u.registers t ≡ s.registers t) × (u.left t ≡ s.left t) →
+still : (s u : SequentialState) (t : ℕ) (q : Thread) → (u.registers t ≡ s.registers t) × (u.left t ≡ s.left t) →
     ThreadIsAt s t q → ThreadIsAt u t q
 still s u t q same at =
     record { thread = at.thread; registers = same.0 ∙ at.registers; left = same.1 ∙ at.left; ready = at.ready }
@@ -39,7 +40,8 @@ none_of_core c r rs ne =
 both_same : (x y : Option ℕ) (xs ys : List (Option ℕ)) → x ∷ xs ≡ y ∷ ys → (x ≡ y) × (xs ≡ ys)
 both_same x y xs ys e = (cc, cc)
 
-pub runs : (n : ℕ) (rs : List Record) (s : State) (q last : ℕ → Thread) → ((t : ℕ) → t < n → ThreadIsAt s t (q t)) →
+pub runs : (n : ℕ) (rs : List Record) (s : SequentialState) (q last : ℕ → Thread) →
+    ((t : ℕ) → t < n → ThreadIsAt s t (q t)) →
     Each (λ r. r.core < n) rs →
     ((t : ℕ) → t < n → Does (q t) (of_core t rs) (last t)) → ReceivesAsReplayed s.memory rs →
     Runs n s (replay_end s.memory (map (λ r. r.op) rs)) last
@@ -75,17 +77,17 @@ runs n (r ∷ rs) s q last stand there performed values =
 
 -- a test's thread at its first memory instruction
 abbrev pub start : Litmus → ℕ → Thread
-start test t = settled t (registers_opened test t) test.cells
+start test t = settled_thread t (registers_opened test t) test.cells
 
 record Opens (test : Litmus) (n : ℕ) : Type 0 where
-  pub runs : Runs n (initial test) (memory_opened test) (start test)
+  pub runs : Runs n (sequential_opening test) (memory_opened test) (start test)
   pub others : (t : ℕ) → n ≤ t → (runs.end.registers t ≡ registers_opened test t) ×
       (runs.end.left t ≡ cells_of t test.cells)
 
 opens : (test : Litmus) (n : ℕ) → Opens test n
 opens test zero = record {
   runs = record {
-    end = initial test;
+    end = sequential_opening test;
     steps = none;
     memory = refl;
     stand =
@@ -101,11 +103,11 @@ opens test (suc n) =
     record {
       runs = record {
         end = g.end;
-        steps = joined (initial test) old g.end o.runs.steps g.steps;
+        steps = joined (sequential_opening test) old g.end o.runs.steps g.steps;
         memory = g.memory ∙ o.runs.memory;
         stand = λ t lt. ⊎_elim
             (λ (e : t ≡ n). subst (λ (k : ℕ). ThreadIsAt g.end k (start test k)) (sym e)
-            (subst (λ (rs : List ℕ). ThreadIsAt g.end n (settled n rs test.cells)) own.0 g.stands))
+            (subst (λ (rs : List ℕ). ThreadIsAt g.end n (settled_thread n rs test.cells)) own.0 g.stands))
             (λ (ne : t ≡ n → ⊥). still old g.end t (start test t) (g.others t ne) (o.runs.stand t (omega arith)))
             (cases_eq t n);
       };
@@ -117,14 +119,14 @@ opens test (suc n) =
 -- from the opening
 pub whole : (test : Litmus) (n : ℕ) (rs : List Record) (last : ℕ → Thread) → Each (λ r. r.core < n) rs →
     ((t : ℕ) → t < n → Does (start test t) (of_core t rs) (last t)) → ReceivesAsReplayed (memory_opened test) rs →
-    Runs n (initial test) (replay_end (memory_opened test) (map (λ r. r.op) rs)) last
+    Runs n (sequential_opening test) (replay_end (memory_opened test) (map (λ r. r.op) rs)) last
 whole test n rs last there performed values =
     let o = (opens test n).runs in
     let r = runs n rs o.end (start test) last o.stand there performed (subst (λ (m : Memory). ReceivesAsReplayed m rs)
     (sym o.memory) values) in
     record {
       end = r.end;
-      steps = joined (initial test) o.end r.end o.steps r.steps;
+      steps = joined (sequential_opening test) o.end r.end o.steps r.steps;
       memory = r.memory ∙ ap (λ (m : Memory). replay_end m (map (λ (x : Record). x.op) rs)) o.memory;
       stand = r.stand;
     }

@@ -5,26 +5,27 @@ use Rattle.std.specs.FinMap.{get-empty}
 use Rattle.std.specs.Ordering.{nat_cmp}
 use Rattle.litmus_parser.specs.declared.syntax.Cell.{Cell}
 use Rattle.litmus_reader.specs.OpeningMemory.{words_opened}
-use Rattle.litmus_reader.specs.ThreadSteps.{opened}
-use Rattle.sequential_machine.specs.SequentialMachine.{State, memory_opened, initial, after_one, next, Steps, none}
+use Rattle.litmus_reader.specs.ThreadSteps.{with_items}
+use Rattle.sequential_machine.specs.SequentialMachine.{SequentialState, memory_opened, sequential_opening, after_one}
+use Rattle.sequential_machine.specs.SequentialMachine.{next, Steps, none}
 use Rattle.sequential_machine.specs.SequentialMachine.{more, IsOutcome}
 use Rattle.sequential_machine.specs.Example.{store_buffering}
 use Rattle.sequential_machine.proofs.ThreadSteps.{joined}
 
-abbrev after_first : State → ℕ → List Cell → State
+abbrev after_first : SequentialState → ℕ → List Cell → SequentialState
 after_first s t [] = s
 after_first s t (cell ∷ rest) = after_one s t cell.instruction rest
 
 -- each thread of the list does its next instruction
-abbrev by_turns : State → List ℕ → State
+abbrev by_turns : SequentialState → List ℕ → SequentialState
 by_turns s [] = s
 by_turns s (t ∷ ts) = by_turns (after_first s t (s.left t)) ts
 
-first_step : (s : State) (t : ℕ) (cells : List Cell) → s.left t ≡ cells → Steps s (after_first s t cells)
+first_step : (s : SequentialState) (t : ℕ) (cells : List Cell) → s.left t ≡ cells → Steps s (after_first s t cells)
 first_step s t [] e = none
 first_step s t (cell ∷ rest) e = more none (next t cell rest e)
 
-turns : (s : State) (ts : List ℕ) → Steps s (by_turns s ts)
+turns : (s : SequentialState) (ts : List ℕ) → Steps s (by_turns s ts)
 turns s [] = none
 turns s (t ∷ ts) =
     let after = after_first s t (s.left t) in
@@ -38,22 +39,22 @@ stores_first = 0 ∷ 1 ∷ 0 ∷ 1 ∷ 0 ∷ 1 ∷ []
 abbrev one_first : List ℕ
 one_first = 0 ∷ 0 ∷ 0 ∷ 1 ∷ 1 ∷ 1 ∷ []
 
-through : (t : ℕ) → t < 2 → (by_turns (initial store_buffering) stores_first).left t ≡ []
+through : (t : ℕ) → t < 2 → (by_turns (sequential_opening store_buffering) stores_first).left t ≡ []
 through zero lt = refl
 through (suc zero) lt = refl
 through (suc (suc t)) lt = absurd (omega arith)
 
-through_too : (t : ℕ) → t < 2 → (by_turns (initial store_buffering) one_first).left t ≡ []
+through_too : (t : ℕ) → t < 2 → (by_turns (sequential_opening store_buffering) one_first).left t ≡ []
 through_too zero lt = refl
 through_too (suc zero) lt = refl
 through_too (suc (suc t)) lt = absurd (omega arith)
 
 pub both_receive_one : IsOutcome store_buffering (1 ∷ 1 ∷ [])
-unfolding words_opened opened
+unfolding words_opened with_items
 both_receive_one = record {
-  last = by_turns (initial store_buffering) stores_first;
+  last = by_turns (sequential_opening store_buffering) stores_first;
   steps =
-      turns (initial store_buffering) stores_first;
+      turns (sequential_opening store_buffering) stores_first;
   finished = through;
   values_are = refl;
 }
@@ -64,11 +65,11 @@ unfolding words_opened
 unset a = ap (λ (o : Option ℕ). unwrap_or o 0) (get-empty nat_cmp a)
 
 pub one_receives_zero : IsOutcome store_buffering (0 ∷ 1 ∷ [])
-unfolding words_opened opened
+unfolding words_opened with_items
 one_receives_zero = record {
-  last = by_turns (initial store_buffering) one_first;
+  last = by_turns (sequential_opening store_buffering) one_first;
   steps =
-      turns (initial store_buffering) one_first;
+      turns (sequential_opening store_buffering) one_first;
   finished = through_too;
   values_are =
       ap (λ (n : ℕ). n ∷ 1 ∷ []) (sym (unset 1));

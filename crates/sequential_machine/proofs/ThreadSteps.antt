@@ -7,19 +7,22 @@ use Rattle.physiological_order.specs.Order.{Memory, flat_received, flat_after}
 use Rattle.litmus_parser.specs.declared.syntax.Cell.{Cell}
 use Rattle.litmus_parser.specs.declared.syntax.Instruction.{Instruction}
 use Rattle.litmus_parser.specs.declared.syntax.Instruction.TheVariants as does
-use Rattle.litmus_reader.specs.ThreadSteps.{Thread, value_in, after_local, goes_on, settled, operation_of}
-use Rattle.litmus_reader.specs.ThreadSteps.{first_operation, next_of, received_by, behind_first, done_with}
+use Rattle.litmus_reader.specs.ThreadSteps.{Thread, register_value, after_local, goes_on, settled_thread}
+use Rattle.litmus_reader.specs.ThreadSteps.{instruction_operation}
+use Rattle.litmus_reader.specs.ThreadSteps.{first_operation, next_operation, received_by, behind_first_cell, done_with}
 use Rattle.sequential_machine.specs.Threads.{Ready, ThreadIsAt, Goes}
-use Rattle.sequential_machine.specs.SequentialMachine.{State, cells_of, memory_after, registers_after, after_one}
+use Rattle.sequential_machine.specs.SequentialMachine.{SequentialState, cells_of, memory_after, registers_after}
+use Rattle.sequential_machine.specs.SequentialMachine.{after_one}
 use Rattle.sequential_machine.specs.SequentialMachine.{next, Steps, none, more}
 use Rattle.sequential_machine.proofs.Tables.{here, elsewhere}
 
-pub joined : (s u v : State) → Steps s u → Steps u v → Steps s v
+pub joined : (s u v : SequentialState) → Steps s u → Steps u v → Steps s v
 joined s u v a none = a
 joined s u v a (more {u = w} b c) = more (joined s u w a b) c
 
 -- a step in front
-behind_one : (s : State) (t : ℕ) (cell : Cell) (rest : List Cell) (m : Memory) (q : Thread) → s.left t ≡ cell ∷ rest →
+behind_one : (s : SequentialState) (t : ℕ) (cell : Cell) (rest : List Cell) (m : Memory) (q : Thread) → s.left t
+    ≡ cell ∷ rest →
     Goes (after_one s t cell.instruction rest) t m q → Goes s t m q
 behind_one s t cell rest m q l g =
     let registers = registers_after cell.instruction (s.registers t) s.memory in
@@ -37,18 +40,19 @@ behind_one s t cell rest m q l g =
 
 -- from any state with these instructions left, the thread goes on to its next memory instruction
 abbrev Settles : ℕ → List Cell → Type 0
-Settles t cells = (s : State) → s.left t ≡ cells_of t cells → Goes s t s.memory (settled t (s.registers t) cells)
+Settles t cells =
+    (s : SequentialState) → s.left t ≡ cells_of t cells → Goes s t s.memory (settled_thread t (s.registers t) cells)
 
 -- an instruction is done, and then those behind it
-goes-behind : (s : State) (t : ℕ) (cell : Cell) (rest : List Cell) → s.left t ≡ cell ∷ cells_of t
+goes-behind : (s : SequentialState) (t : ℕ) (cell : Cell) (rest : List Cell) → s.left t ≡ cell ∷ cells_of t
     rest → Settles t rest →
     Goes s t (memory_after cell.instruction (s.registers t) s.memory)
-    (settled t (registers_after cell.instruction (s.registers t) s.memory) rest)
+    (settled_thread t (registers_after cell.instruction (s.registers t) s.memory) rest)
 goes-behind s t cell rest l go =
     let new = after_one s t cell.instruction (cells_of t rest) in
     let registers = registers_after cell.instruction (s.registers t) s.memory in
-    behind_one s t cell (cells_of t rest) new.memory (settled t registers rest) l
-    (subst (λ (rs : List ℕ). Goes new t new.memory (settled t rs rest)) (here s.registers t registers)
+    behind_one s t cell (cells_of t rest) new.memory (settled_thread t registers rest) l
+    (subst (λ (rs : List ℕ). Goes new t new.memory (settled_thread t rs rest)) (here s.registers t registers)
     (go new (here s.left t (cells_of t rest))))
 
 -- what an instruction without memory leaves
@@ -66,10 +70,10 @@ first_of t cell rest is =
     cond-true (eqb cell.thread t) (cell ∷ cells_of t rest) (cells_of t rest) (eq-eqb cell.thread t is)
 
 -- the first instruction is the thread's own
-own : (s : State) (t : ℕ) (cell : Cell) (rest : List Cell) → cell.thread ≡ t → s.left t ≡ cell ∷ cells_of t
+own : (s : SequentialState) (t : ℕ) (cell : Cell) (rest : List Cell) → cell.thread ≡ t → s.left t ≡ cell ∷ cells_of t
     rest → Settles t rest →
     (after : Option (List ℕ)) → after_local cell.instruction (s.registers t) ≡ after →
-    Goes s t s.memory (goes_on after (λ registers. settled t registers rest)
+    Goes s t s.memory (goes_on after (λ registers. settled_thread t registers rest)
     (record { thread = t; registers = s.registers t; rest = cell ∷ rest }))
 own s t cell rest is l go None e =
     record {
@@ -81,12 +85,13 @@ own s t cell rest is l go None e =
     }
 own s t cell rest is l go (Some registers) e =
     let after = local cell.instruction (s.registers t) registers s.memory e in
-    subst (λ (m : Memory). Goes s t m (settled t registers rest)) after.1
-    (subst (λ (rs : List ℕ). Goes s t (memory_after cell.instruction (s.registers t) s.memory) (settled t rs rest))
+    subst (λ (m : Memory). Goes s t m (settled_thread t registers rest)) after.1
+    (subst (λ (rs : List ℕ). Goes s t (memory_after cell.instruction (s.registers t) s.memory)
+    (settled_thread t rs rest))
     after.0 (goes-behind s t cell rest l go))
 
 pub settles : (t : ℕ) (cells : List Cell) → Settles t cells
-unfolding settled
+unfolding settled_thread
 settles t [] s l = record {
   end = s;
   steps = none;
@@ -98,7 +103,7 @@ settles t [] s l = record {
 settles t (cell ∷ rest) s l =
     let stop : Thread = record { thread = t; registers = s.registers t; rest = cell ∷ rest } in
     cond_both (eqb cell.thread t) (goes_on (after_local cell.instruction (s.registers t))
-    (λ registers. settled t registers rest) stop) (settled t (s.registers t) rest) (Goes s t s.memory)
+    (λ registers. settled_thread t registers rest) stop) (settled_thread t (s.registers t) rest) (Goes s t s.memory)
     (λ e. own s t cell rest (eqb-true cell.thread t e) (l ∙ first_of t cell rest (eqb-true cell.thread t e))
     (settles t rest) (after_local cell.instruction (s.registers t)) refl)
     (λ e. settles t rest s (l ∙ rw e refl))
@@ -107,7 +112,7 @@ same_some : {X : Type 0} (x y : X) → Some x ≡ Some y → x ≡ y
 same_some x y e = cc
 
 -- what a memory instruction leaves
-on_memory : (i : Instruction) (rs : List ℕ) (x : Op) (m : Memory) → operation_of i rs ≡ Some x →
+on_memory : (i : Instruction) (rs : List ℕ) (x : Op) (m : Memory) → instruction_operation i rs ≡ Some x →
     (registers_after i rs m ≡ received_by i (flat_received m x) rs) × (memory_after i rs m ≡ flat_after m x)
 on_memory (does.Load target location) rs x m e =
     subst (λ (y : Op). (registers_after (does.Load target location) rs m ≡ received_by (does.Load target location)
@@ -116,38 +121,41 @@ on_memory (does.Load target location) rs x m e =
 on_memory (does.Store source location) rs x m e =
     subst (λ (y : Op). (rs ≡ received_by (does.Store source location) (flat_received m y) rs) ×
     (memory_after (does.Store source location) rs m ≡ flat_after m y))
-    (same_some (op.Store location (value_in rs source)) x e) (refl, refl)
+    (same_some (op.Store location (register_value rs source)) x e) (refl, refl)
 on_memory (does.Swap target source location) rs x m e =
     subst (λ (y : Op). (registers_after (does.Swap target source location) rs m ≡ received_by
     (does.Swap target source location) (flat_received m y) rs) ×
     (memory_after (does.Swap target source location) rs m ≡ flat_after m y))
-    (same_some (op.Swap location (value_in rs source)) x e) (refl, refl)
+    (same_some (op.Swap location (register_value rs source)) x e) (refl, refl)
 on_memory (does.Set target value) rs x m e = absurd cc
 on_memory does.Fence rs x m e = absurd cc
 
-first_performed : (s : State) (t : ℕ) (rs : List ℕ) (cells : List Cell) (x : Op) (received : Option ℕ) →
+first_performed : (s : SequentialState) (t : ℕ) (rs : List ℕ) (cells : List Cell) (x : Op) (received : Option ℕ) →
     s.registers t ≡ rs → s.left t ≡ cells_of t cells → Ready t rs cells → first_operation cells rs ≡ Some x →
     flat_received s.memory x ≡ received →
-    Goes s t (flat_after s.memory x) (behind_first t rs received cells)
+    Goes s t (flat_after s.memory x) (behind_first_cell t rs received cells)
 first_performed s t rs [] x received r l ready e v = absurd cc
 first_performed s t rs (cell ∷ rest) x received r l ready e v =
     let after = on_memory cell.instruction (s.registers t) x s.memory
-    (subst (λ (ns : List ℕ). operation_of cell.instruction ns ≡ Some x) (sym r) e) in
-    subst (λ (m : Memory). Goes s t m (behind_first t rs received (cell ∷ rest))) after.1
-    (subst (λ (ns : List ℕ). Goes s t (memory_after cell.instruction (s.registers t) s.memory) (settled t ns rest))
+    (subst (λ (ns : List ℕ). instruction_operation cell.instruction ns ≡ Some x) (sym r) e) in
+    subst (λ (m : Memory). Goes s t m (behind_first_cell t rs received (cell ∷ rest))) after.1
+    (subst (λ (ns : List ℕ). Goes s t (memory_after cell.instruction (s.registers t) s.memory)
+    (settled_thread t ns rest))
     (after.0 ∙ ap₂ (λ (o : Option ℕ) (ns : List ℕ). received_by cell.instruction o ns) v r)
     (goes-behind s t cell rest (l ∙ first_of t cell rest ready.0) (settles t rest)))
 
 -- a thread's next operation is performed, and it receives what the memory gives
-pub performs : (s : State) (t : ℕ) (q : Thread) (x : Op) (received : Option ℕ) → ThreadIsAt s t q → next_of q ≡ Some x
+pub performs : (s : SequentialState) (t : ℕ) (q : Thread) (x : Op) (received : Option ℕ) → ThreadIsAt s t q →
+    next_operation q ≡ Some x
     →
     flat_received s.memory x ≡ received →
     Goes s t (flat_after s.memory x) (done_with q received)
 performs s t q x received at e v =
-    subst (λ (n : ℕ). Goes s t (flat_after s.memory x) (behind_first n q.registers received q.rest)) (sym at.thread)
+    subst (λ (n : ℕ). Goes s t (flat_after s.memory x) (behind_first_cell n q.registers received q.rest))
+    (sym at.thread)
     (first_performed s t q.registers q.rest x received at.registers at.left at.ready e v)
 
-never_both : (i : Instruction) (rs : List ℕ) → operation_of i rs ≡ None → after_local i rs ≡ None → ⊥
+never_both : (i : Instruction) (rs : List ℕ) → instruction_operation i rs ≡ None → after_local i rs ≡ None → ⊥
 never_both (does.Load target location) rs e f = absurd cc
 never_both (does.Store source location) rs e f = absurd cc
 never_both (does.Swap target source location) rs e f = absurd cc
@@ -160,5 +168,5 @@ none_in t rs [] ready e = refl
 none_in t rs (cell ∷ rest) ready e = absurd (never_both cell.instruction rs e ready.1)
 
 -- where a thread has no next operation, it has no instruction left
-pub none_left : (s : State) (t : ℕ) (q : Thread) → ThreadIsAt s t q → next_of q ≡ None → s.left t ≡ []
+pub none_left : (s : SequentialState) (t : ℕ) (q : Thread) → ThreadIsAt s t q → next_operation q ≡ None → s.left t ≡ []
 none_left s t q at e = at.left ∙ none_in t q.registers q.rest at.ready e

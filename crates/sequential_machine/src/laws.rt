@@ -5,9 +5,10 @@ ghost use Rattle.physiological_order.specs.declared.operation.Record.{Record};
 ghost use Rattle.physiological_order.specs.Order.{Legal, Arrangement, flat_after, flat_received, replay_end};
 ghost use Rattle.litmus_reader.specs.Litmus.{Litmus};
 ghost use Rattle.litmus_reader.specs.Grammar.{IsTest};
-ghost use Rattle.litmus_reader.specs.ThreadSteps.{Thread, done_with, next_of, settled};
+ghost use Rattle.litmus_reader.specs.ThreadSteps.{Thread, done_with, next_operation, settled_thread};
 ghost use Rattle.litmus_reader.specs.Truth.{end_value};
-ghost use Rattle.sequential_machine.specs.SequentialMachine.{State, cells_of, memory_opened, registers_opened};
+ghost use Rattle.sequential_machine.specs.SequentialMachine.{SequentialState, cells_of, memory_opened};
+ghost use Rattle.sequential_machine.specs.SequentialMachine.{registers_opened};
 ghost use Rattle.sequential_machine.specs.SequentialMachine.{IsOutcome};
 ghost use Rattle.sequential_machine.specs.Threads.{Goes, ThreadIsAt};
 ghost use Rattle.sequential_machine.specs.Performed.{ArePerformed};
@@ -19,14 +20,14 @@ ghost use Rattle.sequential_machine.specs.Example.{store_buffering};
 /// the program's state after it is told what memory gave. If the program gives none, no
 /// instruction is left.
 pub fn programs_are_threads()
-    ensures opened { (test : Litmus) (s : State) (t : ℕ)
+    ensures opened { (test : Litmus) (s : SequentialState) (t : ℕ)
         → s.registers t ≡ registers_opened test t → s.left t ≡ cells_of t test.cells →
-        Goes s t s.memory (settled t (registers_opened test t) test.cells) }
-    ensures performed { (s : State) (t : ℕ) (program : Thread) (op : Op)
-        → ThreadIsAt s t program → next_of program ≡ Some op →
+        Goes s t s.memory (settled_thread t (registers_opened test t) test.cells) }
+    ensures performed { (s : SequentialState) (t : ℕ) (program : Thread) (op : Op)
+        → ThreadIsAt s t program → next_operation program ≡ Some op →
         Goes s t (flat_after s.memory op) (done_with program (flat_received s.memory op)) }
-    ensures finished { (s : State) (t : ℕ) (program : Thread)
-        → ThreadIsAt s t program → next_of program ≡ None → s.left t ≡ [] }
+    ensures finished { (s : SequentialState) (t : ℕ) (program : Thread)
+        → ThreadIsAt s t program → next_operation program ≡ None → s.left t ≡ [] }
 {}
 
 /// A legal history of a test in which each thread was performed to its end is a run of the

@@ -1,6 +1,6 @@
 //! The results of all workers, in the order of their jobs.
 ghost use Rattle.std.specs.Prelude.{◌≡◌, ◌≤◌, ◌++◌, [], length, IfOk, IfSome, None, All, vec_capacity};
-ghost use Rattle.shared_jobs.specs.Results.{AllGiven, AreGiven, HasOtherFront, numbered};
+ghost use Rattle.shared_jobs.specs.Results.{AllGiven, AreGiven, HasOtherFront, numbered_result};
 
 use crate::gate::Gate;
 use crate::jobs::{Jobs, run_left};
@@ -58,7 +58,7 @@ fn take_one<X: Drop, S: Drop, J: Jobs<X, S>>(
 
 // Takes the result in front, if it is of the job of this number.
 fn take_front<X: Drop>(results: &mut VecDeque<(u64, X)>, number: u64) -> Option<X>
-    ensures taken { results.old.items ≡ numbered number result ++ results.new.items }
+    ensures taken { results.old.items ≡ numbered_result number result ++ results.new.items }
     ensures missing { result ≡ None → HasOtherFront number results.old.items }
 {
     match results.front() {

@@ -1,7 +1,7 @@
 //! What each worker does: it claims jobs until there are no more.
 ghost use Rattle.std.specs.Prelude.{ℕ, ◌<◌, IfSome};
 ghost use Rattle.drawn_numbers.specs.Drawers.{IsDrawerOf};
-ghost use Rattle.shared_jobs.specs.Results.{AllGiven, AllBelow};
+ghost use Rattle.shared_jobs.specs.Results.{AllGiven, AreOfJobsBelow};
 ghost use Rattle.shared_jobs.specs.Teams.{IsAtWork};
 
 use crate::gate::Gate;
@@ -50,11 +50,11 @@ fn do_one<X: Drop, S: Drop, J: Jobs<X, S>, G: Gate>(
     state: S,
 ) -> Option<S>
     requires drawer { IsDrawerOf numbers.now worker.old.drawer }
-    requires below { AllBelow count worker.old.results.items }
+    requires below { AreOfJobsBelow count worker.old.results.items }
     requires given { AllGiven (J.gives jobs.now) worker.old.results.items }
     requires ready { J.ready jobs.now state }
     ensures drawer { IsDrawerOf numbers.now worker.new.drawer }
-    ensures below { AllBelow count worker.new.results.items }
+    ensures below { AreOfJobsBelow count worker.new.results.items }
     ensures given { AllGiven (J.gives jobs.now) worker.new.results.items }
     ensures ready { IfSome result (J.ready jobs.now) }
 {

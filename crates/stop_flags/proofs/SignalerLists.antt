@@ -5,7 +5,7 @@ use Rattle.std.specs.Prelude.{slice_get, slice_index_or}
 use Rattle.seat_views.proofs.Lemmas.{some_is}
 use Rattle.stop_flags.specs.declared.signals.Signals.{Signals}
 use Rattle.stop_flags.specs.declared.signaler.Signaler.{Signaler}
-use Rattle.stop_flags.specs.Ties.{Chair}
+use Rattle.stop_flags.specs.Ties.{FlagSeat}
 use Rattle.stop_flags.specs.Told.{nothing}
 use Rattle.stop_flags.specs.Signalers.{IsNewSignaler, AllNewSignalers}
 
@@ -36,8 +36,8 @@ pub front_signaler : (m : Signals) (ss : List Signaler) (s : Signaler) → AllNe
 front_signaler m ss s all new zero e at = subst (IsNewSignaler m) (some_is at) new
 front_signaler m ss s all new (suc i) e at = all i e at
 
--- what a signaler is once it is made of a chair
-pub new_signaler : (m : Signals) (s : Signaler) (chair : Chair) → chair.table_id ≡ m.table.shared.table_id →
-    chair.me.0.mine.workers ≡ m.workers → s.seat ≡ chair → s.said ≡ nothing → IsNewSignaler m s
-new_signaler m s chair table workers seat said =
-    ((ap (λ (y : Chair). y.table_id) seat ∙ table, ap (λ (y : Chair). y.me.0.mine.workers) seat ∙ workers), said)
+-- what a signaler is once it is made of a flag_seat
+pub new_signaler : (m : Signals) (s : Signaler) (flag_seat : FlagSeat) → flag_seat.table_id ≡ m.table.shared.table_id →
+    flag_seat.me.0.mine.workers ≡ m.workers → s.seat ≡ flag_seat → s.said ≡ nothing → IsNewSignaler m s
+new_signaler m s flag_seat table workers seat said =
+    ((ap (λ (y : FlagSeat). y.table_id) seat ∙ table, ap (λ (y : FlagSeat). y.me.0.mine.workers) seat ∙ workers), said)

@@ -6,11 +6,12 @@ use mathlib.Core.Option.{some, some-injective, some-ne-none}
 use lib.ListN.{get_elem?}
 use Rattle.atomic_table.specs.Table.{State, Me, keeps, Allows, Splits, opening}
 use Rattle.seat_views.specs.declared.views.View.{View}
-use Rattle.seat_views.specs.Seated.{over, put, Shown, one_more, seat_view, first_view}
+use Rattle.seat_views.specs.Seated.{over, with_value_at, Shown, one_more, seat_view, first_view}
 use Rattle.seat_views.proofs.Lemmas.{within, shown_set, shown_split, at_put, over_put, put_here}
 use Rattle.stop_flags.specs.declared.words.Said.{Said}
 use Rattle.stop_flags.specs.declared.words.Voice.{Voice}
-use Rattle.stop_flags.specs.Told.{nothing, voice, one_finished, has_stopped, in_all, FinishedInAll, SomeStopped, Told}
+use Rattle.stop_flags.specs.Told.{nothing, voice, one_finished, has_stopped, in_all, FinishedInAll, SomeStopped}
+use Rattle.stop_flags.specs.Told.{FlagsHold}
 use Rattle.stop_flags.specs.Told.{with_said, told_finished, told_stopped, heard_finished, heard_stopped}
 
 abbrev V : Type 0
@@ -43,7 +44,8 @@ rung_bit x b = ⊎_elim (λ e. ap (λ z. bit_or z 1) e) (λ e. ap (λ z. bit_or 
 
 module _ (n : ℕ) where
   -- what is known of the seat that steps
-  module _ (s : S) (r : Told n s) (id : ℕ) (v : V) (at : get_elem? s.views id ≡ some v) (live : v.spent ≡ false) where
+  module _ (s : S) (r : FlagsHold n s) (id : ℕ) (v : V) (at : get_elem? s.views id ≡ some v)
+      (live : v.spent ≡ false) where
     is : r.voices id ≡ v.mine
     is = r.shown.mine id v at live
 
@@ -99,11 +101,11 @@ module _ (n : ℕ) where
         get_or words 0 0 + v.mine.said.finished ≡ get_or s.words 0 0 + h.finished → h.finished ≤ 4294967296 →
         (get_or words 1 0 ≡ get_or s.words 1 0) × (h.stops ≡ v.mine.said.stops)
         ⊎ (get_or words 1 0 ≡ 1) × (h.stops ≡ true) →
-        Told n (record { words = words; homes = s.homes; views = set s.views id (with_said v h) })
+        FlagsHold n (record { words = words; homes = s.homes; views = set s.views id (with_said v h) })
     told_after h words long sum few bit =
         let w : Voice = voice v.mine.workers h in
         record {
-          voices = put r.voices id w;
+          voices = with_value_at r.voices id w;
           shown = shown_set Voice (λ _. voice n nothing) n s.views r.voices id v w r.shown at live;
           two_words = long;
           few = r.few;
@@ -112,7 +114,7 @@ module _ (n : ℕ) where
               let b = over_put n (λ (g : Voice). g.said.finished) r.voices id w seat in
               let t = r.total in
               let q = finished_is in
-              let g : over n (λ j. (put r.voices id w j).said.finished) ≡ get_or words 0 0 = omega arith in
+              let g : over n (λ j. (with_value_at r.voices id w j).said.finished) ≡ get_or words 0 0 = omega arith in
               g;
           bounded = λ j. at_put r.voices id w (λ i g. g.said.finished ≤ 4294967296) j few (λ _. r.bounded j);
           one_bit =
@@ -145,7 +147,7 @@ module _ (n : ℕ) where
 
   module _ (slots id : ℕ) (me : Me (Unit {0}) V) (live : me.0.spent ≡ false) where
     pub finishes : me.0.mine.said.finished < 4294967296 →
-        Allows (Told n) slots id me 0 (λ x. (x + 1) % 2 ^ 64) (λ _. told_finished me)
+        Allows (FlagsHold n) slots id me 0 (λ x. (x + 1) % 2 ^ 64) (λ _. told_finished me)
     finishes room s r wide at fits =
         let v = me.0 in
         let x : ℕ = get_or s.words 0 0 in
@@ -167,7 +169,7 @@ module _ (n : ℕ) where
           (refl, refl),
         )
 
-    pub stops : Allows (Told n) slots id me 1 (λ x. bit_or x 1) (λ _. told_stopped me)
+    pub stops : Allows (FlagsHold n) slots id me 1 (λ x. bit_or x 1) (λ _. told_stopped me)
     stops s r wide at fits =
         let v = me.0 in
         let x : ℕ = bit_or (get_or s.words 1 0) 1 in
@@ -189,15 +191,15 @@ module _ (n : ℕ) where
         )
 
     -- a word that is read is written back as it was
-    heard : (s : S) (r : Told n s) → get_elem? s.views id ≡ some me.0 → (words : List ℕ) → length words ≡ 2 →
+    heard : (s : S) (r : FlagsHold n s) → get_elem? s.views id ≡ some me.0 → (words : List ℕ) → length words ≡ 2 →
         get_or words 0 0 ≡ get_or s.words 0 0 → get_or words 1 0 ≡ get_or s.words 1 0 →
-        Told n (record { words = words; homes = s.homes; views = set s.views id (with_said me.0 me.0.mine.said) })
+        FlagsHold n (record { words = words; homes = s.homes; views = set s.views id (with_said me.0 me.0.mine.said) })
     heard s r at words long first second =
         let v = me.0 in
         let said = own_few s r id v at live in
         told_after s r id v at live v.mine.said words long (omega arith) said (inl (second, refl))
 
-    pub hears_finished : Allows (Told n) slots id me 0 (λ x. x) (heard_finished me)
+    pub hears_finished : Allows (FlagsHold n) slots id me 0 (λ x. x) (heard_finished me)
     hears_finished s r wide at fits =
         let v = me.0 in
         let x : ℕ = get_or s.words 0 0 in
@@ -211,7 +213,7 @@ module _ (n : ℕ) where
           ((refl, refl), own_within s r id v at live, finished_in_all s r id v at live),
         )
 
-    pub hears_stopped : Allows (Told n) slots id me 1 (λ x. x) (heard_stopped me)
+    pub hears_stopped : Allows (FlagsHold n) slots id me 1 (λ x. x) (heard_stopped me)
     hears_stopped s r wide at fits =
         let v = me.0 in
         let x : ℕ = get_or s.words 1 0 in
@@ -230,7 +232,7 @@ module _ (n : ℕ) where
         )
 
   pub splitting : (id : ℕ) (v : V) → v.spent ≡ false → 0 < v.made → v.made < n →
-      Splits (Told n) id v (one_more v) (seat_view v.made (voice v.mine.workers nothing))
+      Splits (FlagsHold n) id v (one_more v) (seat_view v.made (voice v.mine.workers nothing))
   splitting id v live pos room s r at =
       record {
         voices = r.voices;
@@ -260,7 +262,7 @@ module _ (n : ℕ) where
       let a = at_first (first_view (voice n nothing)) v j e in
       absurd (some-ne-none p (sym (ap (λ (y : V). get_elem? y.known q) a.1 ∙ k)))
 
-  pub opens : 0 < n → n ≤ 16 → Told n (opening (0 ∷ 0 ∷ []) [] (first_view (voice n nothing)))
+  pub opens : 0 < n → n ≤ 16 → FlagsHold n (opening (0 ∷ 0 ∷ []) [] (first_view (voice n nothing)))
   opens pos small =
       record {
         voices = λ _. voice n nothing;

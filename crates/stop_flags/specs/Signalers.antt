@@ -3,7 +3,7 @@ use Rattle.std.specs.Prelude.{◌≡◌, ℕ, ◌<◌, List, [], length, Some, s
 use Rattle.seat_views.specs.Seated.{first_view}
 use Rattle.stop_flags.specs.declared.signals.Signals.{Signals}
 use Rattle.stop_flags.specs.declared.signaler.Signaler.{Signaler}
-use Rattle.stop_flags.specs.Ties.{Chair}
+use Rattle.stop_flags.specs.Ties.{FlagSeat}
 use Rattle.stop_flags.specs.Told.{nothing, voice}
 
 -- the signaler is one of these signals
@@ -26,7 +26,7 @@ AllNewSignalers signals ss =
     (i : ℕ) (s : Signaler) → slice_get ss i ≡ Some s → IsNewSignaler signals s
 
 -- the first seat, which has made all seats below this number
-abbrev pub HasMade : Signals → ℕ → Chair → Type 0
-HasMade signals n chair =
-    (chair.table_id ≡ signals.table.shared.table_id)
-    × (chair.me ≡ (record (first_view (voice signals.workers nothing)) { made = n }, []))
+abbrev pub HasMade : Signals → ℕ → FlagSeat → Type 0
+HasMade signals n flag_seat =
+    (flag_seat.table_id ≡ signals.table.shared.table_id)
+    × (flag_seat.me ≡ (record (first_view (voice signals.workers nothing)) { made = n }, []))

@@ -5,11 +5,11 @@ use Rattle.seat_views.specs.declared.views.View.{View}
 use Rattle.stop_flags.specs.declared.words.Said.{Said}
 use Rattle.stop_flags.specs.declared.words.Voice.{Voice}
 
-abbrev pub Chair : Type 0
-Chair = Seat (Unit {0}) (View Voice)
+abbrev pub FlagSeat : Type 0
+FlagSeat = Seat (Unit {0}) (View Voice)
 
 -- what is stored is what the view has
-pub record SignalerTied (chair : Chair) (said : Said) : Type 0 where
-  pub live : chair.me.0.spent ≡ false
-  pub mine : chair.me.0.mine.said ≡ said
+pub record SignalerTied (flag_seat : FlagSeat) (said : Said) : Type 0 where
+  pub live : flag_seat.me.0.spent ≡ false
+  pub mine : flag_seat.me.0.mine.said ≡ said
   pub few : said.finished ≤ 4294967296

@@ -48,7 +48,7 @@ pub record SomeStopped (count : ℕ) (own : Said) : Type 0 where
 
 -- There are at most `count` signalers, and each knows so. What they have finished is together the first word, and each
 -- of them at most 2 ^ 32. The second word is 0 or 1, and it is 1 if and only if one of them has told a stop.
-pub record Told (count : ℕ) (s : State (Unit {0}) (View Voice)) : Type 0 where
+pub record FlagsHold (count : ℕ) (s : State (Unit {0}) (View Voice)) : Type 0 where
   pub voices : ℕ → Voice
   pub shown : Shown (λ _. voice count nothing) count s.views voices
   pub two_words : length s.words ≡ 2

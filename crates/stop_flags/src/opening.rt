@@ -5,7 +5,7 @@ ghost use Rattle.stop_flags.specs.Signalers.{AreNewSignalers, AllNewSignalers, H
 
 use crate::signaler::Signaler;
 use crate::signals::Signals;
-use crate::steps::{Chair, make};
+use crate::steps::{FlagSeat, make};
 use crate::words::Said;
 use atomic_table::Table;
 use std::alloc::{AllocError, Global};
@@ -24,7 +24,7 @@ pub fn open_signals(alloc: Global, workers: u32) -> Result<(Signals, Vec<Signale
 }
 
 // The table, and the first seat.
-fn open_table(alloc: Global, workers: u32) -> Result<(Signals, Chair), AllocError>
+fn open_table(alloc: Global, workers: u32) -> Result<(Signals, FlagSeat), AllocError>
     requires { (0 < workers) × (workers ≤ 16) }
     ensures { IfOk result (λ r. (r.0.workers ≡ workers) × HasMade r.0 1 r.1) }
 {
@@ -37,7 +37,7 @@ fn open_table(alloc: Global, workers: u32) -> Result<(Signals, Chair), AllocErro
 fn open_others(
     alloc: Global,
     signals: &Signals,
-    first: &mut Chair,
+    first: &mut FlagSeat,
 ) -> Result<Vec<Signaler>, AllocError>
     requires { HasMade signals.now 1 first.old }
     ensures others { IfOk result (λ ss. (length ss.items + 1 ≡ signals.now.workers) ×
@@ -53,7 +53,7 @@ fn open_others(
 }
 
 // A signaler as it opens.
-fn new_signaler(seat: Chair) -> Signaler
+fn new_signaler(seat: FlagSeat) -> Signaler
     requires { (seat.me.0.spent ≡ false) × (seat.me.0.mine.said ≡ nothing) }
     ensures { (result.seat ≡ seat) × (result.said ≡ nothing) }
 {

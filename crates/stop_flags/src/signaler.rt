@@ -3,7 +3,7 @@ ghost use Rattle.std.specs.Prelude.{◌≡◌, ℕ, ◌≤◌, ◌<◌, true, Is
 ghost use Rattle.stop_flags.specs.Ties.{SignalerTied};
 
 use crate::signals::Signals;
-use crate::steps::{Chair, hear_finished, hear_stopped, tell_finished, tell_stopped};
+use crate::steps::{FlagSeat, hear_finished, hear_stopped, tell_finished, tell_stopped};
 use crate::words::{Look, Said, TooMany};
 
 // How many programs a signaler finishes at most.
@@ -12,7 +12,7 @@ const LIMIT: u64 = 4294967296;
 /// A signaler, with what it has said.
 #[derive(Drop)]
 pub struct Signaler {
-    pub seat: Chair,
+    pub seat: FlagSeat,
     pub said: Said,
     pub ghost tied: { SignalerTied seat said },
 }

@@ -18,18 +18,18 @@ pub struct Law;
 
 impl TableRule<(), Known, u32> for Law {
     ghost use Rattle.seat_views.specs.Seated.{first_view};
-    ghost use Rattle.stop_flags.specs.Told.{Told};
+    ghost use Rattle.stop_flags.specs.Told.{FlagsHold};
 
-    ghost holds = { Told };
+    ghost holds = { FlagsHold };
 
     ghost first = { λ n. first_view (voice n nothing) };
 }
 
 /// A signaler's seat at the table, which has two words: how many programs are finished, and 1 once a seat has stopped.
-pub type Chair = Seat<(), Known>;
+pub type FlagSeat = Seat<(), Known>;
 
 /// The table, as signalers share it.
-pub type Desk = Shared<(), Known, u32, Law>;
+pub type FlagTable = Shared<(), Known, u32, Law>;
 
 struct Finishes;
 
@@ -64,52 +64,52 @@ impl Split<Known> for Makes {
 }
 
 /// Adds 1 to the word of the finished programs.
-pub fn tell_finished(desk: &Desk, seat: &mut Chair)
-    requires desk { Belongs seat.old.table_id desk.now.table_id desk.now.key }
+pub fn tell_finished(table: &FlagTable, seat: &mut FlagSeat)
+    requires table { Belongs seat.old.table_id table.now.table_id table.now.key }
     requires live { seat.old.me.0.spent ≡ false }
     requires few { seat.old.me.0.mine.said.finished < 4294967296 }
-    ensures desk { (seat.new.table_id ≡ seat.old.table_id) × (seat.new.id ≡ seat.old.id) }
+    ensures table { (seat.new.table_id ≡ seat.old.table_id) × (seat.new.id ≡ seat.old.id) }
     ensures told { told_finished seat.old.me seat.new.me }
 {
-    desk.fetch_add::<Finishes>(seat, 0, 1);
+    table.fetch_add::<Finishes>(seat, 0, 1);
 }
 
 /// Makes the word of the stop 1, whether it is so already or not.
-pub fn tell_stopped(desk: &Desk, seat: &mut Chair)
-    requires desk { Belongs seat.old.table_id desk.now.table_id desk.now.key }
+pub fn tell_stopped(table: &FlagTable, seat: &mut FlagSeat)
+    requires table { Belongs seat.old.table_id table.now.table_id table.now.key }
     requires live { seat.old.me.0.spent ≡ false }
-    ensures desk { (seat.new.table_id ≡ seat.old.table_id) × (seat.new.id ≡ seat.old.id) }
+    ensures table { (seat.new.table_id ≡ seat.old.table_id) × (seat.new.id ≡ seat.old.id) }
     ensures told { told_stopped seat.old.me seat.new.me }
 {
-    desk.fetch_or::<Stops>(seat, 1, 1);
+    table.fetch_or::<Stops>(seat, 1, 1);
 }
 
 /// Reads the word of the finished programs.
-pub fn hear_finished(desk: &Desk, seat: &mut Chair) -> u64
-    requires desk { Belongs seat.old.table_id desk.now.table_id desk.now.key }
+pub fn hear_finished(table: &FlagTable, seat: &mut FlagSeat) -> u64
+    requires table { Belongs seat.old.table_id table.now.table_id table.now.key }
     requires live { seat.old.me.0.spent ≡ false }
-    ensures desk { (seat.new.table_id ≡ seat.old.table_id) × (seat.new.id ≡ seat.old.id) }
+    ensures table { (seat.new.table_id ≡ seat.old.table_id) × (seat.new.id ≡ seat.old.id) }
     ensures heard { heard_finished seat.old.me result seat.new.me }
 {
-    desk.load::<HearsFinished>(seat, 0)
+    table.load::<HearsFinished>(seat, 0)
 }
 
 /// Reads the word of the stop.
-pub fn hear_stopped(desk: &Desk, seat: &mut Chair) -> u64
-    requires desk { Belongs seat.old.table_id desk.now.table_id desk.now.key }
+pub fn hear_stopped(table: &FlagTable, seat: &mut FlagSeat) -> u64
+    requires table { Belongs seat.old.table_id table.now.table_id table.now.key }
     requires live { seat.old.me.0.spent ≡ false }
-    ensures desk { (seat.new.table_id ≡ seat.old.table_id) × (seat.new.id ≡ seat.old.id) }
+    ensures table { (seat.new.table_id ≡ seat.old.table_id) × (seat.new.id ≡ seat.old.id) }
     ensures heard { heard_stopped seat.old.me result seat.new.me }
 {
-    desk.load::<HearsStopped>(seat, 1)
+    table.load::<HearsStopped>(seat, 1)
 }
 
 /// Makes the next signaler's seat.
-pub fn make(desk: &Desk, first: &mut Chair) -> Chair
-    requires desk { Belongs first.old.table_id desk.now.table_id desk.now.key }
+pub fn make(table: &FlagTable, first: &mut FlagSeat) -> FlagSeat
+    requires table { Belongs first.old.table_id table.now.table_id table.now.key }
     requires more { (first.old.me.0.spent ≡ false) × (0 < first.old.me.0.made) ×
-        (first.old.me.0.made < desk.now.key) }
-    ensures desk { (first.new.table_id ≡ first.old.table_id) × (first.new.id ≡ first.old.id) ×
+        (first.old.me.0.made < table.now.key) }
+    ensures table { (first.new.table_id ≡ first.old.table_id) × (first.new.id ≡ first.old.id) ×
         (result.table_id ≡ first.old.table_id) }
     ensures made { (first.new.me ≡ (one_more first.old.me.0, first.old.me.1)) ×
         (result.me ≡ (
@@ -118,5 +118,5 @@ pub fn make(desk: &Desk, first: &mut Chair) -> Chair
           [],
         )) }
 {
-    desk.split_seat::<Makes>(first)
+    table.split_seat::<Makes>(first)
 }

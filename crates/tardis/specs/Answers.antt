@@ -10,7 +10,7 @@ use Rattle.command_line.specs.declared.words.WordsError.TheVariants.{Refused as 
 use Rattle.command_line.specs.declared.words.WordsError.TheVariants.{NoMemory as NoMemoryForWords}
 use Rattle.byte_streams.specs.declared.device.DeviceError.{DeviceError}
 use Rattle.report.specs.Bytes.{OfBytes}
-use Rattle.report.specs.Answers.{AreCounted, IsCutOff, IsReported}
+use Rattle.report.specs.Answers.{FailuresAreCounted, IsCutOff, IsReported}
 use Rattle.report.specs.Litmus.{HasNoReport, IsLitmusReport}
 use Rattle.run_options.specs.declared.options.LitmusOptions.{LitmusOptions}
 use Rattle.run_options.specs.declared.options.TraceOptions.{TraceOptions}
@@ -24,8 +24,8 @@ use Rattle.report.specs.Reports.{HasNoTraceReport, IsTraceReport}
 use Rattle.report.specs.Verdicts.{HasNoVerdict, IsCheckReport, ReadsCounted, WritesCounted}
 
 -- what went out is a beginning of the text, and all of it if no write failed
-abbrev pub Told : Option (List ℕ) → Option (List ℕ) → ℕ → ℕ → List ℕ → Type 0
-Told old new failed failed' text = GrowsByFront old new text × (failed' ≡ failed → Grows old new text)
+abbrev pub TextGoesOut : Option (List ℕ) → Option (List ℕ) → ℕ → ℕ → List ℕ → Type 0
+TextGoesOut old new failed failed' text = GrowsByFront old new text × (failed' ≡ failed → Grows old new text)
 
 -- 3 if the command line is refused, 1 if there was no memory
 abbrev pub words_status : WordsError → ℕ
@@ -89,7 +89,7 @@ RunsTrace d options known old new came =
 abbrev pub RunsOn : {F K : Type 0} → Devices F K → (Option (List ℕ) → K → K → Result Done RunError → Type 0) →
     (file left : F) → K → K → Result Done RunError → Type 0
 RunsOn d Runs file left old new came =
-    AreCounted came (d.unread file) (d.unread left) (d.unwritten old) (d.unwritten new)
+    FailuresAreCounted came (d.unread file) (d.unread left) (d.unwritten old) (d.unwritten new)
     × Runs (d.remaining file) old new came
 
 -- it was done on the file that was opened; a file that can't be opened is told as one that can't be read

@@ -7,7 +7,7 @@ ghost use Rattle.command_line.specs.declared.words.WordsError.{WordsError};
 ghost use Rattle.run_results.specs.Results.{status_of};
 ghost use Rattle.run_results.specs.declared.results.Done.{Done};
 ghost use Rattle.run_results.specs.declared.results.RunError.{RunError};
-ghost use Rattle.tardis.specs.Answers.{Does, Told, bad_words, came_text, devices, words_status, words_text};
+ghost use Rattle.tardis.specs.Answers.{Does, TextGoesOut, bad_words, came_text, devices, words_status, words_text};
 
 use crate::files::Files;
 use crate::jobs::run_job;
@@ -29,14 +29,14 @@ pub fn answer<R: Threads + Sync, F: Files, K: Sink, E: Sink>(
 ) -> u8
     ensures { ((e : WordsError) × IsRefusedFor (map (λ w. w.now) words.entry.now) e
         × (result ≡ words_status e) × (out.new ≡ out.old)
-        × Told (E.contents errors.old) (E.contents errors.new)
+        × TextGoesOut (E.contents errors.old) (E.contents errors.new)
         (E.failures errors.old) (E.failures errors.new) (words_text e))
         ⊎ ((job : Job) × (came : Result Done RunError)
         × IsAskedBy (map (λ w. w.now) words.entry.now) job
         × (result ≡ status_of came)
         × Does (devices F.File.remaining F.File.failures K.contents K.failures) (F.opens files.now)
         job out.old out.new came
-        × Told (E.contents errors.old) (E.contents errors.new)
+        × TextGoesOut (E.contents errors.old) (E.contents errors.new)
         (E.failures errors.old) (E.failures errors.new) (came_text came)) }
 {
     match read_words(alloc, words) {
@@ -55,7 +55,7 @@ pub fn answer<R: Threads + Sync, F: Files, K: Sink, E: Sink>(
 /// The answer if a word is no text: the command line is refused.
 pub fn refuse<E: Sink>(errors: &mut E) -> u8
     ensures status { result ≡ 3 }
-    ensures told { Told (E.contents errors.old) (E.contents errors.new)
+    ensures told { TextGoesOut (E.contents errors.old) (E.contents errors.new)
         (E.failures errors.old) (E.failures errors.new) bad_words }
 {
     tell(errors, b"tardis: bad command line\n");
@@ -65,7 +65,7 @@ pub fn refuse<E: Sink>(errors: &mut E) -> u8
 /// The answer if there is no memory for the words.
 pub fn refuse_memory<E: Sink>(errors: &mut E) -> u8
     ensures status { result ≡ 1 }
-    ensures told { Told (E.contents errors.old) (E.contents errors.new)
+    ensures told { TextGoesOut (E.contents errors.old) (E.contents errors.new)
         (E.failures errors.old) (E.failures errors.new) (words_text WordsError.NoMemory) }
 {
     let error = WordsError::NoMemory;
@@ -95,7 +95,7 @@ fn words_status(error: &WordsError) -> u8
 
 // Tells why there is no report, if there is none.
 fn tell_result<E: Sink>(errors: &mut E, came: &Result<Done, RunError>)
-    ensures { Told (E.contents errors.old) (E.contents errors.new)
+    ensures { TextGoesOut (E.contents errors.old) (E.contents errors.new)
         (E.failures errors.old) (E.failures errors.new) (came_text came.now) }
 {
     let line = match came {
@@ -107,7 +107,7 @@ fn tell_result<E: Sink>(errors: &mut E, came: &Result<Done, RunError>)
 
 // Writes a text, or what goes out of it.
 fn tell<E: Sink>(errors: &mut E, text: &[u8])
-    ensures { Told (E.contents errors.old) (E.contents errors.new)
+    ensures { TextGoesOut (E.contents errors.old) (E.contents errors.new)
         (E.failures errors.old) (E.failures errors.new) text.now }
 {
     let _told = write_all(errors, text);

@@ -1,6 +1,6 @@
 //! Gates for tests of workers.
 #![tactic(auto)]
 
-mod meeting;
+mod rendezvous;
 
-pub use meeting::Meeting;
+pub use rendezvous::Rendezvous;

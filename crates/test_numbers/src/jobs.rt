@@ -4,7 +4,7 @@ ghost use Rattle.std.specs.Prelude.{ℕ};
 use shared_jobs::{Free, Jobs, run_jobs};
 use std::alloc::AllocError;
 use std::test::Fail;
-use test_gates::Meeting;
+use test_gates::Rendezvous;
 
 // Job n gives the square of n.
 struct Squares;
@@ -46,7 +46,7 @@ fn a_batch_may_have_no_job_or_fewer_than_workers(rt: HostRuntime) -> Result<(), 
 
 #[test]
 fn two_workers_do_jobs_at_the_same_time(rt: HostRuntime) -> Result<(), Fail> {
-    let gate = Meeting::new(10_000_000);
+    let gate = Rendezvous::new(10_000_000);
     let list = run_jobs(&rt, rt.alloc(), &Squares, 2, 2, &gate)?;
     assert_eq!(rt; list.as_slice(), [0, 1].as_slice());
     assert_eq!(rt; gate.met(), 2);
@@ -57,7 +57,7 @@ fn two_workers_do_jobs_at_the_same_time(rt: HostRuntime) -> Result<(), Fail> {
 // Job 0 ends before job 1 begins, so job 0 looks for the other in vain.
 #[test]
 fn one_worker_does_one_job_after_the_other(rt: HostRuntime) -> Result<(), Fail> {
-    let gate = Meeting::new(100);
+    let gate = Rendezvous::new(100);
     let list = run_jobs(&rt, rt.alloc(), &Squares, 2, 1, &gate)?;
     assert_eq!(rt; list.as_slice(), [0, 1].as_slice());
     assert_eq!(rt; gate.met(), 1);

@@ -7,7 +7,7 @@ use run_options::MachineOptions;
 use std::alloc::Global;
 use std::test::Fail;
 use std::thread::Threads;
-use test_gates::Meeting;
+use test_gates::Rendezvous;
 use worker_driver::{End, Free, Gate, RunEnd, batch, config_of};
 
 const STORE_BUFFERING: &[u8] =
@@ -72,7 +72,7 @@ fn every_number_of_workers_gives_the_same_list(rt: HostRuntime) -> Result<(), Fa
 
 #[test]
 fn two_workers_run_at_the_same_time(rt: HostRuntime) -> Result<(), Fail> {
-    let gate = Meeting::new(10_000_000);
+    let gate = Rendezvous::new(10_000_000);
     let runs = runs_by(&rt, rt.alloc(), 2, 2, &gate)?;
     assert_eq!(rt; runs.len(), 2);
     assert_eq!(rt; gate.met(), 2);
@@ -83,7 +83,7 @@ fn two_workers_run_at_the_same_time(rt: HostRuntime) -> Result<(), Fail> {
 // Run 0 ends before run 1 begins, so run 0 looks for the other in vain.
 #[test]
 fn one_worker_makes_one_run_after_the_other(rt: HostRuntime) -> Result<(), Fail> {
-    let gate = Meeting::new(100);
+    let gate = Rendezvous::new(100);
     let runs = runs_by(&rt, rt.alloc(), 2, 1, &gate)?;
     assert_eq!(rt; runs.len(), 2);
     assert_eq!(rt; gate.met(), 1);

@@ -12,7 +12,7 @@ use programs::End;
 use std::alloc::Global;
 use std::test::Fail;
 use std::thread::Threads;
-use test_gates::Meeting;
+use test_gates::Rendezvous;
 
 /// Core 2 of five has five loads to do, so they take more than five turns; the others have nothing to do. Two banks.
 const BUSY: Case = Case {
@@ -78,7 +78,7 @@ fn meet<R: Threads + Sync>(
 ) -> Result<bool, Fail>
     requires { (0 < workers) × (workers ≤ 16) }
 {
-    let gate = Meeting::new(looks);
+    let gate = Rendezvous::new(looks);
     let has_ended = ends_so(rt, alloc, &STORE, workers, &gate, End::TurnsUsed)?;
     Ok(has_ended && gate.met() == met && gate.ended() == 2)
 }

@@ -11,7 +11,7 @@ use Rattle.mailboxes.specs.Seats.{AllCoreSeats, AllBankSeats}
 use Rattle.thread_driver.specs.declared.shift.Shift.{Shift}
 use Rattle.stop_flags.specs.declared.signals.Signals.{Signals}
 use Rattle.programs.specs.Acts.{Acts}
-use Rattle.round_robin.specs.Dealing.{HasLengths, IsDealt, hand_of}
+use Rattle.round_robin.specs.Dealing.{HasLengths, IsDealtInTurn, hand_of}
 use Rattle.round_robin.proofs.Lemmas.{item_at, item_of, lengths_of, same_lengths}
 use Rattle.thread_driver.specs.declared.worker.Worker.{Worker}
 use Rattle.thread_driver.specs.Driving.{AreAhead, AreDriven, AreSameBanks}
@@ -224,7 +224,7 @@ module _ {P : Type 0} (acts : Acts P) (m : Machine) (signals : Signals) (n : ℕ
           ap (λ l. slice_get l (i / n))
           (sym (read_map (λ (z : Worker P). z.banks.items) vs (hand (length cores) i) y.0 y.1))
           ∙ sym (item_at banks' (length cores) n (bank_hands vs)
-          (subst (λ c. IsDealt banks' c n (bank_hands vs)) core_long after.banks_dealt) i) ∙ e
+          (subst (λ c. IsDealtInTurn banks' c n (bank_hands vs)) core_long after.banks_dealt) i) ∙ e
 
       all_driven : AreDriven acts cores programs cores' programs'
       all_driven =

@@ -10,7 +10,7 @@ use Rattle.mailboxes.specs.declared.bank_seat.BankSeat.{BankSeat}
 use Rattle.mailboxes.specs.declared.run.Run.{Run}
 use Rattle.mailboxes.specs.Remains.{core_part}
 use Rattle.mailboxes.specs.RunParts.{Parts}
-use Rattle.thread_driver.specs.Shifts.{AreCoresInOrder, AreOver, Ran, Refused}
+use Rattle.thread_driver.specs.Shifts.{AreCoresInOrder, AreOver, Ran, RefusedAtOnce}
 use Rattle.thread_driver.specs.ThreadRuns.{IsOver, machine_of}
 use Rattle.thread_driver.proofs.Seats.{none_left, none_open}
 use Rattle.thread_driver.proofs.AllServed.{there}
@@ -43,7 +43,7 @@ module _ {P : Type 0} (acts : Acts P) (m : Machine) (run : Run) (parts : Parts r
       )
 
   module _ (cores : List CoreSeat) (banks banks' : List BankSeat) (before : List P) (e : End)
-      (is : Refused cores banks before ended banks' after e ⊎ Ran acts cores banks ended banks' after e) where
+      (is : RefusedAtOnce cores banks before ended banks' after e ⊎ Ran acts cores banks ended banks' after e) where
     pub done_is_over : e ≡ end.AllDone → IsOver acts (machine_of run parts) after
     done_is_over done = elim is [
       | inl refused ↦ not_done e refused.end_is done

@@ -5,7 +5,7 @@ use Rattle.std.specs.Prelude.{if◌then◌else◌, is_ok}
 use Rattle.std.proofs.lemmas.List.{length-map, map-append}
 use Rattle.mailboxes.specs.declared.core_seat.CoreSeat.{CoreSeat}
 use Rattle.mailboxes.specs.declared.bank_seat.BankSeat.{BankSeat}
-use Rattle.round_robin.specs.Dealing.{HasLengths, IsDealt}
+use Rattle.round_robin.specs.Dealing.{HasLengths, IsDealtInTurn}
 use Rattle.thread_driver.specs.declared.worker.Worker.{Worker}
 use Rattle.thread_driver.specs.declared.worker.Hands.{Hands}
 use Rattle.thread_driver.specs.Hands.{AreBack, AreDealt, AreHands, AreSplit, HaveLengths}
@@ -62,14 +62,14 @@ module _ {P : Type 0} where
         AreDealt n cores programs banks (core_hands ws) (program_hands ws) (bank_hands ws)
     dealt_to d s none =
         record {
-          cores_dealt = subst (IsDealt cores 0 n)
+          cores_dealt = subst (IsDealtInTurn cores 0 n)
               (s.cores ∙ ap (λ vs. map (λ v. v.items) vs ++ core_hands ws) (none_left left.cores.items none.cores))
               d.cores_dealt;
-          programs_dealt = subst (IsDealt programs 0 n)
+          programs_dealt = subst (IsDealtInTurn programs 0 n)
               (s.programs ∙ ap (λ vs. map (λ v. v.items) vs ++ program_hands ws)
               (none_left left.programs.items none.programs))
               d.programs_dealt;
-          banks_dealt = subst (IsDealt banks (length cores) n)
+          banks_dealt = subst (IsDealtInTurn banks (length cores) n)
               (s.banks ∙ ap (λ vs. map (λ v. v.items) vs ++ bank_hands ws) (none_left left.banks.items none.banks))
               d.banks_dealt;
         }
@@ -103,10 +103,10 @@ module _ {P : Type 0} where
         AreDealt n cores programs banks (core_hands vs) (program_hands vs) (bank_hands vs)
     dealt_back cores programs banks d =
         record {
-          cores_dealt = subst (λ m. IsDealt cores 0 m (core_hands vs)) hand_count
-              (subst (IsDealt cores 0 (length h.cores.items)) (sym back.cores) d.cores_dealt);
-          programs_dealt = subst (λ m. IsDealt programs 0 m (program_hands vs)) hand_count
-              (subst (IsDealt programs 0 (length h.cores.items)) (sym back.programs) d.programs_dealt);
-          banks_dealt = subst (λ m. IsDealt banks (length cores) m (bank_hands vs)) hand_count
-              (subst (IsDealt banks (length cores) (length h.cores.items)) (sym back.banks) d.banks_dealt);
+          cores_dealt = subst (λ m. IsDealtInTurn cores 0 m (core_hands vs)) hand_count
+              (subst (IsDealtInTurn cores 0 (length h.cores.items)) (sym back.cores) d.cores_dealt);
+          programs_dealt = subst (λ m. IsDealtInTurn programs 0 m (program_hands vs)) hand_count
+              (subst (IsDealtInTurn programs 0 (length h.cores.items)) (sym back.programs) d.programs_dealt);
+          banks_dealt = subst (λ m. IsDealtInTurn banks (length cores) m (bank_hands vs)) hand_count
+              (subst (IsDealtInTurn banks (length cores) (length h.cores.items)) (sym back.banks) d.banks_dealt);
         }

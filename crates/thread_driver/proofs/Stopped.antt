@@ -10,8 +10,8 @@ use Rattle.mailboxes.specs.declared.machine.Machine.{Machine}
 use Rattle.mailboxes.specs.declared.core_seat.CoreSeat.{CoreSeat}
 use Rattle.mailboxes.specs.declared.bank_seat.BankSeat.{BankSeat}
 use Rattle.mailboxes.specs.Seats.{AllNewBanks, AllNewCores}
-use Rattle.thread_driver.specs.Shifts.{Ran, Refused, stopped, stopped_banks, stopped_cores}
-use Rattle.thread_driver.specs.ThreadRuns.{NoneStopped, SomeStopped}
+use Rattle.thread_driver.specs.Shifts.{Ran, RefusedAtOnce, stopped, stopped_banks, stopped_cores}
+use Rattle.thread_driver.specs.ThreadRuns.{NoneStopped, SomeSeatStopped}
 
 either : (b : Bool) → (b ≡ true) ⊎ (b ≡ false)
 either true = inl refl
@@ -76,7 +76,8 @@ banks_counted : (ps : List BankSeat) → stopped_banks ps ≡ count bank_stops p
 banks_counted [] = refl
 banks_counted (p ∷ ps) = ap (λ n. cond {A = ℕ} p.is_stopped 1 0 + n) (banks_counted ps)
 
-pub some_stopped : (cores : List CoreSeat) (banks : List BankSeat) → 0 < stopped cores banks → SomeStopped cores banks
+pub some_stopped : (cores : List CoreSeat) (banks : List BankSeat) → 0 < stopped cores banks → SomeSeatStopped cores
+    banks
 some_stopped cores banks lt =
     let of_cores = cores_counted cores in
     let of_banks = banks_counted banks in
@@ -110,8 +111,8 @@ not_used e lacks is = (let both : end.NoMemory ≡ end.TurnsUsed = sym lacks ∙
 
 module _ {P : Type 0} (acts : Acts P) (cores cores' : List CoreSeat) (banks banks' : List BankSeat)
     (before after : List P) (e : End) (first : stopped cores banks ≡ 0)
-    (is : Refused cores banks before cores' banks' after e ⊎ Ran acts cores banks cores' banks' after e) where
-  pub exhausted_stopped : e ≡ end.Exhausted → SomeStopped cores' banks'
+    (is : RefusedAtOnce cores banks before cores' banks' after e ⊎ Ran acts cores banks cores' banks' after e) where
+  pub exhausted_stopped : e ≡ end.Exhausted → SomeSeatStopped cores' banks'
   exhausted_stopped told = elim is [
     | inl refused ↦ not_exhausted e refused.end_is told
     | inr ran ↦ some_stopped cores' banks' (let more = ran.exhausted told in omega (arith, more, first))

@@ -20,7 +20,7 @@ use Rattle.mailboxes.specs.BankCalls as bank_calls
 use Rattle.mailboxes.specs.BankCalls.{SameBankPlace, first_room}
 use Rattle.mailboxes.specs.BoxMoves.{hold}
 use Rattle.mailboxes.specs.CoreCalls.{IssueAnswers, SameHold, SamePlace, advance_answer, core_hold, sending_hold}
-use Rattle.mailboxes.specs.Evictions.{evict_answer, evicted}
+use Rattle.mailboxes.specs.Evictions.{core_evict_answer, evicted_by_core}
 use Rattle.mailboxes.specs.Stored.{stored_bank}
 
 -- a core was given an operation, or not
@@ -60,8 +60,8 @@ Attempted m result p q = (given : Answer) × (result ≡ came_to given) × CoreA
 -- a core's copy of a line was evicted, or not
 pub record CoreEvicted (line : ℕ) (result : Result (Unit {0}) Refusal) (p q : CoreSeat) : Type 0 where
   pub place : SamePlace p q
-  pub answer : result ≡ evict_answer p.is_stopped p.part line
-  pub part : OnOk result (q.part ≡ (evicted p.part line).1)
+  pub answer : result ≡ core_evict_answer p.is_stopped p.part line
+  pub part : OnOk result (q.part ≡ (evicted_by_core p.part line).1)
   pub done : OnOk result (hold q.mail ≡ sending_hold (hold p.mail) q.part.core q.part.outbox)
   pub refused : OnErr result (SameHold p q)
   pub stopped : q.is_stopped ≡ p.is_stopped
@@ -73,18 +73,18 @@ VictimLeft None p q = q ≡ p
 VictimLeft (Some line) p q = (result : Result (Unit {0}) Refusal) × CoreEvicted line result p q
 
 -- the victim of the line of an operation
-abbrev pub victim_of : CoreSeat → Option Op → Option ℕ
-victim_of p None = None
-victim_of p (Some op) = victim_for p.part.core.cache (line_of p.part.core op)
+abbrev pub victim_of_seat : CoreSeat → Option Op → Option ℕ
+victim_of_seat p None = None
+victim_of_seat p (Some op) = victim_for p.part.core.cache (line_of p.part.core op)
 
 -- that of the line of the open operation
 abbrev pub PlaceMade : CoreSeat → CoreSeat → Type 0
-PlaceMade p q = VictimLeft (victim_of p p.part.core.open_op) p q
+PlaceMade p q = VictimLeft (victim_of_seat p p.part.core.open_op) p q
 
 -- a line of a bank was evicted, or not
 pub record BankEvicted (line : ℕ) (result : Result Eviction Refusal) (p q : BankSeat) : Type 0 where
   pub place : SameBankPlace p q
-  pub answer : result ≡ bank_calls.evict_answer p.is_stopped p.part.outbox p.mail.inbox.held
+  pub answer : result ≡ bank_calls.bank_evict_answer p.is_stopped p.part.outbox p.mail.inbox.held
       (bank_table.evict p.part.bank line).0
   pub done : OnOk result (bank_calls.Evicts (bank_table.evict p.part.bank line) p.mail.inbox p.part q.mail.inbox q.part)
   pub refused : OnErr result ((q.mail.inbox ≡ p.mail.inbox) × (q.part ≡ p.part))

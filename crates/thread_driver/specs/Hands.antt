@@ -2,7 +2,7 @@
 use Rattle.std.specs.Prelude.{◌≡◌, ℕ, ◌≤◌, List, [], ◌++◌, length, map, vec_capacity}
 use Rattle.mailboxes.specs.declared.core_seat.CoreSeat.{CoreSeat}
 use Rattle.mailboxes.specs.declared.bank_seat.BankSeat.{BankSeat}
-use Rattle.round_robin.specs.Dealing.{HasLengths, HaveRoom, IsDealt}
+use Rattle.round_robin.specs.Dealing.{HasLengths, HaveRoom, IsDealtInTurn}
 use Rattle.thread_driver.specs.declared.shift.Shift.{Shift}
 use Rattle.thread_driver.specs.declared.worker.Worker.{Worker}
 use Rattle.thread_driver.specs.declared.worker.Hands.{Hands}
@@ -63,9 +63,9 @@ module _ {P : Type 0} where
   pub record AreDealt (n : ℕ) (cores : List CoreSeat) (programs : List P) (banks : List BankSeat)
       (core_lists : List (List CoreSeat)) (program_lists : List (List P)) (bank_lists : List (List BankSeat)) :
       Type 0 where
-    pub cores_dealt : IsDealt cores 0 n core_lists
-    pub programs_dealt : IsDealt programs 0 n program_lists
-    pub banks_dealt : IsDealt banks (length cores) n bank_lists
+    pub cores_dealt : IsDealtInTurn cores 0 n core_lists
+    pub programs_dealt : IsDealtInTurn programs 0 n program_lists
+    pub banks_dealt : IsDealtInTurn banks (length cores) n bank_lists
 
   -- the hands have the lengths of so many seats and programs that were dealt
   pub record HaveLengths (n cores programs banks : ℕ) (core_lists : List (List CoreSeat))

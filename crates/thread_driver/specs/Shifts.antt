@@ -71,7 +71,7 @@ module _ {P : Type 0} (acts : Acts P) where
     pub not_stalled : e ≢ end.Stalled
 
 -- Memory was refused before a turn was made: all are as they were given.
-pub record Refused {P : Type 0} (cores : List CoreSeat) (banks : List BankSeat) (programs : List P)
+pub record RefusedAtOnce {P : Type 0} (cores : List CoreSeat) (banks : List BankSeat) (programs : List P)
     (cores' : List CoreSeat) (banks' : List BankSeat) (programs' : List P) (e : End) : Type 0 where
   pub end_is : e ≡ end.NoMemory
   pub same_cores : cores' ≡ cores

@@ -13,16 +13,16 @@ use Rattle.mailboxes.specs.declared.core_seat.CoreSeat.{CoreSeat}
 use Rattle.mailboxes.specs.declared.bank_seat.BankSeat.{BankSeat}
 use Rattle.mailboxes.specs.declared.run.Run.{Run}
 use Rattle.mailboxes.specs.Remains.{core_part, bank_part}
-use Rattle.mailboxes.specs.RunParts.{Parts, state_of}
+use Rattle.mailboxes.specs.RunParts.{Parts, state_of_run}
 use Rattle.thread_driver.specs.Shifts.{AreBanksInOrder, AreCoresInOrder}
 
 -- the machine that a closed one shows: its parts by number, and the messages in flight with numbers
 abbrev pub machine_of : (run : Run) → Parts run → Machine
-machine_of run parts = numbered run.set_up.config run.set_up.memory (state_of run parts)
+machine_of run parts = numbered run.set_up.config run.set_up.memory (state_of_run run parts)
 
 -- one of these seats had stopped, since a sum of times didn't fit, or none of them had
-abbrev pub SomeStopped : List CoreSeat → List BankSeat → Type 0
-SomeStopped cores banks =
+abbrev pub SomeSeatStopped : List CoreSeat → List BankSeat → Type 0
+SomeSeatStopped cores banks =
     ((i : ℕ) × (p : CoreSeat) × (slice_get cores i ≡ Some p) × (p.is_stopped ≡ true))
     ⊎ ((i : ℕ) × (p : BankSeat) × (slice_get banks i ≡ Some p) × (p.is_stopped ≡ true))
 
@@ -63,5 +63,5 @@ module _ {P : Type 0} (acts : Acts P) where
     pub banks_seated : AreBanksInOrder closed banks
     pub of_cores : run.cores.items ≡ map core_part cores
     pub of_banks : run.banks.items ≡ map bank_part banks
-    pub exhausted : e ≡ end.Exhausted → SomeStopped cores banks
+    pub exhausted : e ≡ end.Exhausted → SomeSeatStopped cores banks
     pub turns_used : e ≡ end.TurnsUsed → NoneStopped cores banks

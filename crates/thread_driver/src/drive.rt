@@ -3,7 +3,7 @@ ghost use Rattle.std.specs.Prelude.{◌≡◌, ◌≢◌, ◌⊎◌, ◌<◌, �
 ghost use Rattle.programs.specs.declared.ends.End.TheVariants as end;
 ghost use Rattle.mailboxes.specs.Seats.{AllBankSeats, AllCoreSeats, AreAll};
 ghost use Rattle.thread_driver.specs.Shifts.{AreBanksInOrder, AreCoresInOrder, AreOver, AreServed, NoneOpen};
-ghost use Rattle.thread_driver.specs.Shifts.{Ran, Refused, stopped};
+ghost use Rattle.thread_driver.specs.Shifts.{Ran, RefusedAtOnce, stopped};
 ghost use Rattle.thread_driver.specs.Driving.{AreAhead};
 ghost use Rattle.thread_driver.specs.Teams.{AllWork, AreReady, AreWorked, IsAtWork, IsReady, Works};
 
@@ -56,7 +56,7 @@ pub fn drive_threads<R: Threads + Sync, P: Program + Send + Drop, G: Gate + Sync
     ensures whole { AreAll machine.now result.cores.items result.banks.items }
     ensures served { AreServed P.acts cores.items programs.items result.cores.items
         result.programs.items }
-    ensures ended { Refused cores.items banks.items programs.items
+    ensures ended { RefusedAtOnce cores.items banks.items programs.items
         result.cores.items result.banks.items result.programs.items result.end
         ⊎ Ran P.acts cores.items banks.items
         result.cores.items result.banks.items result.programs.items result.end }

@@ -6,7 +6,7 @@ ghost use Rattle.mailboxes.specs.declared.machine.Machine.{Machine};
 ghost use Rattle.mailboxes.specs.declared.core_seat.CoreSeat.{CoreSeat};
 ghost use Rattle.mailboxes.specs.declared.bank_seat.BankSeat.{BankSeat};
 ghost use Rattle.mailboxes.specs.declared.run.Run.{Run};
-ghost use Rattle.mailboxes.specs.RunParts.{Parts, state_of};
+ghost use Rattle.mailboxes.specs.RunParts.{Parts, state_of_run};
 ghost use Rattle.mailboxes.specs.Seats.{AllNewBanks, AllNewCores};
 ghost use Rattle.thread_driver.specs.Shifts.{AreBanksInOrder, AreCoresInOrder, NoneOpen};
 ghost use Rattle.thread_driver.specs.ThreadRuns.{machine_of};
@@ -36,7 +36,8 @@ pub fn closed_machines_are_consistent()
 /// there.
 pub fn closed_machines_list_what_was_issued()
     ensures there { (run : Run) (parts : Parts run) (core : ℕ) → core < run.set_up.config.cores →
-        slice_index_or (machine_of run parts).issued core [] ≡ (state_of run parts).issued core }
+        slice_index_or (machine_of run parts).issued core [] ≡
+        (state_of_run run parts).issued core }
     ensures none { (run : Run) (parts : Parts run) (core : ℕ) → run.set_up.config.cores ≤ core →
         slice_index_or (machine_of run parts).issued core [] ≡ [] }
 {}

@@ -3,13 +3,14 @@ use Rattle.std.proofs.Common.{◌≡◌, ℕ, ◌^◌, List, Some, inl, inr}
 use Rattle.trace_lines.specs.declared.steps.Access.{Access}
 use Rattle.trace_lines.specs.declared.steps.Access.TheVariants as access
 use Rattle.trace_lines.specs.Reading.{decimal_in, address_in, access_in}
-use Rattle.trace_lines.specs.Causes.{HasCore, HasPlace, HasAddress, HasValue, IsAccess}
+use Rattle.trace_lines.specs.Causes.{HasCoreNumber, HasPlaceNumber, HasAddress, HasValue, IsAccess}
 use Rattle.trace_lines.proofs.Spellings.{letter_of, number-again, address-again, access-again}
 
-pub core-spelled : (cores : ℕ) (field : List ℕ) → HasCore cores field → (n : ℕ) × (decimal_in 2 cores field ≡ Some n)
+pub core-spelled : (cores : ℕ) (field : List ℕ) → HasCoreNumber cores field → (n : ℕ) ×
+    (decimal_in 2 cores field ≡ Some n)
 core-spelled cores field h = (h.0, number-again 2 cores field h.0 h.1)
 
-pub place-spelled : (field : List ℕ) → HasPlace field → (n : ℕ) × (decimal_in 20 (2 ^ 32) field ≡ Some n)
+pub place-spelled : (field : List ℕ) → HasPlaceNumber field → (n : ℕ) × (decimal_in 20 (2 ^ 32) field ≡ Some n)
 place-spelled field h = (h.0, number-again 20 (2 ^ 32) field h.0 h.1)
 
 pub value-spelled : (field : List ℕ) → HasValue field → (n : ℕ) × (decimal_in 20 (2 ^ 64) field ≡ Some n)

@@ -6,7 +6,7 @@ use Rattle.std.specs.Prelude.{not}
 use Rattle.std.proofs.lemmas.Bool.{cases_Bool, false_from_ne_true, both_ways}
 use Rattle.std.specs.List.{prefix_len}
 use Rattle.text_lines.proofs.Lemmas.{take-one_more, drop-one_more}
-use Rattle.trace_lines.specs.Fields.{is_blank, is_joined, grown, parted}
+use Rattle.trace_lines.specs.Fields.{is_blank, begins_inside_field, first_grown, parted}
 
 abbrev pub is_field_byte : ℕ → Bool
 is_field_byte b = not (is_blank b)
@@ -25,22 +25,22 @@ parted-after_blanks (b ∷ bytes) =
       | inr e ↦ rw e refl
     ]
 
-parted-alone : (b : ℕ) (bytes : List ℕ) → is_blank b ≡ false → is_joined bytes ≡ false →
+parted-alone : (b : ℕ) (bytes : List ℕ) → is_blank b ≡ false → begins_inside_field bytes ≡ false →
     parted (b ∷ bytes) ≡ (b ∷ []) ∷ parted bytes
 unfolding parted
 parted-alone b bytes e f = rw (e, f) refl
 
-parted-joined : (b : ℕ) (bytes : List ℕ) → is_blank b ≡ false → is_joined bytes ≡ true →
-    parted (b ∷ bytes) ≡ grown b (parted bytes)
+parted-joined : (b : ℕ) (bytes : List ℕ) → is_blank b ≡ false → begins_inside_field bytes ≡ true →
+    parted (b ∷ bytes) ≡ first_grown b (parted bytes)
 unfolding parted
 parted-joined b bytes e f = rw (e, f) refl
 
-joined-none : is_joined [] ≡ false
-unfolding is_joined
+joined-none : begins_inside_field [] ≡ false
+unfolding begins_inside_field
 joined-none = refl
 
-joined-first : (b : ℕ) (bytes : List ℕ) → is_joined (b ∷ bytes) ≡ is_field_byte b
-unfolding is_joined
+joined-first : (b : ℕ) (bytes : List ℕ) → begins_inside_field (b ∷ bytes) ≡ is_field_byte b
+unfolding begins_inside_field
 joined-first b bytes = refl
 
 -- a field in front goes as far as there are no blanks
@@ -54,7 +54,7 @@ field-first b (c ∷ bytes) h =
         e,
         drop-one_more (prefix_len is_field_byte bytes) c bytes,
         take-one_more (prefix_len is_field_byte bytes) c bytes,
-      ) (parted-joined b (c ∷ bytes) h (joined-first c bytes ∙ ap not e) ∙ ap (grown b) (field-first c bytes e))
+      ) (parted-joined b (c ∷ bytes) h (joined-first c bytes ∙ ap not e) ∙ ap (first_grown b) (field-first c bytes e))
     ]
 
 -- behind n blanks
@@ -62,9 +62,9 @@ pub parted-none : (bytes : List ℕ) (n : ℕ) → n ≡ prefix_len is_blank byt
 unfolding parted
 parted-none bytes n h e = parted-after_blanks bytes ∙ ap (λ k. parted (drop k bytes)) (sym h) ∙ ap parted e
 
-parted-whole : (all : List ℕ) → 0 < length all → is_joined all ≡ true → parted all
+parted-whole : (all : List ℕ) → 0 < length all → begins_inside_field all ≡ true → parted all
     ≡ take (prefix_len is_field_byte all) all ∷ parted (drop (prefix_len is_field_byte all) all)
-unfolding is_joined
+unfolding begins_inside_field
 parted-whole [] lt h = absurd (omega arith)
 parted-whole (b ∷ after) lt h =
     let e : is_blank b ≡ false = false_from_ne_true (is_blank b) (λ y. both_ways (not (is_blank b)) (ap not y) h) in
@@ -76,8 +76,8 @@ parted-whole (b ∷ after) lt h =
 
 -- what follows the blanks in front begins inside a field
 begun : (bytes : List ℕ) → 0 < length (drop (prefix_len is_blank bytes) bytes) →
-    is_joined (drop (prefix_len is_blank bytes) bytes) ≡ true
-unfolding is_joined
+    begins_inside_field (drop (prefix_len is_blank bytes) bytes) ≡ true
+unfolding begins_inside_field
 begun [] lt = absurd (omega arith)
 begun (b ∷ bytes) lt =
     elim (cases_Bool (is_blank b)) [

@@ -11,10 +11,12 @@ use Rattle.trace_lines.specs.declared.steps.Access.{Access}
 use Rattle.trace_lines.specs.declared.steps.Access.TheVariants as access
 use Rattle.text_lines.specs.Reading.{◌>>=◌}
 use Rattle.trace_lines.specs.Reading.{decimal_in, address_in, access_in, ended, core_at, place_at}
-use Rattle.trace_lines.specs.Reading.{operation_at, address_at, number_at, timed_at, completed_at, record_at}
+use Rattle.trace_lines.specs.Reading.{operation_at, address_at, number_field_at, timed_at, record_rest_at}
+use Rattle.trace_lines.specs.Reading.{record_fields_at}
 use Rattle.trace_lines.specs.Reading.{record_line_at}
-use Rattle.trace_lines.specs.Grammar.{IsNumber, IsCore, IsValue, IsAddress, IsCompletion, IsRecordLine}
-use Rattle.trace_lines.specs.Causes.{HasCore, HasPlace, HasAddress, HasValue, IsAccess, FewValues, CompletionCause}
+use Rattle.trace_lines.specs.Grammar.{IsNumber, IsCoreNumber, IsValue, IsAddress, IsCompletion, IsRecordLine}
+use Rattle.trace_lines.specs.Causes.{HasCoreNumber, HasPlaceNumber, HasAddress, HasValue, IsAccess, FewValues}
+use Rattle.trace_lines.specs.Causes.{CompletionCause}
 use Rattle.trace_lines.specs.Causes.{RecordCause}
 use Rattle.trace_lines.proofs.Rules.{judged, missing, read_as}
 use Rattle.trace_lines.proofs.Spellings.{letter_of, number-takes, number-again, address-takes, address-again}
@@ -47,7 +49,7 @@ timed-judged : (P : List (List ℕ) → Result Record Kind → Type 0) (core pla
     → ((a b : List ℕ) (ts number : ℕ) → IsValue a ts → IsValue b number → (extra : List ℕ) (left : List (List ℕ)) →
     P (a ∷ b ∷ extra ∷ left) (Err ExtraWords))
     → P fields (timed_at core place op received fields)
-unfolding timed_at number_at FewValues
+unfolding timed_at number_field_at FewValues
 timed-judged P core place op received fields few done more =
     judged P BadValue value_in fields _
     (λ blank. few fields (inl (missing HasValue value_in value-spelled fields blank)))
@@ -62,8 +64,8 @@ timed-judged P core place op received fields few done more =
 
 read-judged : (core place : ℕ) (letter address : List ℕ) (word : ℕ) (left : List (List ℕ)) → letter ≡ codes "R" →
     IsAddress address word → CompletionJudged core place (letter ∷ address ∷ left)
-    (completed_at core place access.Read word left)
-unfolding number_at FewValues
+    (record_rest_at core place access.Read word left)
+unfolding number_field_at FewValues
 read-judged core place letter address word left e a =
     judged (λ fs r. CompletionJudged core place (letter ∷ address ∷ fs) r) BadValue value_in left _
     (λ blank. inl (inl e, ((word, a), inl (missing HasValue value_in value-spelled left blank))))
@@ -82,8 +84,8 @@ read-judged core place letter address word left e a =
 
 write-judged : (core place : ℕ) (letter address : List ℕ) (word : ℕ) (left : List (List ℕ)) → letter ≡ codes "W" →
     IsAddress address word → CompletionJudged core place (letter ∷ address ∷ left)
-    (completed_at core place access.Write word left)
-unfolding number_at FewValues
+    (record_rest_at core place access.Write word left)
+unfolding number_field_at FewValues
 write-judged core place letter address word left e a =
     judged (λ fs r. CompletionJudged core place (letter ∷ address ∷ fs) r) BadValue value_in left _
     (λ blank. inl (inr e, ((word, a), inl (missing HasValue value_in value-spelled left blank))))
@@ -102,8 +104,8 @@ write-judged core place letter address word left e a =
 
 swap-judged : (core place : ℕ) (letter address : List ℕ) (word : ℕ) (left : List (List ℕ)) → letter ≡ codes "S" →
     IsAddress address word → CompletionJudged core place (letter ∷ address ∷ left)
-    (completed_at core place access.Swap word left)
-unfolding number_at FewValues
+    (record_rest_at core place access.Swap word left)
+unfolding number_field_at FewValues
 swap-judged core place letter address word left e a =
     judged (λ fs r. CompletionJudged core place (letter ∷ address ∷ fs) r) BadValue value_in left _
     (λ blank. inr (e, ((word, a), inl (missing HasValue value_in value-spelled left blank))))
@@ -125,7 +127,7 @@ swap-judged core place letter address word left e a =
 
 completed-judged : (core place : ℕ) (letter address : List ℕ) (x : Access) (word : ℕ) (left : List (List ℕ)) →
     letter ≡ letter_of x → IsAddress address word → CompletionJudged core place (letter ∷ address ∷ left)
-    (completed_at core place x word left)
+    (record_rest_at core place x word left)
 completed-judged core place letter address access.Read word left e a =
     read-judged core place letter address word left e a
 completed-judged core place letter address access.Write word left e a =
@@ -135,7 +137,7 @@ completed-judged core place letter address access.Swap word left e a =
 
 abbrev completion : ℕ → ℕ → List (List ℕ) → Result Record Kind
 completion core place fields =
-    operation_at fields >>= (λ x. address_at x.1 >>= (λ word. completed_at core place x.0 word.0 word.1))
+    operation_at fields >>= (λ x. address_at x.1 >>= (λ word. record_rest_at core place x.0 word.0 word.1))
 
 completion-judged : (core place : ℕ) (fields : List (List ℕ)) →
     CompletionJudged core place fields (completion core place fields)
@@ -156,23 +158,23 @@ RecordJudged fields (Ok r) = IsRecordLine fields r
 RecordJudged fields (Err kind) = RecordCause kind fields
 
 behind-place : (first : List ℕ) (core : ℕ) (second : List ℕ) (place : ℕ) (left : List (List ℕ))
-    (r : Result Record Kind) → IsCore 64 first core → IsNumber 20 (2 ^ 32) second place →
+    (r : Result Record Kind) → IsCoreNumber 64 first core → IsNumber 20 (2 ^ 32) second place →
     CompletionJudged core place left r → RecordJudged (first ∷ second ∷ left) r
 behind-place first core second place left (Ok r) c p j =
-    (subst (IsCore 64 first) (sym j.1) c, subst (IsNumber 20 (2 ^ 32) second) (sym j.2) p, j.0)
+    (subst (IsCoreNumber 64 first) (sym j.1) c, subst (IsNumber 20 (2 ^ 32) second) (sym j.2) p, j.0)
 behind-place first core second place left (Err BadCore) c p j = absurd j
 behind-place first core second place left (Err BadValue) c p j = inr ((core, c), ((place, p), j))
 behind-place first core second place left (Err kind) c p j = ((core, c), ((place, p), j))
 
-record-judged : (fields : List (List ℕ)) → RecordJudged fields (record_at fields)
-unfolding record_at core_at place_at
+record-judged : (fields : List (List ℕ)) → RecordJudged fields (record_fields_at fields)
+unfolding record_fields_at core_at place_at
 record-judged fields =
     judged RecordJudged BadCore (decimal_in 2 64) fields _
-    (missing (HasCore 64) (decimal_in 2 64) (core-spelled 64) fields)
+    (missing (HasCoreNumber 64) (decimal_in 2 64) (core-spelled 64) fields)
     (λ first rest core e. judged (λ fs r. RecordJudged (first ∷ fs) r) BadValue (decimal_in 20 (2 ^ 32)) rest _
     (λ blank. inl (
       (core, number-takes 2 64 first core e),
-      missing HasPlace (decimal_in 20 (2 ^ 32)) place-spelled rest blank,
+      missing HasPlaceNumber (decimal_in 20 (2 ^ 32)) place-spelled rest blank,
     ))
     (λ second left place f. behind-place first core second place left (completion core place left)
     (number-takes 2 64 first core e) (number-takes 20 (2 ^ 32) second place f) (completion-judged core place left)))
@@ -189,7 +191,8 @@ line-from fields (Err kind) j = (tt, j)
 line-judged : (fields : List (List ℕ)) → LineJudged fields (record_line_at fields)
 unfolding record_line_at
 line-judged [] = (refl, tt)
-line-judged (first ∷ fields) = line-from (first ∷ fields) (record_at (first ∷ fields)) (record-judged (first ∷ fields))
+line-judged (first ∷ fields) =
+    line-from (first ∷ fields) (record_fields_at (first ∷ fields)) (record-judged (first ∷ fields))
 
 pub record-told : (fields : List (List ℕ)) (r : Result (Option Record) Kind) → r ≡ record_line_at fields →
     LineJudged fields r
@@ -199,8 +202,8 @@ record-told fields r e = subst (LineJudged fields) (sym e) (line-judged fields)
 
 value-read : {Y : Type 0} (field : List ℕ) (fields : List (List ℕ)) (value : ℕ)
     (f : ℕ × List (List ℕ) → Result Y Kind) (y : Result Y Kind) → IsValue field value → f (value, fields) ≡ y →
-    (number_at (field ∷ fields) >>= f) ≡ y
-unfolding number_at
+    (number_field_at (field ∷ fields) >>= f) ≡ y
+unfolding number_field_at
 value-read field fields value f y h e =
     read_as BadValue value_in field fields value f y (number-again 20 (2 ^ 64) field value h) e
 
@@ -231,8 +234,8 @@ completion-again core place (letter ∷ address ∷ a ∷ b ∷ c ∷ d ∷ []) 
     (timed-again core place (Swap word value) (Some received) c d ts number h.4 h.5))))
 completion-again core place fields op received ts number h = absurd h
 
-record-again : (fields : List (List ℕ)) (r : Record) → IsRecordLine fields r → record_at fields ≡ Ok r
-unfolding record_at core_at place_at
+record-again : (fields : List (List ℕ)) (r : Record) → IsRecordLine fields r → record_fields_at fields ≡ Ok r
+unfolding record_fields_at core_at place_at
 record-again [] r h = absurd h
 record-again (first ∷ []) r h = absurd h
 record-again (first ∷ second ∷ fields) r h =

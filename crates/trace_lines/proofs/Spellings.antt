@@ -7,7 +7,7 @@ use Rattle.std.proofs.lemmas.Bool.Decides.{nat_tests}
 use Rattle.trace_lines.specs.declared.steps.Access.{Access}
 use Rattle.trace_lines.specs.declared.steps.Access.TheVariants as access
 use Rattle.trace_lines.specs.Spelling.{is_digit, is_hex_digit, is_few, decimal_of, hex_of}
-use Rattle.trace_lines.specs.Reading.{decimal_in, hex_in, word_at, address_in, access_in}
+use Rattle.trace_lines.specs.Reading.{decimal_in, hex_in, word_at_byte, address_in, access_in}
 use Rattle.trace_lines.specs.Grammar.{IsNumber, IsAddress}
 
 if_some : {A : Type 0} (b : Bool) (y x : A) → cond b (Some y) None ≡ Some x → (b ≡ true) × (y ≡ x)
@@ -49,9 +49,9 @@ pub address-takes : (field : List ℕ) (word : ℕ) → address_in field ≡ Som
 address-takes [] word e = absurd cc
 address-takes (a ∷ []) word e = absurd cc
 address-takes (a ∷ b ∷ digits) word e =
-    let t = if_or_none (eqb a 48 && eqb b 120) (option_and_then word_at (hex_in digits)) word e in
+    let t = if_or_none (eqb a 48 && eqb b 120) (option_and_then word_at_byte (hex_in digits)) word e in
     let p = and_parts (eqb a 48) (eqb b 120) t.0 in
-    let u = and_then_some word_at (hex_in digits) word t.1 in
+    let u = and_then_some word_at_byte (hex_in digits) word t.1 in
     let v = if_some (is_few is_hex_digit 16 digits) (hex_of digits) u.0 u.1 in
     let w = if_some (eqb (u.0 % 8) 0) (u.0 / 8) word u.2 in
     let whole : u.0 % 8 ≡ 0 = eqb-true (u.0 % 8) 0 w.0 in
@@ -62,7 +62,7 @@ address-takes (a ∷ b ∷ digits) word e =
       v.1 ∙ byte,
     )
 
-word-again : (byte word : ℕ) → byte ≡ 8 * word → word_at byte ≡ Some word
+word-again : (byte word : ℕ) → byte ≡ 8 * word → word_at_byte byte ≡ Some word
 word-again byte word e =
     let whole : byte % 8 ≡ 0 = omega arith in
     let part : byte / 8 ≡ word = omega arith in

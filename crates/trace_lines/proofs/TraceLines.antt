@@ -14,13 +14,14 @@ use Rattle.trace_lines.specs.declared.steps.Form.{Form}
 use Rattle.trace_lines.specs.declared.steps.Form.TheVariants.{One, Two}
 use Rattle.programs.specs.declared.steps.Step.{Step}
 use Rattle.programs.specs.declared.steps.Step.TheVariants as step
-use Rattle.trace_lines.specs.Spelling.{core_count}
+use Rattle.trace_lines.specs.Spelling.{most_cores_named}
 use Rattle.text_lines.specs.Reading.{◌>>=◌}
 use Rattle.trace_lines.specs.Reading.{decimal_in, address_in, access_in, ended, core_at, operation_at}
-use Rattle.trace_lines.specs.Reading.{address_at, number_at, operand_at, op_at, behind_advance, step_or, step_at}
+use Rattle.trace_lines.specs.Reading.{address_at, number_field_at, operand_at, op_at, behind_advance, step_or, step_at}
 use Rattle.trace_lines.specs.Reading.{trace_at, trace_line_at}
-use Rattle.trace_lines.specs.Grammar.{IsCore, IsValue, IsAddress, IsOp, IsStep, IsTraceLine}
-use Rattle.trace_lines.specs.Causes.{Missing, Behind, Follows, HasCore, HasAddress, HasValue, IsAccess, IsWriting}
+use Rattle.trace_lines.specs.Grammar.{IsCoreNumber, IsValue, IsAddress, IsOp, IsStep, IsTraceLine}
+use Rattle.trace_lines.specs.Causes.{Missing, Behind, FollowsWhole, HasCoreNumber, HasAddress, HasValue, IsAccess}
+use Rattle.trace_lines.specs.Causes.{IsWriting}
 use Rattle.trace_lines.specs.Causes.{IsStepWord, StepCause, TraceCause}
 use Rattle.trace_lines.proofs.Rules.{judged, missing, read_as}
 use Rattle.trace_lines.proofs.Spellings.{letter_of, number-takes, number-again, address-takes, address-again}
@@ -33,7 +34,7 @@ abbrev OpCause : Kind → List (List ℕ) → Type 0
 OpCause BadOperation fields = Missing IsAccess fields
 OpCause BadAddress fields = Behind IsAccess (Missing HasAddress) fields
 OpCause BadValue fields = Behind IsWriting (Behind HasAddress (Missing HasValue)) fields
-OpCause ExtraWords fields = Follows (λ front. (op : Op) × IsOp front op) fields
+OpCause ExtraWords fields = FollowsWhole (λ front. (op : Op) × IsOp front op) fields
 OpCause kind fields = ⊥
 
 abbrev OpJudged : List (List ℕ) → Result Op Kind → Type 0
@@ -58,7 +59,7 @@ swapped-judged letter field written word value (extra ∷ left) e a v =
 
 operand-judged : (letter field : List ℕ) (x : Access) (word : ℕ) (left : List (List ℕ)) → letter ≡ letter_of x →
     IsAddress field word → OpJudged (letter ∷ field ∷ left) (operand_at x word left)
-unfolding ended number_at
+unfolding ended number_field_at
 operand-judged letter field access.Read word [] e a = (e, a)
 operand-judged letter field access.Read word (extra ∷ left) e a =
     (letter ∷ field ∷ [], extra, left, refl, (Load word, (e, a)))
@@ -130,7 +131,7 @@ TraceJudged form fields (Ok told) = IsTraceLine form fields told.0 told.1
 TraceJudged form fields (Err kind) = TraceCause form kind fields
 
 behind-core : (form : Form) (first : List ℕ) (core : ℕ) (rest : List (List ℕ)) (r : Result Step Kind) →
-    IsCore (core_count form) first core → StepJudged form rest r →
+    IsCoreNumber (most_cores_named form) first core → StepJudged form rest r →
     TraceJudged form (first ∷ rest) (r >>= (λ told. Ok (core, told)))
 behind-core form first core rest (Ok told) c j = (c, j)
 behind-core form first core rest (Err BadCore) c j = absurd j
@@ -139,10 +140,11 @@ behind-core form first core rest (Err kind) c j = ((core, c), j)
 trace-judged : (form : Form) (fields : List (List ℕ)) → TraceJudged form fields (trace_at form fields)
 unfolding trace_at core_at
 trace-judged form fields =
-    judged (TraceJudged form) BadCore (decimal_in 2 (core_count form)) fields _
-    (missing (HasCore (core_count form)) (decimal_in 2 (core_count form)) (core-spelled (core_count form)) fields)
+    judged (TraceJudged form) BadCore (decimal_in 2 (most_cores_named form)) fields _
+    (missing (HasCoreNumber (most_cores_named form)) (decimal_in 2 (most_cores_named form))
+    (core-spelled (most_cores_named form)) fields)
     (λ first rest core e. behind-core form first core rest (step_at form rest)
-    (number-takes 2 (core_count form) first core e) (step-judged form rest))
+    (number-takes 2 (most_cores_named form) first core e) (step-judged form rest))
 
 abbrev pub LineJudged : Form → List (List ℕ) → Result (Option (ℕ × Step)) Kind → Type 0
 LineJudged form fields r =
@@ -167,7 +169,7 @@ trace-told form fields r e = subst (LineJudged form fields) (sym e) (line-judged
 -- ---- what stands is read
 
 op-again : (fields : List (List ℕ)) (op : Op) → IsOp fields op → op_at fields ≡ Ok op
-unfolding op_at operation_at address_at number_at ended
+unfolding op_at operation_at address_at number_field_at ended
 op-again (letter ∷ address ∷ []) (Load word) h =
     read_as BadOperation access_in letter _ access.Read _ _ (access-again letter access.Read h.0)
     (read_as BadAddress address_in address _ word _ _ (address-again address word h.1) refl)
@@ -206,8 +208,8 @@ trace-again : (form : Form) (fields : List (List ℕ)) (core : ℕ) (told : Step
 unfolding trace_at core_at
 trace-again form [] core told h = absurd h
 trace-again form (first ∷ fields) core told h =
-    read_as BadCore (decimal_in 2 (core_count form)) first _ core _ _
-    (number-again 2 (core_count form) first core h.0) (rw (step-again form fields told h.1) refl)
+    read_as BadCore (decimal_in 2 (most_cores_named form)) first _ core _ _
+    (number-again 2 (most_cores_named form) first core h.0) (rw (step-again form fields told h.1) refl)
 
 pub trace-only : (form : Form) (fields : List (List ℕ)) (core : ℕ) (told : Step) → IsTraceLine form fields core told →
     trace_line_at form fields ≡ Ok (Some (core, told))

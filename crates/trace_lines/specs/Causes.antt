@@ -7,8 +7,8 @@ use Rattle.trace_lines.specs.declared.errors.Kind.TheVariants.{ExtraWords, BadFo
 use Rattle.trace_lines.specs.declared.steps.Form.{Form}
 use Rattle.trace_lines.specs.declared.steps.Form.TheVariants.{One, Two}
 use Rattle.programs.specs.declared.steps.Step.{Step}
-use Rattle.trace_lines.specs.Grammar.{IsNumber, IsCore, IsValue, IsAddress, IsStep, IsCompletion}
-use Rattle.trace_lines.specs.Spelling.{core_count}
+use Rattle.trace_lines.specs.Grammar.{IsNumber, IsCoreNumber, IsValue, IsAddress, IsStep, IsCompletion}
+use Rattle.trace_lines.specs.Spelling.{most_cores_named}
 
 -- the next field is missing, or is not of this kind
 abbrev pub Missing : (List ℕ → Type 0) → List (List ℕ) → Type 0
@@ -21,15 +21,15 @@ Behind P Q [] = ⊥
 Behind P Q (field ∷ fields) = P field × Q fields
 
 -- fields follow some that are whole
-abbrev pub Follows : (List (List ℕ) → Type 0) → List (List ℕ) → Type 0
-Follows Whole fields = (front : List (List ℕ)) × (field : List ℕ) × (back : List (List ℕ))
+abbrev pub FollowsWhole : (List (List ℕ) → Type 0) → List (List ℕ) → Type 0
+FollowsWhole Whole fields = (front : List (List ℕ)) × (field : List ℕ) × (back : List (List ℕ))
     × (fields ≡ front ++ field ∷ back) × Whole front
 
-abbrev pub HasCore : ℕ → List ℕ → Type 0
-HasCore cores field = (core : ℕ) × IsCore cores field core
+abbrev pub HasCoreNumber : ℕ → List ℕ → Type 0
+HasCoreNumber cores field = (core : ℕ) × IsCoreNumber cores field core
 
-abbrev pub HasPlace : List ℕ → Type 0
-HasPlace field = (place : ℕ) × IsNumber 20 (2 ^ 32) field place
+abbrev pub HasPlaceNumber : List ℕ → Type 0
+HasPlaceNumber field = (place : ℕ) × IsNumber 20 (2 ^ 32) field place
 
 abbrev pub HasValue : List ℕ → Type 0
 HasValue field = (value : ℕ) × IsValue field value
@@ -55,13 +55,13 @@ abbrev pub StepCause : Form → Kind → List (List ℕ) → Type 0
 StepCause form BadOperation fields = Missing (IsStepWord form) fields
 StepCause form BadAddress fields = Behind IsAccess (Missing HasAddress) fields
 StepCause form BadValue fields = Behind IsWriting (Behind HasAddress (Missing HasValue)) fields
-StepCause form ExtraWords fields = Follows (λ front. (told : Step) × IsStep form front told) fields
+StepCause form ExtraWords fields = FollowsWhole (λ front. (told : Step) × IsStep form front told) fields
 StepCause form kind fields = ⊥
 
 -- what is wrong with a trace's line
 abbrev pub TraceCause : Form → Kind → List (List ℕ) → Type 0
-TraceCause form BadCore fields = Missing (HasCore (core_count form)) fields
-TraceCause form kind fields = Behind (HasCore (core_count form)) (StepCause form kind) fields
+TraceCause form BadCore fields = Missing (HasCoreNumber (most_cores_named form)) fields
+TraceCause form kind fields = Behind (HasCoreNumber (most_cores_named form)) (StepCause form kind) fields
 
 -- so many values do not stand: the first of them that is missing, or is none, stands behind the others
 unfoldable pub FewValues : ℕ → List (List ℕ) → Type 0
@@ -78,20 +78,20 @@ CompletionCause BadOperation fields = Missing IsAccess fields
 CompletionCause BadAddress fields = Behind IsAccess (Missing HasAddress) fields
 CompletionCause BadValue fields = Behind IsSingle (Behind HasAddress (FewValues 3)) fields
     ⊎ Behind (λ field. field ≡ codes "S") (Behind HasAddress (FewValues 4)) fields
-CompletionCause ExtraWords fields = Follows (λ front. (op : Op) × (received : Option ℕ) × (ts : ℕ) × (number : ℕ)
+CompletionCause ExtraWords fields = FollowsWhole (λ front. (op : Op) × (received : Option ℕ) × (ts : ℕ) × (number : ℕ)
     × IsCompletion front op received ts number) fields
 CompletionCause kind fields = ⊥
 
 -- what is wrong with a record's line
 abbrev pub RecordCause : Kind → List (List ℕ) → Type 0
-RecordCause BadCore fields = Missing (HasCore 64) fields
-RecordCause BadValue fields = Behind (HasCore 64) (Missing HasPlace) fields
-    ⊎ Behind (HasCore 64) (Behind HasPlace (CompletionCause BadValue)) fields
-RecordCause kind fields = Behind (HasCore 64) (Behind HasPlace (CompletionCause kind)) fields
+RecordCause BadCore fields = Missing (HasCoreNumber 64) fields
+RecordCause BadValue fields = Behind (HasCoreNumber 64) (Missing HasPlaceNumber) fields
+    ⊎ Behind (HasCoreNumber 64) (Behind HasPlaceNumber (CompletionCause BadValue)) fields
+RecordCause kind fields = Behind (HasCoreNumber 64) (Behind HasPlaceNumber (CompletionCause kind)) fields
 
 -- what is wrong with a form line, which begins with trace
 abbrev pub FormCause : Kind → List (List ℕ) → Type 0
 FormCause BadForm fields =
     Behind (λ first. first ≡ codes "trace") (Missing (λ second. second ≡ codes "2")) fields
-FormCause ExtraWords fields = Follows (λ front. front ≡ codes "trace" ∷ codes "2" ∷ []) fields
+FormCause ExtraWords fields = FollowsWhole (λ front. front ≡ codes "trace" ∷ codes "2" ∷ []) fields
 FormCause kind fields = ⊥

@@ -7,15 +7,15 @@ use Rattle.trace_lines.specs.declared.steps.Form.{Form}
 use Rattle.trace_lines.specs.declared.steps.Form.TheVariants.{One, Two}
 use Rattle.programs.specs.declared.steps.Step.{Step}
 use Rattle.programs.specs.declared.steps.Step.TheVariants as step
-use Rattle.trace_lines.specs.Spelling.{is_digit, is_hex_digit, is_few, decimal_of, hex_of, core_count}
+use Rattle.trace_lines.specs.Spelling.{is_digit, is_hex_digit, is_few, decimal_of, hex_of, most_cores_named}
 
 -- a number below a bound, in 1 to so many decimal digits
 abbrev pub IsNumber : ℕ → ℕ → List ℕ → ℕ → Type 0
 IsNumber digits bound field n = (is_few is_digit digits field ≡ true) × (decimal_of field ≡ n) × (n < bound)
 
 -- the number of a core, where there are so many
-abbrev pub IsCore : ℕ → List ℕ → ℕ → Type 0
-IsCore cores = IsNumber 2 cores
+abbrev pub IsCoreNumber : ℕ → List ℕ → ℕ → Type 0
+IsCoreNumber cores = IsNumber 2 cores
 
 -- a number of 64 bits
 abbrev pub IsValue : List ℕ → ℕ → Type 0
@@ -44,7 +44,7 @@ IsStep Two fields step.Advance = fields ≡ codes "A" ∷ []
 -- CORE, and its step
 abbrev pub IsTraceLine : Form → List (List ℕ) → ℕ → Step → Type 0
 IsTraceLine form [] core told = ⊥
-IsTraceLine form (first ∷ fields) core told = IsCore (core_count form) first core × IsStep form fields told
+IsTraceLine form (first ∷ fields) core told = IsCoreNumber (most_cores_named form) first core × IsStep form fields told
 
 -- R ADDR RECEIVED TIME NUMBER, W ADDR VALUE TIME NUMBER, S ADDR VALUE RECEIVED TIME NUMBER
 abbrev pub IsCompletion : List (List ℕ) → Op → Option ℕ → ℕ → ℕ → Type 0
@@ -59,7 +59,7 @@ IsCompletion fields op received ts number = ⊥
 
 -- CORE, PLACE, and what completed
 abbrev pub IsRecordLine : List (List ℕ) → Record → Type 0
-IsRecordLine (first ∷ second ∷ fields) r = IsCore 64 first r.core × IsNumber 20 (2 ^ 32) second r.place
+IsRecordLine (first ∷ second ∷ fields) r = IsCoreNumber 64 first r.core × IsNumber 20 (2 ^ 32) second r.place
     × IsCompletion fields r.op r.received r.ts r.number
 IsRecordLine fields r = ⊥
 

@@ -15,14 +15,14 @@ use Rattle.trace_lines.specs.declared.steps.Form.{Form}
 use Rattle.trace_lines.specs.declared.steps.Form.TheVariants.{One, Two}
 use Rattle.programs.specs.declared.steps.Step.{Step}
 use Rattle.programs.specs.declared.steps.Step.TheVariants as step
-use Rattle.trace_lines.specs.Spelling.{is_digit, is_hex_digit, is_few, decimal_of, hex_of, core_count}
+use Rattle.trace_lines.specs.Spelling.{is_digit, is_hex_digit, is_few, decimal_of, hex_of, most_cores_named}
 
 -- What is read, and the fields behind it.
-abbrev pub Read : Type 0 → Type 0
-Read X = Result (X × List (List ℕ)) Kind
+abbrev pub FieldsRead : Type 0 → Type 0
+FieldsRead X = Result (X × List (List ℕ)) Kind
 
 -- what the next field says, by this rule; a fault of this kind if it is missing or says nothing
-unfoldable pub field_at : {X : Type 0} → Kind → (List ℕ → Option X) → List (List ℕ) → Read X
+unfoldable pub field_at : {X : Type 0} → Kind → (List ℕ → Option X) → List (List ℕ) → FieldsRead X
 field_at kind says [] = Err kind
 field_at kind says (field ∷ fields) = found kind (says field) (λ x. Ok (x, fields))
 
@@ -41,12 +41,12 @@ abbrev pub hex_in : List ℕ → Option ℕ
 hex_in digits = if is_few is_hex_digit 16 digits then Some (hex_of digits) else None
 
 -- the word at a byte address
-abbrev pub word_at : ℕ → Option ℕ
-word_at byte = if byte % 8 == 0 then Some (byte / 8) else None
+abbrev pub word_at_byte : ℕ → Option ℕ
+word_at_byte byte = if byte % 8 == 0 then Some (byte / 8) else None
 
 -- 0x and the digits of a byte address
 abbrev pub address_in : List ℕ → Option ℕ
-address_in (a ∷ b ∷ digits) = if a == 48 && b == 120 then option_and_then word_at (hex_in digits) else None
+address_in (a ∷ b ∷ digits) = if a == 48 && b == 120 then option_and_then word_at_byte (hex_in digits) else None
 address_in field = None
 
 -- R, W, S
@@ -55,26 +55,26 @@ access_in (a ∷ []) = if a == 82 then Some access.Read else if a == 87 then Som
     else if a == 83 then Some access.Swap else None
 access_in field = None
 
-unfoldable pub core_at : ℕ → List (List ℕ) → Read ℕ
+unfoldable pub core_at : ℕ → List (List ℕ) → FieldsRead ℕ
 core_at cores fields = field_at BadCore (decimal_in 2 cores) fields
 
-unfoldable pub place_at : List (List ℕ) → Read ℕ
+unfoldable pub place_at : List (List ℕ) → FieldsRead ℕ
 place_at fields = field_at BadValue (decimal_in 20 (2 ^ 32)) fields
 
-unfoldable pub number_at : List (List ℕ) → Read ℕ
-number_at fields = field_at BadValue (decimal_in 20 (2 ^ 64)) fields
+unfoldable pub number_field_at : List (List ℕ) → FieldsRead ℕ
+number_field_at fields = field_at BadValue (decimal_in 20 (2 ^ 64)) fields
 
-unfoldable pub operation_at : List (List ℕ) → Read Access
+unfoldable pub operation_at : List (List ℕ) → FieldsRead Access
 operation_at fields = field_at BadOperation access_in fields
 
-unfoldable pub address_at : List (List ℕ) → Read ℕ
+unfoldable pub address_at : List (List ℕ) → FieldsRead ℕ
 address_at fields = field_at BadAddress address_in fields
 
 -- what is left of an access: the value of a write, and no more fields
 abbrev pub operand_at : Access → ℕ → List (List ℕ) → Result Op Kind
 operand_at access.Read word fields = ended (Load word) fields
-operand_at access.Write word fields = number_at fields >>= (λ value. ended (Store word value.0) value.1)
-operand_at access.Swap word fields = number_at fields >>= (λ value. ended (Swap word value.0) value.1)
+operand_at access.Write word fields = number_field_at fields >>= (λ value. ended (Store word value.0) value.1)
+operand_at access.Swap word fields = number_field_at fields >>= (λ value. ended (Swap word value.0) value.1)
 
 unfoldable pub op_at : List (List ℕ) → Result Op Kind
 op_at fields = do
@@ -96,7 +96,7 @@ step_at form fields = step_or fields (behind_advance form fields)
 
 unfoldable pub trace_at : Form → List (List ℕ) → Result (ℕ × Step) Kind
 trace_at form fields = do
-  core ← core_at (core_count form) fields
+  core ← core_at (most_cores_named form) fields
   told ← step_at form core.1
   Ok (core.0, told)
 
@@ -108,32 +108,32 @@ trace_line_at form (field ∷ fields) = trace_at form (field ∷ fields) >>= (λ
 -- the time and the completion number, and no more fields
 unfoldable pub timed_at : ℕ → ℕ → Op → Option ℕ → List (List ℕ) → Result Record Kind
 timed_at core place op received fields = do
-  ts ← number_at fields
-  number ← number_at ts.1
+  ts ← number_field_at fields
+  number ← number_field_at ts.1
   ended (record { core = core; place = place; op = op; received = received; ts = ts.0; number = number.0 }) number.1
 
 -- what is left of a record behind its address
-abbrev pub completed_at : ℕ → ℕ → Access → ℕ → List (List ℕ) → Result Record Kind
-completed_at core place access.Read word fields =
-    number_at fields >>= (λ received. timed_at core place (Load word) (Some received.0) received.1)
-completed_at core place access.Write word fields =
-    number_at fields >>= (λ value. timed_at core place (Store word value.0) None value.1)
-completed_at core place access.Swap word fields =
-    number_at fields >>= (λ value. number_at value.1 >>= (λ received.
+abbrev pub record_rest_at : ℕ → ℕ → Access → ℕ → List (List ℕ) → Result Record Kind
+record_rest_at core place access.Read word fields =
+    number_field_at fields >>= (λ received. timed_at core place (Load word) (Some received.0) received.1)
+record_rest_at core place access.Write word fields =
+    number_field_at fields >>= (λ value. timed_at core place (Store word value.0) None value.1)
+record_rest_at core place access.Swap word fields =
+    number_field_at fields >>= (λ value. number_field_at value.1 >>= (λ received.
     timed_at core place (Swap word value.0) (Some received.0) received.1))
 
-unfoldable pub record_at : List (List ℕ) → Result Record Kind
-record_at fields = do
+unfoldable pub record_fields_at : List (List ℕ) → Result Record Kind
+record_fields_at fields = do
   core ← core_at 64 fields
   place ← place_at core.1
   access ← operation_at place.1
   word ← address_at access.1
-  completed_at core.0 place.0 access.0 word.0 word.1
+  record_rest_at core.0 place.0 access.0 word.0 word.1
 
 -- what a line of records says; nothing if it has no fields
 unfoldable pub record_line_at : List (List ℕ) → Result (Option Record) Kind
 record_line_at [] = Ok None
-record_line_at (field ∷ fields) = record_at (field ∷ fields) >>= (λ told. Ok (Some told))
+record_line_at (field ∷ fields) = record_fields_at (field ∷ fields) >>= (λ told. Ok (Some told))
 
 -- the form that trace, 2 and nothing else name
 abbrev pub form_named : List (List ℕ) → Result (Option Form) Kind

@@ -31,6 +31,6 @@ abbrev pub hex_of : List ℕ → ℕ
 hex_of digits = fold (λ value digit. 16 * value + hex_digit digit) 0 digits
 
 -- how many cores a trace may name
-abbrev pub core_count : Form → ℕ
-core_count One = 16
-core_count Two = 64
+abbrev pub most_cores_named : Form → ℕ
+most_cores_named One = 16
+most_cores_named Two = 64

@@ -5,10 +5,10 @@ use Rattle.trace_lines.specs.Fields.{parted}
 use denote.Bor.{Bor}
 
 -- What a function returned, seen by view, is what reading gives.
-abbrev pub Gives : {X Y : Type 0} → (X → Y) → Result X Kind → Result Y Kind → Type 0
-Gives view (Ok x) read = read ≡ Ok (view x)
-Gives view (Err e) read = read ≡ Err e
+abbrev pub GivesViewed : {X Y : Type 0} → (X → Y) → Result X Kind → Result Y Kind → Type 0
+GivesViewed view (Ok x) read = read ≡ Ok (view x)
+GivesViewed view (Err e) read = read ≡ Err e
 
 -- what is read, and the fields behind it
-abbrev pub view_read : {X : Type 0} → X × Bor (List ℕ) → X × List (List ℕ)
-view_read read = (read.0, parted read.1.now)
+abbrev pub view_fields_read : {X : Type 0} → X × Bor (List ℕ) → X × List (List ℕ)
+view_fields_read read = (read.0, parted read.1.now)

@@ -37,11 +37,11 @@ pub enum Kind {
 }
 
 impl Kind {
-    ghost use Rattle.trace_lines.specs.Kinds.{number_of_kind, name_of_kind};
+    ghost use Rattle.trace_lines.specs.Kinds.{number_of_trace_kind, name_of_trace_kind};
 
     /// The kind's number, 1 to 9.
     pub fn number(self) -> u8
-        ensures { result ≡ number_of_kind self }
+        ensures { result ≡ number_of_trace_kind self }
     {
         match self {
             Kind::Read => 1,
@@ -58,7 +58,7 @@ impl Kind {
 
     /// The kind's name, as it is written here, in 12 characters or fewer.
     pub fn name(self) -> &'static str
-        ensures name { result.now ≡ name_of_kind self }
+        ensures name { result.now ≡ name_of_trace_kind self }
         ensures short { length result.now ≤ 12 }
     {
         match self {

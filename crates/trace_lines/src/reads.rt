@@ -2,9 +2,9 @@
 
 ghost use Rattle.std.specs.Prelude.{◌≡◌, ◌≤◌, ◌<◌, ◌^◌, IfOk};
 ghost use Rattle.trace_lines.specs.Fields.{parted};
-ghost use Rattle.trace_lines.specs.Reading.{field_at, decimal_in, core_at, place_at, number_at};
+ghost use Rattle.trace_lines.specs.Reading.{field_at, decimal_in, core_at, place_at, number_field_at};
 ghost use Rattle.trace_lines.specs.Reading.{operation_at, address_at};
-ghost use Rattle.trace_lines.specs.Views.{Gives, view_read};
+ghost use Rattle.trace_lines.specs.Views.{GivesViewed, view_fields_read};
 
 use crate::errors::Kind;
 use crate::lines::next_field;
@@ -22,7 +22,7 @@ fn decimal_field<'a>(
     kind: Kind,
 ) -> Result<(u64, &'a [u8]), Kind>
     requires { bound ≤ 2 ^ 64 }
-    ensures read { Gives view_read result
+    ensures read { GivesViewed view_fields_read result
         (field_at kind (decimal_in digits bound) (parted line.now)) }
     ensures small { IfOk result (λ read. read.0 < bound) }
 {
@@ -38,7 +38,7 @@ fn decimal_field<'a>(
 /// A core, where there are so many.
 #[tactic(auto, unfolding(crate::specs::Reading::core_at))]
 pub(crate) fn core_field<'a>(line: &'a [u8], cores: u8) -> Result<(u32, &'a [u8]), Kind>
-    ensures { Gives view_read result (core_at cores (parted line.now)) }
+    ensures { GivesViewed view_fields_read result (core_at cores (parted line.now)) }
 {
     let (core, rest) = decimal_field(line, 2, u128::from(cores), Kind::BadCore)?;
     Ok((core as u32, rest))
@@ -47,16 +47,16 @@ pub(crate) fn core_field<'a>(line: &'a [u8], cores: u8) -> Result<(u32, &'a [u8]
 /// The place of an operation in its core's program order.
 #[tactic(auto, unfolding(crate::specs::Reading::place_at))]
 pub(crate) fn place_field(line: &[u8]) -> Result<(u32, &[u8]), Kind>
-    ensures { Gives view_read result (place_at (parted line.now)) }
+    ensures { GivesViewed view_fields_read result (place_at (parted line.now)) }
 {
     let (place, rest) = decimal_field(line, 20, PLACE_BOUND, Kind::BadValue)?;
     Ok((place as u32, rest))
 }
 
 /// A value, a received value, a time or a completion number.
-#[tactic(auto, unfolding(crate::specs::Reading::number_at))]
+#[tactic(auto, unfolding(crate::specs::Reading::number_field_at))]
 pub(crate) fn number_field(line: &[u8]) -> Result<(u64, &[u8]), Kind>
-    ensures { Gives view_read result (number_at (parted line.now)) }
+    ensures { GivesViewed view_fields_read result (number_field_at (parted line.now)) }
 {
     decimal_field(line, 20, VALUE_BOUND, Kind::BadValue)
 }
@@ -64,7 +64,7 @@ pub(crate) fn number_field(line: &[u8]) -> Result<(u64, &[u8]), Kind>
 /// The access that `R`, `W` or `S` stands for.
 #[tactic(auto, unfolding(crate::specs::Reading::operation_at, crate::specs::Reading::field_at))]
 pub(crate) fn operation_field(line: &[u8]) -> Result<(Access, &[u8]), Kind>
-    ensures { Gives view_read result (operation_at (parted line.now)) }
+    ensures { GivesViewed view_fields_read result (operation_at (parted line.now)) }
 {
     let Some((field, rest)) = next_field(line) else {
         return Err(Kind::BadOperation);
@@ -78,7 +78,7 @@ pub(crate) fn operation_field(line: &[u8]) -> Result<(Access, &[u8]), Kind>
 /// The number of a byte address's word.
 #[tactic(auto, unfolding(crate::specs::Reading::address_at, crate::specs::Reading::field_at))]
 pub(crate) fn address_field(line: &[u8]) -> Result<(u64, &[u8]), Kind>
-    ensures read { Gives view_read result (address_at (parted line.now)) }
+    ensures read { GivesViewed view_fields_read result (address_at (parted line.now)) }
     ensures small { IfOk result (λ read. read.0 < 2 ^ 61) }
 {
     let Some((field, rest)) = next_field(line) else {

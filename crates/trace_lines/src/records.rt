@@ -5,7 +5,7 @@ ghost use Rattle.physiological_order.specs.declared.operation.Record.{Record};
 ghost use Rattle.trace_lines.specs.Causes.{RecordCause};
 ghost use Rattle.trace_lines.specs.Fields.{fields_of, parted};
 ghost use Rattle.trace_lines.specs.Grammar.{IsRecordLine};
-ghost use Rattle.trace_lines.specs.Reading.{timed_at, completed_at, record_at, record_line_at};
+ghost use Rattle.trace_lines.specs.Reading.{timed_at, record_rest_at, record_fields_at, record_line_at};
 
 use crate::errors::Kind;
 use crate::lines::{before_comment, next_field};
@@ -41,7 +41,7 @@ fn completed(
     word: WordAddr,
     line: &[u8],
 ) -> Result<Record, Kind>
-    ensures { result ≡ completed_at core place access word (parted line.now) }
+    ensures { result ≡ record_rest_at core place access word (parted line.now) }
 {
     match access {
         Access::Read => {
@@ -60,9 +60,9 @@ fn completed(
     }
 }
 
-#[tactic(auto, unfolding(crate::specs::Reading::record_at))]
+#[tactic(auto, unfolding(crate::specs::Reading::record_fields_at))]
 fn record_fields(line: &[u8]) -> Result<Record, Kind>
-    ensures { result ≡ record_at (parted line.now) }
+    ensures { result ≡ record_fields_at (parted line.now) }
 {
     let (core, rest) = core_field(line, 64)?;
     let (place, rest) = place_field(rest)?;

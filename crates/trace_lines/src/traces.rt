@@ -7,7 +7,7 @@ ghost use Rattle.programs.specs.declared.steps.Step.{Step};
 ghost use Rattle.trace_lines.specs.Fields.{fields_of, parted};
 ghost use Rattle.trace_lines.specs.Reading.{ended, operand_at, op_at, behind_advance, step_at, trace_at};
 ghost use Rattle.trace_lines.specs.Reading.{trace_line_at};
-ghost use Rattle.trace_lines.specs.Spelling.{core_count};
+ghost use Rattle.trace_lines.specs.Spelling.{most_cores_named};
 
 use crate::errors::Kind;
 use crate::lines::{before_comment, next_field};
@@ -18,7 +18,7 @@ use programs::Step;
 
 /// How many cores a trace may name.
 fn core_count(form: Form) -> u8
-    ensures { result ≡ core_count form }
+    ensures { result ≡ most_cores_named form }
 {
     match form {
         Form::One => 16,

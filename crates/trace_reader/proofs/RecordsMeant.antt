@@ -14,9 +14,9 @@ use Rattle.trace_lines.proofs.Lemmas.{record-told, record-only, record-nothing}
 use Rattle.trace_reader.specs.declared.limits.TheConstants.{MOST_LINES}
 use Rattle.trace_reader.specs.Lines.{with_fields, worded}
 use Rattle.trace_reader.specs.Grammar.{AreShort, TellRecords}
-use Rattle.trace_reader.specs.Causes.{RecordLineCause, Stands, IsTooLong}
+use Rattle.trace_reader.specs.Causes.{RecordLineCause, StandsAtLine, IsTooLong}
 use Rattle.trace_reader.specs.Outcomes.{IsOfLine}
-use Rattle.trace_reader.specs.Reading.{behind, listed, records_from}
+use Rattle.trace_reader.specs.Reading.{behind, list_of_option, records_from}
 use Rattle.trace_reader.proofs.Inverses.{behind-ok, behind-err, fitted-ok, fitted-err}
 use Rattle.trace_reader.proofs.RecordsRead.{record-said, records-end}
 
@@ -27,7 +27,7 @@ FitsFrom number lines = (number + length lines ≤ suc MOST_LINES) × AreShort l
 
 says-more : (said : Option Record) (fields : List (List ℕ)) (lines : List (List (List ℕ))) (later : List Record) →
     MatchOption said (fields ≡ []) (λ read. IsRecordLine fields read) → TellRecords lines later →
-    TellRecords (with_fields fields lines) (listed said ++ later)
+    TellRecords (with_fields fields lines) (list_of_option said ++ later)
 unfolding TellRecords
 says-more None fields lines later m s = subst (λ (w : List (List ℕ)). TellRecords (with_fields w lines) later) (sym
     m) s
@@ -43,9 +43,9 @@ found-from [] number told few e =
     ((omega arith, tt), subst (λ (w : List Record). TellRecords [] w) same tt)
 found-from (line ∷ lines) number told few e =
     let o = fitted-ok number line (record_line_at (fields_of line))
-    (λ said. behind (listed said) (records_from (suc number) lines)) told e in
+    (λ said. behind (list_of_option said) (records_from (suc number) lines)) told e in
     let said = o.1.0 in
-    let b = behind-ok (listed said) (records_from (suc number) lines) told o.1.2 in
+    let b = behind-ok (list_of_option said) (records_from (suc number) lines) told o.1.2 in
     let r = found-from lines (suc number) b.0 (omega (arith, o.0.1)) b.1 in (
       (omega (arith, r.0.0), (o.0.0, r.0.1)),
       subst (λ (w : List Record). TellRecords (with_fields (fields_of line) (worded lines)) w) b.2
@@ -62,7 +62,7 @@ records-found lines told e =
 
 abbrev Parts : List (List ℕ) → List (List (List ℕ)) → List Record → Type 0
 Parts fields lines told = (said : Option Record) × (later : List Record)
-    × (listed said ++ later ≡ told) × (record_line_at fields ≡ Ok said) × TellRecords lines later
+    × (list_of_option said ++ later ≡ told) × (record_line_at fields ≡ Ok said) × TellRecords lines later
 
 parts : (fields : List (List ℕ)) (lines : List (List (List ℕ))) (told : List Record) →
     TellRecords (with_fields fields lines) told → Parts fields lines told
@@ -84,7 +84,7 @@ only-from [] number told fits s = records-end number ∙ ap Ok (sym (says-nothin
 only-from (line ∷ lines) number told fits s =
     let p = parts (fields_of line) (worded lines) told s in
     record-said number line lines p.0 fits.1.0 (omega (arith, fits.0)) p.3
-    ∙ ap (behind (listed p.0)) (only-from lines (suc number) p.1 (omega (arith, fits.0), fits.1.1) p.4)
+    ∙ ap (behind (list_of_option p.0)) (only-from lines (suc number) p.1 (omega (arith, fits.0), fits.1.1) p.4)
     ∙ ap Ok p.2
 
 pub records-only : (lines : List (List ℕ)) (told : List Record) → (length lines ≤ MOST_LINES) × AreShort lines →
@@ -102,12 +102,12 @@ said-refused fields kind e = (
 
 fault-from : (lines : List (List ℕ)) (number : ℕ) (fault : TraceError) →
     number ≤ suc MOST_LINES → records_from number lines ≡ Err fault →
-    Stands number lines fault.line (λ before line. RecordLineCause fault.kind fault.line line)
+    StandsAtLine number lines fault.line (λ before line. RecordLineCause fault.kind fault.line line)
 unfolding records_from
 fault-from [] number fault few e = absurd cc
 fault-from (line ∷ lines) number fault few e =
     elim (fitted-err number line (record_line_at (fields_of line))
-    (λ said. behind (listed said) (records_from (suc number) lines)) fault few e) [
+    (λ said. behind (list_of_option said) (records_from (suc number) lines)) fault few e) [
       | inl t ↦ (
         [],
         line,
@@ -119,12 +119,12 @@ fault-from (line ∷ lines) number fault few e =
       | inr (inl t) ↦ let r = said-refused (fields_of line) fault.kind t.1 in
           ([], line, lines, refl, omega (arith, t.0), inr (r.0, r.1))
       | inr (inr t) ↦ let r = fault-from lines (suc number) fault (omega (arith, t.0))
-          (behind-err (listed t.1.0) (records_from (suc number) lines) fault t.1.2) in
+          (behind-err (list_of_option t.1.0) (records_from (suc number) lines) fault t.1.2) in
           (line ∷ r.0, r.1, r.2, ap (λ (w : List (List ℕ)). line ∷ w) r.3, omega (arith, r.4), r.5)
     ]
 
 pub records-fault : (lines : List (List ℕ)) (fault : TraceError) → records_from 1 lines ≡ Err fault →
-    Stands 1 lines fault.line (λ before line. RecordLineCause fault.kind fault.line line)
+    StandsAtLine 1 lines fault.line (λ before line. RecordLineCause fault.kind fault.line line)
 records-fault lines fault e = fault-from lines 1 fault (omega arith) e
 
 -- ---- no line is refused for what befalls the whole text

@@ -13,7 +13,7 @@ use Rattle.trace_reader.specs.declared.limits.TheConstants.{MOST_BYTES, MOST_LIN
 use Rattle.trace_reader.specs.Ahead.{Both}
 use Rattle.text_lines.specs.Lines.{lines_of}
 use Rattle.trace_reader.specs.Outcomes.{IsFound, BeginTooLong}
-use Rattle.trace_reader.specs.Reading.{at_line, behind, listed, records_from, records_at}
+use Rattle.trace_reader.specs.Reading.{at_line, behind, list_of_option, records_from, records_at}
 use Rattle.trace_reader.proofs.OnLines.{both-next, both-fault, both-long, both-end}
 use Rattle.trace_reader.proofs.OnLines.{fitted-short, fitted-long, behind-behind}
 use Rattle.trace_reader.proofs.Inverses.{behind-some}
@@ -22,11 +22,11 @@ use Rattle.trace_reader.proofs.Inverses.{behind-some}
 
 pub record-said : (number : ℕ) (line : List ℕ) (later : List (List ℕ)) (said : Option Record) →
     length line ≤ MOST_BYTES → number ≤ MOST_LINES → record_line_at (fields_of line) ≡ Ok said →
-    records_from number (line ∷ later) ≡ behind (listed said) (records_from (suc number) later)
+    records_from number (line ∷ later) ≡ behind (list_of_option said) (records_from (suc number) later)
 unfolding records_from
 record-said number line later said h k e =
     ap (λ (r : Result (Option Record) Kind). at_line number r
-    (λ said. behind (listed said) (records_from (suc number) later)))
+    (λ said. behind (list_of_option said) (records_from (suc number) later)))
     (fitted-short number line (record_line_at (fields_of line)) h k ∙ e)
 
 record-refused : (number : ℕ) (line : List ℕ) (later : List (List ℕ)) (kind : Kind) →
@@ -35,7 +35,7 @@ record-refused : (number : ℕ) (line : List ℕ) (later : List (List ℕ)) (kin
 unfolding records_from
 record-refused number line later kind h k e =
     ap (λ (r : Result (Option Record) Kind). at_line number r
-    (λ said. behind (listed said) (records_from (suc number) later)))
+    (λ said. behind (list_of_option said) (records_from (suc number) later)))
     (fitted-short number line (record_line_at (fields_of line)) h k ∙ e)
 
 record-long : (number : ℕ) (line : List ℕ) (later : List (List ℕ)) →
@@ -44,7 +44,7 @@ record-long : (number : ℕ) (line : List ℕ) (later : List (List ℕ)) →
 unfolding records_from
 record-long number line later e =
     ap (λ (r : Result (Option Record) Kind). at_line number r
-    (λ said. behind (listed said) (records_from (suc number) later)))
+    (λ said. behind (list_of_option said) (records_from (suc number) later)))
     (fitted-long number line (record_line_at (fields_of line)) e)
 
 pub records-end : (number : ℕ) → records_from number [] ≡ Ok []
@@ -59,7 +59,8 @@ SoFar records number before lines = records_at before ≡ behind records (record
 
 -- what a line adds
 abbrev Adds : List ℕ → List Record → List Record → Type 0
-Adds line old new = (told : Option Record) × (record_line_at (fields_of line) ≡ Ok told) × (new ≡ old ++ listed told)
+Adds line old new =
+    (told : Option Record) × (record_line_at (fields_of line) ≡ Ok told) × (new ≡ old ++ list_of_option told)
 
 pub records-on : (a b c : Option (List ℕ)) (old new line last : List ℕ) (found : Option ℕ) (n number : ℕ)
     (x y : List Record) →
@@ -77,8 +78,8 @@ records-on a b c old new line last found n number x y p q e h f g r =
     both-next (SoFar x (suc number)) (SoFar y (suc (number + 1))) a b c old new found n p q e
     (λ before later s.
     s ∙ ap (behind x) (record-said (suc number) (take n new) later r.0 len early said)
-    ∙ behind-behind x (listed r.0) (records_from (suc (suc number)) later)
-    ∙ ap (λ k. behind (x ++ listed r.0) (records_from k later)) again
+    ∙ behind-behind x (list_of_option r.0) (records_from (suc (suc number)) later)
+    ∙ ap (λ k. behind (x ++ list_of_option r.0) (records_from k later)) again
     ∙ ap (λ (w : List Record). behind w (records_from (suc (number + 1)) later)) (sym r.2)) last g
 
 pub records-refused : (a b c : Option (List ℕ)) (old new line : List ℕ) (found : Option ℕ) (n number : ℕ)

@@ -16,9 +16,9 @@ use Rattle.trace_lines.proofs.Lemmas.{trace-told, trace-only, trace-nothing, for
 use Rattle.trace_reader.specs.declared.limits.TheConstants.{MOST_LINES}
 use Rattle.trace_reader.specs.Lines.{with_fields, worded}
 use Rattle.trace_reader.specs.Grammar.{AreShort, TellSteps, TellTrace}
-use Rattle.trace_reader.specs.Causes.{FieldsCause, StepLineCause, Stands, IsTooLong}
+use Rattle.trace_reader.specs.Causes.{FieldsCause, StepLineCause, StandsAtLine, IsTooLong}
 use Rattle.trace_reader.specs.Outcomes.{IsOfLine}
-use Rattle.trace_reader.specs.Reading.{behind, listed, step_said, form_said, said_at, steps_from}
+use Rattle.trace_reader.specs.Reading.{behind, list_of_option, step_said, form_said, said_at, steps_from}
 use Rattle.trace_reader.proofs.Inverses.{ok-pair, bind-ok, bind-err, behind-ok, behind-err, fitted-ok, fitted-err}
 use Rattle.trace_reader.proofs.StepsRead.{line-said, lines-end}
 
@@ -111,7 +111,7 @@ FitsFrom number lines = (number + length lines ≤ suc MOST_LINES) × AreShort l
 says-more : (form next : Option Form) (said : Option (ℕ × Step)) (fields : List (List ℕ)) (lines : List (List (List
     ℕ)))
     (later : List (ℕ × Step)) → Meant form fields next said → SaysFrom next lines later →
-    SaysFrom form (with_fields fields lines) (listed said ++ later)
+    SaysFrom form (with_fields fields lines) (list_of_option said ++ later)
 unfolding TellSteps
 says-more (Some form) next None fields lines later m s =
     let h : SaysFrom (Some form) lines later = subst (λ (o : Option Form). SaysFrom o lines later) m.0 s in
@@ -146,10 +146,10 @@ found-from [] number form told few e =
     ((omega arith, tt), subst (λ (w : List (ℕ × Step)). SaysFrom form (worded []) w) same (says-none form))
 found-from (line ∷ lines) number form told few e =
     let o = fitted-ok number line (said_at form (fields_of line))
-    (λ said. behind (listed said.1) (steps_from (suc number) said.0 lines)) told e in
+    (λ said. behind (list_of_option said.1) (steps_from (suc number) said.0 lines)) told e in
     let next = o.1.0.0 in
     let said = o.1.0.1 in
-    let b = behind-ok (listed said) (steps_from (suc number) next lines) told o.1.2 in
+    let b = behind-ok (list_of_option said) (steps_from (suc number) next lines) told o.1.2 in
     let r = found-from lines (suc number) next b.0 (omega (arith, o.0.1)) b.1 in (
       (omega (arith, r.0.0), (o.0.0, r.0.1)),
       subst (λ (w : List (ℕ × Step)). SaysFrom form (with_fields (fields_of line) (worded lines)) w) b.2
@@ -167,7 +167,7 @@ steps-found lines told e =
 -- fields and what lines behind them mean, from what all of them mean
 abbrev Parts : Option Form → List (List ℕ) → List (List (List ℕ)) → List (ℕ × Step) → Type 0
 Parts form fields lines told = (next : Option Form) × (said : Option (ℕ × Step)) × (later : List (ℕ × Step))
-    × (listed said ++ later ≡ told) × (said_at form fields ≡ Ok (next, said)) × SaysFrom next lines later
+    × (list_of_option said ++ later ≡ told) × (said_at form fields ≡ Ok (next, said)) × SaysFrom next lines later
 
 step-again : (form : Form) (fields : List (List ℕ)) (said : Option (ℕ × Step)) →
     trace_line_at form fields ≡ Ok said → step_said form fields ≡ Ok (Some form, said)
@@ -223,7 +223,7 @@ only-from [] number form told fits s = lines-end number form ∙ ap Ok (sym (say
 only-from (line ∷ lines) number form told fits s =
     let p = parts form (fields_of line) (worded lines) told s in
     line-said number form p.0 line lines p.1 fits.1.0 (omega (arith, fits.0)) p.4
-    ∙ ap (behind (listed p.1)) (only-from lines (suc number) p.0 p.2 (omega (arith, fits.0), fits.1.1) p.5)
+    ∙ ap (behind (list_of_option p.1)) (only-from lines (suc number) p.0 p.2 (omega (arith, fits.0), fits.1.1) p.5)
     ∙ ap Ok p.3
 
 pub steps-only : (lines : List (List ℕ)) (told : List (ℕ × Step)) → (length lines ≤ MOST_LINES) × AreShort lines →
@@ -263,12 +263,12 @@ none-before form kind fields h = h
 
 fault-from : (lines : List (List ℕ)) (number : ℕ) (form : Option Form) (fault : TraceError) →
     number ≤ suc MOST_LINES → steps_from number form lines ≡ Err fault →
-    Stands number lines fault.line (λ before line. StepLineCause form before fault.kind fault.line line)
+    StandsAtLine number lines fault.line (λ before line. StepLineCause form before fault.kind fault.line line)
 unfolding steps_from
 fault-from [] number form fault few e = absurd cc
 fault-from (line ∷ lines) number form fault few e =
     elim (fitted-err number line (said_at form (fields_of line))
-    (λ said. behind (listed said.1) (steps_from (suc number) said.0 lines)) fault few e) [
+    (λ said. behind (list_of_option said.1) (steps_from (suc number) said.0 lines)) fault few e) [
       | inl t ↦ (
         [],
         line,
@@ -286,7 +286,7 @@ fault-from (line ∷ lines) number form fault few e =
       | inr (inr t) ↦ let next = t.1.0.0 in let said = t.1.0.1 in
           let m = said-meant form (fields_of line) next said t.1.1 in
           let r = fault-from lines (suc number) next fault (omega (arith, t.0))
-          (behind-err (listed said) (steps_from (suc number) next lines) fault t.1.2) in (
+          (behind-err (list_of_option said) (steps_from (suc number) next lines) fault t.1.2) in (
             line ∷ r.0,
             r.1,
             r.2,
@@ -297,7 +297,7 @@ fault-from (line ∷ lines) number form fault few e =
     ]
 
 pub steps-fault : (lines : List (List ℕ)) (fault : TraceError) → steps_from 1 None lines ≡ Err fault →
-    Stands 1 lines fault.line (λ before line. StepLineCause None before fault.kind fault.line line)
+    StandsAtLine 1 lines fault.line (λ before line. StepLineCause None before fault.kind fault.line line)
 steps-fault lines fault e = fault-from lines 1 None fault (omega arith) e
 
 -- ---- no line is refused for what befalls the whole text

@@ -33,16 +33,16 @@ RecordLineCause kind number line = ((kind ≡ TooLong) × IsTooLong number line)
     ⊎ ((fields_of line ≢ []) × RecordCause kind (fields_of line))
 
 -- a line of these has this number, where the first of them has that one; and this holds of it and the lines before it
-abbrev pub Stands : ℕ → List (List ℕ) → ℕ → (List (List ℕ) → List ℕ → Type 0) → Type 0
-Stands first lines number P = (before : List (List ℕ)) × (line : List ℕ) × (after : List (List ℕ))
+abbrev pub StandsAtLine : ℕ → List (List ℕ) → ℕ → (List (List ℕ) → List ℕ → Type 0) → Type 0
+StandsAtLine first lines number P = (before : List (List ℕ)) × (line : List ℕ) × (after : List (List ℕ))
     × (lines ≡ before ++ line ∷ after) × (number ≡ first + length before) × P before line
 
 -- the line with this number has the cause of the kind in the text of a trace
-abbrev pub Fault : List ℕ → Kind → ℕ → Type 0
-Fault bytes kind number =
-    Stands 1 (lines_of bytes) number (λ before line. StepLineCause None before kind number line)
+abbrev pub TraceFault : List ℕ → Kind → ℕ → Type 0
+TraceFault bytes kind number =
+    StandsAtLine 1 (lines_of bytes) number (λ before line. StepLineCause None before kind number line)
 
 -- the same in the text of records
 abbrev pub RecordFault : List ℕ → Kind → ℕ → Type 0
 RecordFault bytes kind number =
-    Stands 1 (lines_of bytes) number (λ before line. RecordLineCause kind number line)
+    StandsAtLine 1 (lines_of bytes) number (λ before line. RecordLineCause kind number line)

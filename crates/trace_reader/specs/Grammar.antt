@@ -16,8 +16,8 @@ AreShort [] = Unit {0}
 AreShort (line ∷ lines) = (length line ≤ MOST_BYTES) × AreShort lines
 
 -- no more lines than there may be, and none too long
-abbrev pub Fits : List (List ℕ) → Type 0
-Fits lines = (length lines ≤ MOST_LINES) × AreShort lines
+abbrev pub HasFewShortLines : List (List ℕ) → Type 0
+HasFewShortLines lines = (length lines ≤ MOST_LINES) × AreShort lines
 
 -- each line's fields tell a step of a core, in this form
 unfoldable pub TellSteps : Form → List (List (List ℕ)) → List (ℕ × Step) → Type 0
@@ -33,7 +33,7 @@ TellTrace (first ∷ lines) told = (IsFormLine first One × TellSteps One (first
 
 -- the text of a trace with these steps of each core
 abbrev pub IsTrace : List ℕ → List (List Step) → Type 0
-IsTrace bytes lanes = Fits (lines_of bytes)
+IsTrace bytes lanes = HasFewShortLines (lines_of bytes)
     × ((told : List (ℕ × Step)) × TellTrace (worded (lines_of bytes)) told × IsByCore told lanes)
 
 -- each line's fields tell a record
@@ -44,4 +44,4 @@ TellRecords lines told = ⊥
 
 -- the text of these records, as they are written
 abbrev pub AreRecords : List ℕ → List Record → Type 0
-AreRecords bytes records = Fits (lines_of bytes) × TellRecords (worded (lines_of bytes)) records
+AreRecords bytes records = HasFewShortLines (lines_of bytes) × TellRecords (worded (lines_of bytes)) records

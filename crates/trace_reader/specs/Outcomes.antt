@@ -34,9 +34,9 @@ Refused read old new bytes e = ((e ≡ whole Read) × (new ≡ suc old))
     ⊎ (IsOfLine e × IfSome bytes (λ known. read known ≡ Err e))))
 
 -- this is answered, unless a call of the device failed or memory was refused
-abbrev pub Gives : {X : Type 0} → X → Result X TraceError → Type 0
-Gives x (Ok y) = y ≡ x
-Gives x (Err e) = (e ≡ whole Read) ⊎ (e ≡ whole NoMemory)
+abbrev pub AnswersUnlessFailed : {X : Type 0} → X → Result X TraceError → Type 0
+AnswersUnlessFailed x (Ok y) = y ≡ x
+AnswersUnlessFailed x (Err e) = (e ≡ whole Read) ⊎ (e ≡ whole NoMemory)
 
 -- the fault is the device's, or memory's, or it is of a line, in which it has its cause
 abbrev pub IsCaused : (List ℕ → Kind → ℕ → Type 0) → Option (List ℕ) → TraceError → Type 0

@@ -24,9 +24,9 @@ abbrev pub at_line : {X Y : Type 0} → ℕ → Result X Kind → (X → Result 
 at_line number (Ok x) f = f x
 at_line number (Err kind) f = Err (record { line = number; kind = kind })
 
-abbrev pub listed : {X : Type 0} → Option X → List X
-listed None = []
-listed (Some x) = x ∷ []
+abbrev pub list_of_option : {X : Type 0} → Option X → List X
+list_of_option None = []
+list_of_option (Some x) = x ∷ []
 
 -- these in front of what is read on
 abbrev pub behind : {X : Type 0} → List X → Result (List X) TraceError → Result (List X) TraceError
@@ -52,17 +52,17 @@ said_at None fields = form_line_at fields >>= form_said fields
 unfoldable pub steps_from : ℕ → Option Form → List (List ℕ) → Result (List (ℕ × Step)) TraceError
 steps_from number form [] = Ok []
 steps_from number form (line ∷ lines) = at_line number (fitted number line (said_at form (fields_of line)))
-    (λ said. behind (listed said.1) (steps_from (suc number) said.0 lines))
+    (λ said. behind (list_of_option said.1) (steps_from (suc number) said.0 lines))
 
 -- the steps of a text in their order, or its first fault
-abbrev pub read_at : List ℕ → Result (List (ℕ × Step)) TraceError
-read_at bytes = steps_from 1 None (lines_of bytes)
+abbrev pub steps_read : List ℕ → Result (List (ℕ × Step)) TraceError
+steps_read bytes = steps_from 1 None (lines_of bytes)
 
 -- the records of lines, of which the first has this number
 unfoldable pub records_from : ℕ → List (List ℕ) → Result (List Record) TraceError
 records_from number [] = Ok []
 records_from number (line ∷ lines) = at_line number (fitted number line (record_line_at (fields_of line)))
-    (λ said. behind (listed said) (records_from (suc number) lines))
+    (λ said. behind (list_of_option said) (records_from (suc number) lines))
 
 -- the records of a text, or its first fault
 abbrev pub records_at : List ℕ → Result (List Record) TraceError

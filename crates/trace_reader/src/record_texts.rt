@@ -9,7 +9,7 @@ ghost use Rattle.trace_lines.specs.Reading.{record_line_at};
 ghost use Rattle.trace_reader.specs.Causes.{RecordFault};
 ghost use Rattle.trace_reader.specs.Grammar.{AreRecords};
 ghost use Rattle.trace_reader.specs.Outcomes.{whole, Refused, GivesList, IsCaused};
-ghost use Rattle.trace_reader.specs.Reading.{listed, records_at};
+ghost use Rattle.trace_reader.specs.Reading.{list_of_option, records_at};
 
 use crate::blocks::Block;
 use crate::next_lines::next_line;
@@ -22,7 +22,7 @@ use trace_lines::{Kind, TraceError, record_line};
 fn add_line(records: &mut Vec<Record>, number: usize, line: &[u8]) -> Result<(), TraceError>
     ensures added { OnOk result ((told : Option Record)
         × (record_line_at (fields_of line.now) ≡ Ok told)
-        × (records.new.items ≡ records.old.items ++ listed told)) }
+        × (records.new.items ≡ records.old.items ++ list_of_option told)) }
     ensures fault { IfErr result (λ e. ((e ≡ whole NoMemory)
         × ((told : Record) × (record_line_at (fields_of line.now) ≡ Ok (Some told))))
         ⊎ ((e.line ≡ number) × (record_line_at (fields_of line.now) ≡ Err e.kind))) }

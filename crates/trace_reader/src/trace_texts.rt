@@ -8,10 +8,10 @@ ghost use Rattle.trace_lines.specs.declared.steps.Form.{Form};
 ghost use Rattle.programs.specs.declared.steps.Step.{Step};
 ghost use Rattle.trace_lines.specs.Fields.{fields_of};
 ghost use Rattle.trace_lines.specs.Reading.{form_line_at, trace_line_at};
-ghost use Rattle.trace_reader.specs.Causes.{Fault};
+ghost use Rattle.trace_reader.specs.Causes.{TraceFault};
 ghost use Rattle.trace_reader.specs.Grammar.{IsTrace};
-ghost use Rattle.trace_reader.specs.Outcomes.{whole, Refused, Gives, IsCaused};
-ghost use Rattle.trace_reader.specs.Reading.{listed, step_said, form_said, said_at, read_at};
+ghost use Rattle.trace_reader.specs.Outcomes.{whole, Refused, AnswersUnlessFailed, IsCaused};
+ghost use Rattle.trace_reader.specs.Reading.{list_of_option, step_said, form_said, said_at, steps_read};
 ghost use Rattle.trace_reader.specs.Steps.{IsByCore};
 
 use crate::blocks::Block;
@@ -58,7 +58,7 @@ fn add_line(
     ensures added { IfOk result (λ next. (told : Option (ℕ × Step))
         × (said_at form (fields_of line.now) ≡ Ok (next, told))
         × ((before : List (ℕ × Step)) → IsByCore before trace.old →
-        IsByCore (before ++ listed told) trace.new)) }
+        IsByCore (before ++ list_of_option told) trace.new)) }
     ensures fault { IfErr result (λ e. ((e ≡ whole NoMemory)
         × ((next : Option Form) × (told : ℕ × Step)
         × (said_at form (fields_of line.now) ≡ Ok (next, Some told))))
@@ -79,11 +79,11 @@ fn add_line(
 
 fn read_whole<S: Source>(alloc: Global, source: &mut S) -> Result<Trace, TraceError>
     ensures told { IfOk result (λ trace. IfSome (S.remaining source.old)
-        (λ bytes. (told : List (ℕ × Step)) × (read_at bytes ≡ Ok told) × IsByCore told trace)) }
+        (λ bytes. (told : List (ℕ × Step)) × (steps_read bytes ≡ Ok told) × IsByCore told trace)) }
     ensures end { OnOk result (IfSome (S.remaining source.old)
         (λ known. AtEnd (S.remaining source.new))) }
     ensures none_failed { OnOk result (S.failures source.new ≡ S.failures source.old) }
-    ensures fault { IfErr result (Refused read_at (S.failures source.old)
+    ensures fault { IfErr result (Refused steps_read (S.failures source.old)
         (S.failures source.new) (S.remaining source.old)) }
 {
     let mut trace = Trace::new(alloc);
@@ -111,14 +111,14 @@ pub fn read<S: Source>(alloc: Global, source: &mut S) -> Result<Trace, TraceErro
         (λ bytes. IsTrace bytes trace)) }
     // Every text of the grammar is read, as the trace that it stands for.
     ensures only { IfSome (S.remaining source.old) (λ bytes.
-        (lanes : List (List Step)) → IsTrace bytes lanes → Gives lanes result) }
+        (lanes : List (List Step)) → IsTrace bytes lanes → AnswersUnlessFailed lanes result) }
     // The fault of a line has its cause there.
-    ensures fault { IfErr result (IsCaused Fault (S.remaining source.old)) }
+    ensures fault { IfErr result (IsCaused TraceFault (S.remaining source.old)) }
     // The steps as they are read from the front, each at its core.
     ensures told { IfOk result (λ trace. IfSome (S.remaining source.old)
-        (λ bytes. (told : List (ℕ × Step)) × (read_at bytes ≡ Ok told) × IsByCore told trace)) }
+        (λ bytes. (told : List (ℕ × Step)) × (steps_read bytes ≡ Ok told) × IsByCore told trace)) }
     // The first fault; memory is refused only where there is a step or a fault.
-    ensures refused { IfErr result (Refused read_at (S.failures source.old)
+    ensures refused { IfErr result (Refused steps_read (S.failures source.old)
         (S.failures source.new) (S.remaining source.old)) }
     ensures none_failed { OnOk result (S.failures source.new ≡ S.failures source.old) }
     ensures end { OnOk result (IfSome (S.remaining source.old)

@@ -5,7 +5,7 @@ use Rattle.std.proofs.Common.{◌∙◌, ◌*◌, ◌⊎◌, inl, inr, arith, le
 use Rattle.std.specs.Prelude.{not}
 use Rattle.std.specs.List.{prefix_len}
 use Rattle.std.proofs.lemmas.Bool.Decides.{nat_tests}
-use Rattle.trace_lines.specs.Fields.{is_blank, before_comment, is_joined, grown, parted, fields_of}
+use Rattle.trace_lines.specs.Fields.{is_blank, before_comment, begins_inside_field, first_grown, parted, fields_of}
 use Rattle.text_lines.specs.Lines.{lines_of, begun}
 use Rattle.trace_texts.specs.Records.{spaced}
 use Rattle.trace_texts.proofs.Numerals.{IsPlain}
@@ -18,28 +18,28 @@ parted-blank : (b : ℕ) (bytes : List ℕ) → is_blank b ≡ true → parted (
 unfolding parted
 parted-blank b bytes e = rw e refl
 
-parted-alone : (b : ℕ) (bytes : List ℕ) → is_blank b ≡ false → is_joined bytes ≡ false →
+parted-alone : (b : ℕ) (bytes : List ℕ) → is_blank b ≡ false → begins_inside_field bytes ≡ false →
     parted (b ∷ bytes) ≡ (b ∷ []) ∷ parted bytes
 unfolding parted
 parted-alone b bytes e f = rw (e, f) refl
 
-parted-joined : (b : ℕ) (bytes : List ℕ) → is_blank b ≡ false → is_joined bytes ≡ true →
-    parted (b ∷ bytes) ≡ grown b (parted bytes)
+parted-joined : (b : ℕ) (bytes : List ℕ) → is_blank b ≡ false → begins_inside_field bytes ≡ true →
+    parted (b ∷ bytes) ≡ first_grown b (parted bytes)
 unfolding parted
 parted-joined b bytes e f = rw (e, f) refl
 
-joined-first : (b : ℕ) (bytes : List ℕ) → is_joined (b ∷ bytes) ≡ not (is_blank b)
-unfolding is_joined
+joined-first : (b : ℕ) (bytes : List ℕ) → begins_inside_field (b ∷ bytes) ≡ not (is_blank b)
+unfolding begins_inside_field
 joined-first b bytes = refl
 
 -- one field, and what follows it
-field-parted : (b : ℕ) (field rest : List ℕ) → 35 < b → IsPlain field → is_joined rest ≡ false →
+field-parted : (b : ℕ) (field rest : List ℕ) → 35 < b → IsPlain field → begins_inside_field rest ≡ false →
     parted (b ∷ field ++ rest) ≡ (b ∷ field) ∷ parted rest
 field-parted b [] rest h k e = parted-alone b rest (not-blank b h) e
 field-parted b (c ∷ field) rest h k e =
     parted-joined b (c ∷ field ++ rest) (not-blank b h)
     (joined-first c (field ++ rest) ∙ ap not (not-blank c k.0))
-    ∙ ap (grown b) (field-parted c field rest k.0 k.1 e)
+    ∙ ap (first_grown b) (field-parted c field rest k.0 k.1 e)
 
 -- fields, each behind a space
 abbrev pub tail : List (List ℕ) → List ℕ
@@ -51,12 +51,12 @@ abbrev pub ArePlain : List (List ℕ) → Type 0
 ArePlain [] = Unit {0}
 ArePlain (field ∷ fields) = (0 < length field) × IsPlain field × ArePlain fields × (length field ≤ 20)
 
-tail-apart : (fields : List (List ℕ)) → is_joined (tail fields) ≡ false
-unfolding is_joined
+tail-apart : (fields : List (List ℕ)) → begins_inside_field (tail fields) ≡ false
+unfolding begins_inside_field
 tail-apart [] = refl
 tail-apart (field ∷ fields) = refl
 
-first-parted : (field rest : List ℕ) → 0 < length field → IsPlain field → is_joined rest ≡ false →
+first-parted : (field rest : List ℕ) → 0 < length field → IsPlain field → begins_inside_field rest ≡ false →
     parted (field ++ rest) ≡ field ∷ parted rest
 first-parted [] rest some h e = absurd (omega arith)
 first-parted (b ∷ field) rest some h e = field-parted b field rest h.0 h.1 e

@@ -18,10 +18,10 @@ end_name TurnsUsed = codes "limit"
 end_name Exhausted = codes "exhausted"
 end_name NoMemory = codes "memory"
 
-abbrev pub is_load : Op → Bool
-is_load (Load word) = true
-is_load (Store word value) = false
-is_load (Swap word value) = false
+abbrev pub is_load_op : Op → Bool
+is_load_op (Load word) = true
+is_load_op (Store word value) = false
+is_load_op (Swap word value) = false
 
 abbrev pub is_store : Op → Bool
 is_store (Load word) = false
@@ -34,14 +34,14 @@ is_swap (Store word value) = false
 is_swap (Swap word value) = true
 
 -- the cores, how many operations were issued and how many completed, and how the run ended
-abbrev pub ends_text : TraceEnd → ℕ → List ℕ
-ends_text run completed = field (codes "cores") run.cores
+abbrev pub trace_end_text : TraceEnd → ℕ → List ℕ
+trace_end_text run completed = field (codes "cores") run.cores
     ++ field (codes "issued") run.issued
     ++ field (codes "completed") completed
     ++ word_line (codes "end") (end_name run.end)
 
 abbrev pub loads_among : List Record → ℕ
-loads_among records = count_by (λ r. is_load r.op) records
+loads_among records = count_by (λ r. is_load_op r.op) records
 
 abbrev pub stores_among : List Record → ℕ
 stores_among records = count_by (λ r. is_store r.op) records
@@ -56,9 +56,9 @@ kinds_text records = field (codes "loads") (loads_among records)
     ++ field (codes "swaps") (swaps_among records)
 
 -- a line for each word with its value, in order
-abbrev pub values_text : List (ℕ × ℕ) → List ℕ
-values_text values = flat_map (λ v. value_line v.0 v.1) values
+abbrev pub word_values_text : List (ℕ × ℕ) → List ℕ
+word_values_text values = flat_map (λ v. value_line v.0 v.1) values
 
 unfoldable pub trace_text : TraceEnd → List Record → List (ℕ × ℕ) → List ℕ
-trace_text run records values = ends_text run (length records) ++ kinds_text records ++ counts_text run.counts
-    ++ field (codes "stale-hits") run.stale ++ order_line Legal ++ values_text values
+trace_text run records values = trace_end_text run (length records) ++ kinds_text records ++ counts_text run.counts
+    ++ field (codes "stale-hits") run.stale ++ order_line Legal ++ word_values_text values

@@ -1,9 +1,9 @@
 //! The text of a trace's run, part by part.
 
 ghost use Rattle.std.specs.Prelude.{◌≡◌, ◌++◌, OnOk, IfOk};
-ghost use Rattle.trace_texts.specs.Reports.{end_name, is_load, is_store, is_swap};
+ghost use Rattle.trace_texts.specs.Reports.{end_name, is_load_op, is_store, is_swap};
 ghost use Rattle.trace_texts.specs.Reports.{loads_among, stores_among, swaps_among};
-ghost use Rattle.trace_texts.specs.Reports.{ends_text, kinds_text, trace_text, values_text};
+ghost use Rattle.trace_texts.specs.Reports.{trace_end_text, kinds_text, trace_text, word_values_text};
 
 use crate::verdicts::put_order;
 use network::Counts;
@@ -41,7 +41,7 @@ fn end_name(end: End) -> &'static [u8]
 }
 
 fn is_load(op: Op) -> bool
-    ensures { result ≡ is_load op }
+    ensures { result ≡ is_load_op op }
 {
     matches!(op, Op::Load(_))
 }
@@ -78,7 +78,7 @@ fn swaps_among(records: &[Record]) -> usize
 
 // The cores, how many operations were issued and completed, and how the run ended.
 fn put_ends(out: &mut Vec<u8>, run: &TraceEnd, completed: usize) -> Result<(), AllocError>
-    ensures { OnOk result (out.new.items ≡ out.old.items ++ ends_text run.now completed) }
+    ensures { OnOk result (out.new.items ≡ out.old.items ++ trace_end_text run.now completed) }
 {
     put_field(out, b"cores", u128::from(run.cores))?;
     put_field(out, b"issued", run.issued)?;
@@ -97,7 +97,7 @@ fn put_kinds(out: &mut Vec<u8>, records: &[Record]) -> Result<(), AllocError>
 
 // A line for each word, in order.
 fn put_values(out: &mut Vec<u8>, values: &[(WordAddr, u64)]) -> Result<(), AllocError>
-    ensures { OnOk result (out.new.items ≡ out.old.items ++ values_text values.now) }
+    ensures { OnOk result (out.new.items ≡ out.old.items ++ word_values_text values.now) }
 {
     for (word, value) in values {
         put_value(out, *word, *value)?;

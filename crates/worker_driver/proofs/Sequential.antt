@@ -10,7 +10,7 @@ use Rattle.physiological_order.specs.Order.{Arrangement, Follows, Legal, flat, o
 use Rattle.litmus_reader.specs.Litmus.{Litmus}
 use Rattle.litmus_reader.specs.Grammar.{IsTest}
 use Rattle.litmus_reader.specs.OpeningMemory.{words_opened, Words}
-use Rattle.litmus_reader.specs.ThreadSteps.{Thread, next_of}
+use Rattle.litmus_reader.specs.ThreadSteps.{Thread, next_operation}
 use Rattle.litmus_reader.specs.Truth.{end_value}
 use Rattle.machine_table.specs.declared.config.Config.{Config}
 use Rattle.machine_table.specs.Machine.{Machine, operation_of, open_op, open_op_of}
@@ -59,9 +59,9 @@ no_operation None is = refl
 no_operation (Some op) is = absurd cc
 
 next_there : (threads : List Thread) (core : ℕ) (t : Thread) → slice_get threads core ≡ Some t →
-    next_in thread_acts threads core ≡ None → next_of t ≡ None
+    next_in thread_acts threads core ≡ None → next_operation t ≡ None
 next_there threads core t here none =
-    no_operation (next_of t)
+    no_operation (next_operation t)
     (ap (λ (o : Option Thread). Rattle.programs.specs.Acts.next_of thread_acts o) (sym here) ∙ none)
 
 -- ---- a run of a test

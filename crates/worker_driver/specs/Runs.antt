@@ -5,7 +5,7 @@ use Rattle.std.specs.FinMap.{empty}
 use Rattle.physiological_order.specs.StaleHits.{stale_count}
 use Rattle.litmus_reader.specs.Litmus.{Litmus}
 use Rattle.litmus_reader.specs.OpeningMemory.{words_opened}
-use Rattle.litmus_reader.specs.ThreadSteps.{Thread, opened, settled}
+use Rattle.litmus_reader.specs.ThreadSteps.{Thread, with_items, settled_thread}
 use Rattle.litmus_reader.specs.Truth.{end_value}
 use Rattle.machine_table.specs.declared.config.Config.{Config}
 use Rattle.machine_table.specs.Machine.{Machine}
@@ -20,7 +20,7 @@ use Rattle.schedules.specs.Batches.{policy_of_run}
 
 -- a thread as the test opens it, and so many of them from this number on
 abbrev pub started : Litmus → ℕ → Thread
-started test t = settled t (opened t test.items (replicate 32 0)) test.cells
+started test t = settled_thread t (with_items t test.items (replicate 32 0)) test.cells
 
 abbrev pub threads_from : Litmus → ℕ → ℕ → List Thread
 threads_from test t zero = []

@@ -25,8 +25,8 @@ config_of options cores = record {
 }
 
 -- no number of the machine's parts is past what any machine has
-abbrev pub fits : MachineOptions → Bool
-fits options =
+abbrev pub has_small_parts : MachineOptions → Bool
+has_small_parts options =
     nat_le options.banks 65536 && nat_le options.sets 65536 && nat_le options.ways 65536
     && nat_le options.bank_sets 65536
     && nat_le options.bank_ways 65536 && nat_le options.line_words 65536 && nat_le options.messages 65536

@@ -1,7 +1,7 @@
 //! The machine that options ask for, and how far a run of it goes.
 ghost use Rattle.std.specs.Prelude.{◌≡◌, ◌<◌, ◌≤◌, ◌^◌, false, true, IfSome, None};
 ghost use Rattle.machine_table.specs.SetUp.{is_good};
-ghost use Rattle.worker_driver.specs.SetUp.{config_of, fits, limit_of, policy_of, workers_by};
+ghost use Rattle.worker_driver.specs.SetUp.{config_of, has_small_parts, limit_of, policy_of, workers_by};
 
 use machine_table::Config;
 use run_options::{MachineOptions, RunOptions, Schedule};
@@ -34,7 +34,7 @@ pub fn config_of(options: &MachineOptions, cores: u32) -> Option<Config>
 
 // Whether no number of a machine's parts is past what any machine has.
 fn fits(options: &MachineOptions) -> bool
-    ensures { result ≡ fits options.now }
+    ensures { result ≡ has_small_parts options.now }
 {
     options.banks <= 65_536
         && options.sets <= 65_536

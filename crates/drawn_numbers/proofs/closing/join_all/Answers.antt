@@ -2,8 +2,8 @@ use Rattle.std.proofs.Common.{◌<◌, [], ◌∷◌, List, length, slice_set, a
 use Rattle.std.specs.Prelude.{slice_get}
 use Rattle.seat_views.specs.Seated.{knows}
 use Rattle.drawn_numbers.specs.declared.drawer.Drawer.{Drawer}
-use Rattle.drawn_numbers.specs.Ties.{Chair}
-use Rattle.drawn_numbers.specs.Dealt.{entry, entries, knows_all}
+use Rattle.drawn_numbers.specs.Ties.{CounterSeat}
+use Rattle.drawn_numbers.specs.Dealt.{drawer_entry, drawer_entries, knows_all}
 use Rattle.drawn_numbers.proofs.DrawerLists.{joined, get_middle}
 use Rattle.drawn_numbers.proofs.Endings.{filled_length}
 use Rattle.drawn_numbers.proofs.closing.join_all.Goals as goal
@@ -19,15 +19,15 @@ leave-other-requires c =
     subst (λ k. d.number < k) (sym long)
     (c.requires.drawers (length new) d (ap (λ z. slice_get z (length new)) all ∙ get_middle new d i.2.0)).1
 
-pub meet-requires-clause-desk : goal.meet-requires-clause-desk
-meet-requires-clause-desk c =
+pub meet-requires-clause-table : goal.meet-requires-clause-table
+meet-requires-clause-table c =
     let i = c.loop-drawer.invariant in
-    let desk = c.requires.desk in
+    let table = c.requires.table in
     let new : List Drawer = c.pop.new.self.items in
     let all = joined c.args.drawers.items c.loop-drawer.drawers.items new i.2.0 c.pop.result c.in-Some.drawer i.2.1
     c.pop.ensures.items c.in-Some.is in (
-      (i.0 ∙ desk.0, desk.1, desk.2, desk.3),
-      ap (λ (y : Chair). y.table_id) c.leave-other.ensures.chair
+      (i.0 ∙ table.0, table.1, table.2, table.3),
+      ap (λ (y : CounterSeat). y.table_id) c.leave-other.ensures.counter_seat
           ∙ (c.requires.drawers (length new) c.in-Some.drawer
           (ap (λ z. slice_get z (length new)) all ∙ get_middle new c.in-Some.drawer i.2.0)).0,
     )
@@ -41,15 +41,16 @@ loop-drawer-preserved c =
     let own = c.args.seat.now.me.1 in
     let d : Drawer = c.in-Some.drawer in
     let done : List Drawer = i.2.0 in (
-      m.desk.0 ∙ i.0,
-      m.desk.1 ∙ i.1,
+      m.table.0 ∙ i.0,
+      m.table.1 ∙ i.1,
       (
         d ∷ done,
         joined c.args.drawers.items c.loop-drawer.drawers.items c.pop.new.self.items done c.pop.result d i.2.1
             c.pop.ensures.items c.in-Some.is,
         m.met ∙ ap (λ y. (knows y.0 c.leave-other.result.me.0, y.1)) i.2.2
-            ∙ ap (λ (y : Chair). (knows (knows_all v done) y.me.0, own)) left.chair
-            ∙ ap (λ z. (record v { known = z }, own)) (append_assoc v.known (entries done) (entry d ∷ [])),
+            ∙ ap (λ (y : CounterSeat). (knows (knows_all v done) y.me.0, own)) left.counter_seat
+            ∙ ap (λ z. (record v { known = z }, own)) (append_assoc v.known (drawer_entries done)
+            (drawer_entry d ∷ [])),
         left.list ∙ ap (λ z. slice_set z d.number d.drawn) i.2.3,
       ),
     )

@@ -6,8 +6,8 @@ use Rattle.drawn_numbers.specs.Drawers.{IsNewDrawer}
 use Rattle.drawn_numbers.proofs.DrawerLists.{new_drawer, more_drawers}
 use Rattle.drawn_numbers.proofs.opening.open_others.Goals as goal
 
-pub make-seat-requires-clause-desk : goal.make-seat-requires-clause-desk
-make-seat-requires-clause-desk c =
+pub make-seat-requires-clause-table : goal.make-seat-requires-clause-table
+make-seat-requires-clause-table c =
     let m = c.args.numbers.now in
     let i = c.loop-number.invariant in
     (i.0.0, m.sized.1, m.sized.2, subst (λ k. k ≤ 16) (sym m.keyed) m.sized.3)
@@ -33,8 +33,8 @@ loop-number-preserved c =
     let long : length c.push.new.self.items ≡ length ds + 1 = ap length items ∙ length-append ds (d ∷ []) in
     let n : ℕ = c.loop-number.number in
     let seat : IsNewDrawer m n d =
-    new_drawer m n d c.make-seat.result c.loop-number-test.true (made.desk.2 ∙ i.0.0) new.0 new.1 new.2 in (
-      (made.desk.0 ∙ i.0.0, made.made.0 ∙ ap (λ y. (one_more y.0, y.1)) i.0.1),
+    new_drawer m n d c.make-seat.result c.loop-number-test.true (made.table.2 ∙ i.0.0) new.0 new.1 new.2 in (
+      (made.table.0 ∙ i.0.0, made.made.0 ∙ ap (λ y. (one_more y.0, y.1)) i.0.1),
       omega arith,
       omega arith,
       more_drawers m 1 ds c.push.new.self.items d items i.3 (subst (λ k. IsNewDrawer m k d) (omega arith) seat),

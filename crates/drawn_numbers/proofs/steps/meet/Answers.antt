@@ -4,7 +4,7 @@ use Rattle.drawn_numbers.proofs.steps.meet.Goals as goal
 
 pub join_seat-requires : goal.join_seat-requires
 join_seat-requires c =
-    let d = c.requires.desk in
+    let d = c.requires.table in
     let wide = d.0.1 in
     let live = c.requires.live in
     let seat = c.args.seat.now in
@@ -13,5 +13,5 @@ join_seat-requires c =
       d.1,
       live.2,
       omega arith,
-      joining c.args.desk.now.key seat.id seat.me.0 other.id other.me.0 live.0 live.1,
+      joining c.args.table.now.key seat.id seat.me.0 other.id other.me.0 live.0 live.1,
     )

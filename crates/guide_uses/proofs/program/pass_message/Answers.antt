@@ -11,7 +11,7 @@ use Rattle.machine_theorem.specs.Consistency.{IsConsistent}
 use Rattle.machine_theorem.specs.Service.{AreServed}
 use Rattle.guide_uses.specs.declared.drive.TheConstants.{TWO_CORES}
 use Rattle.guide_uses.specs.declared.program.Thread.TheVariants.{StoreMessage, LoadFlag}
-use Rattle.guide_uses.specs.Passing.{thread_acts}
+use Rattle.guide_uses.specs.Passing.{passing_acts}
 use Rattle.guide_uses.proofs.Passed.{passed}
 use Rattle.guide_uses.proofs.program.pass_message.Goals as goal
 
@@ -28,7 +28,7 @@ returns-in-Over c =
     let opened = ap (λ (k : Machine). k.opening) after
     ∙ c.every_history_is_legal.ensures.opening TWO_CORES empty events in
     passed m threads c.in-Over.message _
-    (subst (λ (k : Machine). AreServed thread_acts k m (StoreMessage ∷ LoadFlag ∷ []) threads) first
+    (subst (λ (k : Machine). AreServed passing_acts k m (StoreMessage ∷ LoadFlag ∷ []) threads) first
     c.drive_round-driven.ensures.served)
     c.in-Over.is
     (subst (λ (o : FinMap nat_cmp ℕ). Legal (flat o) (λ core. slice_index_or m.issued core []) m.records) opened

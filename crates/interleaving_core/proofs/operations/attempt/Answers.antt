@@ -3,7 +3,7 @@ use Rattle.std.proofs.Common.{◌≡◌, Some, ap, sym, subst, refl, ◌∙◌}
 use Rattle.core_pts.specs.CoreTable.{CoreState}
 use Rattle.network.specs.Mail.{Mail}
 use Rattle.machine_table.specs.declared.event.Answer.{Answer}
-use Rattle.interleaving_core.specs.PartChanges.{requested}
+use Rattle.interleaving_core.specs.PartChanges.{request_answer}
 use Rattle.interleaving_core.proofs.ClosedOps.{attempt_requests, attempt_requests_own, seen_beside}
 use Rattle.interleaving_core.proofs.operations.attempt.Goals as goal
 
@@ -15,7 +15,7 @@ returns-in-Ok-NeedShared-clause-done c =
     let kept = c.nothing_completed_keeps.ensures c.args.core.now c.attempt.new.self _ is refl in
     ap (λ (a : Answer). (a, c.request.new.core, c.request.new.flight.mail)) c.answer_to.ensures
     ∙ subst (λ (x : Answer × CoreState × Mail).
-    (requested c.request.result, c.request.new.core, c.request.new.flight.mail) ≡ x)
+    (request_answer c.request.result, c.request.new.core, c.request.new.flight.mail) ≡ x)
     (attempt_requests c.args.number c.args.count c.args.flight.now.capacity c.args.flight.now.mail c.args.core.now
     c.attempt.new.self _ c.in-Ok-NeedShared.pts c.in-Ok-NeedShared.version kept opens is)
     c.request.ensures.done
@@ -29,7 +29,7 @@ returns-in-Ok-NeedExclusive-clause-done c =
     ap (λ (a : Answer). (a, c.request-in-Ok-NeedExclusive.new.core, c.request-in-Ok-NeedExclusive.new.flight.mail))
     c.answer_to-in-Ok-NeedExclusive.ensures
     ∙ subst (λ (x : Answer × CoreState × Mail). (
-      requested c.request-in-Ok-NeedExclusive.result,
+      request_answer c.request-in-Ok-NeedExclusive.result,
       c.request-in-Ok-NeedExclusive.new.core,
       c.request-in-Ok-NeedExclusive.new.flight.mail,
     ) ≡ x)

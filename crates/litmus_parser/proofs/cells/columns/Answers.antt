@@ -1,7 +1,7 @@
 use Rattle.std.proofs.Common.{◌≡◌, ◌-◌, ℕ, ◌∙◌, ap, arith, refl, Ok}
 use Rattle.std.proofs.lemmas.Result.{err_from_is_err_and}
 use Rattle.litmus_lexer.proofs.Lemmas.{goes-on, fails-there, runs-out}
-use Rattle.litmus_parser.specs.ReadingRows.{column_at, ended, columns_at}
+use Rattle.litmus_parser.specs.ReadingRows.{column_at, row_ended, columns_at}
 use Rattle.litmus_parser.proofs.cells.columns.Goals as goal
 
 pub loop-thread-init : goal.loop-thread-init
@@ -11,18 +11,19 @@ loop-thread-init c = let z : c.args.threads - 0 ≡ c.args.threads = omega arith
 pub returns-in_err-kept : goal.returns-in_err-kept
 returns-in_err-kept c =
     let p = err_from_is_err_and c.from_residual.result c.from_residual.ensures.1 in
-    rw (p.1, p.2) (fails-there _ (column_at c.args.items.now c.args.threads) ended c.args.threads c.loop-thread.thread
+    rw (p.1, p.2) (fails-there _ (column_at c.args.items.now c.args.threads) row_ended c.args.threads
+    c.loop-thread.thread
     _ _ c.loop-thread-test.true c.in_err-kept.ensures c.loop-thread.invariant)
 
 pub loop-thread-preserved : goal.loop-thread-preserved
-loop-thread-preserved c = goes-on (column_at c.args.items.now c.args.threads) ended c.args.threads
+loop-thread-preserved c = goes-on (column_at c.args.items.now c.args.threads) row_ended c.args.threads
     c.loop-thread.thread _ _ _ c.loop-thread-test.true c.in_ok-kept.ensures c.loop-thread.invariant
 
 pub returns : goal.returns
 returns c =
     let last : c.loop-thread.thread ≡ c.args.threads =
     omega (arith, c.loop-thread-test.false, c.loop-thread.auto.thread-end) in
-    runs-out (column_at c.args.items.now c.args.threads) ended c.args.threads c.loop-thread.thread _ _
+    runs-out (column_at c.args.items.now c.args.threads) row_ended c.args.threads c.loop-thread.thread _ _
     c.loop-thread-test.false c.loop-thread.invariant
     ∙ ap (λ (n : ℕ). Ok (
       n,

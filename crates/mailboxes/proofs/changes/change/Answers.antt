@@ -6,11 +6,11 @@ use Rattle.mailboxes.proofs.changes.change.Goals as goal
 pub stand-requires-clause-change : goal.stand-requires-clause-change
 stand-requires-clause-change g c =
     let v = c.args.seat.now.me.0 in
-    let z : SetUp = g.C.Aim.set_up in
+    let z : SetUp = g.C.StepChoice.set_up in
     let t = c.requires.change in (
       t.0,
       t.1,
       t.2,
       c.moves_of_seats_are_changes.ensures z (seat_count z) v.number v.mine t.0
-          (subst (λ (y : SetUp). v.number < seat_count y) (sym c.requires.aim) c.requires.seat.2) t.3,
+          (subst (λ (y : SetUp). v.number < seat_count y) (sym c.requires.choice) c.requires.seat.2) t.3,
     )

@@ -24,10 +24,10 @@ loop-number-preserved c =
     ∙ ap (λ z. opening_hold z n) m.keyed in
     let below : c.loop-number.number < m.set_up.config.banks = c.loop-number-test.true in
     let seat : IsNewBank m n p =
-    new_bank m n p c.make-seat.result (omega arith) (omega arith) (made.desk.2 ∙ i.0.0) mine new.0 new.1 new.2
+    new_bank m n p c.make-seat.result (omega arith) (omega arith) (made.table.2 ∙ i.0.0) mine new.0 new.1 new.2
     new.3 new.4 new.5 new.6 (c.seats_stand.ensures.opened m.set_up (seat_count m.set_up) n) in (
       (
-        made.desk.0 ∙ i.0.0,
+        made.table.0 ∙ i.0.0,
         made.made.0 ∙ ap (λ y. (one_more y.0, y.1)) i.0.1
             ∙ ap (λ k. (record (first_view (opening_hold m.set_up 0)) { made = k }, [])) (omega arith),
       ),

@@ -21,9 +21,9 @@ loop-number-preserved c =
     ap (λ y. y.0.mine) made.made.1 ∙ ap (opening_hold m.table.shared.key) (ap (λ y. y.0.made) i.0.1)
     ∙ ap (λ z. opening_hold z n) m.keyed in
     let seat : IsNewCore m n p =
-    new_core m n p c.make-seat.result c.loop-number-test.true (made.desk.2 ∙ i.0.0) mine new.0 new.1 new.2 new.3
+    new_core m n p c.make-seat.result c.loop-number-test.true (made.table.2 ∙ i.0.0) mine new.0 new.1 new.2 new.3
     new.4 new.5 new.6 (c.seats_stand.ensures.opened m.set_up (seat_count m.set_up) n) in (
-      (made.desk.0 ∙ i.0.0, made.made.0 ∙ ap (λ y. (one_more y.0, y.1)) i.0.1),
+      (made.table.0 ∙ i.0.0, made.made.0 ∙ ap (λ y. (one_more y.0, y.1)) i.0.1),
       omega arith,
       omega arith,
       more_cores m 1 ps c.push.new.self.items p items i.3 (subst (λ k. IsNewCore m k p) (omega arith) seat),

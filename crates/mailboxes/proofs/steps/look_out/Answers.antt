@@ -3,10 +3,10 @@ use Rattle.mailboxes.proofs.steps.look_out.Goals as goal
 
 pub load-requires : goal.load-requires
 load-requires c =
-    let key = c.args.desk.now.key in
+    let key = c.args.table.now.key in
     let seat = c.args.seat.now in (
       search rules,
-      (let near = c.requires.slot.0 in let wide = c.requires.desk.1 in omega arith),
-      c.looks_keep_the_rule.ensures.outgoing key c.args.desk.now.table_id.slots seat.id c.args.slot seat.me
-          c.requires.desk.2 c.requires.slot.0 c.requires.slot.1 c.requires.idle.0 c.requires.idle.1,
+      (let near = c.requires.slot.0 in let wide = c.requires.table.1 in omega arith),
+      c.looks_keep_the_rule.ensures.outgoing key c.args.table.now.table_id.slots seat.id c.args.slot seat.me
+          c.requires.table.2 c.requires.slot.0 c.requires.slot.1 c.requires.idle.0 c.requires.idle.1,
     )

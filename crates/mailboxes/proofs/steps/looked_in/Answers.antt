@@ -3,11 +3,12 @@ use Rattle.mailboxes.proofs.steps.looked_in.Goals as goal
 
 pub load-requires : goal.load-requires
 load-requires g c =
-    let key = c.args.desk.now.key in
+    let key = c.args.table.now.key in
     let seat = c.args.seat.now in (
       search rules,
-      (let near = c.requires.slot.0 in let wide = c.requires.desk.1 in omega arith),
-      c.looks_keep_the_rule.ensures.incoming key c.args.desk.now.table_id.slots seat.id c.args.slot seat.me
-          g.C.Aim.set_up c.requires.desk.2 c.requires.aim c.requires.slot.0 c.requires.slot.1 c.requires.idle.0
+      (let near = c.requires.slot.0 in let wide = c.requires.table.1 in omega arith),
+      c.looks_keep_the_rule.ensures.incoming key c.args.table.now.table_id.slots seat.id c.args.slot seat.me
+          g.C.StepChoice.set_up c.requires.table.2 c.requires.choice c.requires.slot.0 c.requires.slot.1
+          c.requires.idle.0
           c.requires.idle.1,
     )

@@ -3,4 +3,4 @@ use Rattle.seat_views.specs.Seated.{first_view}
 use Rattle.mailboxes.proofs.steps.make.Given as goal
 
 abbrev pub ghosts-make_as : goal.ghosts-make_as
-ghosts-make_as a = record { set_up = a.desk.now.key; to = first_view no_hold }
+ghosts-make_as a = record { set_up = a.table.now.key; to = first_view no_hold }

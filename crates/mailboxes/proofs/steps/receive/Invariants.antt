@@ -5,6 +5,6 @@ use Rattle.mailboxes.proofs.steps.receive.Given as goal
 abbrev pub ghosts-received : goal.ghosts-received
 ghosts-received a =
     record {
-      set_up = a.desk.now.key;
+      set_up = a.table.now.key;
       to = with_hold a.seat.now.me.0 (take_hold a.seat.now.me.0.mine a.slot a.message);
     }

@@ -5,6 +5,6 @@ use Rattle.mailboxes.proofs.steps.send.Given as goal
 abbrev pub ghosts-sent : goal.ghosts-sent
 ghosts-sent a =
     record {
-      set_up = a.desk.now.key;
+      set_up = a.table.now.key;
       to = with_hold a.seat.now.me.0 (put_hold a.seat.now.me.0.mine a.slot a.message a.index);
     }

@@ -2,7 +2,7 @@ use Rattle.std.proofs.Common.{List, [], map, ap, subst, ◌∙◌}
 use Rattle.std.specs.Prelude.{slice_index_or}
 use Rattle.std.specs.FinMap.{empty}
 use Rattle.physiological_order.specs.declared.operation.Op.{Op}
-use Rattle.physiological_order.specs.Faults.{IsVerdict, issued_by, Lists}
+use Rattle.physiological_order.specs.Faults.{IsVerdict, issued_by, IssuedLists}
 use Rattle.physiological_order.specs.Order.{flat}
 use Rattle.report.proofs.checks.line_of.Goals as goal
 
@@ -12,7 +12,8 @@ returns c =
     let verdict = c.in_ok-verdict.verdict in
     let over_zeros = subst (λ m. IsVerdict (flat m) (issued_by c.deref.result.now) records verdict) c.new.ensures
     c.in_ok-verdict.ensures.verdict in
-    let same = ap (λ (lists : Lists). map (λ ops. ops.items) lists) c.deref.ensures.value ∙ c.in_ok-issued.ensures in
+    let same = ap (λ (lists : IssuedLists). map (λ ops. ops.items) lists) c.deref.ensures.value ∙
+    c.in_ok-issued.ensures in
     record {
       verdict = verdict;
       is_verdict = subst (λ (lists : List (List Op)). IsVerdict (flat empty) (λ core. slice_index_or lists core [])

@@ -9,7 +9,7 @@ use Rattle.run_results.specs.declared.results.RunError.TheVariants.{Read, Write,
 use Rattle.programs.specs.declared.steps.Step.{Step}
 use Rattle.trace_reader.specs.Grammar.{AreRecords, IsTrace}
 use Rattle.trace_reader.specs.declared.limits.TheConstants.{MOST_LINES}
-use Rattle.report.specs.Runs.{issued_in}
+use Rattle.report.specs.Runs.{trace_ops}
 use Rattle.report.specs.Verdicts.{HasNoVerdict, is_legal}
 use Rattle.trace_texts.specs.Verdicts.{check_text}
 use Rattle.report.proofs.FewRecords.{few_records}
@@ -40,9 +40,9 @@ returns-clause-legal c = λ options trace text line all_done legal asked reporte
     let same_records = one.records text told records checked.3 (back.1 few) in
     let same_lanes = one.trace trace checked.0 lanes checked.2 reported.1 in
     let verdict_is : said.verdict ≡ Legal =
-    c.one_verdict.ensures (flat empty) (issued_in lanes) records said.verdict Legal
-    (subst (λ (rs : List Record). IsVerdict (flat empty) (issued_in lanes) rs said.verdict) same_records
-    (subst (λ (ls : List (List Step)). IsVerdict (flat empty) (issued_in ls) told said.verdict) same_lanes
+    c.one_verdict.ensures (flat empty) (trace_ops lanes) records said.verdict Legal
+    (subst (λ (rs : List Record). IsVerdict (flat empty) (trace_ops lanes) rs said.verdict) same_records
+    (subst (λ (ls : List (List Step)). IsVerdict (flat empty) (trace_ops ls) told said.verdict) same_lanes
     said.is_verdict)) tells.run.legal_in_trace in
     (said.legal_is ∙ ap is_legal verdict_is, said.text_is ∙ ap check_text verdict_is)
 

@@ -8,7 +8,7 @@ use Rattle.machine_theorem.specs.Consistency.{IsConsistent}
 use Rattle.programs.specs.declared.steps.Step.{Step}
 use Rattle.schedules.specs.Policies.{EndedBy}
 use Rattle.machine_theorem.specs.Service.{AreServed}
-use Rattle.report.specs.Runs.{core_count, step_acts}
+use Rattle.report.specs.Runs.{trace_cores, step_acts}
 use Rattle.report.proofs.CoreCounts.{programs_count}
 use Rattle.report.proofs.InTrace.{is_run}
 use Rattle.report.proofs.one_run.run_by_policy.Goals as goal
@@ -16,7 +16,7 @@ use Rattle.report.proofs.one_run.run_by_policy.Goals as goal
 pub run_to_end-end-requires : goal.run_to_end-end-requires
 run_to_end-end-requires c = record {
   one_each = ap length (c.as_mut_slice.ensures.value ∙ c.in_ok-programs.ensures)
-      ∙ programs_count c.args.trace.now (core_count c.args.trace.now)
+      ∙ programs_count c.args.trace.now (trace_cores c.args.trace.now)
       ∙ sym c.requires.cores ∙ sym (ap (λ (m : Machine). m.config.cores) c.in-Ok.ensures.opened);
 }
 

@@ -6,14 +6,14 @@ use Rattle.machine_table.specs.Opening.{at_start}
 use Rattle.thread_driver.specs.ThreadRuns.{IsThreadRun, machine_of}
 use Rattle.programs.specs.declared.steps.Step.{Step}
 use Rattle.machine_theorem.specs.Service.{AreServed}
-use Rattle.report.specs.Runs.{core_count, programs_below, step_acts}
+use Rattle.report.specs.Runs.{trace_cores, programs_below, step_acts}
 use Rattle.report.proofs.CoreCounts.{programs_count}
 use Rattle.report.proofs.InTrace.{is_run}
 use Rattle.report.proofs.one_run.run_by_threads.Goals as goal
 
 pub run_threads-requires-clause-programs : goal.run_threads-requires-clause-programs
 run_threads-requires-clause-programs g c κs bounds =
-    ap length c.in_ok-programs.ensures ∙ programs_count c.args.trace.now (core_count c.args.trace.now)
+    ap length c.in_ok-programs.ensures ∙ programs_count c.args.trace.now (trace_cores c.args.trace.now)
     ∙ sym c.requires.cores
 
 pub returns : goal.returns
@@ -27,9 +27,9 @@ returns g c =
     let opened : m.opening ≡ empty = c.in_ok-ran.ensures.set_up.1 ∙ c.new-memory.ensures in
     let run = subst (λ (ts : List (List Step)). IsThreadRun step_acts ts m ran.programs.items ran.end)
     c.in_ok-programs.ensures is.is_run in
-    let served = subst (λ ws. AreServed step_acts (at_start config ws) m (programs_below lanes (core_count lanes))
+    let served = subst (λ ws. AreServed step_acts (at_start config ws) m (programs_below lanes (trace_cores lanes))
     ran.programs.items) opened
-    (subst (λ k. AreServed step_acts (at_start k m.opening) m (programs_below lanes (core_count lanes))
+    (subst (λ k. AreServed step_acts (at_start k m.opening) m (programs_below lanes (trace_cores lanes))
     ran.programs.items) config_is run.served) in (
       is.parts,
       is_run lanes config m ran.programs.items c.requires.cores served

@@ -1,7 +1,7 @@
 use Rattle.std.proofs.Common.{◌≡◌, ℕ, ◌+◌, ◌/◌, ◌%◌, ◌<◌, ◌≤◌, [], ◌∷◌, ◌++◌, length, map, reverse, length-set}
 use Rattle.std.proofs.Common.{length-append, refl, sym, ap, ◌∙◌, subst, arith, vec_capacity}
 use Rattle.std.proofs.lemmas.List.{reverse-reverse}
-use Rattle.round_robin.specs.Dealing.{IsDealt, hand_of}
+use Rattle.round_robin.specs.Dealing.{IsDealtInTurn, hand_of}
 use Rattle.round_robin.proofs.Steps.{hand_is_there, empty_dealt, goes_to_hand, hand_has_room}
 use Rattle.round_robin.proofs.Turned.{one_more_turned, one_is_left, all_set}
 use Rattle.round_robin.proofs.dealing.deal.Goals as goal
@@ -15,7 +15,7 @@ loop-item-init g c =
         [],
         refl,
         ap reverse c.reverse.ensures.items ∙ reverse-reverse c.args.items.now.items,
-        subst (λ m. IsDealt [] c.args.first m (map (λ v. v.items) c.args.hands.now.items)) count
+        subst (λ m. IsDealtInTurn [] c.args.first m (map (λ v. v.items) c.args.hands.now.items)) count
             (empty_dealt (λ v. v.items) c.args.first n c.args.hands.now.items
             (λ v. length c.args.items.now.items / n + 1 ≤ vec_capacity v) c.requires.some refl c.requires.room),
       );

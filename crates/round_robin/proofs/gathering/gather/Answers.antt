@@ -1,7 +1,7 @@
 use Rattle.std.proofs.Common.{◌≡◌, ℕ, ◌+◌, ◌-◌, ◌%◌, [], ◌∷◌, ◌++◌, length, map, reverse}
 use Rattle.std.proofs.Common.{length-append, refl, sym, ap, ◌∙◌, subst, arith, vec_capacity}
 use Rattle.std.proofs.Math.ListN.{set}
-use Rattle.round_robin.specs.Dealing.{IsDealt, HasLengths, hand_of}
+use Rattle.round_robin.specs.Dealing.{IsDealtInTurn, HasLengths, hand_of}
 use Rattle.round_robin.proofs.Deals.{none_dealt}
 use Rattle.round_robin.proofs.Turned.{one_more_turned}
 use Rattle.round_robin.proofs.Steps.{hand_is_there, last_hand_has_one, comes_from_hand, is_dealt_with_last}
@@ -32,7 +32,7 @@ loop-i-preserved g c =
             lengths = subst (λ z. HasLengths z c.args.first n (map (λ v. v.items) (set vs (hand_of c.args.first n (m % n)) rest))) (sym less)
                 (comes_from_hand (λ v. v.items) m c.args.first n vs v rest x lengths value items);
             dealt = λ front long d.
-                subst (λ z. IsDealt z c.args.first n (map (λ v. v.items) c.args.dealt.items))
+                subst (λ z. IsDealtInTurn z c.args.first n (map (λ v. v.items) c.args.dealt.items))
                 (one_more_turned front c.match-pop.items.items c.loop-i.items.items x
                 (front ++ reverse c.match-pop.items.items) now refl)
                 (i.dealt (front ++ x ∷ []) (length-append front (x ∷ []) ∙ ap (λ z. z + 1) (long ∙ less) ∙ sym left)
@@ -56,7 +56,8 @@ returns-clause-dealt g c =
     let first = map (λ v. v.items) c.args.dealt.items in
     let now = map (λ v. v.items) c.loop-i.dealt.items in
     let lengths : HasLengths 0 c.args.first n now = subst (λ m. HasLengths m c.args.first n now) none i.lengths in
-    let whole : IsDealt (reverse c.loop-i.items.items) c.args.first n first = i.dealt [] (sym none) (none_dealt c.args.first n now lengths) in
-    let sized : IsDealt (reverse c.loop-i.items.items) c.args.first (length c.args.dealt.items) first =
-    subst (λ m. IsDealt (reverse c.loop-i.items.items) c.args.first m first) long whole in
-    subst (λ xs. IsDealt xs c.args.first (length c.args.dealt.items) first) (sym c.reverse.ensures.items) sized
+    let whole : IsDealtInTurn (reverse c.loop-i.items.items) c.args.first n first = i.dealt [] (sym none)
+    (none_dealt c.args.first n now lengths) in
+    let sized : IsDealtInTurn (reverse c.loop-i.items.items) c.args.first (length c.args.dealt.items) first =
+    subst (λ m. IsDealtInTurn (reverse c.loop-i.items.items) c.args.first m first) long whole in
+    subst (λ xs. IsDealtInTurn xs c.args.first (length c.args.dealt.items) first) (sym c.reverse.ensures.items) sized

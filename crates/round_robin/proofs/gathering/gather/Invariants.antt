@@ -1,5 +1,5 @@
 use Rattle.std.proofs.Common.{◌≡◌, ◌-◌, ◌++◌, List, length, map, reverse, vec_capacity}
-use Rattle.round_robin.specs.Dealing.{IsDealt, HasLengths}
+use Rattle.round_robin.specs.Dealing.{IsDealtInTurn, HasLengths}
 use Rattle.round_robin.proofs.gathering.gather.Given as goal
 
 -- The hands still have the lengths of the items that are left. A list of which the hands are dealt now, with what was
@@ -9,8 +9,8 @@ invariant-loop-i g l = record {
   lengths : HasLengths (l.count - l.i) l.first l.hands (map (λ v. v.items) l.dealt.items);
   dealt :
       (front : List g.row.T.Denot) → length front ≡ l.count - l.i
-      → IsDealt front l.first l.hands (map (λ v. v.items) l.dealt.items)
-      → IsDealt (front ++ reverse l.items.items) l.first l.hands (map (λ v. v.items) l.fn.dealt.items);
+      → IsDealtInTurn front l.first l.hands (map (λ v. v.items) l.dealt.items)
+      → IsDealtInTurn (front ++ reverse l.items.items) l.first l.hands (map (λ v. v.items) l.fn.dealt.items);
   gathered : length l.items.items ≡ l.i;
   capacity : vec_capacity l.items ≡ vec_capacity l.fn.items;
 }

@@ -6,7 +6,7 @@ use Rattle.machine_table.specs.Runs.{after_all}
 use Rattle.machine_theorem.proofs.Lemmas.{after_all_same}
 use Rattle.programs.specs.Acts.{next_in}
 use Rattle.schedules.specs.Runs.{plan_of}
-use Rattle.schedules.specs.RunEvents.{Ended, initial}
+use Rattle.schedules.specs.RunEvents.{Ended, initial_position}
 use Rattle.machine_theorem.specs.Service.{AreServed}
 use Rattle.schedules.proofs.KnownEvents.{known_too, known_so}
 use Rattle.schedules.proofs.RunLaws.{run_makes, run_leaves_nothing}
@@ -18,7 +18,7 @@ returns-clause-ended g c =
     let a = c.args in
     let n = c.run-end.new in
     let plan = plan_of g.P.Program.acts g.S.Schedule.rule a.limit in
-    let start = initial a.system.now a.programs.now a.schedule.now in
+    let start = initial_position a.system.now a.programs.now a.schedule.now in
     known_too n.log.events (λ events.
     Ended (is_some n.log.events) plan start events n.system n.programs c.run-end.result)
     (λ events. Ended (is_some n.log.events) plan start events n.system n.programs c.run-end.result
@@ -30,7 +30,7 @@ returns-clause-all_done g c done core below =
     let a = c.args in
     let n = c.run-end.new in
     let plan = plan_of g.P.Program.acts g.S.Schedule.rule a.limit in
-    let start = initial a.system.now a.programs.now a.schedule.now in
+    let start = initial_position a.system.now a.programs.now a.schedule.now in
     known_so ((open_op n.system core ≡ None) × (next_in g.P.Program.acts n.programs core ≡ None)) n.log.events
     (λ events.
     Ended (is_some n.log.events) plan start events n.system n.programs c.run-end.result) c.run-end.ensures.ended
@@ -46,7 +46,7 @@ returns-clause-served g c =
     let a = c.args in
     let n = c.run-end.new in
     let plan = plan_of g.P.Program.acts g.S.Schedule.rule a.limit in
-    let start = initial a.system.now a.programs.now a.schedule.now in
+    let start = initial_position a.system.now a.programs.now a.schedule.now in
     known_so (AreServed g.P.Program.acts a.system.now n.system a.programs.now n.programs) n.log.events
     (λ events.
     Ended (is_some n.log.events) plan start events n.system n.programs c.run-end.result) c.run-end.ensures.ended

@@ -1,7 +1,7 @@
 use Rattle.std.proofs.Common.{arith, refl, sym, ap, ◌∙◌}
 use Rattle.std.specs.Prelude.{is_some}
 use Rattle.schedules.specs.Runs.{plan_of}
-use Rattle.schedules.specs.RunEvents.{initial}
+use Rattle.schedules.specs.RunEvents.{initial_position}
 use Rattle.schedules.specs.Notes.{Log}
 use Rattle.schedules.proofs.RunSteps.{at_first}
 use Rattle.schedules.proofs.TurnEnds.{all_done, turns_used, turn_begun, stalled, turn_over}
@@ -11,7 +11,7 @@ pub loop-made-init : goal.loop-made-init
 loop-made-init g c =
     let a = c.args in record {
       arrived = rw c.requires.no_progress_yet (at_first (plan_of g.P.Program.acts g.S.Schedule.rule a.limit)
-          (initial a.system.now a.programs.now a.schedule.now) a.log.now.events c.requires.nothing_yet);
+          (initial_position a.system.now a.programs.now a.schedule.now) a.log.now.events c.requires.nothing_yet);
       kept = refl;
     }
 
@@ -20,7 +20,7 @@ returns-then-are_over g c =
     let a = c.args in
     let l = c.loop-made in record {
       ended = rw c.are_over.ensures.same (all_done (plan_of g.P.Program.acts g.S.Schedule.rule a.limit)
-          (initial a.system.now a.programs.now a.schedule.now) l.system l.programs l.log l.schedule l._made
+          (initial_position a.system.now a.programs.now a.schedule.now) l.system l.programs l.log l.schedule l._made
           l.invariant.arrived (rw c.cores.ensures.cores at (sym c.if-are_over.ensures.over)));
       kept = l.invariant.kept;
     }
@@ -30,7 +30,7 @@ returns-in-Err g c =
     let a = c.args in
     let l = c.loop-made in
     let plan = plan_of g.P.Program.acts g.S.Schedule.rule a.limit in
-    let start = initial a.system.now a.programs.now a.schedule.now in
+    let start = initial_position a.system.now a.programs.now a.schedule.now in
     let began = turn_begun plan start l.system l.programs l.log l.schedule l._made c.are_over.new.programs
     c.begin_turn.new.self c.begin.new.self l.invariant.arrived c.are_over.ensures.same c.begin_turn.ensures
     c.begin.ensures (rw c.cores.ensures.cores at (sym c.if-are_over.ensures.over)) c.loop-made-test.true in record {
@@ -43,7 +43,7 @@ returns-then-is_last g c =
     let a = c.args in
     let l = c.loop-made in
     let plan = plan_of g.P.Program.acts g.S.Schedule.rule a.limit in
-    let start = initial a.system.now a.programs.now a.schedule.now in
+    let start = initial_position a.system.now a.programs.now a.schedule.now in
     let began = turn_begun plan start l.system l.programs l.log l.schedule l._made c.are_over.new.programs
     c.begin_turn.new.self c.begin.new.self l.invariant.arrived c.are_over.ensures.same c.begin_turn.ensures
     c.begin.ensures (rw c.cores.ensures.cores at (sym c.if-are_over.ensures.over)) c.loop-made-test.true in
@@ -60,7 +60,7 @@ loop-made-preserved g c =
     let a = c.args in
     let l = c.loop-made in
     let plan = plan_of g.P.Program.acts g.S.Schedule.rule a.limit in
-    let start = initial a.system.now a.programs.now a.schedule.now in
+    let start = initial_position a.system.now a.programs.now a.schedule.now in
     let began = turn_begun plan start l.system l.programs l.log l.schedule l._made c.are_over.new.programs
     c.begin_turn.new.self c.begin.new.self l.invariant.arrived c.are_over.ensures.same c.begin_turn.ensures
     c.begin.ensures (rw c.cores.ensures.cores at (sym c.if-are_over.ensures.over)) c.loop-made-test.true in
@@ -77,7 +77,7 @@ returns-then-are_over-2 g c =
     let a = c.args in
     let l = c.loop-made in record {
       ended = rw c.are_over-2.ensures.same (all_done (plan_of g.P.Program.acts g.S.Schedule.rule a.limit)
-          (initial a.system.now a.programs.now a.schedule.now) l.system l.programs l.log l.schedule l._made
+          (initial_position a.system.now a.programs.now a.schedule.now) l.system l.programs l.log l.schedule l._made
           l.invariant.arrived (rw c.cores-2.ensures.cores at (sym c.if-are_over-2.ensures.over)));
       kept = l.invariant.kept;
     }
@@ -87,7 +87,7 @@ returns-else-are_over-2 g c =
     let a = c.args in
     let l = c.loop-made in record {
       ended = rw c.are_over-2.ensures.same (turns_used (plan_of g.P.Program.acts g.S.Schedule.rule a.limit)
-          (initial a.system.now a.programs.now a.schedule.now) l.system l.programs l.log l.schedule l._made
+          (initial_position a.system.now a.programs.now a.schedule.now) l.system l.programs l.log l.schedule l._made
           l.invariant.arrived (rw c.cores-2.ensures.cores at (sym c.if-are_over-2.ensures.over))
           (omega (arith, c.loop-made-test.false, l.auto._made-end)));
       kept = l.invariant.kept;

@@ -5,8 +5,8 @@ use Rattle.stop_flags.specs.declared.signaler.Signaler.{Signaler}
 use Rattle.stop_flags.proofs.SignalerLists.{new_signaler, more_signalers}
 use Rattle.stop_flags.proofs.opening.open_others.Goals as goal
 
-pub make-seat-requires-clause-desk : goal.make-seat-requires-clause-desk
-make-seat-requires-clause-desk c =
+pub make-seat-requires-clause-table : goal.make-seat-requires-clause-table
+make-seat-requires-clause-table c =
     let m = c.args.signals.now in
     let i = c.loop-number.invariant in
     (i.0.0, m.sized.1, m.sized.2, subst (λ k. k ≤ 16) (sym m.keyed) m.sized.3)
@@ -31,9 +31,9 @@ loop-number-preserved c =
     let workers = ap (λ y. y.0.mine.workers) made.made.1 ∙ ap (λ y. y.0.mine.workers) i.0.1 in
     let items : c.push.new.self.items ≡ ss ++ s ∷ [] = c.in_ok-push.ensures.items in
     let long : length c.push.new.self.items ≡ length ss + 1 = ap length items ∙ length-append ss (s ∷ []) in (
-      (made.desk.0 ∙ i.0.0, made.made.0 ∙ ap (λ y. (one_more y.0, y.1)) i.0.1),
+      (made.table.0 ∙ i.0.0, made.made.0 ∙ ap (λ y. (one_more y.0, y.1)) i.0.1),
       omega arith,
       omega arith,
       more_signalers m ss c.push.new.self.items s items i.3
-          (new_signaler m s c.make-seat.result (made.desk.2 ∙ i.0.0) workers new.0 new.1),
+          (new_signaler m s c.make-seat.result (made.table.2 ∙ i.0.0) workers new.0 new.1),
     )

@@ -4,8 +4,8 @@ use Rattle.stop_flags.proofs.steps.hear_finished.Goals as goal
 
 pub load-requires : goal.load-requires
 load-requires c =
-    let d = c.requires.desk in
+    let d = c.requires.table in
     let wide = d.1 in
     let seat = c.args.seat.now in
-    let desk = c.args.desk.now in
-    (d.0, omega arith, hears_finished desk.key desk.table_id.slots seat.id seat.me c.requires.live)
+    let table = c.args.table.now in
+    (d.0, omega arith, hears_finished table.key table.table_id.slots seat.id seat.me c.requires.live)

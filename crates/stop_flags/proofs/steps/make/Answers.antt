@@ -4,8 +4,8 @@ use Rattle.stop_flags.proofs.steps.make.Goals as goal
 
 pub split_seat-requires : goal.split_seat-requires
 split_seat-requires c =
-    let d = c.requires.desk in
+    let d = c.requires.table in
     let wide = d.1 in
     let more = c.requires.more in
     let first = c.args.first.now in
-    (d.0, omega arith, splitting c.args.desk.now.key first.id first.me.0 more.0 more.1 more.2)
+    (d.0, omega arith, splitting c.args.table.now.key first.id first.me.0 more.0 more.1 more.2)

@@ -2,7 +2,7 @@ use Rattle.std.proofs.Common.{◌≡◌, refl, sym, ap, subst, length, ◌∙◌
 use Rattle.machine_table.specs.declared.config.Config.{Config}
 use Rattle.seat_rule.specs.declared.views.SetUp.{SetUp}
 use Rattle.mailboxes.specs.PartsOfState.{PartsOfState}
-use Rattle.mailboxes.specs.RunParts.{state_of}
+use Rattle.mailboxes.specs.RunParts.{state_of_run}
 use Rattle.mailboxes.specs.Seats.{AllNewBanks}
 use Rattle.thread_driver.proofs.Ended.{done_is_over, never_stalled, over_is_done}
 use Rattle.thread_driver.proofs.AllServed.{all_served}
@@ -55,7 +55,7 @@ returns-clause-run g c =
     record {
       parts = parts;
       is_run = record {
-        state = state_of run parts;
+        state = state_of_run run parts;
         reached = parts.whole.reached;
         shows = refl;
         served = all_served acts m run parts cores ended before after c.in-Ok.ensures.cores.1 many order all programs

@@ -3,7 +3,7 @@ use Rattle.std.proofs.lemmas.Result.{err_from_is_err_and}
 use Rattle.trace_lines.specs.Fields.{fields_of}
 use Rattle.trace_reader.specs.Ahead.{ahead}
 use Rattle.trace_reader.specs.Outcomes.{Refused}
-use Rattle.trace_reader.specs.Reading.{read_at}
+use Rattle.trace_reader.specs.Reading.{steps_read}
 use Rattle.trace_reader.proofs.StepsRead.{steps-on, steps-refused, steps-long, steps-end, steps-kept, long-of-line}
 use Rattle.trace_reader.proofs.StepsMeant.{refused-of-line}
 use Rattle.trace_reader.proofs.trace_texts.read_whole.Goals as goal
@@ -14,7 +14,7 @@ returns-in_err-length-clause-fault g c =
     let fault = c.in_err-length.field-0.0 in
     let i = c.lines.invariant in
     let failures = g.S.Source.failures in
-    let told : Refused read_at (failures c.args.source.now) (failures c.next_line.new.source)
+    let told : Refused steps_read (failures c.args.source.now) (failures c.next_line.new.source)
     (g.S.Source.remaining c.args.source.now) fault =
     elim c.in_err-length.ensures.fault [
       | inl f ↦ inl (f.0, f.1 ∙ ap suc i.counted)
@@ -36,7 +36,7 @@ returns-in_err-form-clause-fault g c =
     let l = c.in_ok-length in
     let failures = g.S.Source.failures in
     let short = rw c.in-Some.is at l.ensures.short in
-    let told : Refused read_at (failures c.args.source.now) (failures c.next_line.new.source)
+    let told : Refused steps_read (failures c.args.source.now) (failures c.next_line.new.source)
     (g.S.Source.remaining c.args.source.now) fault =
     elim c.in_err-form.ensures.fault [
       | inl f ↦ inr (

@@ -4,10 +4,10 @@ use Rattle.std.specs.Mem.Slots.{slots_items}
 use Rattle.atomic_table.specs.Table.{Final, Seen}
 use Rattle.seat_views.specs.declared.views.View.{View}
 use Rattle.drawn_numbers.specs.declared.drawer.Drawer.{Drawer}
-use Rattle.drawn_numbers.specs.Ties.{Chair}
+use Rattle.drawn_numbers.specs.Ties.{CounterSeat}
 use Rattle.drawn_numbers.specs.Drawn.{Drawn}
 use Rattle.drawn_numbers.specs.Drawers.{IsDrawerOf}
-use Rattle.drawn_numbers.specs.Dealt.{AllDrawn, knows_all, filled}
+use Rattle.drawn_numbers.specs.Dealt.{AllDrawn, knows_all, lists_filled}
 use Rattle.drawn_numbers.proofs.DrawerLists.{each_of, split_of}
 use Rattle.drawn_numbers.proofs.Endings.{filled_snoc, all_drawn}
 use Rattle.drawn_numbers.proofs.numbers.Numbers.close.Goals as goal
@@ -33,15 +33,16 @@ returns c =
     let last : Drawer = c.unwrap.result in
     let split = split_of all rest _ last c.pop-last.ensures.items c.unwrap.ensures in
     let view : c.join_all.new.seat.me.0 ≡ knows_all last.seat.me.0 rest =
-    ap (λ y. y.0) c.join_all.ensures.met ∙ ap (λ (y : Chair). knows_all y.me.0 rest) c.leave-seat.ensures.chair in
+    ap (λ y. y.0) c.join_all.ensures.met ∙ ap (λ (y : CounterSeat). knows_all y.me.0 rest)
+    c.leave-seat.ensures.counter_seat in
     let words : List ℕ = slots_items c.close_with-closed.result.words in
     let slots : List (Unit {0}) = slots_items c.close_with-closed.result.slots in
     let id : ℕ = c.join_all.new.seat.id in
     let end : Final (Seen (Drawn n) id (knows_all last.seat.me.0 rest)) words slots =
     subst (λ (y : ℕ × View (List ℕ)). Final (Seen (Drawn y.0) id y.1) words slots) (λ i. (m.keyed i, view i))
     c.close_with-closed.ensures.values.2 in
-    let lists = c.join_all.ensures.lists ∙ ap (filled rest) c.leave-seat.ensures.list
-    ∙ sym (filled_snoc rest last m.lists.items) ∙ ap (λ y. filled y m.lists.items) (sym split) in
+    let lists = c.join_all.ensures.lists ∙ ap (lists_filled rest) c.leave-seat.ensures.list
+    ∙ sym (filled_snoc rest last m.lists.items) ∙ ap (λ y. lists_filled y m.lists.items) (sym split) in
     subst (λ y. AllDrawn n all (map (λ xs. xs.items) y)) (sym lists)
     (all_drawn n id all rest last m.lists.items words slots split m.room
     (λ i d e. (each_of (IsDrawerOf m) all c.requires.drawers i d e).1) c.requires.whole end)

@@ -27,11 +27,11 @@ unwrap-requires c =
     let long = c.args.cores.ok.0 in
     c.pop-first.ensures.variant.1 (omega arith)
 
-pub join_cores-requires-clause-desk : goal.join_cores-requires-clause-desk
-join_cores-requires-clause-desk c =
+pub join_cores-requires-clause-table : goal.join_cores-requires-clause-table
+join_cores-requires-clause-table c =
     let split = split_of _ c.pop-first.new.self.items _ _ c.pop-first.ensures.items c.unwrap.ensures in
     at_table c.args.self c.leave_core-seat.result.table_id
-    (table_of_first c.args.self _ _ _ _ c.requires.cores split c.leave_core-seat.ensures.chair)
+    (table_of_first c.args.self _ _ _ _ c.requires.cores split c.leave_core-seat.ensures.slot_seat)
 
 pub join_cores-requires-clause-cores : goal.join_cores-requires-clause-cores
 join_cores-requires-clause-cores c =
@@ -40,12 +40,12 @@ join_cores-requires-clause-cores c =
     λ i p e.
     (c.requires.cores i p (ap (λ y. slice_get y i) split ∙ get_front rest (c.unwrap.result ∷ []) i p e)).0.0
 
-pub join_banks-requires-clause-desk : goal.join_banks-requires-clause-desk
-join_banks-requires-clause-desk c =
+pub join_banks-requires-clause-table : goal.join_banks-requires-clause-table
+join_banks-requires-clause-table c =
     let split = split_of _ c.pop-first.new.self.items _ _ c.pop-first.ensures.items c.unwrap.ensures in
     at_table c.args.self c.join_cores.new.seat.table_id
-    (c.join_cores.ensures.desk.0
-    ∙ table_of_first c.args.self _ _ _ _ c.requires.cores split c.leave_core-seat.ensures.chair)
+    (c.join_cores.ensures.table.0
+    ∙ table_of_first c.args.self _ _ _ _ c.requires.cores split c.leave_core-seat.ensures.slot_seat)
 
 pub join_banks-requires-clause-banks : goal.join_banks-requires-clause-banks
 join_banks-requires-clause-banks c = λ i p e. (c.requires.banks i p e).0.0
@@ -53,8 +53,8 @@ join_banks-requires-clause-banks c = λ i p e. (c.requires.banks i p e).0.0
 pub close_with-closed-requires : goal.close_with-closed-requires
 close_with-closed-requires c =
     let split = split_of _ c.pop-first.new.self.items _ _ c.pop-first.ensures.items c.unwrap.ensures in
-    c.join_banks.ensures.desk.0 ∙ c.join_cores.ensures.desk.0
-    ∙ table_of_first c.args.self _ _ _ _ c.requires.cores split c.leave_core-seat.ensures.chair
+    c.join_banks.ensures.table.0 ∙ c.join_cores.ensures.table.0
+    ∙ table_of_first c.args.self _ _ _ _ c.requires.cores split c.leave_core-seat.ensures.slot_seat
 
 pub returns-clause-cores : goal.returns-clause-cores
 returns-clause-cores c =
@@ -90,7 +90,7 @@ returns-clause-state c =
     knows_all (knows_all first.mail.seat.me.0 (backwards core_entry rest)) (backwards bank_entry banks) in
     let all : c.join_banks.new.seat.me.0 ≡ w =
     view_of_first first rest banks c.leave_core-seat.result c.join_cores.new.seat c.join_banks.new.seat
-    c.leave_core-seat.ensures.chair c.join_cores.ensures.met c.join_banks.ensures.met in
+    c.leave_core-seat.ensures.slot_seat c.join_cores.ensures.met c.join_banks.ensures.met in
     let words : List ℕ = slots_items c.close_with-closed.result.words in
     let slots : List (Option Message) = slots_items c.close_with-closed.result.slots in
     let id : ℕ = c.join_banks.new.seat.id in

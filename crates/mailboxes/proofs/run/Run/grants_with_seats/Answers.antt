@@ -2,7 +2,7 @@ use Rattle.std.proofs.Common.{◌≡◌, ap, ◌∙◌, arith}
 use Rattle.machine_theorem.specs.Bags.{weigh}
 use Rattle.machine_moves.specs.Ownership.{ownership_in}
 use Rattle.seat_views.specs.Seated.{over}
-use Rattle.seat_rule.specs.Rule.{bag_of, seat_count}
+use Rattle.seat_rule.specs.Rule.{bag_of_hold, seat_count}
 use Rattle.mailboxes.proofs.SeatSums.{left_messages, over_more}
 use Rattle.mailboxes.proofs.run.Run.grants_with_seats.Goals as goal
 
@@ -11,7 +11,7 @@ loop-number-preserved c =
     let i = c.loop-number.invariant in (
       (let few = i.0 in let more = c.grants_with-count.ensures.within in omega arith),
       (λ parts.
-          over_more c.loop-number.number (λ j. weigh (ownership_in c.args.line) (bag_of (parts.seats j)))
+          over_more c.loop-number.number (λ j. weigh (ownership_in c.args.line) (bag_of_hold (parts.seats j)))
           c.loop-number.count c.grants_with-count.result (i.1 parts)
           (c.grants_with-count.ensures.value
           ∙ ap (weigh (ownership_in c.args.line))
@@ -25,4 +25,4 @@ returns-clause-grants c =
     let end : c.loop-number.number ≡ seat_count c.args.self.now.set_up =
     (let t = c.loop-number-test.false in let e = c.loop-number.auto.number-end in omega arith) in
     c.loop-number.invariant.1 parts
-    ∙ ap (λ n. over n (λ j. weigh (ownership_in c.args.line) (bag_of (parts.seats j)))) end
+    ∙ ap (λ n. over n (λ j. weigh (ownership_in c.args.line) (bag_of_hold (parts.seats j)))) end

@@ -2,7 +2,7 @@ use Rattle.std.proofs.Common.{◌≡◌, ◌*◌, ◌≤◌}
 use Rattle.machine_theorem.specs.Bags.{weigh}
 use Rattle.machine_moves.specs.Ownership.{ownership_in}
 use Rattle.seat_views.specs.Seated.{over}
-use Rattle.seat_rule.specs.Rule.{bag_of}
+use Rattle.seat_rule.specs.Rule.{bag_of_hold}
 use Rattle.mailboxes.specs.RunParts.{Parts}
 use Rattle.mailboxes.proofs.run.Run.grants_with_seats.Given as goal
 
@@ -10,4 +10,5 @@ use Rattle.mailboxes.proofs.run.Run.grants_with_seats.Given as goal
 abbrev pub invariant-loop-number : goal.invariant-loop-number
 invariant-loop-number l =
     (l.count ≤ 513 * l.number)
-    × ((parts : Parts l.self) → l.count ≡ over l.number (λ j. weigh (ownership_in l.fn.line) (bag_of (parts.seats j))))
+    × ((parts : Parts l.self) → l.count ≡ over l.number (λ j. weigh (ownership_in l.fn.line)
+    (bag_of_hold (parts.seats j))))

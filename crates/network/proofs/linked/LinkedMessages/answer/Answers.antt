@@ -1,7 +1,7 @@
 use Rattle.std.proofs.Common.{vec_capacity, ◌^◌, ◌∙◌, sym, ap, arith, is_some, refl}
 use Rattle.line_arena.specs.Arenas.{pushed, unlinked}
 use Rattle.network.specs.NumberedMessages.{still_there}
-use Rattle.network.specs.Stored.{messages_of}
+use Rattle.network.specs.Stored.{cell_messages}
 use Rattle.network.proofs.LinkLaws.{link-low}
 use Rattle.network.proofs.SlotChanges.{IsRising-append, IsRising-higher, length-answered}
 use Rattle.network.proofs.StoredChanges.{Answers, stored-answered}
@@ -42,7 +42,7 @@ answered : (c : After-drop_empty) → Answers c.self.inside.cores c.self.inside.
     c.self.inside.count (vec_capacity c.self.inside.slots) c.args.number c.args.reply c.drop_empty.new.slots.items
     (pushed c.unwrap.result (c.unwrap-cell.result, (c.self.inside.next, c.args.reply))
     (unlinked c.unwrap-cell.result c.self.inside.arena))
-    (messages_of c.self.inside.arena.lists (still_there c.self.inside.slots.items))
+    (cell_messages c.self.inside.arena.lists (still_there c.self.inside.slots.items))
 answered c =
     let here = rw (← c.self.view_is) at c.requires.endpoints in
     let number = rw (← c.self.view_is) at c.requires.number in

@@ -1,6 +1,6 @@
 use Rattle.std.proofs.Common.{◌≡◌, ◌^◌, ◌∙◌, sym, ap, arith, is_some, Some, None}
 use Rattle.network.specs.NumberedMessages.{at_number, still_there}
-use Rattle.network.specs.Stored.{at_cell, messages_of}
+use Rattle.network.specs.Stored.{at_cell, cell_messages}
 use Rattle.network.proofs.SlotChanges.{IsRising-higher, AllHaveEndpoints-at_number}
 use Rattle.network.proofs.StoredMessages.{messages-at_number, placed-at, second-of}
 use Rattle.network.proofs.linked.LinkedMessages.look.Goals as goal
@@ -37,6 +37,6 @@ returns-clause-endpoints c =
     let ls = c.self.inside.arena.lists in let xs = still_there c.self.inside.slots.items in
     let some : at_number c.args.number xs ≡ Some c.in_ok-cell.cell =
     rw (← c.deref.ensures.value) (sym c.cell_of.ensures ∙ c.in_ok-cell.was) in
-    rw (← c.self.view_is) (AllHaveEndpoints-at_number _ _ c.args.number c.get.result.now.1 (messages_of ls xs)
+    rw (← c.self.view_is) (AllHaveEndpoints-at_number _ _ c.args.number c.get.result.now.1 (cell_messages ls xs)
     c.self.invariant.linked.endpoints (messages-at_number c.args.number ls xs c.self.invariant.linked.placed
     ∙ ap (at_cell ls) some ∙ second-of _ _ c.get.ensures))

@@ -4,7 +4,7 @@ use Rattle.network.specs.declared.message.Message.{Message}
 use Rattle.network.specs.LinkNumbers.{link_of, is_on}
 use Rattle.network.specs.NumberedMessages.{still_there}
 use Rattle.network.specs.Search.{is_between}
-use Rattle.network.specs.Stored.{held, messages_of}
+use Rattle.network.specs.Stored.{held, cell_messages}
 use Rattle.network.proofs.LinkLaws.{link-between, link-low, none-between}
 use Rattle.network.proofs.StoredMessages.{first-held, none-held, same-test}
 use Rattle.network.proofs.linked.LinkedMessages.oldest.Goals as goal
@@ -15,7 +15,7 @@ returns-in_err-link c =
     let none : link_of c.self.inside.cores c.self.inside.banks c.args.from c.args.to ≡ None =
     sym c.link_of.ensures ∙ c.in_err-link.was in
     rw (← c.self.view_is, c.from_residual.ensures) (sym (ap (option_map (λ (x : ℕ × Message). x.0))
-    (none-between _ _ c.args.from c.args.to (messages_of c.self.inside.arena.lists xs) none
+    (none-between _ _ c.args.from c.args.to (cell_messages c.self.inside.arena.lists xs) none
     c.self.invariant.linked.endpoints)))
 
 pub front-requires : goal.front-requires
@@ -32,7 +32,7 @@ returns-in_err-cell c =
     let each = c.self.invariant.linked.each l (omega (arith, low, c.self.invariant.linked.many)) in
     let none = none-held (is_on a.cores a.banks l) (held ls xs)
     (sym (ap first_cell each) ∙ sym c.front.ensures ∙ c.in_err-cell.was) in
-    let same = same-test (is_on a.cores a.banks l) (is_between c.args.from c.args.to) (messages_of ls xs)
+    let same = same-test (is_on a.cores a.banks l) (is_between c.args.from c.args.to) (cell_messages ls xs)
     (link-between a.cores a.banks c.args.from c.args.to l link) in
     rw (← c.self.view_is, c.from_residual-in_err-cell.ensures)
     (sym (ap (option_map (λ (x : ℕ × Message). x.0)) (sym same ∙ none)))
@@ -56,7 +56,7 @@ returns c =
     let each = c.self.invariant.linked.each l (omega (arith, low, c.self.invariant.linked.many)) in
     let first = first-held (is_on a.cores a.banks l) c.in_ok-cell.cell ls xs c.self.invariant.linked.placed
     (sym (ap first_cell each) ∙ sym c.front.ensures ∙ c.in_ok-cell.was) in
-    let same = same-test (is_on a.cores a.banks l) (is_between c.args.from c.args.to) (messages_of ls xs)
+    let same = same-test (is_on a.cores a.banks l) (is_between c.args.from c.args.to) (cell_messages ls xs)
     (link-between a.cores a.banks c.args.from c.args.to l link) in
     rw (← c.self.view_is)
     (sym (ap (option_map (λ (x : ℕ × Message). x.0)) (sym same ∙ first.1 ∙ c.get.ensures)))

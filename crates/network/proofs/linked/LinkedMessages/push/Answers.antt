@@ -1,7 +1,7 @@
 use Rattle.std.proofs.Common.{vec_capacity, ◌++◌, ◌∙◌, ap, sym, arith, is_some, length-append, ◌∷◌, [], Some, refl}
 use Rattle.line_arena.specs.Arenas.{pushed}
 use Rattle.network.specs.NumberedMessages.{still_there}
-use Rattle.network.specs.Stored.{messages_of}
+use Rattle.network.specs.Stored.{cell_messages}
 use Rattle.network.proofs.LinkLaws.{has-link, link-low}
 use Rattle.network.proofs.StoredChanges.{Sends, is-ok, if-ok, stored-free, stored-sent}
 use Rattle.network.proofs.linked.LinkedMessages.push.Goals.{After-push_reserved}
@@ -33,7 +33,7 @@ sent : (c : After-push_reserved) → Sends c.self.inside.cores c.self.inside.ban
     (vec_capacity c.self.inside.slots) c.args.message
     (c.self.inside.slots.items ++ (c.self.inside.next, Some c.cell.inside.0) ∷ [])
     (pushed c.unwrap.result (c.cell.inside.0, (c.self.inside.next, c.args.message)) c.self.inside.arena)
-    (messages_of c.self.inside.arena.lists (still_there c.self.inside.slots.items))
+    (cell_messages c.self.inside.arena.lists (still_there c.self.inside.slots.items))
 sent c =
     let here = rw (← c.self.view_is) at c.requires.endpoints in
     let room = rw (← c.self.view_is) at c.requires.room in

@@ -1,7 +1,7 @@
 use Rattle.std.proofs.Common.{vec_capacity, ◌≡◌, ◌^◌, ◌∙◌, sym, ap, arith, is_some, refl, None}
 use Rattle.line_arena.specs.Arenas.{unlinked}
 use Rattle.network.specs.NumberedMessages.{at_number, still_there}
-use Rattle.network.specs.Stored.{IsStored, at_cell, messages_of}
+use Rattle.network.specs.Stored.{IsStored, at_cell, cell_messages}
 use Rattle.network.proofs.SlotChanges.{IsRising-higher, length-without_number}
 use Rattle.network.proofs.SlotChanges.{without_number-none}
 use Rattle.network.proofs.StoredChanges.{Takes, stored-none, stored-taken}
@@ -36,7 +36,7 @@ returns-in_default-clause-after c =
     let ls = c.self.inside.arena.lists in let xs = still_there c.self.inside.slots.items in
     let none : at_number c.args.number xs ≡ None = sym c.take_cell.ensures.value ∙ c.in_default.is in
     let stored = kept (goal.at.returns-in_default-clause-after c).In_default in
-    let same = without_number-none c.args.number (messages_of ls xs)
+    let same = without_number-none c.args.number (cell_messages ls xs)
     (messages-at_number c.args.number ls xs c.self.invariant.linked.placed ∙ ap (at_cell ls) none) in
     rw (← c.self.view_is, c.take_cell.ensures.capacity) (rw (stored.0, same) refl)
 
@@ -61,7 +61,7 @@ drop_empty-requires c =
 taken : (c : After-drop_empty) → Takes c.self.inside.cores c.self.inside.banks c.self.inside.next c.self.inside.count
     (vec_capacity c.self.inside.slots) c.args.number c.drop_empty.new.slots.items
     (unlinked c.in-Some.cell c.self.inside.arena)
-    (messages_of c.self.inside.arena.lists (still_there c.self.inside.slots.items))
+    (cell_messages c.self.inside.arena.lists (still_there c.self.inside.slots.items))
 taken c =
     stored-taken _ _ _ _ _ c.args.number c.in-Some.cell c.self.inside.slots.items c.drop_empty.new.slots.items
     c.self.inside.arena c.self.invariant c.looked_up.ensures c.taken_off.ensures c.lists-lists.ensures.once

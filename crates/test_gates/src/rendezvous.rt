@@ -6,17 +6,17 @@ use std::thread;
 /// A gate at which jobs 0 and 1 wait for each other, each for so many looks; so do the first turns of seats 0 and 1. It
 /// counts those that saw the other, and all jobs or turns that ended.
 #[derive(Drop)]
-pub struct Meeting {
+pub struct Rendezvous {
     flags: [AtomicU64; 2],
     met: AtomicU64,
     ended: AtomicU64,
     looks: u32,
 }
 
-impl Meeting {
+impl Rendezvous {
     /// A gate that nothing has passed yet.
-    pub fn new(looks: u32) -> Meeting {
-        Meeting {
+    pub fn new(looks: u32) -> Rendezvous {
+        Rendezvous {
             flags: [AtomicU64::new(0), AtomicU64::new(0)],
             met: AtomicU64::new(0),
             ended: AtomicU64::new(0),
@@ -35,7 +35,7 @@ impl Meeting {
     }
 }
 
-impl Gate for Meeting {
+impl Gate for Rendezvous {
     fn before(&self, seat: u64, turn: u64) {
         if seat > 1 || turn > 0 {
             return;

@@ -1,0 +1,304 @@
+"use strict";
+// Shows one view of the run after the other. Each view is what the player said there is; nothing is worked out here.
+const run = JSON.parse(document.getElementById("data").textContent);
+const byId = id => document.getElementById(id);
+const SIGNS = {"&": "&amp;", "<": "&lt;", ">": "&gt;", '"': "&quot;"};
+const escaped = text => String(text).replace(/[&<>"]/g, sign => SIGNS[sign]);
+const hue = core => `style="--hue: var(--c${core % 8})"`;
+const JUMPS = [["c", "completion"], ["s", "stale hit"], ["r", "renewal"], ["l", "recall"], ["e", "eviction"]];
+const PLAY = 1200, WIDE = 1000, LEFT = 50, BOX = 320, RIGHT = 535;
+
+// The view after `at` events, and the names of what the last of them changed. Changes are undone on the way back.
+const view = {...run.opening};
+const undone = [];
+let at = 0, playing = null;
+
+function make() {
+  const changes = run.steps[at][5], undo = {};
+  for (const name in changes) {
+    undo[name] = name in view ? view[name] : null;
+    set(name, changes[name]);
+  }
+  undone[at++] = undo;
+}
+
+function unmake() {
+  const undo = undone[--at];
+  for (const name in undo) set(name, undo[name]);
+}
+
+function set(name, seen) {
+  if (seen === null) delete view[name]; else view[name] = seen;
+}
+
+function go(to) {
+  to = Math.max(0, Math.min(run.steps.length, to));
+  while (at < to) make();
+  while (at > to) unmake();
+  show();
+}
+
+// What a text says behind a word, as `wts` in `shared wts 0 rts 3 words 0`.
+function behind(text, word) {
+  const found = new RegExp(`(?:^| )${word} ([^ ]+)`).exec(text);
+  return found && found[1];
+}
+
+const wordsOf = text => (/ words (.*)$/.exec(text) || ["", ""])[1].split(" ");
+const asSeen = name => `data-name="${name}" data-seen="${escaped(view[name])}"`;
+const isNew = name => at > 0 && name in run.steps[at - 1][5] ? " new" : "";
+const lineName = line => run.words === 1 ? run.names[line][0] : line;
+
+// The values of a line's words that the run names.
+function values(line, words) {
+  const named = run.names[line].map((name, place) => [name, words[place]]).filter(([name]) => run.named.has(name));
+  return named.map(([name, value]) => `${name} = ${value}`).join(", ");
+}
+
+// All times of the run along one scale, of whole numbers, since times may have 64 bits.
+run.named = new Set(run.records.map(record => record[2]));
+if (run.words === 1) Object.values(run.names).flat().forEach(name => run.named.add(name));
+const timesOf = ([name, seen]) => /^(core|copy)/.test(name) && seen !== null ?
+  [...seen.matchAll(/(?:time|wts|rts) (\d+)/g)].map(found => BigInt(found[1])) : [];
+const times = [run.opening, ...run.steps.map(step => step[5])].flatMap(Object.entries).flatMap(timesOf);
+const least = times.reduce((one, other) => one < other ? one : other);
+const most = times.reduce((one, other) => one > other ? one : other);
+const place = time => most === least ? 0 : Number((BigInt(time) - least) * 1000n / (most - least)) / 10;
+
+function copies(core, time) {
+  const found = Object.keys(view).filter(name => name.startsWith(`copy ${core} `));
+  if (!found.length) return '<p class="none">no copies</p>';
+  return found.map(name => {
+    const copy = view[name], line = name.split(" ")[2], owned = copy.startsWith("exclusive");
+    const wts = behind(copy, "wts"), rts = behind(copy, "rts"), ended = !owned && BigInt(time) > BigInt(rts);
+    const start = place(wts), wide = Math.max(place(rts) - start, 0);
+    return `<div class="copy${isNew(name)}${run.words > 1 ? " wide" : ""}" title="${escaped(copy)}" ${asSeen(name)}>
+      <b>${escaped(values(line, wordsOf(copy)) || line)}</b>
+      <span class="bar${ended ? " ended" : ""}${owned ? " own" : ""}"><i style="left:${start}%;width:${wide}%"></i>
+      <u style="left:${place(time)}%"></u></span>
+      <span class="state">${owned ? "own" : ended ? "ended" : "read"} ${wts}..${rts}</span></div>`;
+  }).join("");
+}
+
+// The numbers of each core's operations.
+const numbersOf = run.programs.map(() => []);
+run.records.forEach((record, number) => numbersOf[record[0]].push(number));
+
+// A core's steps about the next one, as many as there is room for.
+function program(core, room) {
+  const steps = run.programs[core], next = view[`at ${core}`] || 0;
+  const from = Math.max(0, Math.min(next - Math.floor(room / 2), steps.length - room));
+  let done = steps.slice(0, from).filter(step => step !== "advance").length;
+  return steps.slice(from, from + room).map((step, index) => {
+    const number = step !== "advance" && from + index < next ? numbersOf[core][done++] : -1;
+    const state = from + index === next ? "next" : from + index < next ? "done" : "";
+    const received = number < 0 || run.records[number][4] === null ? "" : ` → ${run.records[number][4]}`;
+    return `<li class="${state}${number in run.past ? " past" : ""}">${escaped(step)}${received}</li>`;
+  }).join("");
+}
+
+function message(name) {
+  const [kind, ...words] = view[name].split(" "), line = words[5], carried = words.slice(6).join(" ");
+  const left = words[3] === "core" || words[3] === "bank" && words[0] === "dram";
+  const waits = `waits ${name}` in view, dram = / dram /.test(view[name]), mark = dram ? (left ? "↑ " : "↓ ") : "";
+  const bank = run.banks > 1 && !dram ? `${left ? "from" : "to"} bank ${words[left ? 1 : 4]}` : "";
+  const head = left ? "M8 1 L1 5 L8 9" : "M92 1 L99 5 L92 9";
+  const says = [bank, carried, waits ? "waits" : ""].filter(Boolean).join("; ");
+  return `<div class="message${isNew(name)}${waits ? " waits" : ""}" ${asSeen(name)}>
+    <b>${mark}${kind} ${escaped(lineName(line))}</b><svg class="arrow" viewBox="0 0 100 10" preserveAspectRatio="none">
+    <path d="M2 5 H98"/><path d="${head}"/></svg>${says}</div>`;
+}
+
+const messages = test => Object.keys(view).filter(name => /^m\d/.test(name) && test(view[name])).sort((one, other) =>
+  one.slice(1) - other.slice(1)).map(message).join("");
+
+function showCores() {
+  const acts = (/^(?:issue|attempt|advance|evict core) (\d+)/.exec(at ? run.steps[at - 1][0] : "") || [])[1];
+  const room = [0, 9, 5, 3][run.cores.length] || 2;
+  byId("cores").className = run.cores.length > 3 ? "tight" : "";
+  byId("cores").innerHTML = run.cores.map(core => {
+    const state = view[`core ${core}`], time = behind(state, "time");
+    const before = at ? undone[at - 1][`core ${core}`] : null, moved = before && behind(before, "time") !== time;
+    const wire = messages(text => new RegExp(` core ${core} `).test(text)), now = acts === String(core) ? " now" : "";
+    return `<div class="row"><div class="core${now}" id="core-${core}" ${hue(core)} ${asSeen(`core ${core}`)}>
+      <h2>core ${core}<span class="time${moved ? " new" : ""}">time ${time}</span></h2><ol>${program(core, room)}</ol>
+      ${copies(core, time)}</div><div class="wire">${wire}</div></div>`;
+  }).join("");
+  const acting = document.querySelector(".core.now");
+  if (acting) acting.scrollIntoView({block: "nearest"});
+}
+
+function entry(name) {
+  const seen = view[name], line = name.split(" ")[1], [state] = seen.split(" "), owner = behind(seen, "owner");
+  const times = `${seen.includes("dirty") ? "dirty " : ""}${behind(seen, "wts")}..${behind(seen, "rts")}`;
+  const says = state === "shared" ? times : owner === null ? state :
+    `<em class="own" ${hue(owner)}>core ${owner} ${state === "exclusive" ? "owns it" : "is asked"}</em>`;
+  const words = state === "shared" ? values(line, wordsOf(seen)) : lineName(line);
+  return `<div class="entry${isNew(name)}" ${asSeen(name)}><b>${escaped(words)}</b><span>${says}</span></div>`;
+}
+
+const bankOf = line => Number(BigInt(line) / 8n / BigInt(run.words) % BigInt(run.banks));
+
+function showBanks() {
+  byId("banks").innerHTML = [...Array(run.banks).keys()].map(bank => {
+    const lines = Object.keys(run.names).filter(line => bankOf(line) === bank);
+    const entries = lines.map(line => `entry ${line}`).filter(name => view[name] !== "none").map(entry);
+    const dram = lines.map(line => values(line, view[`dram ${line}`].split(" "))).join(", ");
+    const wire = messages(text => new RegExp(` dram ${bank} `).test(text));
+    return `<div class="bank" id="bank-${bank}" ${asSeen(`bank ${bank}`)}><h2>bank ${bank}</h2>
+      <h3>memory ${view[`bank ${bank}`]}</h3>${entries.join("") || '<p class="none">no entries</p>'}
+      <div class="wire">${wire}</div>
+      <div class="dram" title="${escaped(dram)}"><b>DRAM</b> ${escaped(dram)}</div></div>`;
+  }).join("");
+}
+
+// How many operations are completed.
+let counts = [0];
+run.steps.forEach(([, , , , , , marks], index) => counts.push(counts[index] + (marks.includes("c") ? 1 : 0)));
+const completed = () => counts[at];
+
+function box(x, y, high, number, isLeft) {
+  const [core, kind, name, value, received, time] = run.records[number];
+  const said = {load: `load ${name}`, store: `store ${value} to ${name}`, swap: `swap ${value} into ${name}`}[kind] +
+    (received === null ? "" : ` → ${received}`);
+  const size = Math.min(27, 27 * 13.5 / said.length), middle = high / 2;
+  const order = isLeft ? `x="-14" text-anchor="end">${number}` : `x="${BOX + 12}">time ${time}`;
+  return `<g transform="translate(${x} ${y})"><rect class="box" width="${BOX}" height="${high}" rx="8"/>
+    <rect class="hue" width="88" height="${high}" rx="8"/><text class="who" x="44" y="${middle}">core ${core}</text>
+    <text x="100" y="${middle}" style="font-size:${size}px">${escaped(said)}</text>
+    <text class="order" y="${middle}" ${order}</text></g>`;
+}
+
+let shownOrders = -1;
+function showOrders() {
+  const count = completed();
+  if (shownOrders === count) return;
+  shownOrders = count;
+  const all = run.records.length, frame = byId("rows").clientHeight * WIDE / Math.max(byId("rows").clientWidth, 1);
+  const step = Math.max(40, Math.min(105, (frame - 70) / Math.max(all, 1))), high = step - Math.min(16, step * .2);
+  const arranged = run.arranged.filter(number => number < count);
+  const rank = [];
+  arranged.forEach((number, index) => { rank[number] = index; });
+  const last = count - 1, past = Math.max(-1, ...Object.keys(run.past).filter(number => number < count));
+  const over = past in run.past ? run.past[past] : -1;
+  const group = number => {
+    const y = number * step + 6, to = rank[number] * step + 6;
+    const classes = [[number in run.past, "past"], [number === last, "latest"], [number === over, "over"]]
+      .filter(([is]) => is).map(([, name]) => name).join(" ");
+    const ends = [y + high / 2, to + high / 2];
+    return `<g class="${classes}" ${hue(run.records[number][0])} data-number="${number}" data-rank="${rank[number]}">
+      <path class="tie" d="M${LEFT + BOX} ${ends[0]} L${RIGHT} ${ends[1]}"/>${box(LEFT, y, high, number, true)}
+      ${box(RIGHT, to, high, number, false)}</g>`;
+  };
+  const numbers = [...Array(count).keys()].sort((one, other) => (one in run.past) - (other in run.past));
+  byId("ties").setAttribute("viewBox", `0 0 ${WIDE} ${Math.max(all * step + 12, count * step + 60)}`);
+  byId("ties").innerHTML = numbers.map(group).join("") + (over < 0 ? "" : crossing(past, over, rank, step, high));
+  const rows = byId("rows");
+  rows.scrollTop = Math.max(0, (count * step + 60) * rows.clientWidth / WIDE - rows.clientHeight);
+}
+
+// A ring where the ties of a stale hit and of the write that it comes before cross.
+function crossing(last, over, rank, step, high) {
+  const start = last - over, end = rank[last] - rank[over], along = start / (start - end);
+  const x = LEFT + BOX + along * (RIGHT - LEFT - BOX);
+  const y = 6 + high / 2 + step * (last + along * (rank[last] - last));
+  const middle = (LEFT + BOX + RIGHT) / 2, below = high / 2 + step * Math.max(last, rank[over]) + 42;
+  return `<circle class="cross" cx="${x}" cy="${y}" r="17"/><text class="note" y="${below}">
+    <tspan x="${middle}">reads</tspan><tspan x="${middle}" dy="30">the past</tspan></text>`;
+}
+
+function showSaid() {
+  const step = at ? run.steps[at - 1] : null, past = step && step[6].includes("s");
+  byId("what").textContent = step ? step[2] : `${run.title}: before the first event`;
+  byId("why").innerHTML = step ? `${escaped(step[3])} <cite>docs/PROTOCOL.md, ${escaped(step[4])}</cite>` :
+    "Each core has a time of its own. A copy may be read while its core's time is within the copy's lease.";
+  byId("said").className = past ? "past" : "";
+  byId("count").textContent = `event ${at} of ${run.steps.length}`;
+  byId("count").title = step ? `${step[0]}: ${step[1]}` : "";
+}
+
+function show() {
+  showSaid(); showCores(); showBanks(); showOrders();
+  byId("slider").value = at;
+  byId("first").disabled = byId("back").disabled = at === 0;
+  byId("next").disabled = at === run.steps.length;
+  if (at === run.steps.length) pause();
+  for (const [key] of JUMPS) byId(`jump-${key}`).disabled = find(key, 1) === null;
+}
+
+// The next event of a kind, or the one before.
+function find(key, by) {
+  for (let to = at + by; to > 0 && to <= run.steps.length; to += by) if (run.steps[to - 1][6].includes(key)) return to;
+  return null;
+}
+
+// On by one event, over those that change nothing, as a core that waits.
+function walk(by) {
+  let to = at + by;
+  while (to > 0 && to < run.steps.length && !Object.keys(run.steps[to - 1][5]).length) to += by;
+  go(to);
+}
+
+function jump(key, by) {
+  const to = find(key, by);
+  if (to !== null) go(to);
+}
+
+function pause() {
+  clearInterval(playing);
+  playing = null;
+  byId("play").textContent = "play";
+}
+
+function play() {
+  if (playing) return pause();
+  if (at === run.steps.length) go(0);
+  playing = setInterval(() => walk(1), PLAY);
+  byId("play").textContent = "pause";
+}
+
+function dark(is) {
+  document.documentElement.classList.toggle("dark", is);
+}
+
+const KEYS = {ArrowRight: () => walk(1), ArrowLeft: () => walk(-1), PageDown: () => walk(1), PageUp: () => walk(-1),
+  ArrowDown: () => go(at + 1), ArrowUp: () => go(at - 1), Home: () => go(0), End: () => go(run.steps.length),
+  " ": play, d: () => dark(!document.documentElement.classList.contains("dark"))};
+document.addEventListener("keydown", event => {
+  if (event.ctrlKey || event.altKey || event.metaKey) return;
+  const key = event.key.length === 1 ? event.key.toLowerCase() : event.key;
+  if (JUMPS.some(([letter]) => letter === key)) jump(key, event.shiftKey ? -1 : 1);
+  else if (KEYS[key]) KEYS[key]();
+  else return;
+  event.preventDefault();
+});
+
+function begin() {
+  const steps = run.steps.length;
+  const ticks = key => run.steps.map((step, index) => step[6].includes(key) ? `M${index + 1} 0 V10` : "").join("");
+  byId("title").textContent = run.title;
+  byId("how").textContent = `${run.how}; played by ${run.made}`;
+  byId("end").textContent = run.done ? `${run.end} By timestamp they are ${run.verdict}.` : run.end;
+  byId("end").className = run.done ? "" : "cut";
+  byId("slider").max = steps;
+  byId("ticks").setAttribute("viewBox", `0 0 ${Math.max(steps, 1)} 10`);
+  byId("ticks").innerHTML = `<path d="${ticks("c")}"/><path class="past" d="${ticks("s")}"/>`;
+  byId("jumps").innerHTML += JUMPS.map(([key, name]) => `<button id="jump-${key}" class="${key}"
+    title="${key}; with shift, back">${name.replace(key, `<kbd>${key}</kbd>`)}</button>`).join("");
+  for (const [key] of JUMPS) byId(`jump-${key}`).onclick = event => jump(key, event.shiftKey ? -1 : 1);
+  Object.entries({first: () => go(0), back: () => walk(-1), next: () => walk(1), play}).forEach(([id, act]) => {
+    byId(id).onclick = act;
+  });
+  byId("slider").oninput = event => go(Number(event.target.value));
+  addEventListener("resize", () => { shownOrders = -1; show(); });
+  addEventListener("hashchange", fromHash);
+  dark(matchMedia("(prefers-color-scheme: dark)").matches);
+  fromHash();
+}
+
+function fromHash() {
+  const wanted = location.hash.slice(1);
+  go(wanted === "stale" ? find("s", 1) || 0 : Number(wanted) || 0);
+}
+
+begin();

@@ -5,6 +5,7 @@
 # several threads differ from one time to the next: of their reports it is asked what every run has (by_threads.py).
 #
 # The parts that are run, each a function below; PARTS names others.
+case ${1-} in -h | --help) exec sed -n '2,/^[^#]/s/^# \{0,1\}//p' "$0" ;; esac
 parts=${PARTS:-litmus catalogue settings refusals seeds workers threads traces seeded_traces lines verdicts \
 trace_faults trace_refusals}
 

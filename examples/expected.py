@@ -128,5 +128,7 @@ def main(write):
 
 
 if __name__ == "__main__":
+    if sys.argv[1:2] in (["-h"], ["--help"]):
+        raise SystemExit(print(__doc__))
     oracle.test_generator()
     sys.exit(main(sys.argv[1:] != ["--check"]))

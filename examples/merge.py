@@ -11,6 +11,7 @@ import sys
 from pathlib import Path
 
 import oracle
+from reference.given import Bad, contents, tool
 
 ENDS = ("all-done", "stalled", "limit", "exhausted", "memory")
 SUMS = ("completed", "renewals", "upgrades", "flushes", "write-backs", "stale-hits")
@@ -88,13 +89,14 @@ def self_test():
 def main(given):
     if given == ["--self-test"]:
         return self_test()
-    if not given:
-        return __doc__
+    if not given or given[0] in ("-h", "--help"):
+        return print(__doc__)
     try:
-        sys.stdout.write(joined([Path(path).read_text(encoding="ascii") for path in given]))
+        sys.stdout.write(joined([contents(path).decode("ascii") for path in given]))
     except ValueError as error:
-        return f"merge.py: {error}"
+        raise Bad(f"these are no reports to join: {error}") from None
+    return 0
 
 
 if __name__ == "__main__":
-    sys.exit(main(sys.argv[1:]))
+    tool(main)

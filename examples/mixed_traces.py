@@ -3,6 +3,7 @@
 
 The generator is that of the seeded schedule, with seeds of its own, so that the texts are the same each time.
 """
+import sys
 from pathlib import Path
 
 from reference.schedules import Pcg32
@@ -39,5 +40,7 @@ def text(shows, options, form, cores, words, steps, seed):
     return "\n".join(lines + [step(draw, form, cores, words) for _ in range(steps)]) + "\n"
 
 
+if sys.argv[1:2] in (["-h"], ["--help"]):
+    raise SystemExit(print(__doc__))
 for name, *of in TRACES:
     (FOLDER / f"{name}.trace").write_text(text(*of), encoding="ascii")

@@ -22,25 +22,23 @@ import sys
 from pathlib import Path
 
 from reference.events import list_of_events
-from reference.litmus import Test
+from reference.given import NUMBERS, Bad, contents, litmus_test
 from reference.order import check
 from reference.reports import litmus_report, trace_report
 from reference.schedules import test_generator
 from reference.traces import Fault, Trace, read_records, record_line
 from reference.worked import test_machine
 
-DEFAULTS = {"seed": 0, "limit": 100000, "lease": 10, "time": 0, "banks": 1, "sets": 64, "ways": 4, "bank_sets": 256,
-            "bank_ways": 8, "line_words": 1, "messages": 4096, "workers": 1}
-
-
 def words():
-    parser = argparse.ArgumentParser(allow_abbrev=False)
+    parser = argparse.ArgumentParser(description=__doc__, allow_abbrev=False,
+                                     formatter_class=argparse.RawDescriptionHelpFormatter)
     commands = parser.add_subparsers(dest="command", required=True)
     for name in ("litmus", "trace"):
         command = commands.add_parser(name, allow_abbrev=False)
         command.add_argument("--schedule", choices=["round", "seed", "threads"], default="round")
-        for option, default in DEFAULTS.items():
-            command.add_argument("--" + option.replace("_", "-"), type=int, default=default)
+        for option, (usual, says) in NUMBERS.items():
+            command.add_argument("--" + option, type=int, default=usual, metavar="N", help=f"{says} ({usual})")
+        command.add_argument("--workers", type=int, default=1, metavar="N", help="with --schedule threads, 1 alone")
         command.add_argument("--private-write", action="store_true")
         command.add_argument("--trace", action="store_true", dest="tell")
         command.add_argument("--events", action="store_true")
@@ -59,30 +57,26 @@ def tell(turn, about, answer):
 
 def read_litmus(path):
     """The test; a text that is none isn't judged here, but most of them can't be read."""
-    text = Path(path).read_bytes()
-    try:
-        return Test(text.decode("ascii"))
-    except (AttributeError, IndexError, KeyError, SyntaxError, ValueError) as error:
-        raise SystemExit(f"oracle.py: {path} can't be read as a good test: ./tardis says why") from error
+    return litmus_test(path, contents(path))
 
 
 def read_trace(path):
-    return Trace(Path(path).read_bytes())
+    return Trace(contents(path))
 
 
 def refuse_threads(options):
     """Runs by several threads differ from one time to the next, and those by threads have no list of events."""
     if options.workers > 1:
-        raise SystemExit("oracle.py: a run by several threads can't be worked out")
+        raise Bad("a run by several threads can't be worked out")
     if options.events:
-        raise SystemExit("oracle.py: a run by threads has no list of events")
+        raise Bad("a run by threads has no list of events")
 
 
 def run(options):
     """What is printed, and the status."""
     if options.command == "check":
         trace = read_trace(options.TRACE)
-        verdict = check({}, trace.issued(), read_records(Path(options.RECORDS).read_bytes()))
+        verdict = check({}, trace.issued(), read_records(contents(options.RECORDS)))
         return verdict + "\n", int(verdict != "legal")
     if options.schedule == "threads":
         refuse_threads(options)
@@ -126,6 +120,9 @@ def main(given):
         text, status = run(words().parse_args(given))
     except Fault as fault:
         print(f"tardis: {fault}", file=sys.stderr)
+        return 2
+    except Bad as cause:
+        print(f"oracle.py: {cause}", file=sys.stderr)
         return 2
     sys.stdout.write(text)
     return status

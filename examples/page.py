@@ -20,9 +20,10 @@ from pathlib import Path
 
 from reference import told
 from reference.given import Subject, Words, tool
+from reference.order import overwriting
 from reference.schedules import ADVANCE
 from shown.played import Played, Player
-from shown.rules import Rules, overwriting
+from shown.rules import Rules
 
 TOP = Path(__file__).resolve().parent.parent
 PARTS = Path(__file__).resolve().parent / "shown"

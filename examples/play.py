@@ -73,6 +73,8 @@ def tell(name, is_print):
 
 
 def main(words):
+    if words[:1] in (["-h"], ["--help"]):
+        return print(__doc__)
     is_print = "--print" in words
     files = [word for word in words if word not in ("--print", "--again")]
     if any(word.startswith("--") for word in files) or is_print and len(files) != 1:

@@ -9,9 +9,8 @@ them. It shares the reading of texts with examples/oracle.py, and nothing else.
 """
 import copy
 import sys
-from pathlib import Path
 
-from reference.litmus import Test
+from reference.given import contents, litmus_test, tool
 
 
 def perform(thread, memory):
@@ -63,10 +62,11 @@ def text_of(end):
 
 
 def main(paths):
+    paths = [path for path in paths if path not in ("-h", "--help")]
     if not paths:
-        return __doc__
+        return print(__doc__)
     for path in paths:
-        test = Test(Path(path).read_text(encoding="ascii"))
+        test = litmus_test(path, contents(path))
         ends = ends_of(test)
         print(f"{test.name}: {len(ends)} ends, {test.kind}: {answer(test, ends)}")
         for end in sorted(ends):
@@ -75,4 +75,4 @@ def main(paths):
 
 
 if __name__ == "__main__":
-    sys.exit(main(sys.argv[1:]))
+    tool(main)

@@ -1,20 +1,22 @@
 #!/usr/bin/env python3
-"""Tells how the copies of one line go through the run of a trace, step by step, by the second program (oracle.py).
+"""Tells how the copies of one line go through a run, step by step, by the second program (oracle.py).
 
-    examples/steps.py ADDRESS [options of a trace] TRACE
+    examples/steps.py WORD [options] FILE
 
-A row for each event of the line of ADDRESS and for each advance: the round or turn, the event, and what there is after
-it. A core has its time and its copy, a bank its entry: S is Shared and E is Exclusive, then come the version and the
-end of the lease (wts..rts), then the word's value.
+WORD is an address, or a location of a litmus test. A row for each event of its line and for each advance: the round or
+turn, the event, and what there is after it. A core has its time and its copy, a bank its entry: S is Shared and E is
+Exclusive, then come the version and the end of the lease (wts..rts), then the word's value. A load that reads the past,
+a stale hit, is marked by `<- the past`.
 """
 import sys
 
-import oracle
-from reference.reports import drive
+from reference.given import Subject, Words, tool
+from reference.order import overwriting
 from reference.schedules import Run
 
 # Answers of events that change nothing a reader looks for.
 NOTHING = ("Waiting", "Held", "Idle", "NoRoom", "Issued")
+CORES = ("Issue", "Attempt", "EvictCache", "Advance")
 CARRIED = {"ShReq": ("pts", "version"), "ExReq": ("version",)}
 
 
@@ -55,20 +57,24 @@ def held(place, index):
 
 class Steps(Run):
     """A run that notes a row for each event of one line."""
-    word, rows = None, None
+    word, rows, shown = None, None, None
 
     def state(self):
         machine, line, index = self.machine, self.machine.line(self.word), self.word % self.machine.o.line_words
-        for number, core in enumerate(machine.cores):
+        for number in self.shown:
+            core = machine.cores[number]
             yield f"{core.pts}: {held(machine.find(line, machine.cache_set(number, line))[0], index)}"
         yield held(machine.find(line, machine.bank_set(line))[0], index)
 
     def make(self, *event):
         name, line, about = event[0], line_of(self.machine, event), told(self.machine, event)
         answer = super().make(*event)
+        if event[0] in CORES and event[1] not in self.shown:
+            return answer
         if answer not in NOTHING and (name == "Advance" or line == self.machine.line(self.word)):
-            if answer == "Completed" and self.machine.records[-1].received is not None:
-                about += f" receives {self.machine.records[-1].received}"
+            records = self.machine.records
+            if answer == "Completed" and records[-1].received is not None:
+                about += f" receives {records[-1].received}" + " <- the past" * bool(overwriting(records, records[-1]))
             elif answer in ("Requested", "Started", "Dropped", "Exhausted", "NetworkFull"):
                 about += f": {answer}"
             self.rows.append([str(self.turns), about, *self.state()])
@@ -81,16 +87,17 @@ def table(rows):
 
 
 def main(given):
-    if len(given) < 2:
-        return __doc__
-    options = oracle.words().parse_args(["trace", *given[1:]])
-    trace = oracle.read_trace(options.FILE)
-    Steps.word, Steps.rows = int(given[0], 16) // 8, []
-    drive(options, trace.programs(), {}, options.seed, None, Steps)
-    head = ["turn", "event", *(f"core {number}" for number in range(trace.cores)), "bank"]
+    words = Words(__doc__)
+    words.add_argument("WORD", help="an address, as 0x0, or a location, as x")
+    words.run_options()
+    options = words.parse_args(given)
+    subject = Subject(options.FILE)
+    Steps.word, Steps.rows, Steps.shown = subject.word(options.WORD), [], subject.chosen(options)
+    subject.run(options, Steps)
+    head = ["turn", "event", *(f"core {number}" for number in Steps.shown), "bank"]
     sys.stdout.write(table([head, *Steps.rows]))
     return 0
 
 
 if __name__ == "__main__":
-    sys.exit(main(sys.argv[1:]))
+    tool(main)

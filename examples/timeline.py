@@ -2,18 +2,20 @@
 """Draws the records of a run as a picture: completion number against timestamp, with a colour for each core.
 
     examples/timeline.py RECORDS > picture.svg
+    examples/timeline.py [options] FILE > picture.svg      of a test or a trace, by the second program (oracle.py)
 
 A load is a ring, a store a square, a swap a diamond. A stale hit is crossed out in red: a load of a value that was
-overwritten by a smaller completion number at a greater time. Points to the right and below others read the past.
+overwritten by a smaller completion number at a greater time. Points to the right and below others read the past. Below
+thirty points each has its word, with the value that it received (x 0) or that it wrote (x := 7).
 """
 import sys
-from pathlib import Path
 
+from reference.drawn import Labels, halo, text
+from reference.given import Bad, Subject, Words, records_of, tool
 from reference.order import stale_loads
-from reference.traces import Fault, read_records
 
 WIDTH, HEIGHT, LEFT, TOP, RIGHT, BOTTOM = 1040, 540, 160, 60, 120, 60
-PARTS = 5
+PARTS, FEW, SIZE = 5, 30, 13
 
 
 class Scale:
@@ -35,8 +37,8 @@ class Scale:
 
 
 def colour(core):
-    """Neighbouring cores have colours far from one another, by the golden angle."""
-    return f"hsl({round(core * 137.508) % 360}, 65%, {38 + core % 3 * 8}%)"
+    """Neighbouring cores have colours far from one another, by the golden section, and none is red."""
+    return f"hsl({round(30 + (180 + core * 114.59) % 300)}, 65%, {36 + core % 3 * 6}%)"
 
 
 def shape(record, x, y):
@@ -52,6 +54,26 @@ def cross(x, y):
             f'L{x + 8:.1f} {y - 8:.1f}" stroke="red" stroke-width="1.5"/>')
 
 
+def told(record, name):
+    """A point's word and value."""
+    value = f" := {record.value}" if record.value is not None else ""
+    return f"{name(record.word)}{value}" + ("" if record.received is None else f" {record.received}")
+
+
+def labels(records, stale, across, up, name):
+    """A label beside each point, where no other label and no point lies."""
+    placed = Labels(SIZE)
+    for record in records:
+        x, y = across.at(record.number), up.at(record.time)
+        placed.taken.append((x - 8, y - 8, x + 8, y + 8))
+    for record in records:
+        x, y, said = across.at(record.number), up.at(record.time), told(record, name)
+        places = [(x, y + by, "middle") for by in (-12, 22, -27, 37, -42, 52)]
+        is_past = record.number in stale
+        more = f' fill="{"red" if is_past else colour(record.core)}" font-size="{SIZE}"' + ' font-weight="bold"' * is_past
+        yield text(*placed.place(said, places)[:2], said, more=more + halo())
+
+
 def label(record, stale):
     """What a point says where the mouse rests on it."""
     said = f"core {record.core}: {record.kind} of {8 * record.word:#x}"
@@ -64,10 +86,6 @@ def point(record, stale, across, up):
     x, y = across.at(record.number), up.at(record.time)
     drawn = shape(record, x, y) + (cross(x, y) if stale else "")
     return f"<g><title>{label(record, stale)}</title>{drawn}</g>"
-
-
-def text(x, y, words, anchor="middle", more=""):
-    return f'<text x="{x}" y="{y}" text-anchor="{anchor}"{more}>{words}</text>'
 
 
 def axes(across, up):
@@ -98,7 +116,12 @@ def legend(cores, stale):
     yield text(LEFT, 25, f"ring: load, square: store, diamond: swap, red cross: stale hit ({stale})", "start")
 
 
-def picture(records):
+def address(word):
+    return f"{8 * word:#x}"
+
+
+def picture(records, name=address):
+    """`name` tells a word's name by its number."""
     records = sorted(records, key=lambda record: record.number)
     across = Scale([record.number for record in records], LEFT + 10, WIDTH - RIGHT - 10)
     up = Scale([record.time for record in records], HEIGHT - BOTTOM - 10, TOP + 10)
@@ -109,18 +132,25 @@ def picture(records):
     lines += axes(across, up)
     lines += [path_of(core, records, across, up) for core in cores]
     lines += [point(record, record.number in stale, across, up) for record in records]
+    lines += labels(records, stale, across, up, name) if len(records) < FEW else []
     lines += [*legend(cores, len(stale)), "</svg>"]
     return "\n".join(lines) + "\n"
 
 
 def main(given):
-    if len(given) != 1:
-        return __doc__
-    try:
-        sys.stdout.write(picture(read_records(Path(given[0]).read_bytes())))
-    except Fault as fault:
-        return f"timeline.py: {fault}"
+    words = Words(__doc__)
+    words.run_options()
+    options = words.parse_args(given)
+    records, name = records_of(options.FILE), address
+    if records is None:
+        subject = Subject(options.FILE)
+        records, name = subject.run(options)[0].machine.records, subject.name
+    shown = [record for record in records if options.cores is None or record.core in options.cores]
+    if not shown:
+        raise Bad(f"{options.FILE}: no operation of these cores is completed")
+    sys.stdout.write(picture(shown, name))
+    return 0
 
 
 if __name__ == "__main__":
-    sys.exit(main(sys.argv[1:]))
+    tool(main)

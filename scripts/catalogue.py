@@ -99,4 +99,6 @@ def main(check):
 
 
 if __name__ == "__main__":
+    if sys.argv[1:2] in (["-h"], ["--help"]):
+        raise SystemExit(print(__doc__))
     sys.exit(main(sys.argv[1:] == ["--check"]))

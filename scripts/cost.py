@@ -122,6 +122,10 @@ def main():
         Path(sys.argv[2]).write_text(json.dumps(measured, indent=1) + "\n")
         raise SystemExit(measured["status"])
     if sys.argv[1:2] == ["write"] and len(sys.argv) in (3, 4):
+        missing = [name for name in sys.argv[2:] if not Path(name).is_file()]
+        if missing:
+            print(f"cost.py: {missing[0]}: no such file", file=sys.stderr)
+            raise SystemExit(2)
         read = [json.loads(Path(name).read_text()) for name in sys.argv[2:]]
         if any(each["status"] for each in read):
             raise SystemExit("cost.py: a gate that failed says nothing of what one costs")
@@ -130,4 +134,6 @@ def main():
     raise SystemExit(__doc__)
 
 
+if sys.argv[1:2] in (["-h"], ["--help"]):
+    raise SystemExit(print(__doc__))
 main()

@@ -334,4 +334,6 @@ def main():
     raise SystemExit(1 if faults else 0)
 
 
+if sys.argv[1:2] in (["-h"], ["--help"]):
+    raise SystemExit(print(__doc__))
 main()

@@ -93,4 +93,6 @@ def main():
     print(f"{sum(found.values())} places answer want of memory by themselves, each with its reason in docs/HOSTILE.md")
 
 
+if sys.argv[1:2] in (["-h"], ["--help"]):
+    raise SystemExit(print(__doc__))
 main()

@@ -8,6 +8,7 @@
 # run in a folder of their own, one after the other; there ./tardis is the program, and examples, scripts, tests, docs,
 # crates and bench are those of the repository. A fenced block `sh` shows commands that aren't run: they prove, or want other
 # machines. A command in any other block is a fault of the page.
+case ${1-} in -h | --help) exec sed -n '2,/^[^#]/s/^# \{0,1\}//p' "$0" ;; esac
 
 top=$(CDPATH='' cd -- "$(dirname -- "$0")/.." && pwd) || exit 1
 tardis=${1:-$top/tardis}

@@ -123,4 +123,6 @@ def main(given):
 
 
 if __name__ == "__main__":
+    if sys.argv[1:2] in (["-h"], ["--help"]):
+        raise SystemExit(print(__doc__))
     sys.exit(main(sys.argv[1:]))

@@ -4,6 +4,7 @@
 # Its report becomes FOLDER/PART.report, with zeros in front, so that names are in the order of the seeds. The program
 # is ./tardis, or what TARDIS names. The status is 0 if the report is there, also if a run wasn't all done; else it is
 # the program's, and there is no report.
+case ${1-} in -h | --help) exec sed -n '2,/^[^#]/s/^# \{0,1\}//p' "$0" ;; esac
 [ $# -ge 6 ] || { sed -n '2,6s/^# //p' "$0" >&2; exit 3; }
 folder=$1 first=$2 runs=$3 parts=$4 part=$5 file=$6
 shift 6

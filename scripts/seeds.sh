@@ -4,6 +4,7 @@
 # The PARTS parts of the range are run by scripts/seed_part.sh, as many at once as JOBS says (by default, as there are
 # processors), and their reports are joined by examples/merge.py. The program is ./tardis, or what TARDIS names. The
 # status is 0 if every run was all done, 1 if one ended otherwise, and 4 if a part has no report: then nothing comes.
+case ${1-} in -h | --help) exec sed -n '2,/^[^#]/s/^# \{0,1\}//p' "$0" ;; esac
 [ $# -ge 4 ] || { sed -n '2,6s/^# //p' "$0" >&2; exit 3; }
 top=$(CDPATH='' cd -- "$(dirname -- "$0")/.." && pwd) || exit 4
 first=$1 runs=$2 parts=$3 file=$4

@@ -111,7 +111,10 @@ def long_sentences(text):
 
 def main():
     named = [Path(word).resolve() for word in sys.argv[1:] if word != "--check"]
-    faults = 0
+    faults, missing = 0, [page for page in named if not page.is_file()]
+    if missing:
+        print("sentences.py: %s: no such file" % relpath(missing[0]), file=sys.stderr)
+        raise SystemExit(2)
     for page in named or PAGES + sorted((TOP / "docs").glob("*.md")) + sorted(TOP.glob("crates/*/README.md")):
         for line, count, begin in long_sentences(page.read_text(encoding="utf-8")):
             print("sentences.py: %s:%d: %d words: %s .." % (relpath(page), line, count, begin))
@@ -119,4 +122,6 @@ def main():
     raise SystemExit(1 if faults and "--check" in sys.argv[1:] else 0)
 
 
+if sys.argv[1:2] in (["-h"], ["--help"]):
+    raise SystemExit(print(__doc__))
 main()

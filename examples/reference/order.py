@@ -54,5 +54,11 @@ def stale_loads(records):
     return stale
 
 
+def overwriting(records, load):
+    """The write that a stale hit comes before, of records by number: the last one so far with a greater time; or None."""
+    return next((one for one in reversed(records[:load.number]) if one.word == load.word and one.kind != "load"
+                 and one.time > load.time), None) if load.kind == "load" else None
+
+
 def stale_hits(records):
     return len(stale_loads(records))

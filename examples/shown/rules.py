@@ -4,6 +4,8 @@ All is told from the views before and behind the event, as the player gave them 
 """
 from types import SimpleNamespace
 
+from reference.order import overwriting
+
 KINDS = {"R": "load", "W": "store", "S": "swap"}
 CORE, BANK, LEASES, MEMORY, COPIES, EVENTS = (
     "A core", "A bank", "Leases", "Memory time and DRAM", "Private copies", "The machine's events")
@@ -219,9 +221,3 @@ class Rules:
         return (f"{name} leaves the bank",
                 f"The memory time is now {time}, at least the line's rts: so it comes back after every lease."
                 + (" Its words go to DRAM." if entry.dirty else ""), MEMORY)
-
-
-def overwriting(records, load):
-    """The write that a stale hit is before: the last one to complete of those of its word with a greater time."""
-    return [one for one in records[:load.number]
-            if one.word == load.word and one.kind != "load" and one.time > load.time][-1]

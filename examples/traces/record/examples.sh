@@ -1,6 +1,7 @@
 #!/bin/sh
 # Records the four programs anew into examples/traces: examples.sh. A recording is one run, so the traces are others
 # each time; examples/expected.py and scripts/recorded.py then write what is wanted of them.
+case ${1-} in -h | --help) exec sed -n '2,/^[^#]/s/^# \{0,1\}//p' "$0" ;; esac
 here=$(CDPATH='' cd -- "$(dirname -- "$0")" && pwd) || exit 1
 work=$(mktemp) || exit 1
 trap 'rm -f "$work"' EXIT

@@ -2,6 +2,7 @@
 # Compiles a program of one or more C files, runs it, and writes its trace: record.sh TRACE FILE.c .. [compiler options]
 # CC names the compiler: gcc, or clang where there is no gcc, if it isn't set. What the program prints goes to standard
 # error. The status is that of the compiler if it refuses the files, else that of the program.
+case ${1-} in -h | --help) exec sed -n '2,/^[^#]/s/^# \{0,1\}//p' "$0" ;; esac
 here=$(CDPATH='' cd -- "$(dirname -- "$0")" && pwd) || exit 1
 [ $# -ge 2 ] || { sed -n '2,4s/^# //p' "$0" >&2; exit 3; }
 trace=$1

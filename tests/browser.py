@@ -3,10 +3,13 @@ import base64
 import fcntl
 import json
 import os
+import select
 import shutil
 import subprocess
 import tempfile
+import time
 
+SECONDS = 60  # for an answer
 NAMES = ("chromium", "chromium-browser", "google-chrome")
 
 
@@ -52,6 +55,7 @@ class Browser:
 
     def message(self):
         while b"\0" not in self.left:
+            assert select.select([self.into], [], [], SECONDS)[0], "the browser doesn't answer"
             got = os.read(self.into.fileno(), 1 << 20)
             assert got, "the browser ended"
             self.left += got
@@ -65,8 +69,9 @@ class Browser:
             {"name": "prefers-color-scheme", "value": "dark" if dark else "light"}])
         self.call("Page.navigate", url="about:blank")
         self.call("Page.navigate", url=f"file://{path}")
+        end = time.monotonic() + SECONDS
         while not self.value("document.readyState === 'complete' && location.protocol === 'file:'"):
-            pass
+            assert time.monotonic() < end, f"{path} isn't loaded"
 
     def value(self, expression):
         result = self.call("Runtime.evaluate", expression=expression, returnByValue=True)

@@ -6,7 +6,7 @@ const SIGNS = {"&": "&amp;", "<": "&lt;", ">": "&gt;", '"': "&quot;"};
 const escaped = text => String(text).replace(/[&<>"]/g, sign => SIGNS[sign]);
 const hue = core => `style="--hue: var(--c${core % 8})"`;
 const JUMPS = [["c", "completion"], ["s", "stale hit"], ["r", "renewal"], ["l", "recall"], ["e", "eviction"]];
-const PLAY = 1200, WIDE = 1000, LEFT = 50, BOX = 320, RIGHT = 535;
+const PLAY = 1200, WIDE = 1000, LEFT = 64, BOX = 320, RIGHT = 545, FEW = 64n;
 
 // The view after `at` events, and the names of what the last of them changed. Changes are undone on the way back.
 const view = {...run.opening};
@@ -60,10 +60,16 @@ run.named = new Set(run.records.map(record => record[2]));
 if (run.words === 1) Object.values(run.names).flat().forEach(name => run.named.add(name));
 const timesOf = ([name, seen]) => /^(core|copy)/.test(name) && seen !== null ?
   [...seen.matchAll(/(?:time|wts|rts) (\d+)/g)].map(found => BigInt(found[1])) : [];
-const times = [run.opening, ...run.steps.map(step => step[5])].flatMap(Object.entries).flatMap(timesOf);
-const least = times.reduce((one, other) => one < other ? one : other);
-const most = times.reduce((one, other) => one > other ? one : other);
+const ends = times => times.reduce(([least, most], time) => [time < least ? time : least, time > most ? time : most],
+  [times[0], times[0]]);
+const [first, last] = ends([run.opening, ...run.steps.map(step => step[5])].flatMap(Object.entries).flatMap(timesOf));
+let least = first, most = last;
 const place = time => most === least ? 0 : Number((BigInt(time) - least) * 1000n / (most - least)) / 10;
+
+// In a long run the scale is that of the view.
+function scale() {
+  if (last - first > FEW) [least, most] = ends(Object.entries(view).flatMap(timesOf));
+}
 
 function copies(core, time) {
   const found = Object.keys(view).filter(name => name.startsWith(`copy ${core} `));
@@ -113,6 +119,7 @@ const messages = test => Object.keys(view).filter(name => /^m\d/.test(name) && t
   one.slice(1) - other.slice(1)).map(message).join("");
 
 function showCores() {
+  scale();
   const acts = (/^(?:issue|attempt|advance|evict core) (\d+)/.exec(at ? run.steps[at - 1][0] : "") || [])[1];
   const room = [0, 9, 5, 3][run.cores.length] || 2;
   byId("cores").className = run.cores.length > 3 ? "tight" : "";
@@ -122,7 +129,7 @@ function showCores() {
     const wire = messages(text => new RegExp(` core ${core} `).test(text)), now = acts === String(core) ? " now" : "";
     return `<div class="row"><div class="core${now}" id="core-${core}" ${hue(core)} ${asSeen(`core ${core}`)}>
       <h2>core ${core}<span class="time${moved ? " new" : ""}">time ${time}</span></h2><ol>${program(core, room)}</ol>
-      ${copies(core, time)}</div><div class="wire">${wire}</div></div>`;
+      <div class="copies">${copies(core, time)}</div></div><div class="wire">${wire}</div></div>`;
   }).join("");
   const acting = document.querySelector(".core.now");
   if (acting) acting.scrollIntoView({block: "nearest"});
@@ -169,13 +176,17 @@ function box(x, y, high, number, isLeft) {
     <text class="order" y="${middle}" ${order}</text></g>`;
 }
 
-let shownOrders = -1;
-function showOrders() {
-  const count = completed();
-  if (shownOrders === count) return;
-  shownOrders = count;
-  const all = run.records.length, frame = byId("rows").clientHeight * WIDE / Math.max(byId("rows").clientWidth, 1);
+// The rows are as many as there will be; those that are out of sight aren't drawn.
+let shownOrders = "";
+function showOrders(scrolled) {
+  const count = completed(), rows = byId("rows"), unit = WIDE / Math.max(rows.clientWidth, 1);
+  const all = run.records.length, frame = rows.clientHeight * unit;
   const step = Math.max(40, Math.min(105, (frame - 70) / Math.max(all, 1))), high = step - Math.min(16, step * .2);
+  byId("ties").setAttribute("viewBox", `0 0 ${WIDE} ${Math.max(all * step + 12, count * step + 60)}`);
+  if (!scrolled) rows.scrollTop = (count * step + 60 - frame) / unit;
+  const top = rows.scrollTop * unit, key = `${count} ${top} ${frame}`;
+  if (shownOrders === key) return;
+  shownOrders = key;
   const arranged = run.arranged.filter(number => number < count);
   const rank = [];
   arranged.forEach((number, index) => { rank[number] = index; });
@@ -190,11 +201,10 @@ function showOrders() {
       <path class="tie" d="M${LEFT + BOX} ${ends[0]} L${RIGHT} ${ends[1]}"/>${box(LEFT, y, high, number, true)}
       ${box(RIGHT, to, high, number, false)}</g>`;
   };
-  const numbers = [...Array(count).keys()].sort((one, other) => (one in run.past) - (other in run.past));
-  byId("ties").setAttribute("viewBox", `0 0 ${WIDE} ${Math.max(all * step + 12, count * step + 60)}`);
+  const inSight = row => (row + 2) * step > top && (row - 1) * step < top + frame;
+  const numbers = [...Array(count).keys()].filter(number => inSight(number) || inSight(rank[number]));
+  numbers.sort((one, other) => (one in run.past) - (other in run.past));
   byId("ties").innerHTML = numbers.map(group).join("") + (over < 0 ? "" : crossing(past, over, rank, step, high));
-  const rows = byId("rows");
-  rows.scrollTop = Math.max(0, (count * step + 60) * rows.clientWidth / WIDE - rows.clientHeight);
 }
 
 // A ring where the ties of a stale hit and of the write that it comes before cross.
@@ -211,7 +221,7 @@ function showSaid() {
   const step = at ? run.steps[at - 1] : null, past = step && step[6].includes("s");
   byId("what").textContent = step ? step[2] : `${run.title}: before the first event`;
   byId("why").innerHTML = step ? `${escaped(step[3])} <cite>docs/PROTOCOL.md, ${escaped(step[4])}</cite>` :
-    "Each core has a time of its own. A copy may be read while its core's time is within the copy's lease.";
+    `The right arrow goes on to the next event${find("s", 1) === null ? "" : ", and s to the first stale hit"}.`;
   byId("said").className = past ? "past" : "";
   byId("count").textContent = `event ${at} of ${run.steps.length}`;
   byId("count").title = step ? `${step[0]}: ${step[1]}` : "";
@@ -282,6 +292,7 @@ function begin() {
   byId("end").className = run.done ? "" : "cut";
   byId("slider").max = steps;
   byId("ticks").setAttribute("viewBox", `0 0 ${Math.max(steps, 1)} 10`);
+  byId("ticks").classList.toggle("many", steps > 800);
   byId("ticks").innerHTML = `<path d="${ticks("c")}"/><path class="past" d="${ticks("s")}"/>`;
   byId("jumps").innerHTML += JUMPS.map(([key, name]) => `<button id="jump-${key}" class="${key}"
     title="${key}; with shift, back">${name.replace(key, `<kbd>${key}</kbd>`)}</button>`).join("");
@@ -290,8 +301,9 @@ function begin() {
     byId(id).onclick = act;
   });
   byId("slider").oninput = event => go(Number(event.target.value));
-  addEventListener("resize", () => { shownOrders = -1; show(); });
+  addEventListener("resize", () => { shownOrders = ""; show(); });
   addEventListener("hashchange", fromHash);
+  byId("rows").addEventListener("scroll", () => showOrders(true));
   dark(matchMedia("(prefers-color-scheme: dark)").matches);
   fromHash();
 }

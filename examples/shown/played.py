@@ -28,7 +28,8 @@ class Player:
             raise Bad(f"{self.command[0]}: {error.strerror}") from None
         lines = ran.stdout.decode().splitlines()
         if ran.returncode or len(lines) != len(calls) + 1:
-            raise Bad(f"the player failed, with status {ran.returncode}" + "".join(f": {line}" for line in lines[:1]))
+            said = "".join(f": {line}" for line in lines[:1])
+            raise Bad(f"the player failed, with status {ran.returncode}{said} (--player examples/play.py needs no kit)")
         for call, line in zip(calls, lines):
             assert line.startswith(f"{call} : "), line
         return [line[len(call) + 3:] for call, line in zip(calls, lines)]

@@ -87,19 +87,31 @@ def steps(run):
         before, shown = step.view, now
 
 
+def text_of(number):
+    """A number of up to 64 bits, for JavaScript."""
+    return None if number is None else str(number)
+
+
 def data(run, options):
     subject = run.subject
     rules = Rules(run)
-    records = [[one.core, one.kind, subject.name(one.word), one.value, one.received, one.time] for one in run.records]
+    records = [[one.core, one.kind, subject.name(one.word), *map(text_of, (one.value, one.received, one.time))]
+               for one in run.records]
     past = {number: overwriting(run.records, run.records[number]).number for number in run.stale}
     return {"title": subject.kind, "how": how(options), "end": ENDS[run.end], "done": run.end == "all-done",
-            "cores": list(subject.chosen(options)), "banks": options.banks, "words": options.line_words,
+            "cores": cores_shown(run, options), "banks": options.banks, "words": options.line_words,
             "names": {line: [subject.name(int(line, 16) // 8 + place) for place in range(options.line_words)]
                       for line in run.lines()},
             "programs": [["advance" if step == ADVANCE else rules.operation(told.operation(step)) for step in steps]
                          for steps in run.programs],
             "opening": run.opening, "steps": list(steps(run)), "records": records, "arranged": run.arranged,
             "past": past, "verdict": run.verdict}
+
+
+def cores_shown(run, options):
+    """Those that are named, or else those that have something to do."""
+    busy = [core for core, steps in enumerate(run.programs) if steps]
+    return busy if busy and options.cores is None else list(run.subject.chosen(options))
 
 
 def how(options):
@@ -118,6 +130,12 @@ def page(run, options, made_by):
         .replace("{js}", parts["page.js"]).replace("{data}", text)
 
 
+def player_name(command):
+    """How the page names a player that was named; whether it was proved isn't known."""
+    name = Path(command[0]).name
+    return "the second program's machine" if name == "play.py" else " ".join([name, *command[1:]])
+
+
 def main(given):
     words = Words(__doc__)
     words.run_options()
@@ -126,7 +144,7 @@ def main(given):
     subject = Subject(options.FILE)
     subject.chosen(options)
     command = shlex.split(options.player) if options.player else [str(TOP / "play")]
-    made_by = "the second program's machine" if "play.py" in command[0] else "the proved machine"
+    made_by = player_name(command) if options.player else "the proved machine"
     run = Played(Player(command), subject, options)
     sys.stdout.write(page(run, options, made_by))
     if run.end != "all-done":

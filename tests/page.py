@@ -40,7 +40,7 @@ CASES = {
 COPY = r"(shared|exclusive) (?:written )?wts (\d+) rts (\d+) words (.*)"
 ENTRY = r"shared (dirty )?wts (\d+) rts (\d+) words (.*)"
 # By hand: what the page says of the stale hit of docs/TUTORIAL.md.
-STALE = "Core 1 reads the past: 0x0 = 0, though core 0 has already written 7"
+STALE = "Core 1 reads the past: 0 from 0x0, where core 0 has already written 7"
 
 # What stands in the page.
 SEEN = """(() => {
@@ -263,8 +263,10 @@ def in_browser(browser, player, pages, folder):
     for name, case in CASES.items():
         yield from (f"{name}: {fault}" for fault in stepped(browser, pages[name], player, case))
         for size in ((1280, 720), (1920, 1080)):
-            browser.open(f"{pages[name]}#stale", *size)
-            yield from [f"{name} at {size}: {fault} is cut" for fault in [cut(browser)] if fault]
+            for at in ("run.steps.length >> 1", "run.steps.length"):
+                browser.open(pages[name], *size)
+                browser.value(f"go({at})")
+                yield from [f"{name} at {size}: {fault} is cut" for fault in [cut(browser)] if fault]
     yield from tried(browser, pages["the past"])
     browser.open(f"{folder / 'long.html'}#3000")
     yield from [f"the long page: {fault} is cut" for fault in [cut(browser)] if fault]

@@ -56,8 +56,8 @@ def stale_loads(records):
 
 def overwriting(records, load):
     """The write that a stale hit comes before, of records by number: the last one so far with a greater time; or None."""
-    return next((one for one in reversed(records[:load.number]) if one.word == load.word and one.kind != "load"
-                 and one.time > load.time), None) if load.kind == "load" else None
+    before = (records[number] for number in range(load.number - 1, -1, -1)) if load.kind == "load" else ()
+    return next((one for one in before if one.word == load.word and one.kind != "load" and one.time > load.time), None)
 
 
 def stale_hits(records):

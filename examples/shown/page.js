@@ -44,6 +44,8 @@ function behind(text, word) {
   return found && found[1];
 }
 
+// A time in a few letters: of those near the end of 64 bits the last digits.
+const brief = time => String(time).length > 9 ? `…${String(time).slice(-4)}` : time;
 const wordsOf = text => (/ words (.*)$/.exec(text) || ["", ""])[1].split(" ");
 const asSeen = name => `data-name="${name}" data-seen="${escaped(view[name])}"`;
 const isNew = name => at > 0 && name in run.steps[at - 1][5] ? " new" : "";
@@ -82,7 +84,7 @@ function copies(core, time) {
       <b>${escaped(values(line, wordsOf(copy)) || line)}</b>
       <span class="bar${ended ? " ended" : ""}${owned ? " own" : ""}"><i style="left:${start}%;width:${wide}%"></i>
       <u style="left:${place(time)}%"></u></span>
-      <span class="state">${owned ? "own" : ended ? "ended" : "read"} ${wts}..${rts}</span></div>`;
+      <span class="state">${owned ? "own" : ended ? "ended" : "read"} ${brief(wts)}..${brief(rts)}</span></div>`;
   }).join("");
 }
 
@@ -109,7 +111,7 @@ function message(name) {
   const waits = `waits ${name}` in view, dram = / dram /.test(view[name]), mark = dram ? (left ? "↑ " : "↓ ") : "";
   const bank = run.banks > 1 && !dram ? `${left ? "from" : "to"} bank ${words[left ? 1 : 4]}` : "";
   const head = left ? "M8 1 L1 5 L8 9" : "M92 1 L99 5 L92 9";
-  const says = [bank, carried, waits ? "waits" : ""].filter(Boolean).join("; ");
+  const says = [bank, carried.replace(/\d{10,}/g, brief), waits ? "waits" : ""].filter(Boolean).join("; ");
   return `<div class="message${isNew(name)}${waits ? " waits" : ""}" ${asSeen(name)}>
     <b>${mark}${kind} ${escaped(lineName(line))}</b><svg class="arrow" viewBox="0 0 100 10" preserveAspectRatio="none">
     <path d="M2 5 H98"/><path d="${head}"/></svg>${says}</div>`;
@@ -128,17 +130,18 @@ function showCores() {
     const before = at ? undone[at - 1][`core ${core}`] : null, moved = before && behind(before, "time") !== time;
     const wire = messages(text => new RegExp(` core ${core} `).test(text)), now = acts === String(core) ? " now" : "";
     return `<div class="row"><div class="core${now}" id="core-${core}" ${hue(core)} ${asSeen(`core ${core}`)}>
-      <h2>core ${core}<span class="time${moved ? " new" : ""}">time ${time}</span></h2><ol>${program(core, room)}</ol>
+      <h2>core ${core}<span class="time${moved ? " new" : ""}" title="${time}">time ${brief(time)}</span></h2>
+      <ol>${program(core, room)}</ol>
       <div class="copies">${copies(core, time)}</div></div><div class="wire">${wire}</div></div>`;
   }).join("");
-  const acting = document.querySelector(".core.now");
+  const acting = document.querySelector(".core.now") || document.querySelector(".row .new");
   if (acting) acting.scrollIntoView({block: "nearest"});
 }
 
 function entry(name) {
   const seen = view[name], line = name.split(" ")[1], [state] = seen.split(" "), owner = behind(seen, "owner");
-  const times = `${seen.includes("dirty") ? "dirty " : ""}${behind(seen, "wts")}..${behind(seen, "rts")}`;
-  const says = state === "shared" ? times : owner === null ? state :
+  const times = `${brief(behind(seen, "wts"))}..${brief(behind(seen, "rts"))}`;
+  const says = state === "shared" ? (seen.includes("dirty") ? "dirty " : "") + times : owner === null ? state :
     `<em class="own" ${hue(owner)}>core ${owner} ${state === "exclusive" ? "owns it" : "is asked"}</em>`;
   const words = state === "shared" ? values(line, wordsOf(seen)) : lineName(line);
   return `<div class="entry${isNew(name)}" ${asSeen(name)}><b>${escaped(words)}</b><span>${says}</span></div>`;
@@ -153,7 +156,8 @@ function showBanks() {
     const dram = lines.map(line => values(line, view[`dram ${line}`].split(" "))).join(", ");
     const wire = messages(text => new RegExp(` dram ${bank} `).test(text));
     return `<div class="bank" id="bank-${bank}" ${asSeen(`bank ${bank}`)}><h2>bank ${bank}</h2>
-      <h3>memory ${view[`bank ${bank}`]}</h3>${entries.join("") || '<p class="none">no entries</p>'}
+      <h3>memory time ${brief(behind(view[`bank ${bank}`], "time"))}</h3>
+      ${entries.join("") || '<p class="none">no entries</p>'}
       <div class="wire">${wire}</div>
       <div class="dram" title="${escaped(dram)}"><b>DRAM</b> ${escaped(dram)}</div></div>`;
   }).join("");
@@ -169,9 +173,12 @@ function box(x, y, high, number, isLeft) {
   const said = {load: `load ${name}`, store: `store ${value} to ${name}`, swap: `swap ${value} into ${name}`}[kind] +
     (received === null ? "" : ` → ${received}`);
   const size = Math.min(27, 27 * 13.5 / said.length), middle = high / 2;
-  const order = isLeft ? `x="-14" text-anchor="end">${number}` : `x="${BOX + 12}">time ${time}`;
+  const shownTime = `time ${brief(time)}`, small = Math.min(24, 24 * 8.5 / shownTime.length);
+  const order = isLeft ? `x="-14" text-anchor="end">${number}` :
+    `x="${BOX + 12}" style="font-size:${small}px">${shownTime}`;
   return `<g transform="translate(${x} ${y})"><rect class="box" width="${BOX}" height="${high}" rx="8"/>
-    <rect class="hue" width="88" height="${high}" rx="8"/><text class="who" x="44" y="${middle}">core ${core}</text>
+    <rect class="hue" width="88" height="${high}" rx="8"/>
+    <text class="who" x="44" y="${middle}" style="font-size:${core > 9 ? 19 : 23}px">core ${core}</text>
     <text x="100" y="${middle}" style="font-size:${size}px">${escaped(said)}</text>
     <text class="order" y="${middle}" ${order}</text></g>`;
 }
@@ -276,11 +283,17 @@ const KEYS = {ArrowRight: () => walk(1), ArrowLeft: () => walk(-1), PageDown: ()
   " ": play, d: () => dark(!document.documentElement.classList.contains("dark"))};
 document.addEventListener("keydown", event => {
   if (event.ctrlKey || event.altKey || event.metaKey) return;
+  if (event.key === " " && event.target.tagName === "BUTTON") return;
   const key = event.key.length === 1 ? event.key.toLowerCase() : event.key;
   if (JUMPS.some(([letter]) => letter === key)) jump(key, event.shiftKey ? -1 : 1);
   else if (KEYS[key]) KEYS[key]();
   else return;
   event.preventDefault();
+});
+
+// A button that the mouse pressed gives the space bar back.
+document.addEventListener("click", event => {
+  if (event.detail && event.target.closest("button")) event.target.closest("button").blur();
 });
 
 function begin() {

@@ -48,7 +48,7 @@ class Rules:
         what, *of = step.call.split(" ")
         answer = step.answer.split(" ")
         if answer[0] == "refused" and answer[1] in REFUSED:
-            return f"{step.call}: refused", REFUSED[answer[1]], EVENTS
+            return f"{step.call} is refused: {answer[1]}", REFUSED[answer[1]], EVENTS
         return getattr(self, what)(step, before, of, answer)
 
     # Events of a core.
@@ -103,7 +103,7 @@ class Rules:
     def load(self, core, copy, time, record, name):
         if record.number in self.run.stale:
             write = overwriting(self.run.records, record)
-            return (f"Core {core} reads the past: {name} = {record.received}, though core {write.core} has already "
+            return (f"Core {core} reads the past: {record.received} from {name}, where core {write.core} has already "
                     f"written {write.value}",
                     f"The core's time is {time}, within its lease to {copy.rts}. At time {record.time} this load "
                     f"comes before the write at time {write.time}.", CORE)

@@ -8,6 +8,8 @@
 - first_store.svg: the messages of examples/traces/FIRST-STORE.trace, by examples/chart.py.
 - line_life.svg: the changes of a bank's entry that are met in the runs of all traces of examples/traces.
 - layers.svg: the crates of crates.txt, each above all that it stands on.
+
+page.png, a page of examples/page.py in a browser, is written by `tests/page.py PLAYER --pictures docs/pictures`.
 """
 import sys
 from pathlib import Path

@@ -299,7 +299,8 @@ def main(given):
             browser.close()
         else:
             print("page.py: no Chromium is installed (Debian's package chromium), so that no page was opened")
-    print("\n".join(faults) or f"{len(CASES)} pages show what the player says")
+    shows = "show what the player says" if installed() else "are written"
+    print("\n".join(faults) or f"{len(CASES)} pages {shows}")
     return int(bool(faults))
 
 

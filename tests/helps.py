@@ -1,5 +1,5 @@
 #!/usr/bin/env python3
-"""Asks the tools of examples/ and scripts/ for help, and gives those that read a file one that isn't there: tests/helps.py
+"""Asks the tools of examples/ and scripts/ for help, and gives them files that they can't read: tests/helps.py
 
 Help comes on standard output, with status 0, and no file of the repository is written. A missing file and one of
 another kind are each told in one line, with status 2. The last line is `N tried, M wrong`.
@@ -11,22 +11,25 @@ from pathlib import Path
 TOP = Path(__file__).resolve().parent.parent
 # What the kit runs, and what is read by others: no tools.
 OTHERS = {"kit.py", "program.sh"}
-READERS = ["examples/chart.py {}", "examples/merge.py {}", "examples/oracle.py litmus {}", "examples/oracle.py trace {}",
-           "examples/page.py {}", "examples/sequential.py {}", "examples/steps.py 0x0 {}", "examples/timeline.py {}"]
+READERS = ["examples/chart.py {}", "examples/merge.py {}", "examples/oracle.py litmus {}",
+           "examples/oracle.py trace {}", "examples/page.py {}", "examples/sequential.py {}",
+           "examples/steps.py 0x0 {}", "examples/timeline.py {}"]
 
 
 def files():
     """What there is, with the time of its last change, but for what builds and imports write."""
-    return {path: path.stat().st_mtime_ns for folder in ("examples", "scripts", "docs", "crates/play_events/data", "tests")
+    return {path: path.stat().st_mtime_ns for folder in ("examples", "scripts", "docs", "crates/play_events/data")
             for path in (TOP / folder).rglob("*") if path.is_file() and "__pycache__" not in path.parts}
 
 
 def ran(words):
-    return subprocess.run(words, cwd=TOP, capture_output=True, text=True, stdin=subprocess.DEVNULL, timeout=120, check=False)
+    return subprocess.run(words, cwd=TOP, capture_output=True, text=True, stdin=subprocess.DEVNULL, timeout=120,
+                          check=False)
 
 
 def main():
-    tools = sorted(path for folder in ("examples", "scripts", "examples/traces/record") for path in (TOP / folder).iterdir()
+    folders = TOP / "examples", TOP / "scripts", TOP / "examples/traces/record"
+    tools = sorted(path for folder in folders for path in folder.iterdir()
                    if path.suffix in (".py", ".sh") and path.name not in OTHERS)
     before, wrong = files(), []
     for tool in tools:

@@ -10,6 +10,7 @@ Chromium is installed, that is said, and only what needs none is tried.
 """
 import json
 import re
+import shlex
 import subprocess
 import sys
 import tempfile
@@ -56,14 +57,16 @@ SEEN = """(() => {
   });
 })()"""
 
-# The middle of the times that forty keys take, all over the page, each with its layout.
-TIMED = """[...Array(40).keys()].map(turn => {
-    go(Math.floor(run.steps.length * turn / 40));
-    const start = performance.now(), key = ["ArrowRight", "ArrowLeft", "c", "End", "Home"][turn % 5];
+# The time that the slowest key takes, with its layout. Of the presses of a key the fastest counts: beside other work a
+# press may take longer.
+TIMED = """Math.max(...["ArrowRight", "ArrowLeft", "c", "End", "Home"].map(key =>
+  Math.min(...[...Array(10).keys()].map(part => {
+    go(Math.floor(run.steps.length * (part + 1) / 12));
+    const start = performance.now();
     document.dispatchEvent(new KeyboardEvent("keydown", {key}));
     document.body.offsetHeight;
     return performance.now() - start;
-  }).sort((one, other) => one - other)[20]"""
+  }))))"""
 
 
 def ask(player, calls):
@@ -184,7 +187,7 @@ class Compared:
 def written(player, words, path):
     """Runs examples/page.py; its status, and what it says on standard error."""
     with path.open("wb") as out:
-        ran = subprocess.run([TOP / "examples/page.py", "--player", player, *words], cwd=TOP, check=False,
+        ran = subprocess.run([TOP / "examples/page.py", "--player", shlex.quote(player), *words], cwd=TOP, check=False,
                              stdout=out, stderr=subprocess.PIPE)
     return ran.returncode, ran.stderr.decode()
 

@@ -134,8 +134,6 @@ function showCores() {
       <ol>${program(core, room)}</ol>
       <div class="copies">${copies(core, time)}</div></div><div class="wire">${wire}</div></div>`;
   }).join("");
-  const acting = document.querySelector(".core.now") || document.querySelector(".row .new");
-  if (acting) acting.scrollIntoView({block: "nearest"});
 }
 
 function entry(name) {
@@ -185,15 +183,23 @@ function box(x, y, high, number, isLeft) {
 
 // The rows are as many as there will be; those that are out of sight aren't drawn.
 let shownOrders = "";
-function showOrders(scrolled) {
-  const count = completed(), rows = byId("rows"), unit = WIDE / Math.max(rows.clientWidth, 1);
-  const all = run.records.length, frame = rows.clientHeight * unit;
-  const step = Math.max(40, Math.min(105, (frame - 70) / Math.max(all, 1))), high = step - Math.min(16, step * .2);
-  byId("ties").setAttribute("viewBox", `0 0 ${WIDE} ${Math.max(all * step + 12, count * step + 60)}`);
-  if (!scrolled) rows.scrollTop = (count * step + 60 - frame) / unit;
-  const top = rows.scrollTop * unit, key = `${count} ${top} ${frame}`;
+let size = null; // of the window of the rows: how many units a pixel has, and its height
+
+function measure() {
+  const rows = byId("rows"), unit = WIDE / Math.max(rows.clientWidth, 1), frame = rows.clientHeight * unit;
+  size = {unit, frame, step: Math.max(40, Math.min(105, (frame - 70) / Math.max(run.records.length, 1)))};
+  shownOrders = "";
+}
+
+// From which unit on the rows are seen, so that the last one is.
+const bottom = count => Math.max(0, count * size.step + 60 - size.frame);
+
+function showOrders(top) {
+  const count = completed(), {frame, step} = size, high = step - Math.min(16, step * .2);
+  const key = `${count} ${Math.round(top / step)}`;
   if (shownOrders === key) return;
   shownOrders = key;
+  byId("ties").setAttribute("viewBox", `0 0 ${WIDE} ${Math.max(run.records.length * step + 12, count * step + 60)}`);
   const arranged = run.arranged.filter(number => number < count);
   const rank = [];
   arranged.forEach((number, index) => { rank[number] = index; });
@@ -235,12 +241,23 @@ function showSaid() {
 }
 
 function show() {
-  showSaid(); showCores(); showBanks(); showOrders();
+  showSaid();
+  showCores();
+  showBanks();
+  showOrders(bottom(completed()));
   byId("slider").value = at;
   byId("first").disabled = byId("back").disabled = at === 0;
   byId("next").disabled = at === run.steps.length;
   if (at === run.steps.length) pause();
   for (const [key] of JUMPS) byId(`jump-${key}`).disabled = find(key, 1) === null;
+  follow();
+}
+
+// All is drawn by now, so that it is laid out once.
+function follow() {
+  byId("rows").scrollTop = bottom(completed()) / size.unit;
+  const acting = document.querySelector(".core.now") || document.querySelector(".row .new");
+  if (acting) acting.scrollIntoView({block: "nearest"});
 }
 
 // The next event of a kind, or the one before.
@@ -314,10 +331,14 @@ function begin() {
     byId(id).onclick = act;
   });
   byId("slider").oninput = event => go(Number(event.target.value));
-  addEventListener("resize", () => { shownOrders = ""; show(); });
+  addEventListener("resize", () => {
+    measure();
+    show();
+  });
   addEventListener("hashchange", fromHash);
-  byId("rows").addEventListener("scroll", () => showOrders(true));
+  byId("rows").addEventListener("scroll", () => showOrders(byId("rows").scrollTop * size.unit));
   dark(matchMedia("(prefers-color-scheme: dark)").matches);
+  measure();
   fromHash();
 }
 

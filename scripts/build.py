@@ -25,7 +25,7 @@ TOP = Path(__file__).resolve().parent.parent
 BYTES_A_JOB = 3_000_000_000
 READING = 300  # what a crate costs before its first function is proved, in lines: the libraries are read
 KIT = [sys.executable, str(TOP / "scripts" / "kit.py")]  # the kit's command
-NEARLY = 0.75  # a chain of crates of this part of the longest one's work is nearly as long
+NEARLY = 0.6  # a chain of crates of this part of the longest one's work is nearly as long
 KEPT = 3  # a crate that takes no more seconds was proved before
 
 

@@ -50,7 +50,8 @@ class Seeds:
 
     def __init__(self, options):
         self.test, self.options, self.first = options.TEST, passed_on(options), options.seed or 0
-        self.name, self.counts, self.found = None, {}, {}  # by end: how many runs, and (the first seed, whether it holds)
+        self.name, self.counts = None, {}  # how many runs have each end
+        self.found = {}                    # by end the first seed, and whether the expression holds
 
     def command(self, start, runs):
         """The words of a range's report, from the options on; `start` counts from the first seed."""

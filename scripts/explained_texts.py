@@ -49,8 +49,8 @@ CARRIAGE = "A carriage return: `tr -d '\\r'` takes it out."
 FORM_2 = "Cores from 16 on, and advances, want `trace 2` as the first line."
 LINES = {
     3: [(None, "A comment that is too long.")],
-    4: [(r"\r", CARRIAGE), (r"^\s*(1[6-9]|[2-5]\d|6[0-3])\s", FORM_2), (r"^\s*trace\b", "`trace 2` stands first, and once."),
-        (r",", "Fields are parted by blanks, not commas."),
+    4: [(r"\r", CARRIAGE), (r"^\s*(1[6-9]|[2-5]\d|6[0-3])\s", FORM_2),
+        (r"^\s*trace\b", "`trace 2` stands first, and once."), (r",", "Fields are parted by blanks, not commas."),
         (None, "A line begins with the core, a number alone.")],
     5: [(r"\r", CARRIAGE), (r"^\s*\d+\s+A", FORM_2), (None, "`R` is a load, `W` a store, `S` a swap: one capital.")],
     6: [(r"\r", CARRIAGE),

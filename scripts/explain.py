@@ -115,7 +115,7 @@ def out_of_order(history, at):
     if not listed:
         yield f"The trace has no operation of core {core}."
     elif place != next_one and next_one < len(listed):
-        yield f"It is core {core}'s operation {place} (from 0), and its operation {next_one} comes next:"
+        yield f"Operation {next_one} (from 0) of core {core} comes next, and this is its operation {place}:"
         line, fields = listed[next_one]
         yield f"  line {line} of the trace: {core} {b' '.join(fields).decode()}"
         found = [other for other in mine if other.place == next_one]
@@ -133,10 +133,12 @@ def bad_number(history, number):
     by_number = sorted(history.records, key=lambda record: (record.number, record.line))
     count = len(by_number)
     yield f"There are {count} records, so their numbers are 0 to {count - 1}, each once. None has {number}."
-    for one, other in zip(by_number, by_number[1:]):
-        if one.number == other.number:
-            yield f"Two have {one.number}: {one.told()}, and {other.told()}."
-            break
+    pairs = [(one, other) for one, other in zip(by_number, by_number[1:]) if one.number == other.number]
+    if pairs:
+        one, other = pairs[0]
+        yield f"Two have {one.number}: {one.told()}, and {other.told()}."
+    else:
+        yield f"No number stands twice: the record with {number} is missing, or one has a wrong number."
     if by_number[-1].number >= count:
         first = next(record for record in by_number if record.number >= count)
         yield f"{first.number} is too great: {first.told()}."

@@ -12,6 +12,7 @@ examples/oracle.py. The status is 0 if the seeds were run, and 2 if not, which s
 import argparse
 import shlex
 import sys
+from pathlib import Path
 
 import program
 from program import TOP, Refused, fail
@@ -27,7 +28,8 @@ def words():
     parser = argparse.ArgumentParser(allow_abbrev=False, description=__doc__.split("\n")[0],
                                      epilog="The other options are the program's (docs/TEXTS.md).")
     parser.add_argument("--seeds", type=int, default=1000, metavar="N", help="how many seeds are run (1000)")
-    parser.add_argument("--command", default="./tardis litmus", metavar="WORDS",
+    here = "./tardis" if Path("tardis").exists() else shlex.quote(str(TOP / "tardis"))
+    parser.add_argument("--command", default=f"{here} litmus", metavar="WORDS",
                         help="what stands in front of the options in the commands (./tardis litmus)")
     parser.add_argument("--private-write", action="store_true")
     for option in DEFAULTS:

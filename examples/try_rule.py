@@ -28,7 +28,7 @@ from reference.traces import LETTERS, Fault, Steps, Trace, record_line
 
 OWNING = ("ExRep", "UpgradeRep", "FlushRep", "WbRep")
 FAILURES = (AssertionError, AttributeError, IndexError, KeyError, TypeError)
-ROUNDS, TURNS, RUNS = 300, 2000, 60
+ROUNDS, TURNS, RUNS = 300, 500, 60
 LETTER_OF = {kind: letter.decode() for letter, kind in LETTERS.items()}
 
 
@@ -149,7 +149,7 @@ class Draws:
 def options_of(draws):
     """A machine with few places, and a schedule: mostly a seed, and then often rounds after some turns."""
     options = {**DEFAULTS, "sets": 1, "bank_sets": 1, "seed": draws.below(1000),
-               "schedule": draws.one_of(*["seed"] * 8, "round", "threads"), "private_write": draws.below(4) == 0,
+               "schedule": draws.one_of(*["seed"] * 8, "round", "threads"), "private_write": draws.below(2) == 0,
                "lease": draws.one_of(1, 2, 10), "line_words": draws.one_of(1, 1, 8), "banks": draws.one_of(1, 1, 2),
                "ways": draws.one_of(1, 2), "bank_ways": draws.one_of(1, 1, 2), "limit": TURNS}
     if options["schedule"] == "seed" and draws.below(3) == 0:
@@ -159,11 +159,11 @@ def options_of(draws):
 
 def steps_of(draws, number):
     """A few steps for each of two or three cores, on few words; later tries have more. No value is stored twice."""
-    most, words, value, steps = 2 + min(number // 150, 4), draws.one_of(1, 2, 2, 3), 0, []
+    most, words, value, steps = 2 + min(number // 100, 3), draws.one_of(1, 1, 2, 2), 0, []
     for _ in range(draws.one_of(2, 2, 3)):
         steps.append([])
         for _ in range(1 + draws.below(most)):
-            kind = draws.one_of(*["load"] * 5, *["store"] * 4, "swap", "advance")
+            kind = draws.one_of(*["load"] * 4, *["store"] * 3, "swap", *["advance"] * 2)
             value += kind in ("store", "swap")
             word = 8 * draws.below(words)
             steps[-1].append(ADVANCE if kind == "advance" else (kind, word, None if kind == "load" else value))

@@ -5,9 +5,10 @@
                                         around it in the order by time and number
     scripts/explain.py TEST|TRACE       the fault of a text, with its cell, its cause and what is often meant
 
-A text is a litmus test if its name ends in .litmus or it has a brace, and else a trace. Verdicts and faults are the
-program's: what TARDIS names, else the one that ./tardis built, else, of traces and records, examples/oracle.py. The
-status is 0 if nothing is wrong, 1 if something is explained, and 2 if a file can't be read, told in one line.
+A text is a litmus test if its name ends in .litmus, or if it has a brace and no name that ends in .trace. Verdicts and
+faults are the program's: what TARDIS names, else the one that ./tardis built, else, of traces and records,
+examples/oracle.py. The status is 0 if nothing is wrong, 1 if something is explained, and 2 if a file can't be read,
+told in one line.
 """
 import sys
 
@@ -181,7 +182,7 @@ def fault_of(path, is_test):
 def explained(paths):
     """The lines that are told of the files, and whether something is wrong."""
     texts = [text_of(path) for path in paths]
-    is_test = len(paths) == 1 and (paths[0].endswith(".litmus") or b"{" in texts[0])
+    is_test = len(paths) == 1 and (paths[0].endswith(".litmus") or b"{" in texts[0] and not paths[0].endswith(".trace"))
     fault = fault_of(paths[0], is_test)
     if fault:
         return explained_text(paths[0], texts[0], fault, "test" if is_test else "trace"), True

@@ -44,6 +44,7 @@ TEST = {
          (rf"\d+:{ABI}\b|:x0\d", REGISTERS), (None, "A thread that isn't there, or a parenthesis too many.")],
     14: [(None, "The condition, or a closing brace or parenthesis, is missing.")],
 }
+MOST_SHOWN = 100
 NUMBERS = ("PLACE", "VALUE", "RECEIVED", "TIME", "NUMBER")
 CARRIAGE = "A carriage return: `tr -d '\\r'` takes it out."
 FORM_2 = "Cores from 16 on, and advances, want `trace 2` as the first line."
@@ -78,6 +79,12 @@ def causes(title):
     rows = re.findall(r"^\| (\d+) \| (\w+) \| (.*?) \| (.*?) \|$", text, re.M)
     return {int(number): (name, " ".join(f"{where}: {fields[where]}".split()) if where in fields else where)
             for number, name, where, _ in rows}
+
+
+def shown(text):
+    """A text in backquotes: bytes that aren't printed stand as \\x0d, and a long one is cut."""
+    text = "".join(sign if " " <= sign <= "~" else "\t" if sign == "\t" else f"\\x{ord(sign):02x}" for sign in text)
+    return f"`{text}`" if len(text) <= MOST_SHOWN else f"`{text[:MOST_SHOWN]}..`"
 
 
 def cells_of(line):
@@ -150,7 +157,7 @@ def field_at_fault(line, kind, is_record):
         at = names.index(name)
     else:
         return None
-    return f"{name}: `{fields[at].strip()}`" if at < len(fields) else f"{name} is missing"
+    return f"{name}: {shown(fields[at])}" if at < len(fields) else f"{name} is missing"
 
 
 def explained_text(path, text, fault, what):
@@ -165,11 +172,11 @@ def explained_text(path, text, fault, what):
     name, where = causes(title)[kind]
     if what == "test":
         cell = cell_at_fault(text, number, kind)
-        place = f"P{cell[0]}: `{cell[1]}`" if cell else f"`{line.strip()}`"
+        place = f"P{cell[0]}: {shown(cell[1])}" if cell else shown(line.strip(" \t\r"))
         meant = often(TEST, kind, cell[1] if cell else line)
     else:
         field = field_at_fault(line, kind, what == "records")
-        place = f"`{line.strip()}`" + (f", {field}" if field else "")
+        place = shown(line.strip(" \t")) + (f", {field}" if field else "")
         meant = often(LINES, kind, line)
     lines = [f"{path}, line {number}, {place}", f"  {kind} {name}: {where}"]
     return lines + [f"  often meant: {meant}"] * bool(meant)

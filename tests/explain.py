@@ -41,6 +41,11 @@ RECORDS = [
                             "the record with 3 is missing", "5 is too great: line 4: 1 1 R 0x0 1 1 5."]),
     (4, "1 1 R 0x0 1 1 1", ["bad number 3", "Two have 1: line 2: 0 1 W 0x8 1 1 1, and line 4: 1 1 R 0x0 1 1 1."]),
 ]
+# Two stores of one word, and a load of the first one behind both.
+TWICE = ("0 W 0x0 1\n0 W 0x0 2\n1 R 0x0\n", "0 0 W 0x0 1 1 0\n0 1 W 0x0 2 2 1\n1 0 R 0x0 1 3 2\n", [
+    "wrong value 2", "received 1, and not 2:", "  line 2: 0 1 W 0x0 2 2 1 wrote that",
+    "1 is what line 1: 0 0 W 0x0 1 1 0 wrote; it is overwritten by line 2.", "  line 2: 0 1 W 0x0 2 2 1",
+    "> line 3: 1 0 R 0x0 1 3 2"])
 # Texts that are refused: the end of the file's name, the text, and what must be told.
 PLAIN = "RISCV T\n"
 OPENING = "{ 0:x5=1; 0:x6=x; 1:x6=x; }\n P0 | P1 ;\n"
@@ -52,6 +57,7 @@ CELLS = [("lw x7,4(x6)", "8", "offset"), ("fence", "8", "two sets"), ("amoswap.w
          ("sw x6,0(x6)", "11", "the address"), ("lw x7,0(x8)", "12", "lacks")]
 TEXTS = [
     (".litmus", PLAIN + "(* a *)\n" + OPENING + "exists x=0\n", ["line 2, `(* a *)`", "4 BadHeader", "from_herd"]),
+    (".litmus", PLAIN + "\"\u201c\"\n" + OPENING + "exists x=0\n", ["line 2, `\"\\xe2\\x80\\x9c\"`", "3 BadByte"]),
     (".litmus", "AArch64 T\n" + OPENING + "exists x=0\n", ["line 1, `AArch64 T`", "4 BadHeader", "Only `RISCV`"]),
     (".litmus", "RISCV T\n{ [x]=1; }\n P0 ;\nexists x=0\n", ["line 2", "5 BadInitial", "from_herd"]),
     (".litmus", "RISCV T\n{ 0:a0=1; }\n P0 ;\nexists x=0\n", ["line 2", "5 BadInitial", "not a0"]),
@@ -67,7 +73,7 @@ TEXTS = [
     (".trace", "0 ST 0x0 1\n", ["the letter: `ST`", "5 BadOperation", "one capital"]),
     (".trace", "0 R 0x4\n", ["ADDR: `0x4`", "6 BadAddress", "multiple of 8"]),
     (".trace", "0 R 0xA8\n", ["ADDR: `0xA8`", "6 BadAddress", "small letters"]),
-    (".trace", "0 R 0x8\r\n", ["ADDR: `0x8`", "6 BadAddress", "carriage return"]),
+    (".trace", "0 R 0x8\r\n", ["ADDR: `0x8\\x0d`", "6 BadAddress", "carriage return"]),
     (".trace", "0 W 0x8\n", ["VALUE is missing", "7 BadValue", "has a value"]),
     (".trace", "0 W 0x8 0x1\n", ["VALUE: `0x1`", "7 BadValue", "decimal"]),
     (".trace", "0 R 0x8 1\n", ["a field too many: `1`", "8 ExtraWords", "no value"]),
@@ -100,6 +106,7 @@ def verdicts(tester):
     for verdict, texts in rows(TOP / "examples/verdicts.table"):
         out = tester.tells([verdict], *map(of_printf, texts.split("|")), is_good=verdict == "legal")
         tester.expect(out.splitlines()[0] == verdict, f"{texts}: {out}, wanted {verdict}")
+    tester.tells(TWICE[2], TWICE[0].encode(), TWICE[1].encode())
     for line, record, wanted in RECORDS:
         records = [*GOOD[:line - 1], record, *GOOD[line:]]
         tester.tells(wanted, MP.encode(), "\n".join(records).encode())

@@ -19,7 +19,7 @@ import sys
 from pathlib import Path
 from types import SimpleNamespace
 
-from oracle import DEFAULTS
+from reference.given import NUMBERS
 from reference.litmus import Test
 from reference.order import check
 from reference.reports import drive
@@ -27,6 +27,7 @@ from reference.schedules import ADVANCE, Pcg32, Run, by_rounds
 from reference.traces import LETTERS, Fault, Steps, Trace, record_line
 
 OWNING = ("ExRep", "UpgradeRep", "FlushRep", "WbRep")
+DEFAULTS = {name.replace("-", "_"): usual for name, (usual, _) in NUMBERS.items()}
 FAILURES = (AssertionError, AttributeError, IndexError, KeyError, TypeError)
 ROUNDS, TURNS, RUNS = 300, 500, 60
 LETTER_OF = {kind: letter.decode() for letter, kind in LETTERS.items()}

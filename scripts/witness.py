@@ -18,7 +18,7 @@ import program
 from program import TOP, Refused, fail
 
 sys.path.insert(0, str(TOP / "examples"))
-from oracle import DEFAULTS  # noqa: E402
+from reference.given import NUMBERS  # noqa: E402
 
 MOST = 1_000_000  # runs of one report
 NO_STATES = ("stalled", "limit", "exhausted", "memory")
@@ -32,8 +32,8 @@ def words():
     parser.add_argument("--command", default=f"{here} litmus", metavar="WORDS",
                         help="what stands in front of the options in the commands (./tardis litmus)")
     parser.add_argument("--private-write", action="store_true")
-    for option in DEFAULTS:
-        parser.add_argument("--" + option.replace("_", "-"), type=int,
+    for option in (*NUMBERS, "workers"):
+        parser.add_argument("--" + option, type=int,
                             **({"metavar": "FIRST", "help": "the first seed (0)"} if option == "seed" else {}))
     parser.add_argument("TEST")
     parser.error = lambda said: fail(f"{said} (--help tells all)")
@@ -42,8 +42,8 @@ def words():
 
 def passed_on(options):
     """The program's own options, as they were given."""
-    given = [(name, getattr(options, name)) for name in DEFAULTS if name != "seed"]
-    found = [word for name, value in given if value is not None for word in ("--" + name.replace("_", "-"), str(value))]
+    given = [(name, getattr(options, name.replace("-", "_"))) for name in (*NUMBERS, "workers") if name != "seed"]
+    found = [word for name, value in given if value is not None for word in ("--" + name, str(value))]
     return found + ["--private-write"] * options.private_write
 
 

@@ -10,7 +10,7 @@ from pathlib import Path
 
 TOP = Path(__file__).resolve().parent.parent
 # What the kit runs, and what is read by others: no tools.
-OTHERS = {"kit.py", "program.sh"}
+OTHERS = {"explained_texts.py", "kit.py", "program.py", "program.sh"}
 READERS = ["examples/chart.py {}", "examples/merge.py {}", "examples/oracle.py litmus {}",
            "examples/oracle.py trace {}", "examples/page.py {}", "examples/sequential.py {}",
            "examples/steps.py 0x0 {}", "examples/timeline.py {}"]

@@ -1,0 +1,44 @@
+"""The program, as the scripts beside this file call it: what TARDIS names, or else the one that ./tardis built, or else
+the second program (examples/oracle.py), which answers the same in Python, if slower. Failures are told in one line.
+"""
+import os
+import subprocess
+import sys
+from pathlib import Path
+
+TOP = Path(__file__).resolve().parent.parent
+BUILT = TOP / "crates/tardis/out/tardis"
+
+
+def program():
+    return os.environ.get("TARDIS") or str(BUILT if os.access(BUILT, os.X_OK) else TOP / "examples/oracle.py")
+
+
+def fail(said):
+    """Ends the script with this line, and status 2."""
+    print(f"{Path(sys.argv[0]).name}: {said}", file=sys.stderr)
+    sys.exit(2)
+
+
+def run(*words):
+    """What the program prints with these words. If that is nothing, `Refused` has its reason."""
+    try:
+        ran = subprocess.run([program(), *map(str, words)], capture_output=True, encoding="utf-8", errors="replace",
+                             stdin=subprocess.DEVNULL)
+    except OSError as error:
+        fail(f"{program()}: {error.strerror}")
+    if not ran.stdout and ran.returncode:
+        raise Refused(ran.stderr.strip().split("\n")[0].removeprefix("tardis: ").removeprefix("oracle.py: "))
+    return ran.stdout
+
+
+class Refused(Exception):
+    """The program printed nothing; the text is what standard error says."""
+
+
+def text_of(path):
+    """The bytes of a file."""
+    try:
+        return Path(path).read_bytes()
+    except OSError as error:
+        fail(f"{path}: {error.strerror}")

@@ -1,0 +1,169 @@
+#!/usr/bin/env python3
+"""Tries scripts/explain.py: tests/explain.py PROGRAM.
+
+Verdicts and faults come from tables that were written by hand (examples/verdicts.table, examples/bad and
+tests/litmus_faults.table); what is told of them, from the cases below, worked out by hand. The last line is
+`N tried, M wrong`.
+"""
+import os
+import re
+import sys
+import tempfile
+from pathlib import Path
+
+from texts import TOP, Tester, of_printf, rows, unescaped
+
+sys.path.insert(0, str(TOP / "scripts"))
+import explain  # noqa: E402
+import explained_texts  # noqa: E402
+
+MP = "0 W 0x0 1\n0 W 0x8 1\n1 R 0x8\n1 R 0x0\n"
+GOOD = ["0 0 W 0x0 1 1 0", "0 1 W 0x8 1 1 1", "1 0 R 0x8 1 1 2", "1 1 R 0x0 1 1 3"]
+# Message passing with other records: in which line which one stands, and lines that must be told, in this order.
+RECORDS = [
+    (4, "1 1 R 0x0 0 1 3", ["wrong value 3", "records, line 4: 1 1 R 0x0 0 1 3", "received 0, and not 1:",
+                            "  line 1: 0 0 W 0x0 1 1 0 wrote that", "0 is what the word opens with."]),
+    (3, "1 0 R 0x8 1 0 2", ["wrong value 2", "received 1, and not 0:", "no record before it wrote the word",
+                            "1 is what line 2: 0 1 W 0x8 1 1 1 wrote; it comes later in the order."]),
+    (4, "1 1 R 0x0 7 1 3", ["wrong value 3", "received 7, and not 1:", "No record wrote 7 there."]),
+    (4, "1 1 R 0x0 1 0 3", ["out of program order 3",
+                            "Operation 0 (from 0) of core 1 comes next, and this is its operation 1:",
+                            "  line 3 of the trace: 1 R 0x8", "line 3: 1 0 R 0x8 1 1 2, has time 1 and number 2",
+                            "> line 4: 1 1 R 0x0 1 0 3", "  line 3: 1 0 R 0x8 1 1 2"]),
+    (2, "0 1 W 0x8 2 1 1", ["out of program order 1", "Core 0's operation 1 (from 0) is another one in the trace:",
+                            "  line 2 of the trace: 0 W 0x8 1"]),
+    (2, "0 2 W 0x8 1 1 1", ["out of program order 1",
+                            "Operation 1 (from 0) of core 0 comes next, and this is its operation 2:",
+                            "  line 2 of the trace: 0 W 0x8 1", "  no record has it"]),
+    (4, "2 0 R 0x0 1 1 3", ["out of program order 3", "The trace has no operation of core 2."]),
+    (4, "0 2 R 0x0 1 1 3", ["out of program order 3", "Core 0 has 2 operations in the trace, numbered from 0"]),
+    (4, "1 1 R 0x0 1 1 5", ["bad number 3", "their numbers are 0 to 3, each once. None has 3.",
+                            "the record with 3 is missing", "5 is too great: line 4: 1 1 R 0x0 1 1 5."]),
+    (4, "1 1 R 0x0 1 1 1", ["bad number 3", "Two have 1: line 2: 0 1 W 0x8 1 1 1, and line 4: 1 1 R 0x0 1 1 1."]),
+]
+# Two stores of one word, and a load of the first one behind both.
+TWICE = ("0 W 0x0 1\n0 W 0x0 2\n1 R 0x0\n", "0 0 W 0x0 1 1 0\n0 1 W 0x0 2 2 1\n1 0 R 0x0 1 3 2\n", [
+    "wrong value 2", "received 1, and not 2:", "  line 2: 0 1 W 0x0 2 2 1 wrote that",
+    "1 is what line 1: 0 0 W 0x0 1 1 0 wrote; it is overwritten by line 2.", "  line 2: 0 1 W 0x0 2 2 1",
+    "> line 3: 1 0 R 0x0 1 3 2"])
+# Texts that are refused: the end of the file's name, the text, and what must be told.
+PLAIN = "RISCV T\n"
+OPENING = "{ 0:x5=1; 0:x6=x; 1:x6=x; }\n P0 | P1 ;\n"
+CELLS = [("lw x7,4(x6)", "8", "offset"), ("fence", "8", "two sets"), ("amoswap.w.aq.rl x7,x5,(x6)", "8", "as both"),
+         ("amoadd.w x7,x5,(x6)", "8", "one atomic"), ("lw a0,0(x6)", "8", "x0 to x31"),
+         ("bne x5,x0,L", "8", "No branches"),
+         ("li x5,-1", "8", "decimal"), ("li x5,0x1", "8", "decimal"), ("xor x7,x5,x5", "8", "no arithmetic"),
+         ("ori x5,x0,4000", "9", "2047"), ("li x5,2147483648", "9", "2147483647"), ("sd x5,0(x6)", "10", "`lw`, `sw`"),
+         ("sw x6,0(x6)", "11", "the address"), ("lw x7,0(x8)", "12", "lacks")]
+TEXTS = [
+    (".litmus", PLAIN + "(* a *)\n" + OPENING + "exists x=0\n", ["line 2, `(* a *)`", "4 BadHeader", "from_herd"]),
+    (".litmus", PLAIN + "\"\u201c\"\n" + OPENING + "exists x=0\n", ["line 2, `\"\\xe2\\x80\\x9c\"`", "3 BadByte"]),
+    (".litmus", "AArch64 T\n" + OPENING + "exists x=0\n", ["line 1, `AArch64 T`", "4 BadHeader", "Only `RISCV`"]),
+    (".litmus", "RISCV T\n{ [x]=1; }\n P0 ;\nexists x=0\n", ["line 2", "5 BadInitial", "from_herd"]),
+    (".litmus", "RISCV T\n{ 0:a0=1; }\n P0 ;\nexists x=0\n", ["line 2", "5 BadInitial", "not a0"]),
+    (".litmus", PLAIN + OPENING + "Exists x=0\n", ["line 4, `Exists x=0`", "7 BadTable", "begins with `exists`"]),
+    (".litmus", PLAIN + OPENING + "locations [x;]\n", ["line 4", "7 BadTable", "from_herd"]),
+    (".litmus", PLAIN + OPENING + "li x5,2; li x7,2 | ;\nexists x=0\n", ["line 4", "7 BadTable", "one instruction"]),
+    (".litmus", PLAIN + OPENING + "exists [x]=0\n", ["line 4", "13 BadCondition", "from_herd"]),
+    (".litmus", PLAIN + OPENING + "exists x=0 && x=1\n", ["line 4", "13 BadCondition", "Atoms are"]),
+    (".litmus", PLAIN + OPENING, ["line 3", "14 CutShort", "The condition"]),
+    (".trace", "0 R 0x0\n16 R 0x8\n", ["line 2, `16 R 0x8`, CORE: `16`", "4 BadCore", "`trace 2`"]),
+    (".trace", "0,R,0x0\n", ["line 1", "CORE: `0,R,0x0`", "not commas"]),
+    (".trace", "0 A\n", ["the letter: `A`", "5 BadOperation", "`trace 2`"]),
+    (".trace", "0 ST 0x0 1\n", ["the letter: `ST`", "5 BadOperation", "one capital"]),
+    (".trace", "0 R 0x4\n", ["ADDR: `0x4`", "6 BadAddress", "multiple of 8"]),
+    (".trace", "0 R 0xA8\n", ["ADDR: `0xA8`", "6 BadAddress", "small letters"]),
+    (".trace", "0 R 0x8\r\n", ["ADDR: `0x8\\x0d`", "6 BadAddress", "carriage return"]),
+    (".trace", "0 W 0x8\n", ["VALUE is missing", "7 BadValue", "has a value"]),
+    (".trace", "0 W 0x8 0x1\n", ["VALUE: `0x1`", "7 BadValue", "decimal"]),
+    (".trace", "0 R 0x8 1\n", ["a field too many: `1`", "8 ExtraWords", "no value"]),
+    (".trace", "trace 3\n", ["what follows `trace`: `3`", "9 BadForm", "only form"]),
+]
+
+
+class Explainer(Tester):
+    """Asks the script about texts, in files of a folder."""
+
+    def __init__(self, folder):
+        super().__init__(str(TOP / "scripts/explain.py"))
+        self.folder = folder
+
+    def tells(self, wanted, *texts, names=("trace", "records"), is_good=False):
+        """These words are told, in this order."""
+        paths = [Path(self.folder, name) for name, _ in zip(names, texts)]
+        for path, text in zip(paths, texts):
+            path.write_bytes(text)
+        lines, is_wrong = explain.explained(list(map(str, paths)))
+        out, at, good = "\n".join(lines), 0, is_wrong != is_good
+        for words in wanted:
+            found = out.find(words, at)
+            at, good = found + len(words), good and found >= 0
+        self.expect(good, f"{texts}: {out}, wanted {wanted}")
+        return out
+
+
+def verdicts(tester):
+    for verdict, texts in rows(TOP / "examples/verdicts.table"):
+        out = tester.tells([verdict], *map(of_printf, texts.split("|")), is_good=verdict == "legal")
+        tester.expect(out.splitlines()[0] == verdict, f"{texts}: {out}, wanted {verdict}")
+    tester.tells(TWICE[2], TWICE[0].encode(), TWICE[1].encode())
+    for line, record, wanted in RECORDS:
+        records = [*GOOD[:line - 1], record, *GOOD[line:]]
+        tester.tells(wanted, MP.encode(), "\n".join(records).encode())
+
+
+def told_fault(fault):
+    """What must be told of a fault `line 6: 8 BadInstruction`."""
+    line, kind = fault.split(": ")
+    return [f", {line}, ", f"  {kind}: "]
+
+
+def faults(tester):
+    for fault, text in rows(TOP / "tests/litmus_faults.table"):
+        tester.tells(told_fault(fault), unescaped(text), names=["text.litmus"])
+    for table, names in (("traces.table", ["text.trace"]), ("records.table", ["none.trace", "text.records"])):
+        for fault, text in rows(TOP / "examples/bad" / table):
+            tester.tells(told_fault(fault), *[b""] * (len(names) - 1), of_printf(text), names=names)
+
+
+def causes(tester):
+    for cell, kind, meant in CELLS:
+        text = f"RISCV T\n{OPENING} sw x5,0(x6) | ;\n | {cell} ;\nexists x=0\n"
+        tester.tells([f"line 5, P1: `{cell}`", f"  {kind} ", meant], text.encode(), names=["text.litmus"])
+    for ending, text, wanted in TEXTS:
+        tester.tells(wanted, text.encode(), names=["text" + ending])
+    for title, kinds in (("Litmus tests", explained_texts.TEST),
+                         ("Texts of traces and of records", explained_texts.LINES)):
+        section = (TOP / "docs/TEXTS.md").read_text().split(f"\n## {title}")[1].split("\n## ")[0]
+        for number, often in re.findall(r"(?m)^\| (\d+) \| \w+ \| .* \| (.*?) \|$", section):
+            meant = " ".join(dict.fromkeys(words for _, words in kinds.get(int(number), [(None, "-")])))
+            tester.expect(often == meant, f"docs/TEXTS.md, {title}, {number}: {often}, and the script has {meant}")
+
+
+def others(tester):
+    tester.tells(["nothing is wrong"], MP.encode(), names=["good.trace"], is_good=True)
+    test = (TOP / "examples/litmus/SB.litmus").read_bytes()
+    tester.tells(["nothing is wrong"], test, names=["SB.litmus"], is_good=True)
+    traces = str(TOP / "examples/traces/PAST.trace"), str(TOP / "examples/traces/SWAP-LOCK.records")
+    for words, wanted in (((traces[0],), 0), (traces, 1)):
+        status, out, error = tester.run(*words)
+        tester.expect((status, error) == (wanted, "") and out, f"{words}: {status} {out} {error}")
+    for words in ([], ["--nothing"], ["none.trace"], ["none.trace", "none.records"], [tester.folder]):
+        status, out, error = tester.run(*words)
+        tester.expect((status, out, error.count("\n")) == (2, "", 1), f"{words}: {status} {out} {error}")
+    status, out, error = tester.run("--help")
+    tester.expect((status, error) == (0, "") and "TRACE RECORDS" in out, f"--help: {status} {error}")
+
+
+def main(program):
+    os.environ["TARDIS"] = os.path.abspath(program)
+    with tempfile.TemporaryDirectory() as folder:
+        tester = Explainer(folder)
+        for part in (verdicts, faults, causes, others):
+            part(tester)
+    print(f"{tester.tried} tried, {tester.wrong} wrong")
+    return int(tester.wrong > 0)
+
+
+if __name__ == "__main__":
+    sys.exit(main(sys.argv[1]) if len(sys.argv) == 2 else __doc__)

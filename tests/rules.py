@@ -1,0 +1,136 @@
+#!/usr/bin/env python3
+"""Tries examples/try_rule.py: tests/rules.py.
+
+Each wrong rule below is made in a copy of the second program, and must be found there. What is wrong of its records is
+judged by the checker of the tree, which isn't changed. Rules that only differ must be found nothing wrong of. What each
+may lead to, and the most operations and advances that its history needs, was worked out by hand. The last line is
+`N tried, M wrong`.
+"""
+import shutil
+import subprocess
+import sys
+import tempfile
+from concurrent.futures import ThreadPoolExecutor
+from os import cpu_count
+from pathlib import Path
+
+TOP = Path(__file__).resolve().parent.parent
+sys.path.insert(0, str(TOP / "examples"))
+from reference.order import check  # noqa: E402
+from reference.traces import Trace, read_records  # noqa: E402
+
+VALUE, OWNERS, FAILS, STUCK = "wrong value", "two owners", "the machine fails", "a round in which nothing goes on"
+# What is wrong, what it may lead to, and what stands in machine.py with what takes its place.
+WRONG = [
+    ("an owner's load doesn't extend the lease", VALUE, 5, [
+        ("                copy.rts = max(copy.rts, time)\n", "                pass\n")]),
+    ("a store takes the end of the lease, and no later time", VALUE, 5, [
+        ("copy.rts if private else fit(copy.rts + 1)", "copy.rts")]),
+    ("no copy has version 0", FAILS, 2, [("version=copy and copy.wts", "version=copy.wts if copy else 0")]),
+    ("a line comes from DRAM with time 0", VALUE, 6, [
+        ("e.wts = e.rts = self.mts[m.line % self.o.banks]", "e.wts = e.rts = 0")]),
+    ("a dirty line leaves the bank without a store", VALUE, 4, [("        if e.dirty:\n", "        if False:\n")]),
+    ("a load of a line overtakes its store", VALUE, 5, [
+        ('            e.state = "Storing"\n', "            entries.remove(e)\n"),
+        ("        e, entries = self.find(m.line, self.bank_set(m.line))\n        assert e.state in",
+         '        e, entries = self.find(m.line, self.bank_set(m.line))\n        if m.kind == "DramStRep":\n'
+         '            return "Delivered"\n        assert e.state in')]),
+    ("a copy to read is read past its lease", VALUE, 6, [
+        ('kind == "load" and core.pts <= copy.rts', 'kind == "load"')]),
+    ("a recall that overtakes its grant is dropped", STUCK, 3, [
+        ("if self.line_at(m.core) == m.line:\n            return",
+         "if self.line_at(m.core) == m.line and copy:\n            return")]),
+    ("a line that is owned is granted again", OWNERS, 3, [
+        ('if e.state == "Exclusive":\n            until', 'if e.state == "Exclusive" and load:\n            until'),
+        ('if e.state != "Shared":\n            return "Held"', 'if e.state in UNDER_WAY:\n            return "Held"')]),
+    ("a swap receives what it stores", VALUE, 1, [
+        ('received = copy.words[index] if kind != "store" else None',
+         'received = dict(load=copy.words[index], swap=value, store=None)[kind]')]),
+    ("a lease forgets those that were given before", VALUE, 6, [
+        ("e.rts = max(e.rts, fit(e.wts + lease), ", "e.rts = max(fit(e.wts + lease), ")]),
+    ("under private writes a grant leaves a copy written", VALUE, 6, [
+        ('copy.state, copy.written = "Exclusive", False', 'copy.state = "Exclusive"'),
+        ('copy.state, copy.written = "Shared", False', 'copy.state = "Shared"')]),
+]
+SOUND = [
+    ("the rules as they are", []),
+    ("a renewal goes further", [
+        ("fit(m.pts + lease))\n        else", "fit(m.pts + (2 * lease if same else lease)))\n        else")]),
+    ("a store takes a later time than it must", [("else fit(copy.rts + 1)", "else fit(copy.rts + 3)")]),
+]
+
+
+def changed(folder, changes):
+    """A copy of the second program with these changes."""
+    copy = Path(folder, "mine")
+    shutil.copytree(TOP / "examples/reference", copy / "reference", ignore=shutil.ignore_patterns("__pycache__"))
+    for name in ("oracle.py", "try_rule.py"):
+        shutil.copy(TOP / "examples" / name, copy / name)
+    machine = copy / "reference/machine.py"
+    text = machine.read_text(encoding="utf-8")
+    for old, new in changes:
+        assert text.count(old) == 1, f"{old!r} stands {text.count(old)} times in machine.py"
+        text = text.replace(old, new)
+    machine.write_text(text, encoding="utf-8")
+    return copy
+
+
+def ran(changes, *words):
+    """The status of the script on a copy, what it prints, and what the command does that it prints last."""
+    with tempfile.TemporaryDirectory() as folder:
+        copy = changed(folder, changes)
+        done = subprocess.run([copy / "try_rule.py", *words], capture_output=True, text=True, timeout=120)
+        again = None
+        if done.returncode == 1:
+            again = subprocess.run(done.stdout.splitlines()[-1], shell=True, capture_output=True, text=True, timeout=60)
+        return done.returncode, done.stdout + done.stderr, again
+
+
+def faults(may_be, most, status, out, again):
+    """What isn't so of what was printed of a wrong rule."""
+    lines = out.splitlines()
+    if status != 1 or not lines[0].startswith(may_be):
+        yield f"status {status}, {lines[:1]}, not {may_be}"
+        return
+    middle = lines.index("has the records, as far as it came:")
+    trace = Trace("\n".join(lines[1:middle]).encode())
+    records = read_records("\n".join(lines[middle + 1:-2]).encode())
+    verdict = check({}, trace.issued(), records)
+    if may_be == VALUE and not lines[0].startswith(f"{verdict}: "):
+        yield f"{lines[0]}, and its records are {verdict}"
+    if sum(map(len, trace.steps)) > most:
+        yield f"{sum(map(len, trace.steps))} steps, and {most} are enough: {lines[1:middle]}"
+    told = again.stderr + again.stdout
+    if may_be == VALUE and f"order {verdict}" not in told or may_be == FAILS and "Traceback" not in told or not told:
+        yield f"{lines[-1]} doesn't show it: {told[-200:]}"
+
+
+def refusals():
+    """What isn't so of words and files that are refused."""
+    script = str(TOP / "examples/try_rule.py")
+    for words in (["none.trace"], ["--tries"], [str(TOP / "examples/bad/SB-cut.litmus")], [str(TOP)]):
+        done = subprocess.run([script, *words], capture_output=True, text=True, timeout=60)
+        if (done.returncode, done.stdout, done.stderr.count("\n")) != (2, "", 1):
+            yield f"{words}: {done.returncode} {done.stdout} {done.stderr}"
+    names = [str(TOP / "examples" / name) for name in ("litmus/SB.litmus", "traces/PAST.trace")]
+    done = subprocess.run([script, "--tries", "40", *names], capture_output=True, text=True, timeout=60)
+    if done.returncode or not done.stdout.startswith("40 tries: all legal"):
+        yield f"{names}: {done.stdout} {done.stderr}"
+
+
+def main():
+    wrong = list(refusals())
+    pool = ThreadPoolExecutor(cpu_count())
+    for (name, may_be, most, _), of in zip(WRONG, pool.map(lambda rule: ran(rule[3]), WRONG)):
+        wrong += [f"{name}: {fault}" for fault in faults(may_be, most, *of)]
+        if "-v" in sys.argv:
+            print(f"== {name}\n{of[1]}")
+    for (name, _), (status, out, _) in zip(SOUND, pool.map(lambda rule: ran(rule[1], "--tries", "300"), SOUND)):
+        if status or not out.startswith("300 tries: all legal"):
+            wrong.append(f"{name}: {status} {out}")
+    print("\n".join([*wrong, f"{5 + len(WRONG) + len(SOUND)} tried, {len(wrong)} wrong"]))
+    return int(bool(wrong))
+
+
+if __name__ == "__main__":
+    sys.exit(main())

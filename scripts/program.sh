@@ -27,7 +27,7 @@ build() {
     say "the program isn't built, or a source is newer. All that it stands on is proved first, which takes many"
     say "minutes once ('./$self --unproved ..' answers in a minute or two, without any proof)."
     "$top/scripts/build.py" "$built" || return 1
-    said=$(cd -- "$top/crates/$built" && rt run -- "$@" </dev/null 2>&1) || {
+    said=$(cd -- "$top/crates/$built" && "$top/scripts/kit.py" run -- "$@" </dev/null 2>&1) || {
         printf '%s\n' "$said" >&2
         return 1
     }
@@ -54,7 +54,7 @@ run_unproved() {
     say "nothing is proved of this run. The program is compiled from the sources as they lie here: that takes a minute"
     say "or two, longer beside other work, and anew each time ($without)."
     cd -- "$top/crates/$tried" && {
-        { rt try -- "$@" 2>&1 >&3; echo "ended $?"; } | tell_errors
+        { "$top/scripts/kit.py" try -- "$@" 2>&1 >&3; echo "ended $?"; } | tell_errors
     } 3>&1
 }
 

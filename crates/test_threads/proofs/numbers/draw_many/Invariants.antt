@@ -1,4 +1,4 @@
-use Rattle.std.proofs.Common.{◌≡◌, ◌<◌}
+use Rattle.std.proofs.Common.{◌≡◌}
 use Rattle.drawn_numbers.specs.Drawers.{IsDrawerOf}
 use Rattle.test_threads.proofs.numbers.draw_many.Given as goal
 

@@ -3,7 +3,7 @@ use Rattle.std.specs.Prelude.{ℕ, ◌-◌, ◌%◌, ◌==◌, cond, nat_lt, Som
 use Rattle.inbox.specs.declared.answer.Answer.{Answer}
 use Rattle.inbox.specs.declared.answer.Answer.TheVariants.{Delivered, Held, Refused}
 use Rattle.inbox.specs.declared.answer.Refusal.TheVariants.{Full}
-use Rattle.test_parts.specs.declared.unmet.Clerk.{Clerk}
+use Rattle.test_parts.specs.declared.clerks.Clerk.{Clerk}
 
 -- even messages wait; an odd one is delivered if there is a place for the even one before it, which it sends
 abbrev pub clerk_table : Clerk → ℕ → ℕ → Answer ℕ × Clerk

@@ -2,6 +2,7 @@
 //! Then cases that no machine brings a part to, and the numbers of errors.
 #![tactic(auto)]
 
+pub mod clerks;
 #[cfg(test)]
 mod drops;
 #[cfg(test)]

@@ -1,6 +1,7 @@
 //! Cases that no machine brings a part to: messages from or to nodes of another kind, one line more than a set has room
 //! for, and a message in the hand that is delivered and sends one to its own held list.
-use inbox::{Answer, Inbox, Receiver, Refusal, Served};
+use crate::clerks::Clerk;
+use inbox::{Inbox, Served};
 use network::{Body, LineNo, Message, Node, TimedLine, Words, has_endpoints};
 use private_cache::{Cache, CacheError, CopyState, Geometry};
 use std::alloc::{AllocError, Global};
@@ -71,34 +72,6 @@ fn is_full(alloc: Global) -> Result<bool, AllocError> {
 #[test]
 fn a_full_set_takes_no_line(rt: HostRuntime) {
     assert_eq!(rt; is_full(rt.alloc()), Ok(true));
-}
-
-/// A part to which even messages wait. An odd one is delivered, and sends the even one before it to the held list.
-#[derive(Drop)]
-pub struct Clerk {
-    pub last: u64,
-}
-
-impl Receiver<u64> for Clerk {
-    ghost use Rattle.std.specs.Prelude.{true, false};
-    ghost use Rattle.test_parts.specs.Clerks.{clerk_table};
-
-    ghost has_case = { λ _ _. true };
-
-    ghost table = { clerk_table };
-
-    ghost takes_memory = { λ _ _. false };
-
-    fn deliver(&mut self, message: &u64, places: u32) -> Answer<u64> {
-        if *message % 2 == 0 {
-            return Answer::Held;
-        }
-        if places < 1 {
-            return Answer::Refused(Refusal::Full);
-        }
-        self.last = *message;
-        Answer::Delivered(Some(*message - 1))
-    }
 }
 
 /// Whether the message 7 in the hand is delivered past so many that wait, and the 6 that it sends is held behind them.

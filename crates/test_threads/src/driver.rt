@@ -8,7 +8,6 @@ use mailboxes::Run;
 use physiological_order::Memory;
 use programs::End;
 use std::alloc::{AllocError, Global};
-use std::mem::forget;
 use std::thread::Threads;
 use thread_driver::{ThreadRun, run_threads};
 
@@ -67,11 +66,7 @@ pub(crate) fn end_of<R: Threads + Sync>(
     let memory = Memory::new(alloc);
     let limit = case.turn_limit;
     match run_threads(rt, alloc, config, memory, scripts, workers, limit, gate) {
-        Ok(ThreadRun { end, run, .. }) => {
-            // To drop all parts of a machine would take as long to prove as the rest of this crate.
-            forget(run);
-            Some(end)
-        }
+        Ok(ThreadRun { end, .. }) => Some(end),
         Err(_) => None,
     }
 }

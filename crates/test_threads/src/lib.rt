@@ -8,8 +8,7 @@ mod driver;
 mod jobs;
 #[cfg(test)]
 mod numbers;
-#[cfg(test)]
-mod script;
+pub mod script;
 #[cfg(test)]
 mod turn_counts;
 #[cfg(test)]

@@ -218,8 +218,10 @@ one_message_by_threads() {
         "$examples/traces/ONE-MESSAGE.trace"
 }
 
-# as_by_oracle: of each row FILE|WORD|.. the program says with the words what examples/oracle.py says with them.
+# as_by_oracle WORDS..: of each row FILE|WORD|.. the program says with its words, and these, what examples/oracle.py
+# says with the row's.
 as_by_oracle() {
+    more=$*
     "$examples/oracle.py" --rows <"$work/rows" || count no
     while IFS='|' read -r wanted words; do
         set -f
@@ -228,7 +230,8 @@ as_by_oracle() {
         set -- $words
         unset IFS
         set +f
-        told "$*" "$(cat "$wanted.status")" "$wanted" /dev/null "$@"
+        # shellcheck disable=SC2086
+        told "$* $more" "$(cat "$wanted.status")" "$wanted" /dev/null "$@" $more
     done <"$work/rows"
     rm -f "$work/rows" "$work"/wanted.*
 }
@@ -263,6 +266,38 @@ by_one_worker() {
         of_one_worker trace --records $(options_by_threads "$file") "$file"
     done
     as_by_oracle
+}
+
+# up_to_40_turns FILE WORDS..: rows of a trace after each number of turns, from 1 on: its report and its records.
+up_to_40_turns() {
+    file=$1
+    shift
+    for limit in $(seq 40); do
+        of_one_worker trace "$@" --limit "$limit" "$file"
+        of_one_worker trace --records "$@" --limit "$limit" "$file"
+    done
+}
+
+# In which turn a step is begun, and in which it is done: store buffering, advances, a bank with one place, a private
+# cache with one, a time that is the last one, and a lease that doesn't fit behind it.
+turn_by_turn() {
+    last='--time 18446744073709551614'
+    printf '0 W 0x0 1\n0 R 0x8\n1 W 0x8 1\n1 R 0x0\n' >"$work/buffering"
+    printf 'trace 2\n0 A\n0 A\n0 W 0x0 1\n0 A\n0 R 0x0\n' >"$work/advances"
+    printf '0 R 0x0\n0 R 0x8\n0 R 0x10\n' >"$work/loads"
+    printf '0 W 0x0 1\n0 R 0x0\n0 R 0x0\n0 R 0x0\n0 R 0x0\n0 R 0x0\n0 W 0x0 2\n1 W 0x8 3\n1 R 0x8\n' >"$work/last"
+    up_to_40_turns "$work/buffering"
+    up_to_40_turns "$work/advances"
+    up_to_40_turns "$work/loads" --bank-sets 1 --bank-ways 1
+    # shellcheck disable=SC2086
+    up_to_40_turns "$work/last" $last
+    # shellcheck disable=SC2086
+    up_to_40_turns "$work/loads" $last --banks 2
+    as_by_oracle
+    # Of two workers one has core 0 and the bank, and core 1 advances once. So nobody else says when a step is done.
+    printf 'trace 2\n1 A\n0 R 0x0\n0 R 0x8\n0 W 0x10 5\n0 A\n0 R 0x0\n0 R 0x10\n' >"$work/alone"
+    up_to_40_turns "$work/alone" --sets 1 --ways 1
+    as_by_oracle --workers 2
 }
 
 # is_at NUMBER: whether the file that is looked at is one of each NUMBER, counted by `at`.
@@ -310,13 +345,78 @@ by_more_workers() {
     judge
 }
 
+# pattern CORES WORDS OPERATIONS OPTIONS..: a trace with these options. Each core loads, stores and swaps on words of
+# all banks, the first time on that of its own number. No two write the same value.
+pattern() {
+    cores=$1 words=$2 operations=$3
+    shift 3
+    printf '# options=%s\ntrace 2\n' "$*"
+    awk -v cores="$cores" -v words="$words" -v operations="$operations" 'BEGIN {
+        for (place = 0; place < operations; place++) for (core = 0; core < cores; core++) {
+            address = 8 * ((core + 5 * place) % words)
+            value = 64 * (place + 1) + core
+            kind = (core + place) % 4
+            if (kind < 2) printf "%d %s 0x%x %d\n", core, kind ? "S" : "W", address, value
+            else printf "%d R 0x%x\n", core, address
+        }
+    }'
+}
+
+# to_the_end TRACE WORKERS: what trace_by_threads asks, and all is done.
+to_the_end() {
+    trace_by_threads "$1" "$2"
+    good=yes
+    must "$name: not all done" [ "$got" -eq 0 ]
+    count "$good"
+}
+
+# Up to 16 workers. Where banks have a place for each line, a run that has turns enough comes to its end, whichever
+# worker has the processor; where they haven't, how far it comes isn't known.
+by_many_workers() {
+    least='--sets 2 --ways 1 --line-words 1'
+    # shellcheck disable=SC2086
+    pattern 64 128 16 --banks 8 $least --bank-sets 16 --bank-ways 2 --limit 4294967295 >"$work/many"
+    # shellcheck disable=SC2086
+    pattern 64 128 1000 --banks 8 $least --bank-sets 16 --bank-ways 2 --limit 1000 >"$work/begun"
+    # shellcheck disable=SC2086
+    pattern 4 16 4000 --banks 2 $least --bank-sets 4 --bank-ways 1 --limit 4000 >"$work/crowded"
+    pattern 5 4 7 --banks 2 --limit 4294967295 >"$work/five"
+    to_the_end "$work/many" 16
+    trace_by_threads "$work/begun" 16
+    trace_by_threads "$work/crowded" 4
+    for number in $(seq 16); do
+        to_the_end "$work/five" "$number"
+    done
+    judge
+}
+
+# exhausted TRACE LEAST MOST: by two workers a seat stops, after so many operations were completed.
+exhausted() {
+    by_threads trace --workers 2 --limit 4294967295 --time 18446744073709551614 "$1"
+    must "${1##*/} by two workers: not exhausted" has 'end exhausted'
+    must "${1##*/} by two workers: not legal" has 'order legal'
+    must "${1##*/} by two workers: completed" [ "$(number_of completed)" -ge "$2" ]
+    must "${1##*/} by two workers: completed" [ "$(number_of completed)" -le "$3" ]
+    count "$good"
+}
+
+# The seat that stops is core 0's, which stores after the last time, or the bank's, which has no lease for either core.
+seats_that_stop() {
+    printf '0 R 0x0\n1 R 0x8\n' >"$work/loads"
+    exhausted "$work/last" 6 8
+    exhausted "$work/loads" 0 0
+}
+
 threads() {
     rows=0
     echo legal >"$work/legal"
     buffering_by_threads
     one_message_by_threads
     by_one_worker
+    turn_by_turn
     by_more_workers
+    by_many_workers
+    seats_that_stop
 }
 
 refusals() {

@@ -8,5 +8,3 @@ pub mod drive;
 pub mod litmus;
 pub mod names;
 pub mod program;
-#[cfg(test)]
-mod tests;

@@ -1,20 +1,13 @@
-//! Tests of what only code can say of a machine's parts: orders of many lines, messages by number, endpoints, maps from
-//! numbers, numbers of errors, a memory of many words. The rest is in the texts of crates/play_events/data.
+//! Tests of what no contract and no text can say of a machine's parts. Values are dropped once, and slots given back.
+//! Then cases that no machine brings a part to, and the numbers of errors.
 #![tactic(auto)]
 
+pub mod clerks;
 #[cfg(test)]
-mod caches;
-#[cfg(test)]
-mod endpoints;
-#[cfg(test)]
-mod messages;
-#[cfg(test)]
-mod number_maps;
+mod drops;
 #[cfg(test)]
 mod numbers;
 #[cfg(test)]
-mod opening_words;
+mod slots;
 #[cfg(test)]
-mod orders;
-#[cfg(test)]
-mod sets;
+mod unmet;

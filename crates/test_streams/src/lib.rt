@@ -1,14 +1,16 @@
-//! What only code can say of streams, texts, records, errors and command lines. There are readers and writers that give
-//! and take little, and some that fail; numbers that no run has; options that no machine takes.
+//! What only code can say of streams and texts: readers and writers that move few bytes a call or fail. Then what errors
+//! are called, a report on sums that no run has, and what the uses of docs/USES.md give.
 #![tactic(auto)]
 
 #[cfg(test)]
 mod errors;
 #[cfg(test)]
-mod records;
+mod limited;
 #[cfg(test)]
-mod tests;
+mod streams;
+#[cfg(test)]
+mod sums;
 #[cfg(test)]
 mod traces;
 #[cfg(test)]
-mod words;
+mod uses;

@@ -1,13 +1,15 @@
 //! Texts of traces and of records that come a few bytes a call, and devices that fail on the way.
+use crate::limited::Limited;
 use byte_streams::FromRead;
 use physiological_order::Op;
 use std::alloc::Global;
-use std::test::Fail;
-use test_devices::Limited;
 use trace_reader::{Kind, Step, TraceError, read, read_records};
 
-// What is read of a trace: how many cores it has, and how many steps and operations its last core; or the fault.
-type Sizes = Result<(u32, usize, usize), TraceError>;
+// What is read of a trace: how many cores it has, and how many steps and operations its last core. Of records it is how
+// many there are. Or it is the fault, with its line.
+type Sizes = Result<(u32, usize, usize), (usize, Kind)>;
+
+type Count = Result<usize, (usize, Kind)>;
 
 // A text that comes so many bytes a call, where so many calls succeed.
 fn source(text: &[u8], step: usize, calls: u32) -> FromRead<Limited<&[u8]>> {
@@ -18,25 +20,25 @@ fn source(text: &[u8], step: usize, calls: u32) -> FromRead<Limited<&[u8]>> {
     })
 }
 
+fn told(error: TraceError) -> (usize, Kind) {
+    (error.line, error.kind)
+}
+
 fn sizes(alloc: Global, text: &[u8], step: usize, calls: u32) -> Sizes {
     // The check finds what a step holds only where the function names its type.
     let _inside: Option<(Step, Op)> = None;
-    let trace = read(alloc, &mut source(text, step, calls))?;
+    let trace = read(alloc, &mut source(text, step, calls)).map_err(told)?;
     let (cores, last) = (trace.cores(), trace.cores() - 1);
     Ok((cores, trace.steps(last).len(), trace.ops(last).len()))
 }
 
-fn record_count(alloc: Global, text: &[u8], step: usize, calls: u32) -> Result<usize, TraceError> {
+fn record_count(alloc: Global, text: &[u8], step: usize, calls: u32) -> Count {
     let _inside: Option<Op> = None;
-    let records = read_records(alloc, &mut source(text, step, calls))?;
+    let records = read_records(alloc, &mut source(text, step, calls)).map_err(told)?;
     Ok(records.len())
 }
 
-fn fault<T>(line: usize, kind: Kind) -> Result<T, TraceError> {
-    Err(TraceError { line, kind })
-}
-
-// Texts of traces: the ends of lines, comments and words lie between two calls.
+// Texts of traces: the ends of lines, comments and words lie between two calls. Some are refused.
 const TRACES: &[(&[u8], Sizes)] = &[
     (b"", Ok((1, 0, 0))),
     (b"trace 2", Ok((1, 0, 0))),
@@ -53,21 +55,19 @@ const TRACES: &[(&[u8], Sizes)] = &[
     ),
     (b"trace 2\n2 R 0x0\n2 A\n", Ok((3, 2, 1))),
     (b"0 R 0x0\n0 W 0x8 7", Ok((1, 2, 2))),
+    (b"16 R 0x0", Err((1, Kind::BadCore))),
+    (b"0 R 0x0\r0 R 0x8\n", Err((1, Kind::BadAddress))),
+    (b"0 R 0x0\n\r\n", Err((2, Kind::BadCore))),
+    (b"\n# a comment\ntrace 1\n", Err((3, Kind::BadForm))),
+    (b"0 R 0x0\n0 R 0x0\n0 R 0x0\n\xff", Err((4, Kind::BadCore))),
 ];
 
-// Texts of traces that are refused, each with its line.
-const BAD_TRACES: &[(&[u8], usize, Kind)] = &[
-    (b"16 R 0x0", 1, Kind::BadCore),
-    (b"0 R 0x0\r0 R 0x8\n", 1, Kind::BadAddress),
-    (b"0 R 0x0\n\r\n", 2, Kind::BadCore),
-    (b"\n# a comment\ntrace 1\n", 3, Kind::BadForm),
-    (b"0 R 0x0\n0 R 0x0\n0 R 0x0\n\xff", 4, Kind::BadCore),
-];
-
-const BAD_RECORDS: &[(&[u8], usize, Kind)] = &[
-    (b"0 4294967296 R 0x0 0 0 0", 1, Kind::BadValue),
-    (b"\n0 0 R 0x0 0 0 0\n#\n0 1", 4, Kind::BadOperation),
-    (b"0 0 R 0x0 0 0 0\r\n", 1, Kind::BadValue),
+// Texts of records.
+const RECORDS: &[(&[u8], Count)] = &[
+    (b"0 0 R 0x0 0 0 0\n#\n", Ok(1)),
+    (b"0 4294967296 R 0x0 0 0 0", Err((1, Kind::BadValue))),
+    (b"\n0 0 R 0x0 0 0 0\n#\n0 1", Err((4, Kind::BadOperation))),
+    (b"0 0 R 0x0 0 0 0\r\n", Err((1, Kind::BadValue))),
 ];
 
 #[test]
@@ -76,11 +76,8 @@ fn texts_come_in_few_bytes(rt: HostRuntime) {
         for (text, wanted) in TRACES {
             assert!(rt; sizes(rt.alloc(), text, step, 99) == *wanted);
         }
-        for (text, line, kind) in BAD_TRACES {
-            assert!(rt; sizes(rt.alloc(), text, step, 99) == fault(*line, *kind));
-        }
-        for (text, line, kind) in BAD_RECORDS {
-            assert!(rt; record_count(rt.alloc(), text, step, 99) == fault(*line, *kind));
+        for (text, wanted) in RECORDS {
+            assert!(rt; record_count(rt.alloc(), text, step, 99) == *wanted);
         }
     }
 }
@@ -93,31 +90,19 @@ const RECORD: &[u8] = b"0 0 R 0x0 0 0 0\n#\n";
 #[test]
 fn devices_that_fail(rt: HostRuntime) {
     for calls in 0..10 {
-        assert!(rt; sizes(rt.alloc(), TRACE, 2, calls) == fault(0, Kind::Read));
-        assert!(rt; record_count(rt.alloc(), RECORD, 2, calls) == fault(0, Kind::Read));
+        let trace = sizes(rt.alloc(), TRACE, 2, calls);
+        let records = record_count(rt.alloc(), RECORD, 2, calls);
+        assert!(rt; trace == Err((0, Kind::Read)) && records == Err((0, Kind::Read)));
     }
-    assert!(rt; sizes(rt.alloc(), TRACE, 2, 10) == Ok((2, 1, 1)));
-    assert!(rt; record_count(rt.alloc(), RECORD, 2, 10) == Ok(1));
 }
 
 // A fault is answered before a device fails that has brought it.
 #[test]
 fn faults_before_a_failure(rt: HostRuntime) {
     let text = b"0 X 0x0\n0 R 0x0\n";
-    assert!(rt; sizes(rt.alloc(), text, 8, 1) == fault(1, Kind::BadOperation));
-    assert!(rt; sizes(rt.alloc(), text, 7, 1) == fault(0, Kind::Read));
-    assert!(rt; record_count(rt.alloc(), b"0 0 X 8\n0 0", 8, 1) == fault(1, Kind::BadOperation));
-}
-
-// 77,000 bytes come in blocks: 8,192, then nine times up to 8,184, since the 8 bytes of the line that is cut are kept;
-// and the eleventh call finds the end. A device that fails there is told.
-#[test]
-fn texts_come_in_blocks(rt: HostRuntime) -> Result<(), Fail> {
-    let mut text = Vec::new(rt.alloc());
-    for _ in 0..7_000 {
-        text.extend_from_slice(b"0 R 0x0 #2\n")?;
-    }
-    assert!(rt; sizes(rt.alloc(), &text, 8192, 11) == Ok((1, 7_000, 7_000)));
-    assert!(rt; sizes(rt.alloc(), &text, 8192, 10) == fault(0, Kind::Read));
-    Ok(())
+    let brought = sizes(rt.alloc(), text, 8, 1);
+    let cut = sizes(rt.alloc(), text, 7, 1);
+    let record = record_count(rt.alloc(), b"0 0 X 8\n0 0", 8, 1);
+    let bad = (1, Kind::BadOperation);
+    assert!(rt; brought == Err(bad) && cut == Err((0, Kind::Read)) && record == Err(bad));
 }

@@ -1,6 +1,0 @@
-//! Gates for tests of workers.
-#![tactic(auto)]
-
-mod rendezvous;
-
-pub use rendezvous::Rendezvous;

@@ -1,7 +1,0 @@
-use Rattle.std.proofs.Common.{All, IfSome}
-use Rattle.mailboxes.specs.Seats.{IsBankSeat, IsCoreSeat}
-use Rattle.test_seat_threads.proofs.threads.drive.Given as goal
-
-abbrev pub invariant-loop : goal.invariant-loop
-invariant-loop g l =
-    All (λ t. All (IsCoreSeat l.machine) t.cores.items × IfSome t.bank (IsBankSeat l.machine)) l.teams

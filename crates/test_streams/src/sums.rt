@@ -1,0 +1,68 @@
+//! A report on runs that no machine makes: their sums pass 2^64, and one would pass 2^128.
+use litmus_reader::read;
+use machine_table::Counts;
+use programs::End;
+use report_text::{RunEnd, litmus_text};
+use std::alloc::{AllocError, Global};
+
+const TEXT: &[u8] = b"RISCV L
+{ 0:x5=1; 0:x6=data; 1:x6=flag_1; }
+ P0          | P1          ;
+ sw x5,0(x6) | lw x7,0(x6) ;
+forall flag_1=0 /\\ (data=1 \\/ 1:x7=3)
+";
+
+const GREATEST: u64 = 18446744073709551615;
+
+// Each sum has three times 2^64 - 1, but for those of messages: three times 2^128 - 1, and three times 8.
+const REPORT: &[u8] = b"test L
+threads 2
+runs 3
+all-done 0
+stalled 0
+limit 3
+exhausted 0
+memory 0
+states 0
+condition forall
+held 0
+verdict yes
+completed 55340232221128654845
+renewals 340282366920938463463374607431768211455
+upgrades 24
+flushes 0
+write-backs 0
+stale-hits 55340232221128654845
+";
+
+fn runs(alloc: Global) -> Result<Vec<RunEnd>, AllocError> {
+    let mut runs = Vec::new(alloc);
+    for _ in 0..3 {
+        runs.push(RunEnd {
+            end: End::TurnsUsed,
+            state: None,
+            completed: GREATEST,
+            stale: GREATEST,
+            counts: Counts {
+                renewals: 340282366920938463463374607431768211455,
+                upgrades: 8,
+                flushes: 0,
+                write_backs: 0,
+            },
+        })?;
+    }
+    Ok(runs)
+}
+
+fn reported(alloc: Global) -> Result<bool, AllocError> {
+    let runs = runs(alloc)?;
+    match read(alloc, TEXT) {
+        Ok(test) => Ok(litmus_text(alloc, &test, &runs)?.as_slice() == REPORT),
+        Err(_) => Ok(false),
+    }
+}
+
+#[test]
+fn great_sums(rt: HostRuntime) {
+    assert_eq!(rt; reported(rt.alloc()), Ok(true));
+}

@@ -1,0 +1,80 @@
+//! What the uses of the crates in docs/USES.md give, where their contracts don't say it, with values worked out by hand.
+use guide_uses::compare::renewals;
+use guide_uses::drive::first_store;
+use guide_uses::program::pass_message;
+use interleaving_core::{Answer, LineNo, OpenError, System};
+use physiological_order::{Op, Record, WordAddr};
+use programs::Step;
+use std::alloc::{AllocError, Global};
+use std::test::Fail;
+
+// A core loads a word, advances 15 times, and loads it again.
+fn steps(alloc: Global) -> Result<Vec<Step>, AllocError> {
+    // The check finds what a step holds only where the function names its type.
+    let _inside: Option<Op> = None;
+    let mut steps = Vec::from_elem(alloc, Step::Advance, 17)?;
+    steps[0] = Step::Op(Op::Load(WordAddr::at(0)));
+    steps[16] = Step::Op(Op::Load(WordAddr::at(0)));
+    Ok(steps)
+}
+
+// The first load leases the line to time 10 or 20. At time 15 the one lease is over, and the other isn't.
+#[test]
+fn a_longer_lease_saves_a_renewal(rt: HostRuntime) -> Result<(), Fail> {
+    let steps = steps(rt.alloc())?;
+    let short = renewals(rt.alloc(), &steps, 10);
+    assert!(rt; short == Ok(Some(1)) && renewals(rt.alloc(), &steps, 20) == Ok(Some(0)));
+    Ok(())
+}
+
+// The store's record: the line comes at time 0, and a store goes past its lease of none.
+fn stored() -> Record {
+    Record {
+        core: 0,
+        place: 0,
+        op: Op::Store(WordAddr::at(0), 1),
+        received: None,
+        ts: 1,
+        number: 0,
+    }
+}
+
+// Whether these are the answers that the comments at the events have.
+fn are_answered(answers: &[Answer]) -> bool {
+    answers
+        == [
+            Answer::Issued,
+            Answer::Requested,
+            Answer::Started,
+            Answer::Delivered,
+            Answer::Delivered,
+            Answer::Delivered,
+            Answer::Delivered,
+            Answer::Completed(stored()),
+        ]
+        .as_slice()
+}
+
+// Whether the machine has the record, and core 0 alone owns the line, with the word's new value.
+fn is_stored(system: &System) -> bool {
+    let word = WordAddr::at(0);
+    system.records() == [stored()].as_slice()
+        && system.coherent(word) == 1
+        && system.owners(LineNo(0)) == 1
+        && system.messages() == 0
+}
+
+fn is_as_told(alloc: Global) -> Result<bool, OpenError> {
+    let (system, answers) = first_store(alloc)?;
+    Ok(are_answered(&answers) && is_stored(&system))
+}
+
+#[test]
+fn a_first_store_is_answered_event_by_event(rt: HostRuntime) {
+    assert!(rt; is_as_told(rt.alloc()) == Ok(true));
+}
+
+#[test]
+fn the_message_is_received_after_the_flag(rt: HostRuntime) {
+    assert!(rt; pass_message(rt.alloc()) == Ok(Some(42)));
+}

@@ -1,0 +1,72 @@
+//! A machine that is opened, driven by workers, and closed.
+ghost use Rattle.std.specs.Prelude.{◌<◌, ◌≤◌};
+
+use crate::script::Script;
+use crate::turn_counts::TurnCounts;
+use machine_table::Config;
+use mailboxes::Run;
+use physiological_order::Memory;
+use programs::End;
+use std::alloc::{AllocError, Global};
+use std::thread::Threads;
+use thread_driver::{ThreadRun, run_threads};
+
+/// One core and one bank, with a lease of 10, from time 0 on, and lines of one word.
+pub(crate) const ONE: Config = Config {
+    cores: 1,
+    banks: 1,
+    sets: 64,
+    ways: 4,
+    bank_sets: 256,
+    bank_ways: 8,
+    line_words: 1,
+    lease: 10,
+    messages: 4096,
+    opening_time: 0,
+    private_write: false,
+};
+
+/// A machine with a memory of zeros, a program a core, by its word and its places, and how many turns each seat may
+/// have.
+#[derive(Clone, Copy)]
+pub(crate) struct Case {
+    pub(crate) config: Config,
+    pub(crate) programs: &'static [(u32, u32, u32)],
+    pub(crate) turn_limit: u32,
+}
+
+fn scripts(alloc: Global, programs: &[(u32, u32, u32)]) -> Result<Vec<Script>, AllocError> {
+    let mut scripts = Vec::new(alloc);
+    for (word, at, end) in programs {
+        scripts.push(Script {
+            word: *word,
+            at: *at,
+            end: *end,
+        })?;
+    }
+    Ok(scripts)
+}
+
+/// How a case ends that so many workers drive by a gate; none where there is no memory or no such machine.
+pub(crate) fn end_of<R: Threads + Sync>(
+    rt: &R,
+    alloc: Global,
+    case: &Case,
+    workers: u32,
+    gate: &TurnCounts,
+) -> Option<End>
+    requires { (0 < workers) × (workers ≤ 16) }
+{
+    let _inside: Option<Run> = None;
+    let scripts = scripts(alloc, case.programs).ok()?;
+    let config = case.config;
+    if !config.is_good() || scripts.len() != config.cores as usize {
+        return None;
+    }
+    let memory = Memory::new(alloc);
+    let limit = case.turn_limit;
+    match run_threads(rt, alloc, config, memory, scripts, workers, limit, gate) {
+        Ok(ThreadRun { end, .. }) => Some(end),
+        Err(_) => None,
+    }
+}

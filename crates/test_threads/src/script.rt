@@ -1,0 +1,35 @@
+//! A program of the caller's own: loads and stores of one word, by their places.
+use physiological_order::{Op, WordAddr};
+use programs::{Program, Step};
+
+/// The operations of these places on a word, from one to before another. At each sixth place, from 0 on, the place's
+/// number and one is stored, and at the others the word is loaded.
+#[derive(Clone, Copy, Drop)]
+pub struct Script {
+    pub word: u32,
+    pub at: u32,
+    pub end: u32,
+}
+
+impl Program for Script {
+    ghost use Rattle.test_threads.specs.Scripts.{script_next, script_done};
+
+    ghost acts = { record { next = script_next; done = script_done } };
+
+    fn next(&mut self) -> Option<Step> {
+        if self.at >= self.end {
+            return None;
+        }
+        let word = WordAddr::at(u64::from(self.word));
+        if self.at % 6 == 0 {
+            return Some(Step::Op(Op::Store(word, u64::from(self.at) + 1)));
+        }
+        Some(Step::Op(Op::Load(word)))
+    }
+
+    fn done(&mut self, _received: Option<u64>) {
+        if self.at < self.end {
+            self.at += 1;
+        }
+    }
+}

@@ -1,0 +1,204 @@
+//! Which turns workers give seats, as a gate sees them.
+ghost use Rattle.std.specs.Prelude.{◌<◌, ◌≤◌};
+
+use crate::driver::{Case, ONE, end_of};
+use crate::turn_counts::TurnCounts;
+use machine_table::Config;
+use programs::End;
+use std::alloc::Global;
+use std::thread::Threads;
+
+/// Far more turns than any worker has while it waits for another one whose thread has no processor.
+const MANY_TURNS: u32 = 4_294_967_295;
+
+/// Core 0 stores once.
+const STORE: Case = Case {
+    config: ONE,
+    programs: &[(0, 0, 1)],
+    turn_limit: 1_000,
+};
+
+const STORE_ONCE: Case = Case {
+    turn_limit: 1,
+    ..STORE
+};
+
+const NO_TURN: Case = Case {
+    turn_limit: 0,
+    ..STORE
+};
+
+/// Two cores without steps.
+const NOTHING: Case = Case {
+    config: Config { cores: 2, ..ONE },
+    programs: &[(0, 0, 0), (0, 0, 0)],
+    turn_limit: 1_000,
+};
+
+/// One time is left: the first store of each core takes it. Core 0 loads five times, and can't store once more.
+const LAST_TIME: Case = Case {
+    config: Config {
+        cores: 2,
+        opening_time: 18_446_744_073_709_551_614,
+        ..ONE
+    },
+    programs: &[(0, 0, 7), (1, 0, 2)],
+    turn_limit: 1_000,
+};
+
+/// A lease of 10 doesn't fit behind the opening time, so the first bank stops as it would grant the load. The second
+/// bank has nothing to do.
+const NO_LEASE: Case = Case {
+    config: Config {
+        banks: 2,
+        opening_time: 18_446_744_073_709_551_614,
+        ..ONE
+    },
+    programs: &[(0, 1, 2)],
+    turn_limit: 1_000,
+};
+
+/// A case, its workers, how many times first turns look for each other, how it ends, how many turns the first seats
+/// have, and how many of two first turns see the other.
+///
+/// A worker alone sees at once that programs without steps are all done, and that a store is done after its seventh
+/// turn. A seat that stops ends the pass: those behind it have a turn less. A bank has loaded a line after three turns,
+/// and would grant it in its fourth. Two workers give turns at the same time. One gives one turn after the other, so
+/// the first one looks in vain.
+const GIVEN: &[(Case, u32, u32, End, [u64; 3], u64)] = &[
+    (NO_TURN, 1, 0, End::TurnsUsed, [0, 0, 0], 0),
+    (NO_TURN, 2, 0, End::TurnsUsed, [0, 0, 0], 0),
+    (NOTHING, 1, 0, End::AllDone, [0, 0, 0], 0),
+    (STORE, 1, 0, End::AllDone, [7, 7, 0], 0),
+    (LAST_TIME, 1, 0, End::Exhausted, [13, 12, 12], 0),
+    (NO_LEASE, 1, 0, End::Exhausted, [4, 4, 3], 0),
+    (STORE_ONCE, 1, 100, End::TurnsUsed, [1, 1, 0], 1),
+    (STORE_ONCE, 2, 10_000_000, End::TurnsUsed, [1, 1, 0], 2),
+];
+
+// Whether a case ends so that so many workers drive, and they give its first seats so many turns each.
+fn gives<R: Threads + Sync>(
+    rt: &R,
+    alloc: Global,
+    case: &Case,
+    workers: u32,
+    gate: &TurnCounts,
+    end: End,
+    counts: &[u64],
+    met: u64,
+) -> bool {
+    (1..=16).contains(&workers)
+        && end_of(rt, alloc, case, workers, gate) == Some(end)
+        && gate.are(counts, met)
+}
+
+#[test]
+fn turns_end_with_the_programs_or_a_seat_that_stops(rt: HostRuntime) {
+    for (case, workers, looks, end, counts, met) in GIVEN {
+        let gate = TurnCounts::new(*looks);
+        assert!(rt;
+            gives(&rt, rt.alloc(), case, *workers, &gate, *end, counts, *met),
+            "{counts:?}"
+        );
+    }
+}
+
+/// Core 2 of five has five loads to do, which take more than five turns; the others have nothing to do. Two banks.
+const BUSY: Case = Case {
+    config: Config {
+        cores: 5,
+        banks: 2,
+        ..ONE
+    },
+    programs: &[(0, 0, 0), (0, 0, 0), (0, 1, 6), (0, 0, 0), (0, 0, 0)],
+    turn_limit: MANY_TURNS,
+};
+
+#[test]
+fn turns_are_used_once_each_seat_had_all_of_its_turns(rt: HostRuntime) {
+    for turns in &[1, 2, 5] {
+        let case = Case {
+            turn_limit: *turns,
+            ..BUSY
+        };
+        let counts = [u64::from(*turns); 7];
+        for workers in 1..=16 {
+            let gate = TurnCounts::new(0);
+            assert!(rt;
+                gives(
+                    &rt,
+                    rt.alloc(),
+                    &case,
+                    workers,
+                    &gate,
+                    End::TurnsUsed,
+                    &counts,
+                    0
+                ),
+                "{turns} turns, {workers} workers"
+            );
+        }
+    }
+}
+
+// Whether the seats of each worker had as many turns as each other, and fewer than they may have.
+fn are_together(gate: &TurnCounts, workers: usize) -> bool {
+    for seat in 0..7 {
+        let Some(turns) = gate.of(seat) else {
+            return false;
+        };
+        let first = seat.checked_rem(workers).unwrap_or(0);
+        if gate.of(first) != Some(turns) || turns >= u64::from(MANY_TURNS) {
+            return false;
+        }
+    }
+    true
+}
+
+#[test]
+fn every_number_of_workers_completes_the_program(rt: HostRuntime) {
+    for workers in 1..=16 {
+        let gate = TurnCounts::new(0);
+        let end = end_of(&rt, rt.alloc(), &BUSY, workers, &gate);
+        assert!(rt;
+            end == Some(End::AllDone) && are_together(&gate, workers as usize),
+            "{workers} workers"
+        );
+    }
+}
+
+/// Core 0 stops, and everyone else may have more turns.
+const STOPS_CORE: Case = Case {
+    turn_limit: MANY_TURNS,
+    ..LAST_TIME
+};
+
+/// The bank stops in its fourth turn, whichever core's load it would grant then.
+const STOPS_BANK: Case = Case {
+    programs: &[(0, 1, 2), (1, 1, 2)],
+    ..STOPS_CORE
+};
+
+// How many turns core 0 and the bank have, which one worker drives, if a seat of these stops and so ends the turns of
+// the other worker, which has core 1.
+fn turns_to_the_stop<R: Threads + Sync>(rt: &R, alloc: Global, case: &Case) -> Option<(u64, u64)> {
+    let gate = TurnCounts::new(0);
+    if end_of(rt, alloc, case, 2, &gate) != Some(End::Exhausted) {
+        return None;
+    }
+    if gate.of(1)? >= u64::from(MANY_TURNS) {
+        return None;
+    }
+    Some((gate.of(0)?, gate.of(2)?))
+}
+
+// The turn of the core that stops is the last one of its worker, and that of the bank is.
+#[test]
+fn a_seat_that_stops_ends_the_turns_of_all_workers(rt: HostRuntime) {
+    let core = turns_to_the_stop(&rt, rt.alloc(), &STOPS_CORE);
+    assert!(rt; matches!(core, Some((turns, others)) if turns.checked_sub(1) == Some(others)));
+    assert_eq!(rt;
+        turns_to_the_stop(&rt, rt.alloc(), &STOPS_BANK),
+        Some((4, 4))
+    );
+}

@@ -174,7 +174,7 @@ fn with_run<'a>(
     alloc: Global,
     help: &'a str,
 ) -> Result<Command<'a>, AllocError>
-    ensures { (p : _) × NamesSchedules p × Adds command.entry (λ app. with_run app p) result }
+    ensures { (p : _) × NamesSchedules p × Adds command.entry (λ app. with_run_and_file app p) result }
 {
     let ordered = with_run_options(command, alloc);
     let built = with_machine_options(ordered, alloc);

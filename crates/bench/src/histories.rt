@@ -89,8 +89,8 @@ fn all_calls(alloc: Global, history: &mut Vec<Record>, lists: &[Vec<Op>]) -> Opt
     })
 }
 
-/// Times one call: `check`, which tells its comparisons, `stale_hits`, which tells its looks, `records_text`, which tells
-/// its bytes, or none, `made`.
+/// Times one call: `check`, which tells its comparisons, `stale_hits`, which tells its looks, `records_text`, which
+/// tells its bytes, or none, `made`.
 fn one_call<R: Clock>(
     rt: &R,
     alloc: Global,

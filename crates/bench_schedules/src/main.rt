@@ -70,7 +70,8 @@ fn programs_of(alloc: Global, cores: u32, words: u32, count: u32) -> Option<Vec<
     Some(programs)
 }
 
-/// Runs the programs to their ends: the completed operations, or the events if they are kept. `None` if not all is done.
+/// Runs the programs to their ends: the completed operations, or the events if they are kept. `None` if not all is
+/// done.
 fn driven(alloc: Global, word: &str, system: &mut System, programs: &mut [OpProgram]) -> Option<u64>
     requires { length programs.old ≡ system.old.config.cores }
 {

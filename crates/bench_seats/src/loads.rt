@@ -8,8 +8,8 @@ use std::alloc::{AllocError, Global};
 /// The words that the operations are on.
 const WORDS: u64 = 4096;
 
-/// The options of a machine. Its private caches have 256 lines of one word. Its banks have 4,096 lines together, so that
-/// none has to make room: a bank of n has 512 / n sets of 8 ways.
+/// The options of a machine. Its private caches have 256 lines of one word. Its banks have 4,096 lines together, so
+/// that none has to make room: a bank of n has 512 / n sets of 8 ways.
 pub(crate) fn config_of(cores: u32, banks: u32) -> Config {
     Config {
         cores,

@@ -1,6 +1,6 @@
-//! The same operations by rounds, on a machine that isn't shared, and by the seats of one that threads share. The numbers
-//! are cores, banks, operations of a core, and threads. The time is that in which a machine is driven; a shared one is
-//! opened and closed in it, too.
+//! The same operations by rounds, on a machine that isn't shared, and by the seats of one that threads share. The
+//! numbers are cores, banks, operations of a core, and threads. The time is that in which a machine is driven; a shared
+//! one is opened and closed in it, too.
 
 use crate::loads::{config_of, programs_of};
 use interleaving_core::System;

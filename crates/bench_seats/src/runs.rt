@@ -5,7 +5,7 @@
 use crate::loads::{config_of, programs_of};
 use interleaving_core::System;
 use physiological_order::Memory;
-use programs::End;
+use programs::{End, OpProgram};
 use schedules::{Policy, run_to_end};
 use shared_jobs::Free;
 use std::alloc::Global;
@@ -21,19 +21,18 @@ pub(crate) struct Told {
     pub(crate) nanos: u128,
 }
 
-/// A run by rounds; `None` if it isn't made, or not all is done.
-pub(crate) fn rounds<R: Clock>(
+/// Runs the programs to their ends by rounds; `None` if not all is done.
+fn driven<R: Clock>(
     rt: &R,
     alloc: Global,
-    [cores, banks, operations, _]: [u32; 4],
+    system: &mut System,
+    programs: &mut [OpProgram],
 ) -> Option<Told> {
-    let mut programs = programs_of(alloc, cores, operations)?;
-    let mut system = System::new(alloc, config_of(cores, banks), Memory::new(alloc)).ok()?;
     if programs.len() as u64 != u64::from(system.cores()) {
         return None;
     }
     let start = Instant::now(rt).ok()?;
-    let end = run_to_end(alloc, &mut system, &mut programs, Policy::Rounds, u32::MAX);
+    let end = run_to_end(alloc, system, programs, Policy::Rounds, u32::MAX);
     let nanos = start.elapsed(rt).ok()?.as_nanos();
     match end {
         End::AllDone => Some(Told {
@@ -42,6 +41,17 @@ pub(crate) fn rounds<R: Clock>(
         }),
         _ => None,
     }
+}
+
+/// A run by rounds; `None` if it isn't made, or not all is done.
+pub(crate) fn rounds<R: Clock>(
+    rt: &R,
+    alloc: Global,
+    [cores, banks, operations, _]: [u32; 4],
+) -> Option<Told> {
+    let mut programs = programs_of(alloc, cores, operations)?;
+    let mut system = System::new(alloc, config_of(cores, banks), Memory::new(alloc)).ok()?;
+    driven(rt, alloc, &mut system, &mut programs)
 }
 
 /// A run by seats that 1 to 16 threads share; `None` if it isn't made.

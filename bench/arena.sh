@@ -3,11 +3,11 @@
 set -e
 top=$(cd "$(dirname "$0")/.." && pwd)
 rounds=${1:-10000000}
-(cd "$top/crates/bench_arena" && rt run -- make 1000 4096 64 >/dev/null 2>&1)
+(cd "$top/crates/bench" && rt run -- make 1000 4096 64 >/dev/null 2>&1)
 run() {
     for _ in 1 2 3; do
         echo "$1, $2 rounds, $3 cells, $4 lists:"
-        /usr/bin/time -f '%e s, %U s of processor, %M KB' "$top/crates/bench_arena/out/bench_arena" "$1" "$2" "$3" "$4"
+        /usr/bin/time -f '%e s, %U s of processor, %M KB' "$top/crates/bench/out/bench" "$1" "$2" "$3" "$4"
     done
 }
 run make "$rounds" 4096 64

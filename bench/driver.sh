@@ -9,7 +9,7 @@ words=${3:-4096}
 operations=${4:-100000}
 program=$top/crates/bench_schedules/out/bench_schedules
 (cd "$top/crates/bench_schedules" && rt run -- seed 2 64 50 >/dev/null 2>&1)
-"$program" "$policy" "$cores" "$words" "$operations" count
+"$program" "${policy}_events" "$cores" "$words" "$operations"
 for _ in 1 2 3; do
     /usr/bin/time -f '%e s, %U s of processor, %S s of the system, %M KB' "$program" "$policy" "$cores" "$words" "$operations"
 done

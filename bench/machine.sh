@@ -7,7 +7,8 @@ events=${1:-10000000}
 cores=${2:-2}
 words=${3:-64}
 machines=${4:-1}
-(cd "$top/crates/bench_machine" && rt run -- 1000 "$cores" "$words" >/dev/null 2>&1)
+program=$top/crates/bench/out/bench
+(cd "$top/crates/bench" && rt run -- machine 1000 "$cores" "$words" >/dev/null 2>&1)
 for _ in 1 2 3; do
-    /usr/bin/time -f '%e s, %U s of processor, %M KB' "$top/crates/bench_machine/out/bench_machine" "$events" "$cores" "$words" "$machines"
+    /usr/bin/time -f '%e s, %U s of processor, %M KB' "$program" machine "$events" "$cores" "$words" "$machines"
 done

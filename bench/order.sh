@@ -8,20 +8,19 @@ set -euo pipefail
 top=$(cd "$(dirname "$0")/.." && pwd)
 records=${1:-1000000}
 runs=${2:-9}
-program="$top/crates/bench_order/out/bench_order"
-(cd "$top/crates/bench_order" && rt run -- 1000 16 >/dev/null)
+program="$top/crates/bench/out/bench"
+(cd "$top/crates/bench" && rt run -- history 1000 16 >/dev/null)
 
-# measure CORES CALL: the least resident set in KB and the least time in ns; a check must answer Legal.
+# measure CORES CALL: the least resident set in KB and the least time in ns. (A check fails if it doesn't answer Legal.)
 measure() {
     for _ in $(seq "$runs"); do
-        /usr/bin/time -f 'resident %M' "$program" "$records" "$1" "$2" 2>&1
-    done | awk -v call="$2" '
+        /usr/bin/time -f 'resident %M' "$program" time "$2" "$records" "$1" 2>&1
+    done | awk '
         function least(old, new) { return old == "" || new < old ? new : old }
         / ns$/ { clock = least(clock, $(NF - 1)) }
         /^resident/ { memory = least(memory, $2) }
-        /^Legal$/ { legal++ }
         END {
-            if (clock == "" || call == "check" && !legal) exit 1
+            if (clock == "") exit 1
             print memory, clock
         }'
 }
@@ -33,8 +32,8 @@ load() {
 load
 for cores in 1 4 16 64; do
     echo "$cores cores"
-    "$program" "$records" "$cores"
-    without=$(measure "$cores" none)
+    "$program" history "$records" "$cores"
+    without=$(measure "$cores" made)
     for call in check stale_hits; do
         with=$(measure "$cores" "$call")
         echo "$without $with" | awk -v records="$records" -v call="$call" '{
@@ -42,8 +41,7 @@ for cores in 1 4 16 64; do
                 call, records * 1000 / $4, ($3 - $1) * 1024 / records
         }'
     done
-    "$program" "$records" "$cores" records_text | awk '
-        / bytes$/ { bytes = $1 }
-        / ns$/ { printf "records_text: %.0f MB of text a second\n", bytes * 1000 / $(NF - 1) }'
+    "$program" time records_text "$records" "$cores" | awk '{
+        printf "records_text: %.0f MB of text a second\n", $2 * 1000 / $4 }'
 done
 load

@@ -31,8 +31,8 @@ user_time() {
 compare() {
     words=("$@" 4096 50000)
     events=$("$plain" "${words[@]}")
-    wanted=$("$program" "${words[@]}" count)
-    [ "$events" = "$wanted" ] || { echo "$*: $events by the plain one, $wanted by the program" >&2; exit 1; }
+    wanted=$("$program" "$1_events" "${words[@]:1}")
+    [ "$1_events: ${events% events}" = "$wanted" ] || { echo "$*: $events by the plain one, not $wanted" >&2; exit 1; }
     for _ in $(seq "$runs"); do
         of_program=$(user_time "$program" "${words[@]}")
         of_plain=$(user_time "$plain" "${words[@]}")

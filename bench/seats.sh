@@ -7,8 +7,7 @@ set -euo pipefail
 top=$(cd "$(dirname "$0")/.." && pwd)
 operations=${1:-640000}
 program=${2:-$top/crates/bench_seats/out/bench_seats}
-turns=4294967295
-[ -n "${2:-}" ] || (cd "$top/crates/bench_seats" && rt run -- 4 1 100 "$turns" 2 >/dev/null)
+[ -n "${2:-}" ] || (cd "$top/crates/bench_seats" && rt run -- seats 4 1 100 2 >/dev/null)
 results=$(mktemp)
 trap 'rm -f "$results"' EXIT
 
@@ -20,22 +19,24 @@ load
 for _ in 1 2 3; do
     for machine in '4 1' '16 4' '64 8'; do
         read -r cores banks <<<"$machine"
-        for way in 1 4 rounds; do
-            told=$("$program" "$cores" "$banks" $((operations / cores)) "$turns" "$way" time)
-            echo "$way:" $told
-            echo "$cores $banks $way" $told >>"$results"
+        for way in 'seats 1' 'seats 4' rounds; do
+            read -r word threads <<<"$way"
+            told=$("$program" time "$word" "$cores" "$banks" $((operations / cores)) ${threads:-})
+            echo "$cores cores, $banks banks, $way: $told"
+            echo "$cores $banks ${threads:-rounds} $((operations / cores * cores)) $told" >>"$results"
         done
     done
 done
 load
 
-# A line has: cores, banks, way, "C cores: N of M operations completed", "S s, V operations a second".
+# A line has: cores, banks, way, operations, "WORD: N in T ns".
 awk '
     {
         at = $1 " | " $2
         if (!(at in seen)) { seen[at] = 1; order[++count] = at }
-        if ($6 != $8) missing = 1
-        if ($13 > most[at, $3]) most[at, $3] = $13
+        if ($4 != $6) missing = 1
+        speed = $6 * 1e9 / $8
+        if (speed > most[at, $3]) most[at, $3] = speed
     }
     END {
         print "| Cores | Banks | One thread | Four threads | Rounds | Four by one | Four by rounds |"

@@ -15,7 +15,7 @@ from pathlib import Path
 
 TOP = Path(__file__).resolve().parent.parent
 PAGE = TOP / "docs/HOSTILE.md"
-NOT_PRODUCTION = ("test_", "bench_", "play_", "event_text", "guide_uses")
+NOT_PRODUCTION = ("test_", "bench", "play_", "event_text", "guide_uses")
 WANT = r"(?:\bAllocError\b|\b(?:ReadError::Memory|[A-Z]\w*::NoMemory)\b|\bErr\(NoMemory\)|= NoMemory;)"
 PASSED_ON = re.compile(r"\s*(?:Err\()?(?:AllocError|(?:\w+::)+(?:NoMemory|Memory))\)?\s*")
 SKIPPED = re.compile(r"\s*(ghost |ensures\b|requires\b|impl\b|\) ->|[^=]*[≡≢])")

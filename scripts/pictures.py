@@ -115,7 +115,7 @@ def levels():
     level = {}
     for line in (TOP / "crates.txt").read_text(encoding="utf-8").splitlines():
         name, _, below = line.partition(":")
-        if not name.startswith(("test_", "bench_")):
+        if not name.startswith(("test_", "bench")):
             level[name] = 1 + max((level[crate] for crate in below.split() if crate in level), default=0)
     return level
 

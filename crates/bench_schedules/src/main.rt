@@ -1,8 +1,13 @@
-//! A measurement of runs: programs of random operations on a machine with a core for each, driven by rounds or by a seed
+//! Measurements of runs: programs of random operations on a machine with a core for each, driven by rounds or by a seed
 //! until all are done. docs/BENCHMARKS.md has the table.
+//!
+//! The words are `round`, `seed`, `round_events` and `seed_events`, and three numbers follow each: cores, words, and
+//! operations of a core. Several may stand one after the other. Each tells how many operations were completed; the last
+//! two keep the events and tell how many there were.
 #![tactic(auto)]
 
-use anyhow::{Context, Result, bail, ensure};
+ghost use Rattle.std.specs.Prelude.{◌≡◌, length};
+
 use interleaving_core::{Config, System};
 use physiological_order::{Memory, Op, WordAddr};
 use programs::{End, OpProgram};
@@ -10,7 +15,9 @@ use rand_core::SeedableRng;
 use rand_core::utils::NextWord;
 use rand_pcg::Pcg32;
 use schedules::{Policy, drive_round, drive_seed, run_to_end};
-use std::alloc::Global;
+use std::alloc::{AllocError, Global};
+use std::io;
+use std::rt::Env;
 
 /// The machine that is measured, but for its cores: the program's defaults.
 const ONE_CORE: Config = Config {
@@ -27,17 +34,6 @@ const ONE_CORE: Config = Config {
     private_write: false,
 };
 
-/// What is measured: which schedule, with how many cores, words, and operations a core; and whether the events are kept
-/// and counted.
-#[derive(Clone, Copy)]
-struct Load {
-    policy: Policy,
-    cores: u32,
-    words: u32,
-    operations: u32,
-    counts: bool,
-}
-
 /// A random operation: half are loads, three in ten stores, two in ten swaps, each of a word that is picked evenly.
 fn operation(generator: &mut Pcg32, words: u32) -> Op {
     let kind = generator.next_word() % 10;
@@ -50,97 +46,98 @@ fn operation(generator: &mut Pcg32, words: u32) -> Op {
     }
 }
 
-/// The program of a core.
-fn program(alloc: Global, core: u32, load: &Load) -> Result<OpProgram> {
+/// The operations of a core.
+fn operations(alloc: Global, core: u32, words: u32, count: u32) -> Result<Vec<Op>, AllocError> {
     let mut generator = Pcg32::seed_from_u64(u64::from(core));
     let mut ops = Vec::new(alloc);
-    for _ in 0..load.operations {
-        ops.push(operation(&mut generator, load.words))?;
+    for _ in 0..count {
+        ops.push(operation(&mut generator, words))?;
     }
-    if ops.len() > 4_294_967_295 {
-        bail!("a core is issued at most 4,294,967,295 operations");
-    }
-    Ok(OpProgram::new(ops))
+    Ok(ops)
 }
 
-fn programs(alloc: Global, load: &Load) -> Result<Vec<OpProgram>> {
+/// The programs of so many cores, each of so many operations; `None` if that is more than a core is issued, or too much
+/// for the memory.
+fn programs_of(alloc: Global, cores: u32, words: u32, count: u32) -> Option<Vec<OpProgram>> {
     let mut programs = Vec::new(alloc);
-    for core in 0..load.cores {
-        programs.push(program(alloc, core, load)?)?;
+    for core in 0..cores {
+        let ops = operations(alloc, core, words, count).ok()?;
+        if ops.len() > 4_294_967_295 {
+            return None;
+        }
+        programs.push(OpProgram::new(ops)).ok()?;
     }
-    Ok(programs)
+    Some(programs)
 }
 
-fn machine(alloc: Global, cores: u32) -> Result<System> {
-    match System::new(alloc, Config { cores, ..ONE_CORE }, Memory::new(alloc)) {
-        Ok(system) => Ok(system),
-        Err(_) => bail!("no machine has so many cores"),
-    }
-}
-
-/// Runs the load to its end; and how many events there were, if they are counted.
-fn measure(alloc: Global, load: &Load) -> Result<usize> {
-    let mut system = machine(alloc, load.cores)?;
-    let mut programs = programs(alloc, load)?;
-    ensure!(
-        programs.len() as u64 == u64::from(system.cores()),
-        "programs are missing"
-    );
-    let programs = programs.as_mut_slice();
-    let (end, events) = if load.counts {
-        let driven = match load.policy {
-            Policy::Rounds => drive_round(alloc, &mut system, programs, u32::MAX),
-            Policy::Seed(seed) => drive_seed(alloc, &mut system, programs, seed, u32::MAX),
-        };
-        (driven.end, driven.events.len())
-    } else {
-        (
-            run_to_end(alloc, &mut system, programs, load.policy, u32::MAX),
-            0,
-        )
+/// Runs the programs to their ends: the completed operations, or the events if they are kept. `None` if not all is
+/// done.
+fn driven(alloc: Global, word: &str, system: &mut System, programs: &mut [OpProgram]) -> Option<u64>
+    requires { length programs.old ≡ system.old.config.cores }
+{
+    let kept = match word {
+        "round_events" => drive_round(alloc, system, programs, u32::MAX),
+        "seed_events" => drive_seed(alloc, system, programs, 1, u32::MAX),
+        _ => {
+            let policy = match word {
+                "round" => Policy::Rounds,
+                "seed" => Policy::Seed(1),
+                _ => return None,
+            };
+            return match run_to_end(alloc, system, programs, policy, u32::MAX) {
+                End::AllDone => Some(system.records().len() as u64),
+                _ => None,
+            };
+        }
     };
-    ensure!(matches!(end, End::AllDone), "not all is done");
-    Ok(events)
-}
-
-fn number(text: Option<String>) -> Result<u32> {
-    let text = text.context(
-        "a schedule and three numbers are wanted: cores, words and operations",
-    )?;
-    let number: u32 = text.as_str().parse().context("a number is wanted")?;
-    ensure!(number > 0, "a number above 0 is wanted");
-    Ok(number)
-}
-
-fn policy(text: Option<String>) -> Result<Policy> {
-    let text = text.context("a schedule is wanted")?;
-    match text.as_str() {
-        "round" => Ok(Policy::Rounds),
-        "seed" => Ok(Policy::Seed(1)),
-        _ => bail!("the schedules are round and seed"),
+    match kept.end {
+        End::AllDone => Some(kept.events.len() as u64),
+        _ => None,
     }
 }
 
-fn run<R: AllocGlobal + Print + std::rt::Env>(rt: &R) -> Result<()> {
-    let alloc = rt.alloc();
-    let mut texts = std::env::args(rt)?;
-    let _program = texts.next();
-    let load = Load {
-        policy: policy(texts.next())?,
-        cores: number(texts.next())?,
-        words: number(texts.next())?,
-        operations: number(texts.next())?,
-        counts: texts.next().is_some(),
-    };
-    let events = measure(alloc, &load)?;
-    if load.counts {
-        println!(rt; "{} events", events)?;
-    } else {
-        println!(rt; "all done")?;
+/// One measurement; `None` if there is none of that name, or it couldn't be made.
+fn measure(alloc: Global, word: &str, [cores, words, count]: [u32; 3]) -> Option<u64> {
+    let config = Config { cores, ..ONE_CORE };
+    let mut system = System::new(alloc, config, Memory::new(alloc)).ok()?;
+    let mut programs = programs_of(alloc, cores, words, count)?;
+    if programs.len() as u64 != u64::from(system.cores()) {
+        return None;
+    }
+    driven(alloc, word, &mut system, &mut programs)
+}
+
+/// The number that a word of the command line is.
+fn number_at(words: &[String], at: usize) -> Option<u32> {
+    words.get(at)?.as_str().parse().ok()
+}
+
+/// The numbers that follow a word, three at most, with zeros for those that aren't there.
+fn numbers_after(words: &[String], at: usize) -> [u32; 3] {
+    let mut numbers = [0; 3];
+    for place in 0..3usize {
+        match number_at(words, at.saturating_add(place).saturating_add(1)) {
+            Some(number) => numbers[place] = number,
+            None => break,
+        }
+    }
+    numbers
+}
+
+fn run<R: AllocGlobal + Print + Env>(rt: &R) -> io::Result<()> {
+    let words: Vec<String> = std::env::args(rt)?.collect(rt.alloc())?;
+    for at in 1..words.len() {
+        let word = words[at].as_str();
+        if number_at(&words, at).is_none() {
+            let Some(done) = measure(rt.alloc(), word, numbers_after(&words, at)) else {
+                return Err(io::ErrorKind::InvalidInput.into());
+            };
+            println!(rt; "{word}: {done}")?;
+        }
     }
     Ok(())
 }
 
-fn main(rt: HostRuntime) -> Result<()> {
+fn main(rt: HostRuntime) -> io::Result<()> {
     run(&rt)
 }

@@ -1,30 +1,22 @@
-//! What is measured: how many cores and banks, and what the cores are issued.
+//! Machines that are measured, and what their cores are issued.
 
 use machine_table::Config;
 use physiological_order::{Op, WordAddr};
+use programs::OpProgram;
+use std::alloc::{AllocError, Global};
 
 /// The words that the operations are on.
 const WORDS: u64 = 4096;
 
-/// A machine's cores and banks, how many operations each core is issued, and how many turns a seat has at most, or
-/// rounds a machine that isn't shared.
-#[derive(Clone, Copy)]
-pub(crate) struct Load {
-    pub(crate) cores: u32,
-    pub(crate) banks: u32,
-    pub(crate) operations: u32,
-    pub(crate) turns: u32,
-}
-
-/// The machine of a load. Its private caches have 256 lines of one word. Its banks have 4,096 lines together, so that
-/// none has to make room: a bank of n has 512 / n sets of 8 ways.
-pub(crate) fn config_of(load: &Load) -> Config {
+/// The options of a machine. Its private caches have 256 lines of one word. Its banks have 4,096 lines together, so
+/// that none has to make room: a bank of n has 512 / n sets of 8 ways.
+pub(crate) fn config_of(cores: u32, banks: u32) -> Config {
     Config {
-        cores: load.cores,
-        banks: load.banks,
+        cores,
+        banks,
         sets: 64,
         ways: 4,
-        bank_sets: 512u32.checked_div(load.banks).unwrap_or(0),
+        bank_sets: 512u32.checked_div(banks).unwrap_or(0),
         bank_ways: 8,
         line_words: 1,
         lease: 10,
@@ -44,7 +36,7 @@ fn mixed(number: u64) -> u64 {
 
 /// The operation of a place in the program of a core: a load three times in four, else a store, of a word that is
 /// picked evenly. No two stores have the same value.
-pub(crate) fn operation_of(core: u32, place: u64) -> Op {
+fn operation_of(core: u32, place: u64) -> Op {
     let number = place.wrapping_mul(64).wrapping_add(u64::from(core));
     let mixed = mixed(number);
     let word = WordAddr::at(mixed % WORDS);
@@ -52,4 +44,27 @@ pub(crate) fn operation_of(core: u32, place: u64) -> Op {
         0 => Op::Store(word, number),
         _ => Op::Load(word),
     }
+}
+
+/// The operations of a core.
+fn operations(alloc: Global, core: u32, count: u32) -> Result<Vec<Op>, AllocError> {
+    let mut ops = Vec::new(alloc);
+    for place in 0..count {
+        ops.push(operation_of(core, u64::from(place)))?;
+    }
+    Ok(ops)
+}
+
+/// The programs of so many cores, each of so many operations; `None` if that is more than a core is issued, or too much
+/// for the memory.
+pub(crate) fn programs_of(alloc: Global, cores: u32, count: u32) -> Option<Vec<OpProgram>> {
+    let mut programs = Vec::new(alloc);
+    for core in 0..cores {
+        let ops = operations(alloc, core, count).ok()?;
+        if ops.len() > 4_294_967_295 {
+            return None;
+        }
+        programs.push(OpProgram::new(ops)).ok()?;
+    }
+    Some(programs)
 }

@@ -23,8 +23,6 @@ pub(crate) enum Call {
     Made(u32),
     /// Whether lines are to be kept in rising order.
     Keep(bool),
-    /// The value of a word.
-    Word(WordAddr),
     Look(Look),
 }
 
@@ -40,6 +38,7 @@ pub(crate) struct Look {
 #[derive(Clone, Copy)]
 pub(crate) enum What {
     Owners,
+    Word,
     Sent,
     Records,
     Record,
@@ -147,14 +146,20 @@ fn steps_of(mut words: Words<'_>) -> Result<(u32, Step), Cause> {
     Ok((times, Step::Op(op)))
 }
 
+/// Adds a step so many times.
+fn add_times(steps: &mut Vec<Step>, times: u32, step: &Step) -> Result<(), Cause> {
+    let _inside: Option<Op> = None;
+    for _ in 0..times {
+        steps.push(*step)?;
+    }
+    Ok(())
+}
+
 /// Adds the steps that a text tells.
 fn add_steps(steps: &mut Vec<Step>, words: Words<'_>) -> Result<(), Cause> {
     let _inside: Option<Op> = None;
     let (times, step) = steps_of(words)?;
-    for _ in 0..times {
-        steps.push(step)?;
-    }
-    Ok(())
+    add_times(steps, times, &step)
 }
 
 /// A core and its steps; a program without words has none.
@@ -177,6 +182,14 @@ fn program(alloc: Global, turn: &Turn<'_>) -> Result<Call, Cause> {
 
 /// The look-up that a name and the next words tell.
 fn read_look(name: &str, words: &mut Words<'_>) -> Result<Look, Cause> {
+    if name == "word" {
+        let at = words.address()?.byte();
+        return Ok(Look {
+            what: What::Word,
+            number: 0,
+            at,
+        });
+    }
     let (what, has_number, next) = row_of(LOOKS, name).ok_or(Cause::Call)?;
     let number = if has_number { words.small()? } else { 0 };
     let at = words.part(next)?;
@@ -198,7 +211,6 @@ fn call_of(alloc: Global, name: &str, words: &mut Words<'_>) -> Result<Call, Cau
         }
         "made" => Ok(Call::Made(words.small()?)),
         "order" => order(words),
-        "word" => Ok(Call::Word(words.address()?)),
         _ => Ok(Call::Look(read_look(name, words)?)),
     }
 }

@@ -81,14 +81,16 @@ impl Drives {
     }
 
     /// Gives a core its program.
-    pub(crate) fn give(&mut self, core: u32, steps: Vec<Step>) -> Result<(), AllocError> {
+    pub(crate) fn give(&mut self, core: u32, steps: Vec<Step>, out: &mut Reply) {
         let _inside: Option<Op> = None;
-        self.programs.push((core, steps))?;
-        Ok(())
+        match self.programs.push((core, steps)) {
+            Ok(()) => out.word("given"),
+            Err(_) => out.cut(),
+        }
     }
 
-    /// Drives the machine; how that ended, and how many events were made.
-    pub(crate) fn drive(
+    /// Drives the machine, if there is memory for programs; how that ended, and how many events were made.
+    fn run(
         &mut self,
         system: &mut System,
         policy: Policy,
@@ -106,6 +108,19 @@ impl Drives {
         self.events = run.events;
         self.at = 0;
         Ok(())
+    }
+
+    /// Drives the machine, and tells how that ended, and how many events were made.
+    pub(crate) fn drive(
+        &mut self,
+        system: &mut System,
+        policy: Policy,
+        limit: u32,
+        out: &mut Reply,
+    ) {
+        if self.run(system, policy, limit, out).is_err() {
+            out.cut();
+        }
     }
 
     /// The next events of the last drive, at most so many.

@@ -141,26 +141,28 @@ fn are_filled(
     Ok(are && list.as_slice() == messages && list.capacity() == capacity)
 }
 
-/// A list that has a number already.
-fn other_list(alloc: Global) -> Result<Vec<MsgNo>, AllocError> {
+/// Tells the messages in flight: at once, one by one, and in a list that is there already.
+pub(crate) fn put_flight(
+    alloc: Global,
+    system: &System,
+    out: &mut Reply,
+) -> Result<(), AllocError> {
     let mut list = Vec::new(alloc);
     list.push(MsgNo(77))?;
-    Ok(list)
-}
-
-/// Tells the messages in flight: at once, one by one, and in a list that is there already.
-pub(crate) fn put_flight(alloc: Global, system: &System, out: &mut Reply) {
-    let Ok(mut list) = other_list(alloc) else {
-        return out.cut();
-    };
     let Ok(messages) = system.in_flight() else {
-        return out.word(NO_MEMORY);
+        out.word(NO_MEMORY);
+        return Ok(());
     };
-    match are_filled(system, &mut list, &messages) {
-        Err(_) => out.word(NO_MEMORY),
-        Ok(true) if are_one_by_one(system, &messages) => put_messages(&messages, out),
-        Ok(_) => out.word(DIFFER),
+    let Ok(are) = are_filled(system, &mut list, &messages) else {
+        out.word(NO_MEMORY);
+        return Ok(());
+    };
+    if are && are_one_by_one(system, &messages) {
+        put_messages(&messages, out);
+    } else {
+        out.word(DIFFER);
     }
+    Ok(())
 }
 
 fn put_messages(messages: &[MsgNo], out: &mut Reply) {

@@ -71,6 +71,14 @@ fn put_dram(system: &System, bank: u32, line: LineNo, out: &mut Reply) {
     }
 }
 
+/// Tells the value of the word at a byte address.
+fn put_value(system: &System, byte: u64, out: &mut Reply) {
+    match WordAddr::new(byte) {
+        Some(word) => out.number(system.coherent(word)),
+        None => out.word("none"),
+    }
+}
+
 fn put_shape(system: &System, out: &mut Reply) {
     out.named("cores", u64::from(system.cores()));
     out.named("banks", u64::from(system.banks()));
@@ -107,6 +115,7 @@ fn put_part(system: &System, look: &Look, out: &mut Reply) {
 fn put_whole(system: &System, look: &Look, out: &mut Reply) {
     match look.what {
         What::Owners => out.number(u64::from(system.owners(LineNo(look.at)))),
+        What::Word => put_value(system, look.at, out),
         What::Sent => put_counts(&system.counts(), out),
         What::Records => out.number(system.records().len() as u64),
         What::Record => put_record_at(system.records(), look.at, out),
@@ -130,7 +139,11 @@ pub(crate) fn put_look(
         What::Copies => put_copies(system, look.number, out),
         What::Free => put_free(alloc, system, look.number, out),
         What::Entries => put_entries(alloc, system, look.number, out),
-        What::Flight => put_flight(alloc, system, out),
+        What::Flight => {
+            if put_flight(alloc, system, out).is_err() {
+                out.cut();
+            }
+        }
         What::Stale => put_stale(alloc, system, out),
         What::Check => put_check(alloc, system, words, out),
         What::Arranged => put_arranged(alloc, system, out),

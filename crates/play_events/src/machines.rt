@@ -117,36 +117,24 @@ impl Played {
     }
 
     /// Plays what a line asks for, and tells the answer.
-    pub(crate) fn play(&mut self, call: Call, out: &mut Reply) -> Result<(), AllocError> {
+    pub(crate) fn play(&mut self, call: Call, out: &mut Reply) {
         let call = match call {
-            Call::Machine(opening) => {
-                self.open(opening, out);
-                return Ok(());
-            }
-            Call::Reopen(words) => {
-                self.reopen_with(words, out);
-                return Ok(());
-            }
+            Call::Machine(opening) => return self.open(opening, out),
+            Call::Reopen(words) => return self.reopen_with(words, out),
             call => call,
         };
         let Some(system) = &mut self.system else {
-            out.word(NO_MACHINE);
-            return Ok(());
+            return out.word(NO_MACHINE);
         };
         match call {
             Call::Event(event) => step(system, event, out),
             Call::Run(events) => run(system, events.as_slice(), out),
             Call::Keep(is_kept) => keep(system, is_kept, out),
-            Call::Word(word) => out.number(system.coherent(word)),
             Call::Look(look) => put_look(self.alloc, system, self.words.as_slice(), &look, out),
-            Call::Drive(policy, limit) => self.drives.drive(system, policy, limit, out)?,
+            Call::Drive(policy, limit) => self.drives.drive(system, policy, limit, out),
             Call::Made(count) => self.drives.look(count, out),
-            Call::Program(core, steps) => {
-                self.drives.give(core, steps)?;
-                out.word("given");
-            }
+            Call::Program(core, steps) => self.drives.give(core, steps, out),
             Call::Machine(_) | Call::Reopen(_) => {}
         }
-        Ok(())
     }
 }

@@ -37,7 +37,8 @@ pub(crate) fn play_turn(
     reply.clear();
     reply.line_words = played.line_words();
     let call = call_of(played.alloc, turn, reply.line_words)?;
-    played.play(call, reply)
+    played.play(call, reply);
+    Ok(())
 }
 
 /// Plays a line, once more if it is to be and is refused for want of memory, and tells the answer.
@@ -81,7 +82,7 @@ impl Player for EventPlayer {
             play_line(&mut played, &turn, page, &mut reply, out)?;
         }
         if page.how.three_ways {
-            play_other_ways(played, example, page, out)?;
+            play_other_ways(&mut played, example, page, out)?;
         }
         Ok(())
     }

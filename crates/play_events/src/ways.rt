@@ -5,7 +5,7 @@ use crate::calls::Call;
 use crate::machines::{Played, opened, put_answers};
 use crate::player::{call_of, next, play_turn};
 use event_text::{Example, Page, Reply, memory_of};
-use interleaving_core::{Config, Event, System};
+use interleaving_core::{Answer, Config, Event, System};
 use physiological_order::{Op, WordAddr};
 use std::alloc::{AllocError, Global};
 use std::io;
@@ -125,22 +125,47 @@ fn restore<W: Write + Drop>(
 
 /// Plays an example on its machine, opened again.
 fn play_again<W: Write + Drop>(
-    mut played: Played,
+    played: &mut Played,
     example: &Example<'_>,
     page: &mut Page<'_>,
     out: &mut W,
 ) -> io::Result<()> {
     let mut reply = Reply::new(played.alloc);
-    restore(&mut played, page, &mut reply, out)?;
+    restore(played, page, &mut reply, out)?;
     let mut cursor = example.cursor();
     for at in 0..usize::MAX {
         let Some(turn) = next(&mut cursor)? else {
             break;
         };
         if turn.name() != "machine" {
-            play_turn(&mut played, &turn, &mut reply)?;
+            play_turn(played, &turn, &mut reply)?;
             page.compare(at, &reply, "opened again", out)?;
         }
+    }
+    Ok(())
+}
+
+/// Compares the answers to the events of an example as one list with those that came line by line.
+fn compare_list<W: Write + Drop>(
+    answers: &[Answer],
+    listed: &Listed,
+    page: &mut Page<'_>,
+    reply: &mut Reply,
+    out: &mut W,
+) -> io::Result<()> {
+    if answers.len() != listed.events.len() {
+        reply.word("another number of answers");
+        return page.compare(0, reply, "as one list", out);
+    }
+    let mut from = 0;
+    for (at, to) in &listed.lines {
+        let Some(part) = answers.get(from..*to) else {
+            break;
+        };
+        from = *to;
+        reply.clear();
+        put_answers(part, reply);
+        page.compare(*at, reply, "as one list", out)?;
     }
     Ok(())
 }
@@ -148,33 +173,24 @@ fn play_again<W: Write + Drop>(
 /// Plays the events of an example as one list on a new machine.
 fn play_list<W: Write + Drop>(
     alloc: Global,
-    mut system: System,
+    system: &mut System,
     listed: &Listed,
     page: &mut Page<'_>,
     out: &mut W,
 ) -> io::Result<()> {
     let answers = system.run(listed.events.as_slice())?;
-    let mut reply = Reply::new(alloc);
-    if answers.len() != listed.events.len() {
-        reply.word("another number of answers");
-        return page.compare(0, &reply, "as one list", out);
-    }
-    let mut from = 0;
-    for (at, to) in &listed.lines {
-        let Some(part) = answers.as_slice().get(from..*to) else {
-            break;
-        };
-        from = *to;
-        reply.clear();
-        put_answers(part, &mut reply);
-        page.compare(*at, &reply, "as one list", out)?;
-    }
-    Ok(())
+    compare_list(
+        answers.as_slice(),
+        listed,
+        page,
+        &mut Reply::new(alloc),
+        out,
+    )
 }
 
 /// Plays an example in the other ways, if it can be: its machine was opened, once, and all its events stand in lines.
 pub(crate) fn play_other_ways<W: Write + Drop>(
-    played: Played,
+    played: &mut Played,
     example: &Example<'_>,
     page: &mut Page<'_>,
     out: &mut W,
@@ -190,7 +206,7 @@ pub(crate) fn play_other_ways<W: Write + Drop>(
     let anew = opened(alloc, config, played.words.as_slice());
     play_again(played, example, page, out)?;
     match anew {
-        Ok(system) => play_list(alloc, system, &listed, page, out),
+        Ok(mut system) => play_list(alloc, &mut system, &listed, page, out),
         Err(_) => Err(io::Error::from(AllocError)),
     }
 }

@@ -1,10 +1,9 @@
 //! Answers as texts write them: those to events, and the operations, records and events that look-ups tell.
 
-use crate::messages::put_line;
+use crate::replies::Reply;
 use machine_table::{Answer, Event, Refusal};
 use network::Counts;
 use physiological_order::{Op, Record, Verdict};
-use std::alloc::AllocError;
 
 pub fn yes_or_no(is_so: bool) -> &'static str {
     if is_so { "yes" } else { "no" }
@@ -25,73 +24,79 @@ pub fn name_of_refusal(refusal: Refusal) -> &'static str {
     }
 }
 
+fn put_access(kind: &str, byte: u64, value: Option<u64>, out: &mut Reply) {
+    out.word(kind);
+    out.address(byte);
+    if let Some(value) = value {
+        out.number(value);
+    }
+}
+
 /// An operation, as `W 0x8 3`.
-pub fn put_op(op: &Op, out: &mut String) -> Result<(), AllocError> {
-    match op {
-        Op::Load(word) => write!(out, "R {:#x}", word.byte()),
-        Op::Store(word, value) => write!(out, "W {:#x} {value}", word.byte()),
-        Op::Swap(word, value) => write!(out, "S {:#x} {value}", word.byte()),
+pub fn put_op(op: &Op, out: &mut Reply) {
+    let byte = op.addr().byte();
+    match *op {
+        Op::Load(_) => put_access("R", byte, None, out),
+        Op::Store(_, value) => put_access("W", byte, Some(value), out),
+        Op::Swap(_, value) => put_access("S", byte, Some(value), out),
     }
 }
 
 /// Operations, joined by `; `, or `none`.
-pub fn put_ops(ops: &[Op], out: &mut String) -> Result<(), AllocError> {
-    if ops.is_empty() {
-        return out.push_str("none");
-    }
-    let mut is_first = true;
+pub fn put_ops(ops: &[Op], out: &mut Reply) {
     for op in ops {
-        if !is_first {
-            out.push_str("; ")?;
-        }
-        is_first = false;
-        put_op(op, out)?;
+        out.next_part();
+        put_op(op, out);
     }
-    Ok(())
+    out.or("none");
+}
+
+/// An open operation, and whether its request is out; or `none`.
+pub fn put_open(open: Option<(Op, bool)>, out: &mut Reply) {
+    let Some((op, is_out)) = open else {
+        return out.word("none");
+    };
+    put_op(&op, out);
+    if is_out {
+        out.word("requested");
+    }
 }
 
 /// A record: core, place, operation, what was received, time and number.
-pub fn put_record(record: &Record, out: &mut String) -> Result<(), AllocError> {
-    write!(out, "{} {} ", record.core, record.place)?;
-    put_op(&record.op, out)?;
+pub fn put_record(record: &Record, out: &mut Reply) {
+    out.number(u64::from(record.core));
+    out.number(u64::from(record.place));
+    put_op(&record.op, out);
     if let Some(received) = record.received {
-        write!(out, " {received}")?;
+        out.number(received);
     }
-    write!(out, " {} {}", record.ts, record.number)
+    out.number(record.ts);
+    out.number(record.number);
 }
 
 /// The record at an index, or `none`.
-pub fn put_record_at(records: &[Record], at: u64, out: &mut String) -> Result<(), AllocError> {
-    let at = usize::try_from(at).unwrap_or(usize::MAX);
-    match records.get(at) {
+pub fn put_record_at(records: &[Record], at: u64, out: &mut Reply) {
+    match records.get(usize::try_from(at).unwrap_or(usize::MAX)) {
         Some(record) => put_record(record, out),
-        None => out.push_str("none"),
+        None => out.word("none"),
     }
 }
 
 /// The numbers of records, in their order, or `none`.
-pub fn put_numbers(records: &[Record], out: &mut String) -> Result<(), AllocError> {
-    if records.is_empty() {
-        return out.push_str("none");
-    }
-    let mut is_first = true;
+pub fn put_numbers(records: &[Record], out: &mut Reply) {
     for record in records {
-        if !is_first {
-            out.push(' ')?;
-        }
-        is_first = false;
-        write!(out, "{}", record.number)?;
+        out.number(record.number);
     }
-    Ok(())
+    out.or("none");
 }
 
 /// The verdict on records.
-pub fn put_verdict(verdict: &Verdict, out: &mut String) -> Result<(), AllocError> {
-    match verdict {
-        Verdict::Legal => out.push_str("legal"),
-        Verdict::BadNumber(number) => write!(out, "bad number {number}"),
-        Verdict::OutOfProgramOrder(number) => write!(out, "out of program order {number}"),
-        Verdict::WrongValue(number) => write!(out, "wrong value {number}"),
+pub fn put_verdict(verdict: &Verdict, out: &mut Reply) {
+    match *verdict {
+        Verdict::Legal => out.word("legal"),
+        Verdict::BadNumber(number) => out.named("bad number", number),
+        Verdict::OutOfProgramOrder(number) => out.named("out of program order", number),
+        Verdict::WrongValue(number) => out.named("wrong value", number),
     }
 }
 
@@ -115,43 +120,43 @@ fn name_of_answer(answer: &Answer) -> &'static str {
 }
 
 /// The answer to an event.
-pub fn put_answer(answer: &Answer, out: &mut String) -> Result<(), AllocError> {
-    out.push_str(name_of_answer(answer))?;
+pub fn put_answer(answer: &Answer, out: &mut Reply) {
+    out.word(name_of_answer(answer));
     match answer {
-        Answer::Completed(record) => {
-            out.push(' ')?;
-            put_record(record, out)
-        }
-        Answer::Refused(refusal) => write!(out, " {}", name_of_refusal(*refusal)),
-        _ => Ok(()),
+        Answer::Completed(record) => put_record(record, out),
+        Answer::Refused(refusal) => out.word(name_of_refusal(*refusal)),
+        _ => {}
     }
 }
 
-/// An event as it is called, where lines have so many words.
-pub fn put_event(event: &Event, line_words: u32, out: &mut String) -> Result<(), AllocError> {
-    match event {
+/// An event as it is called.
+pub fn put_event(event: &Event, out: &mut Reply) {
+    match *event {
         Event::Issue(core, op) => {
-            write!(out, "issue {core} ")?;
-            put_op(op, out)
+            out.named("issue", u64::from(core));
+            put_op(&op, out);
         }
-        Event::Attempt(core) => write!(out, "attempt {core}"),
-        Event::Deliver(message) => write!(out, "deliver m{}", message.0),
+        Event::Attempt(core) => out.named("attempt", u64::from(core)),
+        Event::Deliver(message) => {
+            out.word("deliver");
+            out.message(message.0);
+        }
         Event::EvictCache(core, line) => {
-            write!(out, "evict core {core} ")?;
-            put_line(*line, line_words, out)
+            out.named("evict core", u64::from(core));
+            out.line(line);
         }
         Event::EvictBank(bank, line) => {
-            write!(out, "evict bank {bank} ")?;
-            put_line(*line, line_words, out)
+            out.named("evict bank", u64::from(bank));
+            out.line(line);
         }
-        Event::Advance(core) => write!(out, "advance {core}"),
+        Event::Advance(core) => out.named("advance", u64::from(core)),
     }
 }
 
 /// How many messages of the counted kinds were sent.
-pub fn put_counts(counts: &Counts, out: &mut String) -> Result<(), AllocError> {
-    write!(out, "renewals {} ", counts.renewals)?;
-    write!(out, "upgrades {} ", counts.upgrades)?;
-    write!(out, "flushes {} ", counts.flushes)?;
-    write!(out, "write-backs {}", counts.write_backs)
+pub fn put_counts(counts: &Counts, out: &mut Reply) {
+    out.counted("renewals", counts.renewals);
+    out.counted("upgrades", counts.upgrades);
+    out.counted("flushes", counts.flushes);
+    out.counted("write-backs", counts.write_backs);
 }

@@ -1,70 +1,74 @@
 //! Why a line can't be read.
 
 use std::alloc::{AllocError, AllocFailed};
-use thiserror::Error;
 
 /// Why a line can't be read.
-#[derive(Clone, Copy, Debug, PartialEq, Eq, Error)]
+#[derive(Clone, Copy)]
 pub enum Cause {
-    #[error("a number is wanted")]
     Number,
-    /// A number past 32 bits.
-    #[error("a number is too large")]
-    SmallNumber,
-    /// A number past 64 bits.
-    #[error("a number is too large")]
+    /// A number past 64 bits, or past 32 where so many are wanted.
     TooLarge,
-    #[error("a number from 1 to 16 is wanted")]
     Drawers,
-    #[error("an address is wanted")]
     Address,
-    #[error("an address is a multiple of 8")]
     Unaligned,
-    #[error("a message is wanted")]
     Message,
-    #[error("an operation is wanted")]
     Operation,
-    #[error("an event is wanted")]
     Event,
-    #[error("core or bank is wanted")]
     Seat,
-    #[error("bank is wanted")]
     Bank,
-    #[error("there is no such call")]
     Call,
-    #[error("an option is wanted")]
     Option,
-    #[error("with is wanted")]
     With,
-    #[error("yes or no is wanted")]
     YesOrNo,
-    #[error("keep or forget is wanted")]
     KeepOrForget,
-    #[error("a word too many")]
     MoreWords,
-    #[error("a call is wanted before the answer")]
     NoCall,
-    #[error("an answer is wanted")]
     NoAnswer,
-    #[error("a title is wanted")]
     NoTitle,
-    #[error("an example is wanted")]
     NoExample,
-    #[error("machine or seats or numbers is wanted")]
     Beginning,
-    #[error("a number of turns from 1 on is wanted")]
     Turns,
-    #[error("a repeat inside another")]
     Inside,
-    #[error("a repeat without a line")]
     Empty,
-    #[error("a repeat without an end")]
     NoEnd,
-    #[error("there is no repeat to end")]
     NoRepeat,
     /// The player has no memory to read the line: no fault of the line.
-    #[error("no memory")]
     NoMemory,
+}
+
+impl Cause {
+    /// What is told of it.
+    pub fn text(self) -> &'static str {
+        match self {
+            Cause::Number => "a number is wanted",
+            Cause::TooLarge => "a number is too large",
+            Cause::Drawers => "a number from 1 to 16 is wanted",
+            Cause::Address => "an address is wanted",
+            Cause::Unaligned => "an address is a multiple of 8",
+            Cause::Message => "a message is wanted",
+            Cause::Operation => "an operation is wanted",
+            Cause::Event => "an event is wanted",
+            Cause::Seat => "core or bank is wanted",
+            Cause::Bank => "bank is wanted",
+            Cause::Call => "there is no such call",
+            Cause::Option => "an option is wanted",
+            Cause::With => "with is wanted",
+            Cause::YesOrNo => "yes or no is wanted",
+            Cause::KeepOrForget => "keep or forget is wanted",
+            Cause::MoreWords => "a word too many",
+            Cause::NoCall => "a call is wanted before the answer",
+            Cause::NoAnswer => "an answer is wanted",
+            Cause::NoTitle => "a title is wanted",
+            Cause::NoExample => "an example is wanted",
+            Cause::Beginning => "machine or seats or numbers is wanted",
+            Cause::Turns => "a number of turns from 1 on is wanted",
+            Cause::Inside => "a repeat inside another",
+            Cause::Empty => "a repeat without a line",
+            Cause::NoEnd => "a repeat without an end",
+            Cause::NoRepeat => "there is no repeat to end",
+            Cause::NoMemory => "no memory",
+        }
+    }
 }
 
 impl From<AllocError> for Cause {
@@ -80,7 +84,7 @@ impl<T: Drop> From<AllocFailed<T>> for Cause {
 }
 
 /// The number of a line that can't be read, and why.
-#[derive(Clone, Copy, Debug)]
+#[derive(Clone, Copy)]
 pub struct Fault {
     pub line: usize,
     pub cause: Cause,

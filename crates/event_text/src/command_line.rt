@@ -11,7 +11,7 @@ pub struct Wishes {
 }
 
 /// How texts are played.
-#[derive(Clone, Copy, Debug)]
+#[derive(Clone, Copy)]
 pub struct Manner {
     /// The texts are written, with the answers that came.
     pub prints: bool,
@@ -30,7 +30,12 @@ impl Wishes {
             again: false,
             three_ways: false,
         };
-        for word in words.into_iter().skip(1) {
+        let mut is_program = true;
+        for word in words {
+            if is_program {
+                is_program = false;
+                continue;
+            }
             match word.as_str() {
                 "--print" => how.prints = true,
                 "--again" => how.again = true,

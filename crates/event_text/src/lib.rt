@@ -9,6 +9,7 @@ pub mod messages;
 pub mod openings;
 pub mod pages;
 pub mod players;
+pub mod replies;
 pub mod texts;
 mod turned;
 pub mod turns;
@@ -16,15 +17,16 @@ pub mod words;
 mod written;
 
 pub use answers::{
-    name_of_refusal, put_answer, put_counts, put_event, put_numbers, put_op, put_ops, put_record,
-    put_record_at, put_verdict, yes_or_no,
+    name_of_refusal, put_answer, put_counts, put_event, put_numbers, put_op, put_open, put_ops,
+    put_record, put_record_at, put_verdict, yes_or_no,
 };
 pub use causes::{Cause, Fault};
 pub use command_line::{Manner, Wishes};
-pub use messages::{put_copy, put_entry, put_line, put_lines, put_message, put_values, put_words};
+pub use messages::{put_copy, put_entry, put_message, put_message_or_none, put_values};
 pub use openings::{Opening, memory_of, read_opening, read_words};
 pub use pages::Page;
 pub use players::{NO_MACHINE, NO_MEMORY, Player, play_files};
-pub use texts::{Example, Text};
+pub use replies::Reply;
+pub use texts::{Example, Text, behind};
 pub use turns::{Cursor, Turn};
-pub use words::{Seat, Words};
+pub use words::{Part, Seat, Words, row_of};

@@ -1,7 +1,7 @@
 //! What is told of a text while it is played: answers that came in place of others, and how many there were.
 
-use crate::causes::Fault;
 use crate::command_line::Manner;
+use crate::replies::Reply;
 use crate::turned::{is_wanted, put_turned};
 use crate::turns::Turn;
 use crate::written::Written;
@@ -36,7 +36,7 @@ pub struct Page<'a> {
     pub(crate) faults: String,
     /// By line, what came of it, to be written behind it.
     written: Vec<Option<Written>>,
-    told: String,
+    told: Reply,
 }
 
 impl<'a> Page<'a> {
@@ -64,7 +64,7 @@ impl<'a> Page<'a> {
             wrong_turns: Vec::new(alloc),
             faults: String::new(alloc),
             written,
-            told: String::new(alloc),
+            told: Reply::new(alloc),
         })
     }
 
@@ -98,11 +98,12 @@ impl<'a> Page<'a> {
     /// Tells why a line can't be read.
     pub(crate) fn tell_fault<W: Write + Drop>(
         &mut self,
-        fault: &Fault,
+        line: usize,
+        cause: &str,
         out: &mut W,
     ) -> io::Result<()> {
         self.unreadable = self.unreadable.saturating_add(1);
-        let (name, line, cause) = (self.name, fault.line, fault.cause);
+        let name = self.name;
         if self.how.prints {
             writeln!(self.faults, "{name}:{line}: {cause}")?;
             return Ok(());
@@ -116,7 +117,7 @@ impl<'a> Page<'a> {
             return Ok(());
         };
         match place {
-            Some(written) => written.take(self.alloc, came, turn.turn, is_right),
+            Some(written) => { written.take(self.alloc, came, turn.turn, is_right, &mut self.told) }
             None => {
                 *place = Some(Written::new(self.alloc, came, is_right)?);
                 Ok(())
@@ -128,9 +129,10 @@ impl<'a> Page<'a> {
     pub fn tell<W: Write + Drop>(
         &mut self,
         turn: &Turn<'_>,
-        came: &str,
+        reply: &Reply,
         out: &mut W,
     ) -> io::Result<()> {
+        let came = reply.told()?;
         if self.how.three_ways {
             self.keep(turn.line, came)?;
         }
@@ -139,7 +141,8 @@ impl<'a> Page<'a> {
             return self.tell_unasked(turn, came, out);
         };
         self.answers = self.answers.saturating_add(1);
-        let is_right = is_wanted(wanted, came, turn.turn);
+        put_turned(wanted, turn.turn, &mut self.told);
+        let is_right = is_wanted(self.told.told()?, came);
         self.note(turn, came, is_right)?;
         if is_right {
             return Ok(());
@@ -152,9 +155,8 @@ impl<'a> Page<'a> {
         if let Some(turns) = turn.turn {
             write!(out, "turn {}: ", turns.saturating_add(1))?;
         }
-        self.told.clear();
-        put_turned(wanted, turn.turn, &mut self.told)?;
-        writeln!(out, "wanted {}, came {came}", self.told)
+        put_turned(wanted, turn.turn, &mut self.told);
+        writeln!(out, "wanted {}, came {came}", self.told.told()?)
     }
 
     /// Notes a wrong answer to a line; whether it is the first one.
@@ -179,9 +181,8 @@ impl<'a> Page<'a> {
         if self.how.prints {
             return Ok(());
         }
-        self.told.clear();
-        put_turned(turn.call, turn.turn, &mut self.told)?;
-        writeln!(out, "{} : {came}", self.told)
+        put_turned(turn.call, turn.turn, &mut self.told);
+        writeln!(out, "{} : {came}", self.told.told()?)
     }
 
     /// Keeps an answer, to be compared with those of other ways.
@@ -191,14 +192,15 @@ impl<'a> Page<'a> {
         Ok(())
     }
 
-    /// Compares what came in another way with the answer at an index of the first ones.
+    /// Tells what came in another way, where it is another answer than that at an index of the first ones.
     pub fn compare<W: Write + Drop>(
         &mut self,
         at: usize,
-        came: &str,
+        reply: &Reply,
         way: &str,
         out: &mut W,
     ) -> io::Result<()> {
+        let came = reply.told()?;
         let Some(first) = self.firsts.get(at) else {
             return Ok(());
         };
@@ -215,15 +217,20 @@ impl<'a> Page<'a> {
     pub fn compare_opening<W: Write + Drop>(
         &mut self,
         wanted: &str,
-        came: &str,
+        reply: &Reply,
         way: &str,
         out: &mut W,
     ) -> io::Result<()> {
+        let came = reply.told()?;
         if came == wanted {
             return Ok(());
         }
         self.wrong = self.wrong.saturating_add(1);
-        let (name, line) = (self.name, self.firsts.first().map_or(0, |first| first.line));
+        let name = self.name;
+        let line = match self.firsts.first() {
+            Some(first) => first.line,
+            None => 0,
+        };
         writeln!(out, "{name}:{line}: wanted {wanted}, came {came} ({way})")
     }
 
@@ -244,12 +251,14 @@ impl<'a> Page<'a> {
     }
 
     /// Writes the lines of the text, with the answers that came.
-    fn write_text<W: Write + Drop>(&self, lines: &[&str], out: &mut W) -> io::Result<()> {
+    fn write_text<W: Write + Drop>(&mut self, lines: &[&str], out: &mut W) -> io::Result<()> {
         for (at, line) in lines.iter().enumerate() {
+            self.told.clear();
             match self.written.get(at) {
-                Some(Some(written)) => written.write(line, out)?,
-                _ => writeln!(out, "{line}")?,
+                Some(Some(written)) => written.put(line, &mut self.told)?,
+                _ => self.told.add(line),
             }
+            writeln!(out, "{}", self.told.told()?)?;
         }
         Ok(())
     }

@@ -66,8 +66,10 @@ fn play_example<P: Player, W: Write + Drop>(
             page.end_example(out)
         }
         Ok(()) => Ok(()),
-        Err(fault) if fault.cause == Cause::NoMemory => Err(io::Error::from(AllocError)),
-        Err(fault) => page.tell_fault(&fault, out),
+        Err(fault) => match fault.cause {
+            Cause::NoMemory => Err(io::Error::from(AllocError)),
+            cause => page.tell_fault(fault.line, cause.text(), out),
+        },
     }
 }
 

@@ -24,18 +24,26 @@ pub(crate) fn said_in(line: &str) -> &str {
     }
 }
 
-/// The first word of a line that says something.
-pub(crate) fn first_word(line: &str) -> Option<&str> {
-    said_in(line).split_ascii_whitespace().next()
+/// The first word of a text; an empty one where there is none.
+pub(crate) fn first_word(text: &str) -> &str {
+    text.split_ascii_whitespace().next().unwrap_or("")
+}
+
+/// What stands in a text behind its beginning.
+pub fn behind<'a>(text: &'a str, beginning: &str) -> &'a str {
+    text.strip_prefix(beginning).unwrap_or("")
 }
 
 fn is_heading(line: &str) -> bool {
-    first_word(line) == Some("example")
+    first_word(said_in(line)) == "example"
 }
 
 impl<'a> Text<'a> {
     pub fn new(alloc: Global, content: &'a str) -> Result<Text<'a>, AllocError> {
-        let lines = content.lines().collect(alloc)?;
+        let mut lines = Vec::new(alloc);
+        for line in content.lines() {
+            lines.push(line)?;
+        }
         Ok(Text { lines })
     }
 

@@ -1,7 +1,7 @@
 //! The lines of an example in the order in which they are played: what is repeated comes as often as it says.
 
 use crate::causes::{Cause, Fault};
-use crate::texts::{Example, said_in};
+use crate::texts::{Example, behind, first_word, said_in};
 use crate::turned::decimal;
 use crate::words::Words;
 use std::str::Split;
@@ -19,20 +19,19 @@ pub struct Turn<'a> {
 }
 
 impl<'a> Turn<'a> {
-    /// The words of its call, where lines have so many words.
+    /// The words of its call, where lines of the machine have so many words.
     pub fn words(&self, line_words: u32) -> Words<'a> {
         Words::new(self.call, self.turn, line_words)
     }
 
     /// The name of its call.
     pub fn name(&self) -> &'a str {
-        self.call.split_ascii_whitespace().next().unwrap_or("")
+        first_word(self.call)
     }
 
     /// The texts between the `;` behind the call's name.
     pub fn parts(&self) -> Split<'a, char> {
-        let behind = self.call.strip_prefix(self.name()).unwrap_or("");
-        behind.split(';')
+        behind(self.call, self.name()).split(';')
     }
 }
 
@@ -208,24 +207,16 @@ impl<'a> Cursor<'a> {
 
 /// Whether an example may begin with this call.
 fn begins(call: &str) -> bool {
-    matches!(
-        call.split_ascii_whitespace().next(),
-        Some("machine" | "seats" | "numbers")
-    )
+    matches!(first_word(call), "machine" | "seats" | "numbers")
 }
 
 /// How many turns a line with `repeat` has, and what stands behind that.
 fn turns_of(said: &str) -> Result<(u64, &str), Cause> {
-    let behind = said
-        .trim()
-        .strip_prefix("repeat")
-        .ok_or(Cause::Turns)?
-        .trim();
-    let number = behind.split_ascii_whitespace().next().ok_or(Cause::Number)?;
-    let rest = behind.strip_prefix(number).unwrap_or("").trim();
+    let rest = behind(said.trim(), "repeat").trim();
+    let number = first_word(rest);
     match decimal(number) {
         Some(0) => Err(Cause::Turns),
-        Some(turns) => Ok((turns, rest)),
+        Some(turns) => Ok((turns, behind(rest, number).trim())),
         None => Err(Cause::Number),
     }
 }

@@ -1,16 +1,27 @@
 //! The words of a call, from the left.
 
 use crate::causes::Cause;
-use crate::turned::{Turned, decimal, hexadecimal, in_turn, is_decimal, message};
+use crate::turned::{Kind, in_turn, is_digits};
 use network::{LineNo, MsgNo};
 use physiological_order::{Op, WordAddr};
 use std::str::SplitAsciiWhitespace;
 
 /// A core's seat, or a bank's.
-#[derive(Clone, Copy, Debug, PartialEq, Eq)]
+#[derive(Clone, Copy)]
 pub enum Seat {
     Core(u32),
     Bank(u32),
+}
+
+/// What stands behind a call's name.
+#[derive(Clone, Copy)]
+pub enum Part {
+    Nothing,
+    /// A number of 32 bits.
+    Small,
+    Number,
+    Line,
+    Message,
 }
 
 /// The words that are left of a call, or of a part of one.
@@ -36,112 +47,143 @@ impl<'a> Words<'a> {
         self.left.next()
     }
 
+    /// The next word, which is wanted.
+    pub fn wanted(&mut self, cause: Cause) -> Result<&'a str, Cause> {
+        self.next_word().ok_or(cause)
+    }
+
     /// No word is left.
     pub fn end(&mut self) -> Result<(), Cause> {
-        match self.left.next() {
+        match self.next_word() {
             None => Ok(()),
             Some(_) => Err(Cause::MoreWords),
         }
     }
 
+    /// The number of a word of this kind, which is wanted.
+    fn value(&self, word: &str, wanted: Kind, cause: Cause) -> Result<u64, Cause> {
+        match in_turn(word, self.turn)? {
+            Some((kind, number)) if kind == wanted => Ok(number),
+            _ => Err(cause),
+        }
+    }
+
     /// The number that a word stands for.
     pub fn number_in(&self, word: &str) -> Result<u64, Cause> {
-        match in_turn(word, self.turn)? {
-            Turned::Number(number) => Ok(number),
-            Turned::Word(word) if is_decimal(word) => decimal(word).ok_or(Cause::TooLarge),
-            _ => Err(Cause::Number),
+        let is_large = is_digits(word, false);
+        let cause = if is_large {
+            Cause::TooLarge
+        } else {
+            Cause::Number
+        };
+        self.value(word, Kind::Number, cause)
+    }
+
+    /// The number of 32 bits that a word stands for.
+    pub fn small_in(&self, word: &str) -> Result<u32, Cause> {
+        match u32::try_from(self.number_in(word)?) {
+            Ok(number) => Ok(number),
+            Err(_) => Err(Cause::TooLarge),
         }
     }
 
     /// The word at an address that a word stands for.
     pub fn address_in(&self, word: &str) -> Result<WordAddr, Cause> {
-        let byte = match in_turn(word, self.turn)? {
-            Turned::Address(byte) => Some(byte),
-            Turned::Word(word) => hexadecimal(word),
-            _ => None,
-        };
-        match byte {
-            Some(byte) => WordAddr::new(byte).ok_or(Cause::Unaligned),
-            None => Err(Cause::Address),
-        }
+        let byte = self.value(word, Kind::Address, Cause::Address)?;
+        WordAddr::new(byte).ok_or(Cause::Unaligned)
     }
 
     /// The next word, a number.
     pub fn number(&mut self) -> Result<u64, Cause> {
-        match self.left.next() {
-            Some(word) => self.number_in(word),
-            None => Err(Cause::Number),
-        }
+        let word = self.wanted(Cause::Number)?;
+        self.number_in(word)
     }
 
     /// The next word, a number of 32 bits.
     pub fn small(&mut self) -> Result<u32, Cause> {
-        u32::try_from(self.number()?).map_err(|_| Cause::SmallNumber)
+        let word = self.wanted(Cause::Number)?;
+        self.small_in(word)
     }
 
     /// The next word, an address.
     pub fn address(&mut self) -> Result<WordAddr, Cause> {
-        match self.left.next() {
-            Some(word) => self.address_in(word),
-            None => Err(Cause::Address),
-        }
+        let word = self.wanted(Cause::Address)?;
+        self.address_in(word)
     }
 
     /// The next word, a line: by the address of one of its words, or by its number.
     pub fn line(&mut self) -> Result<LineNo, Cause> {
-        let word = self.left.next().ok_or(Cause::Number)?;
-        if word.starts_with("0x") {
-            let address = self.address_in(word)?;
-            return Ok(line_of(address, self.line_words));
+        let word = self.wanted(Cause::Number)?;
+        if !word.starts_with("0x") {
+            return Ok(LineNo(self.number_in(word)?));
         }
-        Ok(LineNo(self.number_in(word)?))
+        let address = self.address_in(word)?;
+        Ok(LineNo(address.word() / u64::from(self.line_words.max(1))))
     }
 
     /// The next word, the number of a message, as `m3`.
     pub fn message(&mut self) -> Result<MsgNo, Cause> {
-        let word = self.left.next().ok_or(Cause::Message)?;
-        match in_turn(word, self.turn)? {
-            Turned::Message(number) => Ok(MsgNo(number)),
-            Turned::Word(word) => Ok(MsgNo(message(word).ok_or(Cause::Message)?)),
-            _ => Err(Cause::Message),
-        }
+        let word = self.wanted(Cause::Message)?;
+        Ok(MsgNo(self.value(word, Kind::Message, Cause::Message)?))
     }
 
     /// The operation that begins with a word and goes on with the next ones.
     pub fn operation_of(&mut self, kind: &str) -> Result<Op, Cause> {
-        match kind {
-            "R" => Ok(Op::Load(self.address()?)),
-            "W" => {
-                let address = self.address()?;
-                Ok(Op::Store(address, self.number()?))
-            }
-            "S" => {
-                let address = self.address()?;
-                Ok(Op::Swap(address, self.number()?))
-            }
-            _ => Err(Cause::Operation),
+        if kind != "R" && kind != "W" && kind != "S" {
+            return Err(Cause::Operation);
         }
+        let address = self.address()?;
+        if kind == "R" {
+            return Ok(Op::Load(address));
+        }
+        let value = self.number()?;
+        if kind == "W" {
+            return Ok(Op::Store(address, value));
+        }
+        Ok(Op::Swap(address, value))
     }
 
     /// The next words, an operation.
     pub fn operation(&mut self) -> Result<Op, Cause> {
-        match self.left.next() {
-            Some(kind) => self.operation_of(kind),
-            None => Err(Cause::Operation),
+        let kind = self.wanted(Cause::Operation)?;
+        self.operation_of(kind)
+    }
+
+    /// The seat that begins with a word and goes on with the next one.
+    pub fn seat_of(&mut self, kind: &str) -> Result<Seat, Cause> {
+        if kind == "core" {
+            return Ok(Seat::Core(self.small()?));
         }
+        if kind == "bank" {
+            return Ok(Seat::Bank(self.small()?));
+        }
+        Err(Cause::Seat)
     }
 
     /// The next two words, a seat.
     pub fn seat(&mut self) -> Result<Seat, Cause> {
-        match self.left.next() {
-            Some("core") => Ok(Seat::Core(self.small()?)),
-            Some("bank") => Ok(Seat::Bank(self.small()?)),
-            _ => Err(Cause::Seat),
+        let kind = self.wanted(Cause::Seat)?;
+        self.seat_of(kind)
+    }
+
+    /// The number that a part stands for; 0 for nothing.
+    pub fn part(&mut self, part: Part) -> Result<u64, Cause> {
+        match part {
+            Part::Nothing => Ok(0),
+            Part::Small => Ok(u64::from(self.small()?)),
+            Part::Number => self.number(),
+            Part::Line => Ok(self.line()?.0),
+            Part::Message => Ok(self.message()?.0),
         }
     }
 }
 
-/// The line of a word, where lines have so many words.
-pub fn line_of(word: WordAddr, line_words: u32) -> LineNo {
-    LineNo(word.word() / u64::from(line_words.max(1)))
+/// What a table has in the row of a name.
+pub fn row_of<K: Copy>(table: &[(&str, K)], name: &str) -> Option<K> {
+    for (of, row) in table {
+        if *of == name {
+            return Some(*row);
+        }
+    }
+    None
 }

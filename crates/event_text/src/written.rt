@@ -1,9 +1,9 @@
 //! Lines with the answers that came behind them.
 
-use crate::turned::{is_wanted, parted};
+use crate::replies::Reply;
+use crate::texts::{behind, said_in};
+use crate::turned::{is_wanted, parted, put_turned};
 use std::alloc::{AllocError, Global};
-use std::io;
-use std::io::Write;
 
 /// What came of a line.
 #[derive(Drop)]
@@ -11,27 +11,24 @@ pub(crate) struct Written {
     /// The answer of the first turn.
     first: String,
     /// The answers of all turns so far, as one text that goes on in each turn.
-    by_turn: Option<String>,
+    by_turn: Option<Reply>,
     /// Whether an answer came that isn't the one that stands there.
     is_new: bool,
 }
 
 /// A text that is the first answer in turn 0, and the second one in turn 1 if the words that differ go on by one.
-fn going_on(alloc: Global, first: &str, second: &str) -> Result<String, AllocError> {
-    let mut text = String::new(alloc);
+fn going_on(alloc: Global, first: &str, second: &str) -> Reply {
+    let mut text = Reply::new(alloc);
     let mut others = second.split_ascii_whitespace();
     for word in first.split_ascii_whitespace() {
-        if !text.is_empty() {
-            text.push(' ')?;
-        }
         let (front, end) = parted(word);
-        if others.next() == Some(word) {
-            text.push_str(word)?;
-        } else {
-            write!(text, "{front}+@{end}")?;
+        text.word(front);
+        if others.next() != Some(word) {
+            text.add("+@");
         }
+        text.add(end);
     }
-    Ok(text)
+    text
 }
 
 impl Written {
@@ -43,50 +40,59 @@ impl Written {
         })
     }
 
-    /// Takes in the answer of a further turn.
+    /// Takes in the answer of a further turn; `told` is for a text of that turn.
     pub(crate) fn take(
         &mut self,
         alloc: Global,
         came: &str,
         turn: Option<u64>,
         is_right: bool,
+        told: &mut Reply,
     ) -> Result<(), AllocError> {
         self.is_new = self.is_new || !is_right;
         if turn == Some(1) && came != self.first.as_str() {
-            self.by_turn = Some(going_on(alloc, self.first.as_str(), came)?);
+            self.by_turn = Some(going_on(alloc, self.first.as_str(), came));
         }
-        let goes_on = match &self.by_turn {
-            Some(text) => is_wanted(text.as_str(), came, turn),
-            None => true,
+        let Some(text) = &self.by_turn else {
+            return Ok(());
         };
-        if !goes_on {
+        put_turned(text.told()?, turn, told);
+        if !is_wanted(told.told()?, came) {
             self.by_turn = None;
         }
         Ok(())
     }
 
-    /// Writes the line with the answer that came, before its comment; a line that had it already stays.
-    pub(crate) fn write<W: Write + Drop>(&self, line: &str, out: &mut W) -> io::Result<()> {
+    /// Tells the line with the answer that came, before its comment; a line that had it already stays.
+    pub(crate) fn put(&self, line: &str, told: &mut Reply) -> Result<(), AllocError> {
         if !self.is_new {
-            return writeln!(out, "{line}");
+            told.add(line);
+            return Ok(());
         }
-        let answer = match &self.by_turn {
-            Some(text) => text.as_str(),
-            None => self.first.as_str(),
-        };
-        let (said, comment) = match line.split_once('#') {
-            Some((said, comment)) => (said, Some(comment)),
-            None => (line, None),
-        };
+        let said = said_in(line);
         match said.split_once(':') {
-            Some((call, _)) => write!(out, "{call}: {answer}")?,
-            None => write!(out, "{} : {answer}", said.trim_end())?,
+            Some((call, _)) => told.add(call),
+            None => {
+                told.add(said.trim_end());
+                told.add(" ");
+            }
         }
-        let Some(comment) = comment else {
-            return writeln!(out);
-        };
-        let blanks = said.strip_prefix(said.trim_end()).unwrap_or("");
-        let blanks = if blanks.is_empty() { " " } else { blanks };
-        writeln!(out, "{blanks}#{comment}")
+        told.add(": ");
+        match &self.by_turn {
+            Some(text) => told.add(text.told()?),
+            None => told.add(self.first.as_str()),
+        }
+        put_comment(said, behind(line, said), told);
+        Ok(())
     }
+}
+
+/// Tells a comment behind the blanks that stand before it, or one blank.
+fn put_comment(said: &str, comment: &str, told: &mut Reply) {
+    if comment.is_empty() {
+        return;
+    }
+    let blanks = behind(said, said.trim_end());
+    told.add(if blanks.is_empty() { " " } else { blanks });
+    told.add(comment);
 }

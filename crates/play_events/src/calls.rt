@@ -1,7 +1,9 @@
 //! What lines ask for: an opening, events, programs and drives, and look-ups.
 
-use event_text::{Cause, Opening, Seat, Turn, Words, read_opening, read_words};
-use interleaving_core::{Event, LineNo, MsgNo};
+use event_text::{
+    Cause, Opening, Part, Seat, Turn, Words, behind, read_opening, read_words, row_of,
+};
+use interleaving_core::Event;
 use physiological_order::{Op, WordAddr};
 use programs::Step;
 use schedules::Policy;
@@ -24,37 +26,73 @@ pub(crate) enum Call {
     Look(Look),
 }
 
-/// What is looked at.
+/// What is looked at, the core, bank or count that stands first behind that, and the number of what stands next.
 #[derive(Clone, Copy)]
-pub(crate) enum Look {
-    Owners(LineNo),
-    Word(WordAddr),
+pub(crate) struct Look {
+    pub what: What,
+    pub number: u32,
+    pub at: u64,
+}
+
+/// What can be looked at.
+#[derive(Clone, Copy)]
+pub(crate) enum What {
+    Owners,
+    Word,
     Sent,
     Records,
-    Record(u64),
+    Record,
     Stale,
     Check,
     Arranged,
-    Issued(u32),
-    Open(u32),
-    Victim(u32, LineNo),
-    Room(MsgNo),
-    Copies(u32),
-    Free(u32),
-    Entries(u32),
+    Issued,
+    Open,
+    Victim,
+    Room,
+    Copies,
+    Free,
+    Entries,
     Flight,
-    Time(u32),
-    Copy(u32, LineNo),
-    MemoryTime(u32),
-    Entry(u32, LineNo),
-    Dram(u32, LineNo),
-    Message(MsgNo),
+    Time,
+    Copy,
+    MemoryTime,
+    Entry,
+    Dram,
+    Message,
     Order,
     Shape,
     Stopped,
     /// The whole machine, with the values of so many words.
-    State(u32),
+    State,
 }
+
+/// By the names of look-ups: whether a small number stands behind them, and what stands next.
+const LOOKS: &[(&str, (What, bool, Part))] = &[
+    ("records", (What::Records, false, Part::Nothing)),
+    ("record", (What::Record, false, Part::Number)),
+    ("stale", (What::Stale, false, Part::Nothing)),
+    ("check", (What::Check, false, Part::Nothing)),
+    ("arranged", (What::Arranged, false, Part::Nothing)),
+    ("issued", (What::Issued, true, Part::Nothing)),
+    ("open", (What::Open, true, Part::Nothing)),
+    ("sent", (What::Sent, false, Part::Nothing)),
+    ("owners", (What::Owners, false, Part::Line)),
+    ("copies", (What::Copies, true, Part::Nothing)),
+    ("free", (What::Free, true, Part::Nothing)),
+    ("entries", (What::Entries, true, Part::Nothing)),
+    ("flight", (What::Flight, false, Part::Nothing)),
+    ("shape", (What::Shape, false, Part::Nothing)),
+    ("stopped", (What::Stopped, false, Part::Nothing)),
+    ("state", (What::State, true, Part::Nothing)),
+    ("message", (What::Message, false, Part::Message)),
+    ("room", (What::Room, false, Part::Message)),
+    ("time", (What::Time, true, Part::Nothing)),
+    ("memory-time", (What::MemoryTime, true, Part::Nothing)),
+    ("victim", (What::Victim, true, Part::Line)),
+    ("copy", (What::Copy, true, Part::Line)),
+    ("entry", (What::Entry, true, Part::Line)),
+    ("dram", (What::Dram, true, Part::Line)),
+];
 
 /// The event that a name and the next words tell.
 fn event_of(name: &str, words: &mut Words<'_>) -> Result<Event, Cause> {
@@ -76,7 +114,7 @@ fn event_of(name: &str, words: &mut Words<'_>) -> Result<Event, Cause> {
 
 /// The event that a text tells, and no more.
 fn event(mut words: Words<'_>) -> Result<Event, Cause> {
-    let name = words.next_word().ok_or(Cause::Event)?;
+    let name = words.wanted(Cause::Event)?;
     let event = event_of(name, &mut words)?;
     words.end()?;
     Ok(event)
@@ -92,27 +130,20 @@ fn events(alloc: Global, turn: &Turn<'_>, line_words: u32) -> Result<Vec<Event>,
     Ok(events)
 }
 
-/// A step that a word and the next ones tell.
-fn step_of(word: &str, words: &mut Words<'_>) -> Result<Step, Cause> {
-    match word {
-        "A" => Ok(Step::Advance),
-        kind => Ok(Step::Op(words.operation_of(kind)?)),
-    }
-}
-
 /// A step that a text tells, and how often it is done.
 fn steps_of(mut words: Words<'_>) -> Result<(u32, Step), Cause> {
-    let word = words.next_word().ok_or(Cause::Operation)?;
+    let word = words.wanted(Cause::Operation)?;
     let (times, word) = match words.number_in(word) {
-        Ok(times) => {
-            let times = u32::try_from(times).map_err(|_| Cause::SmallNumber)?;
-            (times, words.next_word().ok_or(Cause::Operation)?)
-        }
+        Ok(_) => (words.small_in(word)?, words.wanted(Cause::Operation)?),
         Err(_) => (1, word),
     };
-    let step = step_of(word, &mut words)?;
+    if word == "A" {
+        words.end()?;
+        return Ok((times, Step::Advance));
+    }
+    let op = words.operation_of(word)?;
     words.end()?;
-    Ok((times, step))
+    Ok((times, Step::Op(op)))
 }
 
 /// Adds a step so many times.
@@ -137,72 +168,32 @@ fn program(alloc: Global, turn: &Turn<'_>) -> Result<Call, Cause> {
     let mut parts = turn.parts();
     let first = parts.next().unwrap_or("").trim();
     let mut words = Words::new(first, turn.turn, 1);
-    let name = words.next_word().ok_or(Cause::Number)?;
-    let core = u32::try_from(words.number_in(name)?).map_err(|_| Cause::SmallNumber)?;
-    let behind = first.strip_prefix(name).unwrap_or("");
-    let mut part = Some(behind);
-    if behind.is_empty() {
-        part = parts.next();
+    let name = words.wanted(Cause::Number)?;
+    let core = words.small_in(name)?;
+    let rest = behind(first, name);
+    if !rest.is_empty() {
+        add_steps(&mut steps, Words::new(rest, turn.turn, 1))?;
     }
-    for _ in 0..u64::MAX {
-        let Some(text) = part else {
-            break;
-        };
-        add_steps(&mut steps, Words::new(text, turn.turn, 1))?;
-        part = parts.next();
+    for part in parts {
+        add_steps(&mut steps, Words::new(part, turn.turn, 1))?;
     }
     Ok(Call::Program(core, steps))
 }
 
-/// The look-up of records and operations that a name and the next words tell.
-fn history(name: &str, words: &mut Words<'_>) -> Result<Look, Cause> {
-    match name {
-        "records" => Ok(Look::Records),
-        "record" => Ok(Look::Record(words.number()?)),
-        "stale" => Ok(Look::Stale),
-        "check" => Ok(Look::Check),
-        "arranged" => Ok(Look::Arranged),
-        "issued" => Ok(Look::Issued(words.small()?)),
-        "open" => Ok(Look::Open(words.small()?)),
-        "sent" => Ok(Look::Sent),
-        "word" => Ok(Look::Word(words.address()?)),
-        "owners" => Ok(Look::Owners(words.line()?)),
-        _ => lists(name, words),
+/// The look-up that a name and the next words tell.
+fn read_look(name: &str, words: &mut Words<'_>) -> Result<Look, Cause> {
+    if name == "word" {
+        let at = words.address()?.byte();
+        return Ok(Look {
+            what: What::Word,
+            number: 0,
+            at,
+        });
     }
-}
-
-/// The look-up of lists and of the whole machine.
-fn lists(name: &str, words: &mut Words<'_>) -> Result<Look, Cause> {
-    match name {
-        "copies" => Ok(Look::Copies(words.small()?)),
-        "free" => Ok(Look::Free(words.small()?)),
-        "entries" => Ok(Look::Entries(words.small()?)),
-        "flight" => Ok(Look::Flight),
-        "order" => Ok(Look::Order),
-        "shape" => Ok(Look::Shape),
-        "stopped" => Ok(Look::Stopped),
-        "state" => Ok(Look::State(words.small()?)),
-        _ => parts(name, words),
-    }
-}
-
-/// The look-up of parts of the machine.
-fn parts(name: &str, words: &mut Words<'_>) -> Result<Look, Cause> {
-    match name {
-        "message" => return Ok(Look::Message(words.message()?)),
-        "room" => return Ok(Look::Room(words.message()?)),
-        "time" | "memory-time" | "victim" | "copy" | "entry" | "dram" => {}
-        _ => return Err(Cause::Call),
-    }
-    let number = words.small()?;
-    match name {
-        "time" => Ok(Look::Time(number)),
-        "memory-time" => Ok(Look::MemoryTime(number)),
-        "victim" => Ok(Look::Victim(number, words.line()?)),
-        "copy" => Ok(Look::Copy(number, words.line()?)),
-        "entry" => Ok(Look::Entry(number, words.line()?)),
-        _ => Ok(Look::Dram(number, words.line()?)),
-    }
+    let (what, has_number, next) = row_of(LOOKS, name).ok_or(Cause::Call)?;
+    let number = if has_number { words.small()? } else { 0 };
+    let at = words.part(next)?;
+    Ok(Look { what, number, at })
 }
 
 /// What a name and the next words ask for.
@@ -219,7 +210,8 @@ fn call_of(alloc: Global, name: &str, words: &mut Words<'_>) -> Result<Call, Cau
             Ok(Call::Drive(Policy::Seed(seed), words.small()?))
         }
         "made" => Ok(Call::Made(words.small()?)),
-        _ => Ok(Call::Look(history(name, words)?)),
+        "order" => order(words),
+        _ => Ok(Call::Look(read_look(name, words)?)),
     }
 }
 
@@ -229,7 +221,11 @@ fn order(words: &mut Words<'_>) -> Result<Call, Cause> {
         Some("keep") => Ok(Call::Keep(true)),
         Some("forget") => Ok(Call::Keep(false)),
         Some(_) => Err(Cause::KeepOrForget),
-        None => Ok(Call::Look(Look::Order)),
+        None => Ok(Call::Look(Look {
+            what: What::Order,
+            number: 0,
+            at: 0,
+        })),
     }
 }
 
@@ -240,10 +236,7 @@ pub(crate) fn read_call(alloc: Global, turn: &Turn<'_>, line_words: u32) -> Resu
         "run" => Ok(Call::Run(events(alloc, turn, line_words)?)),
         "program" => program(alloc, turn),
         name => {
-            let call = match name {
-                "order" => order(&mut words)?,
-                _ => call_of(alloc, name, &mut words)?,
-            };
+            let call = call_of(alloc, name, &mut words)?;
             words.end()?;
             Ok(call)
         }

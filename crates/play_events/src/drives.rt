@@ -1,6 +1,6 @@
 //! Programs of steps, by which a machine is driven by rounds or by a seed.
 
-use event_text::put_event;
+use event_text::{Reply, put_event};
 use interleaving_core::{Event, System};
 use physiological_order::Op;
 use programs::{End, Step, StepProgram};
@@ -41,13 +41,14 @@ fn by_core<'a>(
     Ok(programs)
 }
 
+/// How a drive ended, before the number of its events.
 fn name_of(end: End) -> &'static str {
     match end {
-        End::AllDone => "all-done",
-        End::Stalled => "stalled",
-        End::TurnsUsed => "limit",
-        End::Exhausted => "exhausted",
-        End::NoMemory => "memory",
+        End::AllDone => "all-done,",
+        End::Stalled => "stalled,",
+        End::TurnsUsed => "limit,",
+        End::Exhausted => "exhausted,",
+        End::NoMemory => "memory,",
     }
 }
 
@@ -80,51 +81,58 @@ impl Drives {
     }
 
     /// Gives a core its program.
-    pub(crate) fn give(&mut self, core: u32, steps: Vec<Step>) -> Result<(), AllocError> {
+    pub(crate) fn give(&mut self, core: u32, steps: Vec<Step>, out: &mut Reply) {
         let _inside: Option<Op> = None;
-        self.programs.push((core, steps))?;
-        Ok(())
+        match self.programs.push((core, steps)) {
+            Ok(()) => out.word("given"),
+            Err(_) => out.cut(),
+        }
     }
 
-    /// Drives the machine; how that ended, and how many events were made.
-    pub(crate) fn drive(
+    /// Drives the machine, if there is memory for programs; how that ended, and how many events were made.
+    fn run(
         &mut self,
         system: &mut System,
         policy: Policy,
         limit: u32,
-        answer: &mut String,
+        out: &mut Reply,
     ) -> Result<(), AllocError> {
         let mut programs = by_core(self.alloc, self.programs.as_slice(), system.cores())?;
         let programs = programs.as_mut_slice();
         let Some(run) = driven(self.alloc, system, programs, policy, limit) else {
             return Ok(());
         };
-        write!(answer, "{}, {} events", name_of(run.end), run.events.len())?;
+        out.word(name_of(run.end));
+        out.number(run.events.len() as u64);
+        out.word("events");
         self.events = run.events;
         self.at = 0;
         Ok(())
     }
 
-    /// The next events of the last drive, at most so many.
-    pub(crate) fn look(
+    /// Drives the machine, and tells how that ended, and how many events were made.
+    pub(crate) fn drive(
         &mut self,
-        count: u32,
-        line_words: u32,
-        answer: &mut String,
-    ) -> Result<(), AllocError> {
-        for made in 0..count {
+        system: &mut System,
+        policy: Policy,
+        limit: u32,
+        out: &mut Reply,
+    ) {
+        if self.run(system, policy, limit, out).is_err() {
+            out.cut();
+        }
+    }
+
+    /// The next events of the last drive, at most so many.
+    pub(crate) fn look(&mut self, count: u32, out: &mut Reply) {
+        for _ in 0..count {
             let Some(event) = self.events.get(self.at) else {
                 break;
             };
-            if made > 0 {
-                answer.push_str("; ")?;
-            }
-            put_event(event, line_words, answer)?;
+            out.next_part();
+            put_event(event, out);
             self.at = self.at.saturating_add(1);
         }
-        if answer.is_empty() {
-            answer.push_str("end")?;
-        }
-        Ok(())
+        out.or("end");
     }
 }

@@ -1,6 +1,6 @@
 //! What the records of a machine say.
 
-use event_text::{NO_MEMORY, memory_of, put_numbers, put_verdict};
+use event_text::{NO_MEMORY, Reply, memory_of, put_numbers, put_verdict};
 use interleaving_core::System;
 use physiological_order::{Op, Verdict, WordAddr, arrange, check, stale_hits};
 use std::alloc::{AllocError, Global};
@@ -25,34 +25,26 @@ pub(crate) fn put_check(
     alloc: Global,
     system: &System,
     words: &[(WordAddr, u64)],
-    answer: &mut String,
-) -> Result<(), AllocError> {
+    out: &mut Reply,
+) {
     match verdict(alloc, system, words) {
-        Ok(verdict) => put_verdict(&verdict, answer),
-        Err(_) => answer.push_str(NO_MEMORY),
+        Ok(verdict) => put_verdict(&verdict, out),
+        Err(_) => out.word(NO_MEMORY),
     }
 }
 
 /// Tells how many of the loads are stale hits.
-pub(crate) fn put_stale(
-    alloc: Global,
-    system: &System,
-    answer: &mut String,
-) -> Result<(), AllocError> {
+pub(crate) fn put_stale(alloc: Global, system: &System, out: &mut Reply) {
     match stale_hits(alloc, system.records()) {
-        Ok(count) => write!(answer, "{count}"),
-        Err(_) => answer.push_str(NO_MEMORY),
+        Ok(count) => out.number(count as u64),
+        Err(_) => out.word(NO_MEMORY),
     }
 }
 
 /// Tells the numbers of the records in the order of their times.
-pub(crate) fn put_arranged(
-    alloc: Global,
-    system: &System,
-    answer: &mut String,
-) -> Result<(), AllocError> {
+pub(crate) fn put_arranged(alloc: Global, system: &System, out: &mut Reply) {
     match arrange(alloc, system.records()) {
-        Ok(records) => put_numbers(records.as_slice(), answer),
-        Err(_) => answer.push_str(NO_MEMORY),
+        Ok(records) => put_numbers(records.as_slice(), out),
+        Err(_) => out.word(NO_MEMORY),
     }
 }

@@ -1,6 +1,6 @@
 //! Lists that a machine gives in two ways, which are compared.
 
-use event_text::{NO_MEMORY, put_lines};
+use event_text::{NO_MEMORY, Reply};
 use interleaving_core::{LineNo, MsgNo, System};
 use std::alloc::{AllocError, Global};
 
@@ -16,11 +16,12 @@ enum Found {
 }
 
 /// Tells the lines.
-fn put_found(found: &Found, line_words: u32, answer: &mut String) -> Result<(), AllocError> {
+fn put_found(found: Result<Found, AllocError>, out: &mut Reply) {
     match found {
-        Found::Same(lines) => put_lines(lines.as_slice(), line_words, answer),
-        Found::Differ => answer.push_str(DIFFER),
-        Found::NoMemory => answer.push_str(NO_MEMORY),
+        Ok(Found::Same(lines)) => out.lines(lines.as_slice()),
+        Ok(Found::Differ) => out.word(DIFFER),
+        Ok(Found::NoMemory) => out.word(NO_MEMORY),
+        Err(_) => out.cut(),
     }
 }
 
@@ -85,34 +86,20 @@ fn entries(alloc: Global, system: &System, bank: u32) -> Result<Found, AllocErro
 }
 
 /// Tells the copies of a core that may be evicted.
-pub(crate) fn put_free(
-    alloc: Global,
-    system: &System,
-    core: u32,
-    answer: &mut String,
-) -> Result<(), AllocError> {
-    put_found(&free(alloc, system, core)?, system.line_words(), answer)
+pub(crate) fn put_free(alloc: Global, system: &System, core: u32, out: &mut Reply) {
+    put_found(free(alloc, system, core), out);
 }
 
 /// Tells the settled entries of a bank.
-pub(crate) fn put_entries(
-    alloc: Global,
-    system: &System,
-    bank: u32,
-    answer: &mut String,
-) -> Result<(), AllocError> {
-    put_found(&entries(alloc, system, bank)?, system.line_words(), answer)
+pub(crate) fn put_entries(alloc: Global, system: &System, bank: u32, out: &mut Reply) {
+    put_found(entries(alloc, system, bank), out);
 }
 
 /// Tells the lines of a core's copies.
-pub(crate) fn put_copies(
-    system: &System,
-    core: u32,
-    answer: &mut String,
-) -> Result<(), AllocError> {
+pub(crate) fn put_copies(system: &System, core: u32, out: &mut Reply) {
     match system.copies(core) {
-        Ok(lines) => put_lines(&lines, system.line_words(), answer),
-        Err(_) => answer.push_str(NO_MEMORY),
+        Ok(lines) => out.lines(&lines),
+        Err(_) => out.word(NO_MEMORY),
     }
 }
 
@@ -158,33 +145,29 @@ fn are_filled(
 pub(crate) fn put_flight(
     alloc: Global,
     system: &System,
-    answer: &mut String,
+    out: &mut Reply,
 ) -> Result<(), AllocError> {
     let mut list = Vec::new(alloc);
     list.push(MsgNo(77))?;
     let Ok(messages) = system.in_flight() else {
-        return answer.push_str(NO_MEMORY);
+        out.word(NO_MEMORY);
+        return Ok(());
     };
     let Ok(are) = are_filled(system, &mut list, &messages) else {
-        return answer.push_str(NO_MEMORY);
+        out.word(NO_MEMORY);
+        return Ok(());
     };
     if are && are_one_by_one(system, &messages) {
-        return put_messages(&messages, answer);
-    }
-    answer.push_str(DIFFER)
-}
-
-fn put_messages(messages: &[MsgNo], answer: &mut String) -> Result<(), AllocError> {
-    if messages.is_empty() {
-        return answer.push_str("none");
-    }
-    let mut is_first = true;
-    for message in messages {
-        if !is_first {
-            answer.push(' ')?;
-        }
-        is_first = false;
-        write!(answer, "m{}", message.0)?;
+        put_messages(&messages, out);
+    } else {
+        out.word(DIFFER);
     }
     Ok(())
+}
+
+fn put_messages(messages: &[MsgNo], out: &mut Reply) {
+    for message in messages {
+        out.message(message.0);
+    }
+    out.or("none");
 }

@@ -1,61 +1,44 @@
 //! Look-ups of a machine.
 
-use crate::calls::Look;
+use crate::calls::{Look, What};
 use crate::histories::{put_arranged, put_check, put_stale};
 use crate::lists::{DIFFER, put_copies, put_entries, put_flight, put_free};
 use crate::states::put_state;
 use event_text::{
-    put_copy, put_counts, put_entry, put_line, put_message, put_op, put_ops, put_record_at,
+    Reply, put_copy, put_counts, put_entry, put_message_or_none, put_open, put_ops, put_record_at,
     put_values, yes_or_no,
 };
 use interleaving_core::{LineNo, MsgNo, System};
 use physiological_order::WordAddr;
-use std::alloc::{AllocError, Global};
+use std::alloc::Global;
 
-/// Tells that there is no such thing.
-fn put_none(answer: &mut String) -> Result<(), AllocError> {
-    answer.push_str("none")
-}
-
-fn put_number(number: Option<u64>, answer: &mut String) -> Result<(), AllocError> {
+fn put_number(number: Option<u64>, out: &mut Reply) {
     match number {
-        Some(number) => write!(answer, "{number}"),
-        None => put_none(answer),
+        Some(number) => out.number(number),
+        None => out.word("none"),
     }
 }
 
 /// Tells a core's open operation, and whether its request is out, which the machine must tell alike in two ways.
-pub(crate) fn put_open(system: &System, core: u32, answer: &mut String) -> Result<(), AllocError> {
-    let status = system.open_status(core);
-    match system.open_op(core) {
-        Some((_, is_out)) if status != (true, is_out) => answer.push_str(DIFFER),
-        None if status != (false, false) => answer.push_str(DIFFER),
-        Some((op, is_out)) => {
-            put_op(&op, answer)?;
-            answer.push_str(if is_out { " requested" } else { "" })
-        }
-        None => put_none(answer),
-    }
-}
-
-fn put_victim(
-    system: &System,
-    core: u32,
-    line: LineNo,
-    answer: &mut String,
-) -> Result<(), AllocError> {
-    match system.victim(core, line) {
-        Some(victim) => put_line(victim, system.line_words(), answer),
-        None => put_none(answer),
-    }
-}
-
-fn put_room(system: &System, number: MsgNo, answer: &mut String) -> Result<(), AllocError> {
-    let Some((bank, line)) = system.make_room(number) else {
-        return put_none(answer);
+pub(crate) fn put_open_of(system: &System, core: u32, out: &mut Reply) {
+    let open = system.open_op(core);
+    let wanted = match &open {
+        Some((_, is_out)) => (true, *is_out),
+        None => (false, false),
     };
-    write!(answer, "bank {bank} ")?;
-    put_line(line, system.line_words(), answer)
+    if system.open_status(core) == wanted {
+        put_open(open, out);
+    } else {
+        out.word(DIFFER);
+    }
+}
+
+fn put_room(system: &System, number: MsgNo, out: &mut Reply) {
+    let Some((bank, line)) = system.make_room(number) else {
+        return out.word("none");
+    };
+    out.named("bank", u64::from(bank));
+    out.line(line);
 }
 
 fn time_of(system: &System, core: u32) -> Option<u64> {
@@ -67,105 +50,80 @@ fn memory_time_of(system: &System, bank: u32) -> Option<u64> {
 }
 
 /// Tells a core's copy of a line.
-pub(crate) fn put_copy_of(
-    system: &System,
-    core: u32,
-    line: LineNo,
-    answer: &mut String,
-) -> Result<(), AllocError> {
-    let Some(core) = system.core(core) else {
-        return put_none(answer);
-    };
-    match core.copy(line) {
-        Some(copy) => put_copy(copy, system.line_words(), answer),
-        None => put_none(answer),
+pub(crate) fn put_copy_of(system: &System, core: u32, line: LineNo, out: &mut Reply) {
+    match system.core(core) {
+        Some(core) => put_copy(core.copy(line), out),
+        None => out.word("none"),
     }
 }
 
-fn put_entry_of(
-    system: &System,
-    bank: u32,
-    line: LineNo,
-    answer: &mut String,
-) -> Result<(), AllocError> {
-    let Some(bank) = system.bank(bank) else {
-        return put_none(answer);
-    };
-    match bank.entry(line) {
-        Some(entry) => put_entry(entry, system.line_words(), answer),
-        None => put_none(answer),
+fn put_entry_of(system: &System, bank: u32, line: LineNo, out: &mut Reply) {
+    match system.bank(bank) {
+        Some(bank) => put_entry(bank.entry(line), out),
+        None => out.word("none"),
     }
 }
 
-fn put_dram(
-    system: &System,
-    bank: u32,
-    line: LineNo,
-    answer: &mut String,
-) -> Result<(), AllocError> {
+fn put_dram(system: &System, bank: u32, line: LineNo, out: &mut Reply) {
     match system.dram(bank) {
-        Some(dram) => put_values(&dram.load(line), system.line_words(), answer),
-        None => put_none(answer),
+        Some(dram) => put_values(&dram.load(line), out),
+        None => out.word("none"),
     }
 }
 
-/// Tells a message in flight.
-pub(crate) fn put_message_of(
-    system: &System,
-    number: MsgNo,
-    answer: &mut String,
-) -> Result<(), AllocError> {
-    match system.look(number) {
-        Some(message) => put_message(message, system.line_words(), answer),
-        None => put_none(answer),
+/// Tells the value of the word at a byte address.
+fn put_value(system: &System, byte: u64, out: &mut Reply) {
+    match WordAddr::new(byte) {
+        Some(word) => out.number(system.coherent(word)),
+        None => out.word("none"),
     }
 }
 
-fn put_shape(system: &System, answer: &mut String) -> Result<(), AllocError> {
-    write!(answer, "cores {} ", system.cores())?;
-    write!(answer, "banks {} ", system.banks())?;
-    write!(answer, "line-words {}", system.line_words())
+fn put_shape(system: &System, out: &mut Reply) {
+    out.named("cores", u64::from(system.cores()));
+    out.named("banks", u64::from(system.banks()));
+    out.named("line-words", u64::from(system.line_words()));
 }
 
 /// Tells whether lines are kept in rising order.
-pub(crate) fn put_order(system: &System, answer: &mut String) -> Result<(), AllocError> {
-    answer.push_str(if system.keeps_order() {
+pub(crate) fn put_order(system: &System, out: &mut Reply) {
+    out.word(if system.keeps_order() {
         "kept"
     } else {
         "not kept"
-    })
+    });
 }
 
 /// Tells what a part of the machine has.
-fn put_part(system: &System, look: &Look, answer: &mut String) -> Result<(), AllocError> {
-    match *look {
-        Look::Time(core) => put_number(time_of(system, core), answer),
-        Look::Copy(core, line) => put_copy_of(system, core, line, answer),
-        Look::MemoryTime(bank) => put_number(memory_time_of(system, bank), answer),
-        Look::Entry(bank, line) => put_entry_of(system, bank, line, answer),
-        Look::Dram(bank, line) => put_dram(system, bank, line, answer),
-        Look::Message(number) => put_message_of(system, number, answer),
-        Look::Open(core) => put_open(system, core, answer),
-        Look::Victim(core, line) => put_victim(system, core, line, answer),
-        Look::Room(number) => put_room(system, number, answer),
-        Look::Issued(core) => put_ops(system.issued(core), answer),
-        _ => put_none(answer),
+fn put_part(system: &System, look: &Look, out: &mut Reply) {
+    let (number, line) = (look.number, LineNo(look.at));
+    match look.what {
+        What::Time => put_number(time_of(system, number), out),
+        What::Copy => put_copy_of(system, number, line, out),
+        What::MemoryTime => put_number(memory_time_of(system, number), out),
+        What::Entry => put_entry_of(system, number, line, out),
+        What::Dram => put_dram(system, number, line, out),
+        What::Message => put_message_or_none(system.look(MsgNo(look.at)), out),
+        What::Open => put_open_of(system, number, out),
+        What::Victim => out.line_or_none(system.victim(number, line)),
+        What::Room => put_room(system, MsgNo(look.at), out),
+        _ => put_ops(system.issued(number), out),
     }
 }
 
 /// Tells what the machine as a whole has.
-fn put_whole(system: &System, look: &Look, answer: &mut String) -> Result<(), AllocError> {
-    match *look {
-        Look::Owners(line) => write!(answer, "{}", system.owners(line)),
-        Look::Word(word) => write!(answer, "{}", system.coherent(word)),
-        Look::Sent => put_counts(&system.counts(), answer),
-        Look::Records => write!(answer, "{}", system.records().len()),
-        Look::Record(number) => put_record_at(system.records(), number, answer),
-        Look::Order => put_order(system, answer),
-        Look::Shape => put_shape(system, answer),
-        Look::Stopped => answer.push_str(yes_or_no(system.is_stopped())),
-        Look::State(words) => put_state(system, words, answer),
-        _ => put_part(system, look, answer),
+fn put_whole(system: &System, look: &Look, out: &mut Reply) {
+    match look.what {
+        What::Owners => out.number(u64::from(system.owners(LineNo(look.at)))),
+        What::Word => put_value(system, look.at, out),
+        What::Sent => put_counts(&system.counts(), out),
+        What::Records => out.number(system.records().len() as u64),
+        What::Record => put_record_at(system.records(), look.at, out),
+        What::Order => put_order(system, out),
+        What::Shape => put_shape(system, out),
+        What::Stopped => out.word(yes_or_no(system.is_stopped())),
+        What::State => put_state(system, look.number, out),
+        _ => put_part(system, look, out),
     }
 }
 
@@ -175,16 +133,20 @@ pub(crate) fn put_look(
     system: &System,
     words: &[(WordAddr, u64)],
     look: &Look,
-    answer: &mut String,
-) -> Result<(), AllocError> {
-    match *look {
-        Look::Copies(core) => put_copies(system, core, answer),
-        Look::Free(core) => put_free(alloc, system, core, answer),
-        Look::Entries(bank) => put_entries(alloc, system, bank, answer),
-        Look::Flight => put_flight(alloc, system, answer),
-        Look::Stale => put_stale(alloc, system, answer),
-        Look::Check => put_check(alloc, system, words, answer),
-        Look::Arranged => put_arranged(alloc, system, answer),
-        _ => put_whole(system, look, answer),
+    out: &mut Reply,
+) {
+    match look.what {
+        What::Copies => put_copies(system, look.number, out),
+        What::Free => put_free(alloc, system, look.number, out),
+        What::Entries => put_entries(alloc, system, look.number, out),
+        What::Flight => {
+            if put_flight(alloc, system, out).is_err() {
+                out.cut();
+            }
+        }
+        What::Stale => put_stale(alloc, system, out),
+        What::Check => put_check(alloc, system, words, out),
+        What::Arranged => put_arranged(alloc, system, out),
+        _ => put_whole(system, look, out),
     }
 }

@@ -3,7 +3,7 @@
 use crate::calls::Call;
 use crate::drives::Drives;
 use crate::looks::{put_look, put_order};
-use event_text::{NO_MACHINE, NO_MEMORY, Opening, memory_of, put_answer};
+use event_text::{NO_MACHINE, NO_MEMORY, Opening, Reply, memory_of, put_answer};
 use interleaving_core::{Answer, Config, Event, OpenError, System};
 use physiological_order::{Memory, Op, Record, WordAddr};
 use std::alloc::{AllocError, Global};
@@ -30,40 +30,35 @@ pub(crate) fn opened(
 }
 
 /// Tells the answers to a list of events.
-pub(crate) fn put_answers(answers: &[Answer], out: &mut String) -> Result<(), AllocError> {
-    let mut is_first = true;
+pub(crate) fn put_answers(answers: &[Answer], out: &mut Reply) {
     for answer in answers {
-        if !is_first {
-            out.push_str("; ")?;
-        }
-        is_first = false;
-        put_answer(answer, out)?;
+        out.next_part();
+        put_answer(answer, out);
     }
-    Ok(())
 }
 
 /// Plays events as one list.
-fn run(system: &mut System, events: &[Event], answer: &mut String) -> Result<(), AllocError> {
+fn run(system: &mut System, events: &[Event], out: &mut Reply) {
     match system.run(events) {
-        Ok(answers) => put_answers(answers.as_slice(), answer),
-        Err(_) => answer.push_str(NO_MEMORY),
+        Ok(answers) => put_answers(answers.as_slice(), out),
+        Err(_) => out.word(NO_MEMORY),
     }
 }
 
-fn step(system: &mut System, event: Event, answer: &mut String) -> Result<(), AllocError> {
+fn step(system: &mut System, event: Event, out: &mut Reply) {
     let _inside: (Option<Op>, Option<Record>) = (None, None);
     let came = system.step(event);
-    put_answer(&came, answer)
+    put_answer(&came, out);
 }
 
 /// Keeps lines in order, or no longer.
-fn keep(system: &mut System, is_kept: bool, answer: &mut String) -> Result<(), AllocError> {
+fn keep(system: &mut System, is_kept: bool, out: &mut Reply) {
     if is_kept {
         system.keep_order();
     } else {
         system.forget_order();
     }
-    put_order(system, answer)
+    put_order(system, out);
 }
 
 impl Played {
@@ -84,16 +79,16 @@ impl Played {
         }
     }
 
-    fn open(&mut self, opening: Opening, answer: &mut String) -> Result<(), AllocError> {
+    fn open(&mut self, opening: Opening, out: &mut Reply) {
         self.system = None;
         self.words = opening.words;
         match opened(self.alloc, opening.config, self.words.as_slice()) {
             Ok(system) => {
                 self.system = Some(system);
-                answer.push_str("opened")
+                out.word("opened");
             }
-            Err(OpenError::BadConfig) => answer.push_str("refused BadConfig"),
-            Err(OpenError::NoMemory) => answer.push_str(NO_MEMORY),
+            Err(OpenError::BadConfig) => out.word("refused BadConfig"),
+            Err(OpenError::NoMemory) => out.word(NO_MEMORY),
         }
     }
 
@@ -109,46 +104,37 @@ impl Played {
         }
     }
 
-    fn reopen_with(
-        &mut self,
-        words: Vec<(WordAddr, u64)>,
-        answer: &mut String,
-    ) -> Result<(), AllocError> {
+    fn reopen_with(&mut self, words: Vec<(WordAddr, u64)>, out: &mut Reply) {
         let Ok(memory) = memory_of(self.alloc, words.as_slice()) else {
-            return answer.push_str(NO_MEMORY);
+            return out.word(NO_MEMORY);
         };
         self.words = words;
         match self.reopen(memory) {
-            Some(Ok(())) => answer.push_str("reopened"),
-            Some(Err(_)) => answer.push_str(NO_MEMORY),
-            None => answer.push_str(NO_MACHINE),
+            Some(Ok(())) => out.word("reopened"),
+            Some(Err(_)) => out.word(NO_MEMORY),
+            None => out.word(NO_MACHINE),
         }
     }
 
     /// Plays what a line asks for, and tells the answer.
-    pub(crate) fn play(&mut self, call: Call, answer: &mut String) -> Result<(), AllocError> {
+    pub(crate) fn play(&mut self, call: Call, out: &mut Reply) {
         let call = match call {
-            Call::Machine(opening) => return self.open(opening, answer),
-            Call::Reopen(words) => return self.reopen_with(words, answer),
+            Call::Machine(opening) => return self.open(opening, out),
+            Call::Reopen(words) => return self.reopen_with(words, out),
             call => call,
         };
         let Some(system) = &mut self.system else {
-            return answer.push_str(NO_MACHINE);
+            return out.word(NO_MACHINE);
         };
         match call {
-            Call::Event(event) => step(system, event, answer),
-            Call::Run(events) => run(system, events.as_slice(), answer),
-            Call::Keep(is_kept) => keep(system, is_kept, answer),
-            Call::Look(look) => {
-                put_look(self.alloc, system, self.words.as_slice(), &look, answer)
-            }
-            Call::Drive(policy, limit) => self.drives.drive(system, policy, limit, answer),
-            Call::Made(count) => self.drives.look(count, system.line_words(), answer),
-            Call::Program(core, steps) => {
-                self.drives.give(core, steps)?;
-                answer.push_str("given")
-            }
-            Call::Machine(_) | Call::Reopen(_) => Ok(()),
+            Call::Event(event) => step(system, event, out),
+            Call::Run(events) => run(system, events.as_slice(), out),
+            Call::Keep(is_kept) => keep(system, is_kept, out),
+            Call::Look(look) => put_look(self.alloc, system, self.words.as_slice(), &look, out),
+            Call::Drive(policy, limit) => self.drives.drive(system, policy, limit, out),
+            Call::Made(count) => self.drives.look(count, out),
+            Call::Program(core, steps) => self.drives.give(core, steps, out),
+            Call::Machine(_) | Call::Reopen(_) => {}
         }
     }
 }

@@ -1,9 +1,9 @@
 //! The player of examples.
 
-use crate::calls::read_call;
+use crate::calls::{Call, read_call};
 use crate::machines::Played;
 use crate::ways::play_other_ways;
-use event_text::{Cause, Example, Fault, NO_MEMORY, Page, Player, Turn};
+use event_text::{Cause, Cursor, Example, NO_MEMORY, Page, Player, Reply, Turn};
 use std::alloc::{AllocError, Global};
 use std::io;
 use std::io::Write;
@@ -12,39 +12,51 @@ use std::io::Write;
 #[derive(Clone, Copy)]
 pub(crate) struct EventPlayer;
 
-/// A line that was read before is refused: there is no memory.
-pub(crate) fn no_memory<E: Drop>(_error: E) -> io::Error {
-    io::Error::from(AllocError)
+/// The next line. It was read before, so only memory can be wanting.
+pub(crate) fn next<'a>(cursor: &mut Cursor<'a>) -> Result<Option<Turn<'a>>, AllocError> {
+    match cursor.next_turn() {
+        Ok(turn) => Ok(turn),
+        Err(_) => Err(AllocError),
+    }
 }
 
-/// Plays a line, and tells the answer.
+/// What a line asks for that was read before.
+pub(crate) fn call_of(alloc: Global, turn: &Turn<'_>, line_words: u32) -> Result<Call, AllocError> {
+    match read_call(alloc, turn, line_words) {
+        Ok(call) => Ok(call),
+        Err(_) => Err(AllocError),
+    }
+}
+
+/// Plays a line.
 pub(crate) fn play_turn(
     played: &mut Played,
     turn: &Turn<'_>,
-    answer: &mut String,
-) -> io::Result<()> {
-    answer.clear();
-    let call = read_call(played.alloc, turn, played.line_words()).map_err(no_memory::<Cause>)?;
-    played.play(call, answer)?;
+    reply: &mut Reply,
+) -> Result<(), AllocError> {
+    reply.clear();
+    reply.line_words = played.line_words();
+    let call = call_of(played.alloc, turn, reply.line_words)?;
+    played.play(call, reply);
     Ok(())
 }
 
-/// Plays a line, once more if it is to be and is refused for want of memory.
+/// Plays a line, once more if it is to be and is refused for want of memory, and tells the answer.
 fn play_line<W: Write + Drop>(
     played: &mut Played,
     turn: &Turn<'_>,
     page: &mut Page<'_>,
-    answer: &mut String,
+    reply: &mut Reply,
     out: &mut W,
 ) -> io::Result<()> {
-    play_turn(played, turn, answer)?;
-    if page.how.again && answer.as_str() == NO_MEMORY {
+    play_turn(played, turn, reply)?;
+    if page.how.again && reply.told()? == NO_MEMORY {
         if turn.wanted.is_none() {
             page.tell_unasked(turn, NO_MEMORY, out)?;
         }
-        play_turn(played, turn, answer)?;
+        play_turn(played, turn, reply)?;
     }
-    page.tell(turn, answer.as_str(), out)
+    page.tell(turn, reply, out)
 }
 
 impl Player for EventPlayer {
@@ -61,16 +73,16 @@ impl Player for EventPlayer {
         out: &mut W,
     ) -> io::Result<()> {
         let mut played = Played::new(alloc);
-        let mut answer = String::new(alloc);
+        let mut reply = Reply::new(alloc);
         let mut cursor = example.cursor();
         for _ in 0..u64::MAX {
-            let Some(turn) = cursor.next_turn().map_err(no_memory::<Fault>)? else {
+            let Some(turn) = next(&mut cursor)? else {
                 break;
             };
-            play_line(&mut played, &turn, page, &mut answer, out)?;
+            play_line(&mut played, &turn, page, &mut reply, out)?;
         }
         if page.how.three_ways {
-            play_other_ways(played, example, page, out)?;
+            play_other_ways(&mut played, example, page, out)?;
         }
         Ok(())
     }

@@ -1,22 +1,12 @@
 //! All of a machine in one line.
 
-use crate::looks::{put_copy_of, put_message_of, put_open};
-use event_text::{NO_MEMORY, put_counts, put_entry, put_line, put_values, yes_or_no};
+use crate::looks::{put_copy_of, put_open_of};
+use event_text::{
+    NO_MEMORY, Reply, put_counts, put_entry, put_message_or_none, put_values, yes_or_no,
+};
 use interleaving_core::{LineNo, MsgNo, System};
 use network::Words;
 use physiological_order::WordAddr;
-use std::alloc::AllocError;
-
-/// Tells a name and a line behind it.
-fn put_named(
-    name: &str,
-    line: LineNo,
-    system: &System,
-    answer: &mut String,
-) -> Result<(), AllocError> {
-    answer.push_str(name)?;
-    put_line(line, system.line_words(), answer)
-}
 
 /// How many lines these words take.
 fn lines_of(system: &System, words: u32) -> u64 {
@@ -24,143 +14,117 @@ fn lines_of(system: &System, words: u32) -> u64 {
 }
 
 /// Tells the core's copies, and the copy that would go for each line that has no place.
-fn put_lines_of(
-    system: &System,
-    core: u32,
-    copies: &[LineNo],
-    words: u32,
-    answer: &mut String,
-) -> Result<(), AllocError> {
+fn put_lines_of(system: &System, core: u32, copies: &[LineNo], words: u32, out: &mut Reply) {
     for line in copies {
-        put_named("; copy ", *line, system, answer)?;
-        answer.push(' ')?;
-        put_copy_of(system, core, *line, answer)?;
+        out.add("; copy");
+        out.line(*line);
+        put_copy_of(system, core, *line, out);
     }
     for line in 0..lines_of(system, words) {
         if let Some(victim) = system.victim(core, LineNo(line)) {
-            put_named("; victim ", LineNo(line), system, answer)?;
-            put_named(" ", victim, system, answer)?;
+            out.add("; victim");
+            out.line(LineNo(line));
+            out.line(victim);
         }
     }
-    Ok(())
 }
 
-fn put_core(
-    system: &System,
-    number: u32,
-    copies: &[LineNo],
-    words: u32,
-    answer: &mut String,
-) -> Result<(), AllocError> {
+fn put_core(system: &System, number: u32, copies: &[LineNo], words: u32, out: &mut Reply) {
     let Some(core) = system.core(number) else {
-        return Ok(());
+        return;
     };
-    write!(
-        answer,
-        "core {number} time {} issued {} open ",
-        core.pts(),
-        core.issued()
-    )?;
-    put_open(system, number, answer)?;
-    put_lines_of(system, number, copies, words, answer)?;
-    answer.push_str("; ")
+    out.named("core", u64::from(number));
+    out.named("time", core.pts());
+    out.named("issued", u64::from(core.issued()));
+    out.word("open");
+    put_open_of(system, number, out);
+    put_lines_of(system, number, copies, words, out);
+    out.add("; ");
 }
 
 /// Tells the words that DRAM has of each line, but of those that are all 0.
-fn put_drams(
-    system: &System,
-    bank: u32,
-    words: u32,
-    answer: &mut String,
-) -> Result<(), AllocError> {
+fn put_drams(system: &System, bank: u32, words: u32, out: &mut Reply) {
     let Some(dram) = system.dram(bank) else {
-        return Ok(());
+        return;
     };
     for line in 0..lines_of(system, words) {
         let values = dram.load(LineNo(line));
         if values != Words::zeros() {
-            put_named("dram ", LineNo(line), system, answer)?;
-            answer.push(' ')?;
-            put_values(&values, system.line_words(), answer)?;
-            answer.push_str("; ")?;
+            out.word("dram");
+            out.line(LineNo(line));
+            put_values(&values, out);
+            out.add("; ");
         }
     }
-    Ok(())
 }
 
-fn put_bank(
-    system: &System,
-    number: u32,
-    words: u32,
-    answer: &mut String,
-) -> Result<(), AllocError> {
+fn put_bank(system: &System, number: u32, words: u32, out: &mut Reply) {
     let Some(bank) = system.bank(number) else {
-        return Ok(());
+        return;
     };
-    write!(answer, "bank {number} time {}; ", bank.memory_time())?;
+    out.named("bank", u64::from(number));
+    out.named("time", bank.memory_time());
+    out.add("; ");
     for line in 0..lines_of(system, words) {
-        if let Some(entry) = bank.entry(LineNo(line)) {
-            put_named("entry ", LineNo(line), system, answer)?;
-            answer.push(' ')?;
-            put_entry(entry, system.line_words(), answer)?;
-            answer.push_str("; ")?;
+        let entry = bank.entry(LineNo(line));
+        if entry.is_some() {
+            out.word("entry");
+            out.line(LineNo(line));
+            put_entry(entry, out);
+            out.add("; ");
         }
     }
-    put_drams(system, number, words, answer)
+    put_drams(system, number, words, out);
 }
 
-fn put_messages(
-    system: &System,
-    messages: &[MsgNo],
-    answer: &mut String,
-) -> Result<(), AllocError> {
+fn put_messages(system: &System, messages: &[MsgNo], out: &mut Reply) {
     for message in messages {
-        write!(answer, "m{} ", message.0)?;
-        put_message_of(system, *message, answer)?;
+        out.message(message.0);
+        put_message_or_none(system.look(*message), out);
         if let Some((_, line)) = system.make_room(*message) {
-            put_named(" room ", line, system, answer)?;
+            out.word("room");
+            out.line(line);
         }
-        answer.push_str("; ")?;
+        out.add("; ");
     }
-    Ok(())
 }
 
 /// Tells the counts, the values of words, the owners of their lines, and whether the machine has stopped.
-fn put_sums(system: &System, words: u32, answer: &mut String) -> Result<(), AllocError> {
-    answer.push_str("sent ")?;
-    put_counts(&system.counts(), answer)?;
-    answer.push_str("; words")?;
+fn put_sums(system: &System, words: u32, out: &mut Reply) {
+    out.word("sent");
+    put_counts(&system.counts(), out);
+    out.add("; words");
     for word in 0..words {
-        let value = system.coherent(WordAddr::at(u64::from(word)));
-        write!(answer, " {value}")?;
+        out.number(system.coherent(WordAddr::at(u64::from(word))));
     }
-    answer.push_str("; owners")?;
+    out.add("; owners");
     for line in 0..lines_of(system, words) {
-        write!(answer, " {}", system.owners(LineNo(line)))?;
+        out.number(u64::from(system.owners(LineNo(line))));
     }
-    write!(answer, "; stopped {}", yes_or_no(system.is_stopped()))
+    out.add("; stopped");
+    out.word(yes_or_no(system.is_stopped()));
+}
+
+/// There is no memory for a list of what is told.
+fn put_no_memory(out: &mut Reply) {
+    out.clear();
+    out.word(NO_MEMORY);
 }
 
 /// Tells all of the machine, with the values of so many words.
-pub(crate) fn put_state(
-    system: &System,
-    words: u32,
-    answer: &mut String,
-) -> Result<(), AllocError> {
+pub(crate) fn put_state(system: &System, words: u32, out: &mut Reply) {
     for core in 0..system.cores() {
         let Ok(copies) = system.copies(core) else {
-            answer.clear();
-            return answer.push_str(NO_MEMORY);
+            return put_no_memory(out);
         };
-        put_core(system, core, &copies, words, answer)?;
+        put_core(system, core, &copies, words, out);
     }
     for bank in 0..system.banks() {
-        put_bank(system, bank, words, answer)?;
+        put_bank(system, bank, words, out);
     }
     let Ok(messages) = system.in_flight() else {
-        answer.clear();
-        return answer.push_str(NO_MEMORY);
+        return put_no_memory(out);
     };
-    put_messages(system, &messages, answer)?;
-    put_sums(system, words, answer)
+    put_messages(system, &messages, out);
+    put_sums(system, words, out);
 }

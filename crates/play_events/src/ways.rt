@@ -1,13 +1,13 @@
 //! Two more ways to play an example: on its machine, opened again, and with all its events as one list on a new one.
 //! The answers must be those that came the first time.
 
-use crate::calls::{Call, read_call};
+use crate::calls::Call;
 use crate::machines::{Played, opened, put_answers};
-use crate::player::{no_memory, play_turn};
-use event_text::{Cause, Example, Fault, Page, memory_of};
-use interleaving_core::{Config, Event, System};
+use crate::player::{call_of, next, play_turn};
+use event_text::{Example, Page, Reply, memory_of};
+use interleaving_core::{Answer, Config, Event, System};
 use physiological_order::{Op, WordAddr};
-use std::alloc::Global;
+use std::alloc::{AllocError, Global};
 use std::io;
 use std::io::Write;
 
@@ -68,10 +68,10 @@ fn events_of(alloc: Global, example: &Example<'_>, line_words: u32) -> io::Resul
     };
     let mut cursor = example.cursor();
     for at in 0..usize::MAX {
-        let Some(turn) = cursor.next_turn().map_err(no_memory::<Fault>)? else {
+        let Some(turn) = next(&mut cursor)? else {
             break;
         };
-        let call = read_call(alloc, &turn, line_words).map_err(no_memory::<Cause>)?;
+        let call = call_of(alloc, &turn, line_words)?;
         listed.take(at, &call)?;
     }
     Ok(listed)
@@ -96,51 +96,76 @@ fn reopen(played: &mut Played, words: &[(WordAddr, u64)]) -> io::Result<()> {
 }
 
 /// Tells of a machine that was opened again with the other memory what must be so.
-fn put_opened(system: &System, answer: &mut String) -> io::Result<()> {
-    write!(answer, "records {} ", system.records().len())?;
-    write!(answer, "messages {} words", system.messages())?;
+fn put_opened(system: &System, out: &mut Reply) {
+    out.named("records", system.records().len() as u64);
+    out.named("messages", u64::from(system.messages()));
+    out.word("words");
     for (word, _) in OTHER_WORDS {
-        write!(answer, " {}", system.coherent(WordAddr::at(word)))?;
+        out.number(system.coherent(WordAddr::at(word)));
     }
-    Ok(())
 }
 
 /// Opens the machine with the other memory, where it must have that, and then with its own.
 fn restore<W: Write + Drop>(
     played: &mut Played,
     page: &mut Page<'_>,
-    answer: &mut String,
+    reply: &mut Reply,
     out: &mut W,
 ) -> io::Result<()> {
     let alloc = played.alloc;
     reopen(played, other_words(alloc)?.as_slice())?;
-    answer.clear();
+    reply.clear();
     if let Some(system) = &played.system {
-        put_opened(system, answer)?;
+        put_opened(system, reply);
     }
-    page.compare_opening(AS_OPENED, answer.as_str(), "opened again", out)?;
+    page.compare_opening(AS_OPENED, reply, "opened again", out)?;
     let words = Vec::from_slice(alloc, played.words.as_slice())?;
     reopen(played, words.as_slice())
 }
 
 /// Plays an example on its machine, opened again.
 fn play_again<W: Write + Drop>(
-    mut played: Played,
+    played: &mut Played,
     example: &Example<'_>,
     page: &mut Page<'_>,
     out: &mut W,
 ) -> io::Result<()> {
-    let mut answer = String::new(played.alloc);
-    restore(&mut played, page, &mut answer, out)?;
+    let mut reply = Reply::new(played.alloc);
+    restore(played, page, &mut reply, out)?;
     let mut cursor = example.cursor();
     for at in 0..usize::MAX {
-        let Some(turn) = cursor.next_turn().map_err(no_memory::<Fault>)? else {
+        let Some(turn) = next(&mut cursor)? else {
             break;
         };
         if turn.name() != "machine" {
-            play_turn(&mut played, &turn, &mut answer)?;
-            page.compare(at, answer.as_str(), "opened again", out)?;
+            play_turn(played, &turn, &mut reply)?;
+            page.compare(at, &reply, "opened again", out)?;
         }
+    }
+    Ok(())
+}
+
+/// Compares the answers to the events of an example as one list with those that came line by line.
+fn compare_list<W: Write + Drop>(
+    answers: &[Answer],
+    listed: &Listed,
+    page: &mut Page<'_>,
+    reply: &mut Reply,
+    out: &mut W,
+) -> io::Result<()> {
+    if answers.len() != listed.events.len() {
+        reply.word("another number of answers");
+        return page.compare(0, reply, "as one list", out);
+    }
+    let mut from = 0;
+    for (at, to) in &listed.lines {
+        let Some(part) = answers.get(from..*to) else {
+            break;
+        };
+        from = *to;
+        reply.clear();
+        put_answers(part, reply);
+        page.compare(*at, reply, "as one list", out)?;
     }
     Ok(())
 }
@@ -148,32 +173,24 @@ fn play_again<W: Write + Drop>(
 /// Plays the events of an example as one list on a new machine.
 fn play_list<W: Write + Drop>(
     alloc: Global,
-    mut system: System,
+    system: &mut System,
     listed: &Listed,
     page: &mut Page<'_>,
     out: &mut W,
 ) -> io::Result<()> {
     let answers = system.run(listed.events.as_slice())?;
-    if answers.len() != listed.events.len() {
-        return page.compare(0, "another number of answers", "as one list", out);
-    }
-    let mut answer = String::new(alloc);
-    let mut from = 0;
-    for (at, to) in &listed.lines {
-        let Some(part) = answers.as_slice().get(from..*to) else {
-            break;
-        };
-        from = *to;
-        answer.clear();
-        put_answers(part, &mut answer)?;
-        page.compare(*at, answer.as_str(), "as one list", out)?;
-    }
-    Ok(())
+    compare_list(
+        answers.as_slice(),
+        listed,
+        page,
+        &mut Reply::new(alloc),
+        out,
+    )
 }
 
 /// Plays an example in the other ways, if it can be: its machine was opened, once, and all its events stand in lines.
 pub(crate) fn play_other_ways<W: Write + Drop>(
-    played: Played,
+    played: &mut Played,
     example: &Example<'_>,
     page: &mut Page<'_>,
     out: &mut W,
@@ -189,7 +206,7 @@ pub(crate) fn play_other_ways<W: Write + Drop>(
     let anew = opened(alloc, config, played.words.as_slice());
     play_again(played, example, page, out)?;
     match anew {
-        Ok(system) => play_list(alloc, system, &listed, page, out),
-        Err(error) => Err(no_memory(error)),
+        Ok(mut system) => play_list(alloc, &mut system, &listed, page, out),
+        Err(_) => Err(io::Error::from(AllocError)),
     }
 }

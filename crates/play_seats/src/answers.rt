@@ -1,10 +1,9 @@
 //! What calls of seats answer, and how it is told.
 
-use event_text::put_answer;
+use event_text::{Reply, put_answer};
 use inbox::Served;
 use machine_table::{Answer, Refusal};
 use mailboxes::{Eviction, Take, Turn};
-use std::alloc::AllocError;
 
 /// The answer where there is no such seat.
 pub(crate) const NO_SEAT: &str = "no seat";
@@ -70,14 +69,18 @@ fn name_of(served: &Served) -> &'static str {
 }
 
 /// Tells what a call answered.
-pub(crate) fn put_says(says: &Says, out: &mut String) -> Result<(), AllocError> {
+pub(crate) fn put_says(says: &Says, out: &mut Reply) {
     match says {
         Says::Answers(answer) => put_answer(answer, out),
-        Says::Turns(turn) => write!(out, "{} put, {}", turn.put, name_of(&turn.served)),
-        Says::Puts(true) => out.push_str("put"),
-        Says::Takes(Take::Taken) => out.push_str("taken"),
-        Says::Takes(Take::HandFull) => out.push_str("hand full"),
-        Says::Puts(false) | Says::Takes(Take::Nothing) | Says::Nothing => out.push_str("nothing"),
-        Says::NoSeat => out.push_str(NO_SEAT),
+        Says::Turns(turn) => {
+            out.number(u64::from(turn.put));
+            out.word("put,");
+            out.word(name_of(&turn.served));
+        }
+        Says::Puts(true) => out.word("put"),
+        Says::Takes(Take::Taken) => out.word("taken"),
+        Says::Takes(Take::HandFull) => out.word("hand full"),
+        Says::Puts(false) | Says::Takes(Take::Nothing) | Says::Nothing => out.word("nothing"),
+        Says::NoSeat => out.word(NO_SEAT),
     }
 }

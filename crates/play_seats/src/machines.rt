@@ -60,14 +60,12 @@ fn play_open<W: Write + Drop>(
     ensures cores { AllCoreSeats machine.now cores.new.items }
     ensures banks { AllBankSeats machine.now banks.new.items }
 {
-    let mut answer = String::new(play.alloc);
     for _ in 0..u64::MAX {
         match play.call()? {
             None | Some(Call::Seats(_) | Call::Numbers(_) | Call::Close) => return Ok(()),
             Some(call) => {
-                answer.clear();
-                put_called(machine, cores, banks, &call, &mut answer)?;
-                play.tell(answer.as_str())?;
+                put_called(machine, cores, banks, &call, &mut play.reply);
+                play.tell()?;
             }
         }
     }
@@ -78,14 +76,12 @@ fn play_open<W: Write + Drop>(
 fn play_closed<W: Write + Drop>(play: &mut Play<'_, '_, '_, '_, W>, run: &Run) -> io::Result<()>
     requires { Parts run.now }
 {
-    let mut answer = String::new(play.alloc);
     for _ in 0..u64::MAX {
         match play.call()? {
             None | Some(Call::Seats(_) | Call::Numbers(_)) => return Ok(()),
             Some(call) => {
-                answer.clear();
-                put_asked(play.alloc, run, &call, &mut answer)?;
-                play.tell(answer.as_str())?;
+                put_asked(play.alloc, run, &call, &mut play.reply);
+                play.tell()?;
             }
         }
     }
@@ -98,24 +94,24 @@ pub(crate) fn play_machine<W: Write + Drop>(
     opening: &Opening,
 ) -> io::Result<()> {
     let Ok(memory) = memory_of(play.alloc, opening.words.as_slice()) else {
-        return play.tell(NO_MEMORY);
+        return play.say(NO_MEMORY);
     };
     let (machine, mut cores, mut banks) = match opened(play.alloc, &opening.config, memory) {
         Ok(all) => all,
-        Err(OpenError::BadConfig) => return play.tell("refused BadConfig"),
-        Err(OpenError::NoMemory) => return play.tell(NO_MEMORY),
+        Err(OpenError::BadConfig) => return play.say("refused BadConfig"),
+        Err(OpenError::NoMemory) => return play.say(NO_MEMORY),
     };
-    play.line_words = opening.config.line_words;
-    play.tell("opened")?;
+    play.reply.line_words = opening.config.line_words;
+    play.say("opened")?;
     play_open(play, &machine, &mut cores, &mut banks)?;
     if !matches!(play.call()?, Some(Call::Close)) {
         return Ok(());
     }
     match closed(play.alloc, machine, cores, banks) {
         Ok(run) => {
-            play.tell("closed")?;
+            play.say("closed")?;
             play_closed(play, &run)
         }
-        Err(AllocError) => play.tell(NO_MEMORY),
+        Err(AllocError) => play.say(NO_MEMORY),
     }
 }

@@ -36,7 +36,7 @@ fn play_all<W: Write + Drop>(play: &mut Play<'_, '_, '_, '_, W>) -> io::Result<(
             Some(Call::Numbers(drawers)) if 0 < drawers && drawers <= MOST => play_numbers(
                 play, drawers,
             )?,
-            Some(_) => play.tell(NO_MACHINE)?,
+            Some(_) => play.say(NO_MACHINE)?,
         }
     }
     Ok(())

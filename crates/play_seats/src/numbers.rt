@@ -5,8 +5,7 @@ ghost use Rattle.drawn_numbers.specs.Drawers.{AllDrawersOf};
 use crate::calls::Call;
 use crate::play::Play;
 use drawn_numbers::{DrawError, Drawer, Numbers, open_numbers};
-use event_text::{NO_MACHINE, NO_MEMORY};
-use std::alloc::{AllocError, Global};
+use event_text::{NO_MACHINE, NO_MEMORY, Reply};
 use std::io;
 use std::io::Write;
 
@@ -17,55 +16,42 @@ pub(crate) const MOST: u32 = 16;
 const NO_DRAWER: &str = "no drawer";
 
 /// Drawn numbers, or `none`.
-fn put_list(drawn: &[u64], out: &mut String) -> Result<(), AllocError> {
-    if drawn.is_empty() {
-        return out.push_str("none");
-    }
-    let mut is_first = true;
+fn put_list(drawn: &[u64], out: &mut Reply) {
     for number in drawn {
-        if !is_first {
-            out.push(' ')?;
-        }
-        is_first = false;
-        write!(out, "{number}")?;
+        out.number(*number);
     }
-    Ok(())
+    out.or("none");
 }
 
 /// The drawer of a number draws.
-fn put_draw(
-    numbers: &Numbers,
-    drawers: &mut Vec<Drawer>,
-    number: u32,
-    out: &mut String,
-) -> Result<(), AllocError>
+fn put_draw(numbers: &Numbers, drawers: &mut Vec<Drawer>, number: u32, out: &mut Reply)
     requires { AllDrawersOf numbers.now drawers.old.items }
     ensures { AllDrawersOf numbers.now drawers.new.items }
 {
     let at = number as usize;
     if at >= drawers.len() {
-        return out.push_str(NO_DRAWER);
+        return out.word(NO_DRAWER);
     }
     match drawers[at].draw(numbers) {
-        Ok(drawn) => write!(out, "{drawn}"),
-        Err(DrawError::NoMemory) => out.push_str(NO_MEMORY),
-        Err(DrawError::TooMany) => out.push_str("refused TooMany"),
+        Ok(drawn) => out.number(drawn),
+        Err(DrawError::NoMemory) => out.word(NO_MEMORY),
+        Err(DrawError::TooMany) => out.word("refused TooMany"),
     }
 }
 
 /// What the drawer of a number drew.
-fn put_drawn(drawers: &[Drawer], number: u32, out: &mut String) -> Result<(), AllocError> {
+fn put_drawn(drawers: &[Drawer], number: u32, out: &mut Reply) {
     match drawers.get(number as usize) {
         Some(drawer) => put_list(drawer.drawn.as_slice(), out),
-        None => out.push_str(NO_DRAWER),
+        None => out.word(NO_DRAWER),
     }
 }
 
 /// What the drawer of a number drew, of the lists that the close left.
-fn put_left(lists: &[Vec<u64>], number: u32, out: &mut String) -> Result<(), AllocError> {
+fn put_left(lists: &[Vec<u64>], number: u32, out: &mut Reply) {
     match lists.get(number as usize) {
         Some(list) => put_list(list.as_slice(), out),
-        None => out.push_str(NO_DRAWER),
+        None => out.word(NO_DRAWER),
     }
 }
 
@@ -78,16 +64,14 @@ fn play_open<W: Write + Drop>(
     requires { AllDrawersOf numbers.now drawers.old.items }
     ensures { AllDrawersOf numbers.now drawers.new.items }
 {
-    let mut answer = String::new(play.alloc);
     for _ in 0..u64::MAX {
-        answer.clear();
         match play.call()? {
             None | Some(Call::Seats(_) | Call::Numbers(_) | Call::Close) => return Ok(()),
-            Some(Call::Draw(drawer)) => put_draw(numbers, drawers, drawer, &mut answer)?,
-            Some(Call::Drawn(drawer)) => put_drawn(drawers, drawer, &mut answer)?,
-            Some(_) => answer.push_str(NO_MACHINE)?,
+            Some(Call::Draw(drawer)) => put_draw(numbers, drawers, drawer, &mut play.reply),
+            Some(Call::Drawn(drawer)) => put_drawn(drawers, drawer, &mut play.reply),
+            Some(_) => play.reply.word(NO_MACHINE),
         }
-        play.tell(answer.as_str())?;
+        play.tell()?;
     }
     Ok(())
 }
@@ -97,15 +81,13 @@ fn play_closed<W: Write + Drop>(
     play: &mut Play<'_, '_, '_, '_, W>,
     lists: &[Vec<u64>],
 ) -> io::Result<()> {
-    let mut answer = String::new(play.alloc);
     for _ in 0..u64::MAX {
-        answer.clear();
         match play.call()? {
             None | Some(Call::Seats(_) | Call::Numbers(_)) => return Ok(()),
-            Some(Call::Drawn(drawer)) => put_left(lists, drawer, &mut answer)?,
-            Some(_) => answer.push_str(NO_MACHINE)?,
+            Some(Call::Drawn(drawer)) => put_left(lists, drawer, &mut play.reply),
+            Some(_) => play.reply.word(NO_MACHINE),
         }
-        play.tell(answer.as_str())?;
+        play.tell()?;
     }
     Ok(())
 }
@@ -119,10 +101,10 @@ fn play_close<W: Write + Drop>(
     requires { AllDrawersOf numbers drawers.items }
 {
     if !numbers.is_whole(drawers.as_slice()) {
-        return play.tell("a drawer is missing");
+        return play.say("a drawer is missing");
     }
     let lists = numbers.close(drawers);
-    play.tell("closed")?;
+    play.say("closed")?;
     play_closed(play, lists.as_slice())
 }
 
@@ -134,9 +116,9 @@ pub(crate) fn play_numbers<W: Write + Drop>(
     requires { (0 < drawers) × (drawers ≤ 16) }
 {
     let Ok((numbers, mut drawers)) = open_numbers(play.alloc, drawers) else {
-        return play.tell(NO_MEMORY);
+        return play.say(NO_MEMORY);
     };
-    play.tell("opened")?;
+    play.say("opened")?;
     play_open(play, &numbers, &mut drawers)?;
     if matches!(play.call()?, Some(Call::Close)) {
         return play_close(play, numbers, drawers);

@@ -2,7 +2,7 @@
 
 use crate::calls::Call;
 use crate::reading::call_of;
-use event_text::{Cursor, Example, NO_MEMORY, Page, Turn};
+use event_text::{Cursor, Example, NO_MEMORY, Page, Reply, Turn};
 use std::alloc::{AllocError, Global};
 use std::io;
 use std::io::Write;
@@ -11,8 +11,8 @@ use std::io::Write;
 #[derive(Drop)]
 pub(crate) struct Play<'t, 'p, 'b, 'o, W> {
     pub alloc: Global,
-    /// How many words a line has.
-    pub line_words: u32,
+    /// The answer to the line.
+    pub reply: Reply,
     cursor: Cursor<'t>,
     now: Option<Turn<'t>>,
     // whether the line was refused, and is played once more
@@ -41,7 +41,7 @@ impl<'t, 'p, 'b, 'o, W: Write + Drop> Play<'t, 'p, 'b, 'o, W> {
         let now = next(&mut cursor);
         Play {
             alloc,
-            line_words: 1,
+            reply: Reply::new(alloc),
             cursor,
             now,
             is_again: false,
@@ -55,22 +55,29 @@ impl<'t, 'p, 'b, 'o, W: Write + Drop> Play<'t, 'p, 'b, 'o, W> {
         let Some(turn) = &self.now else {
             return Ok(None);
         };
-        match call_of(self.alloc, &mut turn.words(self.line_words)) {
+        match call_of(self.alloc, &mut turn.words(self.reply.line_words)) {
             Ok(call) => Ok(Some(call)),
             Err(_) => Err(AllocError),
         }
     }
 
     /// Tells the answer, and goes on to the next line, or to this one again if it is played once more.
-    pub fn tell(&mut self, answer: &str) -> io::Result<()> {
+    pub fn tell(&mut self) -> io::Result<()> {
         let Some(turn) = self.now else {
             return Ok(());
         };
-        self.page.tell(&turn, answer, self.out)?;
-        self.is_again = !self.is_again && self.page.how.again && answer == NO_MEMORY;
+        self.page.tell(&turn, &self.reply, self.out)?;
+        self.is_again = !self.is_again && self.page.how.again && self.reply.told()? == NO_MEMORY;
+        self.reply.clear();
         if !self.is_again {
             self.now = next(&mut self.cursor);
         }
         Ok(())
+    }
+
+    /// Tells this answer, and goes on.
+    pub fn say(&mut self, answer: &str) -> io::Result<()> {
+        self.reply.word(answer);
+        self.tell()
     }
 }

@@ -31,20 +31,19 @@ fn evict(words: &mut Words<'_>) -> Result<Call, Cause> {
     Ok(of_seat(seat, OfSeat::Evict(words.line()?)))
 }
 
-/// What changes a seat; nothing if the name is of no such call.
-fn act(name: &str, words: &mut Words<'_>) -> Result<Option<Call>, Cause> {
-    let call = match name {
-        "issue" => issue(words)?,
-        "attempt" => Call::Core(words.small()?, OfCore::Attempt),
-        "advance" => Call::Core(words.small()?, OfCore::Advance),
-        "evict" => evict(words)?,
-        "put" => of_seat(words.seat()?, OfSeat::Put),
-        "take" => of_seat(words.seat()?, OfSeat::Take),
-        "serve" => of_seat(words.seat()?, OfSeat::Serve),
-        "turn" => of_seat(words.seat()?, OfSeat::Turn),
-        _ => return Ok(None),
-    };
-    Ok(Some(call))
+/// What changes a seat, or what is looked up.
+fn act(name: &str, words: &mut Words<'_>) -> Result<Call, Cause> {
+    match name {
+        "issue" => issue(words),
+        "attempt" => Ok(Call::Core(words.small()?, OfCore::Attempt)),
+        "advance" => Ok(Call::Core(words.small()?, OfCore::Advance)),
+        "evict" => evict(words),
+        "put" => Ok(of_seat(words.seat()?, OfSeat::Put)),
+        "take" => Ok(of_seat(words.seat()?, OfSeat::Take)),
+        "serve" => Ok(of_seat(words.seat()?, OfSeat::Serve)),
+        "turn" => Ok(of_seat(words.seat()?, OfSeat::Turn)),
+        _ => part_look(name, words),
+    }
 }
 
 /// A look at a line by a core.
@@ -76,19 +75,18 @@ fn room(words: &mut Words<'_>) -> Result<Call, Cause> {
     }
 }
 
-/// What is looked up of a core or a bank.
-fn part_look(name: &str, words: &mut Words<'_>) -> Result<Option<Call>, Cause> {
-    let call = match name {
-        "open" => Call::CoreLook(words.small()?, CoreLook::Open),
-        "time" => Call::CoreLook(words.small()?, CoreLook::Time),
-        "issued" => Call::CoreLook(words.small()?, CoreLook::Issued),
-        "victim" | "copy" => at_core(name, words)?,
-        "memory-time" => Call::BankLook(words.small()?, BankLook::Time),
-        "entry" | "dram" => at_bank(name, words)?,
-        "room" => room(words)?,
-        _ => return Ok(None),
-    };
-    Ok(Some(call))
+/// What is looked up of a core or a bank, or of others.
+fn part_look(name: &str, words: &mut Words<'_>) -> Result<Call, Cause> {
+    match name {
+        "open" => Ok(Call::CoreLook(words.small()?, CoreLook::Open)),
+        "time" => Ok(Call::CoreLook(words.small()?, CoreLook::Time)),
+        "issued" => Ok(Call::CoreLook(words.small()?, CoreLook::Issued)),
+        "victim" | "copy" => at_core(name, words),
+        "memory-time" => Ok(Call::BankLook(words.small()?, BankLook::Time)),
+        "entry" | "dram" => at_bank(name, words),
+        "room" => room(words),
+        _ => seat_look(name, words),
+    }
 }
 
 fn held(words: &mut Words<'_>) -> Result<Call, Cause> {
@@ -105,35 +103,35 @@ fn state(words: &mut Words<'_>) -> Result<Call, Cause> {
     })
 }
 
-/// What is looked up of a seat's messages, or all of a seat.
-fn seat_look(name: &str, words: &mut Words<'_>) -> Result<Option<Call>, Cause> {
-    let call = match name {
-        "hand" => mail_look(words.seat()?, MailLook::Hand),
-        "held" => held(words)?,
-        "places" => mail_look(words.seat()?, MailLook::Places),
-        "outbox" => mail_look(words.seat()?, MailLook::Outbox),
-        "cursor" => mail_look(words.seat()?, MailLook::Cursor),
-        "stopped" => mail_look(words.seat()?, MailLook::Stopped),
-        "state" => state(words)?,
-        _ => return Ok(None),
-    };
-    Ok(Some(call))
+/// What is looked up of a seat's messages, or all of a seat; or what is looked up of a closed run.
+fn seat_look(name: &str, words: &mut Words<'_>) -> Result<Call, Cause> {
+    match name {
+        "hand" => Ok(mail_look(words.seat()?, MailLook::Hand)),
+        "held" => held(words),
+        "places" => Ok(mail_look(words.seat()?, MailLook::Places)),
+        "outbox" => Ok(mail_look(words.seat()?, MailLook::Outbox)),
+        "cursor" => Ok(mail_look(words.seat()?, MailLook::Cursor)),
+        "stopped" => Ok(mail_look(words.seat()?, MailLook::Stopped)),
+        "state" => state(words),
+        "records" => records(words),
+        "sent" => sent(words),
+        _ => Ok(Call::RunLook(run_look(name, words)?)),
+    }
 }
 
 /// What is looked up of a closed run alone.
-fn run_look(name: &str, words: &mut Words<'_>) -> Result<Option<Call>, Cause> {
-    let look = match name {
-        "record" => RunLook::Record(words.number()?),
-        "stale" => RunLook::Stale,
-        "check" => RunLook::Check,
-        "arranged" => RunLook::Arranged,
-        "word" => RunLook::Word(words.address()?),
-        "owners" => RunLook::Owners(words.line()?),
-        "slot" => RunLook::Slot(words.number()?),
-        "slots" => RunLook::Slots,
-        _ => return Ok(None),
-    };
-    Ok(Some(Call::RunLook(look)))
+fn run_look(name: &str, words: &mut Words<'_>) -> Result<RunLook, Cause> {
+    match name {
+        "record" => Ok(RunLook::Record(words.number()?)),
+        "stale" => Ok(RunLook::Stale),
+        "check" => Ok(RunLook::Check),
+        "arranged" => Ok(RunLook::Arranged),
+        "word" => Ok(RunLook::Word(words.address()?)),
+        "owners" => Ok(RunLook::Owners(words.line()?)),
+        "slot" => Ok(RunLook::Slot(words.number()?)),
+        "slots" => Ok(RunLook::Slots),
+        _ => Err(Cause::Call),
+    }
 }
 
 /// How many records the closed run has, or the core that is named.
@@ -141,7 +139,7 @@ fn records(words: &mut Words<'_>) -> Result<Call, Cause> {
     let Some(word) = words.next_word() else {
         return Ok(Call::RunLook(RunLook::Records));
     };
-    let core = u32::try_from(words.number_in(word)?).map_err(|_| Cause::SmallNumber)?;
+    let core = words.small_in(word)?;
     Ok(Call::CoreLook(core, CoreLook::Records))
 }
 
@@ -149,9 +147,7 @@ fn records(words: &mut Words<'_>) -> Result<Call, Cause> {
 fn sent(words: &mut Words<'_>) -> Result<Call, Cause> {
     match words.next_word() {
         None => Ok(Call::RunLook(RunLook::Sent)),
-        Some("core") => Ok(mail_look(Seat::Core(words.small()?), MailLook::Sent)),
-        Some("bank") => Ok(mail_look(Seat::Bank(words.small()?), MailLook::Sent)),
-        Some(_) => Err(Cause::Seat),
+        Some(kind) => Ok(mail_look(words.seat_of(kind)?, MailLook::Sent)),
     }
 }
 
@@ -163,41 +159,16 @@ fn numbers(words: &mut Words<'_>) -> Result<Call, Cause> {
     Ok(Call::Numbers(drawers))
 }
 
-/// What opens, draws and closes, and what is looked up of a closed run or of a seat.
-fn other(alloc: Global, name: &str, words: &mut Words<'_>) -> Result<Call, Cause> {
-    match name {
-        "seats" => Ok(Call::Seats(read_opening(alloc, words)?)),
-        "numbers" => numbers(words),
-        "draw" => Ok(Call::Draw(words.small()?)),
-        "drawn" => Ok(Call::Drawn(words.small()?)),
-        "close" => Ok(Call::Close),
-        "records" => records(words),
-        "sent" => sent(words),
-        _ => Err(Cause::Call),
-    }
-}
-
-/// The call of a name.
-fn named(alloc: Global, name: &str, words: &mut Words<'_>) -> Result<Call, Cause> {
-    if let Some(call) = act(name, words)? {
-        return Ok(call);
-    }
-    if let Some(call) = part_look(name, words)? {
-        return Ok(call);
-    }
-    if let Some(call) = seat_look(name, words)? {
-        return Ok(call);
-    }
-    if let Some(call) = run_look(name, words)? {
-        return Ok(call);
-    }
-    other(alloc, name, words)
-}
-
 /// What words ask for.
 pub(crate) fn call_of(alloc: Global, words: &mut Words<'_>) -> Result<Call, Cause> {
-    let name = words.next_word().ok_or(Cause::Call)?;
-    let call = named(alloc, name, words)?;
+    let call = match words.wanted(Cause::Call)? {
+        "seats" => Call::Seats(read_opening(alloc, words)?),
+        "numbers" => numbers(words)?,
+        "draw" => Call::Draw(words.small()?),
+        "drawn" => Call::Drawn(words.small()?),
+        "close" => Call::Close,
+        name => act(name, words)?,
+    };
     words.end()?;
     Ok(call)
 }

@@ -3,37 +3,37 @@ ghost use Rattle.mailboxes.specs.RunParts.{Parts};
 
 use crate::answers::NO_SEAT;
 use crate::calls::{BankLook, Call, CoreLook, RunLook};
-use crate::looks::{look_at_bank, look_at_core, put_mail};
+use crate::looks::{look_at_bank, look_at_core};
 use crate::views::{bank_left, core_left};
 use event_text::{
-    NO_MACHINE, NO_MEMORY, put_counts, put_numbers, put_ops, put_record_at, put_verdict,
+    NO_MACHINE, NO_MEMORY, Reply, put_counts, put_message_or_none, put_numbers, put_ops,
+    put_record_at, put_verdict,
 };
 use mailboxes::Run;
 use physiological_order::{Op, Record, arrange, check, stale_hits};
 use std::alloc::{AllocError, Global};
 
 /// The message that lies in a slot, or `none`.
-fn put_in_slot(run: &Run, slot: u64, out: &mut String) -> Result<(), AllocError> {
+fn put_in_slot(run: &Run, slot: u64, out: &mut Reply) {
     if slot >= run.slots.len() as u64 {
-        return out.push_str("none");
+        return out.word("none");
     }
-    let line_words = run.set_up.config.line_words;
-    put_mail(run.slots[slot as usize].as_ref(), line_words, out)
+    put_message_or_none(run.slots[slot as usize].as_ref(), out);
 }
 
-fn put_arranged(alloc: Global, records: &[Record], out: &mut String) -> Result<(), AllocError> {
+fn put_arranged(alloc: Global, records: &[Record], out: &mut Reply) {
     match arrange(alloc, records) {
         Ok(arranged) => put_numbers(arranged.as_slice(), out),
-        Err(AllocError) => out.push_str(NO_MEMORY),
+        Err(AllocError) => out.word(NO_MEMORY),
     }
 }
 
-fn put_stale(alloc: Global, run: &Run, out: &mut String) -> Result<(), AllocError>
+fn put_stale(alloc: Global, run: &Run, out: &mut Reply)
     requires { Parts run.now }
 {
     match stale_hits(alloc, run.records()) {
-        Ok(count) => write!(out, "{count}"),
-        Err(AllocError) => out.push_str(NO_MEMORY),
+        Ok(count) => out.number(count),
+        Err(AllocError) => out.word(NO_MEMORY),
     }
 }
 
@@ -48,80 +48,66 @@ fn issued(alloc: Global, run: &Run) -> Result<Vec<Vec<Op>>, AllocError>
     Ok(issued)
 }
 
-fn put_check(alloc: Global, run: &Run, out: &mut String) -> Result<(), AllocError>
+fn put_check(alloc: Global, run: &Run, out: &mut Reply)
     requires { Parts run.now }
 {
-    let issued = issued(alloc, run)?;
+    let Ok(issued) = issued(alloc, run) else {
+        return out.cut();
+    };
     match check(alloc, &run.set_up.memory, issued.as_slice(), run.records()) {
         Ok(verdict) => put_verdict(&verdict, out),
-        Err(AllocError) => out.push_str(NO_MEMORY),
+        Err(AllocError) => out.word(NO_MEMORY),
     }
 }
 
 /// What is looked up of the run alone.
-fn look_at_run(alloc: Global, run: &Run, look: &RunLook, out: &mut String) -> Result<(), AllocError>
+fn look_at_run(alloc: Global, run: &Run, look: &RunLook, out: &mut Reply)
     requires { Parts run.now }
 {
     match look {
-        RunLook::Records => write!(out, "{}", run.records().len()),
+        RunLook::Records => out.number(run.records().len() as u64),
         RunLook::Record(number) => put_record_at(run.records(), *number, out),
         RunLook::Stale => put_stale(alloc, run, out),
         RunLook::Check => put_check(alloc, run, out),
         RunLook::Arranged => put_arranged(alloc, run.records(), out),
-        RunLook::Word(addr) => write!(out, "{}", run.value(*addr)),
-        RunLook::Owners(line) => write!(out, "{}", run.owners(*line)),
+        RunLook::Word(addr) => out.number(run.value(*addr)),
+        RunLook::Owners(line) => out.number(u64::from(run.owners(*line))),
         RunLook::Sent => put_counts(&run.counts(), out),
         RunLook::Slot(slot) => put_in_slot(run, *slot, out),
-        RunLook::Slots => write!(out, "{}", run.slots.len()),
+        RunLook::Slots => out.number(run.slots.len() as u64),
     }
 }
 
 /// What is looked up of the core of a number, as it was at the close.
-fn look_at_core_left(
-    run: &Run,
-    number: u32,
-    look: &CoreLook,
-    out: &mut String,
-) -> Result<(), AllocError>
+fn look_at_core_left(run: &Run, number: u32, look: &CoreLook, out: &mut Reply)
     requires { Parts run.now }
 {
     let Some(view) = core_left(run.cores.as_slice(), number) else {
-        return out.push_str(NO_SEAT);
+        return out.word(NO_SEAT);
     };
     match look {
         CoreLook::Issued => put_ops(run.issued(number), out),
-        look => look_at_core(number, &view, look, run.set_up.config.line_words, out),
+        look => look_at_core(number, &view, look, out),
     }
 }
 
 /// What is looked up of the bank of a number, as it was at the close.
-fn look_at_bank_left(
-    run: &Run,
-    number: u32,
-    look: &BankLook,
-    out: &mut String,
-) -> Result<(), AllocError> {
-    let config = &run.set_up.config;
-    let seat = u64::from(config.cores) + u64::from(number);
+fn look_at_bank_left(run: &Run, number: u32, look: &BankLook, out: &mut Reply) {
+    let seat = u64::from(run.set_up.config.cores) + u64::from(number);
     let Some(view) = bank_left(run.banks.as_slice(), seat) else {
-        return out.push_str(NO_SEAT);
+        return out.word(NO_SEAT);
     };
-    look_at_bank(number, &view, look, config.line_words, out)
+    look_at_bank(number, &view, look, out)
 }
 
 /// What is answered to a call behind the close.
-pub(crate) fn put_asked(
-    alloc: Global,
-    run: &Run,
-    call: &Call,
-    out: &mut String,
-) -> Result<(), AllocError>
+pub(crate) fn put_asked(alloc: Global, run: &Run, call: &Call, out: &mut Reply)
     requires { Parts run.now }
 {
     match call {
         Call::RunLook(look) => look_at_run(alloc, run, look, out),
         Call::CoreLook(number, look) => look_at_core_left(run, *number, look, out),
         Call::BankLook(number, look) => look_at_bank_left(run, *number, look, out),
-        _ => out.push_str(NO_MACHINE),
+        _ => out.word(NO_MACHINE),
     }
 }

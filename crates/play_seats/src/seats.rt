@@ -3,12 +3,11 @@ ghost use Rattle.mailboxes.specs.Seats.{AllBankSeats, AllCoreSeats, IsBankSeat, 
 
 use crate::answers::{NO_SEAT, Says, done, evicted, put_says, served, turned};
 use crate::calls::{BankLook, Call, CoreLook, OfCore, OfSeat};
-use crate::looks::{look_at_bank, look_at_core, put_found, put_open};
+use crate::looks::{look_at_bank, look_at_core};
 use crate::views::{Mail, open_bank, open_core};
-use event_text::NO_MACHINE;
+use event_text::{NO_MACHINE, Reply, put_open};
 use machine_table::Answer;
 use mailboxes::{BankSeat, CoreSeat, Machine};
-use std::alloc::AllocError;
 
 /// What a core's seat answers to a call of all seats.
 fn call_core_seat(core: &mut CoreSeat, machine: &Machine, call: &OfSeat) -> Says
@@ -74,73 +73,37 @@ fn bank_called(machine: &Machine, banks: &mut Vec<BankSeat>, at: usize, call: &O
 }
 
 /// What is looked up of an open seat of a core.
-fn look_at_core_seat(
-    seat: &CoreSeat,
-    number: u32,
-    look: &CoreLook,
-    line_words: u32,
-    out: &mut String,
-) -> Result<(), AllocError> {
+fn look_at_core_seat(seat: &CoreSeat, number: u32, look: &CoreLook, out: &mut Reply) {
     let _inside: Option<Mail<'_>> = None;
     match look {
         CoreLook::Open => put_open(seat.open_op(), out),
-        CoreLook::Victim(line) => put_found(seat.victim(*line), line_words, out),
-        look => look_at_core(number, &open_core(seat), look, line_words, out),
+        CoreLook::Victim(line) => out.line_or_none(seat.victim(*line)),
+        look => look_at_core(number, &open_core(seat), look, out),
     }
 }
 
 /// What is looked up of the open seat of the core of a number.
-fn look_at_open_core(
-    machine: &Machine,
-    cores: &Vec<CoreSeat>,
-    number: u32,
-    look: &CoreLook,
-    out: &mut String,
-) -> Result<(), AllocError> {
+fn look_at_open_core(cores: &Vec<CoreSeat>, number: u32, look: &CoreLook, out: &mut Reply) {
     let at = number as usize;
     if at >= cores.len() {
-        return out.push_str(NO_SEAT);
+        return out.word(NO_SEAT);
     }
-    look_at_core_seat(
-        &cores[at],
-        number,
-        look,
-        machine.set_up.config.line_words,
-        out,
-    )
+    look_at_core_seat(&cores[at], number, look, out)
 }
 
 /// What is looked up of an open seat of a bank.
-fn look_at_bank_seat(
-    seat: &BankSeat,
-    number: u32,
-    look: &BankLook,
-    line_words: u32,
-    out: &mut String,
-) -> Result<(), AllocError> {
+fn look_at_bank_seat(seat: &BankSeat, number: u32, look: &BankLook, out: &mut Reply) {
     let _inside: Option<Mail<'_>> = None;
-    look_at_bank(number, &open_bank(seat), look, line_words, out)
+    look_at_bank(number, &open_bank(seat), look, out)
 }
 
 /// What is looked up of the open seat of the bank of a number.
-fn look_at_open_bank(
-    machine: &Machine,
-    banks: &Vec<BankSeat>,
-    number: u32,
-    look: &BankLook,
-    out: &mut String,
-) -> Result<(), AllocError> {
+fn look_at_open_bank(banks: &Vec<BankSeat>, number: u32, look: &BankLook, out: &mut Reply) {
     let at = number as usize;
     if at >= banks.len() {
-        return out.push_str(NO_SEAT);
+        return out.word(NO_SEAT);
     }
-    look_at_bank_seat(
-        &banks[at],
-        number,
-        look,
-        machine.set_up.config.line_words,
-        out,
-    )
+    look_at_bank_seat(&banks[at], number, look, out)
 }
 
 /// What is answered to a call while the seats are open.
@@ -149,8 +112,8 @@ pub(crate) fn put_called(
     cores: &mut Vec<CoreSeat>,
     banks: &mut Vec<BankSeat>,
     call: &Call,
-    out: &mut String,
-) -> Result<(), AllocError>
+    out: &mut Reply,
+)
     requires cores { AllCoreSeats machine.now cores.old.items }
     requires banks { AllBankSeats machine.now banks.old.items }
     ensures cores { AllCoreSeats machine.now cores.new.items }
@@ -163,8 +126,8 @@ pub(crate) fn put_called(
         Call::Bank(number, call) => {
             put_says(&bank_called(machine, banks, *number as usize, call), out)
         }
-        Call::CoreLook(number, look) => look_at_open_core(machine, cores, *number, look, out),
-        Call::BankLook(number, look) => look_at_open_bank(machine, banks, *number, look, out),
-        _ => out.push_str(NO_MACHINE),
+        Call::CoreLook(number, look) => look_at_open_core(cores, *number, look, out),
+        Call::BankLook(number, look) => look_at_open_bank(banks, *number, look, out),
+        _ => out.word(NO_MACHINE),
     }
 }

@@ -366,7 +366,7 @@ pattern() {
 to_the_end() {
     trace_by_threads "$1" "$2"
     good=yes
-    must "$name: not all done" [ "$got" -eq 0 ]
+    must "${1##*/} by threads, $2 workers: not all done" [ "$got" -eq 0 ]
     count "$good"
 }
 

@@ -1,4 +1,5 @@
 //! What errors are called, and their numbers, where the program tells neither.
+use litmus_reader::LitmusError;
 use report::RunError;
 use std::alloc::Global;
 use std::test::Fail;
@@ -38,12 +39,17 @@ fn errors_have_these_numbers(rt: HostRuntime) {
         line: 3,
         kind: Kind::BadCore,
     };
+    let cut = LitmusError {
+        line: 1,
+        kind: litmus_reader::Kind::BadHeader,
+    };
     let numbers = [
         RunError::Read.number(),
         RunError::Write.number(),
         RunError::NoMemory.number(),
+        RunError::Litmus(cut).number(),
         RunError::Trace(fault).number(),
         RunError::BadConfig.number(),
     ];
-    assert_eq!(rt; numbers, [1, 2, 3, 5, 6]);
+    assert_eq!(rt; numbers, [1, 2, 3, 4, 5, 6]);
 }

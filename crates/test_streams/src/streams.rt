@@ -38,7 +38,10 @@ fn bytes_come(rt: HostRuntime) -> Result<(), Fail> {
         assert!(rt; is_read(rt.alloc(), b"abcdefghij", case), "{case:?}");
     }
     // Many blocks come, each in many calls.
-    let many = Vec::from_elem(rt.alloc(), 7, 70_000)?;
+    let mut many = Vec::new(rt.alloc());
+    for i in 0..70_000 {
+        many.push((i % 251) as u8)?;
+    }
     assert!(rt; is_read(rt.alloc(), &many, &(70_000, 7, 20_000, Ok(70_000))));
     Ok(())
 }

@@ -94,6 +94,8 @@ fn devices_that_fail(rt: HostRuntime) {
         let records = record_count(rt.alloc(), RECORD, 2, calls);
         assert!(rt; trace == Err((0, Kind::Read)) && records == Err((0, Kind::Read)));
     }
+    let enough = sizes(rt.alloc(), TRACE, 2, 10);
+    assert!(rt; enough == Ok((2, 1, 1)) && record_count(rt.alloc(), RECORD, 2, 10) == Ok(1));
 }
 
 // A fault is answered before a device fails that has brought it.

@@ -53,10 +53,10 @@ impl TurnCounts {
         Some(ended)
     }
 
-    /// Whether the first seats had so many turns each, and so many of two first turns saw the other.
+    /// Whether the first seats had so many turns each, the others none, and so many of two first turns saw the other.
     pub(crate) fn are(&self, counts: &[u64], met: u64) -> bool {
-        for seat in 0..counts.len() {
-            if self.of(seat) != Some(counts[seat]) {
+        for seat in 0..8 {
+            if self.of(seat) != Some(counts.get(seat).copied().unwrap_or(0)) {
                 return false;
             }
         }

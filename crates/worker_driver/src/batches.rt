@@ -89,8 +89,8 @@ pub fn seeded_runs<R: Threads + Sync, G: Gate + Sync>(
 }
 
 /// `count` runs of the test by rounds, one after the other, with at most `limit` rounds each, on one machine with a core
-/// for each thread, which opens anew for each further run. The end state of a run that is all done is an outcome of the sequential machine. AllocError where
-/// there is no memory for the list, or for the machine or what is told of it.
+/// for each thread, which opens anew for each further run. The end state of a run that is all done is an outcome of the
+/// sequential machine. AllocError where there is no memory for the list, or for the machine or what is told of it.
 pub fn round_runs(
     alloc: Global,
     test: &Test,

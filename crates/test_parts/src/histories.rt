@@ -1,0 +1,77 @@
+//! What histories of any origin ask, and no machine's do: a replay, stale hits where times of writes fall, and a check
+//! whose steps are counted. The values were worked out by hand.
+use physiological_order::{
+    Memory, Op, Record, Steps, WordAddr, check_counted, replay, stale_hits, stale_hits_counted,
+};
+use std::alloc::{AllocError, Global};
+use std::test::Fail;
+
+fn load(word: u64) -> Op {
+    Op::Load(WordAddr::at(word % 8))
+}
+
+fn store(word: u64, value: u64) -> Op {
+    Op::Store(WordAddr::at(word % 8), value)
+}
+
+// A record: its core and place, its operation and what it received, its time and its number.
+fn record(core: u32, place: u32, op: Op, received: Option<u64>, ts: u64, number: u64) -> Record {
+    Record {
+        core,
+        place,
+        op,
+        received,
+        ts,
+        number,
+    }
+}
+
+// Whether a replay over a memory whose word 0 is 9 receives old values, and leaves that memory as it was.
+fn receives_old_values(alloc: Global, opening: &Memory) -> Result<bool, AllocError> {
+    let swap = Op::Swap(WordAddr::at(0), 4);
+    let operations = [load(0), swap, store(1, 7), load(0), load(1)];
+    let (received, end) = replay(alloc, opening, &operations)?;
+    let is_received = received.as_slice() == [Some(9), Some(9), None, Some(4), Some(7)].as_slice();
+    let left = [0, 1].map(|word| end.get(WordAddr::at(word)));
+    Ok(is_received && left == [4, 7] && opening.get(WordAddr::at(0)) == 9)
+}
+
+#[test]
+fn a_replay_receives_old_values(rt: HostRuntime) -> Result<(), Fail> {
+    let mut opening = Memory::new(rt.alloc());
+    opening.set(WordAddr::at(0), 9)?;
+    assert!(rt; receives_old_values(rt.alloc(), &opening)?);
+    Ok(())
+}
+
+// The second store's time is smaller, so 9 stays the greatest: only the load at 6 is before it.
+#[test]
+fn the_greatest_time_of_a_write_is_kept(rt: HostRuntime) {
+    let records = [
+        record(0, 0, store(0, 1), None, 9, 0),
+        record(1, 0, store(0, 2), None, 4, 1),
+        record(2, 0, load(0), Some(2), 6, 2),
+        record(2, 1, load(0), Some(1), 9, 3),
+    ];
+    assert!(rt; stale_hits(rt.alloc(), &records) == Ok(1));
+}
+
+// How many steps a check of a store and a load behind it takes, and how many there are with their stale hits.
+fn counted(alloc: Global) -> Result<(u128, u128), AllocError> {
+    let issued = [vec![in alloc; store(0, 1), load(0)]?];
+    let records = [
+        record(0, 0, store(0, 1), None, 1, 0),
+        record(0, 1, load(0), Some(1), 1, 1),
+    ];
+    let mut steps = Steps::new();
+    check_counted(alloc, &mut steps, &Memory::new(alloc), &issued, &records)?;
+    let of_check = steps.made();
+    stale_hits_counted(alloc, &mut steps, &records)?;
+    Ok((of_check, steps.made()))
+}
+
+// As docs/ORDER.md counts them: the load is compared with the store; the store looks twice, the load once.
+#[test]
+fn steps_are_those_of_the_page(rt: HostRuntime) {
+    assert!(rt; counted(rt.alloc()) == Ok((1, 4)));
+}

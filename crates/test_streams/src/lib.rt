@@ -1,5 +1,5 @@
 //! What only code can say of streams and texts: readers and writers that move few bytes a call or fail. Then what errors
-//! are called, a report on sums that no run has, and what the uses of docs/USES.md give.
+//! are called, and a report on sums that no run has.
 #![tactic(auto)]
 
 #[cfg(test)]
@@ -12,5 +12,3 @@ mod streams;
 mod sums;
 #[cfg(test)]
 mod traces;
-#[cfg(test)]
-mod uses;

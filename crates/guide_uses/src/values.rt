@@ -1,12 +1,11 @@
-//! What the uses of the crates in docs/USES.md give, where their contracts don't say it, with values worked out by hand.
-use guide_uses::compare::renewals;
-use guide_uses::drive::first_store;
-use guide_uses::program::pass_message;
+//! What the uses of docs/USES.md give, where their contracts don't say it. The values were worked out by hand.
+use crate::compare::renewals;
+use crate::drive::first_store;
+use crate::program::pass_message;
 use interleaving_core::{Answer, LineNo, OpenError, System};
 use physiological_order::{Op, Record, WordAddr};
 use programs::Step;
 use std::alloc::{AllocError, Global};
-use std::test::Fail;
 
 // A core loads a word, advances 15 times, and loads it again.
 fn steps(alloc: Global) -> Result<Vec<Step>, AllocError> {
@@ -19,12 +18,10 @@ fn steps(alloc: Global) -> Result<Vec<Step>, AllocError> {
 }
 
 // The first load leases the line to time 10 or 20. At time 15 the one lease is over, and the other isn't.
-#[test]
-fn a_longer_lease_saves_a_renewal(rt: HostRuntime) -> Result<(), Fail> {
-    let steps = steps(rt.alloc())?;
-    let short = renewals(rt.alloc(), &steps, 10);
-    assert!(rt; short == Ok(Some(1)) && renewals(rt.alloc(), &steps, 20) == Ok(Some(0)));
-    Ok(())
+fn a_longer_lease_saves_a_renewal(alloc: Global) -> Result<bool, AllocError> {
+    let steps = steps(alloc)?;
+    let short = renewals(alloc, &steps, 10);
+    Ok(short == Ok(Some(1)) && renewals(alloc, &steps, 20) == Ok(Some(0)))
 }
 
 // The store's record: the line comes at time 0, and a store goes past its lease of none.
@@ -69,12 +66,9 @@ fn is_as_told(alloc: Global) -> Result<bool, OpenError> {
     Ok(are_answered(&answers) && is_stored(&system))
 }
 
-#[test]
-fn a_first_store_is_answered_event_by_event(rt: HostRuntime) {
-    assert!(rt; is_as_told(rt.alloc()) == Ok(true));
-}
-
-#[test]
-fn the_message_is_received_after_the_flag(rt: HostRuntime) {
-    assert!(rt; pass_message(rt.alloc()) == Ok(Some(42)));
+/// Whether all of them give these values.
+pub(crate) fn are_told(alloc: Global) -> bool {
+    a_longer_lease_saves_a_renewal(alloc) == Ok(true)
+        && is_as_told(alloc) == Ok(true)
+        && pass_message(alloc) == Ok(Some(42))
 }

@@ -1,7 +1,8 @@
 //! What histories of any origin ask, and no machine's do: a replay, stale hits where times of writes fall, and a check
 //! whose steps are counted. The values were worked out by hand.
 use physiological_order::{
-    Memory, Op, Record, Steps, WordAddr, check_counted, replay, stale_hits, stale_hits_counted,
+    Memory, Op, Record, Steps, WordAddr, check_counted, replay, rises_by_number, stale_hits,
+    stale_hits_counted,
 };
 use std::alloc::{AllocError, Global};
 use std::test::Fail;
@@ -32,8 +33,8 @@ fn receives_old_values(alloc: Global, opening: &Memory) -> Result<bool, AllocErr
     let operations = [load(0), swap, store(1, 7), load(0), load(1)];
     let (received, end) = replay(alloc, opening, &operations)?;
     let is_received = received.as_slice() == [Some(9), Some(9), None, Some(4), Some(7)].as_slice();
-    let left = [0, 1].map(|word| end.get(WordAddr::at(word)));
-    Ok(is_received && left == [4, 7] && opening.get(WordAddr::at(0)) == 9)
+    let is_left = end.get(WordAddr::at(0)) == 4 && end.get(WordAddr::at(1)) == 7;
+    Ok(is_received && is_left && opening.get(WordAddr::at(0)) == 9)
 }
 
 #[test]
@@ -53,7 +54,7 @@ fn the_greatest_time_of_a_write_is_kept(rt: HostRuntime) {
         record(2, 0, load(0), Some(2), 6, 2),
         record(2, 1, load(0), Some(1), 9, 3),
     ];
-    assert!(rt; stale_hits(rt.alloc(), &records) == Ok(1));
+    assert!(rt; rises_by_number(&records) && stale_hits(rt.alloc(), &records) == Ok(1));
 }
 
 // How many steps a check of a store and a load behind it takes, and how many there are with their stale hits.
@@ -66,7 +67,9 @@ fn counted(alloc: Global) -> Result<(u128, u128), AllocError> {
     let mut steps = Steps::new();
     check_counted(alloc, &mut steps, &Memory::new(alloc), &issued, &records)?;
     let of_check = steps.made();
-    stale_hits_counted(alloc, &mut steps, &records)?;
+    if rises_by_number(&records) {
+        stale_hits_counted(alloc, &mut steps, &records)?;
+    }
     Ok((of_check, steps.made()))
 }
 

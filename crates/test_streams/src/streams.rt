@@ -39,7 +39,7 @@ fn bytes_come(rt: HostRuntime) -> Result<(), Fail> {
     }
     // Many blocks come, each in many calls.
     let mut many = Vec::new(rt.alloc());
-    for i in 0..70_000 {
+    for i in 0..70_000u32 {
         many.push((i % 251) as u8)?;
     }
     assert!(rt; is_read(rt.alloc(), &many, &(70_000, 7, 20_000, Ok(70_000))));

@@ -7,7 +7,8 @@
 
 A text is a litmus test if its name ends in .litmus, or if it has a brace and no name that ends in .trace. Verdicts and
 faults are the program's: what TARDIS names, else the one that ./tardis built, else, of traces and records,
-examples/oracle.py. The line and the kind of a test's fault are told by `./tardis --unproved litmus TEST`, too. The status is 0 if nothing is wrong, 1 if something is explained, and 2 if a file can't be read,
+examples/oracle.py. The line and the kind of a test's fault are told by `./tardis --unproved litmus TEST`, too.
+The status is 0 if nothing is wrong, 1 if something is explained, and 2 if a file can't be read,
 told in one line.
 """
 import re
@@ -176,7 +177,8 @@ def fault_of(path, is_test):
     """What the program says of a text: None, or the line and the kind, as `line 6: 8 BadInstruction`."""
     if is_test and not BUILT.exists() and program.program().endswith("oracle.py"):
         fail(f"{path}: why a test is refused is known to the program alone, which isn't built: "
-             f"./tardis --unproved litmus {path} tells line and kind in a minute or two, ./tardis litmus {path} builds it")
+             f"./tardis --unproved litmus {path} tells line and kind in a minute or two, "
+             f"./tardis litmus {path} builds it")
     try:
         program.run(*(["litmus", "--limit", "1", path] if is_test else ["check", path, "/dev/null"]))
     except Refused as refused:

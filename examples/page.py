@@ -1,9 +1,9 @@
 #!/usr/bin/env python3
 """Writes a run of a litmus test or a trace as one HTML page, to be stepped through: examples/page.py FILE > run.html
 
-What the page shows is what the proved machine did: ./play (docs/EVENTS.md) makes the events and is asked what there is
-behind each. ./play is built first where it isn't, which takes many minutes once. Without the kit,
---player examples/play.py has them from the second program's machine. The page says which.
+What the page shows is what a machine did: a player (docs/EVENTS.md) makes the events and is asked what there is behind
+each. That is the proved machine's, ./play, if it is built and no source is newer. Else it is the second program's,
+examples/play.py, which standard error then says; nothing is built. --player names another. The page says which.
 
 The page stands alone: it loads nothing. Keys: right and left (on to the next event that changes something, and back),
 down and up (each event), space (play), c, s, r, l, e (the next completion, stale hit, renewal, recall, eviction; with
@@ -15,6 +15,7 @@ The status is 1 if the run isn't all done; the page then shows it as far as it w
 import html
 import json
 import shlex
+import subprocess
 import sys
 from pathlib import Path
 
@@ -30,6 +31,9 @@ PARTS = Path(__file__).resolve().parent / "shown"
 ENDS = {"all-done": "All operations are done.", "stalled": "The run stalled: a round in which nothing went on.",
         "limit": "The run was cut: its rounds or turns are used up.", "memory": "Allocation failed.",
         "exhausted": "The run ended: a time doesn't fit 64 bits."}
+# The rule of ./play, at the folder $1.
+IS_BUILT = 'top=$1; . "$top/scripts/program.sh"; is_built play_events'
+SECOND = "the second program's machine"
 MARKS = {"completed": "c", "RenewRep": "r", "FlushReq": "l", "WbReq": "l", "evicted": "e", "recalled": "e"}
 
 
@@ -133,20 +137,32 @@ def page(run, options, made_by):
 def player_name(command):
     """How the page names a player that was named; whether it was proved isn't known."""
     name = Path(command[0]).name
-    return "the second program's machine" if name == "play.py" else " ".join([name, *command[1:]])
+    return SECOND if name == "play.py" else " ".join([name, *command[1:]])
+
+
+def player_of(options):
+    """The command of the player, and how the page names it."""
+    if options.player:
+        command = shlex.split(options.player)
+        return command, player_name(command)
+    if subprocess.run(["sh", "-c", IS_BUILT, "sh", TOP], check=False).returncode == 0:
+        return [str(TOP / "play")], "the proved machine"
+    return [str(TOP / "examples/play.py")], SECOND
 
 
 def main(given):
     words = Words(__doc__)
     words.run_options()
-    words.add_argument("--player", metavar="COMMAND", help="what plays texts of events, as examples/play.py (./play)")
+    words.add_argument("--player", metavar="COMMAND", help="what plays texts of events (./play, or examples/play.py)")
     options = words.parse_args(given)
     subject = Subject(options.FILE)
     subject.chosen(options)
-    command = shlex.split(options.player) if options.player else [str(TOP / "play")]
-    made_by = player_name(command) if options.player else "the proved machine"
+    command, made_by = player_of(options)
     run = Played(Player(command), subject, options)
     sys.stdout.write(page(run, options, made_by))
+    if made_by == SECOND and not options.player:
+        print(f"page.py: {SECOND} played; the proved one does once ./play has built it, in many minutes: "
+              "./play crates/play_events/data/pages.events", file=sys.stderr)
     if run.end != "all-done":
         print(f"page.py: {options.FILE}: {ENDS[run.end]}", file=sys.stderr)
     return int(run.end != "all-done")

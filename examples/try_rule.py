@@ -202,13 +202,16 @@ def told(number, trial, name):
 def program_of(path):
     try:
         text = Path(path).read_bytes()
-        return Test(text.decode("ascii")) if b"{" in text else Trace(text)
+        program = Test(text.decode("ascii")) if b"{" in text else Trace(text)
     except OSError as error:
         fail(f"{path}: {error.strerror}")
     except Fault as fault:
         fail(f"{path}: {fault}")
     except (AssertionError, AttributeError, IndexError, KeyError, SyntaxError, ValueError):
         fail(f"{path} can't be read as a good test")
+    if isinstance(program, Trace) and not any(program.steps):
+        fail(f"{path} has no operation")
+    return program
 
 
 def fail(said):
@@ -223,6 +226,8 @@ def main():
     parser.add_argument("FILE", nargs="*", help="tests and traces to be played in place of drawn ones")
     parser.error = lambda said: fail(f"{said} (--help tells all)")
     options = parser.parse_args()
+    if options.tries < 1 or not 0 <= options.first < 2 ** 64:
+        fail("--tries is 1 or more, and --first goes from 0 to 2^64 - 1")
     programs = [program_of(path) for path in options.FILE]
     for number in range(options.first, options.first + options.tries):
         trial = trial_of(number, programs)

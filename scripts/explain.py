@@ -7,9 +7,11 @@
 
 A text is a litmus test if its name ends in .litmus, or if it has a brace and no name that ends in .trace. Verdicts and
 faults are the program's: what TARDIS names, else the one that ./tardis built, else, of traces and records,
-examples/oracle.py. The status is 0 if nothing is wrong, 1 if something is explained, and 2 if a file can't be read,
+examples/oracle.py. The line and the kind of a test's fault are told by `./tardis --unproved litmus TEST`, too.
+The status is 0 if nothing is wrong, 1 if something is explained, and 2 if a file can't be read,
 told in one line.
 """
+import re
 import sys
 
 import program
@@ -116,7 +118,7 @@ def out_of_order(history, at):
     if not listed:
         yield f"The trace has no operation of core {core}."
     elif place != next_one and next_one < len(listed):
-        yield f"Operation {next_one} (from 0) of core {core} comes next, and this is its operation {place}:"
+        yield f"Core {core}'s operation {next_one} comes next (the first is 0), and this is its operation {place}:"
         line, fields = listed[next_one]
         yield f"  line {line} of the trace: {core} {b' '.join(fields).decode()}"
         found = [other for other in mine if other.place == next_one]
@@ -125,7 +127,7 @@ def out_of_order(history, at):
         yield f"Core {core} has {len(listed)} operations in the trace, numbered from 0, so none comes here."
     else:
         line, fields = listed[place]
-        yield f"Core {core}'s operation {place} (from 0) is another one in the trace:"
+        yield f"Core {core}'s operation {place} (the first is 0) is another one in the trace:"
         yield f"  line {line} of the trace: {core} {b' '.join(fields).decode()}"
     yield from around(f"The order of what core {core} does:", mine, next_one)
 
@@ -154,10 +156,13 @@ def next_to(by_number, number):
 def explained_records(paths, texts):
     """The lines that explain the verdict."""
     verdict = program.run("check", *paths).strip()
-    yield verdict
     if verdict == "legal":
+        yield verdict
         return
+    if not re.fullmatch(r"(bad number|wrong value|out of program order) \d+", verdict):
+        fail(f"{program.program()} answers no verdict")
     what, _, number = verdict.rpartition(" ")
+    yield verdict
     history, number = History(*texts), int(number)
     if what == "bad number":
         yield from bad_number(history, number)
@@ -171,7 +176,9 @@ def explained_records(paths, texts):
 def fault_of(path, is_test):
     """What the program says of a text: None, or the line and the kind, as `line 6: 8 BadInstruction`."""
     if is_test and not BUILT.exists() and program.program().endswith("oracle.py"):
-        fail(f"{path}: why a test is refused is known to the program alone; ./tardis litmus {path} builds it")
+        fail(f"{path}: why a test is refused is known to the program alone, which isn't built: "
+             f"./tardis --unproved litmus {path} tells line and kind in a minute or two, "
+             f"./tardis litmus {path} builds it")
     try:
         program.run(*(["litmus", "--limit", "1", path] if is_test else ["check", path, "/dev/null"]))
     except Refused as refused:

@@ -5,7 +5,8 @@
     scripts/from_herd.py --observation REPORT ..
 
 Only what means the same is turned; docs/FROM-HERD7.md lists it. Anything else is refused with its line and status 2,
-and nothing is printed. A report is what `tardis litmus` prints.
+and nothing is printed. A report is what `tardis litmus` prints. The name of a test with a filter gets `+filter`: herd7
+drops runs outside the filter, and a report counts them, so that its Observation isn't printed, and the status is 1.
 """
 import re
 import sys
@@ -16,6 +17,7 @@ ABI = {name: f"x{number}" for number, name in enumerate(
     "zero ra sp gp tp t0 t1 t2 s0 s1 a0 a1 a2 a3 a4 a5 a6 a7 s2 s3 s4 s5 s6 s7 s8 s9 s10 s11 t3 t4 t5 t6".split())}
 REGISTERS = {**ABI, "fp": "x8", **{f"x{number}": f"x{number}" for number in range(32)}}
 MOST = 2 ** 31 - 1
+FILTER = "+filter"  # behind the name of a test with a filter
 TYPES = {"w": ("int", "int32_t", "uint32_t"), "d": ("long", "int64_t", "uint64_t")}
 ORDER = r"(?:\.aqrl|\.aq\.rl|\.aq|\.rl)?"
 KEYWORD = r"(?m)^[ \t]*(locations|filter|~[ \t]*exists|exists|forall)\b"
@@ -230,8 +232,10 @@ class Column:
         target = self.register(at, cell, target)
         values = [self.known[REGISTERS[word]] if word in REGISTERS else number_of(word) for word in sources]
         value = self.result(name.removesuffix("i") if name != "li" else name, sources, values)
-        if value is None or isinstance(value, int) and not 0 <= value <= MOST:
+        if value is None:
             self.refuse(at, cell, "has a result that isn't known beforehand")
+        if isinstance(value, int) and not 0 <= value <= MOST:
+            self.refuse(at, cell, f"has the result {value}, and values go from 0 to {MOST}")
         self.set(at, cell, target, value)
         if isinstance(value, str) or target == "x0":
             return ""
@@ -267,6 +271,9 @@ def condition(herd, columns):
     texts = [expression(herd, columns, *part[2:]) for part in (*filters, parts[-1])]
     if filters and kind == "forall":
         source.refuse(filters[0][1], "`filter` before `forall`")
+    if filters and len(herd.name) > 128 - len(FILTER):
+        source.refuse(0, "a name that is too long for a test with a filter")
+    herd.name += FILTER if filters else ""
     return kind + " " + (texts[0] if len(texts) == 1 else " /\\ ".join(f"({text})" for text in texts))
 
 
@@ -325,18 +332,22 @@ def converted(path):
     rows = [[f"P{thread}" for thread in range(herd.threads)], *(row for row in zip(*cells) if any(row))]
     widths = [max(map(len, column)) for column in zip(*rows)]
     end = condition(herd, columns)
+    # The name is as the condition left it.
     yield from (f"RISCV {herd.name}", *herd.header, "{", *(" ".join(items) for items in opening if items), "}")
     yield from (f" {' | '.join(cell.ljust(width) for cell, width in zip(row, widths))} ;" for row in rows)
     yield end
 
 
 def observation(path):
-    """herd7's line for a report: in how many runs that are all done the expression holds, and in how many not."""
+    """herd7's line for a report: in how many runs that are all done the expression holds, and in how many not. None of
+    a test with a filter."""
     told = dict(line.partition(" ")[::2] for line in text_of(path).decode("latin-1").splitlines())
     try:
         name, held, all_done = told["test"], int(told["held"]), int(told["all-done"])
     except (KeyError, ValueError):
         fail(f"{path} is no report of a litmus test")
+    if name.endswith(FILTER):
+        return print(f"from_herd.py: {path}: no Observation, as the test {name} had a filter", file=sys.stderr)
     often = "Never" if held == 0 else "Always" if held == all_done else "Sometimes"
     return f"Observation {name} {often} {held} {all_done - held}"
 
@@ -345,7 +356,9 @@ def main(words):
     if words in (["-h"], ["--help"]):
         print(__doc__)
     elif len(words) > 1 and words[0] == "--observation":
-        print("\n".join([observation(path) for path in words[1:]]))
+        lines = [observation(path) for path in words[1:]]
+        print("".join(f"{line}\n" for line in lines if line), end="")
+        sys.exit(int(None in lines))
     elif len(words) == 1 and not words[0].startswith("-"):
         print("\n".join(list(converted(words[0]))))
     else:

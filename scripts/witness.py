@@ -10,6 +10,7 @@ are `./tardis litmus` if they aren't given. The program is what TARDIS names, el
 examples/oracle.py. The status is 0 if the seeds were run, and 2 if not, which standard error tells in one line.
 """
 import argparse
+import re
 import shlex
 import sys
 from pathlib import Path
@@ -18,22 +19,44 @@ import program
 from program import TOP, Refused, fail
 
 sys.path.insert(0, str(TOP / "examples"))
+from reference.calls import OPTIONS  # noqa: E402
 from reference.given import NUMBERS  # noqa: E402
 
 MOST = 1_000_000  # runs of one report
+GREATEST = 2 ** 64 - 1
+# The least and the greatest number of an option.
+RANGES = {name: (least, greatest) for name, (_, least, greatest) in OPTIONS.items()}
+RANGES |= {"seeds": (1, GREATEST), "seed": (0, GREATEST), "limit": (1, 2 ** 32 - 1), "workers": (1, 16)}
 NO_STATES = ("stalled", "limit", "exhausted", "memory")
+
+
+def number(name):
+    """What reads the number of an option, within its range."""
+    least, greatest = RANGES[name]
+
+    def read(text):
+        if not re.fullmatch("[0-9]{1,20}", text) or not least <= int(text) <= greatest:
+            raise argparse.ArgumentTypeError(f"{text} isn't a number from {least} to {greatest}")
+        return int(text)
+    return read
+
+
+def no_runs(_):
+    raise argparse.ArgumentTypeError("each seed is one run; --seeds says how many")
 
 
 def words():
     parser = argparse.ArgumentParser(allow_abbrev=False, description=__doc__.split("\n")[0],
                                      epilog="The other options are the program's (docs/TEXTS.md).")
-    parser.add_argument("--seeds", type=int, default=1000, metavar="N", help="how many seeds are run (1000)")
+    parser.add_argument("--seeds", type=number("seeds"), default=1000, metavar="N",
+                        help="how many seeds are run (1000)")
+    parser.add_argument("--runs", type=no_runs, help=argparse.SUPPRESS)
     here = "./tardis" if Path("tardis").exists() else shlex.quote(str(TOP / "tardis"))
     parser.add_argument("--command", default=f"{here} litmus", metavar="WORDS",
                         help="what stands in front of the options in the commands (./tardis litmus)")
     parser.add_argument("--private-write", action="store_true")
     for option in (*NUMBERS, "workers"):
-        parser.add_argument("--" + option, type=int,
+        parser.add_argument("--" + option, type=number(option),
                             **({"metavar": "FIRST", "help": "the first seed (0)"} if option == "seed" else {}))
     parser.add_argument("TEST")
     parser.error = lambda said: fail(f"{said} (--help tells all)")
@@ -51,7 +74,8 @@ class Seeds:
     """Reports of ranges of seeds, and what was found in them."""
 
     def __init__(self, options):
-        self.test, self.options, self.first = options.TEST, passed_on(options), options.seed or 0
+        self.test = f"./{options.TEST}" if options.TEST.startswith("-") else options.TEST
+        self.options, self.first = passed_on(options), options.seed or 0
         self.name, self.counts = None, {}  # how many runs have each end
         self.found = {}                    # by end the first seed, and whether the expression holds
 
@@ -103,8 +127,6 @@ def told(seeds, runs, command):
 
 def main():
     options = words().parse_args()
-    if options.seeds < 1:
-        fail("--seeds wants a number from 1 on")
     program.text_of(options.TEST)
     seeds = Seeds(options)
     seeds.look_through(options.seeds)

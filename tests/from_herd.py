@@ -18,8 +18,9 @@ sys.path.insert(0, str(TOP / "examples"))
 import sequential  # noqa: E402
 from reference.litmus import Test  # noqa: E402
 
-# Names of conditions that have one value in all ends: a load of what its own thread stored, and a filter's register.
-FIXED = {"SB+rfi-addrs": ("0:x7", "1:x7"), "R+fence.w.w+fence.tso": ("0:x5",)}
+# Names of conditions that have one value in all ends: loads of what their own threads stored.
+FIXED = {"SB+rfi-addrs": ("0:x7", "1:x7")}
+FILTERED = "R+fence.w.w+fence.tso"
 OPENING = "RISCV T\n{ 0:x5=1; 0:x6=x; 0:x8=y; 1:x6=x; }\n P0 | P1 ;\n"
 LOAD, STORE = "lw x7,0(x6)", "sw x5,0(x6)"
 CELLS = [("lwu x7,0(x6)", LOAD), ("lw.aq.rl t2 , ( x6 )", LOAD), ("sw.rl x5,0(t1)", STORE),
@@ -88,12 +89,15 @@ def generated(tester, program):
         tester.expect((status, error) == (0, ""), f"{path.name}: {status} {error}")
         test = Test(out)
         ends, wanted = sequential.ends_of(test), other_ends(test)
-        tester.expect(test.name == path.stem and ends == wanted, f"{path.name}: {out}{ends}, wanted {wanted}")
+        name = path.stem + "+filter" * (path.stem == FILTERED)
+        tester.expect(test.name == name and ends == wanted, f"{path.name}: {out}{ends}, wanted {wanted}")
         report = Tester(program).run("litmus", "/dev/stdin", text=out.encode())
         tester.expect(report[0] == 0 and "\nverdict no\n" in report[1], f"{path.name}: {report}")
         tester.file.write_text(report[1])
         told = tester.run("--observation", str(tester.file))
-        tester.expect(told == (0, f"Observation {path.stem} Never 0 1\n", ""), f"{path.name}: {told}")
+        line = f"Observation {path.stem} Never 0 1\n"
+        good = told[:2] == (1, "") and FILTERED in told[2] if path.stem == FILTERED else told == (0, line, "")
+        tester.expect(good, f"{path.name}: {told}")
 
 
 def cells(tester):
@@ -110,6 +114,11 @@ def cells(tester):
 def others(tester):
     for text, line in NO_TEXTS:
         tester.is_refused(text, line)
+    status, out, error = tester.turned(OPENING + ROW + "filter x=1 \\/ 0:x5=2\nexists (y=2)\n")
+    wanted = "exists (x=1 \\/ 0:x5=2) /\\ ((y=2))\n"
+    tester.expect((status, error) == (0, "") and out.endswith(wanted), f"a filter: {status} {out} {error}")
+    _, _, error = tester.turned(OPENING + " li x5,2147483647 | ;\n addi x5,x5,1 | ;\n" + END)
+    tester.expect("the result 2147483648, and values go from 0 to 2147483647" in error, f"a great result: {error}")
     for held, told in ((0, "Never 0 50"), (20, "Sometimes 20 30"), (50, "Always 50 0")):
         tester.file.write_text(f"test T\nruns 60\nall-done 50\nheld {held}\nverdict yes\n")
         out = tester.run("--observation", str(tester.file), str(tester.file))

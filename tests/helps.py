@@ -2,10 +2,14 @@
 """Asks the tools of examples/ and scripts/ for help, and gives them files that they can't read: tests/helps.py
 
 Help comes on standard output, with status 0, and no file of the repository is written. A missing file and one of
-another kind are each told in one line, with status 2. The last line is `N tried, M wrong`.
+another kind are each told in one line, with status 2. examples/page.py is tried in copies of the repository, too: who plays,
+where the proved player isn't built, is built, or is older than a source. The last line is `N tried, M wrong`.
 """
+import os
+import shutil
 import subprocess
 import sys
+import tempfile
 from pathlib import Path
 
 TOP = Path(__file__).resolve().parent.parent
@@ -27,6 +31,33 @@ def ran(words):
                           check=False)
 
 
+def page_players():
+    """What isn't so of who plays a page's run, and of what standard error says. What stands for the proved player here
+    is a script that has the second program play; a build would fail, as there is nothing to build."""
+    with tempfile.TemporaryDirectory() as folder:
+        top, program = Path(folder), Path(folder, "crates/play_events/out/play_events")
+        shutil.copytree(TOP / "examples", top / "examples", ignore=shutil.ignore_patterns("__pycache__"))
+        shutil.copytree(TOP / "scripts", top / "scripts", ignore=shutil.ignore_patterns("__pycache__"))
+        shutil.copy(TOP / "play", top / "play")
+        (top / "crates.txt").write_text("")
+        program.parent.mkdir(parents=True)
+        yield from page_player("not built", top, "the second program's machine", 1)
+        program.write_text(f"#!/bin/sh\nexec '{TOP / 'examples/play.py'}' \"$@\"\n")
+        program.chmod(0o755)
+        yield from page_player("built", top, "the proved machine", 0)
+        source = top / "crates/play_events/main.rt"
+        source.write_text("")
+        os.utime(program, (1, 1))
+        yield from page_player("older than a source", top, "the second program's machine", 1)
+
+
+def page_player(what, top, wanted, lines):
+    got = ran([top / "examples/page.py", "examples/traces/PAST.trace"])
+    told = "./play crates/play_events/data/pages.events" in got.stderr
+    if got.returncode or f'"made":"{wanted}"' not in got.stdout or (got.stderr.count("\n"), told) != (lines, lines > 0):
+        yield f"page.py, {what}: status {got.returncode}, {got.stderr[-160:]!r}, wanted {wanted}"
+
+
 def main():
     folders = TOP / "examples", TOP / "scripts", TOP / "examples/traces/record"
     tools = sorted(path for folder in folders for path in folder.iterdir()
@@ -42,7 +73,8 @@ def main():
         got = ran([word.format(path) for word in words.split(" ")])
         if got.returncode != 2 or got.stdout or got.stderr.count("\n") != 1:
             wrong.append(f"{words.format(path)}: status {got.returncode}, {got.stderr[-160:]!r}")
-    print("\n".join([*wrong, f"{len(tools) + 2 * len(READERS)} tried, {len(wrong)} wrong"]))
+    wrong += page_players()
+    print("\n".join([*wrong, f"{len(tools) + 2 * len(READERS) + 3} tried, {len(wrong)} wrong"]))
     return int(bool(wrong))
 
 

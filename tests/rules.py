@@ -108,7 +108,8 @@ def faults(may_be, most, status, out, again):
 def refusals():
     """What isn't so of words and files that are refused."""
     script = str(TOP / "examples/try_rule.py")
-    for words in (["none.trace"], ["--tries"], [str(TOP / "examples/bad/SB-cut.litmus")], [str(TOP)]):
+    for words in (["none.trace"], ["--tries"], [str(TOP / "examples/bad/SB-cut.litmus")], [str(TOP)],
+                  ["--tries", "0"], ["--tries", "-5"], ["--first", "-3"], ["--first", str(2 ** 64)], ["/dev/null"]):
         done = subprocess.run([script, *words], capture_output=True, text=True, timeout=60)
         if (done.returncode, done.stdout, done.stderr.count("\n")) != (2, "", 1):
             yield f"{words}: {done.returncode} {done.stdout} {done.stderr}"
@@ -128,7 +129,7 @@ def main():
     for (name, _), (status, out, _) in zip(SOUND, pool.map(lambda rule: ran(rule[1], "--tries", "300"), SOUND)):
         if status or not out.startswith("300 tries: all legal"):
             wrong.append(f"{name}: {status} {out}")
-    print("\n".join([*wrong, f"{5 + len(WRONG) + len(SOUND)} tried, {len(wrong)} wrong"]))
+    print("\n".join([*wrong, f"{10 + len(WRONG) + len(SOUND)} tried, {len(wrong)} wrong"]))
     return int(bool(wrong))
 
 

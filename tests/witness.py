@@ -7,6 +7,8 @@ it. Each command that is told must print that end as its one state. The last lin
 import os
 import shlex
 import sys
+import tempfile
+from pathlib import Path
 
 from texts import TOP, Tester
 
@@ -15,10 +17,11 @@ import oracle  # noqa: E402
 from reference import order, reports  # noqa: E402
 
 # A test of the catalogue, and options; how many seeds from which one on. In the last two some runs aren't all done.
-CASES = [("SB+yes", "", 60, 0), ("MP", "--lease 1", 50, 990), ("2+2W", "--line-words 8 --private-write", 50, 7),
+CASES = [("SB+yes", "", 60, 0), ("MP", "--lease 1", 50, 990), ("2+2W", "--line-words 8", 50, 7),
+         ("PRIVATE", "--private-write", 50, 0),
          ("WRC", "--banks 2 --sets 1 --ways 1", 40, 2 ** 64 - 20), ("LEASE", "--lease 1 --limit 100", 60, 5000),
          ("SB+forall", "--limit 80", 60, 0)]
-NO_FILE, CUT = "none.litmus", "examples/bad/SB-cut.litmus"
+NO_FILE, CUT, SB = "none.litmus", "examples/bad/SB-cut.litmus", "examples/litmus/SB.litmus"
 
 
 def ends_by_hand(path, options, seeds, first):
@@ -64,8 +67,13 @@ def tries(tester, name, options, seeds, first):
 
 def refusals(tester):
     for words, wanted in (([NO_FILE], f"{NO_FILE}: No such file or directory"), ([CUT], f"{CUT}: line 6: 14 CutShort"),
-                          (["--seeds", "0", CUT], "--seeds wants a number from 1 on"), (["examples"], "Is a directory"),
-                          (["--lease", "0", "examples/litmus/SB.litmus"], "bad configuration"), ([], "required")):
+                          (["--seeds", "0", CUT], "argument --seeds: 0 isn't a number from 1 to"),
+                          (["--seed", "-1", CUT], "argument --seed: -1 isn't a number from 0 to"),
+                          (["--seed", str(2 ** 64), CUT], f"from 0 to {2 ** 64 - 1}"),
+                          (["--lease", "0", CUT], "argument --lease: 0 isn't a number from 1 to"),
+                          (["--workers", "17", CUT], "from 1 to 16"), (["--runs", "4", CUT], "--seeds says how many"),
+                          (["--line-words", "3", SB], "bad configuration"), (["examples"], "Is a directory"),
+                          ([], "required")):
         status, out, error = tester.run(*words)
         good = (status, out) == (2, "") and wanted in error and error.count("\n") == 1
         tester.expect(good, f"{words}: {status} {out} {error}, wanted {wanted}")
@@ -73,13 +81,25 @@ def refusals(tester):
     tester.expect((status, error) == (0, "") and "--seeds" in out, f"--help: {status} {error}")
 
 
+def a_dash(tester):
+    """A test whose name begins with a dash, in the folder where the script runs."""
+    text = Path(SB).read_bytes()
+    with tempfile.TemporaryDirectory() as folder:
+        os.chdir(folder)
+        Path("-x.litmus").write_bytes(text)
+        status, out, error = tester.run("--seeds", "1", "--", "-x.litmus")
+        os.chdir(TOP)
+    tester.expect((status, error) == (0, "") and out.endswith(" ./-x.litmus\n"), f"a dash: {status} {out} {error}")
+
+
 def main(program):
     os.environ["TARDIS"] = os.path.abspath(program)
     os.chdir(TOP)
-    tester = Tester("scripts/witness.py")
+    tester = Tester(str(TOP / "scripts/witness.py"))
     for case in CASES:
         tries(tester, *case)
     refusals(tester)
+    a_dash(tester)
     print(f"{tester.tried} tried, {tester.wrong} wrong")
     return int(tester.wrong > 0)
 

@@ -41,16 +41,16 @@ CASES = {
                        {"0x0": "x", "0x8": "y", "0x10": "z"}),
     "a renewal": (["examples/litmus/RENEW.litmus"], "machine cores 2 with 0x0 4",
                   ["R 0x0; R 0x8; W 0x8 9; R 0x0", "R 0x0; R 0x8"], "rounds 100", {"0x0": "x", "0x8": "y"}),
-    "evictions": (["--schedule", "seed", "--seed", "3", "--sets", "1", "--ways", "1", "--banks", "2", "--bank-sets", "1",
-                   "--bank-ways", "1", "examples/traces/SEED-EVICTIONS.trace"],
+    "evictions": (["--schedule", "seed", "--seed", "3", "--sets", "1", "--ways", "1", "--banks", "2", "--bank-sets",
+                   "1", "--bank-ways", "1", "examples/traces/SEED-EVICTIONS.trace"],
                   "machine cores 3 sets 1 ways 1 banks 2 bank-sets 1 bank-ways 1",
                   ["W 0x0 1; R 0x8; R 0x10", "W 0x18 2; R 0x0; S 0x10 3", "R 0x18; R 0x20"], "seed 3 1000", {}),
 }
 COPY = r"(shared|exclusive) (?:written )?wts (\d+) rts (\d+) words (.*)"
 ENTRY = r"shared (dirty )?wts (\d+) rts (\d+) words (.*)"
 
-# What stands in the page. A message: its text, where it stands, whither its arrow points. A record: its number and rank,
-# its text, the middles of its boxes from above, and from where to where its tie goes.
+# What stands in the page. A message: its text, where it stands, whither its arrow points. A record: its number, its rank,
+# its text, how far down the middles of its boxes are, and from where to where its tie goes.
 SEEN = """(() => {
   const texts = (all, of) => [...document.querySelectorAll(all)].map(of);
   const text = one => one.textContent.replace(/\\s+/g, " ").trim();
@@ -98,12 +98,13 @@ def ask(player, calls):
 def sentences():
     """By case and event, the headline and the rule with its section: those of page.table."""
     of, case = {}, None
-    lines = [line for line in TABLE.read_text().splitlines() if line[0] != "#"]
-    for line, why, section in zip(lines, [*lines[1:], "", ""], [*lines[2:], "", ""]):
-        number, _, what = line.partition(" ")
-        if number.isdigit():
-            of[case][int(number)] = [what, f"{why.strip()} docs/PROTOCOL.md, {section.strip()}"]
-        elif number:
+    text = "".join(line for line in TABLE.read_text().splitlines(True) if line[0] != "#").replace("\n  ", "\t")
+    for line in text.splitlines():
+        what, *why = line.split("\t")
+        number, _, what = what.partition(" ")
+        if why:
+            of[case][int(number)] = [what, f"{' '.join(why[:-1])} docs/PROTOCOL.md, {why[-1]}"]
+        else:
             case, of[line] = line, {}
     return of
 

@@ -88,9 +88,10 @@ class Rules:
             return (f"Core {core} has no place for {name}",
                     "The cache set of this line is full: its least recently used copy must leave first.", COPIES)
         if letter == "R":
-            why = (f"The core's time, {time}, is past its copy's lease, which ended at {fields(copy).rts}. ShReq goes to "
-                   "the bank with that time.") if copy else \
-                f"It has no copy. ShReq goes to the bank with the core's time, {time}."
+            why = f"It has no copy. ShReq goes to the bank with the core's time, {time}."
+            if copy:
+                why = f"The core's time, {time}, is past its copy's lease, which ended at {fields(copy).rts}. ShReq " \
+                    "goes to the bank with that time."
             return f"Core {core} asks to read {name}", why, CORE
         why = f"Its copy of version {fields(copy).wts} is only Shared." if copy else "It has no copy."
         return (f"Core {core} asks to own {name}",

@@ -49,8 +49,8 @@ CASES = {
 COPY = r"(shared|exclusive) (?:written )?wts (\d+) rts (\d+) words (.*)"
 ENTRY = r"shared (dirty )?wts (\d+) rts (\d+) words (.*)"
 
-# What stands in the page. A message: its text, where it stands, whither its arrow points. A record: its number, its rank,
-# its text, how far down the middles of its boxes are, and from where to where its tie goes.
+# What stands in the page. A message: its text, where it stands, whither its arrow points. A record: its number, its
+# rank, its text, how far down the middles of its boxes are, and from where to where its tie goes.
 SEEN = """(() => {
   const texts = (all, of) => [...document.querySelectorAll(all)].map(of);
   const text = one => one.textContent.replace(/\\s+/g, " ").trim();

@@ -102,7 +102,8 @@ function program(core, room) {
     const number = step !== "advance" && from + index < next ? numbersOf[core][done++] : -1;
     const state = from + index === next ? "next" : from + index < next ? "done" : "";
     const received = number < 0 || run.records[number][4] === null ? "" : ` → ${run.records[number][4]}`;
-    return `<li class="${state}${number in run.past ? " past" : ""}">${escaped(step)}${received}</li>`;
+    const text = escaped(step) + received;
+    return `<li class="${state}${number in run.past ? " past" : ""}" title="${text}">${text}</li>`;
   }).join("");
 }
 
@@ -164,7 +165,8 @@ function showBanks() {
     const entries = lines.map(line => `entry ${line}`).filter(name => view[name] !== "none").map(entry);
     const dram = lines.map(line => escaped(values(line, view[`dram ${line}`].split(" "))));
     const wire = messages(text => new RegExp(` dram ${bank} `).test(text));
-    return `<div class="bank${acts === `bank ${bank}` ? " now" : ""}" id="bank-${bank}" ${asSeen(`bank ${bank}`)}><h2>bank ${bank}</h2>
+    const now = acts === `bank ${bank}` ? " now" : "";
+    return `<div class="bank${now}" id="bank-${bank}" ${asSeen(`bank ${bank}`)}><h2>bank ${bank}</h2>
       <h3>memory time ${brief(behind(view[`bank ${bank}`], "time"))}</h3>
       ${entries.join("") || '<p class="none">no entries</p>'}
       <div class="wire">${wire}</div>
@@ -236,14 +238,16 @@ function showOrders(top) {
   byId("ties").innerHTML = numbers.map(group).join("") + (over < 0 ? "" : crossing(past, over, rank, step, high));
 }
 
-// A ring where the ties of a stale hit and of the write that it comes before cross.
+// A ring where the ties of a stale hit and of the write that it comes before cross; and a note below, if no tie of a
+// later row is there.
 function crossing(last, over, rank, step, high) {
   const start = last - over, end = rank[last] - rank[over], along = start / (start - end);
   const x = LEFT + BOX + along * (RIGHT - LEFT - BOX);
   const y = 6 + high / 2 + step * (last + along * (rank[last] - last));
-  const middle = (LEFT + BOX + RIGHT) / 2, below = high / 2 + step * Math.max(last, rank[over]) + 42;
-  return `<circle class="cross" cx="${x}" cy="${y}" r="17"/><text class="note" y="${below}">
-    <tspan x="${middle}">reads</tspan><tspan x="${middle}" dy="30">the past</tspan></text>`;
+  const middle = (LEFT + BOX + RIGHT) / 2, row = Math.max(last, rank[over]), below = high / 2 + step * row + 42;
+  const note = `<text class="note" y="${below}"><tspan x="${middle}">reads</tspan>
+    <tspan x="${middle}" dy="30">the past</tspan></text>`;
+  return `<circle class="cross" cx="${x}" cy="${y}" r="17"/>${step > 95 || row === completed() - 1 ? note : ""}`;
 }
 
 function showSaid() {

@@ -1,10 +1,11 @@
 #!/usr/bin/env python3
 """Opens pages of examples/page.py in a browser, and compares them with what the player says: tests/page.py PLAYER
 
-Six runs are stepped to their end and back by keys. At ten places of each, what stands in the page is compared with the
-records and look-ups that PLAYER, a built play_events, answers to texts that were written by hand here. The slider, the
-jumps and what is refused are tried, too, and the time is told that a key takes in a page of thousands of events. If no
-Chromium is installed, that is said, and only what needs none is tried.
+Eight runs are stepped to their end and back by keys. At ten places of each and more, what stands in the page is
+compared with the records and look-ups that PLAYER, a built play_events, answers to texts that were written by hand
+here. What is said of an event of each kind stands in page.table, by hand, too. The slider, the jumps and what is
+refused are tried, and the time is told that a key takes in a page of thousands of events. If no Chromium is installed,
+that is said, and only what needs none is tried.
 
     tests/page.py PLAYER --pictures FOLDER    writes the picture of README.md and docs/TUTORIAL.md into FOLDER, too
 """
@@ -19,6 +20,7 @@ from pathlib import Path
 from browser import Browser, installed
 
 TOP = Path(__file__).resolve().parent.parent
+TABLE = Path(__file__).with_suffix(".table")
 PLACES, MOST_BYTES = 10, 4_000_000
 
 # The words of examples/page.py; the same machine, programs and drive as lines for the player; names of words.
@@ -37,23 +39,40 @@ CASES = {
     "private writes": (["--private-write", "examples/litmus/PRIVATE.litmus"], "machine cores 2 private-write yes",
                        ["R 0x0; 11 W 0x8 1; R 0x0", "R 0x10; W 0x0 1"], "rounds 100",
                        {"0x0": "x", "0x8": "y", "0x10": "z"}),
+    "a renewal": (["examples/litmus/RENEW.litmus"], "machine cores 2 with 0x0 4",
+                  ["R 0x0; R 0x8; W 0x8 9; R 0x0", "R 0x0; R 0x8"], "rounds 100", {"0x0": "x", "0x8": "y"}),
+    "evictions": (["--schedule", "seed", "--seed", "3", "--sets", "1", "--ways", "1", "--banks", "2", "--bank-sets",
+                   "1", "--bank-ways", "1", "examples/traces/SEED-EVICTIONS.trace"],
+                  "machine cores 3 sets 1 ways 1 banks 2 bank-sets 1 bank-ways 1",
+                  ["W 0x0 1; R 0x8; R 0x10", "W 0x18 2; R 0x0; S 0x10 3", "R 0x18; R 0x20"], "seed 3 1000", {}),
 }
 COPY = r"(shared|exclusive) (?:written )?wts (\d+) rts (\d+) words (.*)"
 ENTRY = r"shared (dirty )?wts (\d+) rts (\d+) words (.*)"
-# By hand: what the page says of the stale hit of docs/TUTORIAL.md.
-STALE = "Core 1 reads the past: 0 from 0x0, where core 0 has already written 7"
 
-# What stands in the page.
+# What stands in the page. A message: its text, where it stands, whither its arrow points. A record: its number, its
+# rank, its text, how far down the middles of its boxes are, and from where to where its tie goes.
 SEEN = """(() => {
   const texts = (all, of) => [...document.querySelectorAll(all)].map(of);
   const text = one => one.textContent.replace(/\\s+/g, " ").trim();
+  const named = (all, of) => Object.fromEntries(texts(all, one => [one.dataset.name, of(one)]));
+  const place = one => one.closest(".row") ? one.closest(".row").querySelector(".core").id : one.closest(".bank").id;
+  const head = one => one.getAttribute("d").match(/[0-9.]+/g).map(Number);
+  const points = one => head(one)[2] > head(one)[0] ? "right" : "left";
+  const middle = one => one.transform.baseVal[0].matrix.f + one.querySelector(".box").height.baseVal.value / 2;
+  const tie = (one, long) => one.getPointAtLength(long ? one.getTotalLength() : 0).y;
   return JSON.stringify({
     count: document.getElementById("count").textContent,
+    said: ["what", "why"].map(id => text(document.getElementById(id))),
     times: texts(".core .time", text),
-    copies: Object.fromEntries(texts(".copy", one => [one.dataset.name, text(one)])),
-    entries: Object.fromEntries(texts(".entry", one => [one.dataset.name, text(one)])),
-    messages: Object.fromEntries(texts(".message", one => [one.dataset.name, text(one)])),
-    records: texts("#ties > g", one => [Number(one.dataset.number), Number(one.dataset.rank), text(one)]),
+    memory: texts(".bank h3", text),
+    dram: texts(".dram", text),
+    steps: texts(".core", one => [...one.querySelectorAll("li")].map(step => [text(step), step.className])),
+    copies: named(".copy", text),
+    entries: named(".entry", text),
+    messages: named(".message", one => [text(one), place(one), points(one.querySelector(".arrow path:last-child"))]),
+    past: texts("#ties > g.past", one => Number(one.dataset.number)),
+    records: texts("#ties > g", one => [Number(one.dataset.number), Number(one.dataset.rank), text(one),
+      [...one.querySelectorAll(":scope > g")].map(middle), [0, 1].map(end => tie(one.querySelector(".tie"), end))]),
   });
 })()"""
 
@@ -76,17 +95,41 @@ def ask(player, calls):
     return [line.split(" : ", 1)[1] for line in ran.stdout.splitlines()[:len(calls)]]
 
 
-def wanted(player, case):
-    """The events, and by ten places from 0 to the last event what the player says there is."""
+def sentences():
+    """By case and event, the headline and the rule with its section: those of page.table."""
+    of, case = {}, None
+    text = "".join(line for line in TABLE.read_text().splitlines(True) if line[0] != "#").replace("\n  ", "\t")
+    for line in text.splitlines():
+        what, *why = line.split("\t")
+        number, _, what = what.partition(" ")
+        if why:
+            of[case][int(number)] = [what, f"{' '.join(why[:-1])} docs/PROTOCOL.md, {why[-1]}"]
+        else:
+            case, of[line] = line, {}
+    return of
+
+
+def wanted(player, case, more):
+    """The events, and by ten places from 0 to the last event, and those of `more`, what the player says there is."""
     _, machine, programs, drive, names = case
     calls = [machine, *(f"program {core} {steps}" for core, steps in enumerate(programs)), drive, "made 5000"]
     events = ask(player, calls)[-1].split("; ")
-    cores = range(len(programs))
-    looks = [*(f"time {core}" for core in cores), *(f"copies {core}" for core in cores),
-             "flight", "records", "arranged", *(f"entry 0 {line}" for line in names or lines_of(events, machine))]
-    told = looked(player, machine, events, {len(events) * part // (PLACES - 1): looks for part in range(PLACES)})
+    cores, banks = range(len(programs)), size_of(machine, "banks")
+    looks = [*(f"time {core}" for core in cores), *(f"copies {core}" for core in cores), "stale",
+             *(f"memory-time {bank}" for bank in range(banks)), "flight", "records", "arranged"]
+    for line in names or lines_of(events, machine):
+        bank = int(line, 16) // 8 // size_of(machine, "line-words") % banks
+        looks += [f"entry {bank} {line}", f"dram {bank} {line}"]
+    places = {len(events) * part // (PLACES - 1) for part in range(PLACES)} | set(more)
+    told = looked(player, machine, events, {number: looks for number in places})
     named = looked(player, machine, events, {number: list(names_in(there)) for number, there in told.items()})
     return events, {number: there | named[number] for number, there in told.items()}
+
+
+def size_of(machine, name):
+    """How many a machine's line says; one if it says nothing."""
+    words = machine.split(" ")
+    return int(words[words.index(name) + 1]) if name in words else 1
 
 
 def names_in(told):
@@ -117,38 +160,86 @@ def looked(player, machine, events, looks):
 def lines_of(events, machine):
     """The lines of the operations that are issued."""
     words = sorted({int(event.split(" ")[3], 16) for event in events if event.startswith("issue")})
-    size = 64 if "line-words 8" in machine else 8
+    size = 8 * size_of(machine, "line-words")
     return list(dict.fromkeys(f"{word // size * size:#x}" for word in words))
 
 
 class Compared:
     """Compares one page with what is wanted of a place. `faults` has what differs."""
 
-    def __init__(self, names, is_wide):
-        self.names, self.is_wide, self.faults = names, is_wide, []
+    def __init__(self, case):
+        _, self.machine, programs, self.drive, self.names = case
+        self.banks = size_of(self.machine, "banks")
+        self.programs, self.faults = [self.steps(program) for program in programs], []
 
     def same(self, what, came, wanted_of):
         if came != wanted_of:
             self.faults.append(f"{what}: {came!r}, wanted {wanted_of!r}")
 
+    def steps(self, program):
+        """A program's steps one by one."""
+        of = []
+        for step in program.split("; "):
+            count, _, one = step.partition(" ") if step[0].isdigit() else ("1", "", step)
+            of += [one] * int(count)
+        return of
+
     def values(self, line, words):
         """The words of a line by their names; of a wide line, those that the trace names: the first two."""
-        named = [f"{8 * place:#x}" for place in range(2)] if self.is_wide else [line]
+        is_wide = size_of(self.machine, "line-words") > 1
+        named = [f"{8 * place:#x}" for place in range(2)] if is_wide else [line]
         return ", ".join(f"{self.names.get(name, name)} = {value}" for name, value in zip(named, words.split(" ")))
 
-    def place(self, seen, told):
-        cores = sum(look.startswith("time ") for look in told)
-        self.same("times", seen["times"], [f"time {told[f'time {core}']}" for core in range(cores)])
+    def place(self, seen, told, made):
+        cores = range(len(self.programs))
+        self.same("times", seen["times"], [f"time {told[f'time {core}']}" for core in cores])
         self.same("copies", seen["copies"], {look: self.copy(look, answer, told) for look, answer in told.items()
                                              if look.startswith("copy ")})
-        self.same("entries", seen["entries"], {look.replace("entry 0", "entry"): self.entry(look, answer)
+        self.same("entries", seen["entries"], {f"entry {look.split(' ')[2]}": self.entry(look, answer)
                                                for look, answer in told.items()
                                                if look.startswith("entry") and answer != "none"})
         flight = {look.split(" ")[1]: answer for look, answer in told.items() if look.startswith("message")}
         self.same("messages", sorted(seen["messages"]), sorted(flight))
         for name, answer in flight.items():
-            self.message(seen["messages"].get(name, ""), answer)
+            self.message(seen["messages"].get(name, ["", "", ""]), answer)
+        self.memory(seen, told)
         self.records(seen["records"], told)
+        self.same("red ones", len(seen["past"]), int(told["stale"]))
+        for core in cores:
+            self.program(core, seen, told, made)
+
+    def memory(self, seen, told):
+        """The banks' memory times and their DRAMs."""
+        banks = range(self.banks)
+        self.same("memory times", seen["memory"], [f"memory time {told[f'memory-time {bank}']}" for bank in banks])
+        self.same("DRAM", seen["dram"], ["DRAM " + ", ".join(
+            self.values(look.split(" ")[2], answer) for look, answer in told.items()
+            if look.startswith(f"dram {bank} ")) for bank in banks])
+
+    def program(self, core, seen, told, made):
+        """The marks of the steps. What is shown is a part of the program with the next step in it; by a seed no program
+        here has advances."""
+        records = sorted((answer.split(" ") for look, answer in told.items() if look.startswith("record ")
+                          and answer.startswith(f"{core} ")), key=lambda words: int(words[-1]))
+        done = len(records) + made.count(f"advance {core}") * ("rounds" in self.drive)
+        texts, received = [], iter(records)
+        for number, step in enumerate(self.programs[core]):
+            record = next(received, None) if step != "A" and number < done else None
+            text = "advance" if step == "A" else self.said(step.split(" "), record)
+            mark = "next" if number == done else "done" if number < done else ""
+            texts.append([text, f"{mark} past" if record and int(record[-1]) in seen["past"] else mark])
+        shown = seen["steps"][core]
+        parts = [texts[at:at + len(shown)] for at in range(len(texts) - len(shown) + 1)]
+        is_there = shown in parts and (done == len(texts) or "next" in [mark for _, mark in shown])
+        if not is_there or len(shown) < min(2, len(texts)):
+            self.faults.append(f"core {core}'s program: {shown}, wanted a part of {texts}")
+
+    def said(self, step, record):
+        """An operation as it stands in a program or a box: what it received stands behind it."""
+        letter, word, value = [*step, ""][:3]
+        name = self.names.get(word, word)
+        text = {"R": f"load {name}", "W": f"store {value} to {name}", "S": f"swap {value} into {name}"}[letter]
+        return text if record is None or letter == "W" else f"{text} → {record[-3]}"
 
     def copy(self, look, answer, told):
         core, line = look.split(" ")[1:]
@@ -166,22 +257,32 @@ class Compared:
         says = {"exclusive": f"core {owner} owns it", "recalling": f"core {owner} is asked"}.get(state, state)
         return self.names.get(line, line) + says
 
-    def message(self, text, answer):
-        kind, _, _, _, _, _, line, *carried = answer.split(" ")
+    def message(self, seen, answer):
+        """A message's text, with an arrow before it if it is one of DRAM; the core beside which, or the bank in which
+        it stands; and the arrow's head: the cores stand on the left, and the bank on the right."""
+        kind, sender, from_number, _, receiver, to_number, line, *carried = answer.split(" ")
+        text, place, points = seen
+        sign = {"bank": "↓ ", "dram": "↑ "}[sender] if "dram" in (sender, receiver) else ""
         for part in (f"{kind} {self.names.get(line, line)}", " ".join(carried)):
-            if part not in text:
-                self.faults.append(f"a message says {text!r}, and not {part!r}")
+            if part not in text or not text.startswith(sign + kind):
+                self.faults.append(f"a message says {text!r}, and not {sign + part!r}")
+        core = from_number if sender == "core" else to_number if receiver == "core" else None
+        self.same(f"the place of {answer}", place, f"bank-{from_number}" if core is None else f"core-{core}")
+        if core is not None:
+            self.same(f"the arrow of {answer}", points, "right" if sender == "core" else "left")
 
     def records(self, seen, told):
         arranged = [] if told["arranged"] == "none" else list(map(int, told["arranged"].split(" ")))
-        self.same("order by time", [number for number, _, _ in sorted(seen, key=lambda one: one[1])], arranged)
-        for number, _, text in seen:
-            core, _, letter, word, *values = told[f"record {number}"].split(" ")[:-1]
-            name, time = self.names.get(word, word), values.pop()
-            said = {"R": f"load {name} → {values[-1]}", "W": f"store {values[0]} to {name}",
-                    "S": f"swap {values[0]} into {name} → {values[-1]}"}[letter]
-            own = f"core {core} {said}"
+        self.same("order by time", [number for number, *_ in sorted(seen, key=lambda one: one[1])], arranged)
+        rows = sorted(middles[0] for *_, middles, _ in seen)
+        for number, _, text, middles, tie in seen:
+            core, _, *step, time, _ = words = told[f"record {number}"].split(" ")
+            own = f"core {core} {self.said(step, words)}"
             self.same(f"record {number}", text, f"{own} {number} {own} time {time}")
+            ends = [rows[number], rows[arranged.index(number)]]
+            self.same(f"the boxes of record {number}", middles, ends)
+            if any(abs(end - row) > .5 for end, row in zip(tie, ends)):
+                self.faults.append(f"the tie of record {number}: {tie}, wanted {ends}")
 
 
 def written(player, words, path):
@@ -196,30 +297,30 @@ def seen(browser):
     return json.loads(browser.value(SEEN))
 
 
-def stepped(browser, path, player, case):
-    """Steps through a page by keys, to the end and back, and compares ten places each way."""
-    events, told = wanted(player, case)
-    compared = Compared(case[4], "line-words 8" in case[1])
+def stepped(browser, path, player, case, says):
+    """Steps through a page by keys, to the end and back, and compares its places each way."""
+    events, told = wanted(player, case, says)
+    compared = Compared(case)
     browser.open(path)
     for way, key in ((range(len(events) + 1), "ArrowDown"), (range(len(events), -1, -1), "ArrowUp")):
         for number in way:
             if number in told:
                 page = seen(browser)
                 compared.same("place", page["count"], f"event {number} of {len(events)}")
-                compared.place(page, told[number])
+                compared.place(page, told[number], events[:number])
+                compared.same(f"event {number}", page["said"], says.get(number, page["said"]))
             browser.press(key)
     return compared.faults
 
 
-def tried(browser, path):
+def tried(browser, path, says):
     """Jumps, the end keys and the slider, on the page of the stale hit."""
-    compared = Compared({}, False)
+    compared = Compared(CASES["the past"])
     browser.open(path)
     at = lambda: browser.value("at")  # noqa: E731
     browser.press("s")
-    compared.same("stale hit", browser.value("document.getElementById('what').textContent"), STALE)
-    compared.same("the red ones", browser.value("document.querySelectorAll('#ties .past').length"), 1)
     stale = at()
+    compared.same("stale hit", seen(browser)["said"], says.get(stale))
     browser.press("C", shift=True)
     compared.same("back to a completion", browser.value("run.steps[at - 1][1]").split(" ")[0], "completed")
     browser.press("s")
@@ -263,14 +364,15 @@ def refusals(player, folder):
 
 
 def in_browser(browser, player, pages, folder):
+    says = sentences()
     for name, case in CASES.items():
-        yield from (f"{name}: {fault}" for fault in stepped(browser, pages[name], player, case))
+        yield from (f"{name}: {fault}" for fault in stepped(browser, pages[name], player, case, says.get(name, {})))
         for size in ((1280, 720), (1920, 1080)):
             for at in ("run.steps.length >> 1", "run.steps.length"):
                 browser.open(pages[name], *size)
                 browser.value(f"go({at})")
                 yield from [f"{name} at {size}: {fault} is cut" for fault in [cut(browser)] if fault]
-    yield from tried(browser, pages["the past"])
+    yield from tried(browser, pages["the past"], says["the past"])
     browser.open(f"{folder / 'long.html'}#3000")
     yield from [f"the long page: {fault} is cut" for fault in [cut(browser)] if fault]
     took = browser.value(TIMED)

@@ -82,7 +82,8 @@ function copies(core, time) {
     const start = place(wts), wide = Math.max(place(rts) - start, 0);
     return `<div class="copy${isNew(name)}${run.words > 1 ? " wide" : ""}" title="${escaped(copy)}" ${asSeen(name)}>
       <b>${escaped(values(line, wordsOf(copy)) || line)}</b>
-      <span class="bar${ended ? " ended" : ""}${owned ? " own" : ""}"><i style="left:${start}%;width:${wide}%"></i>
+      <span class="bar${ended ? " ended" : ""}${owned ? " own" : ""}">
+      <i class="${wide ? "" : "point"}" style="left:${start}%;width:${wide}%"></i>
       <u style="left:${place(time)}%"></u></span>
       <span class="state">${owned ? "own" : ended ? "ended" : "read"} ${brief(wts)}..${brief(rts)}</span></div>`;
   }).join("");
@@ -101,7 +102,8 @@ function program(core, room) {
     const number = step !== "advance" && from + index < next ? numbersOf[core][done++] : -1;
     const state = from + index === next ? "next" : from + index < next ? "done" : "";
     const received = number < 0 || run.records[number][4] === null ? "" : ` → ${run.records[number][4]}`;
-    return `<li class="${state}${number in run.past ? " past" : ""}">${escaped(step)}${received}</li>`;
+    const text = escaped(step) + received;
+    return `<li class="${state}${number in run.past ? " past" : ""}" title="${text}">${text}</li>`;
   }).join("");
 }
 
@@ -120,15 +122,24 @@ function message(name) {
 const messages = test => Object.keys(view).filter(name => /^m\d/.test(name) && test(view[name])).sort((one, other) =>
   one.slice(1) - other.slice(1)).map(message).join("");
 
+// The part that the last event was at: of a message the one that it came to, a DRAM with its bank.
+function acting() {
+  const [what, ...of] = at ? run.steps[at - 1][0].split(" ") : [];
+  if (what === "evict") return `${of[0]} ${of[1]}`;
+  if (what !== "deliver") return `core ${of[0]}`;
+  const [part, number] = (undone[at - 1][of[0]] || view[of[0]]).split(" > ")[1].split(" ");
+  return `${part === "core" ? part : "bank"} ${number}`;
+}
+
 function showCores() {
   scale();
-  const acts = (/^(?:issue|attempt|advance|evict core) (\d+)/.exec(at ? run.steps[at - 1][0] : "") || [])[1];
+  const acts = acting();
   const room = [0, 9, 5, 3][run.cores.length] || 2;
   byId("cores").className = run.cores.length > 3 ? "tight" : "";
   byId("cores").innerHTML = run.cores.map(core => {
     const state = view[`core ${core}`], time = behind(state, "time");
     const before = at ? undone[at - 1][`core ${core}`] : null, moved = before && behind(before, "time") !== time;
-    const wire = messages(text => new RegExp(` core ${core} `).test(text)), now = acts === String(core) ? " now" : "";
+    const wire = messages(text => new RegExp(` core ${core} `).test(text)), now = acts === `core ${core}` ? " now" : "";
     return `<div class="row"><div class="core${now}" id="core-${core}" ${hue(core)} ${asSeen(`core ${core}`)}>
       <h2>core ${core}<span class="time${moved ? " new" : ""}" title="${time}">time ${brief(time)}</span></h2>
       <ol>${program(core, room)}</ol>
@@ -148,16 +159,18 @@ function entry(name) {
 const bankOf = line => Number(BigInt(line) / 8n / BigInt(run.words) % BigInt(run.banks));
 
 function showBanks() {
+  const acts = acting();
   byId("banks").innerHTML = [...Array(run.banks).keys()].map(bank => {
     const lines = Object.keys(run.names).filter(line => bankOf(line) === bank);
     const entries = lines.map(line => `entry ${line}`).filter(name => view[name] !== "none").map(entry);
-    const dram = lines.map(line => values(line, view[`dram ${line}`].split(" "))).join(", ");
+    const dram = lines.map(line => escaped(values(line, view[`dram ${line}`].split(" "))));
     const wire = messages(text => new RegExp(` dram ${bank} `).test(text));
-    return `<div class="bank" id="bank-${bank}" ${asSeen(`bank ${bank}`)}><h2>bank ${bank}</h2>
+    const now = acts === `bank ${bank}` ? " now" : "";
+    return `<div class="bank${now}" id="bank-${bank}" ${asSeen(`bank ${bank}`)}><h2>bank ${bank}</h2>
       <h3>memory time ${brief(behind(view[`bank ${bank}`], "time"))}</h3>
       ${entries.join("") || '<p class="none">no entries</p>'}
       <div class="wire">${wire}</div>
-      <div class="dram" title="${escaped(dram)}"><b>DRAM</b> ${escaped(dram)}</div></div>`;
+      <div class="dram"><b>DRAM</b> ${dram.map(pair => `<span>${pair}</span>`).join(", ")}</div></div>`;
   }).join("");
 }
 
@@ -168,16 +181,21 @@ const completed = () => counts[at];
 
 function box(x, y, high, number, isLeft) {
   const [core, kind, name, value, received, time] = run.records[number];
-  const said = {load: `load ${name}`, store: `store ${value} to ${name}`, swap: `swap ${value} into ${name}`}[kind] +
-    (received === null ? "" : ` → ${received}`);
-  const size = Math.min(27, 27 * 13.5 / said.length), middle = high / 2;
+  const says = of => ({load: "load ", store: `store ${of(value)} to `, swap: `swap ${of(value)} into `}[kind] + name +
+    (received === null ? "" : ` → ${of(received)}`));
+  const said = says(brief), whole = says(String), middle = high / 2;
+  const parts = said.length > 20 ? said.split({load: / (?=→)/, store: / (?=to )/, swap: / (?=into )/}[kind]) : [said];
+  const long = Math.max(...parts.map(part => part.length)), most = parts.length > 1 ? high * .45 : 27;
+  const size = Math.min(27, 27 * 13.5 / long, most), title = whole === said ? "" : `<title>${escaped(whole)}</title>`;
+  const shown = parts.map((part, row) => `<tspan x="100" y="${middle + size * (row - (parts.length - 1) / 2)}">${
+    escaped(part)}</tspan>`).join(" ");
   const shownTime = `time ${brief(time)}`, small = Math.min(24, 24 * 8.5 / shownTime.length);
   const order = isLeft ? `x="-14" text-anchor="end">${number}` :
     `x="${BOX + 12}" style="font-size:${small}px">${shownTime}`;
   return `<g transform="translate(${x} ${y})"><rect class="box" width="${BOX}" height="${high}" rx="8"/>
     <rect class="hue" width="88" height="${high}" rx="8"/>
     <text class="who" x="44" y="${middle}" style="font-size:${core > 9 ? 19 : 23}px">core ${core}</text>
-    <text x="100" y="${middle}" style="font-size:${size}px">${escaped(said)}</text>
+    <text style="font-size:${size}px">${title}${shown}</text>
     <text class="order" y="${middle}" ${order}</text></g>`;
 }
 
@@ -220,14 +238,16 @@ function showOrders(top) {
   byId("ties").innerHTML = numbers.map(group).join("") + (over < 0 ? "" : crossing(past, over, rank, step, high));
 }
 
-// A ring where the ties of a stale hit and of the write that it comes before cross.
+// A ring where the ties of a stale hit and of the write that it comes before cross; and a note below, if no tie of a
+// later row is there.
 function crossing(last, over, rank, step, high) {
   const start = last - over, end = rank[last] - rank[over], along = start / (start - end);
   const x = LEFT + BOX + along * (RIGHT - LEFT - BOX);
   const y = 6 + high / 2 + step * (last + along * (rank[last] - last));
-  const middle = (LEFT + BOX + RIGHT) / 2, below = high / 2 + step * Math.max(last, rank[over]) + 42;
-  return `<circle class="cross" cx="${x}" cy="${y}" r="17"/><text class="note" y="${below}">
-    <tspan x="${middle}">reads</tspan><tspan x="${middle}" dy="30">the past</tspan></text>`;
+  const middle = (LEFT + BOX + RIGHT) / 2, row = Math.max(last, rank[over]), below = high / 2 + step * row + 42;
+  const note = `<text class="note" y="${below}"><tspan x="${middle}">reads</tspan>
+    <tspan x="${middle}" dy="30">the past</tspan></text>`;
+  return `<circle class="cross" cx="${x}" cy="${y}" r="17"/>${step > 95 || row === completed() - 1 ? note : ""}`;
 }
 
 function showSaid() {
@@ -318,7 +338,8 @@ function begin() {
   const ticks = key => run.steps.map((step, index) => step[6].includes(key) ? `M${index + 1} 0 V10` : "").join("");
   byId("title").textContent = run.title;
   byId("how").textContent = `${run.how}; played by ${run.made}`;
-  byId("end").textContent = run.done ? `${run.end} By timestamp they are ${run.verdict}.` : run.end;
+  byId("end").textContent = !run.done ? run.end :
+    `The run: ${run.end[0].toLowerCase()}${run.end.slice(1)} By timestamp they are ${run.verdict}.`;
   byId("end").className = run.done ? "" : "cut";
   byId("slider").max = steps;
   byId("ticks").setAttribute("viewBox", `0 0 ${Math.max(steps, 1)} 10`);

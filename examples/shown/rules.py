@@ -2,6 +2,7 @@
 
 All is told from the views before and behind the event, as the player gave them (played.py).
 """
+import re
 from types import SimpleNamespace
 
 from reference.order import overwriting
@@ -48,8 +49,18 @@ class Rules:
         what, *of = step.call.split(" ")
         answer = step.answer.split(" ")
         if answer[0] == "refused" and answer[1] in REFUSED:
-            return f"{step.call} is refused: {answer[1]}", REFUSED[answer[1]], EVENTS
-        return getattr(self, what)(step, before, of, answer)
+            return f"{self.event(step, before, what, of)} is refused: {answer[1]}", REFUSED[answer[1]], EVENTS
+        headline, *why = getattr(self, what)(step, before, of, answer)
+        return [re.sub("^the line of", "The line of", headline), *why]
+
+    def event(self, step, before, what, of):
+        """An event that was refused."""
+        if what == "deliver":
+            return f"The delivery of {before[of[0]].split(' ')[0]} for {self.name(step.line)}"
+        if what == "evict":
+            return f"The eviction of {self.name(step.line)} from {of[0]} {of[1]}"
+        return {"issue": "The next operation", "attempt": "The attempt", "advance": "The advance"}[what] \
+            + f" of core {of[0]}"
 
     # Events of a core.
     def issue(self, step, before, of, answer):
@@ -77,9 +88,11 @@ class Rules:
             return (f"Core {core} has no place for {name}",
                     "The cache set of this line is full: its least recently used copy must leave first.", COPIES)
         if letter == "R":
-            why = f"Its time is {time}, and its lease ended at {fields(copy).rts}." if copy else "It has no copy."
-            return (f"Core {core} asks to read {name}",
-                    f"{why} ShReq goes to the bank with the core's time, {time}.", CORE)
+            why = f"It has no copy. ShReq goes to the bank with the core's time, {time}."
+            if copy:
+                why = f"The core's time, {time}, is past its copy's lease, which ended at {fields(copy).rts}. ShReq " \
+                    "goes to the bank with that time."
+            return f"Core {core} asks to read {name}", why, CORE
         why = f"Its copy of version {fields(copy).wts} is only Shared." if copy else "It has no copy."
         return (f"Core {core} asks to own {name}",
                 f"{why} A {KINDS[letter]} wants an Exclusive copy, so ExReq goes to the bank.", CORE)
@@ -101,15 +114,14 @@ class Rules:
         return f"Core {core} {did}, at time {record.time}", why, CORE
 
     def load(self, core, copy, time, record, name):
+        is_later = f" The load takes the later time of the copy's version, {copy.wts}." * (int(copy.wts) > int(time))
         if record.number in self.run.stale:
             write = overwriting(self.run.records, record)
             return (f"Core {core} reads the past: {record.received} from {name}, where core {write.core} has already "
                     f"written {write.value}",
-                    f"The core's time is {time}, within its lease to {copy.rts}. At time {record.time} this load "
-                    f"comes before the write at time {write.time}.", CORE)
-        why = f"Its time, {time}, is within the lease to {copy.rts}: no message is needed."
-        if int(copy.wts) > int(time):
-            why += f" The load takes the later time of the copy's version, {copy.wts}."
+                    f"The core's time is {time}, within its lease to {copy.rts}.{is_later} At time {record.time} this "
+                    f"load comes before the write at time {write.time}.", CORE)
+        why = f"Its time, {time}, is within the lease to {copy.rts}, so it completes.{is_later}"
         if copy.kind == "exclusive":
             why = "It owns the line, so it may read it at any time; the lease goes on with it."
         return f"Core {core} loads {name} and receives {record.received}, at time {record.time}", why, CORE
@@ -161,7 +173,7 @@ class Rules:
                     f"{message.name}{'' if is_renewal else ' to core ' + message.core}, up to time {message.sent.rts}",
                     f"The lease is the greatest of rts = {message.entry.rts}, wts + L and the reader's time + L, with "
                     f"L = {self.run.options.lease}.{without * is_renewal}", LEASES)
-        return (f"The bank lets core {message.core} own {message.name} at once",
+        return (f"The bank lets core {message.core} own {message.name}",
                 f"No reader is told: leases up to {message.sent.rts} stay good, and the write will take a later time."
                 f"{without * (message.sent.kind == 'UpgradeRep')}", LEASES)
 

@@ -16,7 +16,8 @@ LOOKS = ("def stamp(self):", "def below(self):"), ("rtlib = ", "def main(words):
 
 
 def main(words):
-    command = Path(shutil.which("rt") or sys.exit("kit.py: the command 'rt' of the Rattle kit isn't on the path")).resolve()
+    found = shutil.which("rt") or sys.exit("kit.py: the command 'rt' of the Rattle kit isn't on the path")
+    command = Path(found).resolve()
     library = command.parent / "rtlib.py"
     parts = [library.read_text(), command.read_text()] if library.exists() else ["", ""]
     if not all(word in part for part, wanted in zip(parts, LOOKS) for word in wanted):

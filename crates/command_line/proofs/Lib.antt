@@ -2,3 +2,4 @@ mod Found
 mod Numbers
 mod Arguments
 mod HelpIsRefused
+mod Ranges

@@ -73,6 +73,11 @@ TellsRun rows options =
     × HasNumber rows (codes "limit") 1 4294967295 run_default.limit options.limit
     × TellsMachine rows options.machine
 
+-- the numbers of a run that have a range lie in it
+pub record RunIsInRange (options : RunOptions) : Type 0 where
+  pub workers : (1 ≤ options.workers) × (options.workers ≤ 16)
+  pub limit : (1 ≤ options.limit) × (options.limit ≤ 4294967295)
+
 -- how often the test is run, and how
 abbrev pub TellsLitmus : List Row → LitmusOptions → Type 0
 TellsLitmus rows options =

@@ -2,6 +2,7 @@
 #![tactic(auto)]
 
 mod app;
+pub mod laws;
 mod options;
 mod words;
 

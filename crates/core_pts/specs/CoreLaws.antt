@@ -1,6 +1,6 @@
 -- What every attempt and every recall keeps.
 use Rattle.std.specs.Prelude.{◌≡◌, ℕ, ◌<◌, ◌≤◌, ◌%◌, Bool, true, false, ◌&&◌, Option, Some, None, Ok, Err, ◌+◌}
-use Rattle.std.specs.Prelude.{slice_index}
+use Rattle.std.specs.Prelude.{option_map, slice_index}
 use Rattle.physiological_order.specs.declared.operation.Op.{Op}
 use Rattle.physiological_order.specs.declared.operation.Op.TheVariants.{Load, Store, Swap}
 use Rattle.network.specs.declared.message.Node.{Node}
@@ -10,7 +10,7 @@ use Rattle.private_cache.specs.declared.line_copy.LineCopy.{LineCopy}
 use Rattle.private_cache.specs.declared.line_copy.CopyState.TheVariants.{Shared, Exclusive}
 use Rattle.private_cache.specs.CopyTable.{copy_of}
 use Rattle.core_pts.specs.declared.attempt.Attempt.{Attempt}
-use Rattle.core_pts.specs.declared.attempt.Attempt.TheVariants.{Completed}
+use Rattle.core_pts.specs.declared.attempt.Attempt.TheVariants.{Completed, NeedShared, NeedExclusive}
 use Rattle.core_pts.specs.declared.attempt.IssueError.TheVariants.{TooMany}
 use Rattle.core_pts.specs.CoreTable.{CoreState, line_of, pinned_line, attempt, core_table, issue}
 
@@ -119,6 +119,21 @@ pub record IssuesUpToLast (core : CoreState) (op : Op) : Type 0 where
 
 abbrev pub IdleCoreIssues : Type 0
 IdleCoreIssues = (core : CoreState) (op : Op) → core.open_op ≡ None → IssuesUpToLast core op
+
+-- the version of the core's copy of an operation's line, if it has one
+abbrev pub version_of_copy : CoreState → Op → Option ℕ
+version_of_copy core op = option_map (λ copy. copy.wts) (copy_of core.cache (line_of core op))
+
+-- a request to read names the core's time and the version of its copy; one to own names that version
+abbrev pub ReadsNameVersion : Type 0
+ReadsNameVersion =
+    (core after : CoreState) (op : Op) (pts : ℕ) (version : Option ℕ) → core.open_op ≡ Some op →
+    attempt core ≡ (Some (NeedShared pts version), after) → (pts ≡ core.pts) × (version ≡ version_of_copy core op)
+
+abbrev pub WritesNameVersion : Type 0
+WritesNameVersion =
+    (core after : CoreState) (op : Op) (version : Option ℕ) → core.open_op ≡ Some op →
+    attempt core ≡ (Some (NeedExclusive version), after) → version ≡ version_of_copy core op
 
 -- an attempt that completes nothing changes nothing
 abbrev pub NothingCompletedKeeps : Type 0

@@ -1,8 +1,8 @@
 //! Laws of a core's table. The functions do nothing: their contracts are the laws.
 ghost use Rattle.core_pts.specs.CoreLaws.{CompletesOnCopy, FlushOfOpenLineHeld, IdleCoreIssues, LoadReceivesWord};
-ghost use Rattle.core_pts.specs.CoreLaws.{NothingCompletedKeeps, PrivateWriteNotBefore, SharedReadInLease};
-ghost use Rattle.core_pts.specs.CoreLaws.{SwapReceivesWord, TimeNeverFalls, WriteAfterReaders};
-ghost use Rattle.core_pts.specs.CoreLaws.{WriteBackOfOpenLineHeld, WritesOwnedCopy};
+ghost use Rattle.core_pts.specs.CoreLaws.{NothingCompletedKeeps, PrivateWriteNotBefore, ReadsNameVersion};
+ghost use Rattle.core_pts.specs.CoreLaws.{SharedReadInLease, SwapReceivesWord, TimeNeverFalls, WriteAfterReaders};
+ghost use Rattle.core_pts.specs.CoreLaws.{WriteBackOfOpenLineHeld, WritesNameVersion, WritesOwnedCopy};
 
 /// An attempt completes only the open operation, and only on a copy of its line; a load receives the copy's word, and
 /// so does a swap.
@@ -36,6 +36,13 @@ pub fn open_line_stays()
 /// A core without an open operation takes one, unless it was issued 4,294,967,295.
 pub fn idle_core_issues()
     ensures { IdleCoreIssues }
+{}
+
+/// A request names the version of the core's copy of the line, or none without a copy; one to read also names the
+/// core's time.
+pub fn requests_name_versions()
+    ensures reads { ReadsNameVersion }
+    ensures writes { WritesNameVersion }
 {}
 
 /// An attempt that completes nothing changes nothing.

@@ -14,5 +14,5 @@ pub use config::CoreConfig;
 pub use core_state::Core;
 pub use laws::{
     completed_on_a_copy, idle_core_issues, nothing_completed_keeps, open_line_stays,
-    time_never_falls, writes_come_after_reads,
+    requests_name_versions, time_never_falls, writes_come_after_reads,
 };

@@ -1,5 +1,5 @@
 //! One that draws numbers.
-ghost use Rattle.std.specs.Prelude.{◌≡◌, ℕ, ◌≤◌, ◌<◌, ◌++◌, ◌∷◌, [], length, IfOk, OnErr, Err, false};
+ghost use Rattle.std.specs.Prelude.{◌≡◌, ℕ, ◌≤◌, ◌<◌, ◌++◌, ◌∷◌, [], length, vec_capacity, IfOk, OnErr, Err, false};
 ghost use Rattle.drawn_numbers.specs.Ties.{DrawerTied};
 
 use crate::numbers::Numbers;
@@ -30,7 +30,7 @@ pub struct Drawer {
 impl Drawer {
     ghost use Rattle.drawn_numbers.specs.Drawn.{AllBelow, DrawnBefore};
     ghost use Rattle.drawn_numbers.specs.Drawers.{IsDrawerOf};
-    ghost use Rattle.drawn_numbers.specs.declared.drawer.DrawError.TheVariants.{TooMany};
+    ghost use Rattle.drawn_numbers.specs.declared.drawer.DrawError.TheVariants.{NoMemory, TooMany};
 
     /// Draws the next number, by one addition to the word that all drawers share.
     pub fn draw(&mut self, numbers: &Numbers) -> Result<u64, DrawError>
@@ -45,6 +45,8 @@ impl Drawer {
             (self.new.seat ≡ self.old.seat)) }
         ensures many { length self.old.drawn.items ≡ 4294967296 → result ≡ Err TooMany }
         ensures not_many { length self.old.drawn.items < 4294967296 → ¬ (result ≡ Err TooMany) }
+        ensures no_memory { result ≡ Err NoMemory →
+            vec_capacity self.old.drawn ≤ length self.old.drawn.items }
     {
         if self.drawn.len() >= LIMIT {
             return Err(DrawError::TooMany);

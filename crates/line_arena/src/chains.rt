@@ -295,6 +295,7 @@ impl<T> Chains<T> {
         ensures lacks { Lacks spare result self.new }
         ensures same { (shown spare (rings_of self.new) ≡ shown spare (rings_of self.old))
             × (self.new.capacity ≡ self.old.capacity) }
+        ensures used { self.new.used ≡ self.old.used }
     {
         let cell = self.heads[spare as usize].last;
         let item = self.lift(spare, cell);
@@ -333,6 +334,8 @@ impl<T> Chains<T> {
             × (self.new.capacity ≡ self.old.capacity)) }
         ensures none { IfNone result (self.new ≡ self.old) }
         ensures full { IsNone result ↔ (free_cells (model spare self.old) ≡ 0) }
+        ensures used { OnSome result (0 < (get_or self.old.heads.items spare no_head).count →
+            self.new.used ≡ self.old.used) }
     {
         if self.heads[spare as usize].count > 0 {
             return Some(self.reuse(spare));

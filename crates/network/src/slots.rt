@@ -14,7 +14,7 @@ pub(crate) type Slot = (u64, Option<u32>);
 pub(crate) fn with_room(alloc: Global, capacity: u32) -> Result<Vec<Slot>, AllocError>
     requires { capacity ≤ 65536 }
     ensures items { IfOk result (λ slots. slots.items ≡ []) }
-    ensures room { IfOk result (λ slots. 2 * capacity + 2 ≤ vec_capacity slots) }
+    ensures room { IfOk result (λ slots. vec_capacity slots ≡ 2 * capacity + 2) }
 {
     Vec::with_capacity(alloc, 2 * capacity as usize + 2)
 }

@@ -8,6 +8,7 @@ ghost use Rattle.physiological_order.specs.Order.{Memory, Arrangement, Legal, ad
 ghost use Rattle.physiological_order.specs.Completion.{Kept, Fits, placed, arranged, memory_at, Ascends};
 ghost use Rattle.physiological_order.specs.Example.{two_records, two_issued};
 ghost use Rattle.physiological_order.specs.Faults.{IsVerdict};
+ghost use Rattle.physiological_order.specs.StaleHits.{NoneIsLoad, stale_count};
 
 /// Records have one arrangement.
 pub fn one_arrangement()
@@ -55,6 +56,11 @@ pub fn memory_up_to_a_time()
     ensures end { (opening : Memory) (records : List Record) (time : ℕ) →
         Each (λ r. r.ts ≤ time) records → memory_at opening records time ≡ replay_end opening (map
         (λ r. r.op) records) }
+{}
+
+/// Only loads are stale: among records without a load there is no stale hit.
+pub fn stale_hits_are_loads()
+    ensures { (records : List Record) → NoneIsLoad records → stale_count records ≡ 0 }
 {}
 
 /// A store of 1 and a load behind it that receives 1 are legal; with 0 received they are not.

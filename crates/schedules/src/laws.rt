@@ -1,5 +1,5 @@
 //! Which answers are progress, and that a run has no choice. A function does nothing: its contract is the law.
-ghost use Rattle.std.specs.Prelude.{◌≡◌, ◌≢◌, false, true, ℕ, List};
+ghost use Rattle.std.specs.Prelude.{◌≡◌, ◌≢◌, ◌+◌, ◌<◌, ◌^◌, false, true, ℕ, List};
 ghost use Rattle.physiological_order.specs.declared.operation.Record.{Record};
 ghost use Rattle.machine_table.specs.Machine.{Machine};
 ghost use Rattle.machine_table.specs.declared.event.Event.{Event};
@@ -7,6 +7,8 @@ ghost use Rattle.machine_table.specs.declared.event.Answer.TheVariants as answer
 ghost use Rattle.machine_table.specs.declared.event.Refusal.{Refusal};
 ghost use Rattle.programs.specs.declared.ends.End.{End};
 ghost use Rattle.schedules.specs.declared.policy.Policy.{Policy};
+ghost use Rattle.schedules.specs.declared.policy.Policy.TheVariants as policy;
+ghost use Rattle.schedules.specs.Batches.{policy_of_run};
 ghost use Rattle.schedules.specs.Policies.{EndedBy};
 ghost use Rattle.schedules.specs.Runs.{is_progress};
 
@@ -28,6 +30,14 @@ pub fn progress_is_all_but_waiting()
     ensures waiting { is_progress answer.Waiting ≡ false }
     ensures held { is_progress answer.Held ≡ false }
     ensures refused { (why : Refusal) → is_progress (answer.Refused why) ≡ false }
+{}
+
+/// Up to 2^64 runs of a batch by seeds have seeds that differ: run i has the first seed plus i, modulo 2^64.
+pub fn seeds_of_runs_differ()
+    ensures plain { (seed i : ℕ) → seed + i < 2 ^ 64 →
+        policy_of_run (policy.Seed seed) i ≡ policy.Seed (seed + i) }
+    ensures differ { (seed i j : ℕ) → i < 2 ^ 64 → j < 2 ^ 64 →
+        policy_of_run (policy.Seed seed) i ≡ policy_of_run (policy.Seed seed) j → i ≡ j }
 {}
 
 /// Of two runs of one policy and limit, from one machine and the same programs, that end otherwise than for want of

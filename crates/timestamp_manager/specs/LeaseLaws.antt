@@ -1,5 +1,5 @@
 -- What every lease that is given keeps.
-use Rattle.std.specs.Prelude.{◌≡◌, ℕ, ◌+◌, ◌≤◌, Bool, false, Option, Some, None}
+use Rattle.std.specs.Prelude.{◌≡◌, ◌≢◌, ◌⊎◌, ℕ, ◌+◌, ◌≤◌, ◌<◌, ◌^◌, Bool, false, Option, Some, None}
 use Rattle.timestamp_manager.specs.Lease.{shared_lease, returned_lease}
 
 -- a line's lease never falls, and covers a whole lease from the last write and from the reader's time
@@ -19,6 +19,13 @@ SharedLeaseIsShortest =
     (wts rts pts lease : ℕ) (version : Option ℕ) (given : ℕ × Bool) →
     shared_lease wts rts pts version lease ≡ Some given →
     (time : ℕ) → rts ≤ time → wts + lease ≤ time → pts + lease ≤ time → given.0 ≤ time
+
+-- it is given exactly if a whole lease from the last write fits 64 bits, and one from the reader's time
+abbrev pub SharedLeaseFits : Type 0
+SharedLeaseFits =
+    (wts rts pts lease : ℕ) (version : Option ℕ) →
+    (wts + lease < 2 ^ 64 → pts + lease < 2 ^ 64 → shared_lease wts rts pts version lease ≢ None)
+    × ((2 ^ 64 ≤ wts + lease) ⊎ (2 ^ 64 ≤ pts + lease) → shared_lease wts rts pts version lease ≡ None)
 
 -- a reader without a copy is always sent the words
 abbrev pub AbsentNeverRenews : Type 0
@@ -42,3 +49,10 @@ abbrev pub ReturnedLeaseIsShortest : Type 0
 ReturnedLeaseIsShortest =
     (wts rts until lease given : ℕ) → returned_lease wts rts until lease ≡ Some given →
     (time : ℕ) → rts ≤ time → wts + lease ≤ time → until ≤ time → given ≤ time
+
+-- it is given exactly if a whole lease from the last write fits 64 bits
+abbrev pub ReturnedLeaseFits : Type 0
+ReturnedLeaseFits =
+    (wts rts until lease : ℕ) →
+    (wts + lease < 2 ^ 64 → returned_lease wts rts until lease ≢ None)
+    × (2 ^ 64 ≤ wts + lease → returned_lease wts rts until lease ≡ None)

@@ -1,0 +1,14 @@
+use Rattle.std.proofs.Common.{arith}
+use Rattle.command_line.proofs.Ranges.{in_range, run_in_range}
+use Rattle.command_line.proofs.laws.options_are_in_range.Goals as goal
+
+pub returns-clause-run : goal.returns-clause-run
+returns-clause-run c = λ rows options t. run_in_range rows options t
+
+pub returns-clause-litmus : goal.returns-clause-litmus
+returns-clause-litmus c = λ rows options t.
+    let runs = in_range _ 1 1000000 _ options.runs (omega arith) (omega arith) t.0 in
+    (run_in_range rows options.run t.1, runs.0, runs.1)
+
+pub returns-clause-trace : goal.returns-clause-trace
+returns-clause-trace c = λ rows options t. run_in_range rows options.run t.1

@@ -4,7 +4,7 @@ ghost use Rattle.std.specs.Prelude.{IsTrue, is_some, length, not, true, false, o
 ghost use Rattle.std.specs.Prelude.{IsOk, OnErr, OnOk, None, Some};
 ghost use Rattle.std.specs.Result.{result_ok};
 ghost use Rattle.line_sets.specs.Geometry.{IsGeometry};
-ghost use Rattle.line_sets.specs.Rising.{risen};
+ghost use Rattle.ranked_lines.specs.Rising.{sorted};
 ghost use Rattle.line_sets.specs.SetTable.{all_listed};
 ghost use Rattle.private_cache.specs.CopyTable.{copy_of, place_for, victim_for, with_used, without_copy};
 ghost use Rattle.core_pts.specs.SetUp.{IsInRange};
@@ -157,7 +157,7 @@ impl Core {
 
     /// The lines of all copies, rising.
     pub fn lines(&self) -> Result<Vec<LineNo>, AllocError>
-        ensures { IfOk result (λ lines. lines.items ≡ risen (all_listed (λ _. true)
+        ensures { IfOk result (λ lines. lines.items ≡ sorted (all_listed (λ _. true)
             self.now.cache.sets)) }
     {
         self.cache.lines()
@@ -174,7 +174,7 @@ impl Core {
     /// The line that comes after so many others, once those of the copies that may be evicted are in rising order.
     pub fn free_copy(&self, at: usize) -> Result<LineNo, AllocError>
         requires { at < length (free_copies self.now) }
-        ensures { IfOk result (λ line. slice_get (risen (free_copies self.now)) at ≡ Some line) }
+        ensures { IfOk result (λ line. slice_get (sorted (free_copies self.now)) at ≡ Some line) }
     {
         self.cache.free_copy(self.pinned_line(), at)
     }

@@ -14,7 +14,7 @@ use Rattle.network.specs.declared.message.Node.TheVariants as node
 use Rattle.network.specs.declared.message.Body.TheVariants.{FlushRep}
 use Rattle.network.specs.declared.part.Reaction.{Reaction}
 use Rattle.network.specs.declared.part.Reaction.TheVariants.{Done, Dropped, Held, HeldAfter}
-use Rattle.network.specs.Flight.{Flight}
+use Rattle.network.specs.Flight.{Flight, SameNetwork}
 use Rattle.network.specs.NumberedMessages.{at_number}
 use Rattle.network.specs.Routes.{has_endpoints}
 use Rattle.network.specs.Sends.{sent_by}
@@ -74,7 +74,7 @@ module _ (config : Config) (flight : Flight) (cores : List CoreState) (records :
 
   -- they stay so while the machine's set-up does
   pub still_fitted : (new : Flight) (after : List CoreState) (more : List Record) (room : ℕ) →
-      new ≡ record flight { slots = new.slots; reserved = new.reserved; mail = new.mail } →
+      SameNetwork flight new →
       length more + owed after ≤ room → IsFitted config new after more room
   still_fitted new after more room set_up reserved = record {
     cores_are = ap (λ (t : Flight). t.cores) set_up ∙ fits.cores_are;

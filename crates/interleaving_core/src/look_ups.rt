@@ -1,7 +1,7 @@
 //! What is looked up in a machine.
 ghost use Rattle.std.specs.Prelude.{◌≡◌, ◌<◌, IfOk, length, map, option_copied, slice_get, Some};
 ghost use Rattle.network.specs.NumberedMessages.{IsRising, at_number};
-ghost use Rattle.line_sets.specs.Rising.{risen};
+ghost use Rattle.ranked_lines.specs.Rising.{sorted};
 ghost use Rattle.interleaving_core.specs.LookUps.{copies, entries, free_copies, is_request, make_room};
 ghost use Rattle.machine_table.specs.Machine.{open_op};
 ghost use Rattle.interleaving_core.specs.LookUps.{open_status, room_at, victim};
@@ -107,7 +107,7 @@ impl MachineState {
 
     // The lines of a core's copies, rising.
     pub(crate) fn copies(&self, core: u32) -> Result<Vec<LineNo>, AllocError>
-        ensures { IfOk result (λ lines. lines.items ≡ risen (copies self.now core)) }
+        ensures { IfOk result (λ lines. lines.items ≡ sorted (copies self.now core)) }
     {
         match self.cores.get(core as usize) {
             Some(core) => core.lines(),
@@ -117,7 +117,7 @@ impl MachineState {
 
     // The lines that a bank has and that nothing is under way for, rising.
     pub(crate) fn entries(&self, bank: u32) -> Result<Vec<LineNo>, AllocError>
-        ensures { IfOk result (λ lines. lines.items ≡ risen (entries self.now bank)) }
+        ensures { IfOk result (λ lines. lines.items ≡ sorted (entries self.now bank)) }
     {
         match self.banks.get(bank as usize) {
             Some(bank) => bank.lines(),
@@ -138,7 +138,7 @@ impl MachineState {
     // The line that comes after so many others, once those that may be evicted are in rising order.
     pub(crate) fn free_copy(&self, core: u32, at: usize) -> Result<LineNo, AllocError>
         requires { at < length (free_copies self.now core) }
-        ensures { IfOk result (λ line. slice_get (risen (free_copies self.now core)) at ≡ Some
+        ensures { IfOk result (λ line. slice_get (sorted (free_copies self.now core)) at ≡ Some
             line) }
     {
         match self.cores.get(core as usize) {
@@ -160,7 +160,7 @@ impl MachineState {
     // The line that comes after so many others, once those that nothing is under way for are in rising order.
     pub(crate) fn entry(&self, bank: u32, at: usize) -> Result<LineNo, AllocError>
         requires { at < length (entries self.now bank) }
-        ensures { IfOk result (λ line. slice_get (risen (entries self.now bank)) at ≡ Some line) }
+        ensures { IfOk result (λ line. slice_get (sorted (entries self.now bank)) at ≡ Some line) }
     {
         match self.banks.get(bank as usize) {
             Some(bank) => bank.settled_line(at),

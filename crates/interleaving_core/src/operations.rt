@@ -2,6 +2,7 @@
 ghost use Rattle.std.specs.Prelude.{◌≡◌, ◌<◌, ◌+◌, ◌++◌, ◌∷◌, [], false, true, IfOk, IsOk, IsTrue, OnErr, length};
 ghost use Rattle.std.specs.Prelude.{Some, vec_capacity};
 ghost use Rattle.core_pts.specs.CoreTable.{advance, evict};
+ghost use Rattle.network.specs.Flight.{SameNetwork};
 ghost use Rattle.network.specs.Mail.{Mail};
 ghost use Rattle.llc_bank.specs.BankTable as bank_table;
 ghost use Rattle.interleaving_core.specs.LookUps.{is_request};
@@ -26,12 +27,7 @@ pub(crate) fn attempt(core: &mut Core, flight: &mut InFlight, number: u32, count
     requires banks { core.old.banks ≡ flight.old.banks }
     ensures done { (result, core.new, flight.new.mail) ≡ applied core.old
         flight.old.mail (attempt number count flight.old.capacity flight.old.mail core.old) }
-    ensures set_up { flight.new ≡ record flight.old {
-      slots = flight.new.slots;
-      reserved =
-          flight.new.reserved;
-      mail = flight.new.mail;
-    } }
+    ensures set_up { SameNetwork flight.old flight.new }
 {
     nothing_completed_keeps();
     let Some((op, _)) = core.open_op() else {
@@ -79,12 +75,7 @@ fn request(core: &mut Core, flight: &mut InFlight, op: &Op, body: Body) -> bool
     requires banks { core.old.banks ≡ flight.old.banks }
     ensures done { (request_answer result, core.new, flight.new.mail) ≡ applied core.old
         flight.old.mail (requests flight.old.capacity flight.old.mail core.old op.now body) }
-    ensures set_up { flight.new ≡ record flight.old {
-      slots = flight.new.slots;
-      reserved =
-          flight.new.reserved;
-      mail = flight.new.mail;
-    } }
+    ensures set_up { SameNetwork flight.old flight.new }
 {
     if !flight.has_capacity() {
         return false;
@@ -114,12 +105,7 @@ pub(crate) fn evict_copy(core: &mut Core, flight: &mut InFlight, line: LineNo) -
         (evict core.old line).0 }
     ensures done { (answer_of result, core.new, flight.new.mail) ≡ applied core.old
         flight.old.mail (copy_evicted flight.old.capacity flight.old.mail (evict core.old line)) }
-    ensures set_up { flight.new ≡ record flight.old {
-      slots = flight.new.slots;
-      reserved =
-          flight.new.reserved;
-      mail = flight.new.mail;
-    } }
+    ensures set_up { SameNetwork flight.old flight.new }
 {
     if !flight.has_capacity() {
         if sends_back(core, line) {
@@ -146,12 +132,7 @@ pub(crate) fn evict_entry(bank: &mut Bank, flight: &mut InFlight, line: LineNo) 
     ensures done { (answer_of result, bank.new, flight.new.mail) ≡ applied bank.old
         flight.old.mail (entry_evicted flight.old.capacity flight.old.mail
         (bank_table.evict bank.old line)) }
-    ensures set_up { flight.new ≡ record flight.old {
-      slots = flight.new.slots;
-      reserved =
-          flight.new.reserved;
-      mail = flight.new.mail;
-    } }
+    ensures set_up { SameNetwork flight.old flight.new }
 {
     if !flight.has_capacity() {
         if let Ok(Some(_)) = bank.evicts(line) {

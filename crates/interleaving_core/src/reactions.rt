@@ -1,5 +1,6 @@
 //! A message in flight is handed to the part that it goes to.
 ghost use Rattle.std.specs.Prelude.{◌≡◌, ◌<◌, ◌||◌, ℕ, IfOk, IsSome, IsTrue, OnErr};
+ghost use Rattle.network.specs.Flight.{IsWithMail, SameNetwork};
 ghost use Rattle.network.specs.Mail.{Mail, answered, has_capacity, has_number, sent, taken};
 ghost use Rattle.network.specs.NumberedMessages.{at_number};
 ghost use Rattle.network.specs.Routes.{has_endpoints};
@@ -64,12 +65,7 @@ pub(crate) fn conclude(
     ensures done { (answer_of result, flight.new.mail) ≡ concluded flight.old.mail number
         response }
     ensures stop { is_stopped.new ≡ (stops (answer_of result) || is_stopped.old) }
-    ensures set_up { flight.new ≡ record flight.old {
-      slots = flight.new.slots;
-      reserved =
-          flight.new.reserved;
-      mail = flight.new.mail;
-    } }
+    ensures set_up { SameNetwork flight.old flight.new }
 {
     match response {
         Err(why) => {
@@ -130,12 +126,7 @@ fn settle(flight: &mut InFlight, number: MsgNo, reaction: Reaction)
     requires endpoints { SendsWithEndpoints flight.old.cores flight.old.banks reaction }
     requires capacity { IsTrue (can_send flight.old.capacity flight.old.mail (sent_in reaction)) }
     ensures mail { flight.new.mail ≡ (settled_answer flight.old.mail number reaction).1 }
-    ensures set_up { flight.new ≡ record flight.old {
-      slots = flight.new.slots;
-      reserved =
-          flight.new.reserved;
-      mail = flight.new.mail;
-    } }
+    ensures set_up { SameNetwork flight.old flight.new }
 {
     match reaction {
         Reaction::Held => (),
@@ -151,12 +142,7 @@ fn settle(flight: &mut InFlight, number: MsgNo, reaction: Reaction)
 pub(crate) fn send(flight: &mut InFlight, message: Message)
     requires endpoints { IsTrue (has_endpoints flight.old.cores flight.old.banks message) }
     requires capacity { IsTrue (has_capacity flight.old.capacity flight.old.mail) }
-    ensures { flight.new ≡ record flight.old {
-      slots = flight.new.slots;
-      reserved =
-          flight.new.reserved;
-      mail = sent flight.old.mail message;
-    } }
+    ensures { IsWithMail (sent flight.old.mail message) flight.old flight.new }
 {
     match flight.send(message) {
         Ok(_) => (),
@@ -167,12 +153,7 @@ pub(crate) fn send(flight: &mut InFlight, message: Message)
 // Takes a message that is in flight.
 #[inline(always)]
 fn take(flight: &mut InFlight, number: MsgNo)
-    ensures { flight.new ≡ record flight.old {
-      slots = flight.new.slots;
-      reserved =
-          flight.new.reserved;
-      mail = taken flight.old.mail number;
-    } }
+    ensures { IsWithMail (taken flight.old.mail number) flight.old flight.new }
 {
     let _there = flight.remove(number);
 }
@@ -183,12 +164,7 @@ fn answer(flight: &mut InFlight, number: MsgNo, message: Message)
     requires there { IsSome (at_number number flight.old.mail.messages) }
     requires endpoints { IsTrue (has_endpoints flight.old.cores flight.old.banks message) }
     requires number { IsTrue (has_number flight.old.mail) }
-    ensures { flight.new ≡ record flight.old {
-      slots = flight.new.slots;
-      reserved =
-          flight.new.reserved;
-      mail = answered flight.old.mail number message;
-    } }
+    ensures { IsWithMail (answered flight.old.mail number message) flight.old flight.new }
 {
     let _number = flight.answer(number, message);
 }

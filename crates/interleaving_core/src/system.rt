@@ -6,7 +6,7 @@ ghost use Rattle.physiological_order.specs.Order.{flat, Legal, Arrangement, of_c
 ghost use Rattle.physiological_order.specs.StaleHits.{RisesByNumber};
 ghost use Rattle.physiological_order.specs.declared.operation.Record.{Record};
 ghost use Rattle.network.specs.NumberedMessages.{IsRising, at_number};
-ghost use Rattle.line_sets.specs.Rising.{risen};
+ghost use Rattle.ranked_lines.specs.Rising.{sorted};
 ghost use Rattle.machine_table.specs.SetUp.{SetUpAs, is_good};
 ghost use Rattle.machine_table.specs.Machine.{operation_of};
 ghost use Rattle.machine_table.specs.Opening.{at_start};
@@ -254,14 +254,14 @@ impl System {
 
     /// The lines of a core's copies, rising; none for a core that isn't there.
     pub fn copies(&self, core: u32) -> Result<Vec<LineNo>, AllocError>
-        ensures { IfOk result (λ lines. lines.items ≡ risen (copies self.now core)) }
+        ensures { IfOk result (λ lines. lines.items ≡ sorted (copies self.now core)) }
     {
         self.state.copies(core)
     }
 
     /// The lines that a bank has Shared or Exclusive, rising; none for a bank that isn't there.
     pub fn entries(&self, bank: u32) -> Result<Vec<LineNo>, AllocError>
-        ensures { IfOk result (λ lines. lines.items ≡ risen (entries self.now bank)) }
+        ensures { IfOk result (λ lines. lines.items ≡ sorted (entries self.now bank)) }
     {
         self.state.entries(bank)
     }
@@ -278,7 +278,7 @@ impl System {
     /// where no memory is left for the list of the lines.
     pub fn free_copy(&self, core: u32, at: usize) -> Result<LineNo, AllocError>
         requires { at < length (free_copies self.now core) }
-        ensures { IfOk result (λ line. slice_get (risen (free_copies self.now core)) at ≡ Some
+        ensures { IfOk result (λ line. slice_get (sorted (free_copies self.now core)) at ≡ Some
             line) }
     {
         self.state.free_copy(core, at)
@@ -295,7 +295,7 @@ impl System {
     /// where no memory is left for the list of the lines.
     pub fn entry(&self, bank: u32, at: usize) -> Result<LineNo, AllocError>
         requires { at < length (entries self.now bank) }
-        ensures { IfOk result (λ line. slice_get (risen (entries self.now bank)) at ≡ Some line) }
+        ensures { IfOk result (λ line. slice_get (sorted (entries self.now bank)) at ≡ Some line) }
     {
         self.state.entry(bank, at)
     }

@@ -2,8 +2,6 @@
 
 -- Laws of one set: look-ups after each change, lengths, and that no line comes twice.
 pub use Rattle.line_sets.proofs.OrderLaws.{length-put_in_place, length-without_le, length-without_there}
--- A list but no line.
-pub use Rattle.line_sets.proofs.RisenLists.{all_but-none}
 -- Laws of a table of sets: look-ups and lengths after each change.
 pub use Rattle.line_sets.proofs.TableLaws.{length-drop_line, length-put, length-put_within, look-drop_line_other}
 pub use Rattle.line_sets.proofs.TableLaws.{look-drop_line_other_set, look-drop_line_same, look-put_other}

@@ -1,12 +1,8 @@
-mod BlockNeighbours
-mod BlockedLists
 mod ListedCounts
 mod ListedSums
 mod ListedTallies
 mod Indices
 mod OrderLaws
-mod RisenLists
-mod RisingEdits
 mod RowLaws
 mod ShiftedPairs
 mod StoredSets

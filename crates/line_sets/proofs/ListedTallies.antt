@@ -4,7 +4,7 @@ use Rattle.std.proofs.Common.{◌∷◌, arith}
 use Rattle.std.proofs.lemmas.Bool.{cond_both}
 use Rattle.line_arena.specs.Arenas.{Lists}
 use Rattle.line_sets.specs.Order.{is_there}
-use Rattle.line_sets.specs.Rising.{tally, IsExchanged}
+use Rattle.ranked_lines.specs.Rising.{tally, IsExchanged}
 use Rattle.line_sets.specs.SetTable.{all_listed, count_of, drop_line, look, put, put_within, set_at}
 use Rattle.line_sets.specs.Stored.{sets_of, IsStored}
 use Rattle.line_sets.proofs.ListedCounts.{distinct-at}

@@ -31,7 +31,17 @@ pub(crate) fn count_of<V: Listed>(value: &V) -> usize
     if value.is_listed() { 1 } else { 0 }
 }
 
-// Numbers as those of lines.
+/// The number of a line, if there is one.
+pub(crate) fn number_of(line: Option<LineNo>) -> Option<u64>
+    ensures { result ≡ line }
+{
+    match line {
+        None => None,
+        Some(line) => Some(line.0),
+    }
+}
+
+/// Numbers as those of lines.
 pub fn line_numbers(numbers: Vec<u64>) -> Result<Vec<LineNo>, AllocError>
     ensures { IfOk result (λ lines. lines.items ≡ numbers.items) }
 {

@@ -4,18 +4,18 @@ ghost use Rattle.std.specs.Prelude.{slice_get, Some, ◌++◌, ℕ};
 ghost use Rattle.std.specs.Option.{option_copied};
 ghost use Rattle.line_sets.specs.Order.{first_where, is_there, lines_passing, oldest, IsDistinct};
 ghost use Rattle.line_sets.specs.Geometry.{IsGeometry};
-ghost use Rattle.line_sets.specs.Rising.{all_but, risen};
+ghost use Rattle.ranked_lines.specs.Rising.{all_but, sorted};
 ghost use Rattle.line_sets.specs.SetTable.{all_listed, drop_line, empty_sets, has_place, has_room, look, put};
 ghost use Rattle.line_sets.specs.SetTable.{put_within, set_at};
 
-use crate::laws::sorted_is_risen;
-use crate::listed::{LineTest, Listed, count_of, line_numbers};
-use crate::rising_lines::RisingLines;
+use crate::listed::{LineTest, Listed, count_of, line_numbers, number_of};
 use crate::rows::Rows;
-use crate::selection::{leave_out, number_at};
 use line_arena::laws::{looked_up, taken_off};
 use line_arena::{Arena, ArenaError, Cell};
 use network::LineNo;
+use ranked_lines::RankedLines;
+use ranked_lines::laws::sorted_is_unique;
+use ranked_lines::selection::{leave_out, number_at};
 use std::alloc::{AllocError, Global};
 use std::marker::Model;
 
@@ -32,13 +32,13 @@ pub struct LineSets<V: Listed> {
     // Each set's lines and their cells of the arena.
     rows: Rows,
     // The listed lines in rising order, if they are kept so.
-    order: RisingLines,
+    order: RankedLines,
 }
 
 impl<V: Listed> Model for LineSets<V> {
     ghost use Rattle.std.specs.Prelude.{◌≡◌, length};
     ghost use Rattle.line_sets.specs.SetTable.{Sets, all_listed};
-    ghost use Rattle.line_sets.specs.Rising.{IsOrderOf};
+    ghost use Rattle.ranked_lines.specs.Rising.{IsOrderOf};
     ghost use Rattle.line_sets.specs.Stored.{sets_of, IsStored};
 
     ghost Value = { Sets V };
@@ -62,7 +62,7 @@ impl<V: Copy + Listed> LineSets<V> {
                 listed: 0,
                 arena,
                 rows,
-                order: RisingLines::none(),
+                order: RankedLines::none(),
             }),
             Err(ArenaError::NoMemory) => Err(AllocError),
             Err(ArenaError::TooLarge) => unreachable!(),
@@ -78,7 +78,7 @@ impl<V: Copy + Listed> LineSets<V> {
         self.arena.clear();
         self.rows.clear();
         self.listed = 0;
-        self.order = RisingLines::none();
+        self.order = RankedLines::none();
     }
 
     /// A table without lines again, with so many sets and ways. If it has that many, it is cleared, which takes no
@@ -252,9 +252,10 @@ impl<V: Copy + Listed> LineSets<V> {
     /// in rising order.
     pub fn nth_listed(&self, but: Option<LineNo>, at: usize) -> Result<LineNo, AllocError>
         requires { at < length (all_but but (all_listed V.is_listed self.now.sets)) }
-        ensures { IfOk result (λ line. slice_get (risen (all_but but
+        ensures { IfOk result (λ line. slice_get (sorted (all_but but
             (all_listed V.is_listed self.now.sets))) at ≡ Some line) }
     {
+        let but = number_of(but);
         if let Some(line) = self.order.nth(&but, at) {
             return Ok(LineNo(line));
         }
@@ -277,7 +278,7 @@ impl<V: Copy + Listed> LineSets<V> {
             return;
         };
         let most = self.sets() * self.ways;
-        let Ok(order) = RisingLines::of(self.rows.allocator(), &numbers, most) else {
+        let Ok(order) = RankedLines::of(self.rows.allocator(), &numbers, most) else {
             return;
         };
         self.order = order;
@@ -287,13 +288,13 @@ impl<V: Copy + Listed> LineSets<V> {
     pub fn forget_order(&mut self)
         ensures { self.new ≡ self.old }
     {
-        self.order = RisingLines::none();
+        self.order = RankedLines::none();
     }
 
     /// The lines of all sets whose values are listed, rising.
     pub fn lines(&self) -> Result<Vec<LineNo>, AllocError>
         ensures { IfOk result (λ lines.
-            lines.items ≡ risen (all_listed V.is_listed self.now.sets)) }
+            lines.items ≡ sorted (all_listed V.is_listed self.now.sets)) }
     {
         let numbers = self.numbers()?;
         line_numbers(numbers)
@@ -302,9 +303,9 @@ impl<V: Copy + Listed> LineSets<V> {
     // The numbers of these lines, rising.
     fn numbers(&self) -> Result<Vec<u64>, AllocError>
         ensures { IfOk result (λ lines.
-            lines.items ≡ risen (all_listed V.is_listed self.now.sets)) }
+            lines.items ≡ sorted (all_listed V.is_listed self.now.sets)) }
     {
-        sorted_is_risen();
+        sorted_is_unique();
         let mut lines = self.gathered()?;
         lines.sort_unstable();
         Ok(lines)

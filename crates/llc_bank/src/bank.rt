@@ -3,7 +3,7 @@ ghost use Rattle.std.specs.Prelude.{◌≡◌, ◌≢◌, ◌≤◌, ◌<◌, le
 ghost use Rattle.std.specs.Prelude.{IsTrue, false, is_some, slice_get, Err, None, OnErr, OnOk, Some};
 ghost use Rattle.std.specs.Option.{option_copied};
 ghost use Rattle.line_sets.specs.Geometry.{IsGeometry};
-ghost use Rattle.line_sets.specs.Rising.{risen};
+ghost use Rattle.ranked_lines.specs.Rising.{sorted};
 ghost use Rattle.line_sets.specs.SetTable.{all_listed, has_room, has_place};
 ghost use Rattle.llc_bank.specs.SetUp.{IsInRange};
 ghost use Rattle.llc_bank.specs.OnEntry.{finds_place};
@@ -259,7 +259,7 @@ impl Bank {
 
     /// The lines that are Shared or Exclusive, rising.
     pub fn lines(&self) -> Result<Vec<LineNo>, AllocError>
-        ensures { IfOk result (λ lines. lines.items ≡ risen (all_listed is_settled
+        ensures { IfOk result (λ lines. lines.items ≡ sorted (all_listed is_settled
             self.now.table.sets)) }
     {
         self.table.lines()
@@ -275,7 +275,7 @@ impl Bank {
     /// The line that comes after so many others, once those that are Shared or Exclusive are in rising order.
     pub fn settled_line(&self, at: usize) -> Result<LineNo, AllocError>
         requires { at < length (all_listed is_settled self.now.table.sets) }
-        ensures { IfOk result (λ line. slice_get (risen (all_listed is_settled
+        ensures { IfOk result (λ line. slice_get (sorted (all_listed is_settled
             self.now.table.sets)) at ≡ Some line) }
     {
         self.table.nth_listed(None, at)

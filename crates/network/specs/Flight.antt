@@ -14,6 +14,14 @@ pub record Flight : Type 0 where
   pub reserved : ℕ
   pub mail : Mail
 
+-- the second network is the first one with this mail in flight; its slots and its reserve may be others
+abbrev pub IsWithMail : Mail → Flight → Flight → Type 0
+IsWithMail mail p q = q ≡ record p { slots = q.slots; reserved = q.reserved; mail = mail }
+
+-- the second network is the first one but for what is in flight, its slots and its reserve
+abbrev pub SameNetwork : Flight → Flight → Type 0
+SameNetwork p q = IsWithMail q.mail p q
+
 -- what contracts see, where at most so many messages may be in flight and so many of the counted kinds were sent
 abbrev pub flight_of : ℕ → Counts → Linked → Flight
 flight_of capacity counts linked =

@@ -2,6 +2,7 @@
 ghost use Rattle.std.specs.Prelude.{◌≡◌, ◌+◌, ◌*◌, ◌<◌, ◌≤◌, ◌^◌, ◌++◌, ◌∷◌, [], false, IsTrue, IfOk, IfErr, IfSome};
 ghost use Rattle.std.specs.Prelude.{OnOk, OnErr, IsOk, Option, None, Some, option_copied, option_map, length, map};
 ghost use Rattle.std.specs.Prelude.{IsSome, is_some, slice_get, vec_capacity};
+ghost use Rattle.network.specs.Flight.{IsWithMail};
 ghost use Rattle.network.specs.SetUp.{IsInRange};
 ghost use Rattle.network.specs.NumberedMessages.{IsRising, at_number};
 ghost use Rattle.network.specs.Routes.{has_endpoints};
@@ -170,12 +171,7 @@ impl InFlight {
     pub fn take(&mut self, number: MsgNo) -> Option<Message>
         ensures value { result ≡ at_number number self.old.mail.messages }
         ensures absent { result ≡ None → self.new ≡ self.old }
-        ensures after { self.new ≡ record self.old {
-          slots = self.new.slots;
-          reserved =
-              self.new.reserved;
-          mail = taken self.old.mail number;
-        } }
+        ensures after { IsWithMail (taken self.old.mail number) self.old self.new }
         ensures reserved { self.old.reserved ≤ self.new.reserved }
         ensures endpoints { IfSome result
             (λ message. IsTrue (has_endpoints self.old.cores self.old.banks message)) }
@@ -191,12 +187,7 @@ impl InFlight {
     pub fn remove(&mut self, number: MsgNo) -> bool
         ensures value { result ≡ is_some (at_number number self.old.mail.messages) }
         ensures absent { result ≡ false → self.new ≡ self.old }
-        ensures after { self.new ≡ record self.old {
-          slots = self.new.slots;
-          reserved =
-              self.new.reserved;
-          mail = taken self.old.mail number;
-        } }
+        ensures after { IsWithMail (taken self.old.mail number) self.old self.new }
         ensures reserved { self.old.reserved ≤ self.new.reserved }
     {
         self.linked.remove(number.0)
@@ -211,12 +202,7 @@ impl InFlight {
         requires endpoints { IsTrue (has_endpoints self.old.cores self.old.banks message) }
         requires number { IsTrue (has_number self.old.mail) }
         ensures number { result ≡ self.old.mail.next }
-        ensures after { self.new ≡ record self.old {
-          slots = self.new.slots;
-          reserved =
-              self.new.reserved;
-          mail = answered self.old.mail number message;
-        } }
+        ensures after { IsWithMail (answered self.old.mail number message) self.old self.new }
         ensures reserved { self.old.reserved ≤ self.new.reserved + 1 }
         ensures room { 0 < self.new.reserved }
     {

@@ -6,7 +6,7 @@ use Rattle.std.proofs.lemmas.Bool.{cases_eq, eq-eqb, false_from_ne_true, ne_eqb}
 use Rattle.std.proofs.lemmas.List.{length-append}
 use Rattle.std.proofs.lemmas.List.Elements.{filter-append}
 use Rattle.line_sets.specs.Order.{find, is_there, lines_passing, IsDistinct}
-use Rattle.line_sets.specs.Rising.{all_but}
+use Rattle.ranked_lines.specs.Rising.{all_but}
 use Rattle.line_sets.specs.SetTable.{Sets, all_listed, set_at}
 use Rattle.private_cache.specs.declared.line_copy.LineCopy.{LineCopy}
 use Rattle.private_cache.specs.CopyTable.{copy_of, is_pinned}

@@ -4,7 +4,7 @@ ghost use Rattle.std.specs.Prelude.{◌+◌, if◌then◌else◌, is_some, not, 
 ghost use Rattle.std.specs.Prelude.{Option, Some, ℕ};
 ghost use Rattle.std.specs.Option.{option_copied};
 ghost use Rattle.line_sets.specs.Geometry.{IsGeometry};
-ghost use Rattle.line_sets.specs.Rising.{risen};
+ghost use Rattle.ranked_lines.specs.Rising.{sorted};
 ghost use Rattle.line_sets.specs.SetTable.{all_listed, empty_sets, has_room};
 ghost use Rattle.private_cache.specs.CopyTable.{is_pinned};
 ghost use Rattle.private_cache.specs.FreeLines.{free_lines, has_pinned};
@@ -253,7 +253,7 @@ impl Cache {
     /// The lines of all copies, rising.
     pub fn lines(&self) -> Result<Vec<LineNo>, AllocError>
         ensures { IfOk result (λ lines.
-            lines.items ≡ risen (all_listed (λ _. true) self.now.sets)) }
+            lines.items ≡ sorted (all_listed (λ _. true) self.now.sets)) }
     {
         self.table.lines()
     }
@@ -288,7 +288,7 @@ impl Cache {
     /// The line that comes after so many others, once the lines of all copies but the pinned one are in rising order.
     pub fn free_copy(&self, pinned: Option<LineNo>, at: usize) -> Result<LineNo, AllocError>
         requires { at < length (free_lines self.now pinned) }
-        ensures { IfOk result (λ line. slice_get (risen (free_lines self.now pinned)) at ≡ Some
+        ensures { IfOk result (λ line. slice_get (sorted (free_lines self.now pinned)) at ≡ Some
             line) }
     {
         self.table.nth_listed(pinned, at)

@@ -1,11 +1,11 @@
 -- The entry of a seeded turn's list that is made.
-use Rattle.std.proofs.Common.{◌≡◌, ◌+◌, ◌%◌, ◌<◌, ℕ, suc, nat_lt, Bool, true, false, List, [], ◌∷◌, ◌++◌}
-use Rattle.std.proofs.Common.{length, map, get_or, Option, Some, None, refl, sym, ap, ◌∙◌, arith}
+use Rattle.std.proofs.Common.{◌≡◌, ◌+◌, ◌%◌, ◌<◌, ℕ, Bool, true, false, List, [], ◌∷◌, ◌++◌}
+use Rattle.std.proofs.Common.{length, map, get_or, Option, Some, None, sym, ap, ◌∙◌, arith}
 use Rattle.std.proofs.Common.{◌≢◌}
 use Rattle.std.specs.Prelude.{◌≤◌, slice_get}
 use Rattle.std.proofs.Math.Nat.{mod-lt}
 use Rattle.std.proofs.Common.{inl, inr, set, subst, get_or-set_same, get_or-set_other}
-use Rattle.std.proofs.lemmas.Bool.{cases_eq, cond_both, false≢true}
+use Rattle.std.proofs.lemmas.Bool.{cases_eq, false≢true}
 use Rattle.std.proofs.lemmas.List.{length-map, length-append, get_or_append_left, get_or-append-add, get_or-map}
 use Rattle.std.proofs.lemmas.List.{get_or_past}
 use Rattle.std.proofs.lemmas.List.FromFn.{get_or-map-range_with_len, length-map-range_with_len}
@@ -16,7 +16,8 @@ use Rattle.programs.specs.declared.steps.Step.{Step}
 use Rattle.programs.specs.declared.steps.Step.TheVariants as step
 use Rattle.machine_table.specs.declared.event.Event.{Event}
 use Rattle.machine_table.specs.declared.event.Event.TheVariants as event
-use Rattle.line_sets.specs.Rising.{put_in, risen}
+use Rattle.ranked_lines.specs.Rising.{sorted}
+use Rattle.ranked_lines.proofs.Lemmas.{length-sorted}
 use Rattle.schedules.specs.declared.schedule.Choice.{Choice as Chosen}
 use Rattle.programs.specs.Acts.{Acts, next_in}
 use Rattle.schedules.specs.Schedules.{Choice, Does, Delivers, Over}
@@ -42,23 +43,14 @@ advance_entry m b core some is =
     ∙ get_or-map-range_with_len f 0 m.config.cores (b % m.config.cores) core Over (mod-lt b some)
     (omega (arith, is))
 
-length-put_in : (x : ℕ) (ys : List ℕ) → length (put_in x ys) ≡ suc (length ys)
-length-put_in x [] = refl
-length-put_in x (y ∷ ys) = cond_both (nat_lt y x) (y ∷ put_in x ys) (x ∷ y ∷ ys)
-    (λ zs. length zs ≡ suc (suc (length ys))) (λ t. ap suc (length-put_in x ys)) (λ f. refl)
-
-pub length-risen : (xs : List ℕ) → length (risen xs) ≡ length xs
-length-risen [] = refl
-length-risen (x ∷ xs) = length-put_in x (risen xs) ∙ ap suc (length-risen xs)
-
 -- the events of lines, holder by holder
 module _ (eviction : ℕ → ℕ → Event) (lines : ℕ → List ℕ) where
   abbrev pub piece : ℕ → List (Choice Seeded)
-  piece holder = map (λ line. Does (eviction holder line)) (risen (lines holder))
+  piece holder = map (λ line. Does (eviction holder line)) (sorted (lines holder))
 
   pub piece_length : (holder : ℕ) → length (piece holder) ≡ length (lines holder)
-  piece_length holder = length-map (risen (lines holder)) (λ line. Does (eviction holder line))
-      ∙ length-risen (lines holder)
+  piece_length holder = length-map (sorted (lines holder)) (λ line. Does (eviction holder line))
+      ∙ length-sorted (lines holder)
 
   pub one_holder_more : (n : ℕ) → length (line_events eviction lines (n + 1)) ≡
       length (line_events eviction lines n) + length (lines n)
@@ -66,16 +58,16 @@ module _ (eviction : ℕ → ℕ → Event) (lines : ℕ → List ℕ) where
 
   -- a holder's line at a place
   pub line_at : (n b holder at line : ℕ) → holder < n → at < length (lines holder) →
-      slice_get (risen (lines holder)) at ≡ Some line →
+      slice_get (sorted (lines holder)) at ≡ Some line →
       length (line_events eviction lines holder) + at ≡ b % length (line_events eviction lines n) →
       choice_at (line_events eviction lines n) b ≡ Does (eviction holder line)
   line_at n b holder at line below within is here =
       let inside : at < length (piece holder) = rw (piece_length holder) within in
-      let risen_inside : at < length (risen (lines holder)) = rw (length-risen (lines holder)) within in
+      let sorted_inside : at < length (sorted (lines holder)) = rw (length-sorted (lines holder)) within in
       ap (λ k. get_or (line_events eviction lines n) k Over) (sym here)
       ∙ at_piece piece n holder at Over below inside
-      ∙ get_or-map (λ l. Does (eviction holder l)) (risen (lines holder)) at line Over risen_inside
-      ∙ ap (λ l. Does (eviction holder l)) (get_or_from_slice_get (risen (lines holder)) at line line is)
+      ∙ get_or-map (λ l. Does (eviction holder l)) (sorted (lines holder)) at line Over sorted_inside
+      ∙ ap (λ l. Does (eviction holder l)) (get_or_from_slice_get (sorted (lines holder)) at line line is)
 
   -- so there is an entry
   pub line_is_there : (n b holder at : ℕ) → holder < n → at < length (lines holder) →
@@ -83,10 +75,10 @@ module _ (eviction : ℕ → ℕ → Event) (lines : ℕ → List ℕ) where
       choice_at (line_events eviction lines n) b ≢ Over
   unfolding is_end
   line_is_there n b holder at below within here over =
-      let risen_inside : at < length (risen (lines holder)) = rw (length-risen (lines holder)) within in
-      let line : ℕ = get_or (risen (lines holder)) at 0 in
+      let sorted_inside : at < length (sorted (lines holder)) = rw (length-sorted (lines holder)) within in
+      let line : ℕ = get_or (sorted (lines holder)) at 0 in
       let is : choice_at (line_events eviction lines n) b ≡ Does (eviction holder line) =
-      line_at n b holder at line below within (slice_get-get_or (risen (lines holder)) at 0 risen_inside) here in
+      line_at n b holder at line below within (slice_get-get_or (sorted (lines holder)) at 0 sorted_inside) here in
       false≢true (ap is_end (sym is ∙ over))
 
 -- a list of counts, after that of one more holder was written

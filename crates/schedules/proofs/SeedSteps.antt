@@ -6,7 +6,7 @@ use Rattle.programs.specs.declared.steps.Step.{Step}
 use Rattle.programs.specs.declared.steps.Step.TheVariants as step
 use Rattle.machine_table.specs.declared.event.Event.TheVariants as event
 use Rattle.machine_table.specs.Machine.{Machine, open_op}
-use Rattle.line_sets.specs.Rising.{risen}
+use Rattle.ranked_lines.specs.Rising.{sorted}
 use Rattle.interleaving_core.specs.LookUps.{entries, free_copies}
 use Rattle.programs.specs.Acts.{Acts, next_in}
 use Rattle.schedules.specs.Schedules.{Choice, Does, Delivers}
@@ -34,10 +34,10 @@ module _ {P : Type 0} (acts : Acts P) (m : Machine) (programs : List P) where
       (range_with_len 0 m.config.cores)
   list_gives (suc zero) = give_pieces acts m programs _
       (λ core. give_mapped acts m programs (λ line. Does (event.EvictCache core line)) (λ line. tt)
-      (risen (free_copies m core))) (range_with_len 0 m.config.cores)
+      (sorted (free_copies m core))) (range_with_len 0 m.config.cores)
   list_gives (suc (suc zero)) = give_pieces acts m programs _
       (λ bank. give_mapped acts m programs (λ line. Does (event.EvictBank bank line)) (λ line. tt)
-      (risen (entries m bank))) (range_with_len 0 m.config.banks)
+      (sorted (entries m bank))) (range_with_len 0 m.config.banks)
   list_gives (suc (suc (suc k))) = give_both acts m programs (core_steps acts m programs m.config.cores) _
       (give_pieces acts m programs _ (λ core. step_gives core (open_op m core) (next_in acts programs core) refl refl)
       (range_with_len 0 m.config.cores))

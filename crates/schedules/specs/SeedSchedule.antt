@@ -11,7 +11,7 @@ use Rattle.programs.specs.declared.steps.Step.TheVariants as step
 use Rattle.machine_table.specs.declared.event.Event.{Event}
 use Rattle.machine_table.specs.declared.event.Event.TheVariants as event
 use Rattle.machine_table.specs.Machine.{Machine, open_op}
-use Rattle.line_sets.specs.Rising.{risen}
+use Rattle.ranked_lines.specs.Rising.{sorted}
 use Rattle.interleaving_core.specs.LookUps.{entries, free_copies}
 use Rattle.programs.specs.Acts.{Acts, next_in}
 use Rattle.schedules.specs.Schedules.{Schedule, Choice, Does, Tries, Delivers, Advances, Over}
@@ -29,7 +29,7 @@ advances m = map (λ core. Does (event.Advance core)) (range_with_len 0 m.config
 -- an event for each line of each of so many holders of lines, both in rising order
 abbrev pub line_events : (ℕ → ℕ → Event) → (ℕ → List ℕ) → ℕ → List (Choice Seeded)
 line_events eviction lines holders =
-    flat_map (λ holder. map (λ line. Does (eviction holder line)) (risen (lines holder))) (range_with_len 0 holders)
+    flat_map (λ holder. map (λ line. Does (eviction holder line)) (sorted (lines holder))) (range_with_len 0 holders)
 
 -- an eviction of each copy that isn't pinned, and of each line that a bank has Shared or Exclusive
 abbrev pub cache_evictions : Machine → List (Choice Seeded)

@@ -5,7 +5,7 @@ ghost use Rattle.std.specs.Prelude.{◌≡◌, ◌∷◌, [], ◌<◌, ◌≤◌
 ghost use Rattle.std.specs.Prelude.{if◌then◌else◌, slice_get, slice_index_or};
 ghost use Rattle.interleaving_core.specs.LookUps.{entries, free_copies};
 ghost use Rattle.machine_table.specs.Machine.{open_op};
-ghost use Rattle.line_sets.specs.Rising.{risen};
+ghost use Rattle.ranked_lines.specs.Rising.{sorted};
 ghost use Rattle.programs.specs.Acts.{next_in};
 ghost use Rattle.schedules.specs.SeedSchedule.{advances, core_step, core_steps, choice_at, line_events, of_seed, steps};
 ghost use Rattle.schedules.specs.SeedViews.{Picks, PicksAny, PicksOne, StepsAt};
@@ -73,7 +73,7 @@ trait Holder {
     fn line(system: &System, holder: u32, at: usize) -> Result<LineNo, AllocError>
         requires { at < length (lines system.now holder) }
         ensures { IfOk result (λ line.
-            slice_get (risen (lines system.now holder)) at ≡ Some line) };
+            slice_get (sorted (lines system.now holder)) at ≡ Some line) };
 
     fn eviction(holder: u32, line: LineNo) -> Event
         ensures { result ≡ eviction holder line };

@@ -1,5 +1,5 @@
 use Rattle.std.proofs.Common.{◌≡◌, ◌<◌, true, List, ℕ, length, Some, IfOk, slice_get, sym, ap, ◌∙◌, subst}
-use Rattle.line_sets.specs.Rising.{risen}
+use Rattle.ranked_lines.specs.Rising.{sorted}
 use Rattle.line_sets.specs.SetTable.{Sets, all_listed}
 use Rattle.private_cache.specs.declared.line_copy.LineCopy.{LineCopy}
 use Rattle.private_cache.specs.FreeLines.{free_lines}
@@ -14,6 +14,6 @@ nth_listed-requires c =
 
 pub returns : goal.returns
 returns c =
-    subst (λ (xs : List ℕ). IfOk c.nth_listed.result (λ line. slice_get (risen xs) c.args.at ≡ Some line))
+    subst (λ (xs : List ℕ). IfOk c.nth_listed.result (λ line. slice_get (sorted xs) c.args.at ≡ Some line))
     (unpinned c.args.pinned (all_listed (λ copy. true) c.self.inside.table.sets)
     ∙ ap (λ (t : Sets LineCopy). free_lines t c.args.pinned) c.self.view_is) c.nth_listed.ensures

@@ -1,0 +1,5 @@
+mod BlockNeighbours
+mod BlockedLists
+mod RisingEdits
+mod SortedLists
+pub mod Lemmas

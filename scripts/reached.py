@@ -16,7 +16,8 @@ TABLES = {
     "core_pts": "CoreTable OnCopy", "private_cache": "CopyTable", "timestamp_manager": "Lease", "dram_mts": "Table",
     "llc_bank": "BankTable OnEntry", "network": "Mail", "machine_table": "Change Machine Opening SetUp Transition",
     "interleaving_core": "LookUps", "machine_theorem": "Coherence", "inbox": "Serving",
-    "mailboxes": "Attempts BankCalls BankServing BoxMoves CoreServing Evictions Ownership Places Sending Turns",
+    "mailboxes": "Attempts BankCalls BankServing BoxMoves CoreServing Evictions Places Turns",
+    "closed_machine": "Sending",
     "schedules": "Acts Policies RoundSchedule Runs SeedSchedule Service",
 }
 NAMES = re.compile(r"^\s*(?:(?:pub|abbrev|unfoldable|opaque|data|record)\s+)*([^\s:(){},=]+)\s*(?:\{[^}]*\}\s*)*:(?=\s)", re.M)

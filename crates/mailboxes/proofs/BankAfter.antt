@@ -23,7 +23,7 @@ use Rattle.seat_rule.specs.declared.views.SetUp.{SetUp}
 use Rattle.seat_rule.specs.declared.views.Hold.{Hold}
 use Rattle.seat_rule.specs.Rule.{bag_of_hold}
 use Rattle.mailboxes.specs.declared.sending.SendingBank.{SendingBank}
-use Rattle.mailboxes.specs.Sending.{OutboxState, noted, sent_out}
+use Rattle.closed_machine.specs.Sending.{OutboxState, noted, sent_out}
 use Rattle.mailboxes.specs.Stored.{stored_bank}
 use Rattle.mailboxes.specs.Places.{AllOwn, AllLinked, has_link_to, is_own}
 use Rattle.mailboxes.specs.BankServing.{leaves, told, sending_bank_table, sending_bank_has_case}

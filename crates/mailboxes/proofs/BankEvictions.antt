@@ -14,7 +14,7 @@ use Rattle.llc_bank.specs.OnEntry.{evicted}
 use Rattle.llc_bank.specs.BankTable as bank_table
 use Rattle.llc_bank.specs.BankTable.{BankState, after_eviction, entry_of}
 use Rattle.machine_theorem.specs.Bags.{SameBag}
-use Rattle.machine_moves.specs.Moves.{sent_by_eviction}
+use Rattle.seat_rule.specs.Moves.{sent_by_eviction}
 use Rattle.inbox.specs.Inboxes.{InboxState}
 use Rattle.inbox.specs.Serving.{sent_list}
 use Rattle.inbox.specs.Effects.{messages_of}
@@ -24,7 +24,7 @@ use Rattle.seat_rule.specs.Rule.{bag_of_hold}
 use Rattle.seat_rule.specs.Serving.{counted_if}
 use Rattle.seat_rule.specs.SeatMoves.{SeatMove, evicts_entry}
 use Rattle.mailboxes.specs.declared.sending.SendingBank.{SendingBank}
-use Rattle.mailboxes.specs.Sending.{OutboxState}
+use Rattle.closed_machine.specs.Sending.{OutboxState}
 use Rattle.mailboxes.specs.Stored.{stored_bank}
 use Rattle.mailboxes.specs.Places.{AllOwn, AllLinked}
 use Rattle.mailboxes.specs.BankCalls.{posted_if, told_if, evicted_part, evicted_inbox}

@@ -22,7 +22,7 @@ use Rattle.inbox.specs.Serving.{is_quiet, sent_list}
 use Rattle.inbox.specs.Effects.{LeavesPart, NeverNoMemory}
 use Rattle.seat_rule.specs.Serving.{counted_if}
 use Rattle.mailboxes.specs.declared.sending.SendingBank.{SendingBank}
-use Rattle.mailboxes.specs.Sending.{OutboxState, noted, sent_out}
+use Rattle.closed_machine.specs.Sending.{OutboxState, noted, sent_out}
 use Rattle.mailboxes.specs.BankServing.{leaves, finds_places, posted, told, replied, reacts}
 use Rattle.mailboxes.specs.BankServing.{reacts_at, sending_bank_table}
 use Rattle.mailboxes.specs.BankCalls.{posted_if, told_if}

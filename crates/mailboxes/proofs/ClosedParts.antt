@@ -10,11 +10,11 @@ use Rattle.seat_rule.specs.declared.views.SetUp.{SetUp}
 use Rattle.seat_rule.specs.declared.views.Hold.{Hold}
 use Rattle.mailboxes.specs.declared.core_seat.CoreSeat.{CoreSeat}
 use Rattle.mailboxes.specs.declared.bank_seat.BankSeat.{BankSeat}
-use Rattle.mailboxes.specs.declared.closed_machine.CorePart.{CorePart}
-use Rattle.mailboxes.specs.declared.closed_machine.BankPart.{BankPart}
+use Rattle.closed_machine.specs.declared.parts.CorePart.{CorePart}
+use Rattle.closed_machine.specs.declared.parts.BankPart.{BankPart}
 use Rattle.mailboxes.specs.Seats.{HasCores, HasBanks}
 use Rattle.mailboxes.specs.Remains.{core_part, bank_part, OneState}
-use Rattle.mailboxes.specs.PartsOfState.{IsCoreOf, IsBankOf, PartsOfState}
+use Rattle.closed_machine.specs.PartsOfState.{IsCoreOf, IsBankOf, PartsOfState}
 use Rattle.mailboxes.proofs.NewSeats.{none_some}
 
 module _ {A B : Type 0} (f : A → B) where

@@ -1,5 +1,5 @@
 -- What is known of a core's seat that serves, from what it stores and from the reached state that it stands in.
-use Rattle.std.proofs.Common.{◌≡◌, ℕ, ◌<◌, true, List, Some, Result, refl, sym, ap, ◌∙◌}
+use Rattle.std.proofs.Common.{◌≡◌, ℕ, ◌<◌, true, List, Result, refl, sym, ap, ◌∙◌}
 use Rattle.std.proofs.Common.{subst}
 use Rattle.std.specs.Prelude.{slice_get}
 use Rattle.physiological_order.specs.declared.operation.Op.{Op}
@@ -13,7 +13,8 @@ use Rattle.inbox.specs.Serving.{Place, in_hand, held_at, HaveCases}
 use Rattle.inbox.specs.Effects.{LiesAt, Effect}
 use Rattle.seat_rule.specs.declared.views.SetUp.{SetUp}
 use Rattle.seat_rule.specs.Rule.{seat_count}
-use Rattle.seat_rule.specs.Found.{FindsHere}
+use Rattle.seat_rule.specs.Found.{FindsHere, MessagesFindParts}
+use Rattle.seat_rule.specs.Staying.{CoresStay}
 use Rattle.seat_rule.specs.Plays.{SeatState, Standing}
 use Rattle.seat_rule.specs.SeatMoves.{SeatMove}
 use Rattle.seat_views.specs.Seated.{with_hold}
@@ -25,17 +26,10 @@ use Rattle.mailboxes.specs.CoreServing.{CorePartOf, IsCoreMail, sending_core_has
 use Rattle.mailboxes.specs.Places.{AllOwn, AllLinked}
 use Rattle.mailboxes.specs.Stored.{stored_core}
 use Rattle.mailboxes.specs.Ties.{BoxTied, SlotSeat, CoreTied}
-use Rattle.mailboxes.proofs.BankFacts.{OfStanding}
 use Rattle.mailboxes.proofs.SentMessages.{box_stands, core_stands}
-use Rattle.mailboxes.proofs.ServedCores.{StayingCores, own_core, served_moves, served_own, served_linked}
+use Rattle.mailboxes.proofs.ServedCores.{own_core, served_moves, served_own, served_linked}
 
--- What the laws of seats say, of the clauses that are used here
-pub record CoreLaws : Type 0 where
-  pub outbox : OfStanding (λ z id a. (i : ℕ) (m : Message) → slice_get a.outbox i ≡ Some m → FindsHere z id a m)
-  pub hand : OfStanding (λ z id a. (m : Message) → a.hand ≡ Some m → FindsHere z id a m)
-  pub held : OfStanding (λ z id a. (i : ℕ) (m : Message) → slice_get a.held i ≡ Some m → FindsHere z id a m)
-
-module _ (laws : CoreLaws) (m : Machine) (b : Mailbox) (p : SendingCore) (ops : List Op) (is : IsCoreMail m b)
+module _ (found : MessagesFindParts) (m : Machine) (b : Mailbox) (p : SendingCore) (ops : List Op) (is : IsCoreMail m b)
     (has : CorePartOf b p ops) where
   abbrev z : SetUp
   z = m.set_up
@@ -45,9 +39,9 @@ module _ (laws : CoreLaws) (m : Machine) (b : Mailbox) (p : SendingCore) (ops : 
 
   -- each message that came in goes to the core, which has a case for it
   finds : (at : Place) (x : Message) → LiesAt b.inbox at x → FindsHere z id (hold b) x
-  finds in_hand x lies = laws.hand z (seat_count z) id (hold b) m.good is.2 x (b.tied.hand ∙ lies)
+  finds in_hand x lies = found.hand z (seat_count z) id (hold b) m.good is.2 x (b.tied.hand ∙ lies)
   finds (held_at k) x lies =
-      laws.held z (seat_count z) id (hold b) m.good is.2 k x (ap (λ xs. slice_get xs k) b.tied.held ∙ lies)
+      found.held z (seat_count z) id (hold b) m.good is.2 k x (ap (λ xs. slice_get xs k) b.tied.held ∙ lies)
 
   goes : (at : Place) (x : Message) → LiesAt b.inbox at x → x.to ≡ Core id
   goes in_hand x lies = own_core b.cores id x.to (subst (λ k. id < k) (sym is.0.2) is.1) (b.own.hand x lies)
@@ -82,7 +76,7 @@ module _ (laws : CoreLaws) (m : Machine) (b : Mailbox) (p : SendingCore) (ops : 
       core_stands b.seat seat q ops seat.me.0.mine.records c changed
       (sym (ap (λ (y : SeatState). y.0.mine.records) changed))
 
-  module _ (stay : StayingCores) (result : Result Served Refusal) (c : InboxState Message) (q : SendingCore)
+  module _ (stay : CoresStay) (result : Result Served Refusal) (c : InboxState Message) (q : SendingCore)
       (effect : Effect sending_core_table b.inbox p result c q) where
     pub moves : SeatMove z seat_number (hold b) (stored_core (hold b) q ops c)
     moves =
@@ -99,4 +93,4 @@ module _ (laws : CoreLaws) (m : Machine) (b : Mailbox) (p : SendingCore) (ops : 
         let a = stored_core (hold b) q ops c in
         served_linked stay b.cores b.banks id p q b.inbox c z seat_number a (subst (λ k. id < k) (sym is.0.2) is.1)
         is.0.2
-        is.0.3 (laws.outbox z (seat_count z) seat_number a m.good standing) has.linked result effect
+        is.0.3 (found.outbox z (seat_count z) seat_number a m.good standing) has.linked result effect

@@ -14,7 +14,7 @@ use Rattle.mailboxes.specs.declared.sending.SendingCore.{SendingCore}
 use Rattle.core_pts.specs.declared.attempt.IssueError.{IssueError}
 use Rattle.core_pts.specs.declared.attempt.IssueError.TheVariants.{Busy, TooMany}
 use Rattle.mailboxes.specs.CoreCalls.{core_hold, issue_answer}
-use Rattle.mailboxes.specs.Sending.{OutboxState}
+use Rattle.closed_machine.specs.Sending.{OutboxState}
 use Rattle.mailboxes.specs.Stored.{stored_core}
 
 -- where the messages stay, only the core and its operations are new

@@ -55,16 +55,6 @@ module _ {A : Type 0} where
   joined all old new done o p a b e =
       a ∙ ap (λ z. z ++ done) (b ∙ ap (λ z. new ++ option_to_list z) e) ∙ append_assoc new (p ∷ []) done
 
-  -- no value so far has the number
-  pub not_so_far : (number : A → ℕ) (xs : List A) (i : ℕ) (x : A) (n : ℕ) → slice_get xs i ≡ Some x → number x ≢ n →
-      ((j : ℕ) (y : A) → j < i → slice_get xs j ≡ Some y → number y ≢ n) →
-      (j : ℕ) (y : A) → j < i + 1 → slice_get xs j ≡ Some y → number y ≢ n
-  not_so_far number xs i x n here not before j y lt e =
-      dite (ℕ_discrete j i)
-      (λ (same : j ≡ i). λ is.
-      not (ap number (some_is (sym here ∙ ap (slice_get xs) (sym same) ∙ e)) ∙ is))
-      (λ (ne : j ≢ i). before j y (omega arith) e)
-
   -- the contents of one more slot
   pub one_more_taken : (xs : List A) (i : ℕ) (x : A) (old new : List A) → get_elem? xs i ≡ some x →
       old ≡ take i xs → new ≡ old ++ x ∷ [] → new ≡ take (i + 1) xs

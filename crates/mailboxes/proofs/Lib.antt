@@ -14,17 +14,14 @@ mod IncomingSlots
 mod JoinedSeats
 mod LinkEnds
 mod LinkSlots
-mod MergedRecords
 mod NewSeats
 mod OneStates
 mod OwnMessages
 mod Outboxes
-mod SeatSums
 mod SentMessages
 mod Sweeps
 mod ServedCores
 mod Rooms
-mod RunStates
 mod EmptySlots
 mod SureTurns
 mod Unchanged

@@ -2,7 +2,7 @@
 use Rattle.std.proofs.Common.{◌≡◌, ℕ, ◌+◌, ◌-◌, ◌*◌, ◌%◌, ◌<◌, ◌≤◌, Bool, true, cond, ltb, leb}
 use Rattle.std.proofs.Common.{sym, refl, ap, ◌∙◌, subst, arith, mod-eq_of_lt, mul_comm, mul_assoc, lt-ltb, le-ltb}
 use Rattle.std.proofs.Math.Nat.{mul-add-mod_self_right}
-use Rattle.std.proofs.lemmas.Nat.{div-mul-add, mul-add-lt, mul-le}
+use Rattle.std.proofs.lemmas.Nat.{div-mul-add, mul-add-lt}
 use Rattle.std.proofs.lemmas.Bool.{and_parts, ltb-true, leb-true, false≢true}
 use Rattle.network.specs.declared.message.Node.{Node}
 use Rattle.network.specs.declared.message.Node.TheVariants.{Core, Bank, Dram}
@@ -10,13 +10,6 @@ use Rattle.machine_table.specs.declared.config.Config.{Config}
 use Rattle.seat_rule.specs.declared.views.SetUp.{SetUp}
 use Rattle.seat_rule.specs.Rule.{source, target, node_of, to_of}
 use Rattle.mailboxes.specs.Places.{has_link_to, link_to, incoming_count}
-
--- so many cores and banks have few slots
-pub few_slots : (cores banks : ℕ) → cores ≤ 64 → banks ≤ 8 → 8 * cores * banks ≤ 4096
-few_slots cores banks c b =
-    let all = mul_assoc 8 cores banks in
-    let p = mul-le cores banks 64 8 c b in
-    omega arith
 
 -- a link from a core to a bank, and one from a bank to a core, are among the links
 down_below : (cores banks c b : ℕ) → c < cores → b < banks → c * banks + b < cores * banks

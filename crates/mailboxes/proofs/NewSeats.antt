@@ -12,7 +12,7 @@ use Rattle.mailboxes.specs.BoxMoves.{Stands}
 use Rattle.mailboxes.specs.declared.core_seat.CoreSeat.{CoreSeat}
 use Rattle.mailboxes.specs.declared.bank_seat.BankSeat.{BankSeat}
 use Rattle.mailboxes.specs.Ties.{SlotSeat}
-use Rattle.mailboxes.specs.Sending.{no_outbox}
+use Rattle.closed_machine.specs.Sending.{no_outbox}
 use Rattle.mailboxes.specs.Seats.{IsNewCore, IsNewBank, AllNewCores, AllNewBanks}
 
 pub none_some : {A B : Type 0} {y : A} → None ≡ Some y → B

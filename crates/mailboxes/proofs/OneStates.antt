@@ -13,7 +13,7 @@ use Rattle.seat_rule.specs.declared.views.SetUp.{SetUp}
 use Rattle.seat_rule.specs.declared.views.Stage.TheVariants.{Idle}
 use Rattle.seat_rule.specs.declared.views.Hold.{Hold}
 use Rattle.seat_rule.specs.Rule.{slot_count}
-use Rattle.seat_rule.specs.Ended.{Agrees, AllIdle, Closes, lies}
+use Rattle.seat_rule.specs.Ended.{Agrees, AllIdle, Closes, FourAtMostLie, NoneTakenTwice, lies}
 use Rattle.mailboxes.specs.declared.machine.Machine.{Machine}
 use Rattle.mailboxes.specs.declared.mailbox.Mailbox.{Mailbox}
 use Rattle.mailboxes.specs.declared.core_seat.CoreSeat.{CoreSeat}
@@ -70,9 +70,9 @@ module _ (z : SetUp) (cores rest : List CoreSeat) (banks : List BankSeat) (first
       idle h.1.mail j (h.3 ∙ omega arith) (bank_known h.0 h.1 h.2))
 
   pub one_state : (count : ℕ) (slots : List (Option Message)) → HasCores cores z.config.cores →
-      HasBanks banks z.config.cores z.config.banks → (c : Closes z known count slots) →
-      OneState z cores banks c.log slots
-  one_state count slots a b c =
+      HasBanks banks z.config.cores z.config.banks → (c : Closes z known count slots) → NoneTakenTwice z c.seats →
+      FourAtMostLie z c.seats → OneState z cores banks c.log slots
+  one_state count slots a b c taken few_lie =
       record {
         seats = c.seats;
         phases = c.phases;
@@ -81,6 +81,8 @@ module _ (z : SetUp) (cores rest : List CoreSeat) (banks : List BankSeat) (first
         of_banks = λ i p e. held c.seats c.agrees p.mail (bank_known i p e);
         lying = λ k l. sliced slots k (lies (c.phases k)) (c.lying (all_idle a b) k l);
         home = c.home (all_idle a b);
+        taken = taken;
+        few_lie = few_lie;
       }
 
 -- the last of the cores' seats is apart from the others

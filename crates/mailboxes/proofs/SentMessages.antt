@@ -40,7 +40,7 @@ use Rattle.mailboxes.specs.Attempts.{Asks, to_read, to_write, asking}
 use Rattle.mailboxes.specs.CoreCalls.{sending_hold}
 use Rattle.mailboxes.specs.Evictions.{TakesOut}
 use Rattle.mailboxes.specs.Places.{AllLinked, has_link_to}
-use Rattle.mailboxes.specs.Sending.{OutboxState, sent_if, sent_out}
+use Rattle.closed_machine.specs.Sending.{OutboxState, sent_if, sent_out}
 use Rattle.mailboxes.specs.Stored.{stored_core}
 use Rattle.mailboxes.proofs.NewSeats.{get_snoc, none_some}
 use Rattle.mailboxes.proofs.JoinedSeats.{get_middle}

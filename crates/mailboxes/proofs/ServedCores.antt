@@ -30,22 +30,17 @@ use Rattle.seat_rule.specs.Rule.{bag_of_hold}
 use Rattle.seat_rule.specs.Found.{FindsHere}
 use Rattle.seat_rule.specs.SeatMoves.{SeatMove, core_gets, core_drops, sorts}
 use Rattle.seat_rule.specs.Serving.{counted_if}
+use Rattle.seat_rule.specs.Staying.{CoresStay}
 use Rattle.mailboxes.specs.declared.sending.SendingCore.{SendingCore}
 use Rattle.mailboxes.specs.CoreServing.{core_reacts, sending_core_table}
 use Rattle.mailboxes.specs.Places.{AllOwn, AllLinked, is_own}
-use Rattle.mailboxes.specs.Sending.{OutboxState, can_send_out, sent_if, sent_out}
+use Rattle.closed_machine.specs.Sending.{OutboxState, can_send_out, sent_if, sent_out}
 use Rattle.mailboxes.specs.Stored.{stored_core}
 use Rattle.mailboxes.proofs.BankAfter.{not-own, own-list, list-own}
 use Rattle.mailboxes.proofs.BankMoves.{bag-is}
 use Rattle.mailboxes.proofs.BankReactions.{weigh-append}
 use Rattle.mailboxes.proofs.NewSeats.{none_some}
 use Rattle.mailboxes.proofs.SentMessages.{linked_sent}
-
--- What is known of a core that holds or drops a message, and that it starts nothing
-pub record StayingCores : Type 0 where
-  pub held : (core after : CoreState) (m : Message) → core_table core m ≡ Some (does.Held, after) → after ≡ core
-  pub dropped : (core after : CoreState) (m : Message) → core_table core m ≡ Some (does.Dropped, after) → after ≡ core
-  pub started : (core after : CoreState) (m s : Message) → core_table core m ≡ Some (does.HeldAfter s, after) → ⊥
 
 -- What a core answers to a message
 
@@ -117,7 +112,7 @@ so_answered p (Some (does.Dropped, core)) holds drops starts =
 so_answered p (Some (does.Held, core)) holds drops starts = (λ i. record p { core = holds core refl i })
 so_answered p (Some (does.HeldAfter x, core)) holds drops starts = absurd (starts core x refl)
 
-module _ (stay : StayingCores) where
+module _ (stay : CoresStay) where
   answered : (p : SendingCore) (m : Message) (n : ℕ) (a : Answer Message) (q : SendingCore) →
       sending_core_table p m n ≡ (a, q) → SoAnswered p (core_table p.core m) a q
   answered p m n a q e =
@@ -186,7 +181,7 @@ sent_counts : (out new : OutboxState) (reply : Option Message) → new ≡ sent_
 sent_counts out new None is = ap (λ (o : OutboxState). o.counts) is
 sent_counts out new (Some m) is = ap (λ (o : OutboxState). o.counts) is
 
-module _ (stay : StayingCores) (z : SetUp) (id : ℕ) (a : Hold) (ops : List Op) (p q : SendingCore)
+module _ (stay : CoresStay) (z : SetUp) (id : ℕ) (a : Hold) (ops : List Op) (p q : SendingCore)
     (b c : InboxState Message) (below : id < z.config.cores) (core : a.core ≡ p.core) (issued : a.issued ≡ ops)
     (outbox : a.outbox ≡ p.outbox.messages) (counts : a.counts ≡ p.outbox.counts) (hand : a.hand ≡ b.hand)
     (held : a.held ≡ b.held) where
@@ -262,7 +257,7 @@ module _ (stay : StayingCores) (z : SetUp) (id : ℕ) (a : Hold) (ops : List Op)
   served_moves result cases (unchanged is same stays) =
       sorted stays (λ f w is. ap (λ (y : InboxState Message). w (messages_of y)) same)
 
-module _ (stay : StayingCores) (cores banks number : ℕ) (p q : SendingCore) (b c : InboxState Message) where
+module _ (stay : CoresStay) (cores banks number : ℕ) (p q : SendingCore) (b c : InboxState Message) where
   -- What came in is for the core still
 
   own_still : (xs : List Message) → AllOwn cores number b → SameMessages (messages_of c) xs →

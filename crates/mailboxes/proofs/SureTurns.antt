@@ -1,11 +1,11 @@
 -- A turn of a seat whose servings never answer a refusal never answers it either.
-use Rattle.std.proofs.Common.{◌≡◌, Bool, true, false, Result, Ok, Err, ap, sym, ◌∙◌, subst, refl}
+use Rattle.std.proofs.Common.{◌≡◌, Bool, true, false, Result, Ok, Err, ap, sym, ◌∙◌}
 use Rattle.machine_table.specs.declared.event.Refusal.{Refusal}
 use Rattle.inbox.specs.declared.answer.Served.{Served}
 use Rattle.mailboxes.specs.declared.taken.Take.{Take}
 use Rattle.mailboxes.specs.declared.taken.Take.TheVariants.{Taken, Nothing, HandFull}
 use Rattle.mailboxes.specs.declared.turning.Turn.{Turn}
-use Rattle.mailboxes.specs.Turns.{Ends, Follows, Goes, Rests, Turns, is_idle}
+use Rattle.mailboxes.specs.Turns.{Ends, Goes, Rests, Turns, is_idle}
 
 abbrev refusal_of : Refusal → Result Turn Refusal → Refusal
 refusal_of other (Ok turn) = other

@@ -5,12 +5,10 @@ use Rattle.std.specs.Prelude.{slice_get, remove}
 use Rattle.std.proofs.lemmas.List.{take_more}
 use Rattle.std.proofs.lemmas.Option.{get_or_from_slice_get, slice_get_within}
 use Rattle.network.specs.declared.message.Message.{Message}
-use Rattle.seat_rule.specs.declared.views.Hold.{Hold}
-use Rattle.seat_rule.specs.Plays.{SamePart, ones}
+use Rattle.seat_rule.specs.Plays.{ones}
 use Rattle.mailboxes.specs.declared.mailbox.Mailbox.{Mailbox}
 use Rattle.mailboxes.specs.Places.{link_to, found_full}
 use Rattle.mailboxes.specs.BoxMoves.{hold, Stays, SameIncoming, PutInto, PutNothing}
-use Rattle.mailboxes.proofs.Lemmas.{part_on, stays_on}
 
 incoming_on : (p q r : Mailbox) → SameIncoming p q → SameIncoming q r → SameIncoming p r
 incoming_on p q r s t =

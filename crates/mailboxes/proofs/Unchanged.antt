@@ -1,5 +1,5 @@
 -- A serving that changes nothing leaves what the seat holds as it was.
-use Rattle.std.proofs.Common.{◌≡◌, ℕ, Bool, true, false, Some, Result, refl, sym, ap, ◌∙◌, subst, true≢false}
+use Rattle.std.proofs.Common.{◌≡◌, ℕ, Bool, true, false, Result, refl, sym, ap, ◌∙◌, true≢false}
 use Rattle.std.proofs.Common.{List}
 use Rattle.std.specs.Prelude.{is_some}
 use Rattle.physiological_order.specs.declared.operation.Op.{Op}
@@ -9,7 +9,6 @@ use Rattle.inbox.specs.declared.answer.Refusal.{Refusal}
 use Rattle.inbox.specs.declared.answer.Served.{Served}
 use Rattle.inbox.specs.Inboxes.{InboxState}
 use Rattle.inbox.specs.Effects.{Effect, delivered, dropped, started, moved, unchanged}
-use Rattle.seat_rule.specs.declared.views.Hold.{Hold}
 use Rattle.mailboxes.specs.declared.mailbox.Mailbox.{Mailbox}
 use Rattle.mailboxes.specs.declared.sending.SendingBank.{SendingBank}
 use Rattle.mailboxes.specs.declared.sending.SendingCore.{SendingCore}

@@ -21,7 +21,7 @@ use Rattle.mailboxes.specs.declared.sending.SendingCore.{SendingCore}
 use Rattle.mailboxes.specs.declared.outcome.Outcome.{Outcome}
 use Rattle.mailboxes.specs.declared.outcome.Outcome.TheVariants.{Keeps, Exhausts, Requests, Completes as CompletesWith}
 use Rattle.mailboxes.specs.BoxMoves.{hold}
-use Rattle.mailboxes.specs.Sending.{OutboxState, can_send_out, sent_out}
+use Rattle.closed_machine.specs.Sending.{OutboxState, can_send_out, sent_out}
 use Rattle.mailboxes.specs.CoreCalls.{SameHold, sending_hold}
 
 -- the core's table completes the open operation, which has this place, and no operation is open then

@@ -14,7 +14,7 @@ use Rattle.llc_bank.specs.declared.entry.EvictError.TheVariants as evict_error
 use Rattle.llc_bank.specs.BankTable.{BankState, make_room, or_else, sent_to}
 use Rattle.machine_table.specs.declared.event.Refusal.{Refusal}
 use Rattle.machine_table.specs.declared.event.Refusal.TheVariants.{Busy, NoSuch, NetworkFull, Stopped}
-use Rattle.machine_moves.specs.Moves.{sent_by_eviction}
+use Rattle.seat_rule.specs.Moves.{sent_by_eviction}
 use Rattle.inbox.specs.Inboxes.{InboxState, inbox}
 use Rattle.inbox.specs.Serving.{Place, order_of, sent_list, served_of}
 use Rattle.mailboxes.specs.declared.bank_seat.BankSeat.{BankSeat}
@@ -26,7 +26,7 @@ use Rattle.mailboxes.specs.Ties.{BankTied}
 use Rattle.mailboxes.specs.declared.bank_evicting.Eviction.{Eviction}
 use Rattle.mailboxes.specs.declared.bank_evicting.Eviction.TheVariants.{Evicted, Recalled}
 use Rattle.mailboxes.specs.declared.sending.SendingBank.{SendingBank}
-use Rattle.mailboxes.specs.Sending.{OutboxState}
+use Rattle.closed_machine.specs.Sending.{OutboxState}
 use Rattle.mailboxes.specs.BankServing.{finds_places, posted, told, sending_bank_table}
 
 -- the seat keeps its number, and where its next look begins

@@ -13,7 +13,7 @@ use Rattle.inbox.specs.declared.answer.Answer.TheVariants.{Delivered, Dropped, S
 use Rattle.inbox.specs.declared.answer.Refusal.TheVariants.{Full, NoMemory, Exhausted}
 use Rattle.inbox.specs.Serving.{is_quiet}
 use Rattle.mailboxes.specs.declared.sending.SendingBank.{SendingBank}
-use Rattle.mailboxes.specs.Sending.{OutboxState, can_still_send, can_send_out, noted, sent_out}
+use Rattle.closed_machine.specs.Sending.{OutboxState, can_still_send, can_send_out, noted, sent_out}
 
 -- whether a message of the bank or its DRAM leaves the seat: it goes to a core
 abbrev pub leaves : Node → Bool

@@ -9,7 +9,7 @@ use Rattle.machine_table.specs.declared.event.Refusal.TheVariants.{Busy, TooMany
 use Rattle.seat_rule.specs.declared.views.Hold.{Hold}
 use Rattle.mailboxes.specs.declared.core_seat.CoreSeat.{CoreSeat}
 use Rattle.mailboxes.specs.BoxMoves.{hold}
-use Rattle.mailboxes.specs.Sending.{OutboxState}
+use Rattle.closed_machine.specs.Sending.{OutboxState}
 
 -- the core is now this one, and was issued these operations; all else is held as before
 abbrev pub core_hold : Hold → CoreState → List Op → Hold

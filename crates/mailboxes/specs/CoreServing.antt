@@ -13,7 +13,7 @@ use Rattle.mailboxes.specs.declared.mailbox.Mailbox.{Mailbox}
 use Rattle.mailboxes.specs.declared.sending.SendingCore.{SendingCore}
 use Rattle.mailboxes.specs.BoxMoves.{IsAt, Stands, hold}
 use Rattle.mailboxes.specs.Places.{AllLinked}
-use Rattle.mailboxes.specs.Sending.{can_send_out, sent_out}
+use Rattle.closed_machine.specs.Sending.{can_send_out, sent_out}
 use Rattle.mailboxes.specs.Ties.{CoreTied}
 
 -- that, with a message sent to the outbox, if it can be sent; else Full, and nothing changed

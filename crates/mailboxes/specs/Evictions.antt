@@ -8,7 +8,7 @@ use Rattle.core_pts.specs.CoreTable.{CoreState}
 use Rattle.machine_table.specs.declared.event.Refusal.{Refusal}
 use Rattle.machine_table.specs.declared.event.Refusal.TheVariants as refusal
 use Rattle.mailboxes.specs.declared.sending.SendingCore.{SendingCore}
-use Rattle.mailboxes.specs.Sending.{can_send_out, sent_if, sent_out}
+use Rattle.closed_machine.specs.Sending.{can_send_out, sent_if, sent_out}
 
 -- the copy is gone, and this is sent back, if the seat has a place for it and can still send
 abbrev pub sent_back_if_room : SendingCore → CoreState → Option Message → Result (Unit {0}) Refusal × SendingCore

@@ -7,12 +7,12 @@ use Rattle.seat_views.specs.declared.views.View.{View}
 use Rattle.seat_rule.specs.declared.views.SetUp.{SetUp}
 use Rattle.seat_rule.specs.declared.views.Hold.{Hold}
 use Rattle.seat_rule.specs.Rule.{Phase, slot_count}
-use Rattle.seat_rule.specs.Ended.{Whole, lies, IsNotOut}
+use Rattle.seat_rule.specs.Ended.{FourAtMostLie, IsNotOut, NoneTakenTwice, Whole, lies}
 use Rattle.mailboxes.specs.declared.mailbox.Mailbox.{Mailbox}
 use Rattle.mailboxes.specs.declared.core_seat.CoreSeat.{CoreSeat}
 use Rattle.mailboxes.specs.declared.bank_seat.BankSeat.{BankSeat}
-use Rattle.mailboxes.specs.declared.closed_machine.CorePart.{CorePart}
-use Rattle.mailboxes.specs.declared.closed_machine.BankPart.{BankPart}
+use Rattle.closed_machine.specs.declared.parts.CorePart.{CorePart}
+use Rattle.closed_machine.specs.declared.parts.BankPart.{BankPart}
 use Rattle.mailboxes.specs.BoxMoves.{hold}
 
 -- the values of a list, from the last to the first
@@ -20,7 +20,7 @@ abbrev pub backwards : {A B : Type 0} → (A → B) → List A → List B
 backwards f [] = []
 backwards f (x ∷ xs) = backwards f xs ++ f x ∷ []
 
--- what a core's seat stored, and what a bank's did
+-- what a core's seat stored, and whether it was stopped; and what a bank's did
 abbrev pub core_part : CoreSeat → CorePart
 core_part p =
     record {
@@ -30,6 +30,7 @@ core_part p =
       records = p.records;
       outbox = p.part.outbox;
       inbox = p.mail.inbox;
+      is_stopped = p.is_stopped;
     }
 
 abbrev pub bank_part : BankSeat → BankPart
@@ -40,6 +41,7 @@ bank_part p =
       dram = p.part.dram;
       outbox = p.part.outbox;
       inbox = p.mail.inbox;
+      is_stopped = p.is_stopped;
     }
 
 -- what is learned of a seat that is joined: its number and what it holds
@@ -64,7 +66,7 @@ abbrev pub BanksAt : TableId → List BankSeat → Type 0
 BanksAt t ps = (i : ℕ) (p : BankSeat) → slice_get ps i ≡ Some p → p.mail.seat.table_id ≡ t
 
 -- There is one reached and consistent state, with these records, of which what each given seat holds is the part, and
--- the messages in these slots are those in flight.
+-- the messages in these slots are those in flight. No link lost or doubled a message.
 pub record OneState (z : SetUp) (cores : List CoreSeat) (banks : List BankSeat) (log : List Record)
     (slots : List (Option Message)) : Type 0 where
   pub seats : ℕ → Hold
@@ -74,3 +76,5 @@ pub record OneState (z : SetUp) (cores : List CoreSeat) (banks : List BankSeat) 
   pub of_banks : (i : ℕ) (p : BankSeat) → slice_get banks i ≡ Some p → seats p.mail.number ≡ hold p.mail
   pub lying : (k : ℕ) → k < slot_count z → slice_get slots k ≡ Some (lies (phases k))
   pub home : (k : ℕ) → k < slot_count z → IsNotOut (phases k)
+  pub taken : NoneTakenTwice z seats
+  pub few_lie : FourAtMostLie z seats

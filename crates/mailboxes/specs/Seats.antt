@@ -6,7 +6,7 @@ use Rattle.mailboxes.specs.declared.machine.Machine.{Machine}
 use Rattle.mailboxes.specs.declared.core_seat.CoreSeat.{CoreSeat}
 use Rattle.mailboxes.specs.declared.bank_seat.BankSeat.{BankSeat}
 use Rattle.mailboxes.specs.Ties.{SlotSeat}
-use Rattle.mailboxes.specs.Sending.{OutboxState, no_outbox}
+use Rattle.closed_machine.specs.Sending.{OutboxState, no_outbox}
 use Rattle.mailboxes.specs.BoxMoves.{IsAt, Stands, hold}
 
 -- a seat at the machine's table of slots, which isn't joined to another

@@ -11,7 +11,7 @@ use Rattle.llc_bank.specs.BankTable.{BankState}
 use Rattle.seat_views.specs.declared.views.View.{View}
 use Rattle.seat_rule.specs.declared.views.Stage.TheVariants.{Idle}
 use Rattle.seat_rule.specs.declared.views.Hold.{Hold}
-use Rattle.mailboxes.specs.Sending.{OutboxState}
+use Rattle.closed_machine.specs.Sending.{OutboxState}
 
 abbrev pub SlotSeat : Type 0
 SlotSeat = Seat (Option Message) (View Hold)

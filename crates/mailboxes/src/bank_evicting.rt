@@ -10,8 +10,8 @@ ghost use Rattle.mailboxes.specs.BankCalls.{to_post};
 ghost use Rattle.mailboxes.specs.BankServing.{finds_places, posted, told};
 
 use crate::bank_serving::{finds_places, post};
-use crate::outbox::Outbox;
 use crate::sending::SendingBank;
+use closed_machine::Outbox;
 use inbox::Inbox;
 use llc_bank::{Evict, EvictError};
 use machine_table::Refusal;

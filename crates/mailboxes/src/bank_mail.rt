@@ -15,9 +15,9 @@ use crate::mailbox::Mailbox;
 use crate::sending::SendingBank;
 use inbox::Served;
 use inbox::laws::{memory_is_wanted_for_the_served, servings_do_one_of_five};
-use machine_moves::laws::waiting_banks_stay;
 use machine_table::Refusal;
 use network::{LineNo, Message};
+use seat_rule::move_laws::waiting_banks_stay;
 use seat_rule::parts::{messages_of_seats_find_their_parts, parts_of_seats_have_their_shape};
 
 impl Mailbox {

@@ -2,8 +2,8 @@
 use crate::bank_serving::react;
 use crate::sending::SendingBank;
 use inbox::{Answer, Receiver};
-use machine_moves::laws::waiting_banks_stay;
 use network::{Message, Node};
+use seat_rule::move_laws::waiting_banks_stay;
 
 impl Receiver<Message> for SendingBank {
     ghost use Rattle.mailboxes.specs.BankServing.{sending_bank_has_case, sending_bank_table};

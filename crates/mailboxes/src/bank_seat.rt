@@ -8,14 +8,14 @@ ghost use Rattle.machine_table.specs.SetUp.{is_good};
 ghost use Rattle.machine_table.specs.Opening.{dram_of};
 ghost use Rattle.seat_rule.specs.Rule.{opening_hold};
 ghost use Rattle.mailboxes.specs.Places.{AllLinked};
-ghost use Rattle.mailboxes.specs.Sending.{no_outbox};
+ghost use Rattle.closed_machine.specs.Sending.{no_outbox};
 ghost use Rattle.mailboxes.specs.Ties.{BankTied};
 
 use crate::machine::Machine;
 use crate::mailbox::Mailbox;
-use crate::outbox::Outbox;
 use crate::sending::SendingBank;
 use crate::steps::SlotSeat;
+use closed_machine::Outbox;
 use dram_mts::Dram;
 use inbox::Inbox;
 use llc_bank::{Bank, BankConfig};

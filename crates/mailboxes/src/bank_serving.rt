@@ -7,8 +7,8 @@ ghost use Rattle.inbox.specs.Serving.{is_quiet, needs};
 ghost use Rattle.mailboxes.specs.BankServing.{Reacts, reaction_answer, finds_places, leaves, places_for, posted};
 ghost use Rattle.mailboxes.specs.BankServing.{sent_for, told};
 
-use crate::outbox::Outbox;
 use crate::sending::SendingBank;
+use closed_machine::Outbox;
 use inbox::{Answer, Receiver, Refusal};
 use network::{Message, Node, Part, PartError, Reaction};
 

@@ -3,24 +3,22 @@ ghost use Rattle.std.specs.Prelude.{◌≡◌, ℕ, List, ◌+◌, ◌<◌, ◌�
 ghost use Rattle.std.specs.Mem.Slots.{IsFull, slots_items, slots_len};
 ghost use Rattle.physiological_order.specs.declared.operation.Record.{Record};
 ghost use Rattle.machine_table.specs.SetUp.{is_good};
-ghost use Rattle.mailboxes.specs.PartsOfState.{PartsOfState};
+ghost use Rattle.closed_machine.specs.PartsOfState.{PartsOfState};
 ghost use Rattle.mailboxes.specs.Places.{Belongs};
 ghost use Rattle.mailboxes.specs.Seats.{AllCoreSeats, AllBankSeats, AreAll};
 ghost use Rattle.mailboxes.specs.Remains.{backwards, core_part, bank_part, knows_all, core_entry};
 ghost use Rattle.mailboxes.specs.Remains.{bank_entry, CoresAt, BanksAt, OneState};
 
 use crate::bank_seat::BankSeat;
-use crate::closed_machine::{BankPart, ClosedMachine, CorePart};
 use crate::core_seat::CoreSeat;
 use crate::machine::Machine;
 use crate::mailbox::Mailbox;
-use crate::merging::merged;
-use crate::run::Run;
 use crate::sending::{SendingBank, SendingCore};
 use crate::steps::{SlotSeat, SlotTable, meet};
 use atomic_table::Closed;
+use closed_machine::{BankPart, ClosedMachine, CorePart, Run, merged};
 use network::{Body, Message};
-use seat_rule::laws::closed_machines_are_one_state;
+use seat_rule::laws::{closed_machines_are_one_state, links_lose_and_double_nothing};
 use std::alloc::{AllocError, Global};
 
 impl Machine {
@@ -79,6 +77,7 @@ impl Machine {
             OneState self.set_up cores.items banks.items log r.slots.items) }
     {
         closed_machines_are_one_state();
+        links_lose_and_double_nothing();
         let mut core_parts = Vec::with_capacity(alloc, cores.len())?;
         let mut bank_parts = Vec::with_capacity(alloc, banks.len())?;
         let mut slots = Vec::with_capacity(alloc, self.table.slot_count())?;
@@ -159,6 +158,7 @@ fn leave_core(port: CoreSeat, parts: &mut Vec<CorePart>) -> SlotSeat
         part,
         issued,
         records,
+        is_stopped,
         ..
     } = port;
     let Mailbox {
@@ -175,6 +175,7 @@ fn leave_core(port: CoreSeat, parts: &mut Vec<CorePart>) -> SlotSeat
         records,
         outbox,
         inbox,
+        is_stopped,
     });
     seat
 }
@@ -186,7 +187,12 @@ fn leave_bank(port: BankSeat, parts: &mut Vec<BankPart>) -> SlotSeat
     ensures part { parts.new.items ≡ parts.old.items ++ bank_part port ∷ [] }
     ensures room { vec_capacity parts.new ≡ vec_capacity parts.old }
 {
-    let BankSeat { mail, part, .. } = port;
+    let BankSeat {
+        mail,
+        part,
+        is_stopped,
+        ..
+    } = port;
     let Mailbox {
         seat,
         number,
@@ -200,6 +206,7 @@ fn leave_bank(port: BankSeat, parts: &mut Vec<BankPart>) -> SlotSeat
         dram,
         outbox,
         inbox,
+        is_stopped,
     });
     seat
 }

@@ -1,8 +1,8 @@
 //! A core, as what messages are delivered to.
 use crate::sending::SendingCore;
 use inbox::{Answer, Receiver, Refusal};
-use machine_moves::laws::waiting_cores_stay;
 use network::{Message, Part, PartError, Reaction};
+use seat_rule::move_laws::waiting_cores_stay;
 
 impl Receiver<Message> for SendingCore {
     ghost use Rattle.mailboxes.specs.CoreServing.{sending_core_has_case, sending_core_table};

@@ -4,14 +4,14 @@ ghost use Rattle.protocol.specs.Issued.{listed};
 ghost use Rattle.machine_table.specs.SetUp.{is_good};
 ghost use Rattle.seat_rule.specs.Rule.{opening_hold};
 ghost use Rattle.mailboxes.specs.Places.{AllLinked};
-ghost use Rattle.mailboxes.specs.Sending.{no_outbox};
+ghost use Rattle.closed_machine.specs.Sending.{no_outbox};
 ghost use Rattle.mailboxes.specs.Ties.{CoreTied};
 
 use crate::machine::Machine;
 use crate::mailbox::Mailbox;
-use crate::outbox::Outbox;
 use crate::sending::SendingCore;
 use crate::steps::SlotSeat;
+use closed_machine::Outbox;
 use core_pts::{Core, CoreConfig};
 use inbox::Inbox;
 use physiological_order::{Op, Record};

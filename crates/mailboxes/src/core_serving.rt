@@ -18,10 +18,10 @@ use crate::mailbox::Mailbox;
 use crate::sending::SendingCore;
 use inbox::Served;
 use inbox::laws::{memory_is_wanted_for_the_served, servings_do_one_of_five};
-use machine_moves::laws::waiting_cores_stay;
 use machine_table::Refusal;
 use network::Message;
 use physiological_order::Op;
+use seat_rule::move_laws::waiting_cores_stay;
 use seat_rule::parts::messages_of_seats_find_their_parts;
 
 impl Mailbox {

@@ -27,12 +27,6 @@ pub fn link_to(config: &Config, number: u32, to: &Node) -> usize
     }
 }
 
-/// A machine that is well set up has at most 4,096 slots.
-pub fn slots_are_few(config: &Config)
-    requires { is_good config.now ≡ true }
-    ensures { 8 * config.now.cores * config.now.banks ≤ 4096 }
-{}
-
 /// How many slots come in to a seat.
 pub fn incoming_count(config: &Config, number: u32) -> usize
     requires { is_good config.now ≡ true }

@@ -5,7 +5,7 @@ ghost use Rattle.machine_table.specs.SetUp.{is_good};
 ghost use Rattle.seat_rule.specs.declared.views.SetUp.{SetUp};
 ghost use Rattle.mailboxes.specs.Places.{AllFoundEmpty, AllFoundFull};
 ghost use Rattle.mailboxes.specs.Places.{found_empty, found_full, incoming_count};
-ghost use Rattle.mailboxes.specs.Sending.{OutboxState, can_still_send, can_send_out};
+ghost use Rattle.closed_machine.specs.Sending.{OutboxState, can_still_send, can_send_out};
 
 /// A seat that takes nothing has looked at each slot that comes in to it: the slots that it looks at, from the cursor
 /// on and going round, are all of them.

@@ -6,7 +6,6 @@ ghost use Rattle.mailboxes.specs.Seats.{AllNewCores, AllNewBanks, IsNewCore, Has
 
 use crate::bank_seat::BankSeat;
 use crate::core_seat::CoreSeat;
-use crate::ends::slots_are_few;
 use crate::machine::Machine;
 use crate::opened_dram::open_dram;
 use crate::steps::{SlotSeat, make};
@@ -14,7 +13,7 @@ use atomic_table::Table;
 use machine_table::{Config, OpenError};
 use physiological_order::{Memory, WordAddr};
 use seat_rule::SetUp;
-use seat_rule::laws::opened_machines_keep_the_rule;
+use seat_rule::laws::{opened_machines_keep_the_rule, slots_are_few};
 use seat_rule::parts::seats_stand;
 use std::alloc::{AllocError, Global};
 

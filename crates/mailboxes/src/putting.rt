@@ -6,7 +6,7 @@ ghost use Rattle.inbox.specs.Queues.{IsAfter, IsIn, values_of};
 ghost use Rattle.mailboxes.specs.Places.{AllLinked, StartsAt, link_to};
 ghost use Rattle.mailboxes.specs.BoxMoves.{IsAt, Stands, Stays, PutAt, Puts, hold};
 
-use crate::ends::{link_to, slots_are_few};
+use crate::ends::link_to;
 use crate::links::find_free;
 use crate::machine::Machine;
 use crate::mailbox::Mailbox;
@@ -14,6 +14,7 @@ use crate::steps::send;
 use inbox::Queue;
 use line_arena::Cell;
 use network::Message;
+use seat_rule::laws::slots_are_few;
 use seat_rule::parts::seats_stand;
 
 impl Mailbox {

@@ -17,7 +17,7 @@ impl CoreSeat {
         ensures put { Puts result self.old.mail self.old.part.outbox.messages self.new.mail
             self.new.part.outbox.messages }
     {
-        self.mail.put(machine, &mut self.part.outbox.queue)
+        self.mail.put(machine, self.part.outbox.queue())
     }
 
     /// Takes the first message that came in, from the cursor on and going round, into the empty hand.
@@ -41,7 +41,7 @@ impl BankSeat {
         ensures put { Puts result self.old.mail self.old.part.outbox.messages self.new.mail
             self.new.part.outbox.messages }
     {
-        self.mail.put(machine, &mut self.part.outbox.queue)
+        self.mail.put(machine, self.part.outbox.queue())
     }
 
     /// Takes the first message that came in, from the cursor on and going round, into the empty hand.

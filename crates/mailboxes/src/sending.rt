@@ -1,5 +1,5 @@
 //! What messages are delivered to at a seat, each part with what it sends by.
-use crate::outbox::Outbox;
+use closed_machine::Outbox;
 use core_pts::Core;
 use dram_mts::Dram;
 use llc_bank::Bank;

@@ -1,6 +1,6 @@
 //! A machine of seats, from its opening to what is asked behind its close.
 ghost use Rattle.std.specs.Prelude.{IfOk};
-ghost use Rattle.mailboxes.specs.RunParts.{Parts};
+ghost use Rattle.closed_machine.specs.RunParts.{Parts};
 ghost use Rattle.mailboxes.specs.Seats.{AllBankSeats, AllCoreSeats};
 
 use crate::calls::Call;

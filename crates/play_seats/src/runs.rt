@@ -1,5 +1,5 @@
 //! What is looked up of a machine that was closed.
-ghost use Rattle.mailboxes.specs.RunParts.{Parts};
+ghost use Rattle.closed_machine.specs.RunParts.{Parts};
 
 use crate::answers::NO_SEAT;
 use crate::calls::{BankLook, Call, CoreLook, RunLook};

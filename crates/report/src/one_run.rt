@@ -2,7 +2,7 @@
 ghost use Rattle.std.specs.Prelude.{◌≡◌, ◌<◌, ◌≤◌, true, IfOk, None, Some};
 ghost use Rattle.machine_table.specs.Machine.{Machine};
 ghost use Rattle.machine_table.specs.SetUp.{is_good};
-ghost use Rattle.mailboxes.specs.RunParts.{Parts};
+ghost use Rattle.closed_machine.specs.RunParts.{Parts};
 ghost use Rattle.physiological_order.specs.StaleHits.{RisesByNumber};
 ghost use Rattle.trace_texts.specs.Records.{AreComplete, records_text};
 ghost use Rattle.thread_driver.specs.ThreadRuns.{machine_of};

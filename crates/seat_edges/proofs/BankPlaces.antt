@@ -19,7 +19,7 @@ use Rattle.inbox.specs.Serving.{finds_no_place, fitted}
 use Rattle.mailboxes.specs.declared.sending.SendingBank.{SendingBank}
 use Rattle.seat_edges.specs.BankPlaceLaws.{IsRequest, Lacks, LoadsWantTwoHeld, asked, load, to_own, to_read}
 use Rattle.mailboxes.specs.BankServing.{reacts, replied, sending_bank_table, sending_bank_takes_memory}
-use Rattle.mailboxes.specs.Sending.{OutboxState, can_still_send}
+use Rattle.closed_machine.specs.Sending.{OutboxState, can_still_send}
 use Rattle.seat_edges.proofs.StayingHands.{stays}
 
 loads : (bank : BankState) (core n line : ℕ) (body : Body) → IsRequest body → Lacks bank line →

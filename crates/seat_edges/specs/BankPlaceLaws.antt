@@ -21,7 +21,7 @@ use Rattle.mailboxes.specs.declared.sending.SendingBank.{SendingBank}
 use Rattle.mailboxes.specs.BankCalls.{bank_evict_answer}
 use Rattle.mailboxes.specs.BankServing.{sending_bank_table, sending_bank_takes_memory}
 use Rattle.mailboxes.specs.SeatServing.{SeatServes}
-use Rattle.mailboxes.specs.Sending.{OutboxState}
+use Rattle.closed_machine.specs.Sending.{OutboxState}
 use Rattle.seat_edges.specs.PlaceLaws.{CanNumber, GoesOut, HasPlace, IsFull, IsOnly, LacksPlace, StaysIn}
 
 -- a bank's seat that isn't stopped serves

@@ -20,7 +20,7 @@ use Rattle.mailboxes.specs.declared.sending.SendingCore.{SendingCore}
 use Rattle.mailboxes.specs.CoreServing.{sending_core_table, sending_core_takes_memory}
 use Rattle.mailboxes.specs.Evictions as copies
 use Rattle.mailboxes.specs.SeatServing.{SeatServes}
-use Rattle.mailboxes.specs.Sending.{OutboxState}
+use Rattle.closed_machine.specs.Sending.{OutboxState}
 
 -- 256 messages are to be put
 abbrev pub IsFull : OutboxState → Type 0

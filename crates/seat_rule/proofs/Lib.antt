@@ -1,13 +1,26 @@
+pub mod Lemmas
+mod Bags
 mod Closings
-mod CountSums
 mod CountSteps
+mod CountSums
+mod EventMoves
 mod Frames
+mod Histories
+mod InitialStates
+mod Lists
+mod MoveEvents
 mod Openings
+mod Ownership
 mod OwnerSums
+mod PartChanges
 mod Phases
+mod ReachedParts
+mod ReachedStates
+mod Reactions
 mod SeatMoves
 mod Seats
 mod SetUps
 mod SlotSteps
+mod StayingParts
 mod Weights
-pub mod Lemmas
+mod Witnesses

@@ -3,7 +3,7 @@ use Rattle.std.proofs.Common.{◌≡◌, ℕ, zero, suc, ◌+◌, List, refl, ar
 use Rattle.physiological_order.specs.declared.operation.Record.{Record}
 use Rattle.private_cache.specs.CopyTable.{copy_of}
 use Rattle.machine_theorem.specs.Coherence.{owner_in}
-use Rattle.machine_moves.specs.Ownership.{owners, ownership_in, sum_first}
+use Rattle.seat_rule.specs.Ownership.{owners, ownership_in, sum_first}
 use Rattle.seat_views.specs.Seated.{over}
 use Rattle.seat_rule.specs.declared.views.SetUp.{SetUp}
 use Rattle.seat_rule.specs.declared.views.Hold.{Hold}

@@ -13,11 +13,11 @@ use Rattle.llc_bank.specs.BankTable as bank_table
 use Rattle.dram_mts.specs.Table.{dram_table, dram_has_case}
 use Rattle.machine_table.specs.Change.{record_of}
 use Rattle.machine_theorem.specs.Bags.{SameBag}
-use Rattle.machine_moves.specs.States as moves
-use Rattle.machine_moves.specs.States.{with_at, Same}
-use Rattle.machine_moves.specs.Moves as move
-use Rattle.machine_moves.specs.Moves.{Move, Reached, goes_on, same, with_answer, with_core, with_bank, with_dram}
-use Rattle.machine_moves.specs.Moves.{sent_by_eviction}
+use Rattle.seat_rule.specs.States as moves
+use Rattle.seat_rule.specs.States.{with_at, Same}
+use Rattle.seat_rule.specs.Moves as move
+use Rattle.seat_rule.specs.Moves.{Move, Reached, goes_on, same, with_answer, with_core, with_bank, with_dram}
+use Rattle.seat_rule.specs.Moves.{sent_by_eviction}
 use Rattle.seat_views.specs.Seated.{with_value_at}
 use Rattle.seat_views.proofs.Lemmas.{put_here, put_else, at_put}
 use Rattle.seat_rule.specs.declared.views.SetUp.{SetUp}

@@ -1,6 +1,7 @@
 -- A machine that is well set up has few seats and few slots.
-use Rattle.std.proofs.Common.{◌≡◌, ℕ, ◌≤◌, Bool, true, false, ◌&&◌, ◌||◌, eqb, refl}
+use Rattle.std.proofs.Common.{◌≡◌, ℕ, ◌*◌, ◌≤◌, Bool, true, false, ◌&&◌, ◌||◌, eqb, refl, arith, mul_assoc}
 use Rattle.std.proofs.Common.{leb, leb-true}
+use Rattle.std.proofs.lemmas.Nat.{mul-le}
 use Rattle.machine_table.specs.declared.config.Config.{Config}
 use Rattle.machine_table.specs.SetUp.{is_within, is_good}
 
@@ -32,3 +33,10 @@ few_parts c good =
     let some = within c.cores 64 (first_of cores banks both) in
     let few = within c.banks 8 (second_of cores banks both) in
     (some.0, some.1, few.0, few.1)
+
+-- so many cores and banks have few slots
+pub few_slots : (cores banks : ℕ) → cores ≤ 64 → banks ≤ 8 → 8 * cores * banks ≤ 4096
+few_slots cores banks c b =
+    let all = mul_assoc 8 cores banks in
+    let p = mul-le cores banks 64 8 c b in
+    omega arith

@@ -1,5 +1,5 @@
 -- What is known of a closed machine: of its seats, its slots and all records.
-use Rattle.std.specs.Prelude.{◌≡◌, ℕ, ◌+◌, ◌/◌, ◌==◌, ◌<◌, List, length, Option, Some, None, if◌then◌else◌}
+use Rattle.std.specs.Prelude.{◌≡◌, ℕ, ◌+◌, ◌/◌, ◌==◌, ◌<◌, ◌≤◌, List, length, Option, Some, None, if◌then◌else◌}
 use Rattle.std.specs.Prelude.{option_to_list}
 use mathlib.Core.Option.{some}
 use lib.ListN.{get_elem?}
@@ -9,8 +9,8 @@ use Rattle.network.specs.declared.message.Message.{Message}
 use Rattle.private_cache.specs.CopyTable.{copy_of}
 use Rattle.machine_theorem.specs.Bags.{weigh}
 use Rattle.machine_theorem.specs.Coherence.{owner_in}
-use Rattle.machine_moves.specs.Consistent.{Consistent}
-use Rattle.machine_moves.specs.Ownership.{ownership_in}
+use Rattle.seat_rule.specs.Consistent.{Consistent}
+use Rattle.seat_rule.specs.Ownership.{ownership_in}
 use Rattle.seat_views.specs.Seated.{over}
 use Rattle.seat_rule.specs.declared.views.SetUp.{SetUp}
 use Rattle.seat_rule.specs.declared.views.Stage.TheVariants.{Idle}
@@ -35,6 +35,20 @@ pub record Whole (z : SetUp) (seats : ℕ → Hold) (phases : ℕ → Phase) (lo
 -- how many messages of a list of slots and messages are of a link
 abbrev pub on_link : ℕ → List (ℕ × Message) → ℕ
 on_link link = weigh_links (λ l m. if l == link then 1 else 0)
+
+-- on each link no message was taken more often than it was put, whatever each message weighs
+abbrev pub NoneTakenTwice : SetUp → (ℕ → Hold) → Type 0
+NoneTakenTwice z seats =
+    (weight : ℕ → Message → ℕ) →
+    over (seat_count z) (λ j. weigh_links weight (seats j).taken)
+    ≤ over (seat_count z) (λ j. weigh_links weight (seats j).put)
+
+-- and on each link at most four more messages were put than taken
+abbrev pub FourAtMostLie : SetUp → (ℕ → Hold) → Type 0
+FourAtMostLie z seats =
+    (link : ℕ) →
+    over (seat_count z) (λ j. on_link link (seats j).put)
+    ≤ over (seat_count z) (λ j. on_link link (seats j).taken) + 4
 
 -- what lies in a slot that no seat has taken out
 abbrev pub lies : Phase → Option Message

@@ -14,7 +14,7 @@ use Rattle.llc_bank.specs.declared.entry.Evict.{Evict}
 use Rattle.llc_bank.specs.BankTable as bank_table
 use Rattle.dram_mts.specs.Table.{dram_table, dram_has_case}
 use Rattle.machine_theorem.specs.Bags.{SameBag}
-use Rattle.machine_moves.specs.Moves.{sent_by_eviction}
+use Rattle.seat_rule.specs.Moves.{sent_by_eviction}
 use Rattle.seat_rule.specs.declared.views.SetUp.{SetUp}
 use Rattle.seat_rule.specs.declared.views.Hold.{Hold}
 use Rattle.seat_rule.specs.Rule.{bag_of_hold}

@@ -1,5 +1,5 @@
 //! Each step of a seat keeps the rule, and a machine whose seats are joined is one reached state.
-ghost use Rattle.std.specs.Prelude.{◌≡◌, ℕ, ◌+◌, ◌%◌, ◌^◌, ◌<◌, ◌≤◌, true, false, List, []};
+ghost use Rattle.std.specs.Prelude.{◌≡◌, ℕ, ◌+◌, ◌*◌, ◌%◌, ◌^◌, ◌<◌, ◌≤◌, true, false, List, []};
 ghost use Rattle.std.specs.Prelude.{◌∷◌, replicate, Option, Some, None, slice_get};
 ghost use mathlib.Core.Option.{none, some};
 ghost use lib.ListN.{get_elem?};
@@ -11,9 +11,9 @@ ghost use Rattle.core_pts.specs.declared.attempt.Attempt.TheVariants.{Completed}
 ghost use Rattle.core_pts.specs.CoreTable as core_table;
 ghost use Rattle.core_pts.specs.CoreTable.{CoreState};
 ghost use Rattle.machine_table.specs.SetUp.{is_good};
-ghost use Rattle.machine_moves.specs.Ownership.{owners};
+ghost use Rattle.seat_rule.specs.Ownership.{owners};
 ghost use Rattle.seat_views.specs.declared.views.View.{View};
-ghost use Rattle.seat_views.specs.Seated.{over, first_view, seat_view, one_more, knows, spent_view};
+ghost use Rattle.seat_views.specs.Seated.{first_view, seat_view, one_more, knows, spent_view};
 ghost use Rattle.seat_views.specs.Seated.{with_hold};
 ghost use Rattle.seat_rule.specs.declared.views.SetUp.{SetUp};
 ghost use Rattle.seat_rule.specs.declared.views.Stage.TheVariants.{Idle, Writing, Reading};
@@ -21,16 +21,16 @@ ghost use Rattle.seat_rule.specs.declared.views.Hold.{Hold};
 ghost use Rattle.seat_rule.specs.StateLaws.{StateLaws};
 ghost use Rattle.seat_rule.specs.Rule.{Holds, Phase, Changes, seat_count, slot_count};
 ghost use Rattle.seat_rule.specs.Rule.{from_of, to_of, node_of, opening_hold, no_hold};
-ghost use Rattle.seat_rule.specs.Rule.{weigh_links};
 ghost use Rattle.seat_rule.specs.Plays.{SeatState, saw_out, saw_in, gave, Serves, stood, finished};
 ghost use Rattle.seat_rule.specs.Plays.{put_hold, take_hold};
 ghost use Rattle.seat_rule.specs.Rule.{in_flight, state_of};
-ghost use Rattle.seat_rule.specs.Ended.{Whole, Closes, on_link, owners_by_place};
+ghost use Rattle.seat_rule.specs.Ended.{Whole, Closes, FourAtMostLie, NoneTakenTwice, owners_by_place};
 
-use machine_moves::laws::{
+use crate::move_laws::{
     initial_states_are_reached, messages_find_their_parts, places_count_records,
     reached_parts_have_their_shape, reached_states_are_consistent, records_are_in_order,
 };
+use machine_table::Config;
 
 /// What is known of every reached state, in one record.
 pub(crate) fn laws_of_states()
@@ -48,6 +48,12 @@ pub(crate) fn laws_of_states()
 pub fn seats_are_few()
     ensures { (z : SetUp) → is_good z.config ≡ true →
         (1 < seat_count z) × (seat_count z ≤ 72) }
+{}
+
+/// A machine that is well set up has at most 4,096 slots.
+pub fn slots_are_few(config: &Config)
+    requires { is_good config.now ≡ true }
+    ensures { 8 * config.now.cores * config.now.banks ≤ 4096 }
 {}
 
 /// A machine as it opens keeps the rule: all words are 0, all slots are at home and empty, and there is one seat.
@@ -152,11 +158,7 @@ pub fn owners_are_added_up()
 /// four more messages were put than taken.
 pub fn links_lose_and_double_nothing()
     ensures taken { (z : SetUp) (seats : ℕ → Hold) (phases : ℕ → Phase) (log : List Record) →
-        Whole z seats phases log → (weight : ℕ → Message → ℕ) →
-        over (seat_count z) (λ j. weigh_links weight (seats j).taken) ≤
-        over (seat_count z) (λ j. weigh_links weight (seats j).put) }
+        Whole z seats phases log → NoneTakenTwice z seats }
     ensures lying { (z : SetUp) (seats : ℕ → Hold) (phases : ℕ → Phase) (log : List Record) →
-        Whole z seats phases log → (link : ℕ) →
-        over (seat_count z) (λ j. on_link link (seats j).put) ≤
-        over (seat_count z) (λ j. on_link link (seats j).taken) + 4 }
+        Whole z seats phases log → FourAtMostLie z seats }
 {}

@@ -1,8 +1,9 @@
-//! The rule that the seats of a shared machine keep, with its laws: each step keeps it, and what all seats hold is
-//! together one state that moves reach.
+//! The moves of a machine's state, and the rule of its seats: what all seats hold is together one state that moves
+//! reach.
 #![tactic(auto)]
 
 pub mod laws;
+pub mod move_laws;
 pub mod parts;
 pub mod views;
 

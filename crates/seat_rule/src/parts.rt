@@ -1,6 +1,5 @@
 //! What is known of the part and of the messages of a seat, and what changes of them are.
-ghost use Rattle.std.specs.Prelude.{◌≡◌, ℕ, ◌+◌, ◌<◌, true, List, ◌∷◌, length, Some, slice_get};
-ghost use Rattle.network.specs.declared.message.Message.{Message};
+ghost use Rattle.std.specs.Prelude.{◌≡◌, ℕ, ◌+◌, ◌<◌, true, length};
 ghost use Rattle.protocol.specs.Issued.{IsIssued, listed};
 ghost use Rattle.machine_table.specs.SetUp.{is_good};
 ghost use Rattle.machine_theorem.specs.Bags.{SameBag};
@@ -10,7 +9,7 @@ ghost use Rattle.seat_rule.specs.declared.views.Hold.{Hold};
 ghost use Rattle.seat_rule.specs.Rule.{Changes, bag_of_hold, opening_hold};
 ghost use Rattle.seat_rule.specs.Plays.{SamePart, Standing};
 ghost use Rattle.seat_rule.specs.SeatMoves.{SeatMove};
-ghost use Rattle.seat_rule.specs.Found.{FindsHere};
+ghost use Rattle.seat_rule.specs.Found.{MessagesFindParts};
 
 use crate::laws::laws_of_states;
 
@@ -58,17 +57,7 @@ pub fn records_of_seats_are_counted()
 /// Each message of a seat, wherever it is, goes between nodes of its kind, and if it goes to the seat's own part, this
 /// has a case for it.
 pub fn messages_of_seats_find_their_parts()
-    ensures any { (z : SetUp) (n id : ℕ) (a : Hold) → is_good z.config ≡ true →
-        Standing z n id a → (m : Message) (others : List Message) →
-        SameBag (bag_of_hold a) (m ∷ others) → FindsHere z id a m }
-    ensures outbox { (z : SetUp) (n id : ℕ) (a : Hold) → is_good z.config ≡ true →
-        Standing z n id a → (i : ℕ) (m : Message) → slice_get a.outbox i ≡ Some m →
-        FindsHere z id a m }
-    ensures hand { (z : SetUp) (n id : ℕ) (a : Hold) → is_good z.config ≡ true →
-        Standing z n id a → (m : Message) → a.hand ≡ Some m → FindsHere z id a m }
-    ensures held { (z : SetUp) (n id : ℕ) (a : Hold) → is_good z.config ≡ true →
-        Standing z n id a → (i : ℕ) (m : Message) → slice_get a.held i ≡ Some m →
-        FindsHere z id a m }
+    ensures { MessagesFindParts }
 {
     laws_of_states();
 }

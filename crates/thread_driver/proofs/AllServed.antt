@@ -16,9 +16,9 @@ use Rattle.machine_theorem.specs.Service.{AreServed}
 use Rattle.programs.specs.Performs.{Told}
 use Rattle.mailboxes.specs.declared.machine.Machine.{Machine}
 use Rattle.mailboxes.specs.declared.core_seat.CoreSeat.{CoreSeat}
-use Rattle.mailboxes.specs.declared.run.Run.{Run}
+use Rattle.closed_machine.specs.declared.run.Run.{Run}
 use Rattle.mailboxes.specs.Remains.{core_part}
-use Rattle.mailboxes.specs.RunParts.{Parts}
+use Rattle.closed_machine.specs.RunParts.{Parts}
 use Rattle.mailboxes.specs.Seats.{AllNewCores}
 use Rattle.thread_driver.specs.Shifts as shifts
 use Rattle.thread_driver.specs.ThreadRuns.{machine_of}

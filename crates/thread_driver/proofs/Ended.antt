@@ -7,9 +7,9 @@ use Rattle.programs.specs.Acts.{Acts, next_of}
 use Rattle.mailboxes.specs.declared.machine.Machine.{Machine}
 use Rattle.mailboxes.specs.declared.core_seat.CoreSeat.{CoreSeat}
 use Rattle.mailboxes.specs.declared.bank_seat.BankSeat.{BankSeat}
-use Rattle.mailboxes.specs.declared.run.Run.{Run}
+use Rattle.closed_machine.specs.declared.run.Run.{Run}
 use Rattle.mailboxes.specs.Remains.{core_part}
-use Rattle.mailboxes.specs.RunParts.{Parts}
+use Rattle.closed_machine.specs.RunParts.{Parts}
 use Rattle.thread_driver.specs.Shifts.{AreCoresInOrder, AreOver, Ran, RefusedAtOnce}
 use Rattle.thread_driver.specs.ThreadRuns.{IsOver, machine_of}
 use Rattle.thread_driver.proofs.Seats.{none_left, none_open}

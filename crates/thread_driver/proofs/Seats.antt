@@ -8,10 +8,10 @@ use Rattle.seat_rule.specs.declared.views.Hold.{Hold}
 use Rattle.machine_table.specs.Machine.{operation_of, open_op, open_op_of}
 use Rattle.mailboxes.specs.declared.machine.Machine.{Machine}
 use Rattle.mailboxes.specs.declared.core_seat.CoreSeat.{CoreSeat}
-use Rattle.mailboxes.specs.declared.run.Run.{Run}
-use Rattle.mailboxes.specs.PartsOfState.{IsCoreOf}
+use Rattle.closed_machine.specs.declared.run.Run.{Run}
+use Rattle.closed_machine.specs.PartsOfState.{IsCoreOf}
 use Rattle.mailboxes.specs.Remains.{core_part}
-use Rattle.mailboxes.specs.RunParts.{Parts}
+use Rattle.closed_machine.specs.RunParts.{Parts}
 use Rattle.mailboxes.specs.Seats.{IsNewCore}
 use Rattle.thread_driver.specs.ThreadRuns.{machine_of}
 use Rattle.thread_driver.proofs.Numbered.{first_at}

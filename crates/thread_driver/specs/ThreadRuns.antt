@@ -2,8 +2,8 @@
 use Rattle.std.specs.Prelude.{◌≡◌, ◌≢◌, ◌⊎◌, ℕ, ◌<◌, true, false, List, map, Some, None, slice_get}
 use Rattle.machine_table.specs.Machine.{Machine, open_op}
 use Rattle.machine_table.specs.Opening.{at_start}
-use Rattle.machine_moves.specs.Moves.{Reached}
-use Rattle.machine_moves.specs.States.{State, numbered}
+use Rattle.seat_rule.specs.Moves.{Reached}
+use Rattle.seat_rule.specs.States.{State, numbered}
 use Rattle.programs.specs.declared.ends.End.{End}
 use Rattle.programs.specs.declared.ends.End.TheVariants as end
 use Rattle.programs.specs.Acts.{Acts, next_in}
@@ -11,9 +11,9 @@ use Rattle.machine_theorem.specs.Service.{AreServed}
 use Rattle.mailboxes.specs.declared.machine.Machine as shared
 use Rattle.mailboxes.specs.declared.core_seat.CoreSeat.{CoreSeat}
 use Rattle.mailboxes.specs.declared.bank_seat.BankSeat.{BankSeat}
-use Rattle.mailboxes.specs.declared.run.Run.{Run}
+use Rattle.closed_machine.specs.declared.run.Run.{Run}
 use Rattle.mailboxes.specs.Remains.{core_part, bank_part}
-use Rattle.mailboxes.specs.RunParts.{Parts, state_of_run}
+use Rattle.closed_machine.specs.RunParts.{Parts, state_of_run}
 use Rattle.thread_driver.specs.Shifts.{AreBanksInOrder, AreCoresInOrder}
 
 -- the machine that a closed one shows: its parts by number, and the messages in flight with numbers

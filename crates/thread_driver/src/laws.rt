@@ -5,14 +5,14 @@ ghost use Rattle.machine_theorem.specs.Consistency.{IsConsistent};
 ghost use Rattle.mailboxes.specs.declared.machine.Machine.{Machine};
 ghost use Rattle.mailboxes.specs.declared.core_seat.CoreSeat.{CoreSeat};
 ghost use Rattle.mailboxes.specs.declared.bank_seat.BankSeat.{BankSeat};
-ghost use Rattle.mailboxes.specs.declared.run.Run.{Run};
-ghost use Rattle.mailboxes.specs.RunParts.{Parts, state_of_run};
+ghost use Rattle.closed_machine.specs.declared.run.Run.{Run};
+ghost use Rattle.closed_machine.specs.RunParts.{Parts, state_of_run};
 ghost use Rattle.mailboxes.specs.Seats.{AllNewBanks, AllNewCores};
 ghost use Rattle.thread_driver.specs.Shifts.{AreBanksInOrder, AreCoresInOrder, NoneOpen};
 ghost use Rattle.thread_driver.specs.ThreadRuns.{machine_of};
 
-use machine_moves::laws::reached_states_have_the_invariant;
 use machine_theorem::laws::machines_with_the_invariant_are_consistent;
+use seat_rule::move_laws::reached_states_have_the_invariant;
 
 /// The seats of a machine that has just opened are in order, and no core has an open operation: so they can be driven.
 pub fn new_seats_can_be_driven()

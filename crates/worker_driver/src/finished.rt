@@ -76,7 +76,7 @@ impl Finished for System {
 impl Finished for Run {
     ghost use Rattle.std.specs.Prelude.{◌≡◌};
     ghost use Rattle.machine_table.specs.Machine.{Machine};
-    ghost use Rattle.mailboxes.specs.RunParts.{Parts};
+    ghost use Rattle.closed_machine.specs.RunParts.{Parts};
     ghost use Rattle.thread_driver.specs.ThreadRuns.{machine_of};
 
     ghost shows = { λ run m. (parts : Parts run) × (machine_of run parts ≡ m) };

@@ -1,7 +1,7 @@
 use Rattle.std.proofs.Common.{List, length, refl, sym, ap, ◌∙◌, arith}
 use Rattle.std.proofs.lemmas.Option.{slice_get_read, slice_get_within}
 use Rattle.mailboxes.specs.declared.bank_seat.BankSeat.{BankSeat}
-use Rattle.mailboxes.proofs.JoinedSeats.{not_so_far}
+use Rattle.closed_machine.proofs.Lemmas.{not_so_far}
 use Rattle.mailboxes.proofs.whole.has_bank.Goals as goal
 
 pub returns-then-seats-i-clause-there : goal.returns-then-seats-i-clause-there

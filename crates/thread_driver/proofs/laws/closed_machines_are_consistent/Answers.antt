@@ -1,6 +1,6 @@
 use Rattle.thread_driver.specs.ThreadRuns.{machine_of}
 use Rattle.thread_driver.proofs.laws.closed_machines_are_consistent.Goals as goal
-use Rattle.mailboxes.specs.RunParts.{state_of_run}
+use Rattle.closed_machine.specs.RunParts.{state_of_run}
 
 pub returns : goal.returns
 returns c = λ run parts.

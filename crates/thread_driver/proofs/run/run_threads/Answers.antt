@@ -1,8 +1,8 @@
 use Rattle.std.proofs.Common.{◌≡◌, refl, sym, ap, subst, length, ◌∙◌}
 use Rattle.machine_table.specs.declared.config.Config.{Config}
 use Rattle.seat_rule.specs.declared.views.SetUp.{SetUp}
-use Rattle.mailboxes.specs.PartsOfState.{PartsOfState}
-use Rattle.mailboxes.specs.RunParts.{state_of_run}
+use Rattle.closed_machine.specs.PartsOfState.{PartsOfState}
+use Rattle.closed_machine.specs.RunParts.{state_of_run}
 use Rattle.mailboxes.specs.Seats.{AllNewBanks}
 use Rattle.thread_driver.proofs.Ended.{done_is_over, never_stalled, over_is_done}
 use Rattle.thread_driver.proofs.AllServed.{all_served}

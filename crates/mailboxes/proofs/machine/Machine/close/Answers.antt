@@ -1,7 +1,7 @@
 use Rattle.std.proofs.Common.{List, refl, sym, subst}
 use Rattle.physiological_order.specs.declared.operation.Record.{Record}
 use Rattle.mailboxes.specs.Remains.{OneState}
-use Rattle.mailboxes.specs.PartsOfState.{PartsOfState}
+use Rattle.closed_machine.specs.PartsOfState.{PartsOfState}
 use Rattle.mailboxes.proofs.ClosedParts.{left_parts}
 use Rattle.mailboxes.proofs.machine.Machine.close.Goals as goal
 

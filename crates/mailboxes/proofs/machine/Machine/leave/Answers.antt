@@ -12,8 +12,8 @@ use Rattle.seat_rule.specs.declared.views.Hold.{Hold}
 use Rattle.seat_rule.specs.Rule.{Holds, slot_count}
 use Rattle.mailboxes.specs.declared.core_seat.CoreSeat.{CoreSeat}
 use Rattle.mailboxes.specs.declared.bank_seat.BankSeat.{BankSeat}
-use Rattle.mailboxes.specs.declared.closed_machine.BankPart.{BankPart}
-use Rattle.mailboxes.specs.declared.closed_machine.CorePart.{CorePart}
+use Rattle.closed_machine.specs.declared.parts.BankPart.{BankPart}
+use Rattle.closed_machine.specs.declared.parts.CorePart.{CorePart}
 use Rattle.mailboxes.specs.Remains.{backwards, core_part, bank_part, core_entry, bank_entry, knows_all, OneState}
 use Rattle.mailboxes.proofs.JoinedSeats.{get_front, backwards_snoc, reversed}
 use Rattle.mailboxes.proofs.OneStates.{split_of, table_of_first, at_table, view_of_first, one_state}
@@ -107,5 +107,7 @@ returns-clause-state c =
       closes.counted,
       subst (λ y. OneState z c.args.cores.items banks closes.log y) (sym c.empty.ensures)
           (one_state z c.args.cores.items rest banks first split c.word-count.result slots whole.cores_there
-          whole.banks_there closes),
+          whole.banks_there closes
+          (c.links_lose_and_double_nothing.ensures.taken z closes.seats closes.phases closes.log closes.whole)
+          (c.links_lose_and_double_nothing.ensures.lying z closes.seats closes.phases closes.log closes.whole)),
     )

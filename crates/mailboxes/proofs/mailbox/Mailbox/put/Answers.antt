@@ -5,7 +5,7 @@ use Rattle.network.specs.declared.message.Message.{Message}
 use Rattle.seat_views.proofs.Lemmas.{some_is}
 use Rattle.inbox.specs.Queues.{values_of, IsAfter}
 use Rattle.mailboxes.specs.Places.{link_to, found_full}
-use Rattle.mailboxes.proofs.Outboxes.{walked_all}
+use Rattle.closed_machine.proofs.Lemmas.{walked_all}
 use Rattle.mailboxes.proofs.Lemmas.{stays_on}
 use Rattle.mailboxes.proofs.Sweeps.{link_on, swept_more, put_more}
 use Rattle.mailboxes.proofs.mailbox.Mailbox.put.Goals as goal

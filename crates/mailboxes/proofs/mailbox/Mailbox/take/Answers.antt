@@ -1,4 +1,4 @@
-use Rattle.std.proofs.Common.{◌≡◌, ◌+◌, ◌%◌, ◌∙◌}
+use Rattle.std.proofs.Common.{◌+◌, ◌%◌, ◌∙◌}
 use Rattle.mailboxes.specs.Places.{incoming, incoming_count}
 use Rattle.mailboxes.proofs.EmptySlots.{empty_more, next_place}
 use Rattle.mailboxes.proofs.Lemmas.{stays_on}

@@ -1,0 +1,9 @@
+pub mod Lemmas
+mod AllWords
+mod LeftValues
+mod MergedRecords
+mod Outboxes
+mod Places
+mod Records
+mod RunStates
+mod SeatSums

@@ -1,0 +1,12 @@
+use Rattle.std.proofs.Common.{option_to_list, ap, ◌∙◌}
+use Rattle.machine_theorem.specs.Bags.{weigh}
+use Rattle.seat_rule.specs.Ownership.{ownership_in}
+use Rattle.closed_machine.proofs.SeatSums.{weigh_left}
+use Rattle.closed_machine.proofs.owners.grants_with.Goals as goal
+
+pub returns-clause-value : goal.returns-clause-value
+returns-clause-value c =
+    weigh_left (ownership_in c.args.line) c.args.outbox.now c.args.inbox.now c.grants.result c.grants_of.result
+    c.grants_held.result c.grants.ensures.value
+    (c.grants_of.ensures.value ∙ ap (λ o. weigh (ownership_in c.args.line) (option_to_list o)) c.hand.ensures)
+    c.grants_held.ensures.value

@@ -1,0 +1,9 @@
+pub mod LastWrites
+pub mod Merged
+pub mod Numbers
+pub mod OutboxLends
+pub mod PartsOfState
+pub mod RunParts
+pub mod RunSums
+pub mod Sending
+pub mod ValuesLeft

@@ -1,0 +1,12 @@
+-- The state of which a closed machine leaves the parts.
+use Rattle.seat_rule.specs.States.{State}
+use Rattle.closed_machine.specs.declared.run.Run.{Run}
+use Rattle.closed_machine.specs.PartsOfState.{PartsOfState, state_of_parts}
+
+-- what the run has is one reached and consistent state: so is what `close` answers
+abbrev pub Parts : Run → Type 0
+Parts run = PartsOfState run.set_up run.cores.items run.banks.items run.slots.items run.records.items
+
+-- that state
+abbrev pub state_of_run : (run : Run) → Parts run → State
+state_of_run run parts = state_of_parts parts

@@ -1,0 +1,78 @@
+//! What is looked up in a machine that was closed: the records, what cores were issued, and the values of words.
+ghost use Rattle.std.specs.Prelude.{◌≡◌, ℕ, ◌<◌, ◌≤◌, List, [], map, Some, slice_get, IfOk};
+ghost use Rattle.physiological_order.specs.declared.operation.Record.{Record};
+ghost use Rattle.physiological_order.specs.Order.{flat, Legal, Arrangement, of_core, replay_end};
+ghost use Rattle.physiological_order.specs.StaleHits.{RisesByNumber};
+ghost use Rattle.protocol.specs.Issued.{IsIssued};
+ghost use Rattle.seat_rule.specs.Ownership.{coherent};
+ghost use Rattle.closed_machine.specs.ValuesLeft.{ValuesLeft};
+ghost use Rattle.closed_machine.specs.declared.parts.CorePart.{CorePart};
+ghost use Rattle.closed_machine.specs.RunParts.{Parts, state_of_run};
+
+use crate::numbered::find;
+use crate::run::Run;
+use crate::values::{value_left, values_left};
+use physiological_order::{Op, Record, WordAddr};
+use seat_rule::move_laws::{places_count_records, records_are_in_order};
+use std::alloc::{AllocError, Global};
+
+impl Run {
+    /// The records of all completed operations, by number. Of a run that `close` gave, they are a legal history of the
+    /// opening memory and of what the cores were issued. Each core was issued the operations of its records, in their
+    /// order, and then its open one.
+    pub fn records(&self) -> &[Record]
+        ensures records { result.now ≡ self.now.records.items }
+        ensures legal { (parts : Parts self.now) → Legal (flat self.now.set_up.memory)
+            (state_of_run self.now parts).issued result.now }
+        ensures rising { Parts self.now → RisesByNumber result.now }
+        ensures issued { (parts : Parts self.now) (core : ℕ) →
+            core < self.now.set_up.config.cores →
+            IsIssued ((state_of_run self.now parts).issued core)
+            (of_core core result.now) ((state_of_run self.now parts).cores core).open_op }
+    {
+        places_count_records();
+        records_are_in_order();
+        self.records.as_slice()
+    }
+
+    /// The operations that a core was issued, in order: all that its seat accepted. None for a core that isn't there.
+    pub fn issued(&self, core: u32) -> &[Op]
+        requires { Parts self.now }
+        ensures issued { (parts : Parts self.now) → core < self.now.set_up.config.cores →
+            result.now ≡ (state_of_run self.now parts).issued core }
+        ensures accepted { core < self.now.set_up.config.cores → (i : ℕ) (p : CorePart) →
+            slice_get self.now.cores.items i ≡ Some p → p.number ≡ core →
+            result.now ≡ p.issued.items }
+        ensures none { self.now.set_up.config.cores ≤ core → result.now ≡ [] }
+    {
+        if core >= self.set_up.config.cores {
+            return &[];
+        }
+        let at = find(self.cores.as_slice(), core);
+        self.cores[at].issued.as_slice()
+    }
+
+    /// A word's value where its line stands: with the line's owner, or with its ownership in flight, or else in the
+    /// bank, or else in a store on its way to DRAM, or else in DRAM. That is what the records leave, in the order of
+    /// their times, on the opening memory. It is found in the records, each of which is looked at once.
+    pub fn value(&self, addr: WordAddr) -> u64
+        ensures value { (parts : Parts self.now) → result ≡ coherent self.now.set_up.config
+            self.now.set_up.memory (state_of_run self.now parts) addr }
+        ensures left { (arranged : List Record) → Arrangement self.now.records.items arranged →
+            result ≡ replay_end (flat self.now.set_up.memory) (map (λ r. r.op) arranged) addr }
+    {
+        value_left(&self.set_up.memory, self.records.as_slice(), addr)
+    }
+
+    /// The values of these words, in their order, each as `value` answers it. Each record is looked at once, however
+    /// many words there are. AllocError where there is no memory for the list, or for the last write of each word.
+    pub fn values(&self, alloc: Global, words: &[WordAddr]) -> Result<Vec<u64>, AllocError>
+        ensures value { IfOk result (λ values. (parts : Parts self.now) →
+            values.items ≡ map (coherent self.now.set_up.config self.now.set_up.memory
+            (state_of_run self.now parts)) words.now) }
+        ensures left { IfOk result (λ values. ValuesLeft
+            (flat self.now.set_up.memory) self.now.records.items words.now values.items) }
+    {
+        values_left(alloc, &self.set_up.memory, self.records.as_slice(), words)
+    }
+}

@@ -1,0 +1,20 @@
+//! What the seats of a shared machine leave when it is closed, and what is looked up there: records, values, counts and
+//! owners.
+#![tactic(auto)]
+
+mod calls;
+mod counts;
+mod laws;
+mod mail;
+mod merging;
+mod numbered;
+mod outbox;
+mod owners;
+mod parts;
+mod run;
+mod values;
+
+pub use merging::merged;
+pub use outbox::Outbox;
+pub use parts::{BankPart, ClosedMachine, CorePart};
+pub use run::Run;

@@ -1,5 +1,0 @@
-mod LeftValues
-mod AllWords
-mod Places
-mod Records
-mod Removed

@@ -1,4 +1,0 @@
-pub mod LastWrites
-pub mod Merged
-pub mod Numbers
-pub mod ValuesLeft

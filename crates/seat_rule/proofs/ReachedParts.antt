@@ -1,0 +1,141 @@
+-- The parts of a reached state: their shape, what its cores were issued, and its records in order.
+use Rattle.std.proofs.Common.{◌≡◌, true, ℕ, zero, suc, ◌+◌, ◌<◌, List, [], ◌∷◌, ◌++◌, length, length-append, map}
+use Rattle.std.proofs.Common.{get_or, Option, Some, None, ◌⊎◌, inl, inr, refl, sym, ap, ◌∙◌, subst, arith, ⊎_elim}
+use Rattle.std.proofs.lemmas.List.{length-map}
+use Rattle.std.specs.List.{slice_get}
+use Rattle.std.specs.Ordering.{nat_cmp}
+use Rattle.std.specs.FinMap.{FinMap}
+use Rattle.std.proofs.lemmas.Option.{slice_get-get_or}
+use Rattle.physiological_order.specs.declared.operation.Op.{Op}
+use Rattle.physiological_order.specs.declared.operation.Record.{Record}
+use Rattle.physiological_order.specs.Order.{of_core}
+use Rattle.network.specs.declared.message.Message.{Message}
+use Rattle.core_pts.specs.CoreTable.{CoreState, opened}
+use Rattle.llc_bank.specs.BankTable.{BankState, empty_bank}
+use Rattle.machine_table.specs.declared.config.Config.{Config}
+use Rattle.machine_table.specs.Change.{record_of}
+use Rattle.machine_table.specs.Opening.{core_config, bank_config, geometry}
+use Rattle.machine_theorem.specs.Kept.{Invariant}
+use Rattle.protocol.specs.Issued.{IsIssued, listed}
+use Rattle.machine_theorem.specs.Shape.{IsCore, IsBank}
+use Rattle.machine_table.specs.Machine.{Machine, operation_of}
+use Rattle.machine_table.specs.SetUp.{is_good}
+use Rattle.seat_rule.specs.MachineLaws.{Laws}
+use Rattle.seat_rule.specs.States.{State, numbered}
+use Rattle.seat_rule.specs.Moves.{with_answer, with_core, with_bank, with_dram, sent_by_eviction, Move, issues}
+use Rattle.seat_rule.specs.Moves.{completes}
+use Rattle.seat_rule.specs.Moves.{asks_to_read, asks_to_write, core_gets, core_drops, bank_gets, bank_starts}
+use Rattle.seat_rule.specs.Moves.{dram_gets, evicts_copy, evicts_entry, advances, Reached, opens, goes_on, same}
+use Rattle.seat_rule.specs.Events.{Shows}
+use Rattle.seat_rule.proofs.Bags.{Some_injective}
+use Rattle.seat_rule.proofs.Witnesses.{reached_invariant, reached_shows}
+
+module _ (laws : Laws) (config : Config) (opening : FinMap nat_cmp ℕ) (good : is_good config ≡ true) (a : State)
+    (r : Reached config opening a) where
+  abbrev m : Machine
+  m = numbered config opening a
+
+  s : Invariant m
+  s = reached_invariant laws config opening good a r
+
+  k : Shows config opening a m
+  k = reached_shows laws config opening good a r
+
+  core_at : (c : ℕ) → c < config.cores → slice_get m.cores c ≡ Some (a.cores c)
+  core_at c lt =
+      slice_get-get_or m.cores c (opened (core_config config c) (geometry config))
+      (let n = s.whole.core_count in omega arith)
+      ∙ ap (λ (core : CoreState). Some core) (sym (k.same.cores c))
+
+  bank_at : (b : ℕ) → b < config.banks → slice_get m.banks b ≡ Some (a.banks b)
+  bank_at b lt =
+      slice_get-get_or m.banks b (empty_bank (bank_config config b)) (let n = s.whole.bank_count in omega arith)
+      ∙ ap (λ (bank : BankState). Some bank) (sym (k.same.banks b))
+
+  pub core_shape : (c : ℕ) → c < config.cores → IsCore config c (a.issued c) (a.cores c)
+  core_shape c lt =
+      subst (λ (ops : List Op). IsCore config c ops (a.cores c)) (sym (k.same.issued c))
+      (s.whole.each_core c (a.cores c) (core_at c lt))
+
+  pub bank_shape : (b : ℕ) → b < config.banks → IsBank config b (a.banks b)
+  bank_shape b lt = s.whole.each_bank b (a.banks b) (bank_at b lt)
+
+  pub what_is_issued : (c : ℕ) → c < config.cores → IsIssued (a.issued c) (of_core c a.records) (a.cores c).open_op
+  what_is_issued c lt =
+      subst (λ (ops : List Op). IsIssued ops (of_core c a.records) (a.cores c).open_op) (sym (k.same.issued c))
+      (subst (λ (o : Option CoreState). IsIssued (get_or m.issued c []) (of_core c a.records) (operation_of o))
+      (core_at c lt)
+      ((laws.consistent m s).issued c))
+
+  pub issued_count : (c : ℕ) → c < config.cores →
+      (a.cores c).issued ≡ length (of_core c a.records) + length (listed (a.cores c).open_op)
+  issued_count c lt =
+      let ops = map (λ (r : Record). r.op) (of_core c a.records) in
+      (core_shape c lt).count ∙ ap length (what_is_issued c lt).all ∙ length-append ops (listed (a.cores c).open_op)
+      ∙ ap (λ n. n + length (listed (a.cores c).open_op)) (length-map (of_core c a.records) (λ (r : Record). r.op))
+
+  pub next_place : (c : ℕ) → c < config.cores → (op : Op) (received : Option ℕ) (ts : ℕ) →
+      (a.cores c).open_op ≡ Some op →
+      (record_of c (length a.records) (a.cores c) op received ts).place ≡ length (of_core c a.records)
+  next_place c lt op received ts is =
+      let one : length (listed (a.cores c).open_op) ≡ 1 = ap (λ o. length (listed o)) is in
+      let n = issued_count c lt in
+      omega arith
+
+-- what a move does to the records: none, or one more with the next number
+abbrev Adds : State → State → Type 0
+Adds a b = (b.records ≡ a.records) ⊎
+    ((r : Record) × (r.number ≡ length a.records) × (b.records ≡ a.records ++ r ∷ []))
+
+answer_adds : (a : State) (rest : List Message) (answer : Option Message) →
+    (with_answer a rest answer).records ≡ a.records
+answer_adds a rest None = refl
+answer_adds a rest (Some message) = refl
+
+move_adds : (config : Config) (a b : State) → Move config a b → Adds a b
+move_adds config a b (issues c op core lt e) = inl refl
+move_adds config a b (completes c op received ts core lt is e) =
+    inr (record_of c (length a.records) (a.cores c) op received ts, refl, refl)
+move_adds config a b (asks_to_read c op pts version core lt is e) = inl refl
+move_adds config a b (asks_to_write c op version core lt is e) = inl refl
+move_adds config a b (core_gets c message rest answer core lt without to has e) =
+    inl (answer_adds (with_core a c core) rest answer)
+move_adds config a b (core_drops c message rest core lt without to has e) = inl refl
+move_adds config a b (bank_gets i message rest answer bank lt without to has e) =
+    inl (answer_adds (with_bank a i bank) rest answer)
+move_adds config a b (bank_starts i message rest started bank lt without to has e) = inl refl
+move_adds config a b (dram_gets i message rest answer lines lt without to has e) =
+    inl (answer_adds (with_dram a i lines) rest answer)
+move_adds config a b (evicts_copy c line back core lt e) = inl (answer_adds (with_core a c core) a.bag back)
+move_adds config a b (evicts_entry i line done bank lt e) =
+    inl (answer_adds (with_bank a i bank) a.bag (sent_by_eviction done))
+move_adds config a b (advances c core lt e) = inl refl
+
+-- each record's number is its index
+abbrev InOrder : ℕ → List Record → Type 0
+InOrder n rs = (k : ℕ) (r : Record) → slice_get rs k ≡ Some r → r.number ≡ n + k
+
+one_more : (n : ℕ) (rs : List Record) (x : Record) → x.number ≡ n + length rs → InOrder n rs →
+    InOrder n (rs ++ x ∷ [])
+one_more n [] x next all zero r is = ap (λ (y : Record). y.number) (sym (Some_injective x r is)) ∙ next
+one_more n [] x next all (suc k) r is = absurd (let e : ◌≡◌ {A = Option Record} None (Some r) = is in cc)
+one_more n (y ∷ rs) x next all zero r is = all 0 r is
+one_more n (y ∷ rs) x next all (suc k) r is =
+    let later : r.number ≡ n + 1 + k = one_more (n + 1) rs x (omega (arith, next))
+    (λ j z there. let e = all (suc j) z there in omega arith) k r is in
+    omega arith
+
+pub records_in_order : (config : Config) (opening : FinMap nat_cmp ℕ) (a : State) → Reached config opening a →
+    (k : ℕ) (r : Record) → slice_get a.records k ≡ Some r → r.number ≡ k
+records_in_order config opening a reached k r is = let e = by_reached a reached k r is in omega arith
+  where
+    by_reached : (a : State) → Reached config opening a → InOrder 0 a.records
+    by_reached a opens = λ k r is. absurd (let e : ◌≡◌ {A = Option Record} None (Some r) = is in cc)
+    by_reached b (goes_on {a} reached move) =
+        let before = by_reached a reached in
+        ⊎_elim
+        (λ (e : b.records ≡ a.records). subst (InOrder 0) (sym e) before)
+        (λ (more : (r : Record) × (r.number ≡ length a.records) × (b.records ≡ a.records ++ r ∷ [])). subst
+        (InOrder 0) (sym more.2) (one_more 0 a.records more.0 (let e = more.1 in omega arith) before))
+        (move_adds config a b move)
+    by_reached b (same {a} reached e) = subst (InOrder 0) e.records (by_reached a reached)

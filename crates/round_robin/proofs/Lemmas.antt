@@ -6,3 +6,5 @@ pub use Rattle.round_robin.proofs.Deals.{item_at, item_of, same_list, lengths_of
 pub use Rattle.round_robin.proofs.Steps.{hand_read, lengths_of_hands}
 -- Of hands that were changed item by item: that they can be gathered, and what is so of the list that is gathered.
 pub use Rattle.round_robin.proofs.Drives.{changed_hands_have_lengths, changed_hands_are_related}
+-- Of places: each is in one row and one column, and each hand has its turn.
+pub use Rattle.round_robin.proofs.Places.{same_place, split_place, turn_of}

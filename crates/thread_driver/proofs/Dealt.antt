@@ -1,6 +1,8 @@
 -- What workers were dealt, and what is gathered from them once they worked.
-use Rattle.std.proofs.Common.{◌≡◌, ℕ, zero, suc, ◌+◌, ◌*◌, ◌%◌, ◌/◌, ◌<◌, List, [], ◌∷◌, length, map, Some, sym, refl, ap, ◌∙◌, subst, arith, mod-eq_of_lt}
+use Rattle.std.proofs.Common.{◌≡◌, ℕ, zero, suc, ◌+◌, ◌*◌, ◌%◌, ◌<◌, Bool, false, ◌||◌, List, [], ◌∷◌, length, map, Some}
+use Rattle.std.proofs.Common.{sym, refl, ap, ap₂, ◌∙◌, subst, arith, mod-eq_of_lt}
 use Rattle.std.specs.Prelude.{slice_get, slice_index_or}
+use Rattle.std.specs.List.{list_any, zip}
 use Rattle.std.proofs.lemmas.List.{length-map}
 use Rattle.std.proofs.lemmas.Nat.{mod_below}
 use Rattle.std.proofs.lemmas.Option.{slice_get_within}
@@ -8,16 +10,23 @@ use Rattle.mailboxes.specs.declared.machine.Machine.{Machine}
 use Rattle.mailboxes.specs.declared.core_seat.CoreSeat.{CoreSeat}
 use Rattle.mailboxes.specs.declared.bank_seat.BankSeat.{BankSeat}
 use Rattle.mailboxes.specs.Seats.{AllCoreSeats, AllBankSeats}
-use Rattle.thread_driver.specs.declared.shift.Shift.{Shift}
-use Rattle.stop_flags.specs.declared.signals.Signals.{Signals}
 use Rattle.programs.specs.Acts.{Acts}
-use Rattle.round_robin.specs.Dealing.{HasLengths, IsDealtInTurn, hand_of}
-use Rattle.round_robin.proofs.Lemmas.{item_at, item_of, lengths_of, same_lengths}
+use Rattle.stop_flags.specs.declared.signals.Signals.{Signals}
+use Rattle.round_robin.specs.Dealing.{IsDealtInTurn, hand_of}
+use Rattle.round_robin.proofs.Lemmas.{item_of, lengths_of, same_lengths}
+use Rattle.thread_driver.specs.declared.shift.Shift.{Shift}
+use Rattle.thread_driver.specs.declared.told.Told.{Told}
 use Rattle.thread_driver.specs.declared.worker.Worker.{Worker}
-use Rattle.thread_driver.specs.Driving.{AreAhead, AreDriven, AreSameBanks}
+use Rattle.thread_driver.specs.Given.{IsBankTurn, IsCoreTurn, SeatsGiven, quiet, told_by_both}
 use Rattle.thread_driver.specs.Hands.{AreDealt, HaveLengths, core_hands, program_hands, bank_hands}
-use Rattle.thread_driver.specs.Teams.{AllWork, AreWorked, IsReady}
+use Rattle.thread_driver.specs.Playing.{AreAhead}
+use Rattle.thread_driver.specs.Teams.{AllWork, Works}
 use Rattle.thread_driver.proofs.Lists.{there, none_some, some_is}
+use Rattle.thread_driver.proofs.Pairs.{pairs_long, same_pair}
+use Rattle.thread_driver.proofs.Shares.{HandsGiven, gathered_given, gathered_told, given_long, no_hand, one_hand}
+use Rattle.thread_driver.proofs.Shares.{said_together}
+use Rattle.thread_driver.proofs.Sums.{or_swap, same_told}
+use Rattle.thread_driver.proofs.Worked.{Gave}
 
 -- what a function has of the value at an index
 read_map : {A : Type 0} {B : Type 0} (f : A → List B) (xs : List A) (i : ℕ) (x : A) → slice_get xs i ≡ Some x →
@@ -41,7 +50,13 @@ same_number (suc x) (suc y) a b =
     ap suc (same_number x y (λ k lt. let c = a (suc k) (omega arith) in omega arith)
     (λ k lt. let c = b (suc k) (omega arith) in omega arith))
 
-module _ {P : Type 0} (acts : Acts P) (m : Machine) (signals : Signals) (n : ℕ) where
+gave_by : {P : Type 0} (acts : Acts P) (m : Machine) (signals : Signals) (limit : ℕ) (ws vs : List (Worker P)) →
+    AllWork acts m signals limit ws vs → (i : ℕ) (w v : Worker P) → slice_get ws i ≡ Some w →
+    slice_get vs i ≡ Some v → Gave acts m limit w v
+unfolding Works
+gave_by acts m signals limit ws vs work i w v e f = (work.each i w v e f).1
+
+module _ {P : Type 0} (acts : Acts P) (m : Machine) (n : ℕ) where
   -- before they work: what the machine and the programs give is so of each worker's share
   module _ (cores : List CoreSeat) (programs : List P) (banks : List BankSeat) (ws : List (Worker P))
       (dealt : AreDealt n cores programs banks (core_hands ws) (program_hands ws) (bank_hands ws))
@@ -111,8 +126,11 @@ module _ {P : Type 0} (acts : Acts P) (m : Machine) (signals : Signals) (n : ℕ
 
   -- after they worked
   module _ (cores : List CoreSeat) (programs : List P) (banks : List BankSeat) (ws vs : List (Worker P))
-      (dealt : AreDealt n cores programs banks (core_hands ws) (program_hands ws) (bank_hands ws))
-      (work : AllWork acts m signals ws vs) where
+      (dealt : AreDealt n cores programs banks (core_hands ws) (program_hands ws) (bank_hands ws)) (signals : Signals)
+      (limit : ℕ) (work : AllWork acts m signals limit ws vs) where
+    gave : (i : ℕ) (w v : Worker P) → slice_get ws i ≡ Some w → slice_get vs i ≡ Some v → Gave acts m limit w v
+    gave = gave_by acts m signals limit ws vs work
+
     core_count : length ws ≡ n
     core_count =
         let count = dealt.cores_dealt.count in
@@ -143,7 +161,7 @@ module _ {P : Type 0} (acts : Acts P) (m : Machine) (signals : Signals) (n : ℕ
               let x = w j lt' in
               let y = v j lt' in
               ap length (read_map (λ (z : Worker P). z.cores.items) vs j y.0 y.1)
-              ∙ (work.each j x.0 y.0 x.1 y.1).1.cores.cores_long
+              ∙ (gave j x.0 y.0 x.1 y.1).cores_long
               ∙ sym (ap length (read_map (λ (z : Worker P). z.cores.items) ws j x.0 x.1)));
           program_lengths = same_lengths (length programs) 0 n (program_hands ws) (program_hands vs)
               (lengths_of programs 0 n (program_hands ws) dealt.programs_dealt)
@@ -154,7 +172,7 @@ module _ {P : Type 0} (acts : Acts P) (m : Machine) (signals : Signals) (n : ℕ
               let x = w j lt' in
               let y = v j lt' in
               ap length (read_map (λ (z : Worker P). z.programs.items) vs j y.0 y.1)
-              ∙ (work.each j x.0 y.0 x.1 y.1).1.cores.programs_long
+              ∙ (gave j x.0 y.0 x.1 y.1).programs_long
               ∙ sym (ap length (read_map (λ (z : Worker P). z.programs.items) ws j x.0 x.1)));
           bank_lengths = same_lengths (length banks) (length cores) n (bank_hands ws) (bank_hands vs)
               (lengths_of banks (length cores) n (bank_hands ws) dealt.banks_dealt)
@@ -165,120 +183,121 @@ module _ {P : Type 0} (acts : Acts P) (m : Machine) (signals : Signals) (n : ℕ
               let x = w j lt' in
               let y = v j lt' in
               ap length (read_map (λ (z : Worker P). z.banks.items) vs j y.0 y.1)
-              ∙ (work.each j x.0 y.0 x.1 y.1).1.banks.long
+              ∙ given_long (gave j x.0 y.0 x.1 y.1).of_banks
               ∙ sym (ap length (read_map (λ (z : Worker P). z.banks.items) ws j x.0 x.1)));
         }
 
-    module _ (cores' : List CoreSeat) (programs' : List P) (banks' : List BankSeat)
-        (core_long : length cores' ≡ length cores) (program_long : length programs' ≡ length programs)
-        (bank_long : length banks' ≡ length banks)
-        (after : AreDealt n cores' programs' banks' (core_hands vs) (program_hands vs) (bank_hands vs)) where
-      -- where item i of a list is that was dealt from a hand on
-      abbrev hand : ℕ → ℕ → ℕ
-      hand first i = hand_of first n (i % n)
+-- what each worker has of cores with their programs
+abbrev pair_hands : {P : Type 0} → List (Worker P) → List (List (CoreSeat × P))
+pair_hands ws = map (λ w. zip w.cores.items w.programs.items) ws
 
-      hand_within : (first i : ℕ) → hand first i < n
-      hand_within first i = mod_below (first + i % n) n dealt.cores_dealt.some
+module _ {P : Type 0} where
+  pairs_in_hand : (ws : List (Worker P)) (h : ℕ) → slice_index_or (pair_hands ws) h []
+      ≡ zip (slice_index_or (core_hands ws) h []) (slice_index_or (program_hands ws) h [])
+  pairs_in_hand [] h = refl
+  pairs_in_hand (w ∷ ws) zero = refl
+  pairs_in_hand (w ∷ ws) (suc h) = pairs_in_hand ws h
 
-      -- the core of an index, before and after, is with one worker
-      core_before : (i : ℕ) (p : CoreSeat) → slice_get cores i ≡ Some p →
-          slice_get (w (hand 0 i) (hand_within 0 i)).0.cores.items (i / n) ≡ Some p
-      core_before i p e =
-          let x = w (hand 0 i) (hand_within 0 i) in
-          ap (λ l. slice_get l (i / n)) (sym (read_map (λ (z : Worker P). z.cores.items) ws (hand 0 i) x.0 x.1))
-          ∙ sym (item_at cores 0 n (core_hands ws) dealt.cores_dealt i) ∙ e
+  pairs_dealt : (n : ℕ) (cores : List CoreSeat) (programs : List P) (ws : List (Worker P)) →
+      IsDealtInTurn cores 0 n (core_hands ws) → IsDealtInTurn programs 0 n (program_hands ws) →
+      IsDealtInTurn (zip cores programs) 0 n (pair_hands ws)
+  pairs_dealt n cores programs ws dealt others =
+      record {
+        some = dealt.some;
+        count = length-map {B = List (CoreSeat × P)} ws (λ (w : Worker P). zip w.cores.items w.programs.items)
+            ∙ sym (length-map {B = List CoreSeat} ws (λ (w : Worker P). w.cores.items)) ∙ dealt.count;
+        at = λ h k hn.
+            let hand : ℕ = hand_of 0 n h in
+            ap (λ l. slice_get l k) (pairs_in_hand ws hand)
+            ∙ same_pair (slice_index_or (core_hands ws) hand []) cores (slice_index_or (program_hands ws) hand [])
+            programs k (n * k + h) (dealt.at h k hn) (others.at h k hn);
+      }
 
-      core_after : (i : ℕ) (p : CoreSeat) → slice_get cores' i ≡ Some p →
-          slice_get (v (hand 0 i) (hand_within 0 i)).0.cores.items (i / n) ≡ Some p
-      core_after i p e =
-          let y = v (hand 0 i) (hand_within 0 i) in
-          ap (λ l. slice_get l (i / n)) (sym (read_map (λ (z : Worker P). z.cores.items) vs (hand 0 i) y.0 y.1))
-          ∙ sym (item_at cores' 0 n (core_hands vs) after.cores_dealt i) ∙ e
+  -- all that workers gave their seats, hand by hand, and what they told
+  module _ (acts : Acts P) (m : Machine) (limit : ℕ) where
+    record Handed (ws vs : List (Worker P)) : Type 0 where
+      pub core_tolds : List Told
+      pub bank_tolds : List Told
+      pub cores : HandsGiven (IsCoreTurn acts m) limit (pair_hands ws) core_tolds (pair_hands vs)
+      pub banks : HandsGiven (IsBankTurn m) limit (bank_hands ws) bank_tolds (bank_hands vs)
+      pub told : (says : Told → Bool) → ((a b : Told) → says (told_by_both a b) ≡ (says a || says b)) →
+          list_any (λ w. says w.told) vs ≡ (list_any says core_tolds || list_any says bank_tolds)
 
-      program_before : (i : ℕ) (a : P) → slice_get programs i ≡ Some a →
-          slice_get (w (hand 0 i) (hand_within 0 i)).0.programs.items (i / n) ≡ Some a
-      program_before i a e =
-          let x = w (hand 0 i) (hand_within 0 i) in
-          ap (λ l. slice_get l (i / n)) (sym (read_map (λ (z : Worker P). z.programs.items) ws (hand 0 i) x.0 x.1))
-          ∙ sym (item_at programs 0 n (program_hands ws) dealt.programs_dealt i) ∙ e
-
-      program_after : (i : ℕ) (a : P) → slice_get programs' i ≡ Some a →
-          slice_get (v (hand 0 i) (hand_within 0 i)).0.programs.items (i / n) ≡ Some a
-      program_after i a e =
-          let y = v (hand 0 i) (hand_within 0 i) in
-          ap (λ l. slice_get l (i / n)) (sym (read_map (λ (z : Worker P). z.programs.items) vs (hand 0 i) y.0 y.1))
-          ∙ sym (item_at programs' 0 n (program_hands vs) after.programs_dealt i) ∙ e
-
-      bank_before : (i : ℕ) (b : BankSeat) → slice_get banks i ≡ Some b →
-          slice_get (w (hand (length cores) i) (hand_within (length cores) i)).0.banks.items (i / n) ≡ Some b
-      bank_before i b e =
-          let x = w (hand (length cores) i) (hand_within (length cores) i) in
-          ap (λ l. slice_get l (i / n))
-          (sym (read_map (λ (z : Worker P). z.banks.items) ws (hand (length cores) i) x.0 x.1))
-          ∙ sym (item_at banks (length cores) n (bank_hands ws) dealt.banks_dealt i) ∙ e
-
-      bank_after : (i : ℕ) (b : BankSeat) → slice_get banks' i ≡ Some b →
-          slice_get (v (hand (length cores) i) (hand_within (length cores) i)).0.banks.items (i / n) ≡ Some b
-      bank_after i b e =
-          let y = v (hand (length cores) i) (hand_within (length cores) i) in
-          ap (λ l. slice_get l (i / n))
-          (sym (read_map (λ (z : Worker P). z.banks.items) vs (hand (length cores) i) y.0 y.1))
-          ∙ sym (item_at banks' (length cores) n (bank_hands vs)
-          (subst (λ c. IsDealtInTurn banks' c n (bank_hands vs)) core_long after.banks_dealt) i) ∙ e
-
-      all_driven : AreDriven acts cores programs cores' programs'
-      all_driven =
-          record {
-            cores_long = core_long;
-            programs_long = program_long;
-            each = λ i p a q b at_p at_a at_q at_b.
-                let x = w (hand 0 i) (hand_within 0 i) in
-                let y = v (hand 0 i) (hand_within 0 i) in
-                (work.each (hand 0 i) x.0 y.0 x.1 y.1).1.cores.each (i / n) p a q b (core_before i p at_p)
-                (program_before i a at_a) (core_after i q at_q) (program_after i b at_b);
-          }
-
-      all_same : AreSameBanks banks banks'
-      all_same =
-          record {
-            long = bank_long;
-            each = λ i p q at_p at_q.
-                let x = w (hand (length cores) i) (hand_within (length cores) i) in
-                let y = v (hand (length cores) i) (hand_within (length cores) i) in
-                (work.each (hand (length cores) i) x.0 y.0 x.1 y.1).1.banks.each (i / n) p q (bank_before i p at_p)
-                (bank_after i q at_q);
-          }
-
-      all_cores : AllCoreSeats m cores'
-      all_cores i p e =
-          let x = w (hand 0 i) (hand_within 0 i) in
-          let y = v (hand 0 i) (hand_within 0 i) in
-          (work.each (hand 0 i) x.0 y.0 x.1 y.1).0.cores (i / n) p (core_after i p e)
-
-      all_banks : AllBankSeats m banks'
-      all_banks i p e =
-          let x = w (hand (length cores) i) (hand_within (length cores) i) in
-          let y = v (hand (length cores) i) (hand_within (length cores) i) in
-          (work.each (hand (length cores) i) x.0 y.0 x.1 y.1).0.banks (i / n) p (bank_after i p e)
-
-  -- the seats and programs of a shift, dealt before and gathered afterwards
-  module _ (s t : Shift P) (ws vs : List (Worker P))
-      (dealt : AreDealt n s.cores.items s.programs.items s.banks.items (core_hands ws) (program_hands ws)
-      (bank_hands ws))
-      (work : AllWork acts m signals ws vs) (core_long : length t.cores.items ≡ length s.cores.items)
-      (program_long : length t.programs.items ≡ length s.programs.items)
-      (bank_long : length t.banks.items ≡ length s.banks.items)
-      (after : AreDealt n t.cores.items t.programs.items t.banks.items (core_hands vs) (program_hands vs)
-      (bank_hands vs)) where
-    pub all_worked : AreWorked acts m s t
-    all_worked =
+    handed : (ws vs : List (Worker P)) → length vs ≡ length ws →
+        ((i : ℕ) (w v : Worker P) → slice_get ws i ≡ Some w → slice_get vs i ≡ Some v → Gave acts m limit w v) →
+        Handed ws vs
+    handed [] [] long each =
         record {
-          cores = all_cores s.cores.items s.programs.items s.banks.items ws vs dealt work t.cores.items t.programs.items
-              t.banks.items core_long program_long bank_long after;
-          banks = all_banks s.cores.items s.programs.items s.banks.items ws vs dealt work t.cores.items t.programs.items
-              t.banks.items core_long program_long bank_long after;
-          driven = all_driven s.cores.items s.programs.items s.banks.items ws vs dealt work t.cores.items
-              t.programs.items t.banks.items core_long program_long bank_long after;
-          same = all_same s.cores.items s.programs.items s.banks.items ws vs dealt work t.cores.items t.programs.items
-              t.banks.items core_long program_long bank_long after;
+          core_tolds = [];
+          bank_tolds = [];
+          cores = no_hand;
+          banks = no_hand;
+          told = λ says adds. refl;
+        }
+    handed [] (v ∷ vs) long each = absurd (omega (arith, long))
+    handed (w ∷ ws) [] long each = absurd (omega (arith, long))
+    handed (w ∷ ws) (v ∷ vs) long each =
+        let first = each zero w v refl refl in
+        let rest = handed ws vs (omega (arith, long)) (λ i x y e f. each (suc i) x y e f) in
+        record {
+          core_tolds = first.core_told ∷ rest.core_tolds;
+          bank_tolds = first.bank_told ∷ rest.bank_tolds;
+          cores = one_hand first.of_cores rest.cores;
+          banks = one_hand first.of_banks rest.banks;
+          told = λ says adds.
+              ap₂ (λ a b. a || b) (ap says first.told_is ∙ adds first.core_told first.bank_told)
+              (rest.told says adds)
+              ∙ or_swap (says first.core_told) (says first.bank_told) (list_any says rest.core_tolds)
+              (list_any says rest.bank_tolds);
+        }
+
+    -- the seats and programs of a shift, dealt before and gathered afterwards
+    pub all_worked : (signals : Signals) (n : ℕ) (s t : Shift P) (ws vs : List (Worker P)) (told : Told) →
+        AreDealt n s.cores.items s.programs.items s.banks.items (core_hands ws) (program_hands ws) (bank_hands ws) →
+        AllWork acts m signals limit ws vs → length t.cores.items ≡ length s.cores.items →
+        length t.programs.items ≡ length s.programs.items → length t.banks.items ≡ length s.banks.items →
+        length s.programs.items ≡ length s.cores.items →
+        AreDealt n t.cores.items t.programs.items t.banks.items (core_hands vs) (program_hands vs) (bank_hands vs) →
+        told.no_memory ≡ list_any (λ w. w.told.no_memory) vs →
+        told.is_exhausted ≡ list_any (λ w. w.told.is_exhausted) vs →
+        told.has_progressed ≡ list_any (λ w. w.told.has_progressed) vs →
+        SeatsGiven acts m limit s.cores.items s.banks.items s.programs.items told t.cores.items t.banks.items
+        t.programs.items
+    all_worked signals n s t ws vs told dealt work core_long program_long bank_long one_each after lacks stops moves =
+        let all = handed ws vs work.long (gave_by acts m signals limit ws vs work) in
+        let pairs = zip s.cores.items s.programs.items in
+        let pairs' = zip t.cores.items t.programs.items in
+        let d = pairs_dealt n s.cores.items s.programs.items ws dealt.cores_dealt dealt.programs_dealt in
+        let d' = pairs_dealt n t.cores.items t.programs.items vs after.cores_dealt after.programs_dealt in
+        let long : length pairs' ≡ length pairs =
+        pairs_long t.cores.items t.programs.items (program_long ∙ one_each ∙ sym core_long) ∙ core_long
+        ∙ sym (pairs_long s.cores.items s.programs.items one_each) in
+        let first : ℕ = length s.cores.items in
+        let e = dealt.banks_dealt in
+        let e' = subst (λ c. IsDealtInTurn t.banks.items c n (bank_hands vs)) core_long after.banks_dealt in
+        let bit = λ (says : Told → Bool) (adds : (a b : Told) → says (told_by_both a b) ≡ (says a || says b))
+        (silent : says quiet ≡ false).
+        all.told says adds
+        ∙ sym (ap₂ (λ a b. a || b)
+        (said_together limit 0 n pairs pairs' (pair_hands ws) (pair_hands vs) all.core_tolds all.cores d d' long says
+        adds silent)
+        (said_together limit first n s.banks.items t.banks.items (bank_hands ws) (bank_hands vs) all.bank_tolds
+        all.banks e e' bank_long says adds silent)) in
+        let core_told : Told = gathered_told limit 0 n pairs pairs' (pair_hands ws) (pair_hands vs) all.core_tolds
+        all.cores d d' long in
+        let bank_told : Told = gathered_told limit first n s.banks.items t.banks.items (bank_hands ws) (bank_hands vs)
+        all.bank_tolds all.banks e e' bank_long in
+        record {
+          cores_long = core_long;
+          programs_long = program_long;
+          core_told = core_told;
+          bank_told = bank_told;
+          of_cores = gathered_given limit 0 n pairs pairs' (pair_hands ws) (pair_hands vs) all.core_tolds all.cores d d'
+              long;
+          of_banks = gathered_given limit first n s.banks.items t.banks.items (bank_hands ws) (bank_hands vs)
+              all.bank_tolds all.banks e e' bank_long;
+          told_is = same_told told (told_by_both core_told bank_told)
+              (lacks ∙ bit (λ t. t.no_memory) (λ a b. refl) refl)
+              (stops ∙ bit (λ t. t.is_exhausted) (λ a b. refl) refl)
+              (moves ∙ bit (λ t. t.has_progressed) (λ a b. refl) refl);
         }

@@ -1,5 +1,5 @@
 -- How a run by threads ends, said of the machine that the closed one shows.
-use Rattle.std.proofs.Common.{◌≡◌, ◌≢◌, ◌⊎◌, inl, inr, ◌<◌, List, length, map, Option, sym, ap, ◌∙◌, arith}
+use Rattle.std.proofs.Common.{◌≡◌, ◌⊎◌, inl, inr, ℕ, ◌<◌, List, length, map, Option, sym, ap, ◌∙◌, arith}
 use Rattle.std.proofs.lemmas.Option.{slice_get_within}
 use Rattle.programs.specs.declared.ends.End.{End}
 use Rattle.programs.specs.declared.ends.End.TheVariants as end
@@ -17,9 +17,6 @@ use Rattle.thread_driver.proofs.AllServed.{there}
 
 not_done : {A : Type 0} (e : End) → e ≡ end.NoMemory → e ≡ end.AllDone → A
 not_done e lacks done = (let both : end.NoMemory ≡ end.AllDone = sym lacks ∙ done in absurd cc)
-
-not_stalled : {A : Type 0} (e : End) → e ≡ end.NoMemory → e ≡ end.Stalled → A
-not_stalled e lacks stalled = (let both : end.NoMemory ≡ end.Stalled = sym lacks ∙ stalled in absurd cc)
 
 module _ {P : Type 0} (acts : Acts P) (m : Machine) (run : Run) (parts : Parts run) (ended : List CoreSeat)
     (after : List P) (order : AreCoresInOrder m ended) (all : length ended ≡ run.set_up.config.cores)
@@ -42,22 +39,18 @@ module _ {P : Type 0} (acts : Acts P) (m : Machine) (run : Run) (parts : Parts r
         sym (ap (λ (o : Option P). next_of acts o) b_is) ∙ none.1,
       )
 
-  module _ (cores : List CoreSeat) (banks banks' : List BankSeat) (before : List P) (e : End)
-      (is : RefusedAtOnce cores banks before ended banks' after e ⊎ Ran acts cores banks ended banks' after e) where
+  module _ (limit : ℕ) (cores : List CoreSeat) (banks banks' : List BankSeat) (before : List P) (e : End)
+      (is : RefusedAtOnce cores banks before ended banks' after e
+      ⊎ Ran acts m limit cores banks before ended banks' after e) where
     pub done_is_over : e ≡ end.AllDone → IsOver acts (machine_of run parts) after
     done_is_over done = elim is [
       | inl refused ↦ not_done e refused.end_is done
       | inr ran ↦ is_over (ran.done done)
     ]
 
-    pub over_is_done : IsOver acts (machine_of run parts) after → (e ≡ end.AllDone) ⊎ (e ≡ end.NoMemory)
+    pub over_is_done : IsOver acts (machine_of run parts) after →
+        (e ≡ end.AllDone) ⊎ RefusedAtOnce cores banks before ended banks' after e
     over_is_done over = elim is [
-      | inl refused ↦ inr refused.end_is
+      | inl refused ↦ inr refused
       | inr ran ↦ inl (ran.all_done (was_over over))
-    ]
-
-    pub never_stalled : e ≢ end.Stalled
-    never_stalled stalled = elim is [
-      | inl refused ↦ not_stalled e refused.end_is stalled
-      | inr ran ↦ ran.not_stalled stalled
     ]

@@ -3,9 +3,11 @@ pub mod Lemmas
 mod Played
 mod Turned
 mod Lists
+mod Sums
+mod Pairs
+mod Passes
+mod Shares
 mod NewSeats
-mod Driven
-mod Counted
 mod Dealt
 mod Formed
 mod Ordered
@@ -16,4 +18,3 @@ mod OwnRecords
 mod Seats
 mod AllServed
 mod Ended
-mod Stopped

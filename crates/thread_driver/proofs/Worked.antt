@@ -1,68 +1,194 @@
--- A worker after it told what is finished, and after a pass.
-use Rattle.std.proofs.Common.{◌≡◌, List, sym, subst}
+-- Turns of seats, one after the other: what stays so of a seat. And a worker after it told what is finished, and after a
+-- pass.
+use Rattle.std.proofs.Common.{◌≡◌, ℕ, suc, ◌+◌, ◌<◌, ◌≤◌, List, length, Some, ⊎_elim, refl, sym, ap, ap₂, subst, ◌∙◌, arith}
+use Rattle.std.specs.Prelude.{slice_get, slice_index_or, slice_set}
+use Rattle.std.specs.List.{zip}
+use Rattle.std.specs.declared.alloc.Global.{Global}
+use Rattle.std.specs.declared.vec.Vec.{Vec}
+use Rattle.std.proofs.lemmas.Option.{slice_get_within}
 use Rattle.mailboxes.specs.declared.machine.Machine.{Machine}
-use Rattle.mailboxes.specs.Seats.{AllCoreSeats, AllBankSeats}
-use Rattle.thread_driver.specs.declared.shift.Shift.{Shift}
-use Rattle.stop_flags.specs.declared.signals.Signals.{Signals}
-use Rattle.stop_flags.specs.Signalers.{IsSignalerOf}
+use Rattle.mailboxes.specs.declared.core_seat.CoreSeat.{CoreSeat}
+use Rattle.mailboxes.specs.declared.bank_seat.BankSeat.{BankSeat}
+use Rattle.mailboxes.specs.Seats.{AllBankSeats, AllCoreSeats, IsBankSeat, IsCoreSeat}
 use Rattle.programs.specs.Acts.{Acts}
+use Rattle.thread_driver.specs.declared.told.Told.{Told}
 use Rattle.thread_driver.specs.declared.worker.Worker.{Worker}
-use Rattle.thread_driver.specs.Driving.{AreAhead, AreDriven, AreSameBanks}
-use Rattle.thread_driver.specs.Teams.{AreWorked, IsAtWork, Works}
-use Rattle.thread_driver.proofs.Driven.{ahead_driven, driven_both, driven_none, same_banks_both, same_banks_none}
+use Rattle.thread_driver.specs.Given.{AllGiven, IsBankTurn, IsCoreTurn, PassGiven, SeatsGiven, SeatsPassed}
+use Rattle.thread_driver.specs.Given.{TurnsGiven, more, quiet, rests, told_by_both}
+use Rattle.thread_driver.specs.Playing.{AreAhead, IsAhead, Plays}
+use Rattle.thread_driver.proofs.Lemmas.{plays_both, plays_none}
+use Rattle.thread_driver.proofs.Lists.{here, there}
+use Rattle.thread_driver.proofs.Pairs.{pair_there, pairs_set, parts_there}
+use Rattle.thread_driver.proofs.Passes.{not_passed, passed_at, passed_on}
+use Rattle.thread_driver.proofs.Shares.{given_on, given_within, none_given}
+use Rattle.thread_driver.proofs.Sums.{told_swap}
 
--- the seats and programs are as before
+-- a bank's seat
+module _ (m : Machine) where
+  pub bank_stays : {p : BankSeat} {n : ℕ} {q : BankSeat} {told : Told} → IsBankSeat m p →
+      TurnsGiven (IsBankTurn m) p n told q → IsBankSeat m q × (q.mail.number ≡ p.mail.number)
+  bank_stays is rests = (is, refl)
+  bank_stays is (more given turn) = (turn.seat, turn.number ∙ (bank_stays is given).1)
+
+  pub banks_passed : (banks banks' : List BankSeat) {k : ℕ} {told : Told} → AllBankSeats m banks →
+      PassGiven (IsBankTurn m) k banks told banks' → AllBankSeats m banks'
+  banks_passed banks banks' all passed i q at =
+      let was = passed_at passed i q at in
+      ⊎_elim (λ same. subst (IsBankSeat m) same (all i was.0 was.1)) (λ had. had.1.seat) was.2
+
+module _ {P : Type 0} (acts : Acts P) (m : Machine) where
+  -- a core's seat with its program
+  pub core_plays : {x : CoreSeat × P} {n : ℕ} {y : CoreSeat × P} {told : Told} → IsCoreSeat m x.0 → IsAhead acts x.0 x.1 →
+      TurnsGiven (IsCoreTurn acts m) x n told y → IsCoreSeat m y.0 × Plays acts x.0 x.1 y.0 y.1
+  core_plays {x = x} is ahead rests = (is, plays_none acts x.0 x.1 ahead)
+  core_plays {x = x} {y = y} is ahead (more {y = z} given turn) = (
+    turn.seat,
+    plays_both acts x.0 z.0 y.0 x.1 z.1 y.1 (core_plays is ahead given).1 turn.plays,
+  )
+
+  -- the same of all of a list, after a pass
+  module _ (cores cores' : List CoreSeat) (programs programs' : List P) {k : ℕ} {told : Told}
+      (all : AllCoreSeats m cores) (ahead : AreAhead acts cores programs)
+      (passed : PassGiven (IsCoreTurn acts m) k (zip cores programs) told (zip cores' programs'))
+      (long : length cores' ≡ length cores) (programs_long : length programs' ≡ length programs) where
+    core_passed : (i : ℕ) (q : CoreSeat) (b : P) → slice_get cores' i ≡ Some q → slice_get programs' i ≡ Some b →
+        IsCoreSeat m q × IsAhead acts q b
+    core_passed i q b at_q at_b =
+        let was = passed_at passed i (q, b) (pair_there cores' programs' i q b at_q at_b) in
+        let parts = parts_there cores programs i was.0 was.1 in
+        ⊎_elim
+        (λ same. subst (λ (x : CoreSeat × P). IsCoreSeat m x.0 × IsAhead acts x.0 x.1) same
+        (all i was.0.0 parts.0, ahead.each i was.0.0 was.0.1 parts.0 parts.1))
+        (λ had. (had.1.seat, had.1.plays.ahead)) was.2
+
+    pub cores_passed : AllCoreSeats m cores'
+    cores_passed i q at =
+        let lt = slice_get_within cores' i q at in
+        let one_each = ahead.long in
+        let b = there programs' i (omega (arith, lt, long, programs_long, one_each)) in
+        (core_passed i q b.0 at b.1).0
+
+    pub ahead_passed : AreAhead acts cores' programs'
+    ahead_passed =
+        record {
+          long = programs_long ∙ ahead.long ∙ sym long;
+          each = λ i q b at_q at_b. (core_passed i q b at_q at_b).1;
+        }
+
+  -- seats of which none had a turn
+  pub not_given : (limit : ℕ) (cores : List CoreSeat) (banks : List BankSeat) (programs : List P) →
+      SeatsGiven acts m limit cores banks programs quiet cores banks programs
+  not_given limit cores banks programs =
+      record {
+        cores_long = refl;
+        programs_long = refl;
+        core_told = quiet;
+        bank_told = quiet;
+        of_cores = none_given limit (zip cores programs);
+        of_banks = none_given limit banks;
+        told_is = refl;
+      }
+
+  -- a pass more, with at most as many turns as a higher limit
+  pub given_more : (limit most : ℕ) → limit + 1 ≤ most → (cores cores' cores'' : List CoreSeat) (banks banks' banks'' : List BankSeat)
+      (programs programs' programs'' : List P) (all told both : Told) →
+      SeatsGiven acts m limit cores banks programs all cores' banks' programs' →
+      SeatsPassed acts m cores' banks' programs' told cores'' banks'' programs'' → both ≡ told_by_both all told →
+      SeatsGiven acts m most cores banks programs both cores'' banks'' programs''
+  given_more limit most le cores cores' cores'' banks banks' banks'' programs programs' programs'' all told both g p is =
+      record {
+        cores_long = p.cores_long ∙ g.cores_long;
+        programs_long = p.programs_long ∙ g.programs_long;
+        core_told = told_by_both g.core_told p.core_told;
+        bank_told = told_by_both g.bank_told p.bank_told;
+        of_cores = given_within le (given_on g.of_cores p.of_cores);
+        of_banks = given_within le (given_on g.of_banks p.of_banks);
+        told_is =
+            is ∙ ap₂ told_by_both g.told_is p.told_is
+            ∙ told_swap g.core_told g.bank_told p.core_told p.bank_told;
+      }
+
+-- the seats and programs are as before, and so is what was told
 abbrev pub SameLists : {P : Type 0} → Worker P → Worker P → Type 0
-SameLists l t = (t.cores ≡ l.cores) × (t.banks ≡ l.banks) × (t.programs.items ≡ l.programs.items)
+SameLists l t =
+    (t.cores ≡ l.cores) × (t.banks ≡ l.banks) × (t.programs.items ≡ l.programs.items) × (t.told ≡ l.told)
 
-module _ {P : Type 0} (acts : Acts P) where
-  pub works_none : (w : Worker P) → AreAhead acts w.cores.items w.programs.items → Works acts w w
-  works_none w ahead =
+-- the worker gave its seats turns, at most so many each, and keeps what these told
+abbrev pub Gave : {P : Type 0} → Acts P → Machine → ℕ → Worker P → Worker P → Type 0
+Gave acts m limit w v =
+    SeatsGiven acts m limit w.cores.items w.banks.items w.programs.items v.told v.cores.items v.banks.items
+    v.programs.items
+
+module _ {P : Type 0} (acts : Acts P) (m : Machine) where
+  -- a worker that told what is finished, with at most as many turns as a higher limit
+  pub works_told : (limit most : ℕ) (w l t : Worker P) → limit ≤ most → Gave acts m limit w l → SameLists l t →
+      Gave acts m most w t
+  works_told limit most w l t le gave same =
+      let pairs = zip w.cores.items w.programs.items in
       record {
-        cores = driven_none acts w.cores.items w.programs.items ahead;
-        banks = same_banks_none w.banks.items;
+        cores_long = ap (λ (v : Vec CoreSeat Global). length v.items) same.0 ∙ gave.cores_long;
+        programs_long = ap length same.2 ∙ gave.programs_long;
+        core_told = gave.core_told;
+        bank_told = gave.bank_told;
+        of_cores = subst (λ xs. AllGiven (IsCoreTurn acts m) most pairs gave.core_told (zip t.cores.items xs))
+            (sym same.2)
+            (subst (λ (v : Vec CoreSeat Global). AllGiven (IsCoreTurn acts m) most pairs gave.core_told
+            (zip v.items l.programs.items)) (sym same.0) (given_within le gave.of_cores));
+        of_banks = subst (λ (v : Vec BankSeat Global). AllGiven (IsBankTurn m) most w.banks.items gave.bank_told
+            v.items) (sym same.1) (given_within le gave.of_banks);
+        told_is = same.3 ∙ gave.told_is;
       }
 
-  pub works_told : (w l t : Worker P) → Works acts w l → SameLists l t → Works acts w t
-  works_told w l t works same =
-      record {
-        cores = subst (λ xs. AreDriven acts w.cores.items w.programs.items t.cores.items xs) (sym same.2)
-            (subst (λ v. AreDriven acts w.cores.items w.programs.items v.items l.programs.items) (sym same.0)
-            works.cores);
-        banks = subst (λ v. AreSameBanks w.banks.items v.items) (sym same.1) works.banks;
-      }
+  pub ahead_told : (l t : Worker P) → AreAhead acts l.cores.items l.programs.items → SameLists l t →
+      AreAhead acts t.cores.items t.programs.items
+  ahead_told l t ahead same =
+      subst (AreAhead acts t.cores.items) (sym same.2)
+      (subst (λ (v : Vec CoreSeat Global). AreAhead acts v.items l.programs.items) (sym same.0) ahead)
 
-  pub ahead_told : (w l t : Worker P) → AreAhead acts w.cores.items w.programs.items → Works acts w l →
-      SameLists l t → AreAhead acts t.cores.items t.programs.items
-  ahead_told w l t ahead works same =
-      let told = works_told w l t works same in
-      ahead_driven acts w.cores.items t.cores.items w.programs.items t.programs.items ahead told.cores
+module _ {P : Type 0} (m : Machine) (l t : Worker P) (same : SameLists l t) where
+  pub cores_told : AllCoreSeats m l.cores.items → AllCoreSeats m t.cores.items
+  cores_told all = subst (λ (v : Vec CoreSeat Global). AllCoreSeats m v.items) (sym same.0) all
 
-  pub works_on : (w t v : Worker P) → Works acts w t →
-      AreDriven acts t.cores.items t.programs.items v.cores.items v.programs.items →
-      AreSameBanks t.banks.items v.banks.items → Works acts w v
-  works_on w t v works driven same =
-      record {
-        cores = driven_both acts w.cores.items t.cores.items v.cores.items w.programs.items t.programs.items
-            v.programs.items works.cores driven;
-        banks = same_banks_both w.banks.items t.banks.items v.banks.items works.banks same;
-      }
+  pub banks_told : AllBankSeats m l.banks.items → AllBankSeats m t.banks.items
+  banks_told all = subst (λ (v : Vec BankSeat Global). AllBankSeats m v.items) (sym same.1) all
 
-  -- a shift of which no seat had a turn
-  pub not_worked : (m : Machine) (s : Shift P) → AllCoreSeats m s.cores.items → AllBankSeats m s.banks.items →
-      AreAhead acts s.cores.items s.programs.items → AreWorked acts m s s
-  not_worked m s cores banks ahead =
-      record {
-        cores = cores;
-        banks = banks;
-        driven = driven_none acts s.cores.items s.programs.items ahead;
-        same = same_banks_none s.banks.items;
-      }
+-- the next seat in a pass
+module _ (m : Machine) (banks banks' : List BankSeat) (k : ℕ) (told : Told) (all : AllBankSeats m banks)
+    (passed : PassGiven (IsBankTurn m) k banks told banks') (lt : k < length banks') (q : BankSeat)
+    (at : q ≡ slice_index_or banks' k q) where
+  pub next_bank : IsBankSeat m q
+  next_bank = all k q (sym (not_passed passed) ∙ here banks' k q lt at)
 
-module _ {P : Type 0} (m : Machine) (signals : Signals) (l t : Worker P) (work : IsAtWork m signals l)
-    (same : SameLists l t) where
-  pub cores_told : AllCoreSeats m t.cores.items
-  cores_told = subst (λ v. AllCoreSeats m v.items) (sym same.0) work.cores
+  pub bank_had_turn : (had : Told) (r : BankSeat) → IsBankTurn m q had r →
+      PassGiven (IsBankTurn m) (k + 1) banks (told_by_both told had) (slice_set banks' k r)
+  bank_had_turn had r turn =
+      let next : suc k ≡ k + 1 = omega arith in
+      subst (λ i. PassGiven (IsBankTurn m) i banks (told_by_both told had) (slice_set banks' k r)) next
+      (passed_on had q r passed (here banks' k q lt at) turn)
 
-  pub banks_told : AllBankSeats m t.banks.items
-  banks_told = subst (λ v. AllBankSeats m v.items) (sym same.1) work.banks
+module _ {P : Type 0} (acts : Acts P) (m : Machine) (cores cores' : List CoreSeat) (programs programs' : List P)
+    (k : ℕ) (told : Told) (all : AllCoreSeats m cores) (ahead : AreAhead acts cores programs)
+    (passed : PassGiven (IsCoreTurn acts m) k (zip cores programs) told (zip cores' programs'))
+    (lt : k < length cores') (lt' : k < length programs') (q : CoreSeat) (y : P) (at : q ≡ slice_index_or cores' k q)
+    (at' : y ≡ slice_index_or programs' k y) where
+  next_pair : slice_get (zip cores' programs') k ≡ Some (q, y)
+  next_pair = pair_there cores' programs' k q y (here cores' k q lt at) (here programs' k y lt' at')
+
+  next_there : (slice_get cores k ≡ Some q) × (slice_get programs k ≡ Some y)
+  next_there = parts_there cores programs k (q, y) (sym (not_passed passed) ∙ next_pair)
+
+  pub next_core : IsCoreSeat m q
+  next_core = all k q next_there.0
+
+  pub next_ahead : IsAhead acts q y
+  next_ahead = ahead.each k q y next_there.0 next_there.1
+
+  pub core_had_turn : (had : Told) (r : CoreSeat) (z : P) → IsCoreTurn acts m (q, y) had (r, z) →
+      PassGiven (IsCoreTurn acts m) (k + 1) (zip cores programs) (told_by_both told had)
+      (zip (slice_set cores' k r) (slice_set programs' k z))
+  core_had_turn had r z turn =
+      let next : suc k ≡ k + 1 = omega arith in
+      subst (λ i. PassGiven (IsCoreTurn acts m) i (zip cores programs) (told_by_both told had)
+      (zip (slice_set cores' k r) (slice_set programs' k z))) next
+      (subst (λ ys. PassGiven (IsCoreTurn acts m) (suc k) (zip cores programs) (told_by_both told had) ys)
+      (pairs_set cores' programs' k r z) (passed_on had (q, y) (r, z) passed next_pair turn))

@@ -1,5 +1,5 @@
 pub mod Calls
-pub mod Driving
+pub mod Given
 pub mod Hands
 pub mod Playing
 pub mod Shifts

@@ -1,6 +1,7 @@
 -- What a core's seat and its program do in turns: the program gave the operations, one after the other, and was told
 -- what each completed one received.
-use Rattle.std.specs.Prelude.{◌≡◌, List, [], ◌∷◌, ◌++◌, Option, Some, None, IfSome, Result, Ok, Err}
+use Rattle.std.specs.Prelude.{◌≡◌, ℕ, List, [], ◌∷◌, ◌++◌, length, Option, Some, None, IfSome, Result, Ok, Err}
+use Rattle.std.specs.Prelude.{slice_get}
 use Rattle.physiological_order.specs.declared.operation.Op.{Op}
 use Rattle.physiological_order.specs.declared.operation.Record.{Record}
 use Rattle.machine_table.specs.declared.event.Refusal.{Refusal}
@@ -44,6 +45,12 @@ module _ {P : Type 0} (acts : Acts P) where
   -- an open operation is the program's next step
   abbrev pub IsAhead : CoreSeat → P → Type 0
   IsAhead p program = IfSome p.part.core.open_op (λ op. acts.next program ≡ Some (step.Op op))
+
+  -- there is one program a core's seat, and each of them is so
+  pub record AreAhead (cores : List CoreSeat) (programs : List P) : Type 0 where
+    pub long : length programs ≡ length cores
+    pub each : (i : ℕ) (p : CoreSeat) (a : P) → slice_get cores i ≡ Some p → slice_get programs i ≡ Some a →
+        IsAhead p a
 
   -- A core's seat and its program, p and `before`, are q and `after` now: the seat keeps its number. It has these
   -- records more; their operations are those that the program gave, and the program was told of each. An operation that

@@ -1,5 +1,5 @@
 -- What comes of seats that threads drove: the seats in order, what each core's program was told, and the end.
-use Rattle.std.specs.Prelude.{◌≡◌, ◌≢◌, ℕ, ◌+◌, ◌<◌, ◌≤◌, List, [], ◌∷◌, ◌++◌, length, cond}
+use Rattle.std.specs.Prelude.{◌≡◌, ◌≢◌, ℕ, ◌+◌, List, ◌++◌, length, if◌then◌else◌}
 use Rattle.std.specs.Prelude.{Some, None, slice_get}
 use Rattle.physiological_order.specs.declared.operation.Record.{Record}
 use Rattle.programs.specs.declared.ends.End.{End}
@@ -10,6 +10,8 @@ use Rattle.mailboxes.specs.declared.bank_seat.BankSeat.{BankSeat}
 use Rattle.mailboxes.specs.Seats.{IsCoreSeat, IsBankSeat}
 use Rattle.programs.specs.Acts.{Acts}
 use Rattle.machine_theorem.specs.Service.{IsServed}
+use Rattle.thread_driver.specs.declared.told.Told.{Told}
+use Rattle.thread_driver.specs.Given.{SeatsGiven}
 
 -- the seats of all cores of the machine, in order
 pub record AreCoresInOrder (m : Machine) (cores : List CoreSeat) : Type 0 where
@@ -26,17 +28,11 @@ pub record AreBanksInOrder (m : Machine) (banks : List BankSeat) : Type 0 where
 abbrev pub NoneOpen : List CoreSeat → Type 0
 NoneOpen cores = (i : ℕ) (p : CoreSeat) → slice_get cores i ≡ Some p → p.part.core.open_op ≡ None
 
--- how many seats are stopped
-abbrev pub stopped_cores : List CoreSeat → ℕ
-stopped_cores [] = 0
-stopped_cores (p ∷ ps) = cond p.is_stopped 1 0 + stopped_cores ps
-
-abbrev pub stopped_banks : List BankSeat → ℕ
-stopped_banks [] = 0
-stopped_banks (p ∷ ps) = cond p.is_stopped 1 0 + stopped_banks ps
-
-abbrev pub stopped : List CoreSeat → List BankSeat → ℕ
-stopped cores banks = stopped_cores cores + stopped_banks banks
+-- How it ends where something is left to do, by what the turns told: for want of memory if a turn told it, else exhausted
+-- if a turn told it, else since the turns are used up.
+abbrev pub end_told : Told → End
+end_told told =
+    if told.no_memory then end.NoMemory else (if told.is_exhausted then end.Exhausted else end.TurnsUsed)
 
 module _ {P : Type 0} (acts : Acts P) where
   -- A core's seat and its program, before and after: the core was served, with the records that were added. It is said
@@ -60,15 +56,15 @@ module _ {P : Type 0} (acts : Acts P) where
       (i : ℕ) (p : CoreSeat) (a : P) → slice_get cores i ≡ Some p → slice_get programs i ≡ Some a →
       (p.part.core.open_op ≡ None) × (acts.next a ≡ None)
 
-  -- Turns were given: all is done exactly if nothing is left to do. Otherwise times are exhausted only if more seats
-  -- are stopped than before, and the turns are used up only if none stopped. Threads never stall.
-  pub record Ran (cores : List CoreSeat) (banks : List BankSeat) (cores' : List CoreSeat)
-      (banks' : List BankSeat) (programs' : List P) (e : End) : Type 0 where
+  -- Seats of the machine were given turns, at most so many each. All is done exactly if nothing is left to do. Otherwise
+  -- what the turns told is how it ends.
+  pub record Ran (m : Machine) (limit : ℕ) (cores : List CoreSeat) (banks : List BankSeat) (programs : List P)
+      (cores' : List CoreSeat) (banks' : List BankSeat) (programs' : List P) (e : End) : Type 0 where
+    pub told : Told
+    pub given : SeatsGiven acts m limit cores banks programs told cores' banks' programs'
     pub done : e ≡ end.AllDone → AreOver cores' programs'
     pub all_done : AreOver cores' programs' → e ≡ end.AllDone
-    pub exhausted : e ≡ end.Exhausted → stopped cores banks < stopped cores' banks'
-    pub turns_used : e ≡ end.TurnsUsed → stopped cores' banks' ≤ stopped cores banks
-    pub not_stalled : e ≢ end.Stalled
+    pub otherwise : e ≢ end.AllDone → e ≡ end_told told
 
 -- Memory was refused before a turn was made: all are as they were given.
 pub record RefusedAtOnce {P : Type 0} (cores : List CoreSeat) (banks : List BankSeat) (programs : List P)

@@ -4,6 +4,7 @@ ghost use Rattle.thread_driver.specs.Hands.{AreBack, AreDealt, AreHands, AreRoom
 ghost use Rattle.thread_driver.specs.Hands.{banks_in, cores_in, programs_in};
 
 use crate::shift::Shift;
+use crate::told::QUIET;
 use crate::worker::{Hands, Worker};
 use round_robin::{deal, empty_hands, gather};
 use std::alloc::{AllocError, Global};
@@ -107,26 +108,24 @@ pub(crate) fn form<P: Drop>(
             cores: cores.unwrap(),
             programs: programs.unwrap(),
             banks: banks.unwrap(),
-            no_memory: false,
+            told: QUIET,
         };
         let stored = team.insert(0, worker);
         stored.unwrap();
     }
 }
 
-/// Workers put what they have into the hands again. Whether a call of one of their seats wanted memory.
-pub(crate) fn disband<P: Drop>(mut team: Vec<Worker<P>>, hands: &mut Hands<P>) -> bool
+/// Workers put what they have into the hands again.
+pub(crate) fn disband<P: Drop>(mut team: Vec<Worker<P>>, hands: &mut Hands<P>)
     requires empty { AreHands 0 hands.old }
     requires room { HaveHandRoom (length team.items) hands.old }
     ensures back { AreBack team.items [] hands.new }
 {
-    let mut no_memory = false;
     while let Some(worker) = team.pop() {
         let Worker {
             cores,
             programs,
             banks,
-            no_memory: wanted,
             ..
         } = worker;
         let first = hands.cores.insert(0, cores);
@@ -135,7 +134,5 @@ pub(crate) fn disband<P: Drop>(mut team: Vec<Worker<P>>, hands: &mut Hands<P>) -
         second.unwrap();
         let third = hands.banks.insert(0, banks);
         third.unwrap();
-        no_memory = no_memory || wanted;
     }
-    no_memory
 }

@@ -1,15 +1,19 @@
 //! Seats that workers drive, and what comes of it.
-ghost use Rattle.std.specs.Prelude.{◌≡◌, ◌≢◌, ◌⊎◌, ◌<◌, ◌≤◌, ◌^◌, true, OnErr, length};
+ghost use Rattle.std.specs.Prelude.{◌≡◌, ◌≢◌, ◌⊎◌, ◌<◌, ◌≤◌, ◌^◌, true, IfOk, OnErr, length};
+ghost use Rattle.std.specs.List.{list_any};
 ghost use Rattle.programs.specs.declared.ends.End.TheVariants as end;
 ghost use Rattle.mailboxes.specs.Seats.{AllBankSeats, AllCoreSeats, AreAll};
+ghost use Rattle.stop_flags.specs.Signalers.{IsSignalerOf};
+ghost use Rattle.thread_driver.specs.Given.{SeatsGiven};
+ghost use Rattle.thread_driver.specs.Playing.{AreAhead};
 ghost use Rattle.thread_driver.specs.Shifts.{AreBanksInOrder, AreCoresInOrder, AreOver, AreServed, NoneOpen};
-ghost use Rattle.thread_driver.specs.Shifts.{Ran, RefusedAtOnce, stopped};
-ghost use Rattle.thread_driver.specs.Driving.{AreAhead};
-ghost use Rattle.thread_driver.specs.Teams.{AllWork, AreReady, AreWorked, IsAtWork, IsReady, Works};
+ghost use Rattle.thread_driver.specs.Shifts.{Ran, RefusedAtOnce, end_told};
+ghost use Rattle.thread_driver.specs.Teams.{AllWork, AreReady, IsReady, Works};
 
-use crate::counting::{are_over, stopped_count};
+use crate::counting::are_over;
 use crate::dealing::{deal_all, disband, form, gather_all, open_hands};
 use crate::shift::Shift;
+use crate::told::Told;
 use crate::work::work;
 use crate::worker::{Rota, Worker};
 use mailboxes::{BankSeat, CoreSeat, Machine};
@@ -58,11 +62,10 @@ pub fn drive_threads<R: Threads + Sync, P: Program + Send + Drop, G: Gate + Sync
         result.programs.items }
     ensures ended { RefusedAtOnce cores.items banks.items programs.items
         result.cores.items result.banks.items result.programs.items result.end
-        ⊎ Ran P.acts cores.items banks.items
+        ⊎ Ran P.acts machine.now turn_limit cores.items banks.items programs.items
         result.cores.items result.banks.items result.programs.items result.end }
 {
     records_of_seats_are_counted();
-    let stopped = stopped_count(cores.as_slice(), banks.as_slice());
     let mut shift = Shift {
         end: End::NoMemory,
         cores,
@@ -71,15 +74,15 @@ pub fn drive_threads<R: Threads + Sync, P: Program + Send + Drop, G: Gate + Sync
     };
     match drive_shift(rt, alloc, machine, &mut shift, workers, turn_limit, gate) {
         Err(AllocError) => shift,
-        Ok(wanted) => {
-            shift.end = end_of(&mut shift, stopped, wanted);
+        Ok(told) => {
+            shift.end = end_of(&mut shift, told);
             shift
         }
     }
 }
 
-// Deals the seats and programs to workers, lets these work, and gathers the seats and programs again. Whether a call of
-// a seat wanted memory. AllocError where there is no memory for the workers: then nothing is changed.
+// Deals the seats and programs to workers, lets these work, and gathers the seats and programs again. What all turns
+// told. AllocError where there is no memory for the workers: then nothing is changed.
 fn drive_shift<R: Threads + Sync, P: Program + Send + Drop, G: Gate + Sync>(
     rt: &R,
     alloc: Global,
@@ -88,13 +91,15 @@ fn drive_shift<R: Threads + Sync, P: Program + Send + Drop, G: Gate + Sync>(
     workers: u32,
     turn_limit: u32,
     gate: &G,
-) -> Result<bool, AllocError>
+) -> Result<Told, AllocError>
     requires cores { AllCoreSeats machine.now shift.old.cores.items }
     requires banks { AllBankSeats machine.now shift.old.banks.items }
     requires ahead { AreAhead P.acts shift.old.cores.items shift.old.programs.items }
     requires few { length shift.old.cores.items < 2 ^ 32 }
     requires workers { (0 < workers) × (workers ≤ 16) }
-    ensures worked { AreWorked P.acts machine.now shift.old shift.new }
+    ensures worked { IfOk result (λ told. SeatsGiven P.acts machine.now turn_limit
+        shift.old.cores.items shift.old.banks.items shift.old.programs.items told
+        shift.new.cores.items shift.new.banks.items shift.new.programs.items) }
     ensures refused { OnErr result (shift.new ≡ shift.old) }
 {
     let count = workers as usize;
@@ -109,9 +114,10 @@ fn drive_shift<R: Threads + Sync, P: Program + Send + Drop, G: Gate + Sync>(
         turns: turn_limit,
     };
     drive_team(rt, machine, &signals, gate, rota, &mut team);
-    let wanted = disband(team, &mut hands);
+    let told = told_by_team(team.as_slice());
+    disband(team, &mut hands);
     gather_all(hands, shift, cores, programs, banks);
-    Ok(wanted)
+    Ok(told)
 }
 
 // Each worker works in a thread of its own, one of them in the calling one.
@@ -124,7 +130,8 @@ fn drive_team<R: Threads + Sync, P: Program + Send + Drop, G: Gate + Sync>(
     team: &mut Vec<Worker<P>>,
 )
     requires ready { AreReady P.acts machine.now signals.now team.old.items }
-    ensures work { AllWork P.acts machine.now signals.now team.old.items team.new.items }
+    ensures work { AllWork P.acts machine.now signals.now rota.turns team.old.items
+        team.new.items }
 {
     thread::for_each_mut(
         rt,
@@ -132,36 +139,58 @@ fn drive_team<R: Threads + Sync, P: Program + Send + Drop, G: Gate + Sync>(
         16,
         &|_, worker: &mut Worker<P>| -> ()
             requires { IsReady P.acts machine.now signals.now worker.now }
-            ensures { IsAtWork machine.entry.now signals.entry.now worker.exit.now ×
-                Works P.acts worker.entry.now worker.exit.now }
+            ensures { IsSignalerOf signals.entry.now worker.exit.now.signaler ×
+                Works P.acts machine.entry.now rota.turns worker.entry.now worker.exit.now }
         { work(machine, signals, gate, rota, worker) },
     );
 }
 
-// How a shift ends, by what is left to do: whether a call wanted memory, and how many seats were stopped before.
-fn end_of<P: Program + Drop>(shift: &mut Shift<P>, before: usize, wanted: bool) -> End
+// What all turns of a team told.
+fn told_by_team<P: Drop>(team: &[Worker<P>]) -> Told
+    ensures no_memory { result.no_memory ≡ list_any (λ w. w.told.no_memory) team.now }
+    ensures is_exhausted { result.is_exhausted ≡ list_any (λ w. w.told.is_exhausted) team.now }
+    ensures has_progressed { result.has_progressed ≡
+        list_any (λ w. w.told.has_progressed) team.now }
+{
+    Told {
+        no_memory: lacks_memory(team),
+        is_exhausted: is_exhausted(team),
+        has_progressed: team.iter().any(|worker| worker.told.has_progressed),
+    }
+}
+
+// Whether a turn of a team told want of memory.
+fn lacks_memory<P: Drop>(team: &[Worker<P>]) -> bool
+    ensures { result ≡ list_any (λ w. w.told.no_memory) team.now }
+{
+    team.iter().any(|worker| worker.told.no_memory)
+}
+
+// Whether a turn of a team told that its seat stopped.
+fn is_exhausted<P: Drop>(team: &[Worker<P>]) -> bool
+    ensures { result ≡ list_any (λ w. w.told.is_exhausted) team.now }
+{
+    team.iter().any(|worker| worker.told.is_exhausted)
+}
+
+// How a shift ends, by what is left to do and what the turns told.
+fn end_of<P: Program + Drop>(shift: &mut Shift<P>, told: Told) -> End
     requires { length shift.old.programs.items ≡ length shift.old.cores.items }
     ensures done { result ≡ end.AllDone → AreOver P.acts shift.old.cores.items
         shift.old.programs.items }
     ensures all_done { AreOver P.acts shift.old.cores.items shift.old.programs.items →
         result ≡ end.AllDone }
-    ensures exhausted { result ≡ end.Exhausted →
-        before < stopped shift.old.cores.items shift.old.banks.items }
-    ensures turns_used { result ≡ end.TurnsUsed →
-        stopped shift.old.cores.items shift.old.banks.items ≤ before }
-    ensures memory { wanted ≡ true → (result ≡ end.AllDone) ⊎ (result ≡ end.NoMemory) }
-    ensures no_memory { result ≡ end.NoMemory → wanted ≡ true }
-    ensures not_stalled { result ≢ end.Stalled }
+    ensures otherwise { result ≢ end.AllDone → result ≡ end_told told }
     ensures same { (shift.new.cores ≡ shift.old.cores) × (shift.new.banks ≡ shift.old.banks) ×
         (shift.new.programs.items ≡ shift.old.programs.items) }
 {
     if are_over(shift.cores.as_slice(), &mut shift.programs) {
         return End::AllDone;
     }
-    if wanted {
+    if told.no_memory {
         return End::NoMemory;
     }
-    if stopped_count(shift.cores.as_slice(), shift.banks.as_slice()) > before {
+    if told.is_exhausted {
         End::Exhausted
     } else {
         End::TurnsUsed

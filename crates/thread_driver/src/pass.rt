@@ -1,21 +1,16 @@
 //! A pass: each seat of a worker has a turn.
-ghost use Rattle.std.specs.Prelude.{◌≡◌};
+ghost use Rattle.std.specs.Prelude.{◌≡◌, ℕ, length};
+ghost use Rattle.std.specs.List.{zip};
 ghost use Rattle.mailboxes.specs.Seats.{AllBankSeats, AllCoreSeats};
-ghost use Rattle.thread_driver.specs.Driving.{AreAhead, AreDriven, AreSameBanks};
+ghost use Rattle.thread_driver.specs.Given.{IsBankTurn, IsCoreTurn, PassGiven};
+ghost use Rattle.thread_driver.specs.Playing.{AreAhead};
 
 use crate::bank_turns::bank_turn;
 use crate::core_turns::core_turn;
-use crate::told::Told;
+use crate::told::{QUIET, Told, both};
 use mailboxes::{BankSeat, CoreSeat, Machine};
 use programs::program::Program;
 use shared_jobs::Gate;
-
-/// What a pass tells before its first turn.
-pub(crate) const QUIET: Told = Told {
-    no_memory: false,
-    is_exhausted: false,
-    has_progressed: false,
-};
 
 /// Whether no worker goes on after this.
 pub(crate) fn ends_all(told: &Told) -> bool {
@@ -33,8 +28,11 @@ pub(crate) fn core_pass<P: Program, G: Gate>(
     requires seats { AllCoreSeats machine.now cores.old.items }
     requires ahead { AreAhead P.acts cores.old.items programs.old.items }
     ensures seats { AllCoreSeats machine.now cores.new.items }
-    ensures driven { AreDriven P.acts cores.old.items programs.old.items cores.new.items
-        programs.new.items }
+    ensures ahead { AreAhead P.acts cores.new.items programs.new.items }
+    ensures long { length cores.new.items ≡ length cores.old.items }
+    ensures turns { (turns : ℕ) × PassGiven (IsCoreTurn P.acts machine.now) turns
+        (zip cores.old.items programs.old.items) result
+        (zip cores.new.items programs.new.items) }
 {
     let mut all = QUIET;
     for i in 0..cores.len() {
@@ -59,7 +57,8 @@ pub(crate) fn bank_pass<G: Gate>(
 ) -> Told
     requires seats { AllBankSeats machine.now banks.old.items }
     ensures seats { AllBankSeats machine.now banks.new.items }
-    ensures same { AreSameBanks banks.old.items banks.new.items }
+    ensures turns { (turns : ℕ) ×
+        PassGiven (IsBankTurn machine.now) turns banks.old.items result banks.new.items }
 {
     let mut all = QUIET;
     for i in 0..banks.len() {
@@ -73,13 +72,4 @@ pub(crate) fn bank_pass<G: Gate>(
         all = both(all, told);
     }
     all
-}
-
-/// What two turns tell together.
-pub(crate) fn both(first: Told, second: Told) -> Told {
-    Told {
-        no_memory: first.no_memory || second.no_memory,
-        is_exhausted: first.is_exhausted || second.is_exhausted,
-        has_progressed: first.has_progressed || second.has_progressed,
-    }
 }

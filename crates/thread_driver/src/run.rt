@@ -26,9 +26,9 @@ pub struct ThreadRun<P: Drop> {
 
 /// Opens a machine with this memory, lets 1 to 16 workers drive its seats with at most `turn_limit` turns each, and
 /// closes it. A program a core gives it its steps. docs/SCHEDULES.md has the order of turns, and the ends. What comes
-/// of it is a machine in a reached state, which is consistent (`closed_machines_are_consistent`). The end is Exhausted
-/// only if one of the seats that were closed had stopped, and TurnsUsed only if none had. AllocError where there is no
-/// memory to open the machine or to close it.
+/// of it is a machine in a reached state, which is consistent (`closed_machines_are_consistent`). How it ends is what the
+/// turns told that were given from the seats that opened to those that were closed. AllocError where there is no memory
+/// to open the machine or to close it.
 pub fn run_threads<R: Threads + Sync, P: Program + Send + Drop, G: Gate + Sync>(
     rt: &R,
     alloc: Global,
@@ -45,7 +45,7 @@ pub fn run_threads<R: Threads + Sync, P: Program + Send + Drop, G: Gate + Sync>(
     ensures set_up { IfOk result (λ r. (r.run.set_up.config ≡ config) ×
         (r.run.set_up.memory ≡ memory)) }
     ensures run { IfOk result (λ r.
-        IsRunFrom P.acts programs.items r.run r.programs.items r.end) }
+        IsRunFrom P.acts turn_limit programs.items r.run r.programs.items r.end) }
 {
     new_seats_can_be_driven();
     closed_machines_are_consistent();

@@ -1,5 +1,6 @@
 //! What a turn of a seat tells the one that gave it.
 ghost use Rattle.std.specs.Prelude.{◌≡◌};
+ghost use Rattle.thread_driver.specs.Given.{told_by_both};
 ghost use Rattle.thread_driver.specs.Turns.{has_moved, told_of_turn};
 
 use inbox::Served;
@@ -15,6 +16,24 @@ pub struct Told {
     pub is_exhausted: bool,
     /// A step of a program was done, or a message was put or served.
     pub has_progressed: bool,
+}
+
+/// What is told before the first turn.
+pub(crate) const QUIET: Told = Told {
+    no_memory: false,
+    is_exhausted: false,
+    has_progressed: false,
+};
+
+/// What two turns tell together.
+pub(crate) fn both(first: Told, second: Told) -> Told
+    ensures { result ≡ told_by_both first second }
+{
+    Told {
+        no_memory: first.no_memory || second.no_memory,
+        is_exhausted: first.is_exhausted || second.is_exhausted,
+        has_progressed: first.has_progressed || second.has_progressed,
+    }
 }
 
 /// What the turn of a seat tells, which was stopped or not before and after.

@@ -2,12 +2,13 @@
 ghost use Rattle.std.specs.Prelude.{◌≡◌, length};
 ghost use Rattle.mailboxes.specs.Seats.{AllBankSeats, AllCoreSeats};
 ghost use Rattle.stop_flags.specs.Signalers.{IsSignalerOf};
-ghost use Rattle.thread_driver.specs.Driving.{AreAhead};
+ghost use Rattle.thread_driver.specs.Given.{SeatsPassed};
+ghost use Rattle.thread_driver.specs.Playing.{AreAhead};
 ghost use Rattle.thread_driver.specs.Teams.{IsAtWork, Works};
 
 use crate::counting::over_count;
-use crate::pass::{bank_pass, both, core_pass, ends_all};
-use crate::told::Told;
+use crate::pass::{bank_pass, core_pass, ends_all};
+use crate::told::{QUIET, Told, both};
 use crate::worker::{Rota, Worker};
 use mailboxes::Machine;
 use programs::program::Program;
@@ -26,9 +27,10 @@ pub(crate) fn work<P: Program + Drop, G: Gate>(
 )
     requires work { IsAtWork machine.now signals.now worker.old }
     requires ahead { AreAhead P.acts worker.old.cores.items worker.old.programs.items }
-    ensures work { IsAtWork machine.now signals.now worker.new }
-    ensures works { Works P.acts worker.old worker.new }
+    ensures signaler { IsSignalerOf signals.now worker.new.signaler }
+    ensures works { Works P.acts machine.now rota.turns worker.old worker.new }
 {
+    worker.told = QUIET;
     let mut idle = 0;
     for turn in 0..rota.turns {
         tell(signals, worker);
@@ -37,8 +39,8 @@ pub(crate) fn work<P: Program + Drop, G: Gate>(
             return;
         }
         let told = pass(machine, gate, worker, turn);
+        worker.told = both(worker.told, told);
         if ends_all(&told) {
-            worker.no_memory = told.no_memory;
             worker.signaler.stop(signals);
             return;
         }
@@ -71,8 +73,12 @@ fn pass<P: Program + Drop, G: Gate>(
     requires ahead { AreAhead P.acts worker.old.cores.items worker.old.programs.items }
     ensures cores { AllCoreSeats machine.now worker.new.cores.items }
     ensures banks { AllBankSeats machine.now worker.new.banks.items }
-    ensures works { Works P.acts worker.old worker.new }
-    ensures signaler { worker.new.signaler ≡ worker.old.signaler }
+    ensures ahead { AreAhead P.acts worker.new.cores.items worker.new.programs.items }
+    ensures passed { SeatsPassed P.acts machine.now
+        worker.old.cores.items worker.old.banks.items worker.old.programs.items result
+        worker.new.cores.items worker.new.banks.items worker.new.programs.items }
+    ensures same { (worker.new.signaler ≡ worker.old.signaler) ×
+        (worker.new.told ≡ worker.old.told) }
 {
     let told = core_pass(machine, gate, &mut worker.cores, &mut worker.programs, turn);
     if ends_all(&told) {
@@ -87,7 +93,8 @@ fn tell<P: Program + Drop>(signals: &Signals, worker: &mut Worker<P>)
     requires long { length worker.old.programs.items ≡ length worker.old.cores.items }
     ensures signaler { IsSignalerOf signals.now worker.new.signaler }
     ensures same { (worker.new.cores ≡ worker.old.cores) × (worker.new.banks ≡ worker.old.banks) ×
-        (worker.new.programs.items ≡ worker.old.programs.items) }
+        (worker.new.programs.items ≡ worker.old.programs.items) ×
+        (worker.new.told ≡ worker.old.told) }
 {
     let over = over_count(worker.cores.as_slice(), &mut worker.programs);
     for _ in worker.signaler.said.finished..over {

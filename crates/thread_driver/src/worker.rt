@@ -1,4 +1,5 @@
 //! A worker, with what it was dealt.
+use crate::told::Told;
 use mailboxes::{BankSeat, CoreSeat};
 use stop_flags::Signaler;
 
@@ -10,8 +11,8 @@ pub struct Worker<P: Drop> {
     pub cores: Vec<CoreSeat>,
     pub programs: Vec<P>,
     pub banks: Vec<BankSeat>,
-    /// Whether a call of one of its seats was refused since allocation failed.
-    pub no_memory: bool,
+    /// What all turns of its seats told.
+    pub told: Told,
 }
 
 /// How far workers go: so many programs are there in all, and each seat has at most so many turns.

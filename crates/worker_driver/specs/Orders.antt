@@ -14,10 +14,10 @@ use Rattle.thread_driver.specs.ThreadRuns.{IsThreadRun}
 
 -- A run leads from a machine that is set up and opens so, and these programs, to a machine, other programs and an end.
 -- By a policy it does so by the events of its schedule, with at most so many turns. By threads, which follow no policy,
--- the machine is then in a state that moves of its parts reach; how many turns there were is not said.
+-- each seat of the machine is given at most so many turns, and these tell how the run ends.
 abbrev pub LeadsTo : {P : Type 0} → Acts P → Option Policy → ℕ → Config → FinMap nat_cmp ℕ → List P → Machine → List P →
     End → Type 0
 LeadsTo acts (Some policy) limit config opening before m after e =
     (events : List Event) × EndedBy acts policy limit (at_start config opening) before events m after e
 LeadsTo acts None limit config opening before m after e =
-    (m.config ≡ config) × (m.opening ≡ opening) × IsThreadRun acts before m after e
+    (m.config ≡ config) × (m.opening ≡ opening) × IsThreadRun acts limit before m after e

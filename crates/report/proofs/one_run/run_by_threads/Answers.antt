@@ -1,4 +1,4 @@
-use Rattle.std.proofs.Common.{◌≡◌, List, None, ap, sym, subst, length, ◌∙◌, arith}
+use Rattle.std.proofs.Common.{◌≡◌, List, None, ap, refl, sym, subst, length, ◌∙◌, arith}
 use Rattle.std.specs.FinMap.{empty}
 use Rattle.physiological_order.specs.StaleHits.{RisesByNumber}
 use Rattle.machine_table.specs.Machine.{Machine}
@@ -25,12 +25,14 @@ returns g c =
     let m : Machine = machine_of ran.run is.parts in
     let config_is : m.config ≡ config = c.in_ok-ran.ensures.set_up.0 in
     let opened : m.opening ≡ empty = c.in_ok-ran.ensures.set_up.1 ∙ c.new-memory.ensures in
-    let run = subst (λ (ts : List (List Step)). IsThreadRun step_acts ts m ran.programs.items ran.end)
-    c.in_ok-programs.ensures is.is_run in
+    let run = subst (λ (ts : List (List Step)). IsThreadRun step_acts c.args.limit ts m ran.programs.items ran.end)
+    c.in_ok-programs.ensures (record { run = ran.run; is_run = is; shows = refl }) in
     let served = subst (λ ws. AreServed step_acts (at_start config ws) m (programs_below lanes (trace_cores lanes))
     ran.programs.items) opened
     (subst (λ k. AreServed step_acts (at_start k m.opening) m (programs_below lanes (trace_cores lanes))
-    ran.programs.items) config_is run.served) in (
+    ran.programs.items) config_is
+    (subst (λ (ts : List (List Step)). AreServed step_acts (at_start m.config m.opening) m ts ran.programs.items)
+    c.in_ok-programs.ensures is.served)) in (
       is.parts,
       is_run lanes config m ran.programs.items c.requires.cores served
           (c.closed_machines_are_consistent.ensures ran.run is.parts) opened

@@ -1,7 +1,8 @@
-use Rattle.std.proofs.Common.{◌≡◌, ◌≤◌, [], ◌∷◌, ◌++◌, false, length, map, sym, ap, ◌∙◌, subst, append_assoc, arith}
+use Rattle.std.proofs.Common.{◌≤◌, [], ◌∷◌, ◌++◌, length, map, sym, ap, ◌∙◌, subst, append_assoc, arith}
 use Rattle.std.proofs.Common.{length-append}
 use Rattle.thread_driver.specs.declared.worker.Worker.{Worker}
 use Rattle.thread_driver.specs.declared.worker.Hands.{Hands}
+use Rattle.thread_driver.specs.Given.{quiet}
 use Rattle.thread_driver.specs.Hands.{AreSplit}
 use Rattle.thread_driver.proofs.Formed.{both_shorter, inserted, popped, split_more}
 use Rattle.thread_driver.proofs.dealing.form.Goals as goal
@@ -18,7 +19,7 @@ loop-signaler-preserved g c =
       cores = c.unwrap.result;
       programs = c.unwrap-in-Some.result;
       banks = c.unwrap-in-Some-2.result;
-      no_memory = false;
+      told = quiet;
     } in
     let signalers = c.in-Some.ensures.items in
     let cores = popped old.cores.items new.cores.items c.pop-cores.result w.cores c.pop-cores.ensures.items

@@ -1,5 +1,6 @@
-use Rattle.std.proofs.Common.{◌≡◌, ℕ, ◌<◌, length, sym, ap, ◌∙◌, subst, arith}
+use Rattle.std.proofs.Common.{◌≡◌, ℕ, ◌<◌, List, length, sym, ap, ◌∙◌, subst, arith}
 use Rattle.std.specs.Prelude.{slice_index_or}
+use Rattle.std.specs.List.{list_any}
 use Rattle.std.proofs.lemmas.List.{length-map}
 use Rattle.std.proofs.lemmas.Option.{slice_get_within}
 use Rattle.stop_flags.specs.declared.signaler.Signaler.{Signaler}
@@ -8,20 +9,7 @@ use Rattle.thread_driver.specs.declared.worker.Worker.{Worker}
 use Rattle.thread_driver.specs.Hands.{HaveHandRoom}
 use Rattle.thread_driver.proofs.Formed.{dealt_back, dealt_to, lengths_back}
 use Rattle.thread_driver.proofs.Dealt.{ahead_of, all_worked, banks_of, cores_of, lengths_after, value_of, vs_count}
-use Rattle.thread_driver.proofs.Worked.{not_worked}
 use Rattle.thread_driver.proofs.drive.drive_shift.Goals as goal
-
-pub returns-in_err-signals-clause-worked : goal.returns-in_err-signals-clause-worked
-returns-in_err-signals-clause-worked g c =
-    not_worked g.P.Program.acts c.args.machine.now c.args.shift.now c.requires.cores c.requires.banks c.requires.ahead
-
-pub returns-in_err-hands-clause-worked : goal.returns-in_err-hands-clause-worked
-returns-in_err-hands-clause-worked g c =
-    not_worked g.P.Program.acts c.args.machine.now c.args.shift.now c.requires.cores c.requires.banks c.requires.ahead
-
-pub returns-in_err-team-clause-worked : goal.returns-in_err-team-clause-worked
-returns-in_err-team-clause-worked g c =
-    not_worked g.P.Program.acts c.args.machine.now c.args.shift.now c.requires.cores c.requires.banks c.requires.ahead
 
 pub drive_team-requires-clause-ready : goal.drive_team-requires-clause-ready
 drive_team-requires-clause-ready g c κs bounds i w at =
@@ -44,17 +32,17 @@ drive_team-requires-clause-ready g c κs bounds i w at =
     ∙ value_of (λ (x : Worker g.row.P.Denot). x.signaler) ws i w w.signaler at in (
       record {
         signaler = subst (IsSignalerOf signals) it one.0;
-        cores = cores_of a m signals n s.cores.items s.programs.items s.banks.items ws dealt c.requires.cores
+        cores = cores_of a m n s.cores.items s.programs.items s.banks.items ws dealt c.requires.cores
             c.requires.banks c.requires.ahead i w at;
-        banks = banks_of a m signals n s.cores.items s.programs.items s.banks.items ws dealt c.requires.cores
+        banks = banks_of a m n s.cores.items s.programs.items s.banks.items ws dealt c.requires.cores
             c.requires.banks c.requires.ahead i w at;
       },
-      ahead_of a m signals n s.cores.items s.programs.items s.banks.items ws dealt c.requires.cores c.requires.banks
+      ahead_of a m n s.cores.items s.programs.items s.banks.items ws dealt c.requires.cores c.requires.banks
           c.requires.ahead i w at,
     )
 
-pub disband-wanted-requires-clause-room : goal.disband-wanted-requires-clause-room
-disband-wanted-requires-clause-room g c =
+pub disband-requires-clause-room : goal.disband-requires-clause-room
+disband-requires-clause-room g c =
     let ws = c.form.new.team.items in
     let as_many = length-map {B = Signaler} ws (λ (x : Worker g.row.P.Denot). x.signaler) in
     let same = ap length c.form.ensures.signalers in
@@ -72,16 +60,18 @@ gather_all-requires-clause-lengths g c =
     let dealt = dealt_to n s.cores.items s.programs.items s.banks.items c.deal_all.new.hands c.form.new.hands ws
     c.deal_all.ensures.dealt c.form.ensures.split c.form.ensures.empty in
     let vs = c.drive_team.new.team.items in
-    let h = c.disband-wanted.new.hands in
+    let h = c.disband.new.hands in
     let a = g.P.Program.acts in
     let m = c.args.machine.now in
-    let long = vs_count a m c.in_ok-signals.signals n s.cores.items s.programs.items s.banks.items ws vs dealt
+    let long = vs_count a m n s.cores.items s.programs.items s.banks.items ws vs dealt
+    c.in_ok-signals.signals c.args.turn_limit
     c.drive_team.ensures.work in
-    lengths_back n vs h long c.disband-wanted.ensures.back (length s.cores.items) (length s.programs.items)
+    lengths_back n vs h long c.disband.ensures.back (length s.cores.items) (length s.programs.items)
     (length s.banks.items) c.len-cores.result c.len-programs.result c.len-banks.result
     (c.len-cores.ensures ∙ s.cores.ok.0) (c.len-programs.ensures ∙ s.programs.ok.0)
     (c.len-banks.ensures ∙ s.banks.ok.0)
-    (lengths_after a m c.in_ok-signals.signals n s.cores.items s.programs.items s.banks.items ws vs dealt
+    (lengths_after a m n s.cores.items s.programs.items s.banks.items ws vs dealt
+    c.in_ok-signals.signals c.args.turn_limit
     c.drive_team.ensures.work)
 
 pub returns-clause-worked : goal.returns-clause-worked
@@ -92,13 +82,19 @@ returns-clause-worked g c =
     let dealt = dealt_to n s.cores.items s.programs.items s.banks.items c.deal_all.new.hands c.form.new.hands ws
     c.deal_all.ensures.dealt c.form.ensures.split c.form.ensures.empty in
     let vs = c.drive_team.new.team.items in
-    let h = c.disband-wanted.new.hands in
+    let h = c.disband.new.hands in
     let t = c.gather_all.new.shift in
-    let long = vs_count g.P.Program.acts c.args.machine.now c.in_ok-signals.signals n s.cores.items s.programs.items
-    s.banks.items ws vs dealt c.drive_team.ensures.work in
+    let long = vs_count g.P.Program.acts c.args.machine.now n s.cores.items s.programs.items s.banks.items ws vs dealt
+    c.in_ok-signals.signals c.args.turn_limit c.drive_team.ensures.work in
     let counts = c.gather_all.ensures.long in
-    let back = dealt_back n vs h long c.disband-wanted.ensures.back t.cores.items t.programs.items t.banks.items
+    let back = dealt_back n vs h long c.disband.ensures.back t.cores.items t.programs.items t.banks.items
     c.gather_all.ensures.dealt in
-    all_worked g.P.Program.acts c.args.machine.now c.in_ok-signals.signals n s t ws vs dealt c.drive_team.ensures.work
-    (counts.0 ∙ c.len-cores.ensures ∙ s.cores.ok.0) (counts.1 ∙ c.len-programs.ensures ∙ s.programs.ok.0)
-    (counts.2 ∙ c.len-banks.ensures ∙ s.banks.ok.0) back
+    let told = c.told_by_team-told.ensures in
+    let team = c.as_slice.ensures.value in
+    all_worked g.P.Program.acts c.args.machine.now c.args.turn_limit c.in_ok-signals.signals n s t ws vs c.told_by_team-told.result dealt
+    c.drive_team.ensures.work (counts.0 ∙ c.len-cores.ensures ∙ s.cores.ok.0)
+    (counts.1 ∙ c.len-programs.ensures ∙ s.programs.ok.0) (counts.2 ∙ c.len-banks.ensures ∙ s.banks.ok.0)
+    c.requires.ahead.long back
+    (told.no_memory ∙ ap (λ (us : List (Worker g.row.P.Denot)). list_any (λ u. u.told.no_memory) us) team)
+    (told.is_exhausted ∙ ap (λ (us : List (Worker g.row.P.Denot)). list_any (λ u. u.told.is_exhausted) us) team)
+    (told.has_progressed ∙ ap (λ (us : List (Worker g.row.P.Denot)). list_any (λ u. u.told.has_progressed) us) team)

@@ -1,14 +1,34 @@
-use Rattle.std.proofs.Common.{arith}
-use Rattle.thread_driver.proofs.Driven.{bank_turn_of_seat, bank_turned}
+use Rattle.std.proofs.Common.{◌+◌, refl, sym, subst, ◌∙◌, arith, length-set}
+use Rattle.std.specs.Prelude.{slice_set}
+use Rattle.thread_driver.specs.Given.{IsBankTurn, PassGiven, ends}
+use Rattle.thread_driver.proofs.Worked.{bank_had_turn, banks_passed, next_bank}
 use Rattle.thread_driver.proofs.pass.bank_pass.Goals as goal
+
+pub loop-i-init : goal.loop-i-init
+loop-i-init g c = (ends, refl)
 
 pub bank_turn-told-requires : goal.bank_turn-told-requires
 bank_turn-told-requires g c =
-    bank_turn_of_seat c.args.machine.now c.args.banks.now.items c.loop-i.banks.items c.loop-i.i c.index_mut.result.now
-    c.loop-i.invariant.0 c.loop-i.invariant.1 (omega arith) c.index_mut.ensures.value
+    next_bank c.args.machine.now c.args.banks.now.items c.loop-i.banks.items c.loop-i.i c.loop-i.all c.requires.seats
+    c.loop-i.invariant.0 (omega arith) c.index_mut.result.now c.index_mut.ensures.value
 
 pub loop-i-preserved : goal.loop-i-preserved
 loop-i-preserved g c =
-    bank_turned c.args.machine.now c.args.banks.now.items c.loop-i.banks.items c.loop-i.i c.index_mut.result.now
-    c.loop-i.invariant.0 c.loop-i.invariant.1 (omega arith) c.index_mut.ensures.value c.bank_turn-told.new.seat
-    c.bank_turn-told.ensures.seat.0 c.bank_turn-told.ensures.seat.1
+    let i = c.loop-i.i in
+    let q = c.bank_turn-told.new.seat in
+    let turn = c.bank_turn-told.ensures in
+    let passed = bank_had_turn c.args.machine.now c.args.banks.now.items c.loop-i.banks.items i c.loop-i.all c.requires.seats
+    c.loop-i.invariant.0 (omega arith) c.index_mut.result.now c.index_mut.ensures.value c.bank_turn-told.result q
+    (record { seat = turn.seat.0; number = turn.seat.1; turn = turn.turn }) in (
+      subst (λ t. PassGiven (IsBankTurn c.args.machine.now) (i + 1) c.args.banks.now.items t
+          (slice_set c.loop-i.banks.items i q)) (sym c.both-all.ensures) passed,
+      length-set c.loop-i.banks.items i q ∙ c.loop-i.invariant.1,
+    )
+
+pub returns-after-loop-i-clause-seats : goal.returns-after-loop-i-clause-seats
+returns-after-loop-i-clause-seats g c =
+    banks_passed c.args.machine.now c.args.banks.now.items c.loop-i.banks.items c.requires.seats c.loop-i.invariant.0
+
+pub returns-then-ends_all-clause-seats : goal.returns-then-ends_all-clause-seats
+returns-then-ends_all-clause-seats g c =
+    banks_passed c.args.machine.now c.args.banks.now.items c.loop-i.banks.items c.requires.seats c.loop-i.invariant.0

@@ -1,6 +1,8 @@
-use Rattle.mailboxes.specs.Seats.{AllBankSeats}
-use Rattle.thread_driver.specs.Driving.{AreSameBanks}
+use Rattle.std.proofs.Common.{◌≡◌, length}
+use Rattle.thread_driver.specs.Given.{IsBankTurn, PassGiven}
 use Rattle.thread_driver.proofs.pass.bank_pass.Given as goal
 
 abbrev pub invariant-loop-i : goal.invariant-loop-i
-invariant-loop-i g l = AllBankSeats l.machine l.banks.items × AreSameBanks l.fn.banks.items l.banks.items
+invariant-loop-i g l =
+    PassGiven (IsBankTurn l.machine) l.i l.fn.banks.items l.all l.banks.items
+    × (length l.banks.items ≡ length l.fn.banks.items)

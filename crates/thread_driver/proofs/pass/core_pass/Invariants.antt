@@ -1,8 +1,10 @@
-use Rattle.mailboxes.specs.Seats.{AllCoreSeats}
-use Rattle.thread_driver.specs.Driving.{AreDriven}
+use Rattle.std.proofs.Common.{◌≡◌, length}
+use Rattle.std.specs.List.{zip}
+use Rattle.thread_driver.specs.Given.{IsCoreTurn, PassGiven}
 use Rattle.thread_driver.proofs.pass.core_pass.Given as goal
 
 abbrev pub invariant-loop-i : goal.invariant-loop-i
 invariant-loop-i g l =
-    AllCoreSeats l.machine l.cores.items
-    × AreDriven g.P.Program.acts l.fn.cores.items l.fn.programs.items l.cores.items l.programs.items
+    PassGiven (IsCoreTurn g.P.Program.acts l.machine) l.i (zip l.fn.cores.items l.fn.programs.items) l.all
+    (zip l.cores.items l.programs.items)
+    × (length l.cores.items ≡ length l.fn.cores.items) × (length l.programs.items ≡ length l.fn.programs.items)

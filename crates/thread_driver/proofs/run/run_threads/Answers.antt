@@ -1,12 +1,10 @@
-use Rattle.std.proofs.Common.{◌≡◌, refl, sym, ap, subst, length, ◌∙◌}
+use Rattle.std.proofs.Common.{◌≡◌, sym, ap, subst, length, ◌∙◌}
 use Rattle.machine_table.specs.declared.config.Config.{Config}
 use Rattle.seat_rule.specs.declared.views.SetUp.{SetUp}
 use Rattle.closed_machine.specs.PartsOfState.{PartsOfState}
-use Rattle.closed_machine.specs.RunParts.{state_of_run}
 use Rattle.mailboxes.specs.Seats.{AllNewBanks}
-use Rattle.thread_driver.proofs.Ended.{done_is_over, never_stalled, over_is_done}
+use Rattle.thread_driver.proofs.Ended.{done_is_over, over_is_done}
 use Rattle.thread_driver.proofs.AllServed.{all_served}
-use Rattle.thread_driver.proofs.Stopped.{exhausted_stopped, none_at_first, used_not_stopped}
 use Rattle.thread_driver.proofs.run.run_threads.Goals as goal
 
 pub drive_threads-end-requires-clause-cores : goal.drive_threads-end-requires-clause-cores
@@ -48,35 +46,33 @@ returns-clause-run g c =
     let programs : length before ≡ length cores = c.requires.programs ∙ sym c.in-Ok.ensures.cores.0 in
     let told : length after ≡ length ended = served.long ∙ programs ∙ many ∙ sym all in
     let acts = g.P.Program.acts in
+    let limit = c.args.turn_limit in
     let e = c.drive_threads-end.result.end in
     let banks = c.in-Ok.banks.items in
     let banks' = c.drive_threads-end.result.banks.items in
-    let first = none_at_first m c.args.config.cores cores banks c.in-Ok.ensures.cores.1 c.in-Ok.ensures.banks.1 in
     record {
       parts = parts;
-      is_run = record {
-        state = state_of_run run parts;
-        reached = parts.whole.reached;
-        shows = refl;
-        served = all_served acts m run parts cores ended before after c.in-Ok.ensures.cores.1 many order all programs
-            served left (c.closed_machines_are_consistent.ensures run parts);
-        done = done_is_over acts m run parts ended after order all told left cores banks banks' before e
-            c.drive_threads-end.ensures.ended;
-        over = over_is_done acts m run parts ended after order all told left cores banks banks' before e
-            c.drive_threads-end.ensures.ended;
-        not_stalled = never_stalled acts m run parts ended after order all told left cores banks banks' before e
-            c.drive_threads-end.ensures.ended;
-      };
-      closed = m;
+      reached = parts.whole.reached;
+      served = all_served acts m run parts cores ended before after c.in-Ok.ensures.cores.1 many order all programs
+          served left (c.closed_machines_are_consistent.ensures run parts);
+      machine = m;
       set_up = c.in_ok-run.ensures.set_up;
+      opened_cores = cores;
+      opened_banks = banks;
+      opened = record {
+        all_cores = c.in-Ok.ensures.cores.0 ∙ sym (ap (λ (k : Config). k.cores) c.in-Ok.ensures.set_up.0);
+        all_banks = c.in-Ok.ensures.banks.0 ∙ sym (ap (λ (k : Config). k.banks) c.in-Ok.ensures.set_up.0);
+        new_cores = c.in-Ok.ensures.cores.1;
+        new_banks = subst (λ n. AllNewBanks m n banks) (sym (ap (λ (k : Config). k.cores) c.in-Ok.ensures.set_up.0))
+            c.in-Ok.ensures.banks.1;
+      };
       cores = ended;
       banks = banks';
-      cores_seated = order;
-      banks_seated = c.drive_threads-end.ensures.banks;
       of_cores = left;
       of_banks = c.in_ok-run.ensures.banks;
-      exhausted = exhausted_stopped acts cores ended banks banks' before after e first
+      ended = c.drive_threads-end.ensures.ended;
+      done = done_is_over acts m run parts ended after order all told left limit cores banks banks' before e
           c.drive_threads-end.ensures.ended;
-      turns_used = used_not_stopped acts cores ended banks banks' before after e first
+      over = over_is_done acts m run parts ended after order all told left limit cores banks banks' before e
           c.drive_threads-end.ensures.ended;
     }

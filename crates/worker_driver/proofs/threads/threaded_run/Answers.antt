@@ -31,16 +31,16 @@ returns-clause-run g c =
     let ran = c.in_ok-ran.ran in
     let is = c.in_ok-ran.ensures.run in
     let m : Machine = machine_of ran.run is.parts in
-    let run_is = subst (λ (ts : List Thread). IsThreadRun thread_acts ts m ran.programs.items ran.end)
-    c.in_ok-threads.ensures is.is_run in
+    let run_is = subst (λ (ts : List Thread). IsThreadRun thread_acts c.args.limit ts m ran.programs.items ran.end)
+    c.in_ok-threads.ensures (record { run = ran.run; is_run = is; shows = refl }) in
     IfOk-weaker c.told.result _ _ (λ run told. record {
       machine = m;
       threads = ran.programs.items;
       led = (
         c.in_ok-ran.ensures.set_up.0,
         c.in_ok-ran.ensures.set_up.1 ∙ c.in_ok-memory.ensures.memory,
-        subst (λ e. IsThreadRun thread_acts (threads_from test 0 test.threads) m ran.programs.items e) (sym told.0)
-            run_is,
+        subst (λ e. IsThreadRun thread_acts c.args.limit (threads_from test 0 test.threads) m ran.programs.items e)
+            (sym told.0) run_is,
       );
       told = subst (λ (ts : List Thread). Tells test m ts run) c.deref.ensures.value (told.1 m (is.parts, refl));
     }) c.told.ensures
@@ -57,10 +57,10 @@ returns-clause-outcome g c =
     let served = subst (λ ws. AreServed thread_acts (at_start m.config ws) m (threads_from test 0 test.threads)
     ran.programs.items) opened
     (subst (λ (ts : List Thread). AreServed thread_acts (at_start m.config m.opening) m ts ran.programs.items)
-    c.in_ok-threads.ensures is.is_run.served) in
+    c.in_ok-threads.ensures is.served) in
     IfOk-weaker c.told.result _ _ (λ run told text text_is.
     has_outcome c.performed_histories_are_sequential.ensures test m.config m ran.programs.items
     (ap (λ (k : Config). k.cores) config_is ∙ c.requires.cores) opened (c.closed_machines_are_consistent.ensures ran.run is.parts) served text
-    text_is run.end (λ done. is.is_run.done (sym told.0 ∙ done)) run.state
+    text_is run.end (λ done. is.done (sym told.0 ∙ done)) run.state
     (subst (λ (ts : List Thread). Tells test m ts run) c.deref.ensures.value (told.1 m (is.parts, refl))).state)
     c.told.ensures

@@ -1,0 +1,35 @@
+use Rattle.std.proofs.Common.{sym, ◌∙◌}
+use Rattle.thread_driver.specs.Given.{ends, quiet}
+use Rattle.thread_driver.proofs.Sums.{told_quiet}
+use Rattle.thread_driver.proofs.work.pass.Goals as goal
+
+pub returns-then-ends_all-clause-passed : goal.returns-then-ends_all-clause-passed
+returns-then-ends_all-clause-passed g c =
+    let cores = c.core_pass-told.ensures in
+    record {
+      cores_long = cores.long;
+      programs_long = cores.ahead.long ∙ cores.long ∙ sym c.requires.ahead.long;
+      core_turns = cores.turns.0;
+      bank_turns = 0;
+      core_told = c.core_pass-told.result;
+      bank_told = quiet;
+      of_cores = cores.turns.1;
+      of_banks = ends;
+      told_is = sym (told_quiet c.core_pass-told.result);
+    }
+
+pub returns-clause-passed : goal.returns-clause-passed
+returns-clause-passed g c =
+    let cores = c.core_pass-told.ensures in
+    let banks = c.bank_pass.ensures in
+    record {
+      cores_long = cores.long;
+      programs_long = cores.ahead.long ∙ cores.long ∙ sym c.requires.ahead.long;
+      core_turns = cores.turns.0;
+      bank_turns = banks.turns.0;
+      core_told = c.core_pass-told.result;
+      bank_told = c.bank_pass.result;
+      of_cores = cores.turns.1;
+      of_banks = banks.turns.1;
+      told_is = c.both.ensures;
+    }

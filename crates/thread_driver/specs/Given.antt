@@ -1,0 +1,81 @@
+-- Turns that seats were given, one after the other, and what they told together.
+use Rattle.std.specs.Prelude.{◌≡◌, ◌||◌, ℕ, zero, suc, ◌≤◌, false, List, [], ◌∷◌, length}
+use Rattle.std.specs.List.{zip}
+use Rattle.mailboxes.specs.declared.machine.Machine.{Machine}
+use Rattle.mailboxes.specs.declared.core_seat.CoreSeat.{CoreSeat}
+use Rattle.mailboxes.specs.declared.bank_seat.BankSeat.{BankSeat}
+use Rattle.mailboxes.specs.Seats.{IsCoreSeat, IsBankSeat}
+use Rattle.programs.specs.Acts.{Acts}
+use Rattle.thread_driver.specs.declared.told.Told.{Told}
+use Rattle.thread_driver.specs.Playing.{Plays}
+use Rattle.thread_driver.specs.Turns.{BankHadTurn, CoreHadTurn}
+
+-- nothing was told
+abbrev pub quiet : Told
+quiet = record { no_memory = false; is_exhausted = false; has_progressed = false }
+
+-- what two turns told together: whatever one of them told
+abbrev pub told_by_both : Told → Told → Told
+told_by_both a b =
+    record {
+      no_memory = a.no_memory || b.no_memory;
+      is_exhausted = a.is_exhausted || b.is_exhausted;
+      has_progressed = a.has_progressed || b.has_progressed;
+    }
+
+-- So many turns, one after the other, each of which does what `Turn` says, and what they told together.
+pub data TurnsGiven {X : Type 0} (Turn : X → Told → X → Type 0) (x : X) : ℕ → Told → X → Type 0 where
+  rests : TurnsGiven Turn x zero quiet x
+  more : {n : ℕ} {all told : Told} {y z : X} → TurnsGiven Turn x n all y → Turn y told z →
+      TurnsGiven Turn x (suc n) (told_by_both all told) z
+
+-- Each of a list was given turns, at most so many, and is at the same place in the other list; and what all of these
+-- turns told together.
+pub data AllGiven {X : Type 0} (Turn : X → Told → X → Type 0) (limit : ℕ) : List X → Told → List X → Type 0 where
+  none : AllGiven Turn limit [] quiet []
+  one_more : {n : ℕ} {told all : Told} {x y : X} {xs ys : List X} → n ≤ limit → TurnsGiven Turn x n told y →
+      AllGiven Turn limit xs all ys → AllGiven Turn limit (x ∷ xs) (told_by_both told all) (y ∷ ys)
+
+-- A pass: so many of the first of a list had a turn each, and the others none.
+pub data PassGiven {X : Type 0} (Turn : X → Told → X → Type 0) : ℕ → List X → Told → List X → Type 0 where
+  ends : {xs : List X} → PassGiven Turn zero xs quiet xs
+  goes_on : {k : ℕ} {told all : Told} {x y : X} {xs ys : List X} → Turn x told y → PassGiven Turn k xs all ys →
+      PassGiven Turn (suc k) (x ∷ xs) (told_by_both told all) (y ∷ ys)
+
+-- what `bank_turn` promises of a bank's seat, before and after
+pub record IsBankTurn (m : Machine) (before : BankSeat) (told : Told) (after : BankSeat) : Type 0 where
+  pub seat : IsBankSeat m after
+  pub number : after.mail.number ≡ before.mail.number
+  pub turn : BankHadTurn m before told after
+
+module _ {P : Type 0} (acts : Acts P) (m : Machine) where
+  -- what `core_turn` promises of a core's seat with its program, before and after
+  pub record IsCoreTurn (before : CoreSeat × P) (told : Told) (after : CoreSeat × P) : Type 0 where
+    pub seat : IsCoreSeat m after.0
+    pub plays : Plays acts before.0 before.1 after.0 after.1
+    pub turn : CoreHadTurn acts m before.0 before.1 told after.0 after.1
+
+  -- Seats of cores with their programs, by index, and seats of banks were given turns, at most so many each, and what
+  -- all of these told together.
+  pub record SeatsGiven (limit : ℕ) (cores : List CoreSeat) (banks : List BankSeat) (programs : List P) (told : Told)
+      (cores' : List CoreSeat) (banks' : List BankSeat) (programs' : List P) : Type 0 where
+    pub cores_long : length cores' ≡ length cores
+    pub programs_long : length programs' ≡ length programs
+    pub core_told : Told
+    pub bank_told : Told
+    pub of_cores : AllGiven IsCoreTurn limit (zip cores programs) core_told (zip cores' programs')
+    pub of_banks : AllGiven (IsBankTurn m) limit banks bank_told banks'
+    pub told_is : told ≡ told_by_both core_told bank_told
+
+  -- the same of one pass
+  pub record SeatsPassed (cores : List CoreSeat) (banks : List BankSeat) (programs : List P) (told : Told)
+      (cores' : List CoreSeat) (banks' : List BankSeat) (programs' : List P) : Type 0 where
+    pub cores_long : length cores' ≡ length cores
+    pub programs_long : length programs' ≡ length programs
+    pub core_turns : ℕ
+    pub bank_turns : ℕ
+    pub core_told : Told
+    pub bank_told : Told
+    pub of_cores : PassGiven IsCoreTurn core_turns (zip cores programs) core_told (zip cores' programs')
+    pub of_banks : PassGiven (IsBankTurn m) bank_turns banks bank_told banks'
+    pub told_is : told ≡ told_by_both core_told bank_told

@@ -5,9 +5,9 @@
 #
 # In a page a command stands in a fenced block `console`: a line `$ command`, and then all that it prints, standard
 # output and standard error. A command whose line ends in a backslash goes on in the next line. The commands of a page
-# run in a folder of their own, one after the other; there ./tardis is the program, and examples, scripts, tests, docs,
-# crates and bench are those of the repository. A fenced block `sh` shows commands that aren't run: they prove, or want other
-# machines. A command in any other block is a fault of the page.
+# run in a folder of their own, one after the other. There ./tardis is the program, which TARDIS names, too; examples,
+# scripts, tests, docs, crates and bench are those of the repository. A fenced block `sh` shows commands that aren't
+# run: they prove, or want other machines. A command in any other block is a fault of the page.
 case ${1-} in -h | --help) exec sed -n '2,/^[^#]/s/^# \{0,1\}//p' "$0" ;; esac
 
 top=$(CDPATH='' cd -- "$(dirname -- "$0")/.." && pwd) || exit 1
@@ -50,7 +50,7 @@ parts() {
 # run PAGE N: the command of this number, in the folder of the page.
 run() {
     line=$(cat "$work/parts/$2.line")
-    (cd "$work/here" && sh "$work/parts/$2.command") </dev/null >"$work/got" 2>&1
+    (cd "$work/here" && TARDIS=$tardis sh "$work/parts/$2.command") </dev/null >"$work/got" 2>&1
     if diff "$work/parts/$2.wanted" "$work/got" >"$work/difference"; then
         passed=$((passed + 1))
     else

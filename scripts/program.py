@@ -1,7 +1,9 @@
 """The program, as the scripts beside this file call it: what TARDIS names, or else the one that ./tardis built, or else
 the second program (examples/oracle.py), which answers the same in Python, if slower. Failures are told in one line.
 """
+import argparse
 import os
+import re
 import subprocess
 import sys
 from pathlib import Path
@@ -20,20 +22,30 @@ def fail(said):
     sys.exit(2)
 
 
+def number(least, greatest):
+    """What reads a decimal number of this range from a command line."""
+    def read(text):
+        if not re.fullmatch("[0-9]{1,20}", text) or not least <= int(text) <= greatest:
+            raise argparse.ArgumentTypeError(f"{text} isn't a number from {least} to {greatest}")
+        return int(text)
+    return read
+
+
 def run(*words):
-    """What the program prints with these words. If that is nothing, `Refused` has its reason."""
+    """What the program prints with these words. If that is nothing, or not all, `Refused` has the reason."""
     try:
         ran = subprocess.run([program(), *map(str, words)], capture_output=True, encoding="utf-8", errors="replace",
                              stdin=subprocess.DEVNULL)
     except OSError as error:
         fail(f"{program()}: {error.strerror}")
-    if not ran.stdout and ran.returncode:
-        raise Refused(ran.stderr.strip().split("\n")[0].removeprefix("tardis: ").removeprefix("oracle.py: "))
+    if ran.returncode not in (0, 1) or ran.returncode and not ran.stdout:
+        said = ran.stderr.strip().split("\n")[0].removeprefix("tardis: ").removeprefix("oracle.py: ")
+        raise Refused(said or f"{program()} ended with status {ran.returncode}")
     return ran.stdout
 
 
 class Refused(Exception):
-    """The program printed nothing; the text is what standard error says."""
+    """The program printed nothing, or was ended; the text is what standard error says."""
 
 
 def text_of(path):

@@ -13,10 +13,43 @@ has_kit() {
     }
 }
 
-# is_built CRATE: whether its program is as new as every source of every crate.
+# is_built CRATE: whether its program is as new as every source of the crates that it stands on. Which these are is kept
+# beside the program, so that nothing has to be searched for: a source that came later is named by one that changed.
 is_built() {
-    [ -x "$top/crates/$1/out/$1" ] && [ -z "$(find "$top/crates" "$top/crates.txt" -name out -prune -o \
-        -type f \( -name '*.rt' -o -name '*.antt' -o -name crates.txt \) -newer "$top/crates/$1/out/$1" -print)" ]
+    built=$top/crates/$1/out/$1
+    [ -x "$built" ] || return 1
+    if [ "$built.sources" -nt "$built" ] && newer=$(cd -- "$top/crates" &&
+        find -files0-from "$built.sources" -maxdepth 0 -newer "$built" -print -quit 2>/dev/null); then
+        [ -z "$newer" ]
+        return
+    fi
+    [ -z "$(sources "$1" -newer "$built" -print -quit)" ] || return 1
+    { sources "$1" -print0 >"$built.$$" && mv -- "$built.$$" "$built.sources"; } 2>/dev/null || :
+}
+
+# sources CRATE WORDS..: what `find` says with these words of the sources of the crates that it stands on.
+sources() {
+    of=$1
+    shift
+    # shellcheck disable=SC2046
+    (cd -- "$top/crates" && find "$of" $(needed "$of") -name out -prune -o -type f \
+        \( -name '*.rt' -o -name '*.antt' \) "$@")
+}
+
+# needed CRATE: the crates of the repository that it stands on. Each stands behind these in crates.txt.
+needed() {
+    awk -v crate="$1" '
+        { sub(/#.*/, ""); gsub(/:/, " "); below[NR] = $0 }
+        END {
+            wanted[crate]
+            for (line = NR; line > 0; line--) {
+                count = split(below[line], names)
+                if (!(names[1] in wanted)) { continue }
+                if (names[1] != crate) { print names[1] }
+                for (at = 2; at <= count; at++) { wanted[names[at]] }
+            }
+        }
+    ' ../crates.txt
 }
 
 # build CRATE WORDS..: proves and builds its program, and runs it once with these words.

@@ -4,12 +4,13 @@
     scripts/recorded.py PROGRAM            writes the tables and docs/pictures/recorded.svg
     scripts/recorded.py --check PROGRAM    says what differs, and fails if something does
 
-PROGRAM is a program that is built. Each trace of examples/traces whose name begins with RECORDED is run with each list
-of options below. The numbers are those of the program's reports and records; each report and each list of records must
+PROGRAM is a program that is built. Each trace of examples/traces whose name begins with RECORDED is run in each of the
+ways below. The numbers are those of the program's reports and records; each report and each list of records must
 be the one that examples/oracle.py gives.
 """
 import subprocess
 import sys
+import tempfile
 from pathlib import Path
 
 TOP = Path(__file__).resolve().parent.parent
@@ -17,19 +18,22 @@ PAGE, PICTURE = TOP / "docs/REAL-TRACES.md", TOP / "docs/pictures/recorded.svg"
 sys.path.insert(0, str(TOP / "examples"))
 
 import oracle  # noqa: E402
+from advance import advanced  # noqa: E402
 from catalogue import with_table  # noqa: E402
 from reference.reports import trace_report  # noqa: E402
 from reference.traces import read_records, record_line  # noqa: E402
 
-# Each list of options, with what is said of it in the tables.
+# What each way is called in the tables, its options, and how many operations of a core lie between two advances, or 0.
 WAYS = {
-    "lines of one word": "",
-    "lines of eight words": "--line-words 8",
-    "lease 1": "--line-words 8 --lease 1",
-    "lease 100": "--line-words 8 --lease 100",
-    "private writes": "--line-words 8 --private-write",
-    "by seed 0": "--line-words 8 --schedule seed",
-    "by seed 0, lease 1": "--line-words 8 --schedule seed --lease 1",
+    "lines of one word": ("", 0),
+    "lines of eight words": ("--line-words 8", 0),
+    "lease 1": ("--line-words 8 --lease 1", 0),
+    "lease 100": ("--line-words 8 --lease 100", 0),
+    "private writes": ("--line-words 8 --private-write", 0),
+    "advance.py 1": ("--line-words 8", 1),
+    "advance.py 10": ("--line-words 8", 10),
+    "by seed 0": ("--line-words 8 --schedule seed", 0),
+    "by seed 0, lease 1": ("--line-words 8 --schedule seed --lease 1", 0),
 }
 # The messages that are counted, each with its colour in the picture.
 COUNTED = {"renewals": "#3b7dd8", "upgrades": "#8d6bc7", "flushes": "#d8663b", "write-backs": "#e0b13c"}
@@ -65,10 +69,15 @@ class Run:
         return "| " + " | ".join(cells) + " |"
 
 
-def runs_of(program):
-    """Each trace by its name, with its runs by what is said of their options."""
-    return {path.stem: {way: Run(program, path, options.split()) for way, options in WAYS.items()}
-            for path in sorted((TOP / "examples/traces").glob("RECORDED-*.trace"))}
+def runs_of(program, path):
+    """The runs of a trace, by what the ways are called."""
+    runs = {}
+    for way, (options, after) in WAYS.items():
+        with tempfile.NamedTemporaryFile(suffix=".trace") as trace:
+            trace.write(b"".join(line + b"\n" for line in advanced(path.read_bytes(), after)))
+            trace.flush()
+            runs[way] = Run(program, trace.name, options.split())
+    return runs
 
 
 def words(x, y, text, more=""):
@@ -106,7 +115,8 @@ def main(given):
     check, programs = given[:1] == ["--check"], [word for word in given if word != "--check"]
     if len(programs) != 1:
         return __doc__
-    traces = runs_of(Path(programs[0]).absolute())
+    traces = {path.stem: runs_of(Path(programs[0]).absolute(), path)
+              for path in sorted((TOP / "examples/traces").glob("RECORDED-*.trace"))}
     faults = [f"{name}, {way}: the program and examples/oracle.py differ"
               for name, runs in traces.items() for way, run in runs.items() if not run.agrees]
     new = PAGE.read_text(encoding="utf-8")

@@ -10,7 +10,6 @@ are `./tardis litmus` if they aren't given. The program is what TARDIS names, el
 examples/oracle.py. The status is 0 if the seeds were run, and 2 if not, which standard error tells in one line.
 """
 import argparse
-import re
 import shlex
 import sys
 from pathlib import Path
@@ -30,17 +29,6 @@ RANGES |= {"seeds": (1, GREATEST), "seed": (0, GREATEST), "limit": (1, 2 ** 32 -
 NO_STATES = ("stalled", "limit", "exhausted", "memory")
 
 
-def number(name):
-    """What reads the number of an option, within its range."""
-    least, greatest = RANGES[name]
-
-    def read(text):
-        if not re.fullmatch("[0-9]{1,20}", text) or not least <= int(text) <= greatest:
-            raise argparse.ArgumentTypeError(f"{text} isn't a number from {least} to {greatest}")
-        return int(text)
-    return read
-
-
 def no_runs(_):
     raise argparse.ArgumentTypeError("each seed is one run; --seeds says how many")
 
@@ -48,7 +36,7 @@ def no_runs(_):
 def words():
     parser = argparse.ArgumentParser(allow_abbrev=False, description=__doc__.split("\n")[0],
                                      epilog="The other options are the program's (docs/TEXTS.md).")
-    parser.add_argument("--seeds", type=number("seeds"), default=1000, metavar="N",
+    parser.add_argument("--seeds", type=program.number(*RANGES["seeds"]), default=1000, metavar="N",
                         help="how many seeds are run (1000)")
     parser.add_argument("--runs", type=no_runs, help=argparse.SUPPRESS)
     here = "./tardis" if Path("tardis").exists() else shlex.quote(str(TOP / "tardis"))
@@ -56,7 +44,7 @@ def words():
                         help="what stands in front of the options in the commands (./tardis litmus)")
     parser.add_argument("--private-write", action="store_true")
     for option in (*NUMBERS, "workers"):
-        parser.add_argument("--" + option, type=number(option),
+        parser.add_argument("--" + option, type=program.number(*RANGES[option]),
                             **({"metavar": "FIRST", "help": "the first seed (0)"} if option == "seed" else {}))
     parser.add_argument("TEST")
     parser.error = lambda said: fail(f"{said} (--help tells all)")

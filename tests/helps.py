@@ -2,8 +2,8 @@
 """Asks the tools of examples/ and scripts/ for help, and gives them files that they can't read: tests/helps.py
 
 Help comes on standard output, with status 0, and no file of the repository is written. A missing file and one of
-another kind are each told in one line, with status 2. examples/page.py is tried in copies of the repository, too: who plays,
-where the proved player isn't built, is built, or is older than a source. The last line is `N tried, M wrong`.
+another kind are each told in one line, with status 2. examples/page.py is tried in copies of the repository, too: who
+plays, where the proved player isn't built, is built, or is older than a source. The last line is `N tried, M wrong`.
 """
 import os
 import shutil
@@ -15,7 +15,8 @@ from pathlib import Path
 TOP = Path(__file__).resolve().parent.parent
 # What the kit runs, and what is read by others: no tools.
 OTHERS = {"explained_texts.py", "kit.py", "program.py", "program.sh"}
-READERS = ["examples/chart.py {}", "examples/merge.py {}", "examples/oracle.py litmus {}",
+READERS = ["scripts/advance.py 1 {}", "env TARDIS=examples/oracle.py scripts/seeds.py 0 9 {}",
+           "examples/chart.py {}", "examples/merge.py {}", "examples/oracle.py litmus {}",
            "examples/oracle.py trace {}", "examples/page.py {}", "examples/sequential.py {}",
            "examples/steps.py 0x0 {}", "examples/timeline.py {}"]
 
@@ -39,16 +40,28 @@ def page_players():
         shutil.copytree(TOP / "examples", top / "examples", ignore=shutil.ignore_patterns("__pycache__"))
         shutil.copytree(TOP / "scripts", top / "scripts", ignore=shutil.ignore_patterns("__pycache__"))
         shutil.copy(TOP / "play", top / "play")
-        (top / "crates.txt").write_text("")
-        program.parent.mkdir(parents=True)
+        (top / "crates.txt").write_text("low:\nhigh: play_events\nplay_events: low core # high\n")
+        sources = [top / f"crates/{name}/src/lib.rt" for name in ("low", "high", "play_events")]
+        for path in (*sources, program):
+            path.parent.mkdir(parents=True)
+        for path in sources:
+            path.write_text("")
+            os.utime(path, (1, 1))
         yield from page_player("not built", top, "the second program's machine", 1)
         program.write_text(f"#!/bin/sh\nexec '{TOP / 'examples/play.py'}' \"$@\"\n")
         program.chmod(0o755)
         yield from page_player("built", top, "the proved machine", 0)
-        source = top / "crates/play_events/main.rt"
-        source.write_text("")
-        os.utime(program, (1, 1))
+        os.utime(sources[1])
+        yield from page_player("older than a source of a crate above", top, "the proved machine", 0)
+        os.utime(sources[0])
         yield from page_player("older than a source", top, "the second program's machine", 1)
+        os.utime(program)
+        sources[0].unlink()
+        yield from page_player("newer again, and a source is gone", top, "the proved machine", 0)
+        (top / "crates/low/src/new.rt").write_text("")
+        os.utime(program, (1, 1))
+        (program.parent / "play_events.sources").unlink()
+        yield from page_player("older than a source, and no list of them", top, "the second program's machine", 1)
 
 
 def page_player(what, top, wanted, lines):
@@ -74,7 +87,7 @@ def main():
         if got.returncode != 2 or got.stdout or got.stderr.count("\n") != 1:
             wrong.append(f"{words.format(path)}: status {got.returncode}, {got.stderr[-160:]!r}")
     wrong += page_players()
-    print("\n".join([*wrong, f"{len(tools) + 2 * len(READERS) + 3} tried, {len(wrong)} wrong"]))
+    print("\n".join([*wrong, f"{len(tools) + 2 * len(READERS) + 6} tried, {len(wrong)} wrong"]))
     return int(bool(wrong))
 
 

@@ -1,27 +1,37 @@
 #!/bin/sh
-# Compiles a program of one or more C files, runs it, and writes its trace: record.sh TRACE FILE.c .. [compiler options]
-# CC names the compiler: gcc, or clang where there is no gcc, if it isn't set. What the program prints goes to standard
-# error. The status is that of the compiler if it refuses the files, else that of the program.
+# Compiles a program of one or more files in C or C++, runs it, and writes its trace:
+#     record.sh TRACE FILE.c|FILE.cpp .. [compiler options]
+# Files that end in .cpp, .cc or .cxx are C++. CC and CXX name the compilers; if they aren't set, they are gcc and g++,
+# or clang and clang++ where these aren't there. What the program prints goes to standard error. The status is that of
+# the compiler if it refuses the files, else that of the program.
 case ${1-} in -h | --help) exec sed -n '2,/^[^#]/s/^# \{0,1\}//p' "$0" ;; esac
 here=$(CDPATH='' cd -- "$(dirname -- "$0")" && pwd) || exit 1
-[ $# -ge 2 ] || { sed -n '2,4s/^# //p' "$0" >&2; exit 3; }
+[ $# -ge 2 ] || { sed -n '2,6s/^# //p' "$0" >&2; exit 3; }
 trace=$1
 shift
 cc=${CC:-$(command -v gcc || command -v clang)} || { echo "record.sh: there is no C compiler" >&2; exit 1; }
+link=$cc
 work=$(mktemp -d) || exit 1
 trap 'rm -rf "$work"' EXIT
 trap 'exit 1' HUP INT TERM
 
 files='' options=''
 for word in "$@"; do
-    case $word in *.c) files="$files $word" ;; *) options="$options $word" ;; esac
+    case $word in *.c | *.cpp | *.cc | *.cxx) files="$files $word" ;; *) options="$options $word" ;; esac
 done
 number=0
 # shellcheck disable=SC2086
 for file in $files; do
     number=$((number + 1))
-    "$cc" -std=gnu11 -O1 $options -fsanitize=thread -c "$file" -o "$work/$number.o" || exit
+    compile="$cc -std=gnu11"
+    case $file in *.c) ;; *)
+        link=${CXX:-$(command -v g++ || command -v clang++)} ||
+            { echo "record.sh: there is no C++ compiler" >&2; exit 1; }
+        compile=$link
+        ;;
+    esac
+    $compile -O1 $options -fsanitize=thread -c "$file" -o "$work/$number.o" || exit
 done
 "$cc" -std=gnu11 -O2 -Wall -Wextra -c "$here/recorder.c" -o "$work/recorder.o" &&
-    "$cc" "$work"/*.o -pthread -o "$work/program" || exit
+    "$link" "$work"/*.o -pthread -o "$work/program" || exit
 TRACE=$trace "$work/program" >&2

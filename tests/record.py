@@ -1,0 +1,80 @@
+#!/usr/bin/env python3
+"""Records programs in C and C++ with each compiler that is there: tests/record.py PROGRAM.
+
+What must stand in each trace is by hand: the words that threads hand to each other. The program must run each trace to
+its end. Compilers that aren't there are told on standard error. The last line is `N tried, M wrong`.
+"""
+import os
+import shutil
+import sys
+import tempfile
+from pathlib import Path
+
+from texts import TOP, Tester
+
+sys.path.insert(0, str(TOP / "examples"))
+from reference.traces import Fault, Trace  # noqa: E402
+
+RECORD = TOP / "examples/traces/record"
+# A program of which one part is in C++ and one in C; the number comes from the compiler's options.
+MIXED = {"main.cc": 'extern "C" { extern long kept; void keep(long); }\n'
+                    "#include <cstdio>\nint main() { keep(NUMBER); std::printf(\"%ld\\n\", kept); }\n",
+         "keep.c": "long kept;\nvoid keep(long number) { kept = number + 1; }\n"}
+
+
+def recorded(tester, folder, *words):
+    """What the program says, and its trace; or None, if there is none."""
+    status, out, error = tester.run(f"{folder}/new.trace", *words)
+    tester.expect((status, out) == (0, ""), f"{words}: {status} {out} {error}")
+    try:
+        return error, Trace(Path(folder, "new.trace").read_bytes())
+    except (Fault, OSError) as fault:
+        tester.expect(False, f"{words}: {fault}")
+    return error, None
+
+
+def stored(trace, value):
+    """The words to which this value is stored, each with the core that stores it."""
+    return {(word, core) for core, steps in enumerate(trace.steps) for kind, word, written in steps
+            if kind != "load" and written == value}
+
+
+def tries(tester, program, folder):
+    error, trace = recorded(tester, folder, str(RECORD / "flag.cpp"))
+    tester.expect(error == "message 128\n", f"flag.cpp: {error}")
+    # The message is stored by one core, and loaded by the other one once.
+    messages = stored(trace, 128) if trace else set()
+    tester.expect(trace is not None and trace.cores == 2 and
+                  any(trace.steps[1 - core].count(("load", word, None)) == 1 for word, core in messages),
+                  f"flag.cpp: the message is stored at {messages}")
+    status, out, said = Tester(program).run("trace", "--line-words", "8", "--limit", "4294967295",
+                                            f"{folder}/new.trace")
+    tester.expect((status, said) == (0, "") and "\nend all-done\n" in out and "\norder legal\n" in out,
+                  f"flag.cpp: {status} {out[:200]} {said}")
+    error, trace = recorded(tester, folder, str(RECORD / "sum.c"), "-DAPART")
+    tester.expect(error == "total 32640\n" and trace.cores == 5, f"sum.c: {error}")
+    error, trace = recorded(tester, folder, f"{folder}/main.cc", f"{folder}/keep.c", "-DNUMBER=41")
+    tester.expect(error == "42\n" and len(stored(trace, 42)) == 1, f"C and C++: {error}")
+
+
+def main(program):
+    tester = Tester(str(RECORD / "record.sh"))
+    for compilers in (("gcc", "g++"), ("clang", "clang++")):
+        missing = [name for name in compilers if shutil.which(name) is None]
+        if missing:
+            print(f"record.py: {' and '.join(compilers)} aren't tried: there is no {missing[0]}", file=sys.stderr)
+            continue
+        os.environ["CC"], os.environ["CXX"] = compilers
+        with tempfile.TemporaryDirectory() as folder:
+            for name, text in MIXED.items():
+                Path(folder, name).write_text(text)
+            tries(tester, program, folder)
+            Path(folder, "bad.cpp").write_text("int main() { return none; }\n")
+            status, out, error = tester.run(f"{folder}/bad.trace", f"{folder}/bad.cpp")
+            tester.expect(status not in (0, 3) and out == "" and "bad.cpp:1" in error, f"bad.cpp: {status} {error}")
+    print(f"{tester.tried} tried, {tester.wrong} wrong")
+    return int(tester.wrong > 0)
+
+
+if __name__ == "__main__":
+    sys.exit(main(sys.argv[1]) if len(sys.argv) == 2 else __doc__)

@@ -1,0 +1,267 @@
+#!/usr/bin/env python3
+"""Tries scripts/seeds.py, and examples/merge.py on reports that it mustn't join: tests/seeds.py PROGRAM.
+
+Joined reports must be those of one run of the whole range, by the program and by the second program. How each part was
+made is worked out here. One file beside a report is wrong in each way that there is, and merge.py must say which. With
+GNU parallel, where it is installed, the parts must come to the same. The last line is `N tried, M wrong`.
+"""
+import hashlib
+import json
+import os
+import shutil
+import subprocess
+import sys
+import tempfile
+from pathlib import Path
+
+from texts import TOP, Tester
+
+sys.path.insert(0, str(TOP / "examples"))
+import merge  # noqa: E402
+
+LAST = 2 ** 64 - 1
+TEST = "examples/litmus/SB.litmus"
+# A test, the first seed, how many, in how many parts, and options.
+WHOLES = [("SB", 0, 200, 8, ""), ("LEASE", 5000, 60, 7, "--lease 1 --limit 100"), ("MP", LAST - 9, 20, 3, ""),
+          ("SB", 7, 3, 5, ""), ("2+2W", 10 ** 18, 40, 4, "--line-words 8"), ("SB", 0, 1, 1, "--private-write")]
+RUNS, PARTS = 90, 3  # of the range whose parts are joined and refused below
+
+
+def sum_of(path):
+    return hashlib.sha256(Path(path).read_bytes()).hexdigest()
+
+
+def wholes(tester, program):
+    """The report of a whole range, printed: that of one run by the program, and by the second program."""
+    for name, first, runs, parts, options in WHOLES:
+        path = f"examples/litmus/{name}.litmus"
+        words = ["--schedule", "seed", "--seed", str(first), "--runs", str(runs), *options.split()]
+        status, wanted, _ = Tester(program).run("litmus", *words, path)
+        got = tester.run("--parts", str(parts), "--jobs", "2", str(first), str(runs), path, *options.split())
+        tester.expect(got == (status, wanted, ""), f"{name} from {first}: {got}, wanted {status} {wanted}")
+        tester.expect(wanted == merge.report(TOP / path, first, runs, options.split()), f"{name}: the second program")
+    wanted = Tester(program).run("litmus", "--schedule", "seed", "--runs", "2000", TEST)
+    got = tester.run("0", "2000", TEST)
+    tester.expect(got == wanted, f"as many parts as processors: {got}")
+
+
+def put_parts(tester, folder, parts=PARTS, runs=RUNS, first=0, test=TEST, options=(), only=None):
+    for part in range(parts) if only is None else [only]:
+        got = tester.run("--part", str(part), "--parts", str(parts), "--folder", folder, str(first), str(runs), test,
+                         *options)
+        tester.expect(got == (0, "", ""), f"part {part} of {parts}: {got}")
+
+
+def made(tester, program, folder):
+    """What stands beside each report, by hand: 90 seeds in 4 parts are 22, 23, 22 and 23."""
+    put_parts(tester, folder, parts=4, first=LAST - 30, options=["--limit", "90"])
+    firsts, counts = (LAST - 30, LAST - 8, 14, 36), (22, 23, 22, 23)
+    names = sorted(path.name for path in Path(folder).iterdir())
+    tester.expect(names == [f"{part:06d}.{end}" for part in range(4) for end in ("json", "report")], f"{names}")
+    for part, (first, runs) in enumerate(zip(firsts, counts)):
+        said = json.loads(Path(folder, f"{part:06d}.json").read_text())
+        version = said["program"].pop("version")
+        tester.expect(version is None or version in git("describe", "--always", "--dirty"), f"version {version}")
+        tester.expect(said == {
+            "report": {"sha256": sum_of(f"{folder}/{part:06d}.report")}, "seeds": {"first": first, "runs": runs},
+            "range": {"first": LAST - 30, "runs": RUNS, "part": part, "parts": 4}, "options": ["--limit", "90"],
+            "test": {"path": TEST, "sha256": sum_of(TEST)}, "program": {"path": program, "sha256": sum_of(program)}},
+            f"part {part}: {said}")
+
+
+def bad_reports(tester):
+    """What is no report, or one of another test."""
+    text = (TOP / "examples/litmus/SB.report").read_text()
+    merger = Tester(str(TOP / "examples/merge.py"))
+    for new, said in ((text[:60], "is wanted"),
+                      (text + "x 1\n", "a line too many"),
+                      (text.replace("verdict no", "verdict yes"), "another verdict"),
+                      (text.replace("condition exists", "condition all"), "a condition all"),
+                      (text.replace("held 0", "held none"), "invalid literal"), ("", "no line, where 'test' is wanted"),
+                      (text.replace("threads 2", "threads 3"), "another threads: 2, 3")):
+        with tempfile.NamedTemporaryFile("w", suffix=".report") as file:
+            file.write(new)
+            file.flush()
+            got = merger.run("examples/litmus/SB.report", file.name)
+        good = got[0] == 2 and got[1] == "" and got[2].count("\n") == 1 and f"{file.name} isn't" in got[2]
+        tester.expect(good and said in got[2], f"a bad report: {got}, wanted {said}")
+
+
+def git(*words):
+    return subprocess.run(["git", *words], capture_output=True, text=True, check=False).stdout
+
+
+class Folder:
+    """Parts in a folder of their own, and what merge.py says of them."""
+
+    def __init__(self, tester, parts):
+        self.tester, self.parts = tester, parts
+
+    def changed(self, change, *said, order=None, status=2):
+        """What merge.py says once a folder with a copy of the parts was changed."""
+        with tempfile.TemporaryDirectory() as folder:
+            shutil.copytree(self.parts, folder, dirs_exist_ok=True)
+            change(Path(folder))
+            names = order or sorted(path.name for path in Path(folder).glob("*.report"))
+            got = Tester(str(TOP / "examples/merge.py")).run(*(f"{folder}/{name}" for name in names))
+        good = got[0] == status and got[2].count("\n") == (status > 0) and all(word in got[2] for word in said)
+        self.tester.expect(good and bool(got[1]) == (status == 0), f"{change.__name__}: {got}, wanted {said}")
+        return got[1]
+
+
+def put(folder, name, change):
+    """Changes what is said beside a report."""
+    said = json.loads((folder / name).read_text())
+    change(said)
+    (folder / name).write_text(json.dumps(said))
+
+
+def joins_and_refusals(tester, folder, program):
+    """The parts 0 to 2 have the seeds 0 to 29, 30 to 59 and 60 to 89."""
+    put_parts(tester, folder)
+    parts = Folder(tester, folder)
+    _, whole, _ = Tester(program).run("litmus", "--schedule", "seed", "--runs", str(RUNS), TEST)
+
+    def nothing(_):
+        pass
+
+    tester.expect(parts.changed(nothing, status=0) == whole, "the parts, joined")
+    names = ["000000.report", "000001.report", "000002.report"]
+    parts.changed(nothing, "seeds 30 to 59 are missing between", "000000.report and", "000002.report",
+                  order=names[::2])
+    parts.changed(nothing, "seeds 60 to 89 are missing behind", "000001.report", order=names[:2])
+    parts.changed(nothing, "seeds 0 to 29 are missing before", "000001.report", order=names[1:])
+    parts.changed(nothing, "000001.report: seeds 30 to 59 are in a report before it, too",
+                  order=[names[0], names[1], names[1], names[2]])
+    parts.changed(nothing, "000000.report: seeds 0 to 29 come before those of", "000001.report",
+                  order=[names[1], names[0], names[2]])
+
+    def of_another_cut(folder):
+        put_parts(tester, str(folder), parts=4, only=1)  # the seeds 22 to 44
+
+    parts.changed(of_another_cut, "000001.report: seeds 22 to 29 are in a report before it, too")
+
+    def of_other_options(folder):
+        put_parts(tester, str(folder), only=1, options=["--lease", "9"])
+
+    parts.changed(of_other_options, "000001.report: other options: --lease 9;", "000000.report: none")
+
+    def of_another_text(folder):
+        text = Path(TEST).read_text().replace("{", '"a remark"\n{')
+        (folder / "SB.litmus").write_text(text)
+        put_parts(tester, str(folder), only=2, test=str(folder / "SB.litmus"))
+
+    parts.changed(of_another_text, "000002.report: another text of the test", f"{TEST} {sum_of(TEST)}")
+
+    def of_another_program(folder):
+        other = folder / "another"
+        other.write_text(f'#!/bin/sh\nexec "{program}" "$@"\n')
+        other.chmod(0o755)
+        os.environ["TARDIS"] = str(other)
+        put_parts(tester, str(folder), only=1)
+        os.environ["TARDIS"] = program
+
+    parts.changed(of_another_program, "000001.report: another program", "/another ", f"{program} ", sum_of(program))
+
+    def of_another_report(folder):
+        report = (folder / names[1]).read_text()
+        (folder / names[1]).write_text(report.replace("runs 30\n", "runs 31\n"))
+
+    parts.changed(of_another_report, "000001.json is of another text than", "000001.report")
+
+    def without(folder):
+        (folder / "000001.json").unlink()
+
+    parts.changed(without, "000001.report has no 000001.json beside it")
+    unsaid(parts, whole)
+
+
+def unsaid(parts, whole):
+    """Files that say nothing, or too little; and none at all: then reports are joined as they come."""
+    for change in (lambda said: said.pop("seeds"), lambda said: said["seeds"].update(first="0"),
+                   lambda said: said["seeds"].update(runs=0), lambda said: said["range"].update(first=2 ** 64),
+                   lambda said: said.update(options=None), lambda said: said.update(test="SB"),
+                   lambda said: said.pop("report")):
+        parts.changed(lambda folder, change=change: put(folder, "000001.json", change),
+                      "000001.json doesn't say how a report was made")
+    parts.changed(lambda folder: (folder / "000002.json").write_text("[]"), "000002.json doesn't say")
+    parts.changed(lambda folder: (folder / "000002.json").write_text("{"), "000002.json doesn't say")
+
+    def without_any(folder):
+        for path in folder.glob("*.json"):
+            path.unlink()
+
+    parts.tester.expect(parts.changed(without_any, status=0) == whole, "reports that don't say how they were made")
+    names = ["000000.report", "000002.report"]
+    parts.tester.expect("runs 60\n" in parts.changed(without_any, status=0, order=names), "two of them")
+
+
+def with_parallel(tester, folder, program):
+    """Parts that GNU parallel runs."""
+    told = subprocess.run(["parallel", "--version"], capture_output=True, text=True, check=False).stdout \
+        if shutil.which("parallel") else ""
+    if not told.startswith("GNU parallel"):
+        print("seeds.py: parts by GNU parallel aren't tried: it isn't installed", file=sys.stderr)
+        return
+    subprocess.run(["parallel", "--will-cite", tester.program, "--part", "{}", "--parts", "10", "--folder", folder, "7",
+                    "5000", TEST, ":::", *map(str, range(10))], check=True, stdin=subprocess.DEVNULL)
+    got = Tester(str(TOP / "examples/merge.py")).run(*sorted(map(str, Path(folder).glob("*.report"))))
+    whole = Tester(program).run("litmus", "--schedule", "seed", "--seed", "7", "--runs", "5000", TEST)
+    tester.expect(got == whole, f"by GNU parallel: {got}")
+
+
+def refusals(tester, folder):
+    """Nothing is printed, no report is left, and standard error has one line."""
+    part = ["--folder", folder, "--part"]
+    for words, said in (([], "required"), (["0", "9", "none.litmus"], "none.litmus: No such file or directory"),
+                        (["0", "0", TEST], "argument RUNS: 0 isn't a number from 1"),
+                        (["-1", "9", TEST], "argument FIRST: -1 isn't a number from 0"),
+                        ([str(2 ** 64), "9", TEST], "argument FIRST"),
+                        (["0", "9", TEST, "--lease", "0"], f"{TEST}: "),
+                        (["0", "9", TEST, "--runs", "8"], f"{TEST}: "),
+                        (["0", "9", "README.md"], "README.md: line 1: 4 BadHeader"),
+                        ([*part, "3", "0", "9", TEST], "--part K wants --parts N"),
+                        ([*part, "3", "--parts", "3", "0", "9", TEST], "no seeds in part 3 of 3"),
+                        ([*part, "0", "--parts", "9", "0", "3", TEST], "no seeds in part 0 of 9"),
+                        ([*part, "0", "--parts", "1", "0", "1000001", TEST], f"{TEST}: "),
+                        (["--parts", "1", "0", "9", TEST, "--line-words", "3"], f"{TEST}: bad configuration"),
+                        (["--folder", "/dev/null/x", "--part", "0", "--parts", "1", "0", "9", TEST], "/dev/null/x")):
+        status, out, error = tester.run(*words)
+        good = (status, out, error.count("\n")) == (2, "", 1) and said in error
+        tester.expect(good, f"{words}: {status} {out!r} {error!r}, wanted {said!r}")
+    tester.expect(not list(Path(folder).iterdir()), f"left: {list(Path(folder).iterdir())}")
+
+
+def an_ended_program(tester, folder):
+    """A program that is killed has no report, and neither has one that isn't there."""
+    killed = Path(folder, "killed")
+    killed.write_text("#!/bin/sh\necho 'test SB'\nkill -9 $$\n")
+    killed.chmod(0o755)
+    kept = os.environ["TARDIS"]
+    for program, said in ((killed, "ended with status -9"), (Path(folder, "none"), "no such program")):
+        os.environ["TARDIS"] = str(program)
+        status, out, error = tester.run("--part", "0", "--parts", "1", "--folder", folder, "0", "9", TEST)
+        tester.expect((status, out, error.count("\n")) == (2, "", 1) and said in error, f"{program}: {error}")
+    os.environ["TARDIS"] = kept
+    tester.expect([path.name for path in Path(folder).iterdir()] == ["killed"], "a report of a killed program")
+
+
+def main(program):
+    program = os.path.realpath(program)
+    os.environ["TARDIS"] = program
+    os.chdir(TOP)
+    tester = Tester(str(TOP / "scripts/seeds.py"))
+    wholes(tester, program)
+    bad_reports(tester)
+    for part in (lambda folder: made(tester, program, folder), lambda folder: refusals(tester, folder),
+                 lambda folder: joins_and_refusals(tester, folder, program),
+                 lambda folder: with_parallel(tester, folder, program),
+                 lambda folder: an_ended_program(tester, folder)):
+        with tempfile.TemporaryDirectory() as folder:
+            part(folder)
+    print(f"{tester.tried} tried, {tester.wrong} wrong")
+    return int(tester.wrong > 0)
+
+
+if __name__ == "__main__":
+    sys.exit(main(sys.argv[1]) if len(sys.argv) == 2 else __doc__)

@@ -319,7 +319,8 @@ turn_by_turn() {
 a_million_turns() {
     { echo 'trace 2'; yes '0 A' | head -n 1000001; echo '0 R 0x0'; } >"$work/steps"
     echo '0 0 R 0x0 0 1000001 0' >"$work/wanted"
-    told "1,000,001 turns" 0 "$work/wanted" /dev/null trace --schedule threads --records --limit 4294967295 "$work/steps"
+    told "1,000,001 turns" 0 "$work/wanted" /dev/null trace --schedule threads --records --limit 4294967295 \
+        "$work/steps"
 }
 
 # is_at NUMBER: whether the file that is looked at is one of each NUMBER, counted by `at`.
@@ -392,8 +393,9 @@ to_the_end() {
     count "$good"
 }
 
-# Up to 16 workers, and one that drives 64 cores and 8 banks alone. Where banks have a place for each line, a run that has turns enough comes to its end, whichever
-# worker has the processor; where they haven't, how far it comes isn't known.
+# Up to 16 workers, and one that drives 64 cores and 8 banks alone. Where banks have a place for each line, a run that
+# has turns enough comes to its end, whichever worker has the processor; where they haven't, how far it comes isn't
+# known.
 by_many_workers() {
     least='--sets 2 --ways 1 --line-words 1'
     # shellcheck disable=SC2086

@@ -138,10 +138,11 @@ workers() {
 }
 
 # by_threads COMMAND WORDS..: the program runs by schedule threads. Its standard output is $work/out, its status $got.
+# A run whose workers don't hear of each other goes on to its limit, which takes hours: it is stopped, with status 124.
 by_threads() {
     command=$1
     shift
-    "$tardis" "$command" --schedule threads "$@" >"$work/out" 2>"$work/err"
+    timeout 120 "$tardis" "$command" --schedule threads "$@" >"$work/out" 2>"$work/err"
     got=$?
     good=yes
     [ ! -s "$work/err" ] || { cat "$work/err"; good=no; }

@@ -110,6 +110,16 @@ seeds() {
     for text in "$examples"/settings/*.litmus; do
         if is_seeded "$text"; then setting "$text"; fi
     done
+    one_seed_more
+}
+
+# Run 65,536 of a batch has the seed 65,536, and not the first one's again: by the second program it adds other counts.
+one_seed_more() {
+    text=$examples/litmus/SB.litmus
+    "$tardis" litmus --schedule seed --runs 65536 "$text" >"$work/front"
+    "$examples/oracle.py" litmus --schedule seed --seed 65536 "$text" >"$work/behind"
+    "$examples/merge.py" "$work/front" "$work/behind" >"$work/wanted"
+    told "65,537 seeds of SB" 0 "$work/wanted" /dev/null litmus --schedule seed --runs 65537 "$text"
 }
 
 # The number of workers shows in no report.
@@ -128,10 +138,11 @@ workers() {
 }
 
 # by_threads COMMAND WORDS..: the program runs by schedule threads. Its standard output is $work/out, its status $got.
+# A run whose workers don't hear of each other goes on to its limit, which takes hours: it is stopped, with status 124.
 by_threads() {
     command=$1
     shift
-    "$tardis" "$command" --schedule threads "$@" >"$work/out" 2>"$work/err"
+    timeout 120 "$tardis" "$command" --schedule threads "$@" >"$work/out" 2>"$work/err"
     got=$?
     good=yes
     [ ! -s "$work/err" ] || { cat "$work/err"; good=no; }
@@ -298,6 +309,19 @@ turn_by_turn() {
     printf 'trace 2\n1 A\n0 R 0x0\n0 R 0x8\n0 W 0x10 5\n0 A\n0 R 0x0\n0 R 0x10\n' >"$work/alone"
     up_to_40_turns "$work/alone" --sets 1 --ways 1
     as_by_oracle --workers 2
+    for limit in $(seq 40); do
+        of_one_worker litmus --limit "$limit" "$examples/litmus/SB.litmus"
+    done
+    as_by_oracle
+    a_million_turns
+}
+
+# One advance a turn: after 1,000,001 of them the core loads at that time.
+a_million_turns() {
+    { echo 'trace 2'; yes '0 A' | head -n 1000001; echo '0 R 0x0'; } >"$work/steps"
+    echo '0 0 R 0x0 0 1000001 0' >"$work/wanted"
+    told "1,000,001 turns" 0 "$work/wanted" /dev/null trace --schedule threads --records --limit 4294967295 \
+        "$work/steps"
 }
 
 # is_at NUMBER: whether the file that is looked at is one of each NUMBER, counted by `at`.
@@ -370,8 +394,9 @@ to_the_end() {
     count "$good"
 }
 
-# Up to 16 workers. Where banks have a place for each line, a run that has turns enough comes to its end, whichever
-# worker has the processor; where they haven't, how far it comes isn't known.
+# Up to 16 workers, and one that drives 64 cores and 8 banks alone. Where banks have a place for each line, a run that
+# has turns enough comes to its end, whichever worker has the processor; where they haven't, how far it comes isn't
+# known.
 by_many_workers() {
     least='--sets 2 --ways 1 --line-words 1'
     # shellcheck disable=SC2086
@@ -381,6 +406,7 @@ by_many_workers() {
     # shellcheck disable=SC2086
     pattern 4 16 4000 --banks 2 $least --bank-sets 4 --bank-ways 1 --limit 4000 >"$work/crowded"
     pattern 5 4 7 --banks 2 --limit 4294967295 >"$work/five"
+    to_the_end "$work/many" 1
     to_the_end "$work/many" 16
     trace_by_threads "$work/begun" 16
     trace_by_threads "$work/crowded" 4
@@ -390,21 +416,24 @@ by_many_workers() {
     judge
 }
 
-# exhausted TRACE LEAST MOST: by two workers a seat stops, after so many operations were completed.
+# exhausted TRACE TIME LEAST MOST: by two workers a seat stops, after so many operations were completed.
 exhausted() {
-    by_threads trace --workers 2 --limit 4294967295 --time 18446744073709551614 "$1"
+    by_threads trace --workers 2 --limit 4294967295 --time "$2" "$1"
     must "${1##*/} by two workers: not exhausted" has 'end exhausted'
     must "${1##*/} by two workers: not legal" has 'order legal'
-    must "${1##*/} by two workers: completed" [ "$(number_of completed)" -ge "$2" ]
-    must "${1##*/} by two workers: completed" [ "$(number_of completed)" -le "$3" ]
+    must "${1##*/} by two workers: completed" [ "$(number_of completed)" -ge "$3" ]
+    must "${1##*/} by two workers: completed" [ "$(number_of completed)" -le "$4" ]
     count "$good"
 }
 
-# The seat that stops is core 0's, which stores after the last time, or the bank's, which has no lease for either core.
+# The seat that stops is core 0's, which stores after the last time or can't advance in its first turn; or the bank's,
+# which has no lease for either core.
 seats_that_stop() {
     printf '0 R 0x0\n1 R 0x8\n' >"$work/loads"
-    exhausted "$work/last" 6 8
-    exhausted "$work/loads" 0 0
+    printf 'trace 2\n0 A\n1 R 0x0\n' >"$work/at_once"
+    exhausted "$work/last" 18446744073709551614 6 8
+    exhausted "$work/loads" 18446744073709551614 0 0
+    exhausted "$work/at_once" 18446744073709551615 0 0
 }
 
 threads() {

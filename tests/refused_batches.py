@@ -11,6 +11,7 @@ from pathlib import Path
 import merge
 import oracle
 from ended_runs import cuts_of
+from refused_threads import are_started
 
 TOP = Path(__file__).resolve().parent.parent
 NO_MEMORY = (1, "", "tardis: no memory\n")
@@ -61,6 +62,7 @@ def sweep(tester, words, how):
 
 
 def refused_batches(tester):
+    are_started(tester, "litmus", "--schedule", "seed", "--runs", 40, TOP / "examples" / "litmus" / "SB.litmus")
     for test in ("SB", "SB+forall"):
         text = TOP / "examples" / "litmus" / f"{test}.litmus"
         words = ["litmus", "--schedule", "seed", "--seed", 7, "--runs", RUNS, text]

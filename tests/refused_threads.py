@@ -217,7 +217,16 @@ def sweep(tester, name, what, how):
 KINDS = ("no memory", "ended for want of memory", "by one thread", "done")
 
 
+def are_started(tester, *words):
+    """So many workers are the calling thread, and one that is started for each of the others."""
+    for workers in (1, 2, 3, 5, 16):
+        ran = tester.run([*words, "--workers", workers])
+        tester.expect(ran.started == workers - 1, f"{words} by {workers} workers: {ran.started} threads were started")
+
+
 def refused_threads(tester):
+    are_started(tester, "litmus", "--schedule", "threads", LITMUS)
+    are_started(tester, "trace", "--schedule", "threads", TRACE)
     with tempfile.TemporaryDirectory() as folder:
         cases = {"three runs of SB by threads": Litmus(), f"{TRACE.name} by threads": Trace(),
                  f"{TRACE.name} by threads, its records": Records(tester, Path(folder, "records"))}

@@ -6,18 +6,21 @@ use Rattle.std.specs.List.{slice_get}
 use Rattle.std.specs.Ordering.{nat_cmp}
 use Rattle.std.specs.FinMap.{FinMap}
 use Rattle.physiological_order.specs.declared.operation.Record.{Record}
+use Rattle.network.specs.declared.part.Reaction.{Reaction}
 use Rattle.network.specs.Mail.{Mail}
+use Rattle.network.specs.NumberedMessages.{at_number}
 use Rattle.core_pts.specs.CoreTable.{CoreState}
 use Rattle.llc_bank.specs.BankTable.{BankState}
 use Rattle.machine_table.specs.declared.event.Answer.{Answer}
 use Rattle.machine_table.specs.declared.event.Answer.TheVariants as answer
+use Rattle.machine_table.specs.declared.event.Refusal.{Refusal}
 use Rattle.machine_table.specs.declared.event.Refusal.TheVariants as refusal
 use Rattle.machine_table.specs.Machine.{Machine}
-use Rattle.machine_table.specs.Change.{Change, Keeps, Exhausts, Drops, Makes, Completes}
-use Rattle.machine_table.specs.Transition.{changed}
-use Rattle.interleaving_core.specs.PartChanges.{applied, stops, with_record}
+use Rattle.machine_table.specs.Change.{Change, Keeps, Exhausts, Drops, Makes, Completes, reacted}
+use Rattle.machine_table.specs.Transition.{changed, deliver_message}
+use Rattle.interleaving_core.specs.PartChanges.{applied, concluded, responded, stops, with_record}
 use Rattle.interleaving_core.specs.StepAnswers.{TakesMemory}
-use Rattle.interleaving_core.proofs.Only.{Only}
+use Rattle.interleaving_core.proofs.Only.{Any, Only, reacted_only}
 
 -- a list in which what is there is put where it is
 pub set_same : {X : Type 0} (xs : List X) (i : ℕ) (x : X) → slice_get xs i ≡ Some x → set xs i x ≡ xs
@@ -129,15 +132,6 @@ module _ {S : Type 0} (m : Machine) (cores : S → List CoreState) (banks : S �
       made_so made (λ x. ⊥) change only answer new mail m.records stopped is
       (not_recorded made change only ∙ ap (λ (x : Answer × S × Mail). with_record m.records x.0) (sym is)) stop
 
-  -- what sends a message takes memory
-  pub sending_takes : {X E : Type 0} (result : Result X E) (made completed : S → Type 0) (change : Change S) →
-      Only made completed change →
-      m.mail.next < (applied part m.mail change).2.next → OnErr result (TakesMemory m (changed m put change))
-  sending_takes (Ok x) made completed change only sends = tt
-  sending_takes (Err e) made completed change only sends =
-      inr (subst (λ (x : Answer × Machine). m.mail.next < x.1.mail.next) (is_changed made completed change only)
-      sends)
-
   -- an event of the part: what the table makes of the machine is the change, of messages of this capacity. The
   -- machine is seen as a model.
   module _ (made : S → Type 0) (change : ℕ → Change S) (only : Only made (λ x. ⊥) (change m.config.messages))
@@ -152,13 +146,34 @@ module _ {S : Type 0} (m : Machine) (cores : S → List CoreState) (banks : S �
         (is ∙ ap (λ (k : ℕ). applied part m.mail (change k)) same_capacity) stop
         ∙ changes ∙ ap event is_view
 
-    pub event_wanted : {X E : Type 0} (result : Result X E) →
-        m.mail.next < (applied part m.mail (change capacity)).2.next → OnErr result (TakesMemory seen (event seen))
-    event_wanted result sends =
-        subst (λ (n : Machine). OnErr result (TakesMemory n (event n))) is_view
-        (subst (λ (x : Answer × Machine). OnErr result (TakesMemory m x)) changes
-        (sending_takes result made (λ x. ⊥) (change m.config.messages) only
-        (subst (λ (k : ℕ). m.mail.next < (applied part m.mail (change k)).2.next) same_capacity sends)))
+  -- so of a message that is delivered to the part, whose reaction this is
+  module _ (n : ℕ) (reaction : Option (Reaction × S)) (capacity : ℕ) (same_capacity : capacity ≡ m.config.messages)
+      (seen : Machine) (is_view : m ≡ seen) (delivers : changed m put (reacted m.config.messages m.mail n reaction) ≡
+      deliver_message m n (at_number n m.mail.messages)) where
+    pub delivered : (answer : Answer) (response : Result Reaction Refusal) (new : S) (mail : Mail) (stopped : Bool) →
+        (answer, mail) ≡ concluded m.mail n response →
+        responded m.mail n response new ≡ applied part m.mail (reacted capacity m.mail n reaction) →
+        stopped ≡ (stops answer || m.is_stopped) →
+        (answer, record (put new) { mail = mail; is_stopped = stopped }) ≡ deliver_message seen n
+        (at_number n seen.mail.messages)
+    delivered answer response new mail stopped concludes responds stop =
+        event_done Any (λ k. reacted k m.mail n reaction) (reacted_only m.config.messages m.mail n reaction) capacity
+        same_capacity seen is_view (λ x. deliver_message x n (at_number n x.mail.messages)) delivers answer new mail
+        stopped (ap (λ (x : Answer × Mail). (x.0, new, x.1)) concludes ∙ responds) stop
+
+    -- it takes memory if a message is sent
+    pub delivery_wanted : {X E : Type 0} (result : Result X E) →
+        m.mail.next < (applied part m.mail (reacted capacity m.mail n reaction)).2.next →
+        OnErr result (TakesMemory seen (deliver_message seen n (at_number n seen.mail.messages)))
+    delivery_wanted (Ok x) sends = tt
+    delivery_wanted (Err e) sends =
+        let more : m.mail.next < (applied part m.mail (reacted m.config.messages m.mail n reaction)).2.next =
+        subst (λ (k : ℕ). m.mail.next < (applied part m.mail (reacted k m.mail n reaction)).2.next) same_capacity sends
+        in
+        subst (λ (x : Machine). TakesMemory x (deliver_message x n (at_number n x.mail.messages))) is_view
+        (subst (λ (x : Answer × Machine). TakesMemory m x) delivers
+        (inr (subst (λ (x : Answer × Machine). m.mail.next < x.1.mail.next)
+        (is_changed Any (λ x. ⊥) _ (reacted_only m.config.messages m.mail n reaction)) more)))
 
 -- what an option has that isn't empty
 pub had : {X : Type 0} (o : Option X) → IsSome o → (x : X) × (o ≡ Some x)

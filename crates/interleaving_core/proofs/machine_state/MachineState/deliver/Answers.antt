@@ -1,21 +1,18 @@
-use Rattle.std.proofs.Common.{◌≡◌, ◌∙◌, ap, sym, subst, refl, arith, length, set}
+use Rattle.std.proofs.Common.{◌≡◌, sym, subst, refl, arith, length, set}
 use Rattle.std.proofs.lemmas.Bool.{false≢true}
 use Rattle.std.proofs.lemmas.Option.{slice_get_read}
 use Rattle.network.specs.Mail.{Mail}
-use Rattle.network.specs.NumberedMessages.{at_number}
 use Rattle.core_pts.specs.CoreTable.{CoreState, core_table}
 use Rattle.llc_bank.specs.BankTable.{bank_table}
 use Rattle.dram_mts.specs.Table.{dram_table}
 use Rattle.machine_table.specs.declared.event.Answer.{Answer}
 use Rattle.machine_table.specs.Machine.{Machine}
-use Rattle.machine_table.specs.Change.{reacted}
-use Rattle.machine_table.specs.Transition.{deliver_message}
 use Rattle.interleaving_core.specs.contracts.machine_state.MachineState.{the_view}
 use Rattle.interleaving_core.specs.PartChanges.{answer_of}
-use Rattle.interleaving_core.proofs.ChangedParts.{event_done, event_wanted, set_same}
+use Rattle.interleaving_core.proofs.ChangedParts.{delivered, delivery_wanted, set_same}
 use Rattle.interleaving_core.proofs.Endpoints.{bank_delivers, bank_endpoints, bank_has, core_delivers, core_endpoints}
 use Rattle.interleaving_core.proofs.Endpoints.{core_has, dram_asks, dram_delivers, fitted_reaction, still_fitted}
-use Rattle.interleaving_core.proofs.Only.{Any, SameOpen, core_only, kept_open, reacted_only}
+use Rattle.interleaving_core.proofs.Only.{core_only, kept_open}
 use Rattle.interleaving_core.proofs.OpenCounts.{owed_kept}
 use Rattle.interleaving_core.proofs.machine_state.MachineState.deliver.Goals as goal
 
@@ -107,12 +104,9 @@ returns-in_err-response-in-Dram-clause-wanted c =
     let part = c.index_mut-in-Dram.result.now in
     let here = slice_get_read c.self.inside.drams.items (length c.self.inside.drams.items) c.in-Dram.bank part refl
     (omega (arith, c.if-bank-len-2.true)) c.index_mut-in-Dram.ensures.value in
-    event_wanted m (λ x. m.cores) (λ x. m.banks) (λ x. set m.drams c.in-Dram.bank x) part
-    refl refl (set_same m.drams c.in-Dram.bank part here)
-    Any (λ n. reacted n m.mail c.args.number (dram_table part message))
-    (reacted_only m.config.messages m.mail c.args.number (dram_table part message))
+    delivery_wanted m (λ x. m.cores) (λ x. m.banks) (λ x. set m.drams c.in-Dram.bank x) part
+    refl refl (set_same m.drams c.in-Dram.bank part here) c.args.number (dram_table part message)
     c.self.inside.flight.capacity c.self.invariant.capacity_is _ c.self.view_is
-    (λ n. deliver_message n c.args.number (at_number c.args.number n.mail.messages))
     (dram_delivers m _ c.self.view_is c.requires c.args.number message there c.in-Dram.bank c.in-Dram.is part here)
     _ (c.in_err-response-in-Dram.ensures.memory c.args.number)
 
@@ -136,17 +130,12 @@ returns-in_ok-response-in-Core-clause-done c =
     let part = c.index_mut.result.now in
     let here = slice_get_read c.self.inside.cores.items (length c.self.inside.cores.items) c.in-Core.core part refl
     (omega (arith, c.if-core-len.true, c.len.ensures)) c.index_mut.ensures.value in
-    event_done m (λ x. set m.cores c.in-Core.core x) (λ x. m.banks) (λ x. m.drams) part
-    (set_same m.cores c.in-Core.core part here) refl refl
-    (SameOpen part) (λ n. reacted n m.mail c.args.number (core_table part message))
-    (core_only part message m.config.messages m.mail c.args.number)
+    delivered m (λ x. set m.cores c.in-Core.core x) (λ x. m.banks) (λ x. m.drams) part
+    (set_same m.cores c.in-Core.core part here) refl refl c.args.number (core_table part message)
     c.self.inside.flight.capacity c.self.invariant.capacity_is _ c.self.view_is
-    (λ n. deliver_message n c.args.number (at_number c.args.number n.mail.messages))
     (core_delivers m _ c.self.view_is c.requires c.args.number message there c.in-Core.core c.in-Core.is part here)
-    (answer_of c.conclude.result) c.respond.new.part c.conclude.new.flight.mail
-    c.conclude.new.is_stopped
-    (ap (λ (x : Answer × Mail). (x.0, c.respond.new.part, x.1)) c.conclude.ensures.done
-    ∙ c.in_ok-response-in-Core.ensures.done c.args.number) c.conclude.ensures.stop
+    (answer_of c.conclude.result) _ c.respond.new.part c.conclude.new.flight.mail c.conclude.new.is_stopped
+    c.conclude.ensures.done (c.in_ok-response-in-Core.ensures.done c.args.number) c.conclude.ensures.stop
 
 pub returns-in_ok-response-in-Bank-clause-done : goal.returns-in_ok-response-in-Bank-clause-done
 returns-in_ok-response-in-Bank-clause-done c =
@@ -156,17 +145,13 @@ returns-in_ok-response-in-Bank-clause-done c =
     let part = c.index_mut-in-Bank.result.now in
     let here = slice_get_read c.self.inside.banks.items (length c.self.inside.banks.items) c.in-Bank.bank part refl
     (omega (arith, c.if-bank-len.true)) c.index_mut-in-Bank.ensures.value in
-    event_done m (λ x. m.cores) (λ x. set m.banks c.in-Bank.bank x) (λ x. m.drams) part
-    refl (set_same m.banks c.in-Bank.bank part here) refl
-    Any (λ n. reacted n m.mail c.args.number (bank_table part message))
-    (reacted_only m.config.messages m.mail c.args.number (bank_table part message))
+    delivered m (λ x. m.cores) (λ x. set m.banks c.in-Bank.bank x) (λ x. m.drams) part
+    refl (set_same m.banks c.in-Bank.bank part here) refl c.args.number (bank_table part message)
     c.self.inside.flight.capacity c.self.invariant.capacity_is _ c.self.view_is
-    (λ n. deliver_message n c.args.number (at_number c.args.number n.mail.messages))
     (bank_delivers m _ c.self.view_is c.requires c.args.number message there c.in-Bank.bank c.in-Bank.is part here)
-    (answer_of c.conclude-in-Bank.result) c.respond-in-Bank.new.part c.conclude-in-Bank.new.flight.mail
-    c.conclude-in-Bank.new.is_stopped
-    (ap (λ (x : Answer × Mail). (x.0, c.respond-in-Bank.new.part, x.1)) c.conclude-in-Bank.ensures.done
-    ∙ c.in_ok-response-in-Bank.ensures.done c.args.number) c.conclude-in-Bank.ensures.stop
+    (answer_of c.conclude-in-Bank.result) _ c.respond-in-Bank.new.part c.conclude-in-Bank.new.flight.mail
+    c.conclude-in-Bank.new.is_stopped c.conclude-in-Bank.ensures.done
+    (c.in_ok-response-in-Bank.ensures.done c.args.number) c.conclude-in-Bank.ensures.stop
 
 pub returns-in_ok-response-in-Dram-clause-done : goal.returns-in_ok-response-in-Dram-clause-done
 returns-in_ok-response-in-Dram-clause-done c =
@@ -176,14 +161,10 @@ returns-in_ok-response-in-Dram-clause-done c =
     let part = c.index_mut-in-Dram.result.now in
     let here = slice_get_read c.self.inside.drams.items (length c.self.inside.drams.items) c.in-Dram.bank part refl
     (omega (arith, c.if-bank-len-2.true)) c.index_mut-in-Dram.ensures.value in
-    event_done m (λ x. m.cores) (λ x. m.banks) (λ x. set m.drams c.in-Dram.bank x) part
-    refl refl (set_same m.drams c.in-Dram.bank part here)
-    Any (λ n. reacted n m.mail c.args.number (dram_table part message))
-    (reacted_only m.config.messages m.mail c.args.number (dram_table part message))
+    delivered m (λ x. m.cores) (λ x. m.banks) (λ x. set m.drams c.in-Dram.bank x) part
+    refl refl (set_same m.drams c.in-Dram.bank part here) c.args.number (dram_table part message)
     c.self.inside.flight.capacity c.self.invariant.capacity_is _ c.self.view_is
-    (λ n. deliver_message n c.args.number (at_number c.args.number n.mail.messages))
     (dram_delivers m _ c.self.view_is c.requires c.args.number message there c.in-Dram.bank c.in-Dram.is part here)
-    (answer_of c.conclude-in-Dram.result) c.respond-in-Dram.new.part c.conclude-in-Dram.new.flight.mail
-    c.conclude-in-Dram.new.is_stopped
-    (ap (λ (x : Answer × Mail). (x.0, c.respond-in-Dram.new.part, x.1)) c.conclude-in-Dram.ensures.done
-    ∙ c.in_ok-response-in-Dram.ensures.done c.args.number) c.conclude-in-Dram.ensures.stop
+    (answer_of c.conclude-in-Dram.result) _ c.respond-in-Dram.new.part c.conclude-in-Dram.new.flight.mail
+    c.conclude-in-Dram.new.is_stopped c.conclude-in-Dram.ensures.done
+    (c.in_ok-response-in-Dram.ensures.done c.args.number) c.conclude-in-Dram.ensures.stop

@@ -72,13 +72,13 @@ begin() {
     daemons="$! $daemons"
 }
 
-# until_so SECONDS WORDS..: waits until the command succeeds; whether it did.
+# until_so SECONDS WORDS..: waits until the command succeeds; whether it did while all daemons run.
 until_so() {
-    left=$((10 * $1))
+    end=$(($(date +%s) + $1))
     shift
     until "$@" >/dev/null 2>&1; do
-        left=$((left - 1))
-        [ "$left" -gt 0 ] || return 1
+        # shellcheck disable=SC2086
+        kill -0 $daemons 2>/dev/null && [ "$(date +%s)" -lt "$end" ] || return 1
         sleep 0.1
     done
 }
@@ -90,7 +90,7 @@ until_so 10 test -S "$work/munge.socket" || skip "munged doesn't start: $(tail -
 begin slurmctld -D
 begin slurmd -D
 is_idle() {
-    [ "$(sinfo --noheader --format=%T)" = idle ]
+    [ "$(timeout 5 sinfo --noheader --format=%T)" = idle ]
 }
 until_so 30 is_idle || skip "Slurm doesn't start: $(tail -n 3 "$work/daemons.log")"
 
@@ -104,7 +104,8 @@ submit() {
 
 # is_done JOB: no task of it waits or runs.
 is_done() {
-    [ -z "$(squeue --noheader --jobs="$1" 2>/dev/null)" ]
+    waiting=$(timeout 5 squeue --noheader --jobs="$1" 2>/dev/null)
+    [ $? -ne 124 ] && [ -z "$waiting" ]
 }
 
 logs() {

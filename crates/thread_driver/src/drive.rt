@@ -30,12 +30,13 @@ use stop_flags::{Signals, open_signals};
 /// Seat i, where cores come before banks, belongs to worker i modulo their number. Each turn is between the calls of
 /// the gate. docs/SCHEDULES.md has the order within a turn. Each core has a program, which gives it its steps. Whatever
 /// the end, each core was issued what its program gave, in order, and the program was told what each completed
-/// operation received, in order. An operation that is still open is the program's next.
+/// operation received, in order. An operation that is still open is the program's next. Turns are all that seats are
+/// given, and each has at most `turn_limit` of them.
 ///
 /// A worker goes on until all programs are done, each of its seats had `turn_limit` turns, or some seat wanted memory
 /// or stopped. If there is no memory for the workers, no turn is made, all is as it was given, and the end is NoMemory.
-/// Otherwise it is AllDone exactly if no program has a next step and no core an open operation; else NoMemory if memory
-/// was refused, then Exhausted if a seat stopped, else TurnsUsed.
+/// Otherwise it is AllDone exactly if no program has a next step and no core an open operation; else NoMemory exactly if
+/// a turn was refused memory, then Exhausted exactly if a seat stopped in a turn, else TurnsUsed.
 ///
 /// A worker whose thread can't be started works in the thread that was to start it, after that thread's own worker has
 /// ended. Until then its seats have no turns, and messages to them wait. The others mostly use up their turns by then,

@@ -13,8 +13,9 @@ use Rattle.mailboxes.specs.Seats.{AllBankSeats, AllCoreSeats, IsBankSeat, IsCore
 use Rattle.programs.specs.Acts.{Acts}
 use Rattle.thread_driver.specs.declared.told.Told.{Told}
 use Rattle.thread_driver.specs.declared.worker.Worker.{Worker}
-use Rattle.thread_driver.specs.Given.{AllGiven, IsBankTurn, IsCoreTurn, PassGiven, SeatsGiven, SeatsPassed}
+use Rattle.thread_driver.specs.Given.{AllGiven, IsBankTurn, IsCoreTurn, SeatsGiven}
 use Rattle.thread_driver.specs.Given.{TurnsGiven, more, quiet, rests, told_by_both}
+use Rattle.thread_driver.specs.Teams.{PassGiven, SeatsPassed}
 use Rattle.thread_driver.specs.Playing.{AreAhead, IsAhead, Plays}
 use Rattle.thread_driver.proofs.Lemmas.{plays_both, plays_none}
 use Rattle.thread_driver.proofs.Lists.{here, there}

@@ -1,6 +1,7 @@
 use Rattle.std.proofs.Common.{◌+◌, refl, sym, subst, ◌∙◌, arith, length-set}
 use Rattle.std.specs.Prelude.{slice_set}
-use Rattle.thread_driver.specs.Given.{IsBankTurn, PassGiven, ends}
+use Rattle.thread_driver.specs.Given.{IsBankTurn}
+use Rattle.thread_driver.specs.Teams.{PassGiven, ends}
 use Rattle.thread_driver.proofs.Worked.{bank_had_turn, banks_passed, next_bank}
 use Rattle.thread_driver.proofs.pass.bank_pass.Goals as goal
 

@@ -2,7 +2,8 @@
 use Rattle.std.proofs.Common.{◌≡◌, ◌⊎◌, inl, inr, ℕ, zero, suc, List, [], ◌∷◌, Some, refl, sym, subst}
 use Rattle.std.specs.Prelude.{slice_get, slice_set}
 use Rattle.thread_driver.specs.declared.told.Told.{Told}
-use Rattle.thread_driver.specs.Given.{PassGiven, ends, goes_on, told_by_both}
+use Rattle.thread_driver.specs.Given.{told_by_both}
+use Rattle.thread_driver.specs.Teams.{PassGiven, ends, goes_on}
 use Rattle.thread_driver.proofs.Lists.{none_some, some_is}
 use Rattle.thread_driver.proofs.Sums.{told_assoc, told_quiet}
 

@@ -1,6 +1,7 @@
--- Turns of seats, one after the other: what stays so of a seat. And a worker after it told what is finished, and after a
--- pass.
-use Rattle.std.proofs.Common.{◌≡◌, ℕ, suc, ◌+◌, ◌<◌, ◌≤◌, List, length, Some, ⊎_elim, refl, sym, ap, ap₂, subst, ◌∙◌, arith}
+-- Turns of seats, one after the other: what stays so of a seat. And a worker after it told what is finished, and in and
+-- after a pass.
+use Rattle.std.proofs.Common.{◌≡◌, ℕ, suc, ◌+◌, ◌<◌, ◌≤◌, List, length, Some, ⊎_elim, refl, sym, ap, ap₂, subst, ◌∙◌}
+use Rattle.std.proofs.Common.{arith}
 use Rattle.std.specs.Prelude.{slice_get, slice_index_or, slice_set}
 use Rattle.std.specs.List.{zip}
 use Rattle.std.specs.declared.alloc.Global.{Global}
@@ -13,8 +14,9 @@ use Rattle.mailboxes.specs.Seats.{AllBankSeats, AllCoreSeats, IsBankSeat, IsCore
 use Rattle.programs.specs.Acts.{Acts}
 use Rattle.thread_driver.specs.declared.told.Told.{Told}
 use Rattle.thread_driver.specs.declared.worker.Worker.{Worker}
-use Rattle.thread_driver.specs.Given.{AllGiven, IsBankTurn, IsCoreTurn, PassGiven, SeatsGiven, SeatsPassed}
+use Rattle.thread_driver.specs.Given.{AllGiven, IsBankTurn, IsCoreTurn, SeatsGiven}
 use Rattle.thread_driver.specs.Given.{TurnsGiven, more, quiet, rests, told_by_both}
+use Rattle.thread_driver.specs.Teams.{PassGiven, SeatsPassed}
 use Rattle.thread_driver.specs.Playing.{AreAhead, IsAhead, Plays}
 use Rattle.thread_driver.proofs.Lemmas.{plays_both, plays_none}
 use Rattle.thread_driver.proofs.Lists.{here, there}
@@ -38,8 +40,8 @@ module _ (m : Machine) where
 
 module _ {P : Type 0} (acts : Acts P) (m : Machine) where
   -- a core's seat with its program
-  pub core_plays : {x : CoreSeat × P} {n : ℕ} {y : CoreSeat × P} {told : Told} → IsCoreSeat m x.0 → IsAhead acts x.0 x.1 →
-      TurnsGiven (IsCoreTurn acts m) x n told y → IsCoreSeat m y.0 × Plays acts x.0 x.1 y.0 y.1
+  pub core_plays : {x : CoreSeat × P} {n : ℕ} {y : CoreSeat × P} {told : Told} → IsCoreSeat m x.0 →
+      IsAhead acts x.0 x.1 → TurnsGiven (IsCoreTurn acts m) x n told y → IsCoreSeat m y.0 × Plays acts x.0 x.1 y.0 y.1
   core_plays {x = x} is ahead rests = (is, plays_none acts x.0 x.1 ahead)
   core_plays {x = x} {y = y} is ahead (more {y = z} given turn) = (
     turn.seat,
@@ -90,12 +92,13 @@ module _ {P : Type 0} (acts : Acts P) (m : Machine) where
       }
 
   -- a pass more, with at most as many turns as a higher limit
-  pub given_more : (limit most : ℕ) → limit + 1 ≤ most → (cores cores' cores'' : List CoreSeat) (banks banks' banks'' : List BankSeat)
-      (programs programs' programs'' : List P) (all told both : Told) →
+  pub given_more : (limit most : ℕ) → limit + 1 ≤ most → (cores cores' cores'' : List CoreSeat)
+      (banks banks' banks'' : List BankSeat) (programs programs' programs'' : List P) (all told both : Told) →
       SeatsGiven acts m limit cores banks programs all cores' banks' programs' →
       SeatsPassed acts m cores' banks' programs' told cores'' banks'' programs'' → both ≡ told_by_both all told →
       SeatsGiven acts m most cores banks programs both cores'' banks'' programs''
-  given_more limit most le cores cores' cores'' banks banks' banks'' programs programs' programs'' all told both g p is =
+  given_more limit most le cores cores' cores'' banks banks' banks'' programs programs' programs'' all told both g p
+      is =
       record {
         cores_long = p.cores_long ∙ g.cores_long;
         programs_long = p.programs_long ∙ g.programs_long;

@@ -36,12 +36,6 @@ pub data AllGiven {X : Type 0} (Turn : X → Told → X → Type 0) (limit : ℕ
   one_more : {n : ℕ} {told all : Told} {x y : X} {xs ys : List X} → n ≤ limit → TurnsGiven Turn x n told y →
       AllGiven Turn limit xs all ys → AllGiven Turn limit (x ∷ xs) (told_by_both told all) (y ∷ ys)
 
--- A pass: so many of the first of a list had a turn each, and the others none.
-pub data PassGiven {X : Type 0} (Turn : X → Told → X → Type 0) : ℕ → List X → Told → List X → Type 0 where
-  ends : {xs : List X} → PassGiven Turn zero xs quiet xs
-  goes_on : {k : ℕ} {told all : Told} {x y : X} {xs ys : List X} → Turn x told y → PassGiven Turn k xs all ys →
-      PassGiven Turn (suc k) (x ∷ xs) (told_by_both told all) (y ∷ ys)
-
 -- what `bank_turn` promises of a bank's seat, before and after
 pub record IsBankTurn (m : Machine) (before : BankSeat) (told : Told) (after : BankSeat) : Type 0 where
   pub seat : IsBankSeat m after
@@ -65,17 +59,4 @@ module _ {P : Type 0} (acts : Acts P) (m : Machine) where
     pub bank_told : Told
     pub of_cores : AllGiven IsCoreTurn limit (zip cores programs) core_told (zip cores' programs')
     pub of_banks : AllGiven (IsBankTurn m) limit banks bank_told banks'
-    pub told_is : told ≡ told_by_both core_told bank_told
-
-  -- the same of one pass
-  pub record SeatsPassed (cores : List CoreSeat) (banks : List BankSeat) (programs : List P) (told : Told)
-      (cores' : List CoreSeat) (banks' : List BankSeat) (programs' : List P) : Type 0 where
-    pub cores_long : length cores' ≡ length cores
-    pub programs_long : length programs' ≡ length programs
-    pub core_turns : ℕ
-    pub bank_turns : ℕ
-    pub core_told : Told
-    pub bank_told : Told
-    pub of_cores : PassGiven IsCoreTurn core_turns (zip cores programs) core_told (zip cores' programs')
-    pub of_banks : PassGiven (IsBankTurn m) bank_turns banks bank_told banks'
     pub told_is : told ≡ told_by_both core_told bank_told

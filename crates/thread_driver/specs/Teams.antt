@@ -1,13 +1,37 @@
 -- Workers, and what they do with what they were dealt.
-use Rattle.std.specs.Prelude.{◌≡◌, ℕ, List, length, Some, slice_get}
+use Rattle.std.specs.Prelude.{◌≡◌, ℕ, zero, suc, List, ◌∷◌, length, Some, slice_get}
+use Rattle.std.specs.List.{zip}
 use Rattle.mailboxes.specs.declared.machine.Machine.{Machine}
+use Rattle.mailboxes.specs.declared.core_seat.CoreSeat.{CoreSeat}
+use Rattle.mailboxes.specs.declared.bank_seat.BankSeat.{BankSeat}
 use Rattle.mailboxes.specs.Seats.{AllCoreSeats, AllBankSeats}
 use Rattle.stop_flags.specs.declared.signals.Signals.{Signals}
 use Rattle.stop_flags.specs.Signalers.{IsSignalerOf}
 use Rattle.programs.specs.Acts.{Acts}
+use Rattle.thread_driver.specs.declared.told.Told.{Told}
 use Rattle.thread_driver.specs.declared.worker.Worker.{Worker}
-use Rattle.thread_driver.specs.Given.{SeatsGiven}
+use Rattle.thread_driver.specs.Given.{IsBankTurn, IsCoreTurn, SeatsGiven, quiet, told_by_both}
 use Rattle.thread_driver.specs.Playing.{AreAhead}
+
+-- A pass: so many of the first of a list had a turn each, and the others none.
+pub data PassGiven {X : Type 0} (Turn : X → Told → X → Type 0) : ℕ → List X → Told → List X → Type 0 where
+  ends : {xs : List X} → PassGiven Turn zero xs quiet xs
+  goes_on : {k : ℕ} {told all : Told} {x y : X} {xs ys : List X} → Turn x told y → PassGiven Turn k xs all ys →
+      PassGiven Turn (suc k) (x ∷ xs) (told_by_both told all) (y ∷ ys)
+
+module _ {P : Type 0} (acts : Acts P) (m : Machine) where
+  -- A pass of seats of cores with their programs, by index, and of seats of banks, and what its turns told together.
+  pub record SeatsPassed (cores : List CoreSeat) (banks : List BankSeat) (programs : List P) (told : Told)
+      (cores' : List CoreSeat) (banks' : List BankSeat) (programs' : List P) : Type 0 where
+    pub cores_long : length cores' ≡ length cores
+    pub programs_long : length programs' ≡ length programs
+    pub core_turns : ℕ
+    pub bank_turns : ℕ
+    pub core_told : Told
+    pub bank_told : Told
+    pub of_cores : PassGiven (IsCoreTurn acts m) core_turns (zip cores programs) core_told (zip cores' programs')
+    pub of_banks : PassGiven (IsBankTurn m) bank_turns banks bank_told banks'
+    pub told_is : told ≡ told_by_both core_told bank_told
 
 module _ {P : Type 0} where
   -- the worker has one of these signalers, and seats of the machine

@@ -15,7 +15,7 @@ use Rattle.closed_machine.specs.declared.run.Run.{Run}
 use Rattle.mailboxes.specs.Remains.{core_part, bank_part}
 use Rattle.closed_machine.specs.RunParts.{Parts, state_of_run}
 use Rattle.mailboxes.specs.Seats.{AllNewBanks, AllNewCores}
-use Rattle.thread_driver.specs.Shifts.{Ran, RefusedAtOnce}
+use Rattle.thread_driver.specs.Shifts.{AreBanksInOrder, AreCoresInOrder, Ran, RefusedAtOnce}
 
 -- the machine that a closed one shows: its parts by number, and the messages in flight with numbers
 abbrev pub machine_of : (run : Run) → Parts run → Machine
@@ -49,6 +49,8 @@ module _ {P : Type 0} (acts : Acts P) where
     pub opened : AreOpened machine opened_cores opened_banks
     pub cores : List CoreSeat
     pub banks : List BankSeat
+    pub in_order : AreCoresInOrder machine cores
+    pub behind : AreBanksInOrder machine banks
     pub of_cores : run.cores.items ≡ map core_part cores
     pub of_banks : run.banks.items ≡ map bank_part banks
     pub ended : RefusedAtOnce opened_cores opened_banks before cores banks after e

@@ -35,8 +35,8 @@ use stop_flags::{Signals, open_signals};
 ///
 /// A worker goes on until all programs are done, each of its seats had `turn_limit` turns, or some seat wanted memory
 /// or stopped. If there is no memory for the workers, no turn is made, all is as it was given, and the end is NoMemory.
-/// Otherwise it is AllDone exactly if no program has a next step and no core an open operation; else NoMemory exactly if
-/// a turn was refused memory, then Exhausted exactly if a seat stopped in a turn, else TurnsUsed.
+/// Otherwise it is AllDone exactly if no program has a next step and no core an open operation; else NoMemory exactly
+/// if a turn was refused memory, then Exhausted exactly if a seat stopped in a turn, else TurnsUsed.
 ///
 /// A worker whose thread can't be started works in the thread that was to start it, after that thread's own worker has
 /// ended. Until then its seats have no turns, and messages to them wait. The others mostly use up their turns by then,

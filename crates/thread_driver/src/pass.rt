@@ -2,7 +2,8 @@
 ghost use Rattle.std.specs.Prelude.{◌≡◌, ℕ, length};
 ghost use Rattle.std.specs.List.{zip};
 ghost use Rattle.mailboxes.specs.Seats.{AllBankSeats, AllCoreSeats};
-ghost use Rattle.thread_driver.specs.Given.{IsBankTurn, IsCoreTurn, PassGiven};
+ghost use Rattle.thread_driver.specs.Given.{IsBankTurn, IsCoreTurn};
+ghost use Rattle.thread_driver.specs.Teams.{PassGiven};
 ghost use Rattle.thread_driver.specs.Playing.{AreAhead};
 
 use crate::bank_turns::bank_turn;

@@ -2,9 +2,8 @@
 ghost use Rattle.std.specs.Prelude.{◌≡◌, length};
 ghost use Rattle.mailboxes.specs.Seats.{AllBankSeats, AllCoreSeats};
 ghost use Rattle.stop_flags.specs.Signalers.{IsSignalerOf};
-ghost use Rattle.thread_driver.specs.Given.{SeatsPassed};
 ghost use Rattle.thread_driver.specs.Playing.{AreAhead};
-ghost use Rattle.thread_driver.specs.Teams.{IsAtWork, Works};
+ghost use Rattle.thread_driver.specs.Teams.{IsAtWork, SeatsPassed, Works};
 
 use crate::counting::over_count;
 use crate::pass::{bank_pass, core_pass, ends_all};

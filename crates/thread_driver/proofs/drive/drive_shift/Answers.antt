@@ -91,8 +91,8 @@ returns-clause-worked g c =
     c.gather_all.ensures.dealt in
     let told = c.told_by_team-told.ensures in
     let team = c.as_slice.ensures.value in
-    all_worked g.P.Program.acts c.args.machine.now c.args.turn_limit c.in_ok-signals.signals n s t ws vs c.told_by_team-told.result dealt
-    c.drive_team.ensures.work (counts.0 ∙ c.len-cores.ensures ∙ s.cores.ok.0)
+    all_worked g.P.Program.acts c.args.machine.now c.args.turn_limit c.in_ok-signals.signals n s t ws vs
+    c.told_by_team-told.result dealt c.drive_team.ensures.work (counts.0 ∙ c.len-cores.ensures ∙ s.cores.ok.0)
     (counts.1 ∙ c.len-programs.ensures ∙ s.programs.ok.0) (counts.2 ∙ c.len-banks.ensures ∙ s.banks.ok.0)
     c.requires.ahead.long back
     (told.no_memory ∙ ap (λ (us : List (Worker g.row.P.Denot)). list_any (λ u. u.told.no_memory) us) team)

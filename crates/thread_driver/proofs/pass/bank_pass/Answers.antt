@@ -1,6 +1,7 @@
 use Rattle.std.proofs.Common.{◌+◌, refl, sym, subst, ◌∙◌, arith, length-set}
 use Rattle.std.specs.Prelude.{slice_set}
-use Rattle.thread_driver.specs.Given.{IsBankTurn, PassGiven, ends}
+use Rattle.thread_driver.specs.Given.{IsBankTurn}
+use Rattle.thread_driver.specs.Teams.{PassGiven, ends}
 use Rattle.thread_driver.proofs.Worked.{bank_had_turn, banks_passed, next_bank}
 use Rattle.thread_driver.proofs.pass.bank_pass.Goals as goal
 
@@ -17,9 +18,9 @@ loop-i-preserved g c =
     let i = c.loop-i.i in
     let q = c.bank_turn-told.new.seat in
     let turn = c.bank_turn-told.ensures in
-    let passed = bank_had_turn c.args.machine.now c.args.banks.now.items c.loop-i.banks.items i c.loop-i.all c.requires.seats
-    c.loop-i.invariant.0 (omega arith) c.index_mut.result.now c.index_mut.ensures.value c.bank_turn-told.result q
-    (record { seat = turn.seat.0; number = turn.seat.1; turn = turn.turn }) in (
+    let passed = bank_had_turn c.args.machine.now c.args.banks.now.items c.loop-i.banks.items i c.loop-i.all
+    c.requires.seats c.loop-i.invariant.0 (omega arith) c.index_mut.result.now c.index_mut.ensures.value
+    c.bank_turn-told.result q (record { seat = turn.seat.0; number = turn.seat.1; turn = turn.turn }) in (
       subst (λ t. PassGiven (IsBankTurn c.args.machine.now) (i + 1) c.args.banks.now.items t
           (slice_set c.loop-i.banks.items i q)) (sym c.both-all.ensures) passed,
       length-set c.loop-i.banks.items i q ∙ c.loop-i.invariant.1,

@@ -1,5 +1,6 @@
 use Rattle.std.proofs.Common.{◌≡◌, length}
-use Rattle.thread_driver.specs.Given.{IsBankTurn, PassGiven}
+use Rattle.thread_driver.specs.Given.{IsBankTurn}
+use Rattle.thread_driver.specs.Teams.{PassGiven}
 use Rattle.thread_driver.proofs.pass.bank_pass.Given as goal
 
 abbrev pub invariant-loop-i : goal.invariant-loop-i

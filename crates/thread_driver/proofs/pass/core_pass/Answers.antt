@@ -2,7 +2,8 @@ use Rattle.std.proofs.Common.{◌+◌, refl, sym, subst, arith}
 use Rattle.std.specs.Prelude.{slice_set}
 use Rattle.std.specs.List.{zip}
 use Rattle.std.proofs.Common.{length-set, ◌∙◌}
-use Rattle.thread_driver.specs.Given.{IsCoreTurn, PassGiven, ends}
+use Rattle.thread_driver.specs.Given.{IsCoreTurn}
+use Rattle.thread_driver.specs.Teams.{PassGiven, ends}
 use Rattle.thread_driver.proofs.Worked.{ahead_passed, core_had_turn, cores_passed, next_ahead, next_core}
 use Rattle.thread_driver.proofs.pass.core_pass.Goals as goal
 

@@ -1,6 +1,7 @@
 use Rattle.std.proofs.Common.{◌≡◌, length}
 use Rattle.std.specs.List.{zip}
-use Rattle.thread_driver.specs.Given.{IsCoreTurn, PassGiven}
+use Rattle.thread_driver.specs.Given.{IsCoreTurn}
+use Rattle.thread_driver.specs.Teams.{PassGiven}
 use Rattle.thread_driver.proofs.pass.core_pass.Given as goal
 
 abbrev pub invariant-loop-i : goal.invariant-loop-i

@@ -68,6 +68,8 @@ returns-clause-run g c =
       };
       cores = ended;
       banks = banks';
+      in_order = order;
+      behind = c.drive_threads-end.ensures.banks;
       of_cores = left;
       of_banks = c.in_ok-run.ensures.banks;
       ended = c.drive_threads-end.ensures.ended;

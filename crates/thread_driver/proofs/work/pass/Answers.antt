@@ -1,5 +1,6 @@
 use Rattle.std.proofs.Common.{sym, ◌∙◌}
-use Rattle.thread_driver.specs.Given.{ends, quiet}
+use Rattle.thread_driver.specs.Given.{quiet}
+use Rattle.thread_driver.specs.Teams.{ends}
 use Rattle.thread_driver.proofs.Sums.{told_quiet}
 use Rattle.thread_driver.proofs.work.pass.Goals as goal
 

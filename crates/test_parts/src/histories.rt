@@ -45,14 +45,17 @@ fn a_replay_receives_old_values(rt: HostRuntime) -> Result<(), Fail> {
     Ok(())
 }
 
-// The second store's time is smaller, so 9 stays the greatest: only the load at 6 is before it.
+// The times of the second store and of the swap are smaller, so 9 stays the greatest: only the load at 6 is before it.
+// A write is no stale hit, whatever its time.
 #[test]
 fn the_greatest_time_of_a_write_is_kept(rt: HostRuntime) {
+    let swap = Op::Swap(WordAddr::at(0), 3);
     let records = [
         record(0, 0, store(0, 1), None, 9, 0),
         record(1, 0, store(0, 2), None, 4, 1),
-        record(2, 0, load(0), Some(2), 6, 2),
-        record(2, 1, load(0), Some(1), 9, 3),
+        record(1, 1, swap, Some(2), 5, 2),
+        record(2, 0, load(0), Some(3), 6, 3),
+        record(2, 1, load(0), Some(1), 9, 4),
     ];
     assert!(rt; rises_by_number(&records) && stale_hits(rt.alloc(), &records) == Ok(1));
 }

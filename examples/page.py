@@ -14,8 +14,6 @@ The status is 1 if the run isn't all done; the page then shows it as far as it w
 """
 import html
 import json
-import shlex
-import subprocess
 import sys
 from pathlib import Path
 
@@ -23,17 +21,13 @@ from reference import told
 from reference.given import Subject, Words, tool
 from reference.order import overwriting
 from reference.schedules import ADVANCE
-from shown.played import Played, Player
+from shown.played import SECOND, Played, Player, player_of
 from shown.rules import Rules
 
-TOP = Path(__file__).resolve().parent.parent
 PARTS = Path(__file__).resolve().parent / "shown"
 ENDS = {"all-done": "All operations are done.", "stalled": "The run stalled: a round in which nothing went on.",
         "limit": "The run was cut: its rounds or turns are used up.", "memory": "Allocation failed.",
         "exhausted": "The run ended: a time doesn't fit 64 bits."}
-# The rule of ./play, at the folder $1.
-IS_BUILT = 'top=$1; . "$top/scripts/program.sh"; is_built play_events'
-SECOND = "the second program's machine"
 MARKS = {"completed": "c", "RenewRep": "r", "FlushReq": "l", "WbReq": "l", "evicted": "e", "recalled": "e"}
 
 
@@ -134,26 +128,10 @@ def page(run, options, made_by):
         .replace("{js}", parts["page.js"]).replace("{data}", text)
 
 
-def player_name(command):
-    """How the page names a player that was named; whether it was proved isn't known."""
-    name = Path(command[0]).name
-    return SECOND if name == "play.py" else " ".join([name, *command[1:]])
-
-
-def player_of(options):
-    """The command of the player, and how the page names it."""
-    if options.player:
-        command = shlex.split(options.player)
-        return command, player_name(command)
-    if subprocess.run(["sh", "-c", IS_BUILT, "sh", TOP], check=False).returncode == 0:
-        return [str(TOP / "play")], "the proved machine"
-    return [str(TOP / "examples/play.py")], SECOND
-
-
 def main(given):
     words = Words(__doc__)
     words.run_options()
-    words.add_argument("--player", metavar="COMMAND", help="what plays texts of events (./play, or examples/play.py)")
+    words.player_option()
     options = words.parse_args(given)
     subject = Subject(options.FILE)
     subject.chosen(options)

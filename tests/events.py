@@ -113,6 +113,7 @@ class Picker:
         answer = self.game.ask(f"rounds {limit}" if seed is None else f"seed {seed} {limit}")
         for count in (1, 10, 10000, 1):
             self.game.ask(f"made {count}")
+        self.game.ask("counts")
         self.look()
         end, count = re.fullmatch("(.*), (.*) events", answer).groups()
         return [end], int(count)

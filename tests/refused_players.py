@@ -27,7 +27,8 @@ STEP_SEEDS, EVENTS = (1, 2, 15, 25, 33, 42), 80
 LIST_SEEDS, LISTS, LISTED = (1, 2, 7, 8, 15, 33), 5, 16
 DRIVE_SEEDS, RUNS = (8, 13, 16, 20, 25, 34), 3
 SEAT_SEEDS, CALLS = (7, 14, 83, 212, 357, 370), 150
-LOOKS = ("state", "check", "stale", "arranged", "flight", "copies", "free", "entries")  # that make lists
+# Those that make lists, or open another machine.
+LOOKS = ("state", "check", "stale", "arranged", "flight", "copies", "free", "entries", "counts")
 
 
 class Machines(MachinePlayer):

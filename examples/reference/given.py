@@ -43,6 +43,10 @@ class Words(argparse.ArgumentParser):
         self.add_argument("--private-write", action="store_true", help="further stores of an owner keep their time")
         self.core_option()
 
+    def player_option(self):
+        self.add_argument("--player", metavar="COMMAND",
+                          help="what plays texts of events (./play, or examples/play.py)")
+
     def core_option(self):
         self.add_argument("--cores", type=cores_named, default=None, metavar="N,N",
                           help="the cores that are shown, as 0,2 or 0-3")

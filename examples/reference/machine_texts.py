@@ -3,6 +3,7 @@ from collections import Counter
 
 from reference import order, told
 from reference.calls import EVENTS, Call, Parts, event_of
+from reference.counted import Counts
 from reference.machine import Machine
 from reference.schedules import Run, by_rounds, by_seed
 from reference.traces import Steps, record_line
@@ -51,7 +52,7 @@ class Values:
 class MachinePlayer(History, Parts):
     CALLS = {"machine": Call("options memory"), **EVENTS, "run": Call("events"), "reopen": Call("memory"),
              "program": Call("count steps"), "rounds": Call("count"), "seed": Call("number count"),
-             "made": Call("count"), "order": Call("keeping"),
+             "made": Call("count"), "counts": Call(), "order": Call("keeping"),
              "owners": Call("line"), "word": Call("address"), "sent": Call(), **History.CALLS, **Parts.LOOKS,
              "room": Call("message"), "copies": Call("count"), "free": Call("count"), "entries": Call("count"),
              "flight": Call(), "message": Call("message"), "shape": Call(), "stopped": Call(),
@@ -83,10 +84,11 @@ class MachinePlayer(History, Parts):
     def begin(self, memory):
         self.values, self.keeps_order = Values(self.machine, memory), False
         self.owned = None  # how many own each line, if that was looked for since the last event
+        self.is_new, self.last = True, None  # whether no event was made; the last drive, if it began so
 
     # Events.
     def step(self, event):
-        self.owned = None
+        self.owned, self.is_new = None, False
         return self.tell.answer(self.machine.step(self.numbered(event)))
 
     def numbered(self, event):
@@ -117,13 +119,22 @@ class MachinePlayer(History, Parts):
         return kind(self.machine, [Steps(self.programs.get(core, [])) for core in range(self.machine.o.cores)])
 
     def driven(self, run, end):
-        self.owned = None
+        self.last = run if self.is_new else None
+        self.owned, self.is_new = None, False
         self.made = [self.tell.event(event) for event, _ in run.made]
         return f"{end}, {len(run.made)} events"
 
     def call_made(self, count):
         looked, self.made = self.made[:count], self.made[count:]
         return "; ".join(looked) or "end"
+
+    def call_counts(self):
+        if self.last is None:
+            return "none"
+        counts = Counts(Machine(self.machine.o, self.machine.o.cores, self.opening))
+        for event, _ in self.last.made:
+            counts.make(event)
+        return counts.text(len(self.last.busy))
 
     def call_order(self, keeping):
         self.keeps_order = self.keeps_order if keeping is None else keeping == "keep"

@@ -45,16 +45,18 @@ def test_generator():
 class Run:
     """A machine and its programs. `made` lists the events with their answers; `tell` is given each, with its turn
     and what the machine says about it beforehand.
+    `busy` are the turns in which some were made.
     `drawn` has for each turn of a seeded run how many events were made before, its list and the list's length."""
 
     def __init__(self, machine, programs, tell=None):
         self.machine, self.programs, self.tell = machine, programs, tell
-        self.made, self.drawn, self.turns = [], [], 0
+        self.made, self.drawn, self.turns, self.busy = [], [], 0, set()
 
     def make(self, *event):
         about = self.machine.about(event) if self.tell else None
         answer = self.machine.step(event)
         self.made.append((event, answer))
+        self.busy.add(self.turns)
         if answer == "Completed":
             self.programs[event[1]].done(self.machine.records[-1].received)
         if self.tell:

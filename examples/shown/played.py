@@ -3,7 +3,9 @@
 The player is asked three times. First it drives the machine and lists the events. Then it makes these events one by
 one, and looks at the machine after each. Last it looks at the bank's entry and at DRAM for the line of each event.
 """
+import shlex
 import subprocess
+from pathlib import Path
 from types import SimpleNamespace
 
 from reference import order, told
@@ -12,6 +14,10 @@ from reference.schedules import ADVANCE
 from reference.traces import read_records
 
 MOST_EVENTS = 5000
+TOP = Path(__file__).resolve().parent.parent.parent
+# The rule of ./play, at the folder $1.
+IS_BUILT = 'top=$1; . "$top/scripts/program.sh"; is_built play_events'
+SECOND = "the second program's machine"
 
 
 class Player:
@@ -45,17 +51,9 @@ class Played:
 
     def __init__(self, player, subject, options):
         self.player, self.subject, self.options = player, subject, options
-        self.machine = self.machine_call()
+        self.machine = machine_call(options, subject.cores, subject.memory)
         self.programs = self.drive()
         self.step_by_step()
-
-    def machine_call(self):
-        named = [("cores", self.subject.cores)]
-        named += [(name, getattr(self.options, name.replace("-", "_"))) for name in NUMBERS]
-        words = [f"{name} {value}" for name, value in named if name not in ("seed", "limit")]
-        words += ["private-write yes"] * self.options.private_write
-        opening = [f"{8 * word:#x} {value}" for word, value in self.subject.memory.items() if value]
-        return " ".join(["machine", *words, *(["with", *opening] if opening else [])])
 
     def drive(self):
         """The programs, by core the list of steps. What a thread of a test stores may be what it received before, so
@@ -75,10 +73,9 @@ class Played:
             yield program, [record.received for record in records if record.core == core]
 
     def once(self, programs):
-        how = f"seed {self.options.seed} " if self.options.schedule == "seed" else "rounds "
         total = sum(step != ADVANCE for steps in programs for step in steps)
         calls = [self.machine, *(f"program {core} {'; '.join(map(told.step, steps))}".rstrip()
-                                 for core, steps in enumerate(programs)), how + str(self.options.limit)]
+                                 for core, steps in enumerate(programs)), drive_call(self.options)]
         asked = [f"made {MOST_EVENTS}", "shape", "arranged", "stale", "check", *(f"record {n}" for n in range(total))]
         answers = self.player.ask(calls + asked)
         if answers[0] != "opened":
@@ -151,6 +148,21 @@ class Played:
         assert banks == self.looked(self.lines(), list(answers)), "another line changed"
 
 
+def machine_call(options, cores, memory):
+    """The line that opens the machine of the options, with so many cores and this memory."""
+    named = [("cores", cores)] + [(name, getattr(options, name.replace("-", "_"))) for name in NUMBERS]
+    words = [f"{name} {value}" for name, value in named if name not in ("seed", "limit")]
+    words += ["private-write yes"] * options.private_write
+    opening = [f"{8 * word:#x} {value}" for word, value in memory.items() if value]
+    return " ".join(["machine", *words, *(["with", *opening] if opening else [])])
+
+
+def drive_call(options):
+    """The line that drives it."""
+    how = f"seed {options.seed} " if options.schedule == "seed" else "rounds "
+    return how + str(options.limit)
+
+
 def steps_of(program, received):
     """A program's steps, where its operations received these values in turn; a missing one is taken as 0."""
     values = iter(received)
@@ -172,3 +184,19 @@ def view_of(state):
         elif words[0] not in ("words", "owners"):
             view[words[0]] = " ".join(words[1:])
     return view
+
+
+def player_name(command):
+    """How the page names a player that was named; whether it was proved isn't known."""
+    name = Path(command[0]).name
+    return SECOND if name == "play.py" else " ".join([name, *command[1:]])
+
+
+def player_of(options):
+    """The command of the player, and how the page names it."""
+    if options.player:
+        command = shlex.split(options.player)
+        return command, player_name(command)
+    if subprocess.run(["sh", "-c", IS_BUILT, "sh", TOP], check=False).returncode == 0:
+        return [str(TOP / "play")], "the proved machine"
+    return [str(TOP / "examples/play.py")], SECOND

@@ -22,7 +22,9 @@ pub use answers::{
 };
 pub use causes::{Cause, Fault};
 pub use command_line::{Manner, Wishes};
-pub use messages::{put_copy, put_entry, put_message, put_message_or_none, put_values};
+pub use messages::{
+    kind_of, name_of_kind, put_copy, put_entry, put_message, put_message_or_none, put_values,
+};
 pub use openings::{Opening, memory_of, read_opening, read_words};
 pub use pages::Page;
 pub use players::{NO_MACHINE, NO_MEMORY, Player, play_files};

@@ -36,23 +36,49 @@ fn put_version(version: Option<u64>, out: &mut Reply) {
     }
 }
 
-/// The name of a message's kind.
-fn name_of(body: &Body) -> &'static str {
+/// The names of the kinds of messages. Those that a core sends or is sent come first.
+const KINDS: [&str; 14] = [
+    "ShReq",
+    "ExReq",
+    "ShRep",
+    "ExRep",
+    "RenewRep",
+    "UpgradeRep",
+    "FlushReq",
+    "WbReq",
+    "FlushRep",
+    "WbRep",
+    "DramLd",
+    "DramLdRep",
+    "DramSt",
+    "DramStRep",
+];
+
+/// The place of a message's kind among their names.
+pub fn kind_of(body: &Body) -> usize {
     match body {
-        Body::ShReq { .. } => "ShReq",
-        Body::ExReq { .. } => "ExReq",
-        Body::ShRep(_) => "ShRep",
-        Body::ExRep(_) => "ExRep",
-        Body::RenewRep { .. } => "RenewRep",
-        Body::UpgradeRep { .. } => "UpgradeRep",
-        Body::FlushReq => "FlushReq",
-        Body::WbReq { .. } => "WbReq",
-        Body::FlushRep(_) => "FlushRep",
-        Body::WbRep(_) => "WbRep",
-        Body::DramLd => "DramLd",
-        Body::DramLdRep(_) => "DramLdRep",
-        Body::DramSt(_) => "DramSt",
-        Body::DramStRep => "DramStRep",
+        Body::ShReq { .. } => 0,
+        Body::ExReq { .. } => 1,
+        Body::ShRep(_) => 2,
+        Body::ExRep(_) => 3,
+        Body::RenewRep { .. } => 4,
+        Body::UpgradeRep { .. } => 5,
+        Body::FlushReq => 6,
+        Body::WbReq { .. } => 7,
+        Body::FlushRep(_) => 8,
+        Body::WbRep(_) => 9,
+        Body::DramLd => 10,
+        Body::DramLdRep(_) => 11,
+        Body::DramSt(_) => 12,
+        Body::DramStRep => 13,
+    }
+}
+
+/// The name of the kind at a place; an empty one where there is none.
+pub fn name_of_kind(kind: usize) -> &'static str {
+    match KINDS.get(kind) {
+        Some(name) => name,
+        None => "",
     }
 }
 
@@ -80,7 +106,7 @@ fn put_carried(body: &Body, out: &mut Reply) {
 
 /// A message: its kind, its ends, its line and what it carries.
 pub fn put_message(message: &Message, out: &mut Reply) {
-    out.word(name_of(&message.body));
+    out.word(name_of_kind(kind_of(&message.body)));
     put_node(&message.from, out);
     out.word(">");
     put_node(&message.to, out);

@@ -21,6 +21,8 @@ pub(crate) enum Call {
     /// A schedule, and the most rounds or turns.
     Drive(Policy, u32),
     Made(u32),
+    /// What the last drive comes to.
+    Counts,
     /// Whether lines are to be kept in rising order.
     Keep(bool),
     Look(Look),
@@ -210,6 +212,7 @@ fn call_of(alloc: Global, name: &str, words: &mut Words<'_>) -> Result<Call, Cau
             Ok(Call::Drive(Policy::Seed(seed), words.small()?))
         }
         "made" => Ok(Call::Made(words.small()?)),
+        "counts" => Ok(Call::Counts),
         "order" => order(words),
         _ => Ok(Call::Look(read_look(name, words)?)),
     }

@@ -1,5 +1,6 @@
 //! Programs of steps, by which a machine is driven by rounds or by a seed.
 
+use crate::counts::Counted;
 use event_text::{Reply, put_event};
 use interleaving_core::{Event, System};
 use physiological_order::Op;
@@ -16,6 +17,10 @@ pub(crate) struct Drives {
     events: Vec<Event>,
     /// How many of the events were looked at.
     at: usize,
+    /// Whether the machine was given no event since it opened.
+    is_new: bool,
+    /// The schedule of the last drive, if the machine had just opened.
+    counted: Option<Policy>,
 }
 
 /// The steps of a core's last program.
@@ -77,6 +82,8 @@ impl Drives {
             programs: Vec::new(alloc),
             events: Vec::new(alloc),
             at: 0,
+            is_new: true,
+            counted: None,
         }
     }
 
@@ -110,6 +117,17 @@ impl Drives {
         Ok(())
     }
 
+    /// A machine opens.
+    pub(crate) fn begin(&mut self) {
+        self.is_new = true;
+        self.counted = None;
+    }
+
+    /// The machine is given events.
+    pub(crate) fn go_on(&mut self) {
+        self.is_new = false;
+    }
+
     /// Drives the machine, and tells how that ended, and how many events were made.
     pub(crate) fn drive(
         &mut self,
@@ -118,6 +136,8 @@ impl Drives {
         limit: u32,
         out: &mut Reply,
     ) {
+        self.counted = if self.is_new { Some(policy) } else { None };
+        self.is_new = false;
         if self.run(system, policy, limit, out).is_err() {
             out.cut();
         }
@@ -134,5 +154,16 @@ impl Drives {
             self.at = self.at.saturating_add(1);
         }
         out.or("end");
+    }
+
+    /// What the last drive comes to, made once more on this machine, which has just opened; nothing if its own had had
+    /// events before.
+    pub(crate) fn counts(&self, system: System) -> Result<Option<Counted>, AllocError> {
+        let Some(policy) = self.counted else {
+            return Ok(None);
+        };
+        let mut counted = Counted::new(self.alloc, system, policy)?;
+        counted.run(self.events.as_slice())?;
+        Ok(Some(counted))
     }
 }

@@ -1,6 +1,7 @@
 //! The machine that an example plays on, and what is kept beside it.
 
 use crate::calls::Call;
+use crate::counts::Counted;
 use crate::drives::Drives;
 use crate::looks::{put_look, put_order};
 use event_text::{NO_MACHINE, NO_MEMORY, Opening, Reply, memory_of, put_answer};
@@ -13,6 +14,7 @@ use std::alloc::{AllocError, Global};
 pub(crate) struct Played {
     pub(crate) alloc: Global,
     pub(crate) system: Option<System>,
+    config: Option<Config>,
     pub(crate) words: Vec<(WordAddr, u64)>,
     drives: Drives,
 }
@@ -66,6 +68,7 @@ impl Played {
         Played {
             alloc,
             system: None,
+            config: None,
             words: Vec::new(alloc),
             drives: Drives::new(alloc),
         }
@@ -81,7 +84,9 @@ impl Played {
 
     fn open(&mut self, opening: Opening, out: &mut Reply) {
         self.system = None;
+        self.config = Some(opening.config);
         self.words = opening.words;
+        self.drives.begin();
         match opened(self.alloc, opening.config, self.words.as_slice()) {
             Ok(system) => {
                 self.system = Some(system);
@@ -95,6 +100,7 @@ impl Played {
     /// Opens the machine again with this memory; without memory for that it is given up.
     pub(crate) fn reopen(&mut self, memory: Memory) -> Option<Result<(), AllocError>> {
         let system = self.system.take()?;
+        self.drives.begin();
         match system.reopen(memory) {
             Ok(system) => {
                 self.system = Some(system);
@@ -116,25 +122,54 @@ impl Played {
         }
     }
 
+    /// What the last drive comes to.
+    fn counts(&self) -> Result<Option<Counted>, AllocError> {
+        let Some(config) = self.config else {
+            return Ok(None);
+        };
+        match opened(self.alloc, config, self.words.as_slice()) {
+            Ok(system) => self.drives.counts(system),
+            Err(_) => Err(AllocError),
+        }
+    }
+
+    fn put_counts(&self, out: &mut Reply) {
+        if self.system.is_none() {
+            return out.word(NO_MACHINE);
+        }
+        match self.counts() {
+            Ok(Some(counted)) => counted.put(out),
+            Ok(None) => out.word("none"),
+            Err(_) => out.word(NO_MEMORY),
+        }
+    }
+
     /// Plays what a line asks for, and tells the answer.
     pub(crate) fn play(&mut self, call: Call, out: &mut Reply) {
         let call = match call {
             Call::Machine(opening) => return self.open(opening, out),
             Call::Reopen(words) => return self.reopen_with(words, out),
+            Call::Counts => return self.put_counts(out),
             call => call,
         };
         let Some(system) = &mut self.system else {
             return out.word(NO_MACHINE);
         };
         match call {
-            Call::Event(event) => step(system, event, out),
-            Call::Run(events) => run(system, events.as_slice(), out),
+            Call::Event(event) => {
+                self.drives.go_on();
+                step(system, event, out)
+            }
+            Call::Run(events) => {
+                self.drives.go_on();
+                run(system, events.as_slice(), out)
+            }
             Call::Keep(is_kept) => keep(system, is_kept, out),
             Call::Look(look) => put_look(self.alloc, system, self.words.as_slice(), &look, out),
             Call::Drive(policy, limit) => self.drives.drive(system, policy, limit, out),
             Call::Made(count) => self.drives.look(count, out),
             Call::Program(core, steps) => self.drives.give(core, steps, out),
-            Call::Machine(_) | Call::Reopen(_) => {}
+            Call::Machine(_) | Call::Reopen(_) | Call::Counts => {}
         }
     }
 }

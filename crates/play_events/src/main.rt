@@ -2,6 +2,7 @@
 #![tactic(auto)]
 
 mod calls;
+mod counts;
 mod drives;
 mod histories;
 mod lists;
@@ -9,6 +10,7 @@ mod looks;
 mod machines;
 mod player;
 mod states;
+mod turns;
 mod ways;
 
 use event_text::play_files;

@@ -1,0 +1,65 @@
+"""What a run comes to, as docs/COUNTS.md has it: its events are made once more on a machine that has just opened."""
+from collections import Counter
+
+NAMES = {"load": "loads", "store": "stores", "swap": "swaps"}
+KINDS = ("ShReq", "ExReq", "ShRep", "ExRep", "RenewRep", "UpgradeRep", "FlushReq", "WbReq", "FlushRep", "WbRep",
+         "DramLd", "DramLdRep", "DramSt", "DramStRep")
+OF_CORE = ("loads", "stores", "swaps", "hits", "misses", "stale", "evicted", "time")
+
+
+class Part:
+    """What is counted of a core or a bank."""
+
+    def __init__(self):
+        self.number, self.sent, self.delivered = Counter(), Counter(), Counter()
+        self.has_asked = False  # of a core: whether a request for its open operation went out
+
+    def told(self, names):
+        yield from (f"{name} {self.number[name]}" for name in names)
+        yield from (f"{kind} {self.sent[kind]} {self.delivered[kind]}" for kind in KINDS if self.sent[kind])
+
+
+class Counts:
+    def __init__(self, machine):
+        self.machine, self.written = machine, {}  # by word the greatest time of a write so far
+        self.parts = {("core", core): Part() for core in range(machine.o.cores)}
+        self.parts |= {("bank", bank): Part() for bank in range(machine.o.banks)}
+
+    def parts_of(self, message):
+        """The core and the bank, or the bank alone, that a message is counted at."""
+        places = ("bank", message.line % self.machine.o.banks), ("core", message.core)
+        return [self.parts[place] for place in places if place in self.parts]
+
+    def make(self, event):
+        machine, (name, *of) = self.machine, event
+        message, sent = machine.flight.get(of[0]) if name == "Deliver" else None, machine.sent
+        answer = machine.step(event)
+        if answer in ("Delivered", "Dropped"):
+            for part in self.parts_of(message):
+                part.delivered[message.kind] += 1
+        for number in range(sent, machine.sent):
+            for part in self.parts_of(machine.flight[number]):
+                part.sent[machine.flight[number].kind] += 1
+        if answer == "Requested":
+            self.parts["core", of[0]].has_asked = True
+        if answer == "Evicted":
+            self.parts["core" if name == "EvictCache" else "bank", of[0]].number["evicted"] += 1
+        if answer == "Completed":
+            self.complete(machine.records[-1])
+
+    def complete(self, record):
+        part, newest = self.parts["core", record.core], self.written.get(record.word, 0)
+        part.number[NAMES[record.kind]] += 1
+        part.number["misses" if part.has_asked else "hits"] += 1
+        part.number["time"] = max(part.number["time"], record.time)
+        part.has_asked = False
+        if record.kind == "load":
+            part.number["stale"] += newest > record.time
+        else:
+            self.written[record.word] = max(newest, record.time)
+
+    def text(self, turns):
+        """The answer to `counts` of docs/EVENTS.md."""
+        told = [" ".join([what, str(number), *part.told(OF_CORE if what == "core" else ["evicted"])])
+                for (what, number), part in self.parts.items()]
+        return "; ".join([*told, f"turns {turns}"])

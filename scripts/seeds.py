@@ -28,6 +28,7 @@ from program import BUILT, TOP, Refused, fail, text_of
 
 sys.path.insert(0, str(TOP / "examples"))
 from merge import SEEDS, Report, joined  # noqa: E402
+from reference.given import Bad  # noqa: E402
 
 MOST = 1_000_000  # seeds of one part
 
@@ -68,7 +69,7 @@ class Parts:
     def __init__(self, given):
         self.given, self.test = given, given.TEST
         self.first, self.runs = given.FIRST, given.RUNS
-        self.count = given.parts or max(given.jobs, -(-self.runs // MOST))
+        self.count = given.parts or min(max(given.jobs, -(-self.runs // MOST)), MOST)
 
     def seeds(self, number):
         """The first seed of a part, and how many it has."""
@@ -145,8 +146,8 @@ def main():
     os.environ["TARDIS"] = str(file)
     try:
         return print_whole(parts) if given.part is None else put_part(parts, given.part, file)
-    except Refused as refused:
-        fail(f"{given.TEST}: {refused}")
+    except (Bad, Refused) as cause:
+        fail(f"{given.TEST}: {cause}")
 
 
 if __name__ == "__main__":

@@ -233,7 +233,8 @@ def refusals(tester, folder):
 
 
 def an_ended_program(tester, folder):
-    """A program that is killed has no report, and neither has one that isn't there."""
+    """A program that is killed has no report, and neither has one that isn't there. One that says something else isn't
+    joined."""
     killed = Path(folder, "killed")
     killed.write_text("#!/bin/sh\necho 'test SB'\nkill -9 $$\n")
     killed.chmod(0o755)
@@ -242,6 +243,9 @@ def an_ended_program(tester, folder):
         os.environ["TARDIS"] = str(program)
         status, out, error = tester.run("--part", "0", "--parts", "1", "--folder", folder, "0", "9", TEST)
         tester.expect((status, out, error.count("\n")) == (2, "", 1) and said in error, f"{program}: {error}")
+    os.environ["TARDIS"] = shutil.which("true")
+    status, out, error = tester.run("--parts", "2", "0", "9", TEST)
+    tester.expect((status, out, error.count("\n")) == (2, "", 1) and "where 'test' is wanted" in error, f"true: {error}")
     os.environ["TARDIS"] = kept
     tester.expect([path.name for path in Path(folder).iterdir()] == ["killed"], "a report of a killed program")
 

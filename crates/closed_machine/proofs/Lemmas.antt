@@ -2,5 +2,5 @@
 
 -- A walk of an outbox that has ended.
 pub use Rattle.closed_machine.proofs.Outboxes.{walked_all}
--- No part so far has a number.
-pub use Rattle.closed_machine.proofs.Places.{not_so_far}
+-- What is read at a place of a list.
+pub use Rattle.closed_machine.proofs.EmptiedSlots.{sliced}

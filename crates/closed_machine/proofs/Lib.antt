@@ -1,5 +1,6 @@
 pub mod Lemmas
 mod AllWords
+mod EmptiedSlots
 mod LeftValues
 mod MergedRecords
 mod Outboxes

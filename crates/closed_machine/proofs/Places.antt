@@ -1,11 +1,16 @@
 -- Lists by place: what is read after a write, lists that are alike at each place, and values of a number.
 use Rattle.std.proofs.Common.{◌≡◌, ◌≢◌, ℕ, zero, suc, ◌+◌, ◌<◌, ◌≤◌, List, [], ◌∷◌, length, set, get_or, Some, None}
-use Rattle.std.proofs.Common.{sym, refl, ap, ap₂, ◌∙◌, arith}
+use Rattle.std.proofs.Common.{sym, refl, ap, ap₂, ◌∙◌, subst, arith}
 use Rattle.std.specs.Prelude.{slice_get}
 use mathlib.Core.Logic.{dite}
 use native.Mathlib.Decide.{ℕ_discrete}
 use Rattle.physiological_order.specs.declared.operation.Record.{Record}
 use Rattle.closed_machine.specs.Merged.{StandIn, Keeps}
+
+-- what holds of all numbers below n, and of n
+pub one_further : (P : ℕ → Type 0) (n : ℕ) → ((j : ℕ) → j < n → P j) → P n → (j : ℕ) → j < n + 1 → P j
+one_further P n before here j lt =
+    dite (ℕ_discrete j n) (λ (e : j ≡ n). subst P (sym e) here) (λ (ne : j ≢ n). before j (omega arith))
 
 module _ {X : Type 0} where
   value_or : X → List X → X

@@ -12,9 +12,12 @@ mod outbox;
 mod owners;
 mod parts;
 mod run;
+mod slots;
 mod values;
 
 pub use merging::merged;
+pub use numbered::{Numbered, has_all};
 pub use outbox::Outbox;
 pub use parts::{BankPart, ClosedMachine, CorePart};
 pub use run::Run;
+pub use slots::empty_slots;

@@ -1,24 +1,15 @@
--- What a list has read backwards, what is known of seats that were joined, and slots that are emptied one by one.
-use Rattle.std.proofs.Common.{◌≡◌, ◌≢◌, ℕ, zero, suc, ◌+◌, ◌<◌, ◌≤◌, Bool, false, List, [], ◌∷◌, ◌++◌, length}
-use Rattle.std.proofs.Common.{length-append, append_assoc, take, get_or, Option, Some, option_to_list}
-use Rattle.std.proofs.Common.{sym, refl, ap, ◌∙◌, subst, arith}
+-- What a list has read backwards, and what is known of seats that were joined.
+use Rattle.std.proofs.Common.{◌≡◌, ℕ, zero, suc, ◌+◌, ◌<◌, ◌≤◌, List, [], ◌∷◌, ◌++◌, length}
+use Rattle.std.proofs.Common.{length-append, append_assoc, Option, Some, option_to_list}
+use Rattle.std.proofs.Common.{sym, refl, ap, ◌∙◌, arith}
 use Rattle.std.specs.Prelude.{map, reverse}
-use Rattle.std.proofs.lemmas.List.{reverse-append, take_more, get_or-set_same, get_or-set_other}
-use Rattle.std.proofs.lemmas.Option.{slice_get_within}
-use Rattle.std.specs.Prelude.{slice_get, slice_set}
-use Rattle.std.specs.Mem.Slots.Ownership.{Filled}
-use mathlib.Core.Option.{some, some-injective, some-ne-none}
-use mathlib.Core.Logic.{dite}
-use native.Mathlib.Decide.{ℕ_discrete}
+use Rattle.std.proofs.lemmas.List.{reverse-append}
+use Rattle.std.specs.Prelude.{slice_get}
+use mathlib.Core.Option.{some, some-ne-none}
 use lib.ListN.{get_elem?}
 use Rattle.seat_views.proofs.Lemmas.{some_is}
 use Rattle.mailboxes.specs.Remains.{backwards}
 use Rattle.mailboxes.proofs.NewSeats.{none_some}
-
--- what holds of all numbers below n, and of n
-pub one_further : (P : ℕ → Type 0) (n : ℕ) → ((j : ℕ) → j < n → P j) → P n → (j : ℕ) → j < n + 1 → P j
-one_further P n before here j lt =
-    dite (ℕ_discrete j n) (λ (e : j ≡ n). subst P (sym e) here) (λ (ne : j ≢ n). before j (omega arith))
 
 module _ {A : Type 0} where
   pub get_middle : (xs : List A) (x : A) (ys : List A) → slice_get (xs ++ x ∷ ys) (length xs) ≡ Some x
@@ -39,29 +30,11 @@ module _ {A : Type 0} where
   at_less (x ∷ xs) ys zero a e = e
   at_less (x ∷ xs) ys (suc i) a e = at_less xs ys i a e
 
-  pub sliced : (xs : List A) (i : ℕ) (a : A) → get_elem? xs i ≡ some a → slice_get xs i ≡ Some a
-  sliced [] i a e = absurd (some-ne-none a (sym e))
-  sliced (x ∷ xs) zero a e = ap Some (some-injective x a e)
-  sliced (x ∷ xs) (suc i) a e = sliced xs i a e
-
-  read_at : (xs : List A) (i : ℕ) (a d : A) → get_elem? xs i ≡ some a → get_or xs i d ≡ a
-  read_at [] i a d e = absurd (some-ne-none a (sym e))
-  read_at (x ∷ xs) zero a d e = some-injective x a e
-  read_at (x ∷ xs) (suc i) a d e = read_at xs i a d e
-
   -- the last of a list is behind the others
   pub joined : (all old new done : List A) (o : Option A) (p : A) → all ≡ old ++ done → old ≡ new ++ option_to_list o →
       o ≡ Some p → all ≡ new ++ p ∷ done
   joined all old new done o p a b e =
       a ∙ ap (λ z. z ++ done) (b ∙ ap (λ z. new ++ option_to_list z) e) ∙ append_assoc new (p ∷ []) done
-
-  -- the contents of one more slot
-  pub one_more_taken : (xs : List A) (i : ℕ) (x : A) (old new : List A) → get_elem? xs i ≡ some x →
-      old ≡ take i xs → new ≡ old ++ x ∷ [] → new ≡ take (i + 1) xs
-  one_more_taken xs i x old new e was is =
-      is ∙ ap (λ z. z ++ x ∷ []) was
-      ∙ sym (take_more xs i x (slice_get_within xs i x (sliced xs i x e))
-      ∙ ap (λ y. take i xs ++ y ∷ []) (read_at xs i x x e))
 
 module _ {A B : Type 0} (f : A → B) where
   pub backwards_snoc : (xs : List A) (x : A) → backwards f (xs ++ x ∷ []) ≡ f x ∷ backwards f xs
@@ -94,21 +67,3 @@ module _ {A B : Type 0} (f : A → B) where
       let long = backwards_length done in
       let whole = ap length a ∙ length-append new (p ∷ done) in
       omega arith
-
--- slots that are emptied from the first to the last
-module _ (old new : List Bool) (i : ℕ) where
-  pub still_filled : (long longer : ℕ) → new ≡ slice_set old i false → longer ≡ long → Filled old i long →
-      Filled new (i + 1) longer
-  still_filled long longer is same full k le lt =
-      ap (λ fs. get_or fs k false) is
-      ∙ get_or-set_other old i k false false (λ e. absurd (omega arith))
-      ∙ full k (omega arith) (omega arith)
-
-  pub emptied : i < length old → new ≡ slice_set old i false →
-      ((k : ℕ) → k < i → get_or old k false ≡ false) → (k : ℕ) → k < i + 1 → get_or new k false ≡ false
-  emptied within is before k lt =
-      ap (λ fs. get_or fs k false) is
-      ∙ dite (ℕ_discrete k i)
-      (λ (e : k ≡ i).
-      ap (λ j. get_or (slice_set old i false) j false) e ∙ get_or-set_same old i false false within)
-      (λ (ne : k ≢ i). get_or-set_other old i k false false ne ∙ before k (omega arith))

@@ -25,3 +25,4 @@ mod Rooms
 mod EmptySlots
 mod SureTurns
 mod Unchanged
+mod WholeSeats

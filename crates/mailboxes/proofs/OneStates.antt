@@ -14,6 +14,7 @@ use Rattle.seat_rule.specs.declared.views.Stage.TheVariants.{Idle}
 use Rattle.seat_rule.specs.declared.views.Hold.{Hold}
 use Rattle.seat_rule.specs.Rule.{slot_count}
 use Rattle.seat_rule.specs.Ended.{Agrees, AllIdle, Closes, FourAtMostLie, NoneTakenTwice, lies}
+use Rattle.closed_machine.proofs.Lemmas.{sliced}
 use Rattle.mailboxes.specs.declared.machine.Machine.{Machine}
 use Rattle.mailboxes.specs.declared.mailbox.Mailbox.{Mailbox}
 use Rattle.mailboxes.specs.declared.core_seat.CoreSeat.{CoreSeat}
@@ -24,7 +25,7 @@ use Rattle.mailboxes.specs.Seats.{AllCoreSeats, HasCores, HasBanks}
 use Rattle.mailboxes.specs.BoxMoves.{hold}
 use Rattle.mailboxes.specs.Remains.{backwards, core_entry, bank_entry, entry, knows_all, OneState}
 use Rattle.mailboxes.proofs.NewSeats.{get_snoc}
-use Rattle.mailboxes.proofs.JoinedSeats.{at_more, at_less, sliced, get_middle, backwards_has}
+use Rattle.mailboxes.proofs.JoinedSeats.{at_more, at_less, get_middle, backwards_has}
 
 -- all seats are known to the last of the cores' seats, to which the others were joined
 module _ (z : SetUp) (cores rest : List CoreSeat) (banks : List BankSeat) (first : CoreSeat)

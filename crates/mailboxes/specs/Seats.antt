@@ -2,6 +2,7 @@
 use Rattle.std.specs.Prelude.{◌≡◌, ℕ, false, ◌+◌, ◌<◌, ◌≤◌, List, [], Some, slice_get}
 use Rattle.seat_views.specs.Seated.{first_view}
 use Rattle.seat_rule.specs.Rule.{opening_hold, seat_count}
+use Rattle.closed_machine.specs.Numbers.{Has, HasAll}
 use Rattle.mailboxes.specs.declared.machine.Machine.{Machine}
 use Rattle.mailboxes.specs.declared.core_seat.CoreSeat.{CoreSeat}
 use Rattle.mailboxes.specs.declared.bank_seat.BankSeat.{BankSeat}
@@ -69,19 +70,12 @@ AllCoreSeats m ps = (i : ℕ) (p : CoreSeat) → slice_get ps i ≡ Some p → I
 abbrev pub AllBankSeats : Machine → List BankSeat → Type 0
 AllBankSeats m ps = (i : ℕ) (p : BankSeat) → slice_get ps i ≡ Some p → IsBankSeat m p
 
--- a seat of this number is in the list
-abbrev pub HasCore : List CoreSeat → ℕ → Type 0
-HasCore ps j = (i : ℕ) × (p : CoreSeat) × (slice_get ps i ≡ Some p) × (p.mail.number ≡ j)
-
-abbrev pub HasBank : List BankSeat → ℕ → Type 0
-HasBank ps j = (i : ℕ) × (p : BankSeat) × (slice_get ps i ≡ Some p) × (p.mail.number ≡ j)
-
--- the seats of this many cores, and of banks, by number, are in the list
+-- the seats of this many cores, and of banks by number, are in the list
 pub record HasCores (ps : List CoreSeat) (count : ℕ) : Type 0 where
-  pub there : (j : ℕ) → j < count → HasCore ps j
+  pub there : (j : ℕ) → j < count → Has (λ (p : CoreSeat). p.mail.number) ps j
 
-pub record HasBanks (ps : List BankSeat) (first count : ℕ) : Type 0 where
-  pub there : (j : ℕ) → j < count → HasBank ps (first + j)
+abbrev pub HasBanks : List BankSeat → ℕ → ℕ → Type 0
+HasBanks ps first count = HasAll (λ (p : BankSeat). p.mail.number) ps first count
 
 -- every seat of the machine is in one of the lists
 pub record AreAll (m : Machine) (cores : List CoreSeat) (banks : List BankSeat) : Type 0 where

@@ -1,6 +1,5 @@
 //! The end: all seats are joined, and leave what they stored.
 ghost use Rattle.std.specs.Prelude.{◌≡◌, ℕ, List, ◌+◌, ◌<◌, ◌≤◌, false, [], ◌∷◌, ◌++◌, length, map, IfOk, vec_capacity};
-ghost use Rattle.std.specs.Mem.Slots.{IsFull, slots_items, slots_len};
 ghost use Rattle.physiological_order.specs.declared.operation.Record.{Record};
 ghost use Rattle.machine_table.specs.SetUp.{is_good};
 ghost use Rattle.closed_machine.specs.PartsOfState.{PartsOfState};
@@ -15,9 +14,7 @@ use crate::machine::Machine;
 use crate::mailbox::Mailbox;
 use crate::sending::{SendingBank, SendingCore};
 use crate::steps::{SlotSeat, SlotTable, meet};
-use atomic_table::Closed;
-use closed_machine::{BankPart, ClosedMachine, CorePart, Run, merged};
-use network::{Body, Message};
+use closed_machine::{BankPart, ClosedMachine, CorePart, Run, empty_slots, merged};
 use seat_rule::laws::{closed_machines_are_one_state, links_lose_and_double_nothing};
 use std::alloc::{AllocError, Global};
 
@@ -91,7 +88,7 @@ impl Machine {
         let last = table.slot_count();
         let closed = table.close_with(seat);
         let count = closed.word(last);
-        empty(closed, &mut slots);
+        empty_slots(closed, &mut slots);
         Ok(ClosedMachine {
             set_up,
             cores: core_parts,
@@ -209,17 +206,4 @@ fn leave_bank(port: BankSeat, parts: &mut Vec<BankPart>) -> SlotSeat
         is_stopped,
     });
     seat
-}
-
-// Takes out what the slots have, and frees their memory.
-fn empty(mut closed: Closed<Option<Message>, Global>, slots: &mut Vec<Option<Message>>)
-    requires full { IsFull closed.slots }
-    requires room { (slots.old.items ≡ []) × (slots_len closed.slots ≤ vec_capacity slots.old) }
-    ensures { slots.new.items ≡ slots_items closed.slots }
-{
-    let _body: Option<Body> = None;
-    for i in 0..closed.slot_count() {
-        slots.push_reserved(closed.take(i));
-    }
-    closed.free();
 }

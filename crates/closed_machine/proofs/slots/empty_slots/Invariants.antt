@@ -1,7 +1,7 @@
 use Rattle.std.proofs.Common.{◌≡◌, ℕ, ◌<◌, ◌≤◌, false, get_or, take, vec_capacity}
 use Rattle.std.specs.Mem.Slots.{slots_filled, slots_items, slots_len}
 use Rattle.std.specs.Mem.Slots.Ownership.{Filled}
-use Rattle.mailboxes.proofs.closing.empty.Given as goal
+use Rattle.closed_machine.proofs.slots.empty_slots.Given as goal
 
 -- the slots so far are empty, and their contents are in the list
 abbrev pub invariant-loop-i : goal.invariant-loop-i

@@ -3,8 +3,8 @@ use Rattle.std.proofs.Common.{ap, ◌∙◌, arith}
 use Rattle.network.specs.declared.message.Message.{Message}
 use Rattle.std.specs.Mem.Slots.{slots_counts, slots_items, slots_len}
 use lib.ListN.{get_elem?}
-use Rattle.mailboxes.proofs.JoinedSeats.{still_filled, emptied, one_more_taken}
-use Rattle.mailboxes.proofs.closing.empty.Goals as goal
+use Rattle.closed_machine.proofs.EmptiedSlots.{still_filled, emptied, one_more_taken}
+use Rattle.closed_machine.proofs.slots.empty_slots.Goals as goal
 
 pub loop-i-preserved : goal.loop-i-preserved
 loop-i-preserved c =

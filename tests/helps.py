@@ -17,7 +17,7 @@ TOP = Path(__file__).resolve().parent.parent
 OTHERS = {"explained_texts.py", "kit.py", "program.py", "program.sh"}
 READERS = ["examples/chart.py {}", "examples/merge.py {}", "examples/oracle.py litmus {}",
            "examples/oracle.py trace {}", "examples/page.py {}", "examples/sequential.py {}",
-           "examples/steps.py 0x0 {}", "examples/timeline.py {}"]
+           "examples/steps.py 0x0 {}", "examples/timeline.py {}", "scripts/counts.py {}"]
 
 
 def files():

@@ -18,7 +18,7 @@ OTHERS = {"explained_texts.py", "kit.py", "program.py", "program.sh"}
 READERS = ["scripts/advance.py 1 {}", "env TARDIS=examples/oracle.py scripts/seeds.py 0 9 {}",
            "examples/chart.py {}", "examples/merge.py {}", "examples/oracle.py litmus {}",
            "examples/oracle.py trace {}", "examples/page.py {}", "examples/sequential.py {}",
-           "examples/steps.py 0x0 {}", "examples/timeline.py {}"]
+           "examples/steps.py 0x0 {}", "examples/timeline.py {}", "scripts/counts.py {}"]
 
 
 def files():

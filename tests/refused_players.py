@@ -263,7 +263,7 @@ def refused_lists(tester):
 def refused_drives(tester):
     """A driver that is refused memory ends the run so, before an event or where its schedule lists something."""
     refused = sum((swept(tester, driven(seed), Machines) for seed in DRIVE_SEEDS), Counter())
-    expect_all(tester, refused, ("rounds", "seed"))
+    expect_all(tester, refused, ("rounds", "seed", "counts"))
     print(f"drives: ended for want of memory, or refused, were {told(refused)}")
 
 

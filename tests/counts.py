@@ -1,0 +1,202 @@
+#!/usr/bin/env python3
+"""Tries scripts/counts.py: tests/counts.py PLAYER, the built crate play_events.
+
+Eleven runs were counted by hand from docs/COUNTS.md, PROTOCOL.md and SCHEDULES.md. Then the player and the second
+program's, which counts by the same pages, count random traces on random machines, and litmus tests by seeds. The last
+line is `N tried, M wrong`.
+"""
+import os
+import random
+import sys
+import tempfile
+from pathlib import Path
+
+from texts import TOP, Tester, of_printf, rows
+
+sys.path.insert(0, str(TOP / "scripts"))
+import counts  # noqa: E402  (it finds examples/)
+from reference import told  # noqa: E402
+from reference.traces import Fault, Trace  # noqa: E402
+
+SECOND = str(TOP / "examples/play.py")
+TRACES = 40  # that are drawn
+# A trace, or a test of the catalogue; options; how the run ends, its turns and events; and the rows that aren't 0: the
+# sum, then the cores, and of messages the banks. A kind stands for both of its rows; a row that has other numbers
+# follows.
+LOAD = "DramLd 1 0 1; DramLdRep 1 0 1"
+BY_HAND = {
+    "a load": ("0 R 0x0\n", "", "all-done 6 14", f"loads 1 1; misses 1 1; ShReq 1 1 1; ShRep 1 1 1; {LOAD}"),
+    "a load that hits": ("0 R 0x0\n0 R 0x0\n", "", "all-done 7 16",
+                         f"loads 2 2; hits 1 1; misses 1 1; ShReq 1 1 1; ShRep 1 1 1; {LOAD}"),
+    "a swap, and a load of the owner": (
+        "0 S 0x0 5\n0 R 0x0\n", "", "all-done 7 16",
+        f"loads 1 1; swaps 1 1; hits 1 1; misses 1 1; last-time 1 1; ExReq 1 1 1; ExRep 1 1 1; {LOAD}"),
+    # The store goes past the lease, which ends at 10.
+    "an upgrade": ("0 R 0x0\n0 W 0x0 1\n", "", "all-done 9 20",
+                   "loads 1 1; stores 1 1; misses 2 2; last-time 11 11; ShReq 1 1 1; ShRep 1 1 1; ExReq 1 1 1; "
+                   f"UpgradeRep 1 1 1; {LOAD}"),
+    # The lease ends at 2, and the second load comes at 3.
+    "a renewal": ("trace 2\n0 R 0x0\n0 A\n0 A\n0 A\n0 R 0x0\n", "--lease 2", "all-done 12 23",
+                  f"loads 2 2; misses 2 2; last-time 3 3; ShReq 2 2 2; ShRep 1 1 1; RenewRep 1 1 1; {LOAD}"),
+    # Core 1 loads 0x0 at time 0, as its lease goes on to 3; core 0 stored it before, at time 4.
+    "a stale hit": ("0 R 0x8\n0 W 0x0 7\n1 R 0x0\n1 R 0x10\n1 R 0x0\n", "--lease 3", "all-done 13 50",
+                    "loads 4 1 3; stores 1 1 0; hits 1 0 1; misses 4 2 2; stale-hits 1 0 1; last-time 4 4 0; "
+                    "ShReq 3 1 2 3; ShRep 3 1 2 3; ExReq 1 1 0 1; ExRep 1 1 0 1; DramLd 3 0 0 3; DramLdRep 3 0 0 3"),
+    # Core 0 owns the word first; its copy is recalled for core 1's load.
+    "a recall": ("1 R 0x0\n0 W 0x0 1\n1 R 0x0\n", "", "all-done 11 39",
+                 "loads 2 0 2; stores 1 1 0; hits 1 0 1; misses 2 1 1; last-time 1 1 1; recalls 1 1; ShReq 1 0 1 1; "
+                 "ShRep 1 0 1 1; ExReq 1 1 0 1; ExRep 1 1 0 1; WbReq 1 1 0 1; WbRep 1 1 0 1; DramLd 1 0 0 1; "
+                 "DramLdRep 1 0 0 1"),
+    "a copy that makes place": ("0 R 0x0\n0 R 0x8\n", "--sets 1 --ways 1", "all-done 12 30",
+                                "loads 2 2; misses 2 2; evicted-copies 1 1; ShReq 2 2 2; ShRep 2 2 2; DramLd 2 0 2; "
+                                "DramLdRep 2 0 2"),
+    # The bank has place for one line: it recalls the owner's, stores it, and then loads the other one.
+    "an entry that makes place": (
+        "0 W 0x0 1\n0 R 0x8\n", "--bank-sets 1 --bank-ways 1", "all-done 18 46",
+        "loads 1 1; stores 1 1; misses 2 2; last-time 1 1; recalls 1 1; evicted-entries 1 1; ShReq 1 1 1; ExReq 1 1 1; "
+        "ShRep 1 1 1; ExRep 1 1 1; FlushReq 1 1 1; FlushRep 1 1 1; DramLd 2 0 2; DramLdRep 2 0 2; DramSt 1 0 1; "
+        "DramStRep 1 0 1"),
+    "a run that is cut": ("0 W 0x0 1\n", "--limit 3", "limit 3 9", f"ExReq 1 1 1; ExReq-delivered 0 0 0; {LOAD}"),
+    # docs/SCHEDULES.md has these events. The fourth turn makes none.
+    "a test by a seed": ("SB", "--schedule seed --seed 4 --limit 9", "limit 8 8",
+                         "ExReq 1 0 1 1; ExReq-delivered 0 0 0 0; DramLd 1 0 0 1; DramLdRep 1 0 0 1; "
+                         "DramLdRep-delivered 0 0 0 0"),
+}
+
+
+def wanted_of(ended, told_rows):
+    """The rows that are wanted, by their names, but for those that are 0."""
+    found = dict(zip(("end", "turns", "events"), ([word] for word in ended.split(" "))))
+    for row in told_rows.split("; "):
+        name, *numbers = row.split(" ")
+        names = [f"{name}-sent", f"{name}-delivered"] if name in counts.KINDS else [name]
+        found |= dict.fromkeys(names, numbers)
+    found |= {f"dram-{what}": found[row][:1] + found[row][-1:] for what, row in
+              (("loads", "DramLd-sent"), ("stores", "DramSt-sent")) if row in found}
+    return found
+
+
+class Counter(Tester):
+    """Counts by the script."""
+
+    def __init__(self, player, folder):
+        super().__init__(str(TOP / "scripts/counts.py"))
+        self.player, self.folder = player, folder
+
+    def count(self, file, options, player=None):
+        return self.run("--player", player or self.player, *options, str(file))
+
+    def file(self, text, name="a.trace"):
+        path = Path(self.folder, name)
+        path.write_text(text)
+        return path
+
+    def refused(self, wanted, *words):
+        status, out, error = self.run(*words)
+        good = (status, out) == (2, "") and wanted in error and error.count("\n") == 1
+        self.expect(good, f"{words}: {status} {out} {error}, wanted {wanted}")
+
+
+def by_hand(tester):
+    zeros = [*counts.OF_CORES, *counts.OF_BANKS]
+    for name, (what, options, ended, told_rows) in BY_HAND.items():
+        path = tester.file(what) if "\n" in what else TOP / f"examples/litmus/{what}.litmus"
+        for player in (tester.player, SECOND):
+            status, out, error = tester.count(path, options.split(), player)
+            got = {line.split()[0]: line.split()[1:] for line in out.splitlines() if line}
+            for title in ("cores", "banks", "messages"):
+                tester.expect(got.pop(title, [""])[0] == "all", f"{name}: no table of {title}")
+            for row in zeros:
+                if set(got.get(row, [])) == {"0"}:
+                    del got[row]
+            wanted = wanted_of(ended, told_rows)
+            good = (status, error) == (int(wanted["end"] != ["all-done"]), "") and got == wanted
+            tester.expect(good, f"{name}, {player}: {status} {error} {got}, wanted {wanted}")
+
+
+def random_trace(generator):
+    """A trace, and options."""
+    few, words = generator.choice, generator.choice([1, 3, 8, 30])
+    lines = []
+    for _ in range(generator.randrange(1, 80)):
+        letter, word = few("RRRWWSA"), f"{8 * generator.randrange(words):#x}"
+        of = {"A": [], "R": [word]}.get(letter, [word, str(generator.randrange(5))])
+        lines.append(" ".join([str(generator.randrange(4)), letter, *of]))
+    options = {"--lease": few([1, 2, 10]), "--banks": few([1, 1, 3]), "--sets": few([1, 2, 64]), "--ways": few([1, 4]),
+               "--bank-sets": few([1, 2, 256]), "--bank-ways": few([1, 2, 8]), "--line-words": few([1, 1, 8]),
+               "--messages": few([4, 4096]), "--limit": few([5, 100, 5000, 5000]),
+               "--seed": generator.randrange(2 ** 64), "--schedule": few(["round", "seed"])}
+    words = [str(word) for option in options.items() for word in option]
+    return "\n".join(["trace 2", *lines]) + "\n", words + ["--private-write"] * few([0, 1])
+
+
+def same(tester, path, options):
+    """The player counts as the second program does."""
+    got, wanted = (tester.count(path, options, player) for player in (tester.player, SECOND))
+    tester.expect(got == wanted and got[0] < 2, f"{path.read_text()} {options}: {got}, wanted {wanted}")
+
+
+def at_random(tester):
+    generator = random.Random(1)
+    for _ in range(TRACES):
+        text, options = random_trace(generator)
+        same(tester, tester.file(text), options)
+    for name in ("IRIW", "LOCK", "PRIVATE", "2+2W", "STALE"):
+        same(tester, TOP / f"examples/litmus/{name}.litmus", ["--schedule", "seed", "--seed", str(len(name))])
+
+
+def quick_reading(tester):
+    """A trace that is read fast has the steps of one that is read field by field; and a bad one isn't read fast."""
+    texts = [path.read_bytes() for path in sorted((TOP / "examples/traces").glob("*.trace"))]
+    texts += [of_printf(text) for _, text in rows(TOP / "examples/bad/traces.table")]
+    texts += [b"0 R 0x0\n\n \t\n0 W 0x8 007 # c\n", b"63 R 0x0\n", b"trace 2\n63 A\n", b"0 A\n", b"", b"\n",
+              b"trace 2\ntrace 2\n", b"trace 2\r\n0 R 0x0\n", b"0 R 0x0\x0b\n", b"0 R 0x0\n" + b"#" * 257 + b"\n"]
+    fast = 0
+    for text in texts:
+        got = counts.plain_programs(text)
+        try:
+            wanted = ["; ".join(map(told.step, steps)) for steps in Trace(text).steps]
+        except Fault:
+            wanted = None
+        plain = got and ["; ".join(map(plainly, steps.split("; "))) if steps else "" for steps in got]
+        fast += plain is not None
+        tester.expect(plain in (None, wanted), f"{text[:80]}: {plain}, wanted {wanted}")
+    tester.expect(fast > 40, f"only {fast} of {len(texts)} traces are read fast")
+
+
+def plainly(step):
+    """A step without more blanks and zeros than need be."""
+    letter, *of = step.split()
+    return " ".join([letter, *(f"{int(word, 16):#x}" if word[:2] == "0x" else str(int(word)) for word in of)])
+
+
+def refusals(tester):
+    trace, bad = tester.file("0 R 0x0\n"), tester.file("0 R 0x0\n16 R 0x8\n", "bad.trace")
+    played = ["--player", tester.player]
+    tester.refused("bad.trace: line 2: 4 BadCore", *played, str(bad))
+    tester.refused("none.trace: No such file or directory", *played, "none.trace")
+    tester.refused("bad configuration", *played, "--line-words", "3", str(trace))
+    tester.refused("has the cores 0 to 0", *played, "--cores", "1", str(trace))
+    tester.refused("the player failed, with status 3", *played, "--limit", "-1", str(trace))
+    tester.refused("no-player: No such file or directory", "--player", "no-player", str(trace))
+    tester.refused("the player failed, with status 1", "--player", "false", str(trace))
+    tester.refused("invalid choice: 'threads'", *played, "--schedule", "threads", str(trace))
+    _, out, _ = tester.run(*played, "--cores", "1", str(tester.file("0 R 0x0\n1 R 0x8\n")))
+    heads = [line.split()[1:] for line in out.splitlines() if line.split()[:1] in (["cores"], ["banks"], ["messages"])]
+    wanted = [["all", "core", "1"], ["all", "bank", "0"], ["all", "core", "1", "bank", "0"]]
+    tester.expect(heads == wanted, f"--cores 1: {heads}")
+
+
+def main(player):
+    player = os.path.abspath(player)
+    os.chdir(TOP)
+    with tempfile.TemporaryDirectory() as folder:
+        tester = Counter(player, folder)
+        for part in (by_hand, at_random, quick_reading, refusals):
+            part(tester)
+    print(f"{tester.tried} tried, {tester.wrong} wrong")
+    return int(tester.wrong > 0)
+
+
+if __name__ == "__main__":
+    sys.exit(main(sys.argv[1]) if len(sys.argv) == 2 else __doc__)

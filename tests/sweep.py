@@ -1,0 +1,138 @@
+#!/usr/bin/env python3
+"""Tries scripts/sweep.py: tests/sweep.py PROGRAM PLAYER, the built crates tardis and play_events.
+
+The rows of a small sweep were worked out by hand. Runs that fail have rows that say so, a sweep that was stopped goes
+on, and the plot's points are where they belong. The last line is `N tried, M wrong`.
+"""
+import csv
+import os
+import sys
+import tempfile
+import xml.etree.ElementTree as xml
+from pathlib import Path
+
+from texts import TOP, Tester
+
+# Two loads of a word, with three advances between them. The second load, at time 3, asks anew if the lease is below 3.
+RENEWED, ALONE = "trace 2\n0 R 0x0\n0 A\n0 A\n0 A\n0 R 0x0\n", "0 W 0x0 1\n"
+# The columns that are looked at, and their rows by lease, for lines of one word.
+LOOKED = ["lease", "line-words", "completed", "end", "renewals", "stale-hits", "order", "hits", "misses", "last-time",
+          "turns", "events", "dram-loads", "RenewRep-delivered", "failed"]
+BY_LEASE = {"1": "2 all-done 1 0 legal 0 2 3 12 23 1 1", "2": "2 all-done 1 0 legal 0 2 3 12 23 1 1",
+            "3": "2 all-done 0 0 legal 1 1 3 10 19 1 0", "4": "2 all-done 0 0 legal 1 1 3 10 19 1 0"}
+FAILED = "bad configuration"
+SVG = "{http://www.w3.org/2000/svg}"
+
+
+def wanted_row(lease, line_words):
+    if line_words == "2":
+        return [lease, line_words] + [""] * (len(LOOKED) - 3) + [FAILED]
+    return [lease, line_words, *BY_LEASE[lease].split(" "), ""]
+
+
+class Sweeper(Tester):
+    """Sweeps in a folder."""
+
+    def __init__(self, player):
+        super().__init__(str(TOP / "scripts/sweep.py"))
+        self.player = player
+
+    def sweep(self, *words, status=0, made=None, rows=None, failed=0, table="sweep.csv"):
+        """The rows of the table, if the script says what is wanted."""
+        got = self.run(*words)
+        wanted = status, f"{table}: {rows} rows, {failed} failed\n", f"{made} of {made} rows\n" if made else ""
+        self.expect(got == wanted, f"{words}: {got}, wanted {wanted}")
+        with open(table, newline="", encoding="utf-8") as file:
+            return list(csv.DictReader(file))
+
+    def refused(self, wanted, *words):
+        got = self.run(*words)
+        self.expect(got[:2] == (2, "") and wanted in got[2] and got[2].count("\n") == 1, f"{words}: {got}")
+
+
+def by_hand(tester):
+    """All combinations, in their order; the lines of two words fail."""
+    options = ["--counts", "--player", tester.player, "--lease", "1..3,4", "--line-words", "1,2"]
+    rows = tester.sweep(*options, "renewed.trace", status=1, made=8, rows=8, failed=4)
+    got = [[row[name] for name in LOOKED] for row in rows]
+    wanted = [wanted_row(lease, words) for lease in "1234" for words in "12"]
+    tester.expect(got == wanted, f"by hand: {got}, wanted {wanted}")
+    tester.expect(all(row["trace"] == "renewed.trace" and row["schedule"] == "round" and row["ways"] == "4" and
+                      row["private-write"] == "no" for row in rows), f"options: {rows[0]}")
+    with_all = tester.sweep("--private-write", "both", "--schedule", "seed,round", "--seed", "0,1", "--csv", "two.csv",
+                            "renewed.trace", "alone.trace", made=16, rows=16, table="two.csv")
+    kinds = [(row["trace"], row["schedule"], row["seed"], row["private-write"]) for row in with_all]
+    wanted = [(trace, schedule, seed, private) for trace in ("renewed.trace", "alone.trace")
+              for schedule in ("seed", "round") for seed in "01" for private in ("no", "yes")]
+    tester.expect(kinds == wanted, f"combinations: {kinds}")
+    cut = tester.sweep("--csv", "cut.csv", "--limit", "3", "alone.trace", status=1, made=1, rows=1, table="cut.csv")
+    tester.expect((cut[0]["end"], cut[0]["failed"], cut[0]["completed"]) == ("limit", "", "0"), f"a cut run: {cut}")
+    missing = tester.sweep("--csv", "none.csv", "none.trace", "bad.trace", status=1, made=2, rows=2, failed=2,
+                           table="none.csv")
+    said = [row["failed"] for row in missing]
+    tester.expect("read failed" in said[0] and said[1].endswith("line 1: 4 BadCore"), f"no trace: {said}")
+
+
+def goes_on(tester):
+    """What the table has isn't made again; what was half written is."""
+    rows = tester.sweep("--csv", "on.csv", "--lease", "2..3", "renewed.trace", made=2, rows=2, table="on.csv")
+    table = Path("on.csv")
+    text = table.read_text().replace(",all-done,2,0,0,1,", ",all-done,2,0,0,777,")
+    table.write_text(text + "renewed.trace,round,0,100000,4,0,1")
+    more = tester.sweep("--csv", "on.csv", "--lease", "1..4", "renewed.trace", made=2, rows=4, table="on.csv")
+    got = [(row["lease"], row["renewals"]) for row in more]
+    tester.expect(got == [("2", "777"), ("3", "0"), ("1", "1"), ("4", "0")], f"goes on: {got}")
+    tester.expect(len(rows) == 2 and table.read_text().startswith(text), "a row was written anew")
+    again = tester.sweep("--csv", "on.csv", "--lease", "1..4", "renewed.trace", rows=4, table="on.csv")
+    tester.expect(again == more, "a whole table was changed")
+
+
+def plot(tester):
+    """A line for each private-write, from lease 1 to 4: renewals 1, 1, 0, 0."""
+    tester.sweep("--csv", "plot.csv", "--lease", "1..4", "--private-write", "both", "--plot", "lease:renewals",
+                 "renewed.trace", made=8, rows=8, table="plot.csv")
+    root = xml.parse("plot.svg").getroot()
+    lines = [line.get("points") for line in root.iter(f"{SVG}polyline")]
+    # The plot goes from 80 to 640 for the leases 0 to 4, and from 430 up to 30 for 0 to 1 renewals.
+    tester.expect(lines == ["220.0,30.0 360.0,30.0 500.0,430.0 640.0,430.0"] * 2, f"points: {lines}")
+    said = [text.text for text in root.iter(f"{SVG}text")]
+    wanted = ["0", "1", "2", "3", "4", "0", "1", "lease", "renewals", "private-write no", "private-write yes"]
+    tester.expect(said == wanted, f"what the plot says: {said}")
+    tester.sweep("--csv", "plot.csv", "--plot", "seed:completed", "--svg", "a.svg", "--seed", "0..99", "--limit", "1",
+                 "alone.trace", status=1, made=100, rows=100, table="plot.csv")
+    root = xml.parse("a.svg").getroot()
+    points = [line.get("points") for line in root.iter(f"{SVG}polyline")]
+    tester.expect(len(points) == 1 and len(points[0].split(" ")) == 100, f"100 points: {points}")
+
+
+def refusals(tester):
+    tester.refused("there is no column misses (--counts has it)", "--plot", "lease:misses", "alone.trace")
+    tester.refused("there is no column without a name", "--plot", "lease", "alone.trace")
+    for wrong in ("", "1..", "5..4", "x", "-1", f"{2 ** 64}", "0..1000000"):
+        tester.refused("no number" if wrong in ("", "1..", "x", "-1") else "is no range", f"--lease={wrong}", "alone.trace")
+    tester.refused("rows are too many", "--lease", "1..2000", "--seed", "1..2000", "alone.trace")
+    tester.refused("some is none of no, yes, both", "--private-write", "some", "alone.trace")
+    tester.refused("has other columns", "--csv", "plot.csv", "--counts", "alone.trace")
+    tester.refused("has other columns", "--csv", "line", "alone.trace")
+    tester.refused("Is a directory", "--csv", ".", "alone.trace")
+    tester.refused("No such file or directory", "--csv", "none/a.csv", "alone.trace")
+    tester.refused("TRACE")
+
+
+def main(program, player):
+    os.environ["TARDIS"] = os.path.abspath(program)
+    tester = Sweeper(os.path.abspath(player))
+    with tempfile.TemporaryDirectory() as folder:
+        os.chdir(folder)
+        Path("line").write_text("no table")
+        for name, text in (("renewed", RENEWED), ("alone", ALONE), ("bad", "x\n")):
+            Path(f"{name}.trace").write_text(text)
+        for part in (by_hand, goes_on, plot, refusals):
+            part(tester)
+        os.chdir(TOP)
+    print(f"{tester.tried} tried, {tester.wrong} wrong")
+    return int(tester.wrong > 0)
+
+
+if __name__ == "__main__":
+    sys.exit(main(*sys.argv[1:]) if len(sys.argv) == 3 else __doc__)

@@ -73,7 +73,7 @@ TellsRun rows options =
     × HasNumber rows (codes "limit") 1 4294967295 run_default.limit options.limit
     × TellsMachine rows options.machine
 
--- the numbers of a run that have a range lie in it
+-- 1 to 16 workers, and a limit of 1 to 4,294,967,295
 pub record RunIsInRange (options : RunOptions) : Type 0 where
   pub workers : (1 ≤ options.workers) × (options.workers ≤ 16)
   pub limit : (1 ≤ options.limit) × (options.limit ≤ 4294967295)

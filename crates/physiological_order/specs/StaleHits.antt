@@ -1,6 +1,6 @@
 -- Loads that received a value older than the newest one completed.
-use Rattle.std.specs.Prelude.{◌≡◌, ◌≢◌, ℕ, ◌<◌, ◌==◌, nat_lt, ◌&&◌, Bool, false, List, [], ◌∷◌, count_by}
-use Rattle.std.specs.List.{AllByRecursion as Each, list_any}
+use Rattle.std.specs.Prelude.{ℕ, ◌<◌, ◌==◌, nat_lt, ◌&&◌, Bool, false, List, [], ◌∷◌, count_by}
+use Rattle.std.specs.List.{list_any}
 use Rattle.physiological_order.specs.declared.operation.Op.{Op}
 use Rattle.physiological_order.specs.declared.operation.Op.TheVariants.{Load, Store, Swap}
 use Rattle.physiological_order.specs.declared.operation.Record.{Record}
@@ -20,10 +20,6 @@ is_stale_load (Swap a v) records r = false
 
 abbrev pub stale_count : List Record → ℕ
 stale_count records = count_by (λ r. is_stale_load r.op records r) records
-
--- no operation of the records is a load
-abbrev pub NoneIsLoad : List Record → Type 0
-NoneIsLoad records = Each (λ r. (a : ℕ) → r.op ≢ Load a) records
 
 -- each number is below the next
 abbrev pub RisesByNumber : List Record → Type 0

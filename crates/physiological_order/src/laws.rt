@@ -1,14 +1,15 @@
 //! Laws of histories: their proofs are their contracts, and their bodies are empty.
-ghost use Rattle.std.specs.Prelude.{◌≡◌, ◌<◌, ◌≤◌, ℕ, List, [], ◌∷◌, ◌++◌, map};
+ghost use Rattle.std.specs.Prelude.{◌≡◌, ◌<◌, ◌≤◌, ℕ, List, [], ◌∷◌, ◌++◌, map, true};
 ghost use Rattle.std.specs.List.{AllByRecursion as Each};
 ghost use Rattle.physiological_order.specs.declared.operation.Op.{Op};
+ghost use Rattle.physiological_order.specs.declared.operation.Op.TheVariants.{Load};
 ghost use Rattle.physiological_order.specs.declared.operation.Record.{Record};
 ghost use Rattle.physiological_order.specs.declared.verdict.Verdict.{Verdict};
 ghost use Rattle.physiological_order.specs.Order.{Memory, Arrangement, Legal, address, flat_after, replay_end};
 ghost use Rattle.physiological_order.specs.Completion.{Kept, Fits, placed, arranged, memory_at, Ascends};
 ghost use Rattle.physiological_order.specs.Example.{two_records, two_issued};
 ghost use Rattle.physiological_order.specs.Faults.{IsVerdict};
-ghost use Rattle.physiological_order.specs.StaleHits.{NoneIsLoad, stale_count};
+ghost use Rattle.physiological_order.specs.StaleHits.{is_stale_load};
 
 /// Records have one arrangement.
 pub fn one_arrangement()
@@ -58,9 +59,10 @@ pub fn memory_up_to_a_time()
         (λ r. r.op) records) }
 {}
 
-/// Only loads are stale: among records without a load there is no stale hit.
+/// Only loads are stale, whatever the other records are.
 pub fn stale_hits_are_loads()
-    ensures { (records : List Record) → NoneIsLoad records → stale_count records ≡ 0 }
+    ensures { (op : Op) (records : List Record) (r : Record) →
+        is_stale_load op records r ≡ true → (a : ℕ) × (op ≡ Load a) }
 {}
 
 /// A store of 1 and a load behind it that receives 1 are legal; with 0 received they are not.

@@ -1,4 +1,5 @@
-//! Which answers are progress, and that a run has no choice. A function does nothing: its contract is the law.
+//! Which answers are progress, that seeds differ, and that a run has no choice. A function does nothing: its contract is
+//! the law.
 ghost use Rattle.std.specs.Prelude.{◌≡◌, ◌≢◌, ◌+◌, ◌<◌, ◌^◌, false, true, ℕ, List};
 ghost use Rattle.physiological_order.specs.declared.operation.Record.{Record};
 ghost use Rattle.machine_table.specs.Machine.{Machine};

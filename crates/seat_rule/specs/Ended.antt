@@ -36,7 +36,7 @@ pub record Whole (z : SetUp) (seats : ℕ → Hold) (phases : ℕ → Phase) (lo
 abbrev pub on_link : ℕ → List (ℕ × Message) → ℕ
 on_link link = weigh_links (λ l m. if l == link then 1 else 0)
 
--- on each link no message was taken more often than it was put, whatever each message weighs
+-- on each link no message was taken more often than it was put, counted by any weight of link and message
 abbrev pub NoneTakenTwice : SetUp → (ℕ → Hold) → Type 0
 NoneTakenTwice z seats =
     (weight : ℕ → Message → ℕ) →

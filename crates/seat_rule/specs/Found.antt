@@ -27,7 +27,8 @@ pub record FindsHere (z : SetUp) (id : ℕ) (a : Hold) (m : Message) : Type 0 wh
 abbrev pub OfStanding : (SetUp → ℕ → Hold → Type 0) → Type 0
 OfStanding holds = (z : SetUp) (n id : ℕ) (a : Hold) → is_good z.config ≡ true → Standing z n id a → holds z id a
 
--- so it is with each message of such a seat, whichever it is: one that goes out, the one in the hand, one that waits
+-- each message of such a seat finds its part there, whichever it is: one that goes out, the one in the hand, one that
+-- waits
 pub record MessagesFindParts : Type 0 where
   pub any : OfStanding (λ z id a. (m : Message) (others : List Message) → SameBag (bag_of_hold a) (m ∷ others) →
       FindsHere z id a m)

@@ -23,14 +23,14 @@ told_by_both a b =
       has_progressed = a.has_progressed || b.has_progressed;
     }
 
--- So many turns, one after the other, each of which does what `Turn` says, and what they told together.
+-- n turns, one after the other, each of which does what `Turn` says, and what they reported together.
 pub data TurnsGiven {X : Type 0} (Turn : X → Told → X → Type 0) (x : X) : ℕ → Told → X → Type 0 where
   rests : TurnsGiven Turn x zero quiet x
   more : {n : ℕ} {all told : Told} {y z : X} → TurnsGiven Turn x n all y → Turn y told z →
       TurnsGiven Turn x (suc n) (told_by_both all told) z
 
--- Each of a list was given turns, at most so many, and is at the same place in the other list; and what all of these
--- turns told together.
+-- Each of a list was given at most `limit` turns, and is at the same place in the other list; and what all of these
+-- turns reported together.
 pub data AllGiven {X : Type 0} (Turn : X → Told → X → Type 0) (limit : ℕ) : List X → Told → List X → Type 0 where
   none : AllGiven Turn limit [] quiet []
   one_more : {n : ℕ} {told all : Told} {x y : X} {xs ys : List X} → n ≤ limit → TurnsGiven Turn x n told y →

@@ -28,8 +28,8 @@ pub record AreBanksInOrder (m : Machine) (banks : List BankSeat) : Type 0 where
 abbrev pub NoneOpen : List CoreSeat → Type 0
 NoneOpen cores = (i : ℕ) (p : CoreSeat) → slice_get cores i ≡ Some p → p.part.core.open_op ≡ None
 
--- How it ends where something is left to do, by what the turns told: for want of memory if a turn told it, else
--- exhausted if a turn told it, else since the turns are used up.
+-- How it ends where something is left to do, by what the turns reported: for want of memory if a turn reported it, else
+-- exhausted if a turn reported it, else since the turns are used up.
 abbrev pub end_told : Told → End
 end_told told =
     if told.no_memory then end.NoMemory else (if told.is_exhausted then end.Exhausted else end.TurnsUsed)
@@ -56,8 +56,8 @@ module _ {P : Type 0} (acts : Acts P) where
       (i : ℕ) (p : CoreSeat) (a : P) → slice_get cores i ≡ Some p → slice_get programs i ≡ Some a →
       (p.part.core.open_op ≡ None) × (acts.next a ≡ None)
 
-  -- Seats of the machine were given turns, at most so many each. All is done exactly if nothing is left to do.
-  -- Otherwise what the turns told is how it ends.
+  -- Seats of the machine were given at most `limit` turns each. All is done exactly if nothing is left to do.
+  -- Otherwise what the turns reported decides how it ends.
   pub record Ran (m : Machine) (limit : ℕ) (cores : List CoreSeat) (banks : List BankSeat) (programs : List P)
       (cores' : List CoreSeat) (banks' : List BankSeat) (programs' : List P) (e : End) : Type 0 where
     pub told : Told

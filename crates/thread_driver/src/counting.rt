@@ -1,4 +1,4 @@
-//! What is counted of seats: which cores are done.
+//! Counts the cores that are done.
 ghost use Rattle.std.specs.Prelude.{◌≡◌, ◌≤◌, true, length};
 ghost use Rattle.thread_driver.specs.Shifts.{AreOver};
 

@@ -160,14 +160,14 @@ fn told_by_team<P: Drop>(team: &[Worker<P>]) -> Told
     }
 }
 
-// Whether a turn of a team told want of memory.
+// Whether a turn of a team reported that memory was refused.
 fn lacks_memory<P: Drop>(team: &[Worker<P>]) -> bool
     ensures { result ≡ list_any (λ w. w.told.no_memory) team.now }
 {
     team.iter().any(|worker| worker.told.no_memory)
 }
 
-// Whether a turn of a team told that its seat stopped.
+// Whether a turn of a team reported that its seat stopped.
 fn is_exhausted<P: Drop>(team: &[Worker<P>]) -> bool
     ensures { result ≡ list_any (λ w. w.told.is_exhausted) team.now }
 {

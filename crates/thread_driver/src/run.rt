@@ -26,9 +26,9 @@ pub struct ThreadRun<P: Drop> {
 
 /// Opens a machine with this memory, lets 1 to 16 workers drive its seats with at most `turn_limit` turns each, and
 /// closes it. A program a core gives it its steps. docs/SCHEDULES.md has the order of turns, and the ends. What comes
-/// of it is a machine in a reached state, which is consistent (`closed_machines_are_consistent`). How it ends is what
-/// the turns told that lead from the seats that opened to those that were closed. AllocError where there is no memory
-/// to open the machine or to close it.
+/// of it is a machine in a reached state, which is consistent (`closed_machines_are_consistent`). The turns that lead
+/// from the opened seats to the closed ones decide how it ends. AllocError where there is no memory to open the machine
+/// or to close it.
 pub fn run_threads<R: Threads + Sync, P: Program + Send + Drop, G: Gate + Sync>(
     rt: &R,
     alloc: Global,

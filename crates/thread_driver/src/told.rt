@@ -18,7 +18,7 @@ pub struct Told {
     pub has_progressed: bool,
 }
 
-/// What is told before the first turn.
+/// Nothing to report yet.
 pub(crate) const QUIET: Told = Told {
     no_memory: false,
     is_exhausted: false,

@@ -3,8 +3,8 @@ ghost use Rattle.timestamp_manager.specs.LeaseLaws.{AbsentNeverRenews, ReturnedL
 ghost use Rattle.timestamp_manager.specs.LeaseLaws.{ReturnedLeaseReaches, SharedLeaseCovers, SharedLeaseFits};
 ghost use Rattle.timestamp_manager.specs.LeaseLaws.{SharedLeaseIsShortest};
 
-/// A lease never falls, and covers a whole lease from the last write and from the reader's time; it goes no further. It
-/// is given exactly if both leases fit. A reader without a copy is never answered by a renewal.
+/// A lease never falls, and covers a whole lease from the last write and from the reader's time; it goes no further.
+/// It is given exactly if both of these fit. A reader without a copy is never answered by a renewal.
 pub fn shared_leases_cover()
     ensures covers { SharedLeaseCovers }
     ensures shortest { SharedLeaseIsShortest }

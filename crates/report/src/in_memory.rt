@@ -104,11 +104,7 @@ fn runs_of(
 
 /// The report on a run of the trace that a text is, or its records, by a schedule that takes no threads. Trace goes
 /// before BadConfig.
-pub fn trace_report(
-    alloc: Global,
-    text: &[u8],
-    options: &TraceOptions,
-) -> Result<Report, RunError>
+pub fn trace_report(alloc: Global, text: &[u8], options: &TraceOptions) -> Result<Report, RunError>
     requires { policy_of options.now.run ≢ None }
     ensures report { IfOk result (λ report.
         IsTraceReport options.now (Some text.now) report.all_done report.text.items) }

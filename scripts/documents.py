@@ -43,6 +43,8 @@ GROUPS = [
                                      "run_results", "command_line", "tardis")]),
     ("Traces and records: their texts, their runs, and the verdict of a check", [
         (name, "*", "") for name in ("trace_lines", "trace_reader", "trace_texts", "report")]),
+    ("Calls from C and C++: their numbers, and what stands in their buffers", [
+        ("tardis_c", "*", "")]),
     ("Laws for later layers: of the table's histories, of the moves of a state, of the protocol by lines", [
         ("machine_theorem", "*", ""), ("seat_rule", MOVES, ""), ("protocol", "*", "")]),
 ]
@@ -184,10 +186,11 @@ def contracts(file, is_open, names):
             owner, is_trait = None, False
         if owner in names and re.match(r"    ghost (?!use |invariant|coded)", line):
             yield "", line
-        found = re.match(r"(\s*)(pub )?fn (\w+)", line)
+        found = re.match(r"(\s*)(pub )?(extern \"C\" )?fn (\w+)", line)
         if found:
-            is_public = (found.group(2) or is_trait) and (is_open or (owner or found.group(3)) in names)
-            function, indent, taken = (found.group(3) if is_public else None), found.group(1), []
+            is_public = (found.group(2) or is_trait) and (is_open or (owner or found.group(4)) in names)
+            is_public = is_public or found.group(3)
+            function, indent, taken = (found.group(4) if is_public else None), found.group(1), []
         elif function and line in (indent + "{", indent + "{}") or function and taken and line.endswith(";"):
             yield function, "\n".join(taken)
             function = None

@@ -114,8 +114,8 @@ def levels():
     """The crates by their level: one more than the highest that each stands on. Tests and measurements are left out."""
     level = {}
     for line in (TOP / "crates.txt").read_text(encoding="utf-8").splitlines():
-        name, _, below = line.partition(":")
-        if not name.startswith(("test_", "bench")):
+        name, _, below = line.split("#")[0].replace(" staticlib", "").partition(":")
+        if name and not name.startswith(("test_", "bench")):
             level[name] = 1 + max((level[crate] for crate in below.split() if crate in level), default=0)
     return level
 

@@ -7,8 +7,7 @@ ghost use Rattle.report.specs.Refusals.{IsRead, OnAccepted};
 ghost use Rattle.report.specs.Verdicts.{HasNoVerdict, IsCheckReport, IsVerdictLine};
 ghost use Rattle.report.specs.Verdicts.{ReadsCounted, WritesCounted, is_legal};
 
-use crate::outputs::put_out;
-use crate::reports::Report;
+use crate::outputs::{Report, put_out};
 use crate::texts::{records_of, trace_of};
 use byte_streams::{Sink, Source};
 use physiological_order::{Memory, Record, Verdict, check};
@@ -65,8 +64,8 @@ pub fn run_check<S: Source, R: Source, K: Sink>(
     put_out(sink, &report.text, done)
 }
 
-// The line of the verdict on the trace and the records that the sources have.
-fn verdict_on<S: Source, R: Source>(
+/// The line of the verdict on the trace and the records that the sources have.
+pub(crate) fn verdict_on<S: Source, R: Source>(
     alloc: Global,
     trace: &mut S,
     records: &mut R,

@@ -3,6 +3,7 @@
 #![tactic(auto)]
 
 mod checks;
+mod in_memory;
 pub mod laws;
 mod litmus;
 mod one_run;
@@ -15,7 +16,9 @@ mod words;
 
 pub use byte_streams::{FromRead, Sink, Source, ToWrite};
 pub use checks::run_check;
+pub use in_memory::{check_report, litmus_report, trace_report};
 pub use litmus::run_litmus;
+pub use outputs::Report;
 pub use report_text::litmus_text;
 pub use reports::run_trace;
 pub use run_options::{LitmusOptions, MachineOptions, RunOptions, Schedule, TraceOptions};

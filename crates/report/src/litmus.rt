@@ -1,5 +1,5 @@
 //! From a source with a litmus text to a sink for its report.
-ghost use Rattle.std.specs.Prelude.{◌≡◌, ◌≢◌, ◌+◌, IfErr, IfOk, IsErrOf, List, length, true, ℕ};
+ghost use Rattle.std.specs.Prelude.{◌≡◌, ◌≢◌, ◌≤◌, ◌+◌, IfErr, IfOk, IsErrOf, List, length, true, ℕ};
 ghost use Rattle.std.specs.List.{AllByRecursion, list_all};
 ghost use Rattle.byte_streams.specs.Whole.{TakesAtMost};
 ghost use Rattle.litmus_reader.specs.Grammar.{IsTest};
@@ -13,7 +13,7 @@ ghost use Rattle.report.specs.Litmus.{HasNoReport, IsLitmusReport, litmus_refusa
 ghost use Rattle.worker_driver.specs.Outcomes.{HasOutcome};
 ghost use Rattle.worker_driver.specs.Runs.{AreFrom};
 
-use crate::outputs::put_out;
+use crate::outputs::{Report, put_out};
 use crate::sources::text_of;
 use byte_streams::{Sink, Source};
 use interleaving_core::Config;
@@ -26,7 +26,7 @@ use shared_jobs::Free;
 use std::alloc::{AllocError, Global};
 use std::thread::Threads;
 use worker_driver::{
-    Policy, config_of, limit_of, policy_of, round_runs, seeded_runs, threaded_runs, workers_of,
+    Policy, config_of, limit_of, policy_of, policy_runs, seeded_runs, threaded_runs, workers_of,
 };
 
 /// Reads a litmus test to the end of the source, runs it as the options say, and writes the report of the runs. Each
@@ -68,11 +68,20 @@ pub fn run_litmus<R: Threads + Sync, S: Source, K: Sink>(
     put_out(sink, &report.text, done)
 }
 
-// A report's text, and whether every run ended all done.
-#[derive(Drop)]
-struct Report {
-    text: Vec<u8>,
-    all_done: bool,
+/// The litmus test that these bytes are, or why they have no report.
+pub(crate) fn test_in(
+    alloc: Global,
+    bytes: &[u8],
+    options: &LitmusOptions,
+) -> Result<Test, RunError>
+    ensures found { IfOk result (λ test. IsTest bytes.now (test_of test)) }
+    ensures few { IfOk result (λ test. (test_of test).threads ≤ 16) }
+    ensures refused { IfErr result (HasNoReport options.now bytes.now) }
+{
+    match read(alloc, bytes) {
+        Ok(test) => Ok(test),
+        Err(error) => Err(refusal(error)),
+    }
 }
 
 // The report on the litmus test that these bytes are.
@@ -86,9 +95,9 @@ fn report_of<R: Threads + Sync>(
         IsLitmusReport options.now bytes.now report.all_done report.text.items) }
     ensures refused { IfErr result (HasNoReport options.now bytes.now) }
 {
-    let test = match read(alloc, bytes) {
+    let test = match test_in(alloc, bytes, options) {
         Ok(test) => test,
-        Err(error) => return Err(refusal(error)),
+        Err(error) => return Err(error),
     };
     let Some(config) = config_of(&options.run.machine, test.threads() as u32) else {
         return Err(RunError::BadConfig);
@@ -124,7 +133,7 @@ fn runs_of<R: Threads + Sync>(
     let run = &options.run;
     let (count, limit, workers) = (options.runs, limit_of(run), workers_of(run));
     match policy_of(run) {
-        Some(Policy::Rounds) => round_runs(alloc, test, config, count, limit),
+        Some(Policy::Rounds) => policy_runs(alloc, test, config, Policy::Rounds, count, limit),
         Some(Policy::Seed(first)) => {
             seeded_runs(rt, alloc, test, config, first, count, limit, workers, &Free)
         }
@@ -143,8 +152,8 @@ fn refusal(error: LitmusError) -> RunError
     }
 }
 
-// Whether every run ended all done.
-fn are_all_done(runs: &[RunEnd]) -> bool
+/// Whether every run ended all done.
+pub(crate) fn are_all_done(runs: &[RunEnd]) -> bool
     ensures { result ≡ list_all (ends_as End.AllDone) runs.now }
 {
     runs.iter().all(|run| matches!(run.end, End::AllDone))

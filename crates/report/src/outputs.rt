@@ -1,10 +1,17 @@
-//! A whole text to a sink, with what is answered where that fails.
+//! A report, and a whole text to a sink, with what is answered where that fails.
 ghost use Rattle.std.specs.Prelude.{◌≡◌, IfOk, IfErr, OnOk};
 ghost use Rattle.byte_streams.specs.Device.{Grows};
 ghost use Rattle.report.specs.Answers.{IsWriteError};
 
 use byte_streams::{DeviceError, Sink, write_all};
 use run_results::{Done, RunError};
+
+/// A text that goes out, and whether it tells that all is done, or legal.
+#[derive(Drop)]
+pub struct Report {
+    pub text: Vec<u8>,
+    pub all_done: bool,
+}
 
 /// Writes the text, and is then done as it is said.
 pub fn put_out<K: Sink>(sink: &mut K, text: &[u8], done: Done) -> Result<Done, RunError>

@@ -11,7 +11,7 @@ ghost use Rattle.report.specs.Reports.{HasNoTraceReport, HasNoRun, IsTraceReport
 ghost use Rattle.report.specs.Runs.{trace_cores, is_all_done};
 
 use crate::one_run::{Ran, run_by_policy, run_by_threads, text_of};
-use crate::outputs::put_out;
+use crate::outputs::{Report, put_out};
 use crate::texts::trace_of;
 use byte_streams::{Sink, Source};
 use interleaving_core::Config;
@@ -70,13 +70,6 @@ pub fn run_trace<R: Threads + Sync, S: Source, K: Sink>(
     put_out(sink, &report.text, done)
 }
 
-/// A text that goes out, and whether it tells that all is done, or legal.
-#[derive(Drop)]
-pub(crate) struct Report {
-    pub(crate) text: Vec<u8>,
-    pub(crate) all_done: bool,
-}
-
 // The report on a trace, or its records.
 fn report_of<R: Threads + Sync>(
     rt: &R,
@@ -116,8 +109,8 @@ fn told<R: Threads + Sync>(
     }
 }
 
-// A run of the trace by a policy, as it is told.
-fn told_by_policy(
+/// A run of the trace by a policy, as it is told.
+pub(crate) fn told_by_policy(
     alloc: Global,
     trace: &Trace,
     config: Config,

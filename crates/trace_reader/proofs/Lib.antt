@@ -1,5 +1,6 @@
 mod NextLine
 mod ByCore
+pub mod Lemmas
 mod OnLines
 mod Inverses
 mod StepsRead

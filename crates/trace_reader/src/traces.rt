@@ -105,7 +105,7 @@ impl Model for Trace {
 
 impl Trace {
     /// No steps; this takes no memory yet.
-    pub(crate) fn new(alloc: Global) -> Trace
+    pub fn new(alloc: Global) -> Trace
         ensures { result ≡ [] }
     {
         Trace {
@@ -170,7 +170,7 @@ impl Trace {
     }
 
     /// One more step of a core, behind those that it has.
-    pub(crate) fn push(&mut self, core: u32, step: Step) -> Result<(), AllocError>
+    pub fn push(&mut self, core: u32, step: Step) -> Result<(), AllocError>
         requires { core < 64 }
         ensures cores { OnOk result (length self.new ≡ max (suc core) (length self.old)) }
         ensures steps { OnOk result ((k : ℕ) → lane self.new k

@@ -1,5 +1,5 @@
--- One more run behind others that all are made the same way.
-use Rattle.std.proofs.Common.{◌≡◌, ℕ, ◌+◌, List, [], ◌∷◌, ◌++◌, Option, sym, subst}
+-- One more run behind others.
+use Rattle.std.proofs.Common.{ℕ, suc, ◌+◌, ◌≡◌, List, [], ◌∷◌, ◌++◌, length, Option, subst, arith}
 use Rattle.std.specs.Prelude.{option_map}
 use Rattle.std.specs.List.{AllByRecursion}
 use Rattle.litmus_reader.specs.Litmus.{Litmus}
@@ -9,14 +9,22 @@ use Rattle.schedules.specs.Batches.{policy_of_run}
 use Rattle.schedules.specs.declared.policy.Policy.{Policy}
 use Rattle.worker_driver.specs.Runs.{AreFrom, IsRun}
 
-pub one_more_run : (test : Litmus) (config : Config) (way : Option Policy) (limit i : ℕ) →
-    ((n : ℕ) → option_map (λ policy. policy_of_run policy n) way ≡ way) → (runs : List RunEnd) (run : RunEnd) →
-    AreFrom test config way limit i runs → IsRun test config way limit run →
-    AreFrom test config way limit i (runs ++ run ∷ [])
-one_more_run test config way limit i same [] run before is =
-    (subst (λ (p : Option Policy). IsRun test config p limit run) (sym (same i)) is, tt)
-one_more_run test config way limit i same (r ∷ rs) run before is =
-    (before.0, one_more_run test config way limit (i + 1) same rs run before.1 is)
+-- how the run of this number goes, if the first goes this way
+abbrev IsNumbered : Litmus → Config → Option Policy → ℕ → RunEnd → ℕ → Type 0
+IsNumbered test config way limit run n =
+    IsRun test config (option_map (λ policy. policy_of_run policy n) way) limit run
+
+pub one_more_run : (test : Litmus) (config : Config) (way : Option Policy) (limit i : ℕ) (runs : List RunEnd)
+    (run : RunEnd) → AreFrom test config way limit i runs →
+    IsNumbered test config way limit run (i + length runs) → AreFrom test config way limit i (runs ++ run ∷ [])
+one_more_run test config way limit i [] run before is =
+    let same : i + 0 ≡ i = omega arith in
+    (subst (IsNumbered test config way limit run) same is, tt)
+one_more_run test config way limit i (r ∷ rs) run before is =
+    let same : i + suc (length rs) ≡ i + 1 + length rs = omega arith in (
+      before.0,
+      one_more_run test config way limit (i + 1) rs run before.1 (subst (IsNumbered test config way limit run) same is),
+    )
 
 pub one_more : {A : Type 0} (P : A → Type 0) (xs : List A) (x : A) → AllByRecursion P xs → P x →
     AllByRecursion P (xs ++ x ∷ [])

@@ -1,10 +1,10 @@
-//! Runs of a litmus test by seeds, shared by workers; and runs of it by rounds.
+//! Runs of a litmus test by seeds, shared by workers; and runs of it by a policy, made by the calling thread alone.
 ghost use Rattle.std.specs.Prelude.{◌≡◌, ◌<◌, ◌≤◌, IfOk, List, Some, length, true, ℕ};
 ghost use Rattle.std.specs.List.{AllByRecursion};
 ghost use Rattle.litmus_reader.specs.Grammar.{IsTest};
 ghost use Rattle.litmus_reader.specs.TestViews.{test_of};
 ghost use Rattle.machine_table.specs.SetUp.{is_good};
-ghost use Rattle.schedules.specs.declared.policy.Policy.TheVariants.{Rounds, Seed};
+ghost use Rattle.schedules.specs.declared.policy.Policy.TheVariants.{Seed};
 ghost use Rattle.worker_driver.specs.Outcomes.{HasOutcome};
 ghost use Rattle.worker_driver.specs.Runs.{AreFrom};
 
@@ -88,13 +88,15 @@ pub fn seeded_runs<R: Threads + Sync, G: Gate + Sync>(
     run_jobs(rt, alloc, &runs, count, workers, gate)
 }
 
-/// `count` runs of the test by rounds, one after the other, with at most `limit` rounds each, on one machine with a core
-/// for each thread, which opens anew for each further run. The end state of a run that is all done is an outcome of the
-/// sequential machine. AllocError where there is no memory for the list, or for the machine or what is told of it.
-pub fn round_runs(
+/// `count` runs of the test by the calling thread, one after the other: the first by this policy, and by seeds each
+/// further one with the next, modulo 2^64. Each has at most `limit` turns, on one machine with a core for each thread,
+/// which opens anew for each further run. The end state of a run that is all done is an outcome of the sequential
+/// machine. AllocError where there is no memory for the list, or for the machine or what is told of it.
+pub fn policy_runs(
     alloc: Global,
     test: &Test,
     config: Config,
+    first: Policy,
     count: u64,
     limit: u32,
 ) -> Result<Vec<RunEnd>, AllocError>
@@ -102,15 +104,15 @@ pub fn round_runs(
     requires cores { config.cores ≡ (test_of test.now).threads }
     ensures count { IfOk result (λ runs. length runs.items ≡ count) }
     ensures each { IfOk result (λ runs.
-        AreFrom (test_of test.now) config (Some Rounds) limit 0 runs.items) }
+        AreFrom (test_of test.now) config (Some first) limit 0 runs.items) }
     ensures outcomes { IfOk result (λ runs. (text : List ℕ) → IsTest text (test_of test.now) →
         AllByRecursion (HasOutcome (test_of test.now)) runs.items) }
 {
     let mut runs = Vec::new(alloc);
     let mut kept = None;
-    for _ in 0..count {
+    for number in 0..count {
         let mut system = open_again(kept, alloc, test, config)?;
-        let run = run_on(alloc, test, &mut system, Policy::Rounds, limit)?;
+        let run = run_on(alloc, test, &mut system, first.of_run(number), limit)?;
         runs.push(run)?;
         kept = Some(system);
     }

@@ -11,7 +11,7 @@ mod shared_runs;
 mod threads;
 mod told;
 
-pub use batches::{batch, round_runs, seeded_runs};
+pub use batches::{batch, policy_runs, seeded_runs};
 pub use finished::Finished;
 pub use one_run::run_once;
 pub use programs::{End, OpProgram, Program, Step, StepProgram};

@@ -1,0 +1,149 @@
+//! Reports on texts in memory, for a caller that has no threads: the calling thread makes all runs.
+ghost use Rattle.std.specs.Prelude.{◌≡◌, ◌≢◌, IfErr, IfOk, List, None, Some, length, true, ℕ};
+ghost use Rattle.std.specs.List.{AllByRecursion};
+ghost use Rattle.litmus_reader.specs.Grammar.{IsTest};
+ghost use Rattle.litmus_reader.specs.TestViews.{test_of};
+ghost use Rattle.machine_table.specs.SetUp.{is_good};
+ghost use Rattle.report.specs.Litmus.{HasNoReport, IsLitmusReport, turns};
+ghost use Rattle.report.specs.Reports.{HasNoRun, HasNoTraceReport, IsTraceReport, TellsTraceRun};
+ghost use Rattle.report.specs.Verdicts.{HasNoVerdict, IsCheckReport};
+ghost use Rattle.worker_driver.specs.Outcomes.{HasOutcome};
+ghost use Rattle.worker_driver.specs.Runs.{AreFrom};
+ghost use Rattle.worker_driver.specs.SetUp.{policy_of};
+
+use crate::checks::verdict_on;
+use crate::litmus::{are_all_done, test_in};
+use crate::outputs::Report;
+use crate::reports::told_by_policy;
+use crate::texts::trace_of;
+use byte_streams::{DeviceError, Source};
+use interleaving_core::Config;
+use litmus_reader::Test;
+use report_text::{RunEnd, litmus_text};
+use run_options::{LitmusOptions, TraceOptions};
+use run_results::RunError;
+use std::alloc::{AllocError, Global};
+use std::io::Read;
+use trace_reader::Trace;
+use worker_driver::{config_of, limit_of, policy_of, policy_runs};
+
+// Bytes in memory, as a source that never fails.
+#[derive(Drop)]
+struct InMemory<'a> {
+    rest: &'a [u8],
+}
+
+impl Source for InMemory<'_> {
+    ghost use Rattle.std.specs.Prelude.{Some};
+
+    ghost remaining = { λ source. Some source.rest.now };
+
+    ghost failures = { λ source. 0 };
+
+    fn read(&mut self, buffer: &mut [u8]) -> Result<usize, DeviceError> {
+        match self.rest.read(buffer) {
+            Ok(count) => Ok(count),
+            Err(_) => unreachable!(),
+        }
+    }
+}
+
+/// The report on the litmus test that a text is, run as the options say by a schedule that takes no threads. Litmus goes
+/// before BadConfig.
+pub fn litmus_report(
+    alloc: Global,
+    text: &[u8],
+    options: &LitmusOptions,
+) -> Result<Report, RunError>
+    requires { policy_of options.now.run ≢ None }
+    ensures report { IfOk result (λ report.
+        IsLitmusReport options.now text.now report.all_done report.text.items) }
+    ensures refused { IfErr result (HasNoReport options.now text.now) }
+{
+    let test = match test_in(alloc, text, options) {
+        Ok(test) => test,
+        Err(error) => return Err(error),
+    };
+    let Some(config) = config_of(&options.run.machine, test.threads() as u32) else {
+        return Err(RunError::BadConfig);
+    };
+    let Ok(runs) = runs_of(alloc, &test, config, options) else {
+        return Err(RunError::NoMemory);
+    };
+    match litmus_text(alloc, &test, &runs) {
+        Ok(text) => Ok(Report {
+            text,
+            all_done: are_all_done(&runs),
+        }),
+        Err(AllocError) => Err(RunError::NoMemory),
+    }
+}
+
+// The runs of the test that the options ask for, on a machine that is set up so.
+fn runs_of(
+    alloc: Global,
+    test: &Test,
+    config: Config,
+    options: &LitmusOptions,
+) -> Result<Vec<RunEnd>, AllocError>
+    requires policy { policy_of options.now.run ≢ None }
+    requires good { is_good config ≡ true }
+    requires cores { config.cores ≡ (test_of test.now).threads }
+    ensures count { IfOk result (λ runs. length runs.items ≡ options.now.runs) }
+    ensures each { IfOk result (λ runs. AreFrom (test_of test.now) config
+        (policy_of options.now.run) (turns options.now) 0 runs.items) }
+    ensures outcomes { IfOk result (λ runs. (text : List ℕ) → IsTest text (test_of test.now) →
+        AllByRecursion (HasOutcome (test_of test.now)) runs.items) }
+{
+    let Some(policy) = policy_of(&options.run) else {
+        unreachable!()
+    };
+    let limit = limit_of(&options.run);
+    policy_runs(alloc, test, config, policy, options.runs, limit)
+}
+
+/// The report on a run of the trace that a text is, or its records, by a schedule that takes no threads. Trace goes
+/// before BadConfig.
+pub fn trace_report(alloc: Global, text: &[u8], options: &TraceOptions) -> Result<Report, RunError>
+    requires { policy_of options.now.run ≢ None }
+    ensures report { IfOk result (λ report.
+        IsTraceReport options.now (Some text.now) report.all_done report.text.items) }
+    ensures refused { IfErr result (HasNoTraceReport options.now (Some text.now)) }
+{
+    let mut source = InMemory { rest: text };
+    let trace = match trace_of(alloc, &mut source) {
+        Ok(trace) => trace,
+        Err(error) => return Err(error),
+    };
+    report_of(alloc, &trace, options)
+}
+
+// The report on a trace, or its records.
+fn report_of(alloc: Global, trace: &Trace, options: &TraceOptions) -> Result<Report, RunError>
+    requires { policy_of options.now.run ≢ None }
+    ensures report { IfOk result (λ report.
+        TellsTraceRun options.now trace.now report.all_done report.text.items) }
+    ensures refused { IfErr result (HasNoRun options.now trace.now) }
+{
+    let Some(config) = config_of(&options.run.machine, trace.cores()) else {
+        return Err(RunError::BadConfig);
+    };
+    let Some(policy) = policy_of(&options.run) else {
+        unreachable!()
+    };
+    match told_by_policy(alloc, trace, config, policy, options) {
+        Ok(report) => Ok(report),
+        Err(AllocError) => Err(RunError::NoMemory),
+    }
+}
+
+/// The line of the verdict on records for what a trace issues, both as texts. The trace's fault goes before the records'.
+pub fn check_report(alloc: Global, trace: &[u8], records: &[u8]) -> Result<Report, RunError>
+    ensures report { IfOk result (λ report.
+        IsCheckReport (Some trace.now) (Some records.now) report.all_done report.text.items) }
+    ensures refused { IfErr result (HasNoVerdict (Some trace.now) (Some records.now)) }
+{
+    let mut trace = InMemory { rest: trace };
+    let mut records = InMemory { rest: records };
+    verdict_on(alloc, &mut trace, &mut records)
+}

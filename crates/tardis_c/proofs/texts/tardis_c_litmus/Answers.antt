@@ -1,0 +1,20 @@
+use Rattle.std.proofs.Common.{◌≢◌, None, subst, sym}
+use Rattle.report.specs.Litmus.{HasNoReport, IsLitmusReport}
+use Rattle.run_options.specs.declared.options.LitmusOptions.{LitmusOptions}
+use Rattle.worker_driver.specs.SetUp.{policy_of}
+use Rattle.tardis_c.specs.Answers.{IsTold}
+use Rattle.tardis_c.specs.Options.{is_set}
+use Rattle.tardis_c.proofs.Told.{follows_a_policy, told}
+use Rattle.tardis_c.proofs.texts.tardis_c_litmus.Goals as goal
+
+pub litmus_report-came-requires : goal.litmus_report-came-requires
+litmus_report-came-requires c =
+    subst (λ (options : LitmusOptions). policy_of options.run ≢ None) (sym c.litmus_options.ensures)
+    (follows_a_policy (is_set c.args.options.now.by_seed) c.args.options.now.seed)
+
+pub returns : goal.returns
+returns c =
+    subst (λ (o : LitmusOptions). IsTold (IsLitmusReport o c.args.text.now) (HasNoReport o c.args.text.now) c.args.buffer.now
+    c.tell.new.buffer c.tell.new.long c.tell.result) c.litmus_options.ensures
+    (told _ _ c.litmus_report-came.result _ _ _ _ c.litmus_report-came.ensures.report c.litmus_report-came.ensures.refused
+    c.tell.ensures)

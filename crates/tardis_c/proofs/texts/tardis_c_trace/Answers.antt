@@ -1,0 +1,20 @@
+use Rattle.std.proofs.Common.{◌≢◌, None, Some, subst, sym}
+use Rattle.report.specs.Reports.{HasNoTraceReport, IsTraceReport}
+use Rattle.run_options.specs.declared.options.TraceOptions.{TraceOptions}
+use Rattle.worker_driver.specs.SetUp.{policy_of}
+use Rattle.tardis_c.specs.Answers.{IsTold}
+use Rattle.tardis_c.specs.Options.{is_set}
+use Rattle.tardis_c.proofs.Told.{follows_a_policy, told}
+use Rattle.tardis_c.proofs.texts.tardis_c_trace.Goals as goal
+
+pub trace_report-came-requires : goal.trace_report-came-requires
+trace_report-came-requires c =
+    subst (λ (options : TraceOptions). policy_of options.run ≢ None) (sym c.trace_options.ensures)
+    (follows_a_policy (is_set c.args.options.now.by_seed) c.args.options.now.seed)
+
+pub returns : goal.returns
+returns c =
+    subst (λ (o : TraceOptions). IsTold (IsTraceReport o (Some c.args.text.now)) (HasNoTraceReport o (Some c.args.text.now)) c.args.buffer.now
+    c.tell.new.buffer c.tell.new.long c.tell.result) c.trace_options.ensures
+    (told _ _ c.trace_report-came.result _ _ _ _ c.trace_report-came.ensures.report c.trace_report-came.ensures.refused
+    c.tell.ensures)

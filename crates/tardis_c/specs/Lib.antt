@@ -1,0 +1,4 @@
+pub mod Answers
+pub mod Arrays
+pub mod Options
+pub mod Plain

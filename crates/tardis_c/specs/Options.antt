@@ -1,0 +1,38 @@
+-- What the options of C stand for.
+use Rattle.std.specs.Prelude.{ℕ, Bool, if◌then◌else◌, nat_lt}
+use Rattle.run_options.specs.declared.options.LitmusOptions.{LitmusOptions}
+use Rattle.run_options.specs.declared.options.RunOptions.{RunOptions}
+use Rattle.run_options.specs.declared.options.Schedule.TheVariants.{Round, Seed}
+use Rattle.run_options.specs.declared.options.TraceOptions.{TraceOptions}
+use Rattle.tardis_c.specs.declared.options.PlainOptions.{PlainOptions}
+
+-- a flag that is set
+abbrev pub is_set : ℕ → Bool
+is_set flag = nat_lt 0 flag
+
+-- by a seed if that flag is set, and else by rounds, on the machine that is asked for
+abbrev pub run_options : PlainOptions → RunOptions
+run_options plain = record {
+  schedule = if is_set plain.by_seed then Seed else Round;
+  seed = plain.seed;
+  workers = 1;
+  limit = plain.limit;
+  machine = record {
+    lease = plain.lease;
+    time = plain.time;
+    banks = plain.banks;
+    sets = plain.sets;
+    ways = plain.ways;
+    bank_sets = plain.bank_sets;
+    bank_ways = plain.bank_ways;
+    line_words = plain.line_words;
+    messages = plain.messages;
+    private_write = is_set plain.private_write;
+  };
+}
+
+abbrev pub litmus_options : PlainOptions → LitmusOptions
+litmus_options plain = record { runs = plain.runs; run = run_options plain }
+
+abbrev pub trace_options : PlainOptions → TraceOptions
+trace_options plain = record { records = is_set plain.records; run = run_options plain }

@@ -1,0 +1,41 @@
+-- What operations and records of C stand for, and what is wrong with them.
+use Rattle.std.specs.Prelude.{ℕ, ◌/◌, ◌%◌, ◌==◌, if◌then◌else◌, nat_lt, Some, None}
+use Rattle.physiological_order.specs.declared.operation.Op.{Op}
+use Rattle.physiological_order.specs.declared.operation.Op.TheVariants.{Load, Store, Swap}
+use Rattle.physiological_order.specs.declared.operation.Record.{Record}
+use Rattle.programs.specs.declared.steps.Step.{Step}
+use Rattle.programs.specs.declared.steps.Step.TheVariants as step
+use Rattle.tardis_c.specs.declared.plain.PlainOperation.{PlainOperation}
+use Rattle.tardis_c.specs.declared.plain.PlainRecord.{PlainRecord}
+
+-- 4 if there is no such core, 5 if there is no such kind, 6 if the address is that of no word; 0 for nothing
+abbrev pub operation_fault : PlainOperation → ℕ
+operation_fault plain = if nat_lt 63 plain.core then 4 else if nat_lt 2 plain.kind then 5 else
+    if plain.address % 8 == 0 then 0 else 6
+
+-- the operation's fault goes first; then 7 if a place has more than 32 bits
+abbrev pub record_fault : PlainRecord → ℕ
+record_fault plain = if operation_fault plain.operation == 0
+    then (if nat_lt plain.place 4294967296 then 0 else 7) else operation_fault plain.operation
+
+-- 0 is a load, 1 a store, 2 a swap
+abbrev pub op_by : (kind word value : ℕ) → Op
+op_by kind word value = if kind == 0 then Load word else if kind == 1 then Store word value else Swap word value
+
+abbrev pub op_of : PlainOperation → Op
+op_of plain = op_by plain.kind (plain.address / 8) plain.value
+
+-- the step of a core
+abbrev pub step_of : PlainOperation → ℕ × Step
+step_of plain = (plain.core, step.Op (op_of plain))
+
+-- a store received nothing
+abbrev pub record_of : PlainRecord → Record
+record_of plain = record {
+  core = plain.operation.core;
+  place = plain.place;
+  op = op_of plain.operation;
+  received = if plain.operation.kind == 1 then None else Some plain.received;
+  ts = plain.time;
+  number = plain.number;
+}

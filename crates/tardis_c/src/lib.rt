@@ -1,0 +1,8 @@
+//! The checker and the runner for callers in C and C++: a static library whose exports `tardis.h` declares.
+#![tactic(auto)]
+
+mod answers;
+mod arrays;
+mod options;
+mod plain;
+mod texts;

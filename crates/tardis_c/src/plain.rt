@@ -1,0 +1,120 @@
+//! Operations and records as C has them, and what is wrong with them.
+ghost use Rattle.std.specs.Prelude.{◌≡◌};
+ghost use Rattle.tardis_c.specs.Plain.{op_of, operation_fault, record_fault, record_of};
+
+use physiological_order::{Op, Record, WordAddr};
+
+/// An operation of a core, as `tardis.h` has it.
+#[repr(C)]
+#[derive(Clone, Copy)]
+pub struct PlainOperation {
+    /// The number of the core, 0 to 63.
+    pub core: u32,
+    /// 0 a load, 1 a store, 2 a swap.
+    pub kind: u32,
+    /// A byte address, which is a multiple of 8.
+    pub address: u64,
+    /// What is written; of a load it is not looked at.
+    pub value: u64,
+}
+
+/// A record of a completed operation, as `tardis.h` has it.
+#[repr(C)]
+#[derive(Clone, Copy)]
+pub struct PlainRecord {
+    pub operation: PlainOperation,
+    /// The operation's place in its core's program order, counted from 0, below 2^32.
+    pub place: u64,
+    /// What was received; of a store it is not looked at.
+    pub received: u64,
+    /// The timestamp.
+    pub time: u64,
+    /// The completion number.
+    pub number: u64,
+}
+
+/// What may have a fault.
+pub(crate) trait Plain {
+    ghost use Rattle.std.specs.Prelude.{◌≡◌, ℕ};
+
+    /// The number of what is wrong, 0 for nothing.
+    ghost fault: { Self → ℕ };
+
+    /// The number of what is wrong, as the program numbers the faults of a line: 4 the core, 5 the kind, 6 the address,
+    /// 7 the place. It is 0 for nothing.
+    fn fault(&self) -> u64
+        ensures { result ≡ fault self.now };
+}
+
+impl Plain for PlainOperation {
+    ghost use Rattle.tardis_c.specs.Plain.{operation_fault};
+
+    ghost fault = { operation_fault };
+
+    fn fault(&self) -> u64 {
+        if self.core > 63 {
+            4
+        } else if self.kind > 2 {
+            5
+        } else if self.address % 8 == 0 {
+            0
+        } else {
+            6
+        }
+    }
+}
+
+impl Plain for PlainRecord {
+    ghost use Rattle.tardis_c.specs.Plain.{record_fault};
+
+    ghost fault = { record_fault };
+
+    fn fault(&self) -> u64 {
+        let fault = self.operation.fault();
+        if fault != 0 {
+            fault
+        } else if self.place < 4_294_967_296 {
+            0
+        } else {
+            7
+        }
+    }
+}
+
+/// The operation that has no fault.
+pub(crate) fn op_of(plain: &PlainOperation) -> Op
+    ensures { result ≡ op_of plain.now }
+{
+    let word = WordAddr::at(plain.address / 8);
+    match plain.kind {
+        0 => Op::Load(word),
+        1 => Op::Store(word, plain.value),
+        _ => Op::Swap(word, plain.value),
+    }
+}
+
+// What an operation of this kind received.
+fn received_of(plain: &PlainRecord) -> Option<u64>
+    ensures { result ≡ (record_of plain.now).received }
+{
+    if plain.operation.kind == 1 {
+        None
+    } else {
+        Some(plain.received)
+    }
+}
+
+/// The record that has no fault.
+pub(crate) fn record_of(plain: &PlainRecord) -> Record
+    requires { record_fault plain.now ≡ 0 }
+    ensures { result ≡ record_of plain.now }
+{
+    Record {
+        core: plain.operation.core,
+        place: plain.place as u32,
+        op: op_of(&plain.operation),
+        received: received_of(plain),
+        ts: plain.time,
+        number: plain.number,
+    }
+}

@@ -1,0 +1,63 @@
+//! Runs of litmus tests and of traces, and checks of records, from texts to texts.
+ghost use Rattle.std.specs.Prelude.{◌≡◌, Some};
+ghost use Rattle.report.specs.Litmus.{HasNoReport, IsLitmusReport};
+ghost use Rattle.report.specs.Reports.{HasNoTraceReport, IsTraceReport};
+ghost use Rattle.report.specs.Verdicts.{HasNoVerdict, IsCheckReport};
+ghost use Rattle.tardis_c.specs.Answers.{IsTold};
+ghost use Rattle.tardis_c.specs.Options.{litmus_options, trace_options};
+
+use crate::answers::tell;
+use crate::options::{PlainOptions, litmus_options, trace_options};
+use report::{check_report, litmus_report, trace_report};
+use std::alloc::Global;
+
+/// Runs the litmus test that a text is, and puts the report into the buffer.
+#[unsafe(no_mangle)]
+pub extern "C" fn tardis_c_litmus(
+    alloc: Global,
+    text: &[u8],
+    options: &PlainOptions,
+    buffer: &mut [u8],
+    long: &mut usize,
+) -> u32
+    ensures { IsTold (IsLitmusReport (litmus_options options.now) text.now)
+        (HasNoReport (litmus_options options.now) text.now)
+        buffer.old buffer.new long.new result }
+{
+    let came = litmus_report(alloc, text, &litmus_options(options));
+    tell(&came, buffer, long)
+}
+
+/// Runs the trace that a text is, and puts the report, or the records, into the buffer.
+#[unsafe(no_mangle)]
+pub extern "C" fn tardis_c_trace(
+    alloc: Global,
+    text: &[u8],
+    options: &PlainOptions,
+    buffer: &mut [u8],
+    long: &mut usize,
+) -> u32
+    ensures { IsTold (IsTraceReport (trace_options options.now) (Some text.now))
+        (HasNoTraceReport (trace_options options.now) (Some text.now))
+        buffer.old buffer.new long.new result }
+{
+    let came = trace_report(alloc, text, &trace_options(options));
+    tell(&came, buffer, long)
+}
+
+/// Checks records against a trace, both as texts, and puts the line of the verdict into the buffer.
+#[unsafe(no_mangle)]
+pub extern "C" fn tardis_c_check(
+    alloc: Global,
+    trace: &[u8],
+    records: &[u8],
+    buffer: &mut [u8],
+    long: &mut usize,
+) -> u32
+    ensures { IsTold (IsCheckReport (Some trace.now) (Some records.now))
+        (HasNoVerdict (Some trace.now) (Some records.now))
+        buffer.old buffer.new long.new result }
+{
+    let came = check_report(alloc, trace, records);
+    tell(&came, buffer, long)
+}

@@ -1,0 +1,160 @@
+/* The checker and the runner of "Tardis, proved" for C and C++. What is proved of them, and how to link them, is told in
+   README.md beside this file; the numbers that calls answer are those of the program where it has them.
+
+   Texts are bytes with a length, and need no byte 0 at their end. A null pointer stands for nothing where the length is
+   0, and is TARDIS_NULL elsewhere. What a call writes must not overlap anything else that it is given. No call keeps a
+   pointer, starts a thread or prints. Calls of several threads at a time don't touch each other. Memory comes from
+   malloc, realloc and free, and is given back before a call ends.
+
+   Where a text goes out, *length says how long it is. It stands at the front of the buffer if all of it fits; otherwise
+   the buffer stays as it is. It is a report, or on TARDIS_NO_MEMORY, TARDIS_BAD_TEST, TARDIS_BAD_LINE and
+   TARDIS_BAD_MACHINE the line that the program writes to standard error. */
+#ifndef TARDIS_H
+#define TARDIS_H
+
+#include <stddef.h>
+#include <stdint.h>
+
+#ifdef __cplusplus
+extern "C" {
+#endif
+
+enum tardis_number {
+    TARDIS_DONE = 0,         /* every run ended all done; the records are legal */
+    TARDIS_NO_MEMORY = 3,    /* memory was refused */
+    TARDIS_BAD_TEST = 4,     /* the text is no litmus test */
+    TARDIS_BAD_LINE = 5,     /* the text is no trace, or its records are none */
+    TARDIS_BAD_MACHINE = 6,  /* a value of the machine's configuration is out of its range */
+    TARDIS_NOT_DONE = 7,     /* some run ended otherwise; the records aren't legal */
+    TARDIS_SHORT_BUFFER = 8, /* the report doesn't fit into the buffer */
+    TARDIS_NULL = 9,         /* a pointer is null: nothing was done, and nothing is written */
+    TARDIS_BAD_OPERATION = 10, /* an operation of an array has a fault */
+    TARDIS_BAD_RECORD = 11     /* a record of an array has a fault, and no operation has one */
+};
+
+/* The options of a run. Those named flags are set by any number but 0. */
+struct tardis_options {
+    uint64_t lease;         /* ticks, 1 to 4294967296 */
+    uint64_t time;          /* of every core and bank before the first event */
+    uint64_t banks;         /* 1 to 8 */
+    uint64_t sets;          /* of a private cache, 1 to 1024 */
+    uint64_t ways;          /* lines of a private set, 1 to 16 */
+    uint64_t bank_sets;     /* 1 to 1024 */
+    uint64_t bank_ways;     /* 1 to 16 */
+    uint64_t line_words;    /* 1 or 8 */
+    uint64_t messages;      /* in flight, 1 to 65536 */
+    uint64_t private_write; /* a flag */
+    uint64_t by_seed;       /* a flag: events are drawn, and not in rounds */
+    uint64_t seed;          /* of the first run, if events are drawn; each further run has the next */
+    uint64_t limit;         /* the most rounds or turns of a run; 4294967295 if it is above that */
+    uint64_t runs;          /* of a litmus test */
+    uint64_t records;       /* a flag: a trace's records are written, and not its report */
+};
+
+enum tardis_kind { TARDIS_LOAD = 0, TARDIS_STORE = 1, TARDIS_SWAP = 2 };
+
+/* An operation that a core was issued. */
+struct tardis_operation {
+    uint32_t core;    /* 0 to 63 */
+    uint32_t kind;    /* enum tardis_kind */
+    uint64_t address; /* of a word: a multiple of 8 */
+    uint64_t value;   /* what is written; a load's isn't looked at */
+};
+
+/* A record of a completed operation. */
+struct tardis_record {
+    struct tardis_operation operation;
+    uint64_t place;    /* in the core's program order, from 0 on; below 2^32 */
+    uint64_t received; /* a store's isn't looked at */
+    uint64_t time;     /* the timestamp */
+    uint64_t number;   /* the completion number: from 0 on, each once */
+};
+
+enum tardis_told_kind {
+    TARDIS_LEGAL = 0,
+    TARDIS_MISSING_NUMBER = 1,       /* the least number that no record has */
+    TARDIS_OUT_OF_PROGRAM_ORDER = 2, /* the number of the first faulty record, as they stand by time and number */
+    TARDIS_WRONG_VALUE = 3,          /* likewise */
+    TARDIS_BAD_CORE = 4,             /* from here on: the index of the first faulty item */
+    TARDIS_BAD_KIND = 5,
+    TARDIS_BAD_ADDRESS = 6,
+    TARDIS_BAD_PLACE = 7
+};
+
+/* What is wrong, and with which number or index. */
+struct tardis_told {
+    uint64_t kind; /* enum tardis_told_kind */
+    uint64_t number;
+};
+
+/* The exports. A slice is a pointer, which is never null, and then how many items there are, below 2^63 bytes in all. */
+void tardis_c_defaults(struct tardis_options *options);
+uint32_t tardis_c_litmus(const uint8_t *text, size_t text_length, const struct tardis_options *options,
+                         uint8_t *buffer, size_t size, size_t *length);
+uint32_t tardis_c_trace(const uint8_t *text, size_t text_length, const struct tardis_options *options,
+                        uint8_t *buffer, size_t size, size_t *length);
+uint32_t tardis_c_check(const uint8_t *trace, size_t trace_length, const uint8_t *records, size_t records_length,
+                        uint8_t *buffer, size_t size, size_t *length);
+uint32_t tardis_c_check_arrays(const struct tardis_operation *operations, size_t operation_count,
+                               const struct tardis_record *records, size_t record_count, struct tardis_told *told);
+
+/* What stands at no address: nothing is read there. */
+static uint64_t tardis_nothing;
+
+static inline int tardis_is_null(const void *pointer, size_t count) { return !pointer && count; }
+
+static inline const uint8_t *tardis_text(const char *text) {
+    return text ? (const uint8_t *)text : (const uint8_t *)&tardis_nothing;
+}
+
+static inline uint8_t *tardis_buffer(char *buffer) { return buffer ? (uint8_t *)buffer : (uint8_t *)&tardis_nothing; }
+
+/* The options of a run if none is said, as the program has them. */
+static inline int tardis_defaults(struct tardis_options *options) {
+    if (!options) return TARDIS_NULL;
+    tardis_c_defaults(options);
+    return TARDIS_DONE;
+}
+
+/* Runs a litmus test, and puts the report into the buffer. */
+static inline int tardis_run_litmus(const char *text, size_t text_length, const struct tardis_options *options,
+                                    char *buffer, size_t size, size_t *length) {
+    if (tardis_is_null(text, text_length) || !options || tardis_is_null(buffer, size) || !length) return TARDIS_NULL;
+    *length = 0;
+    return (int)tardis_c_litmus(tardis_text(text), text_length, options, tardis_buffer(buffer), size, length);
+}
+
+/* Runs a trace, and puts the report, or the records, into the buffer. */
+static inline int tardis_run_trace(const char *text, size_t text_length, const struct tardis_options *options,
+                                   char *buffer, size_t size, size_t *length) {
+    if (tardis_is_null(text, text_length) || !options || tardis_is_null(buffer, size) || !length) return TARDIS_NULL;
+    *length = 0;
+    return (int)tardis_c_trace(tardis_text(text), text_length, options, tardis_buffer(buffer), size, length);
+}
+
+/* Checks records against a trace, both as texts, and puts the line of the verdict into the buffer. */
+static inline int tardis_check(const char *trace, size_t trace_length, const char *records, size_t records_length,
+                               char *buffer, size_t size, size_t *length) {
+    if (tardis_is_null(trace, trace_length) || tardis_is_null(records, records_length)) return TARDIS_NULL;
+    if (tardis_is_null(buffer, size) || !length) return TARDIS_NULL;
+    *length = 0;
+    return (int)tardis_c_check(tardis_text(trace), trace_length, tardis_text(records), records_length,
+                               tardis_buffer(buffer), size, length);
+}
+
+/* Checks records against what cores were issued, each core's operations in its order, over a memory of zeros. */
+static inline int tardis_check_records(const struct tardis_operation *operations, size_t operation_count,
+                                       const struct tardis_record *records, size_t record_count,
+                                       struct tardis_told *told) {
+    if (tardis_is_null(operations, operation_count) || tardis_is_null(records, record_count) || !told) return TARDIS_NULL;
+    told->kind = told->number = 0;
+    if (!operations) operations = (const struct tardis_operation *)&tardis_nothing;
+    if (!records) records = (const struct tardis_record *)&tardis_nothing;
+    return (int)tardis_c_check_arrays(operations, operation_count, records, record_count, told);
+}
+
+#ifdef __cplusplus
+}
+#endif
+
+#endif

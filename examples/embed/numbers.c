@@ -1,0 +1,201 @@
+/* Calls of the library, by hand: each number that a call may answer, and what goes out with it. The file is C and C++.
+   It is linked with --wrap=malloc and --wrap=realloc, so that memory can be refused. It prints the first call that
+   answers otherwise, and ends with status 1; with none it prints nothing. */
+#include "tardis.h"
+
+#include <stdio.h>
+#include <stdlib.h>
+#include <string.h>
+
+#ifdef __cplusplus
+extern "C" {
+#endif
+void *__real_malloc(size_t size);
+void *__real_realloc(void *block, size_t size);
+void *__wrap_malloc(size_t size);
+void *__wrap_realloc(void *block, size_t size);
+#ifdef __cplusplus
+}
+#endif
+
+/* Which growth of memory is refused, counted from 1; 0 for none. */
+static unsigned refused_at, growths;
+
+static int is_refused(void) { return ++growths == refused_at; }
+
+void *__wrap_malloc(size_t size) { return is_refused() ? NULL : __real_malloc(size); }
+
+void *__wrap_realloc(void *block, size_t size) { return is_refused() ? NULL : __real_realloc(block, size); }
+
+#define MUST(test) \
+    do { \
+        if (!(test)) { \
+            printf("numbers.c:%d: not so: %s\n", __LINE__, #test); \
+            exit(1); \
+        } \
+    } while (0)
+
+static char buffer[1000];
+static size_t length;
+
+/* Whether the buffer has this text in front and what it had before behind that, and the length is the text's. */
+static int has(const char *text) {
+    size_t at, size = strlen(text);
+    int is = length == size && !memcmp(buffer, text, size);
+    for (at = size; at < sizeof buffer; at++) is = is && buffer[at] == '~';
+    memset(buffer, '~', sizeof buffer);
+    return is;
+}
+
+static const char TRACE[] = "0 W 0x0 1\n1 R 0x0\n";
+static const char RECORDS[] = "0 0 W 0x0 1 1 0\n1 0 R 0x0 1 1 1\n";
+static const char TEST[] = "RISCV ONE\n{ 0:x5=1; 0:x6=x; }\n P0 ;\n sw x5,0(x6) ;\nexists (x=1)\n";
+
+static int check(const char *trace, const char *records, size_t size) {
+    return tardis_check(trace, strlen(trace), records, strlen(records), buffer, size, &length);
+}
+
+static int litmus(const char *text, const struct tardis_options *options, size_t size) {
+    return tardis_run_litmus(text, strlen(text), options, buffer, size, &length);
+}
+
+static int trace(const char *text, const struct tardis_options *options, size_t size) {
+    return tardis_run_trace(text, strlen(text), options, buffer, size, &length);
+}
+
+static void checks(void) {
+    MUST(check(TRACE, RECORDS, 1000) == TARDIS_DONE && has("legal\n"));
+    MUST(check(TRACE, "0 0 W 0x0 1 1 0\n1 0 R 0x0 0 1 1\n", 1000) == TARDIS_NOT_DONE && has("wrong value 1\n"));
+    MUST(check("0 X\n", RECORDS, 1000) == TARDIS_BAD_LINE && has("tardis: line 1: 5 BadOperation\n"));
+    MUST(check(TRACE, "\n0 0 W 0x1", 1000) == TARDIS_BAD_LINE && has("tardis: line 2: 6 BadAddress\n"));
+    MUST(check(TRACE, RECORDS, 6) == TARDIS_DONE && has("legal\n"));
+    MUST(check(TRACE, RECORDS, 5) == TARDIS_SHORT_BUFFER && length == 6 && (length = 0, has("")));
+    MUST(check("0 X\n", RECORDS, 30) == TARDIS_BAD_LINE && length == 31 && (length = 0, has("")));
+    /* Only the bytes up to the length are the text: the rest of the line isn't read. */
+    MUST(tardis_check("0 W 0x0 12", 9, RECORDS, 16, buffer, 1000, &length) == TARDIS_DONE && has("legal\n"));
+    MUST(tardis_check(NULL, 0, NULL, 0, buffer, 1000, &length) == TARDIS_DONE && has("legal\n"));
+    MUST(tardis_check(NULL, 0, NULL, 0, NULL, 0, &length) == TARDIS_SHORT_BUFFER && length == 6);
+}
+
+static void runs(void) {
+    struct tardis_options options;
+    MUST(tardis_defaults(&options) == TARDIS_DONE && options.lease == 10 && options.limit == 100000 && options.runs == 1);
+    MUST(trace(TRACE, &options, 1000) == TARDIS_DONE);
+    MUST(has("cores 2\nissued 2\ncompleted 2\nend all-done\nloads 1\nstores 1\nswaps 0\nrenewals 0\nupgrades 0\n"
+             "flushes 0\nwrite-backs 1\nstale-hits 0\norder legal\nword 0x0 1\n"));
+    options.records = 1;
+    MUST(trace("0 R 0x0\n", &options, 1000) == TARDIS_DONE && has("0 0 R 0x0 0 0 0\n"));
+    MUST(trace("0 R 0x0\n", &options, 15) == TARDIS_SHORT_BUFFER && length == 16 && (length = 0, has("")));
+    options.limit = 0;
+    MUST(trace("0 R 0x0\n", &options, 1000) == TARDIS_NOT_DONE && has(""));
+    MUST(litmus(TEST, &options, 1000) == TARDIS_NOT_DONE);
+    memset(buffer, '~', sizeof buffer);
+    tardis_defaults(&options);
+    MUST(trace("0 R\n", &options, 1000) == TARDIS_BAD_LINE && has("tardis: line 1: 6 BadAddress\n"));
+    MUST(litmus("RISCV ", &options, 1000) == TARDIS_BAD_TEST && has("tardis: line 1: 4 BadHeader\n"));
+    options.lease = 0;
+    MUST(litmus(TEST, &options, 1000) == TARDIS_BAD_MACHINE && has("tardis: bad configuration\n"));
+    MUST(trace(TRACE, &options, 1000) == TARDIS_BAD_MACHINE && has("tardis: bad configuration\n"));
+    MUST(trace("0 R\n", &options, 1000) == TARDIS_BAD_LINE && has("tardis: line 1: 6 BadAddress\n"));
+}
+
+static void nulls(void) {
+    struct tardis_options options;
+    struct tardis_told told;
+    tardis_defaults(&options);
+    MUST(tardis_defaults(NULL) == TARDIS_NULL);
+    MUST(tardis_check(NULL, 1, RECORDS, 1, buffer, 1000, &length) == TARDIS_NULL);
+    MUST(tardis_check(TRACE, 1, NULL, 1, buffer, 1000, &length) == TARDIS_NULL);
+    MUST(tardis_check(TRACE, 1, RECORDS, 1, NULL, 1, &length) == TARDIS_NULL);
+    MUST(tardis_check(TRACE, 1, RECORDS, 1, buffer, 1000, NULL) == TARDIS_NULL);
+    MUST(tardis_run_litmus(NULL, 1, &options, buffer, 1000, &length) == TARDIS_NULL);
+    MUST(tardis_run_litmus(TEST, 1, NULL, buffer, 1000, &length) == TARDIS_NULL);
+    MUST(tardis_run_litmus(TEST, 1, &options, NULL, 1, &length) == TARDIS_NULL);
+    MUST(tardis_run_litmus(TEST, 1, &options, buffer, 1000, NULL) == TARDIS_NULL);
+    MUST(tardis_run_trace(NULL, 1, &options, buffer, 1000, &length) == TARDIS_NULL);
+    MUST(tardis_run_trace(TRACE, 1, NULL, buffer, 1000, &length) == TARDIS_NULL);
+    MUST(tardis_run_trace(TRACE, 1, &options, NULL, 1, &length) == TARDIS_NULL);
+    MUST(tardis_run_trace(TRACE, 1, &options, buffer, 1000, NULL) == TARDIS_NULL);
+    MUST(tardis_check_records(NULL, 1, NULL, 0, &told) == TARDIS_NULL);
+    MUST(tardis_check_records(NULL, 0, NULL, 1, &told) == TARDIS_NULL);
+    MUST(tardis_check_records(NULL, 0, NULL, 0, NULL) == TARDIS_NULL);
+    length = 0;
+    MUST(has(""));
+}
+
+static struct tardis_told told;
+
+/* Whether a check of these arrays answers this number, and tells this. */
+static int answers(const struct tardis_operation *operations, size_t operation_count, const struct tardis_record *records,
+                   size_t record_count, int wanted, uint64_t kind, uint64_t number) {
+    int got = tardis_check_records(operations, operation_count, records, record_count, &told);
+    return got == wanted && told.kind == kind && told.number == number;
+}
+
+/* Core 0 stores 1, core 1 swaps in 2, and core 0 loads; the greatest word, and words of both cores in one list. */
+static struct tardis_operation issued[3] = {
+    {0, TARDIS_STORE, 0xfffffffffffffff8, 1}, {1, TARDIS_SWAP, 0xfffffffffffffff8, 2}, {0, TARDIS_LOAD, 0xfffffffffffffff8, 7}};
+static struct tardis_record done[3] = {
+    {{0, TARDIS_LOAD, 0xfffffffffffffff8, 9}, 1, 2, 3, 2},
+    {{0, TARDIS_STORE, 0xfffffffffffffff8, 1}, 0, 9, 1, 0},
+    {{1, TARDIS_SWAP, 0xfffffffffffffff8, 2}, 0, 1, 2, 1}};
+
+static void arrays(void) {
+    MUST(answers(NULL, 0, NULL, 0, TARDIS_DONE, TARDIS_LEGAL, 0));
+    MUST(answers(issued, 3, done, 3, TARDIS_DONE, TARDIS_LEGAL, 0));
+    MUST(answers(issued, 2, done, 3, TARDIS_NOT_DONE, TARDIS_OUT_OF_PROGRAM_ORDER, 2));
+    MUST(answers(issued, 3, done, 2, TARDIS_NOT_DONE, TARDIS_MISSING_NUMBER, 1));
+    done[0].received = 1;
+    MUST(answers(issued, 3, done, 3, TARDIS_NOT_DONE, TARDIS_WRONG_VALUE, 2));
+    done[0].place = 4294967296;
+    MUST(answers(issued, 3, done, 3, TARDIS_BAD_RECORD, TARDIS_BAD_PLACE, 0));
+    done[0].place = 1;
+    done[2].operation.core = 64;
+    done[2].operation.kind = 3;
+    MUST(answers(issued, 3, done, 3, TARDIS_BAD_RECORD, TARDIS_BAD_CORE, 2));
+    done[2].operation.core = 1;
+    MUST(answers(issued, 3, done, 3, TARDIS_BAD_RECORD, TARDIS_BAD_KIND, 2));
+    issued[1].address = 4;
+    MUST(answers(issued, 3, done, 3, TARDIS_BAD_OPERATION, TARDIS_BAD_ADDRESS, 1));
+    MUST(answers(issued, 1, done + 1, 1, TARDIS_DONE, TARDIS_LEGAL, 0));
+    issued[1].address = 0xfffffffffffffff8;
+    done[2].operation.kind = TARDIS_SWAP;
+    done[0].received = 2;
+}
+
+/* Each growth of memory is refused in turn, until a call asks for no more. */
+static void refusals(void) {
+    struct tardis_options options;
+    int number;
+    tardis_defaults(&options);
+    for (refused_at = 1;; refused_at++) {
+        growths = 0;
+        number = check(TRACE, RECORDS, 1000);
+        if (growths < refused_at) break;
+        MUST(number == TARDIS_NO_MEMORY && has("tardis: no memory\n"));
+    }
+    MUST(refused_at > 1 && number == TARDIS_DONE && has("legal\n"));
+    for (refused_at = 1;; refused_at++) {
+        growths = 0;
+        number = tardis_check_records(issued, 3, done, 3, &told);
+        if (growths < refused_at) break;
+        MUST(number == TARDIS_NO_MEMORY && told.kind == 0 && told.number == 0);
+    }
+    MUST(refused_at > 1 && number == TARDIS_DONE);
+    refused_at = 1;
+    growths = 0;
+    MUST(trace(TRACE, &options, 1000) == TARDIS_NO_MEMORY && has("tardis: no memory\n"));
+    growths = 0;
+    MUST(litmus(TEST, &options, 1000) == TARDIS_NO_MEMORY && has("tardis: no memory\n"));
+    refused_at = 0;
+}
+
+int main(void) {
+    memset(buffer, '~', sizeof buffer);
+    checks();
+    runs();
+    nulls();
+    arrays();
+    refusals();
+    return 0;
+}

@@ -1,0 +1,39 @@
+#!/bin/sh
+# Builds the static library of crates/tardis_c, with its proof, and its callers in C, C++ and Rust (examples/embed), and
+# tries them: tests/embed.sh. Each number that a call answers is met once, by hand; the examples are run, and records
+# checked, through the library, with the reports that the program must give. It wants gcc, g++ and the Rattle kit, whose
+# C file for memory is linked; without rustc it says so and leaves out the caller in Rust.
+top=$(CDPATH='' cd -- "$(dirname -- "$0")/.." && pwd) || exit 1
+case ${1-} in -h | --help) exec sed -n '2,/^[^#]/s/^# \{0,1\}//p' "$0" ;; esac
+crate=$top/crates/tardis_c
+embed=$top/examples/embed
+kit=$(dirname -- "$(rt doc)") || exit 1
+work=$(mktemp -d) || exit 1
+trap 'rm -rf "$work"' EXIT
+trap 'exit 1' HUP INT TERM
+
+(cd -- "$crate" && "$top/scripts/kit.py" lib --jobs 1) >"$work/built" 2>&1 || { cat "$work/built"; exit 1; }
+library="$crate/out/libtardis_c.a $kit/c/liblibc_c.a"
+
+# The numbers, as C and as C++; the program's commands; a history in Rust.
+memory='-Wl,--wrap=malloc,--wrap=realloc'
+strict="-O1 -Wall -Wextra -Werror -I$crate"
+# shellcheck disable=SC2086
+{
+    gcc -std=c11 -pedantic $strict $memory -o "$work/numbers_c" "$embed/numbers.c" $library &&
+    g++ -x c++ -std=c++11 -pedantic $strict $memory -o "$work/numbers_cpp" "$embed/numbers.c" -x none $library &&
+    g++ -std=c++17 -pedantic $strict -o "$work/tardis" "$embed/tardis.cpp" $library
+} || exit 1
+
+"$work/numbers_c" || exit 1
+"$work/numbers_cpp" || exit 1
+if command -v rustc >/dev/null; then
+    rustc --edition 2024 -O -o "$work/history" "$embed/history.rs" -C link-arg="$crate/out/libtardis_c.a" \
+        -C link-arg="$kit/c/liblibc_c.a" || exit 1
+    "$work/history" | diff "$embed/history.out" - || exit 1
+else
+    echo "embed.sh: no rustc, so the caller in Rust isn't tried" >&2
+fi
+PARTS='litmus settings seeds traces seeded_traces verdicts trace_faults' "$top/examples/check.sh" "$work/tardis" \
+    >"$work/said" || { cat "$work/said"; exit 1; }
+EMBED_ARRAYS=1 PARTS=verdicts "$top/examples/check.sh" "$work/tardis" >"$work/said" || { cat "$work/said"; exit 1; }

@@ -33,6 +33,27 @@ fn kinds_of_faults(rt: HostRuntime) -> Result<(), Fail> {
     Ok(())
 }
 
+// Errors of a run without a text, and what is said of them.
+const ERRORS: &[(RunError, &str)] = &[
+    (RunError::Read, "reading failed"),
+    (RunError::Write, "writing failed"),
+    (RunError::NoMemory, "no memory"),
+    (RunError::BadConfig, "bad configuration"),
+];
+
+fn is_said(alloc: Global, error: &RunError, told: &str) -> Result<bool, Fail> {
+    let text = format!(in alloc; "{error}")?;
+    Ok(text.as_str() == told)
+}
+
+#[test]
+fn errors_of_a_run(rt: HostRuntime) -> Result<(), Fail> {
+    for (error, told) in ERRORS {
+        assert!(rt; is_said(rt.alloc(), error, told)?, "{told}");
+    }
+    Ok(())
+}
+
 #[test]
 fn errors_have_these_numbers(rt: HostRuntime) {
     let fault = TraceError {

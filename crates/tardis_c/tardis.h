@@ -1,5 +1,5 @@
-/* The checker and the runner of "Tardis, proved" for C and C++. What is proved of them, and how to link them, is told in
-   README.md beside this file; the numbers that calls answer are those of the program where it has them.
+/* The checker and the runner of "Tardis, proved" for C and C++. README.md beside this file says what is proved of them
+   and how to link them. The numbers that calls answer are those of the program where it has them.
 
    Texts are bytes with a length, and need no byte 0 at their end. A null pointer stands for nothing where the length is
    0, and is TARDIS_NULL elsewhere. What a call writes must not overlap anything else that it is given. No call keeps a
@@ -87,7 +87,7 @@ struct tardis_told {
     uint64_t number;
 };
 
-/* The exports. A slice is a pointer, which is never null, and then how many items there are, below 2^63 bytes in all. */
+/* The exports. A slice is a pointer, which is never null, and then how many items there are, below 2^63 bytes. */
 void tardis_c_defaults(struct tardis_options *options);
 uint32_t tardis_c_litmus(const uint8_t *text, size_t text_length, const struct tardis_options *options,
                          uint8_t *buffer, size_t size, size_t *length);
@@ -146,7 +146,8 @@ static inline int tardis_check(const char *trace, size_t trace_length, const cha
 static inline int tardis_check_records(const struct tardis_operation *operations, size_t operation_count,
                                        const struct tardis_record *records, size_t record_count,
                                        struct tardis_told *told) {
-    if (tardis_is_null(operations, operation_count) || tardis_is_null(records, record_count) || !told) return TARDIS_NULL;
+    if (tardis_is_null(operations, operation_count) || tardis_is_null(records, record_count)) return TARDIS_NULL;
+    if (!told) return TARDIS_NULL;
     told->kind = told->number = 0;
     if (!operations) operations = (const struct tardis_operation *)&tardis_nothing;
     if (!records) records = (const struct tardis_record *)&tardis_nothing;

@@ -2,7 +2,7 @@
 //! they answer.
 
 /// The library's exports, as `tardis.h` declares them, and safe functions over them. A Rust slice is what the exports
-/// take as a pointer and a length, and a `&mut` is shared with nothing: so no call of these can break what they ask for.
+/// take as a pointer and a length, and a `&mut` is shared with nothing. So no call of these breaks what they ask for.
 mod tardis {
     /// An operation that a core was issued: 0 a load, 1 a store, 2 a swap.
     #[repr(C)]

@@ -79,7 +79,8 @@ static void checks(void) {
 
 static void runs(void) {
     struct tardis_options options;
-    MUST(tardis_defaults(&options) == TARDIS_DONE && options.lease == 10 && options.limit == 100000 && options.runs == 1);
+    MUST(tardis_defaults(&options) == TARDIS_DONE && options.lease == 10);
+    MUST(options.limit == 100000 && options.runs == 1);
     MUST(trace(TRACE, &options, 1000) == TARDIS_DONE);
     MUST(has("cores 2\nissued 2\ncompleted 2\nend all-done\nloads 1\nstores 1\nswaps 0\nrenewals 0\nupgrades 0\n"
              "flushes 0\nwrite-backs 1\nstale-hits 0\norder legal\nword 0x0 1\n"));
@@ -126,15 +127,18 @@ static void nulls(void) {
 static struct tardis_told told;
 
 /* Whether a check of these arrays answers this number, and tells this. */
-static int answers(const struct tardis_operation *operations, size_t operation_count, const struct tardis_record *records,
-                   size_t record_count, int wanted, uint64_t kind, uint64_t number) {
+static int answers(const struct tardis_operation *operations, size_t operation_count,
+                   const struct tardis_record *records, size_t record_count, int wanted, uint64_t kind,
+                   uint64_t number) {
     int got = tardis_check_records(operations, operation_count, records, record_count, &told);
     return got == wanted && told.kind == kind && told.number == number;
 }
 
 /* Core 0 stores 1, core 1 swaps in 2, and core 0 loads; the greatest word, and words of both cores in one list. */
 static struct tardis_operation issued[3] = {
-    {0, TARDIS_STORE, 0xfffffffffffffff8, 1}, {1, TARDIS_SWAP, 0xfffffffffffffff8, 2}, {0, TARDIS_LOAD, 0xfffffffffffffff8, 7}};
+    {0, TARDIS_STORE, 0xfffffffffffffff8, 1},
+    {1, TARDIS_SWAP, 0xfffffffffffffff8, 2},
+    {0, TARDIS_LOAD, 0xfffffffffffffff8, 7}};
 static struct tardis_record done[3] = {
     {{0, TARDIS_LOAD, 0xfffffffffffffff8, 9}, 1, 2, 3, 2},
     {{0, TARDIS_STORE, 0xfffffffffffffff8, 1}, 0, 9, 1, 0},

@@ -114,7 +114,8 @@ int check_arrays(const std::string &trace, const std::string &text) {
                            std::stoull(line.back())});
     }
     tardis_told told{};
-    const int number = tardis_check_records(operations.data(), operations.size(), records.data(), records.size(), &told);
+    const int number =
+        tardis_check_records(operations.data(), operations.size(), records.data(), records.size(), &told);
     static const char *const WORDS[] = {"legal", "bad number", "out of program order", "wrong value"};
     if (number != TARDIS_DONE && number != TARDIS_NOT_DONE) fail("number " + std::to_string(number), 1);
     std::cout << WORDS[told.kind];

@@ -48,8 +48,8 @@ impl Source for InMemory<'_> {
     }
 }
 
-/// The report on the litmus test that a text is, run as the options say by a schedule that takes no threads. Litmus goes
-/// before BadConfig.
+/// The report on the litmus test that a text is, run as the options say by a schedule that takes no threads. Litmus
+/// goes before BadConfig.
 pub fn litmus_report(
     alloc: Global,
     text: &[u8],
@@ -137,7 +137,8 @@ fn report_of(alloc: Global, trace: &Trace, options: &TraceOptions) -> Result<Rep
     }
 }
 
-/// The line of the verdict on records for what a trace issues, both as texts. The trace's fault goes before the records'.
+/// The line of the verdict on records for what a trace issues, both as texts. The trace's fault goes before the
+/// records'.
 pub fn check_report(alloc: Global, trace: &[u8], records: &[u8]) -> Result<Report, RunError>
     ensures report { IfOk result (λ report.
         IsCheckReport (Some trace.now) (Some records.now) report.all_done report.text.items) }

@@ -23,6 +23,6 @@ next_step xs i d op old new lt is before cores steps =
 
 pub loop-operation-preserved : goal.loop-operation-preserved
 loop-operation-preserved c =
-    next_step c.args.operations.now c.loop-operation.operation-index _ c.op_of.result c.loop-operation.trace c.push.new.self
-    c.loop-operation-test.true c.op_of.ensures c.loop-operation.invariant c.in_ok-push.ensures.cores
+    next_step c.args.operations.now c.loop-operation.operation-index _ c.op_of.result c.loop-operation.trace
+    c.push.new.self c.loop-operation-test.true c.op_of.ensures c.loop-operation.invariant c.in_ok-push.ensures.cores
     c.in_ok-push.ensures.steps

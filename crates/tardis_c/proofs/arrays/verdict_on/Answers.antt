@@ -20,6 +20,6 @@ returns c =
       lanes,
       c.in_ok-trace_of.ensures,
       subst (λ (rs : List Record). IsVerdict (flat empty) (trace_ops lanes) rs verdict) records
-          (subst (λ (lists : List (List Op)). IsVerdict (flat empty) (λ core. slice_index_or lists core []) told verdict)
+          (subst (λ (ls : List (List Op)). IsVerdict (flat empty) (λ core. slice_index_or ls core []) told verdict)
           issued (subst (λ m. IsVerdict (flat m) (issued_by c.deref.result.now) told verdict) c.new.ensures is)),
     )) c.check-2.ensures.verdict

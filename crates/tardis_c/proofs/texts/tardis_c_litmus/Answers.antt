@@ -14,7 +14,8 @@ litmus_report-came-requires c =
 
 pub returns : goal.returns
 returns c =
-    subst (λ (o : LitmusOptions). IsTold (IsLitmusReport o c.args.text.now) (HasNoReport o c.args.text.now) c.args.buffer.now
+    let text = c.args.text.now in
+    let came = c.litmus_report-came in
+    subst (λ (o : LitmusOptions). IsTold (IsLitmusReport o text) (HasNoReport o text) c.args.buffer.now
     c.tell.new.buffer c.tell.new.long c.tell.result) c.litmus_options.ensures
-    (told _ _ c.litmus_report-came.result _ _ _ _ c.litmus_report-came.ensures.report c.litmus_report-came.ensures.refused
-    c.tell.ensures)
+    (told _ _ came.result _ _ _ _ came.ensures.report came.ensures.refused c.tell.ensures)

@@ -14,7 +14,8 @@ trace_report-came-requires c =
 
 pub returns : goal.returns
 returns c =
-    subst (λ (o : TraceOptions). IsTold (IsTraceReport o (Some c.args.text.now)) (HasNoTraceReport o (Some c.args.text.now)) c.args.buffer.now
+    let text = Some c.args.text.now in
+    let came = c.trace_report-came in
+    subst (λ (o : TraceOptions). IsTold (IsTraceReport o text) (HasNoTraceReport o text) c.args.buffer.now
     c.tell.new.buffer c.tell.new.long c.tell.result) c.trace_options.ensures
-    (told _ _ c.trace_report-came.result _ _ _ _ c.trace_report-came.ensures.report c.trace_report-came.ensures.refused
-    c.tell.ensures)
+    (told _ _ came.result _ _ _ _ came.ensures.report came.ensures.refused c.tell.ensures)

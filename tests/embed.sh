@@ -1,10 +1,15 @@
 #!/bin/sh
-# Builds the static library of crates/tardis_c, with its proof, and its callers in C, C++ and Rust (examples/embed), and
-# tries them: tests/embed.sh. Each number that a call answers is met once, by hand; the examples are run, and records
-# checked, through the library, with the reports that the program must give. It wants gcc, g++ and the Rattle kit, whose
+# Builds callers of the static library of crates/tardis_c in C, C++ and Rust (examples/embed), and tries them:
+# tests/embed.sh [--build]. Each number that a call answers is met once, by hand; the examples are run, and records
+# checked, through the library, with the reports that the program must give. It needs gcc, g++ and the Rattle kit, whose
 # C file for memory is linked; without rustc it says so and leaves out the caller in Rust.
+#
+# With --build the library is proved and built first, with all below it: on a new machine that takes half an hour. The gate
+# proves the same crates, but the kit's gate builds no library. So there the callers are tried only where the library
+# was built before, and else standard error says so.
 top=$(CDPATH='' cd -- "$(dirname -- "$0")/.." && pwd) || exit 1
 case ${1-} in -h | --help) exec sed -n '2,/^[^#]/s/^# \{0,1\}//p' "$0" ;; esac
+build=${1-}
 crate=$top/crates/tardis_c
 embed=$top/examples/embed
 kit=$(dirname -- "$(rt doc)") || exit 1
@@ -12,7 +17,13 @@ work=$(mktemp -d) || exit 1
 trap 'rm -rf "$work"' EXIT
 trap 'exit 1' HUP INT TERM
 
-(cd -- "$crate" && "$top/scripts/kit.py" lib --jobs 1) >"$work/built" 2>&1 || { cat "$work/built"; exit 1; }
+if [ "$build" = --build ]; then
+    "$top/scripts/build.py" report >"$work/built" 2>&1 && (cd -- "$crate" && "$top/scripts/kit.py" lib --jobs 2) \
+        >>"$work/built" 2>&1 || { cat "$work/built"; exit 1; }
+elif [ ! -e "$crate/out/libtardis_c.a" ]; then
+    echo "embed.sh: not tried: the library isn't built ('tests/embed.sh --build' does so)" >&2
+    exit 0
+fi
 library="$crate/out/libtardis_c.a $kit/c/liblibc_c.a"
 
 # The numbers, as C and as C++; the program's commands; a history in Rust.

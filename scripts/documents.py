@@ -38,6 +38,8 @@ GROUPS = [
         ("litmus_reader", "*", "told early")]),
     ("The readings: which of a text's faults is told", [
         ("litmus_reader", "*", "")]),
+    ("Runs by threads: what a turn is, and each call of a seat that it makes", [
+        ("thread_driver", "*", "")]),
     ("Runs and reports: the schedule, the sequential machine, the text, the program", [
         (name, "*", "") for name in ("byte_streams", "programs", "schedules", "worker_driver", "sequential_machine", "report_text",
                                      "run_results", "command_line", "tardis")]),

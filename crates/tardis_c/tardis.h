@@ -85,8 +85,8 @@ enum tardis_told_kind {
     TARDIS_BAD_PLACE = 7
 };
 
-/* What is wrong, and with which number or index. It says something on TARDIS_DONE, TARDIS_NOT_DONE, TARDIS_BAD_OPERATION
-   and TARDIS_BAD_RECORD alone. On TARDIS_NO_MEMORY both are 0, though nothing is legal then. */
+/* What is wrong, and with which number or index. It says something on TARDIS_DONE, TARDIS_NOT_DONE,
+   TARDIS_BAD_OPERATION and TARDIS_BAD_RECORD alone. On TARDIS_NO_MEMORY both are 0, but no verdict was found. */
 struct tardis_told {
     uint64_t kind; /* enum tardis_told_kind */
     uint64_t number;

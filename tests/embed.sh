@@ -4,9 +4,9 @@
 # checked, through the library, with the reports that the program must give. It needs gcc, g++ and the Rattle kit, whose
 # C file for memory is linked; without rustc it says so and leaves out the caller in Rust.
 #
-# With --build the library is proved and built first, with all below it: on a new machine that takes half an hour. The gate
-# proves the same crates, but the kit's gate builds no library. So there the callers are tried only where the library
-# was built before, and else standard error says so.
+# With --build the library is proved and built first, with all below it: on a new machine that takes half an hour. The
+# gate proves the same crates, but the kit's gate builds no library. So there the callers are tried only where the
+# library was built before, and else standard error says so.
 top=$(CDPATH='' cd -- "$(dirname -- "$0")/.." && pwd) || exit 1
 case ${1-} in -h | --help) exec sed -n '2,/^[^#]/s/^# \{0,1\}//p' "$0" ;; esac
 build=${1-}
@@ -26,18 +26,38 @@ elif [ ! -e "$crate/out/libtardis_c.a" ]; then
 fi
 library="$crate/out/libtardis_c.a $kit/c/liblibc_c.a"
 
-# The numbers, as C and as C++; the program's commands; a history in Rust.
+# The numbers, as C and as C++; a check of two files; the program's commands; a history in Rust.
 memory='-Wl,--wrap=malloc,--wrap=realloc'
 strict="-O1 -Wall -Wextra -Werror -I$crate"
 # shellcheck disable=SC2086
 {
     gcc -std=c11 -pedantic $strict $memory -o "$work/numbers_c" "$embed/numbers.c" $library &&
     g++ -x c++ -std=c++11 -pedantic $strict $memory -o "$work/numbers_cpp" "$embed/numbers.c" -x none $library &&
+    gcc -std=c11 -pedantic $strict -o "$work/check" "$embed/check.c" $library &&
     g++ -std=c++17 -pedantic $strict -o "$work/tardis" "$embed/tardis.cpp" $library
 } || exit 1
 
 "$work/numbers_c" || exit 1
 "$work/numbers_cpp" || exit 1
+
+# checks TRACE RECORDS STATUS LINE: what the check of two files prints, on either stream, and its status.
+checks() {
+    said=$("$work/check" "$1" "$2" 2>&1)
+    status=$?
+    [ "$status $said" = "$3 $4" ] || { echo "embed.sh: check $1 $2: status $status: $said, not $3: $4"; exit 1; }
+}
+printf '0 W 0x0 1\n1 R 0x0\n' >"$work/trace"
+printf '0 0 W 0x0 1 1 0\n1 0 R 0x0 1 1 1\n' >"$work/legal"
+printf '0 0 W 0x0 1 1 0\n1 0 R 0x0 0 1 1\n' >"$work/wrong"
+# Comments of 100 bytes, more than are read at a time, and then a record that isn't there.
+awk 'BEGIN { for (i = 0; i < 2000; i++) printf "#%099d\n", i; print "1 0 R 0x0 1 1 0" }' >"$work/long"
+checks "$work/trace" "$work/legal" 0 legal
+checks "$work/trace" "$work/wrong" 1 'wrong value 1'
+checks "$work/trace" "$work/long" 1 'wrong value 0'
+checks "$work/legal" "$work/legal" 2 'tardis: line 1: 5 BadOperation'
+checks "$work/trace" "$work/none" 2 'check: give a trace and its records: two files that can be read'
+checks "$work/trace" "$work" 2 'check: give a trace and its records: two files that can be read'
+
 if command -v rustc >/dev/null; then
     rustc --edition 2024 -O -o "$work/history" "$embed/history.rs" -C link-arg="$crate/out/libtardis_c.a" \
         -C link-arg="$kit/c/liblibc_c.a" || exit 1

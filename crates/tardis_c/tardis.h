@@ -1,5 +1,6 @@
 /* The checker and the runner of "Tardis, proved" for C and C++. README.md beside this file says what is proved of them
-   and how to link them. The numbers that calls answer are those of the program where it has them.
+   and how to link them. The numbers that calls answer are the program's numbers of errors where it has them, and not
+   its exit statuses.
 
    Texts are bytes with a length, and need no byte 0 at their end. A null pointer stands for nothing where the length is
    0, and is TARDIS_NULL elsewhere. What a call writes must not overlap anything else that it is given. No call keeps a
@@ -8,7 +9,9 @@
 
    Where a text goes out, *length says how long it is. It stands at the front of the buffer if all of it fits; otherwise
    the buffer stays as it is. It is a report, or on TARDIS_NO_MEMORY, TARDIS_BAD_TEST, TARDIS_BAD_LINE and
-   TARDIS_BAD_MACHINE the line that the program writes to standard error. */
+   TARDIS_BAD_MACHINE the line that the program writes to standard error. TARDIS_SHORT_BUFFER is answered for reports
+   alone: a line that doesn't fit keeps its number. So on those four, read the buffer only if *length is at most its
+   size. */
 #ifndef TARDIS_H
 #define TARDIS_H
 
@@ -26,7 +29,7 @@ enum tardis_number {
     TARDIS_BAD_LINE = 5,     /* the text is no trace, or its records are none */
     TARDIS_BAD_MACHINE = 6,  /* a value of the machine's configuration is out of its range */
     TARDIS_NOT_DONE = 7,     /* some run ended otherwise; the records aren't legal */
-    TARDIS_SHORT_BUFFER = 8, /* the report doesn't fit into the buffer */
+    TARDIS_SHORT_BUFFER = 8, /* the report, whatever it says, doesn't fit into the buffer */
     TARDIS_NULL = 9,         /* a pointer is null: nothing was done, and nothing is written */
     TARDIS_BAD_OPERATION = 10, /* an operation of an array has a fault */
     TARDIS_BAD_RECORD = 11     /* a record of an array has a fault, and no operation has one */
@@ -46,8 +49,9 @@ struct tardis_options {
     uint64_t private_write; /* a flag */
     uint64_t by_seed;       /* a flag: events are drawn, and not in rounds */
     uint64_t seed;          /* of the first run, if events are drawn; each further run has the next */
-    uint64_t limit;         /* the most rounds or turns of a run; 4294967295 if it is above that */
-    uint64_t runs;          /* of a litmus test */
+    uint64_t limit;         /* the most rounds or turns of a run; 4294967295 if it is above that, and 0 allows none */
+    uint64_t runs;          /* of a litmus test; any number, 0 too (a report of no run, TARDIS_DONE). How each run ended
+                               is kept in memory until the call ends */
     uint64_t records;       /* a flag: a trace's records are written, and not its report */
 };
 
@@ -81,7 +85,8 @@ enum tardis_told_kind {
     TARDIS_BAD_PLACE = 7
 };
 
-/* What is wrong, and with which number or index. */
+/* What is wrong, and with which number or index. It says something on TARDIS_DONE, TARDIS_NOT_DONE,
+   TARDIS_BAD_OPERATION and TARDIS_BAD_RECORD alone. On TARDIS_NO_MEMORY both are 0, but no verdict was found. */
 struct tardis_told {
     uint64_t kind; /* enum tardis_told_kind */
     uint64_t number;
@@ -142,7 +147,8 @@ static inline int tardis_check(const char *trace, size_t trace_length, const cha
                                tardis_buffer(buffer), size, length);
 }
 
-/* Checks records against what cores were issued, each core's operations in its order, over a memory of zeros. */
+/* Checks records against what cores were issued, each core's operations in its order, over a memory of zeros. Look at
+   the number first: what is told says nothing on TARDIS_NO_MEMORY and TARDIS_NULL. */
 static inline int tardis_check_records(const struct tardis_operation *operations, size_t operation_count,
                                        const struct tardis_record *records, size_t record_count,
                                        struct tardis_told *told) {

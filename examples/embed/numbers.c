@@ -89,7 +89,17 @@ static void runs(void) {
     MUST(trace("0 R 0x0\n", &options, 15) == TARDIS_SHORT_BUFFER && length == 16 && (length = 0, has("")));
     options.limit = 0;
     MUST(trace("0 R 0x0\n", &options, 1000) == TARDIS_NOT_DONE && has(""));
+    MUST(trace("", &options, 1000) == TARDIS_DONE && has(""));
     MUST(litmus(TEST, &options, 1000) == TARDIS_NOT_DONE);
+    memset(buffer, '~', sizeof buffer);
+    tardis_defaults(&options);
+    options.runs = 0;
+    MUST(litmus(TEST, &options, 1000) == TARDIS_DONE);
+    MUST(has("test ONE\nthreads 1\nruns 0\nall-done 0\nstalled 0\nlimit 0\nexhausted 0\nmemory 0\nstates 0\n"
+             "condition exists\nheld 0\nverdict no\ncompleted 0\nrenewals 0\nupgrades 0\nflushes 0\nwrite-backs 0\n"
+             "stale-hits 0\n"));
+    options.runs = 1000001; /* one above what the program takes */
+    MUST(litmus(TEST, &options, 1000) == TARDIS_DONE && memcmp(buffer + 19, "runs 1000001\n", 13) == 0);
     memset(buffer, '~', sizeof buffer);
     tardis_defaults(&options);
     MUST(trace("0 R\n", &options, 1000) == TARDIS_BAD_LINE && has("tardis: line 1: 6 BadAddress\n"));

@@ -59,12 +59,13 @@ std::vector<std::string> words_of(int count, char **words, tardis_options &optio
 // A call that puts a text into a buffer and answers a number.
 using Call = std::function<int(char *buffer, size_t size, size_t *length)>;
 
-// Calls with a short buffer first, and then, where the text doesn't fit, with one of its length. The text goes out.
+// Calls with a short buffer first, and then, where the text doesn't fit, with one of its length. Only the length tells
+// so: an error's line that doesn't fit keeps its number. The text goes out.
 int told(const Call &call) {
-    std::vector<char> buffer(64);
+    std::vector<char> buffer(16);
     size_t length = 0;
     int number = call(buffer.data(), buffer.size(), &length);
-    if (number == TARDIS_SHORT_BUFFER) {
+    if (length > buffer.size()) {
         buffer.resize(length);
         number = call(buffer.data(), buffer.size(), &length);
     }

@@ -1,4 +1,4 @@
-use Rattle.std.proofs.Common.{inr}
+use Rattle.std.proofs.Common.{inl, inr, refl}
 use Rattle.tardis.proofs.answers.answer.Goals as goal
 
 pub returns-in-Ok : goal.returns-in-Ok
@@ -9,4 +9,13 @@ returns-in-Ok g c = inr (
   c.exit_status.ensures,
   c.run_job-came.ensures,
   c.tell_result.ensures,
+)
+
+pub returns-in-Err : goal.returns-in-Err
+returns-in-Err g c = inl (
+  c.in-Err.error,
+  c.in-Err.ensures.refused,
+  c.words_status.ensures,
+  refl,
+  rw (← c.words_text.ensures) c.tell.ensures,
 )

@@ -61,7 +61,7 @@ def made(tester, program, folder):
     for part, (first, runs) in enumerate(zip(firsts, counts)):
         said = json.loads(Path(folder, f"{part:06d}.json").read_text())
         version = said["program"].pop("version")
-        tester.expect(version is None or version in git("describe", "--always", "--dirty"), f"version {version}")
+        tester.expect(version is None or version in git("-C", os.path.dirname(program), "describe", "--always", "--dirty"), f"version {version}")
         tester.expect(said == {
             "report": {"sha256": sum_of(f"{folder}/{part:06d}.report")}, "seeds": {"first": first, "runs": runs},
             "range": {"first": LAST - 30, "runs": RUNS, "part": part, "parts": 4}, "options": ["--limit", "90"],
@@ -140,6 +140,12 @@ def joins_and_refusals(tester, folder, program):
         put_parts(tester, str(folder), parts=4, only=1)  # the seeds 22 to 44
 
     parts.changed(of_another_cut, "000001.report: seeds 22 to 29 are in a report before it, too")
+
+    def of_two_ranges(folder):  # 0 to 19 of 0 to 39, and 20 to 39 of 0 to 59
+        put_parts(tester, str(folder), parts=2, runs=40, only=0)
+        put_parts(tester, str(folder), parts=3, runs=60, only=1)
+
+    parts.changed(of_two_ranges, "seeds 40 to 59 are missing behind", order=names[:2])
 
     def of_other_options(folder):
         put_parts(tester, str(folder), only=1, options=["--lease", "9"])

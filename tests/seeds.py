@@ -202,6 +202,18 @@ def unsaid(parts, whole):
     parts.tester.expect("runs 60\n" in parts.changed(without_any, status=0, order=names), "two of them")
 
 
+def up_to_a_million(tester, folder):
+    """No part has more than 1,000,000 seeds: a program that takes no more is asked for 500,000 and 500,001."""
+    report, program = TOP / "examples/litmus/SB.report", Path(folder, "program")
+    program.write_text('#!/bin/sh\nwhile [ "$1" != --runs ]; do shift; done\n[ "$2" -le 1000000 ] || exit 3\n'
+                       f"sed -e \"s/^runs 1$/runs $2/\" -e \"s/^all-done 1$/all-done $2/\" '{report}'\n")
+    program.chmod(0o755)
+    kept, os.environ["TARDIS"] = os.environ["TARDIS"], str(program)
+    status, out, error = tester.run("--jobs", "1", "0", "1000001", TEST)
+    os.environ["TARDIS"] = kept
+    tester.expect((status, error) == (0, "") and "runs 1000001\n" in out, f"1,000,001 seeds: {status} {out} {error}")
+
+
 def with_parallel(tester, folder, program):
     """Parts that GNU parallel runs."""
     told = subprocess.run(["parallel", "--version"], capture_output=True, text=True, check=False).stdout \
@@ -266,7 +278,7 @@ def main(program):
     for part in (lambda folder: made(tester, program, folder), lambda folder: refusals(tester, folder),
                  lambda folder: joins_and_refusals(tester, folder, program),
                  lambda folder: with_parallel(tester, folder, program),
-                 lambda folder: an_ended_program(tester, folder)):
+                 lambda folder: up_to_a_million(tester, folder), lambda folder: an_ended_program(tester, folder)):
         with tempfile.TemporaryDirectory() as folder:
             part(folder)
     print(f"{tester.tried} tried, {tester.wrong} wrong")

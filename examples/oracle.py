@@ -1,9 +1,9 @@
 #!/usr/bin/env python3
 """Prints what `tardis litmus|trace|check [options] FILE..` must print, without the program.
 
-Written from docs/ alone: PROTOCOL.md, SCHEDULES.md, SEATS.md, TEXTS.md, ORDER.md. Its parts are in reference/. Litmus
-tests must be good texts, and options in their ranges; faults of traces and of records are told as the program must
-tell them. The status is 0 where every run was all done or the records are legal, 2 where a text is refused, else 1.
+Written from docs/ alone: PROTOCOL.md, SCHEDULES.md, SEATS.md, TEXTS.md, ORDER.md. Its parts are in reference/. What is
+refused has the program's status and its line on standard error, but that a litmus test is refused without its line and
+kind, and an option that is no option by this script's own words, both with status 2.
 
     examples/oracle.py litmus [--schedule seed --seed N] [--runs N] [--lease N] .. [--private-write] FILE
     examples/oracle.py trace [--records] [--schedule seed --seed N] [--lease N] .. FILE
@@ -18,16 +18,42 @@ FILE|WORD|WORD ..: what is printed with these words is written to FILE, and the 
 lists of events in place of the report, as docs/EVENTS.md has them. `litmus` may be left out.
 """
 import argparse
+import re
 import sys
 from pathlib import Path
 
 from reference.events import list_of_events
-from reference.given import NUMBERS, Bad, contents, litmus_test
+from reference.given import NUMBERS, Bad, has_machine, litmus_test
 from reference.order import check
 from reference.reports import litmus_report, trace_report
 from reference.schedules import test_generator
 from reference.traces import Fault, Trace, read_records, record_line
 from reference.worked import test_machine
+
+
+MOST = 2 ** 64 - 1
+
+
+class Refused(Exception):
+    """What the program refuses but for texts: its status, and what it says on standard error."""
+
+    def __init__(self, status, said):
+        super().__init__(said)
+        self.status = status
+
+
+def number(name, least=0, most=MOST):
+    """What reads the value of an option, in decimal digits, perhaps behind a +."""
+    def read(text):
+        wrong = "invalid digit found in string" if not re.fullmatch("[+]?[0-9]+", text, re.ASCII) else \
+            "number too large to fit in target type" if int(text) > MOST else \
+            f"{text} is not in {least}..={most}" if not least <= int(text) <= most else None
+        if wrong:
+            raise Refused(3, f"error: invalid value '{text}' for '--{name} <{name}>': {wrong}\n\n"
+                             "For more information, try '--help'.")
+        return int(text)
+    return read
+
 
 def words():
     parser = argparse.ArgumentParser(description=__doc__, allow_abbrev=False,
@@ -37,13 +63,15 @@ def words():
         command = commands.add_parser(name, allow_abbrev=False)
         command.add_argument("--schedule", choices=["round", "seed", "threads"], default="round")
         for option, (usual, says) in NUMBERS.items():
-            command.add_argument("--" + option, type=int, default=usual, metavar="N", help=f"{says} ({usual})")
-        command.add_argument("--workers", type=int, default=1, metavar="N", help="with --schedule threads, 1 alone")
+            read = number(option, 1, 2 ** 32 - 1) if option == "limit" else number(option)
+            command.add_argument("--" + option, type=read, default=usual, metavar="N", help=f"{says} ({usual})")
+        command.add_argument("--workers", type=number("workers", 1, 16), default=1, metavar="N",
+                             help="with --schedule threads, 1 alone")
         command.add_argument("--private-write", action="store_true")
         command.add_argument("--trace", action="store_true", dest="tell")
         command.add_argument("--events", action="store_true")
         command.add_argument("FILE")
-    commands.choices["litmus"].add_argument("--runs", type=int, default=1)
+    commands.choices["litmus"].add_argument("--runs", type=number("runs", 1, 1_000_000), default=1)
     commands.choices["trace"].add_argument("--records", action="store_true")
     command = commands.add_parser("check", allow_abbrev=False)
     command.add_argument("TRACE")
@@ -53,6 +81,13 @@ def words():
 
 def tell(turn, about, answer):
     print(f"turn {turn}: {about}: {answer}", file=sys.stderr)
+
+
+def contents(path):
+    try:
+        return Path(path).read_bytes()
+    except OSError:
+        raise Refused(4, "tardis: read failed") from None
 
 
 def read_litmus(path):
@@ -78,6 +113,9 @@ def run(options):
         trace = read_trace(options.TRACE)
         verdict = check({}, trace.issued(), read_records(contents(options.RECORDS)))
         return verdict + "\n", int(verdict != "legal")
+    read = read_litmus(options.FILE) if options.command == "litmus" else read_trace(options.FILE)
+    if not has_machine(options, len(read.programs())):
+        raise Refused(3, "tardis: bad configuration")
     if options.schedule == "threads":
         refuse_threads(options)
     events = []
@@ -91,9 +129,9 @@ def run(options):
             events.append(list_of_events(run, end, seed))
 
     if options.command == "litmus":
-        text, all_done = litmus_report(read_litmus(options.FILE), options, options.tell and tell, after)
+        text, all_done = litmus_report(read, options, options.tell and tell, after)
     else:
-        text, all_done = trace_report(read_trace(options.FILE), options, options.tell and tell, after)
+        text, all_done = trace_report(read, options, options.tell and tell, after)
     return "".join(events) if options.events else text, int(not all_done)
 
 
@@ -121,6 +159,9 @@ def main(given):
     except Fault as fault:
         print(f"tardis: {fault}", file=sys.stderr)
         return 2
+    except Refused as cause:
+        print(cause, file=sys.stderr)
+        return cause.status
     except Bad as cause:
         print(f"oracle.py: {cause}", file=sys.stderr)
         return 2

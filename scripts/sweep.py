@@ -5,8 +5,8 @@
 
 An option has a list of values, as --lease 1..100 or --line-words 1,8 or --banks 1,2,4..8; --schedule and
 --private-write have words, as --private-write both. What isn't named is as the program has it. TABLE (sweep.csv) gets a
-row for each trace and combination: the options, the lines of the program's report, and with --counts the rows of
-docs/COUNTS.md. A run that fails has a row, too, which says why in its last column. A row that TABLE has already isn't
+row for each trace and combination: the options, the lines of the program's report, with --counts the rows of
+docs/COUNTS.md, and the program's file. A run that fails has a row, too, which says why in its last column. A row that TABLE has already isn't
 made again. PICTURE (TABLE's name with .svg) shows column Y over column X: a line for each combination of the others.
 
 The program is what TARDIS names, else the one that ./tardis built, else examples/oracle.py. With --counts a player
@@ -87,7 +87,7 @@ def combinations(options):
     """Each combination of the values of all options, by their names."""
     lists = [words_of(value, CHOICES[name]) if name in CHOICES else values_of(value)
              for name, value in ((name, getattr(options, name.replace("-", "_"))) for name in OPTIONS)]
-    count = len(options.TRACE)
+    count = len(traces_of(options))
     for values in lists:
         count *= len(values)
     if count > MOST_ROWS:
@@ -95,17 +95,27 @@ def combinations(options):
     return [dict(zip(OPTIONS, values)) for values in product(*lists)]
 
 
+def traces_of(options):
+    """The traces, each once: ./a.trace is a.trace."""
+    return list(dict.fromkeys(str(Path(name)) for name in options.TRACE))
+
+
+def made_by():
+    """The program's file, from the top of the repository if it lies there."""
+    return program.program().removeprefix(f"{program.TOP}/")
+
+
 class Sweep:
     """Makes rows: a row has a text for each column."""
 
     def __init__(self, options):
-        self.traces, self.counts = list(dict.fromkeys(options.TRACE)), options.counts
-        self.columns = ["trace", *OPTIONS, *REPORT, *(COUNTS if self.counts else []), "failed"]
+        self.traces, self.counts = traces_of(options), options.counts
+        self.columns = ["trace", *OPTIONS, *REPORT, *(COUNTS if self.counts else []), "program", "failed"]
         self.player, _ = player_of(options) if self.counts else (None, None)
         self.given = {}  # by trace what the player is given
 
     def row(self, trace, chosen):
-        row = dict.fromkeys(self.columns, "") | {"trace": trace} | chosen
+        row = dict.fromkeys(self.columns, "") | {"trace": trace, "program": made_by()} | chosen
         try:
             row |= self.report(trace, chosen)
             row |= self.counted(trace, chosen, row) if self.counts else {}
@@ -188,27 +198,29 @@ def sweep(options, made):
         try:
             for number, row in enumerate(pool.map(lambda key: made.row(*key), left), 1):
                 table.add(row)
-                tell(f"{number} of {len(left)} rows", number == len(left))
+                tell(number, f"{number} of {len(left)} rows", number == len(left))
         finally:
             pool.shutdown(cancel_futures=True)
     return [table.rows[table.key({"trace": trace} | chosen)] for trace, chosen in keys]
 
 
-def tell(what, is_last):
-    """Progress on standard error: one line that changes, on a terminal; else the last one alone."""
+def tell(number, what, is_last):
+    """Progress on standard error: one line that changes, on a terminal; else each thousandth row, and the last one."""
     if sys.stderr.isatty():
         print(f"\r{what}", end="\n" if is_last else "", file=sys.stderr, flush=True)
-    elif is_last:
-        print(what, file=sys.stderr)
+    elif is_last or number % 1000 == 0:
+        print(what, file=sys.stderr, flush=True)
 
 
 def series(rows, x, y):
     """The points of each line of the plot, by what is said of it: the columns that differ, but for x."""
     names = [name for name in ("trace", *OPTIONS) if name != x and len({row[name] for row in rows}) > 1]
+    traces = {row["trace"] for row in rows}
+    short = Path.stem.fget if len({Path(trace).stem for trace in traces}) == len(traces) else str
     found = {}
     for row in rows:
         if re.fullmatch("[0-9]+", row[x]) and re.fullmatch("[0-9]+", row[y]):
-            said = ", ".join(Path(row[name]).stem if name == "trace" else f"{name} {row[name]}" for name in names)
+            said = ", ".join(short(Path(row[name])) if name == "trace" else f"{name} {row[name]}" for name in names)
             found.setdefault(said or y, []).append((int(row[x]), int(row[y])))
     return {said: sorted(points) for said, points in found.items()}
 

@@ -34,6 +34,7 @@ CASES = [
      "0 R 0x0\n0 R 0x0\n0 R 0x8\n0 W 0x0 9 # 0x7\n0 W 0x8 9 # 0x7\n0 W 0x10 9 # 0x7\n"),
     ("--whole-words 0", "0 R 0xffffffffffffffff\n0 R 0xfffffffffffffff9:7\n",
      "0 R 0xfffffffffffffff8\n0 R 0xfffffffffffffff8\n"),
+    ("--whole-words 1", "trace 2\n0 A\n0 R 0x6:3\n", "trace 2\n0 A\n0 R 0x0\n0 A\n0 R 0x8\n0 A\n"),
     ("--whole-words 2", "0 R 0x6:4\n1 R 0x1\n", "trace 2\n0 R 0x0\n0 R 0x8\n0 A\n1 R 0x0\n"),
 ]
 # The words, the trace, and what standard error says behind the trace's name.

@@ -1,7 +1,7 @@
 #!/usr/bin/env python3
 """Tries scripts/counts.py: tests/counts.py PLAYER, the built crate play_events.
 
-Eleven runs were counted by hand from docs/COUNTS.md, PROTOCOL.md and SCHEDULES.md. Then the player and the second
+Twelve runs were counted by hand from docs/COUNTS.md, PROTOCOL.md and SCHEDULES.md. Then the player and the second
 program's, which counts by the same pages, count random traces on random machines, and litmus tests by seeds. The last
 line is `N tried, M wrong`.
 """
@@ -42,6 +42,11 @@ BY_HAND = {
     "a stale hit": ("0 R 0x8\n0 W 0x0 7\n1 R 0x0\n1 R 0x10\n1 R 0x0\n", "--lease 3", "all-done 13 50",
                     "loads 4 1 3; stores 1 1 0; hits 1 0 1; misses 4 2 2; stale-hits 1 0 1; last-time 4 4 0; "
                     "ShReq 3 1 2 3; ShRep 3 1 2 3; ExReq 1 1 0 1; ExRep 1 1 0 1; DramLd 3 0 0 3; DramLdRep 3 0 0 3"),
+    # The same with a swap, which is a write, too.
+    "a stale hit of a swap": (
+        "0 R 0x8\n0 S 0x0 7\n1 R 0x0\n1 R 0x10\n1 R 0x0\n", "--lease 3", "all-done 13 50",
+        "loads 4 1 3; swaps 1 1 0; hits 1 0 1; misses 4 2 2; stale-hits 1 0 1; last-time 4 4 0; "
+        "ShReq 3 1 2 3; ShRep 3 1 2 3; ExReq 1 1 0 1; ExRep 1 1 0 1; DramLd 3 0 0 3; DramLdRep 3 0 0 3"),
     # Core 0 owns the word first; its copy is recalled for core 1's load.
     "a recall": ("1 R 0x0\n0 W 0x0 1\n1 R 0x0\n", "", "all-done 11 39",
                  "loads 2 0 2; stores 1 1 0; hits 1 0 1; misses 2 1 1; last-time 1 1 1; recalls 1 1; ShReq 1 0 1 1; "

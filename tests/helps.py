@@ -2,7 +2,7 @@
 """Asks the tools of examples/ and scripts/ for help, and gives them files that they can't read: tests/helps.py
 
 Help comes on standard output, with status 0, and no file of the repository is written. A missing file and one of
-another kind are each told in one line, with status 2. examples/page.py is tried in copies of the repository, too: who
+another kind are each told in one line, with status 2 (of examples/oracle.py a missing one with 4). examples/page.py is tried in copies of the repository, too: who
 plays, where the proved player isn't built, is built, or is older than a source. The last line is `N tried, M wrong`.
 """
 import os
@@ -63,6 +63,8 @@ def page_players():
         os.utime(program, (1, 1))
         (program.parent / "play_events.sources").unlink()
         yield from page_player("older than a source, and no list of them", top, "the second program's machine", 1)
+        (top / "crates/low/src/new.rt").rename(top / "crates/low/src/New.antt")
+        yield from page_player("older than a specification", top, "the second program's machine", 1)
 
 
 def page_player(what, top, wanted, lines):
@@ -85,10 +87,11 @@ def main():
         wrong.append("a file is written for --help")
     for words, path in ((words, path) for words in READERS for path in ("no-such-file", "README.md")):
         got = ran([word.format(path) for word in words.split(" ")])
-        if got.returncode != 2 or got.stdout or got.stderr.count("\n") != 1:
+        wanted = 4 if "oracle.py " in words and path == "no-such-file" else 2
+        if got.returncode != wanted or got.stdout or got.stderr.count("\n") != 1:
             wrong.append(f"{words.format(path)}: status {got.returncode}, {got.stderr[-160:]!r}")
     wrong += page_players()
-    print("\n".join([*wrong, f"{len(tools) + 2 * len(READERS) + 6} tried, {len(wrong)} wrong"]))
+    print("\n".join([*wrong, f"{len(tools) + 2 * len(READERS) + 7} tried, {len(wrong)} wrong"]))
     return int(bool(wrong))
 
 

@@ -61,7 +61,7 @@ def made(tester, program, folder):
     for part, (first, runs) in enumerate(zip(firsts, counts)):
         said = json.loads(Path(folder, f"{part:06d}.json").read_text())
         version = said["program"].pop("version")
-        tester.expect(version is None or version in git("describe", "--always", "--dirty"), f"version {version}")
+        tester.expect(version is None or version in git("-C", os.path.dirname(program), "describe", "--always", "--dirty"), f"version {version}")
         tester.expect(said == {
             "report": {"sha256": sum_of(f"{folder}/{part:06d}.report")}, "seeds": {"first": first, "runs": runs},
             "range": {"first": LAST - 30, "runs": RUNS, "part": part, "parts": 4}, "options": ["--limit", "90"],
@@ -141,6 +141,12 @@ def joins_and_refusals(tester, folder, program):
 
     parts.changed(of_another_cut, "000001.report: seeds 22 to 29 are in a report before it, too")
 
+    def of_two_ranges(folder):  # 0 to 19 of 0 to 39, and 20 to 39 of 0 to 59
+        put_parts(tester, str(folder), parts=2, runs=40, only=0)
+        put_parts(tester, str(folder), parts=3, runs=60, only=1)
+
+    parts.changed(of_two_ranges, "seeds 40 to 59 are missing behind", order=names[:2])
+
     def of_other_options(folder):
         put_parts(tester, str(folder), only=1, options=["--lease", "9"])
 
@@ -194,6 +200,18 @@ def unsaid(parts, whole):
     parts.tester.expect(parts.changed(without_any, status=0) == whole, "reports that don't say how they were made")
     names = ["000000.report", "000002.report"]
     parts.tester.expect("runs 60\n" in parts.changed(without_any, status=0, order=names), "two of them")
+
+
+def up_to_a_million(tester, folder):
+    """No part has more than 1,000,000 seeds: a program that takes no more is asked for 500,000 and 500,001."""
+    report, program = TOP / "examples/litmus/SB.report", Path(folder, "program")
+    program.write_text('#!/bin/sh\nwhile [ "$1" != --runs ]; do shift; done\n[ "$2" -le 1000000 ] || exit 3\n'
+                       f"sed -e \"s/^runs 1$/runs $2/\" -e \"s/^all-done 1$/all-done $2/\" '{report}'\n")
+    program.chmod(0o755)
+    kept, os.environ["TARDIS"] = os.environ["TARDIS"], str(program)
+    status, out, error = tester.run("--jobs", "1", "0", "1000001", TEST)
+    os.environ["TARDIS"] = kept
+    tester.expect((status, error) == (0, "") and "runs 1000001\n" in out, f"1,000,001 seeds: {status} {out} {error}")
 
 
 def with_parallel(tester, folder, program):
@@ -260,7 +278,7 @@ def main(program):
     for part in (lambda folder: made(tester, program, folder), lambda folder: refusals(tester, folder),
                  lambda folder: joins_and_refusals(tester, folder, program),
                  lambda folder: with_parallel(tester, folder, program),
-                 lambda folder: an_ended_program(tester, folder)):
+                 lambda folder: up_to_a_million(tester, folder), lambda folder: an_ended_program(tester, folder)):
         with tempfile.TemporaryDirectory() as folder:
             part(folder)
     print(f"{tester.tried} tried, {tester.wrong} wrong")

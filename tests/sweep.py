@@ -11,7 +11,7 @@ import tempfile
 import xml.etree.ElementTree as xml
 from pathlib import Path
 
-from texts import TOP, Tester
+from texts import TOP, Tester, oracle
 
 # Two loads of a word, with three advances between them. The second load, at time 3, asks anew if the lease is below 3.
 RENEWED, ALONE = "trace 2\n0 R 0x0\n0 A\n0 A\n0 A\n0 R 0x0\n", "0 W 0x0 1\n"
@@ -105,6 +105,67 @@ def plot(tester):
     tester.expect(len(points) == 1 and len(points[0].split(" ")) == 100, f"100 points: {points}")
 
 
+def passed_on(tester):
+    """Seeds and private writes reach the program: each row is the second program's, and no two rows are alike."""
+    trace = str(TOP / "examples/traces/RECORDED-QUEUE.trace")
+    looked = ("renewals", "upgrades", "flushes", "write-backs", "stale-hits")
+    for table, count, options in (("seed.csv", 3, ["--schedule", "seed", "--seed", "1..3"]),
+                                  ("private.csv", 2, ["--private-write", "both"])):
+        rows = tester.sweep("--csv", table, "--line-words", "8", *options, trace, made=count, rows=count, table=table)
+        seen = set()
+        for row in rows:
+            words = ["--schedule", row["schedule"], "--seed", row["seed"], "--line-words", "8"]
+            words += ["--private-write"] * (row["private-write"] == "yes")
+            wanted, _ = oracle.run(oracle.words().parse_args(["trace", *words, trace]))
+            got = tuple(row[name] for name in looked)
+            lines = dict(line.split(" ", 1) for line in wanted.splitlines())
+            tester.expect(got == tuple(lines[name] for name in looked), f"{words}: {got}, wanted {wanted}")
+            tester.expect(row["program"] == os.environ["TARDIS"].removeprefix(f"{TOP}/"), f"who made it: {row}")
+            seen.add(got)
+        tester.expect(len(seen) == len(rows), f"rows that are alike show nothing: {seen}")
+
+
+def compared(tester):
+    """A player that counts anything else than the report has makes the row fail."""
+    player = Path("player")
+    for number, change in enumerate(("s/ loads 2/ loads 3/", "s/ stores 0/ stores 1/", "s/ swaps 0/ swaps 1/",
+                                     "s/ stale 0/ stale 1/", "s/ RenewRep 1 / RenewRep 2 /g", "s/all-done, /stalled, /",
+                                     *(f"s/ bank 0 evicted 0/& {kind} 1 1/"
+                                       for kind in ("UpgradeRep", "FlushRep", "WbRep")))):
+        player.write_text(f"#!/bin/sh\n'{tester.player}' \"$@\" | sed '{change}'\n")
+        player.chmod(0o755)
+        table = f"compared{number}.csv"
+        rows = tester.sweep("--counts", "--player", "./player", "--csv", table, "--lease", "1", "renewed.trace",
+                            status=1, made=1, rows=1, failed=1, table=table)
+        tester.expect(rows[0]["failed"] == "the program and the player differ", f"{change}: {rows}")
+
+
+def traces_apart(tester):
+    """Each trace has its line, and traces of one name in two folders have their paths."""
+    Path("other").mkdir()
+    Path("other/alone.trace").write_text(RENEWED)
+    for traces, wanted in ((["renewed.trace", "./alone.trace", "alone.trace"], ["renewed", "alone"]),
+                           (["alone.trace", "other/alone.trace"], ["alone.trace", "other/alone.trace"])):
+        table = f"{wanted[0]}.csv"
+        tester.sweep("--csv", table, "--svg", "apart.svg", "--plot", "lease:completed", *traces, made=2, rows=2,
+                     table=table)
+        root = xml.parse("apart.svg").getroot()
+        said = [text.text for text in root.iter(f"{SVG}text")]
+        lines = [line.get("points") for line in root.iter(f"{SVG}polyline")]
+        tester.expect(said[-2:] == wanted and len(lines) == 2, f"{traces}: {said} {lines}")
+
+
+def by_the_second(tester):
+    """What the program refuses, the second program refuses with the same words."""
+    words = ["--lease", "0,1,4294967297", "--limit", "0,100", "--banks", "1,9", "renewed.trace", "bad.trace", "none"]
+    rows = tester.sweep("--csv", "first.csv", *words, status=1, made=36, rows=36, failed=35, table="first.csv")
+    kept, os.environ["TARDIS"] = os.environ["TARDIS"], str(TOP / "examples/oracle.py")
+    second = tester.sweep("--csv", "second.csv", *words, status=1, made=36, rows=36, failed=35, table="second.csv")
+    os.environ["TARDIS"] = kept
+    for row, other in zip(rows, second):
+        tester.expect(row | {"program": "examples/oracle.py"} == other, f"{row}, by the second program {other}")
+
+
 def refusals(tester):
     tester.refused("there is no column misses (--counts has it)", "--plot", "lease:misses", "alone.trace")
     tester.refused("there is no column without a name", "--plot", "lease", "alone.trace")
@@ -127,7 +188,7 @@ def main(program, player):
         Path("line").write_text("no table")
         for name, text in (("renewed", RENEWED), ("alone", ALONE), ("bad", "x\n")):
             Path(f"{name}.trace").write_text(text)
-        for part in (by_hand, goes_on, plot, refusals):
+        for part in (by_hand, goes_on, plot, passed_on, compared, traces_apart, by_the_second, refusals):
             part(tester)
         os.chdir(TOP)
     print(f"{tester.tried} tried, {tester.wrong} wrong")

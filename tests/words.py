@@ -1,7 +1,7 @@
 #!/usr/bin/env python3
 """Gives the program the command lines of tests/words.table: tests/words.py PROGRAM.
 
-The first lines of the table say how to read it. The last line is `N tried, M wrong`.
+The first lines of the table say how to read it. Bad configurations are asked of the second program, too. The last line is `N tried, M wrong`.
 """
 import os
 import shlex
@@ -48,13 +48,16 @@ def answers():
             answer = "\n".join(named.get(line, line) for line in answer.split("\n"))
             error = answer + (MORE if answer.startswith("error: ") else "") + "\n"
             yield from ((line, (status, "", error)) for line in words)
+            if "bad configuration" in answer:
+                by_oracle = [subprocess.run(["examples/oracle.py", *line], capture_output=True) for line in words]
+                yield from ((line, (status, "", error), ran) for line, ran in zip(words, by_oracle))
 
 
 def main():
     program, tried, wrong = os.path.abspath(sys.argv[1]), 0, 0
     os.chdir(TOP)
-    for words, wanted in answers():
-        ran = subprocess.run([program, *words], capture_output=True, stdin=subprocess.DEVNULL, timeout=120)
+    for words, wanted, *ran in answers():
+        ran = ran[0] if ran else subprocess.run([program, *words], capture_output=True, stdin=subprocess.DEVNULL, timeout=120)
         got = ran.returncode, ran.stdout.decode(), ran.stderr.decode(errors="replace")
         tried += 1
         if got != wanted:

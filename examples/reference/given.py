@@ -94,8 +94,7 @@ class Subject:
 
     def run(self, options, kind=Run):
         """A run on the second program's machine, and its end."""
-        named = {name: getattr(options, name.replace("-", "_")) for name in NUMBERS if name not in ("seed", "limit")}
-        if options_of({**named, "cores": self.cores}) is None or options.limit < 1:
+        if not has_machine(options, self.cores) or options.limit < 1:
             raise Bad("bad configuration: an option is out of its range (docs/TEXTS.md)")
         self.chosen(options)
         return drive(options, self.programs(), self.memory, options.seed, None, kind)
@@ -105,6 +104,12 @@ class Subject:
         if options.cores is not None and not options.cores <= set(range(self.cores)):
             raise Bad(f"{self.path} has the cores 0 to {self.cores - 1}")
         return range(self.cores) if options.cores is None else sorted(options.cores)
+
+
+def has_machine(options, cores):
+    """Whether there is a machine of these options with so many cores."""
+    named = {name: getattr(options, name.replace("-", "_")) for name in NUMBERS if name not in ("seed", "limit")}
+    return options_of({**named, "cores": cores}) is not None
 
 
 def contents(path):

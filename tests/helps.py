@@ -2,7 +2,8 @@
 """Asks the tools of examples/ and scripts/ for help, and gives them files that they can't read: tests/helps.py
 
 Help comes on standard output, with status 0, and no file of the repository is written. A missing file and one of
-another kind are each told in one line, with status 2 (of examples/oracle.py a missing one with 4). examples/page.py is tried in copies of the repository, too: who
+another kind are each told in one line, with status 2; examples/oracle.py tells a missing one with status 4.
+examples/page.py is tried in copies of the repository, too: who
 plays, where the proved player isn't built, is built, or is older than a source. The last line is `N tried, M wrong`.
 """
 import os
@@ -87,7 +88,7 @@ def main():
         wrong.append("a file is written for --help")
     for words, path in ((words, path) for words in READERS for path in ("no-such-file", "README.md")):
         got = ran([word.format(path) for word in words.split(" ")])
-        wanted = 4 if "oracle.py " in words and path == "no-such-file" else 2
+        wanted = 4 if words.startswith("examples/oracle.py") and path == "no-such-file" else 2
         if got.returncode != wanted or got.stdout or got.stderr.count("\n") != 1:
             wrong.append(f"{words.format(path)}: status {got.returncode}, {got.stderr[-160:]!r}")
     wrong += page_players()

@@ -61,7 +61,8 @@ def made(tester, program, folder):
     for part, (first, runs) in enumerate(zip(firsts, counts)):
         said = json.loads(Path(folder, f"{part:06d}.json").read_text())
         version = said["program"].pop("version")
-        tester.expect(version is None or version in git("-C", os.path.dirname(program), "describe", "--always", "--dirty"), f"version {version}")
+        named = git("-C", os.path.dirname(program), "describe", "--always", "--dirty")
+        tester.expect(version is None or version in named, f"version {version}")
         tester.expect(said == {
             "report": {"sha256": sum_of(f"{folder}/{part:06d}.report")}, "seeds": {"first": first, "runs": runs},
             "range": {"first": LAST - 30, "runs": RUNS, "part": part, "parts": 4}, "options": ["--limit", "90"],

@@ -1,7 +1,8 @@
 #!/usr/bin/env python3
 """Gives the program the command lines of tests/words.table: tests/words.py PROGRAM.
 
-The first lines of the table say how to read it. Bad configurations are asked of the second program, too. The last line is `N tried, M wrong`.
+The first lines of the table say how to read it. Bad configurations are asked of the second program, too.
+The last line is `N tried, M wrong`.
 """
 import os
 import shlex

@@ -1,7 +1,6 @@
 """Faults of texts, for scripts/explain.py: the cell or field that is at fault, the cause, and what is often meant.
 
-The causes are those of the tables of kinds in docs/TEXTS.md. What is often meant stands here with what it is known by,
-and as the tables' last column: tests/explain.py compares the two.
+The causes are those of the lists of kinds in docs/TEXTS.md. What is often meant stands here, with what it is known by.
 """
 import re
 
@@ -80,9 +79,9 @@ def causes(title):
     """By number the name and the cause of each kind, by a section of docs/TEXTS.md, with what that says of a field."""
     text = (TOP / "docs/TEXTS.md").read_text(encoding="utf-8").split(f"\n## {title}", 1)[1].split("\n## ")[0]
     fields = dict(re.findall(r"(?ms)^- \*\*(\S+):\*\* (.*?)$(?!\n  )", text))
-    rows = re.findall(r"^\| (\d+) \| (\w+) \| (.*?) \| (.*?) \|$", text, re.M)
-    return {int(number): (name, " ".join(f"{where}: {fields[where]}".split()) if where in fields else where)
-            for number, name, where, _ in rows}
+    kinds = re.findall(r"(?m)^(\d+)\. \*\*(\w+):\*\* (.*(?:\n +.*)*)", text)
+    return {int(number): (name, " ".join((f"{where}: {fields[where]}" if where in fields else where).split()))
+            for number, name, where in kinds}
 
 
 def shown(text):

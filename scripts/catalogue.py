@@ -30,7 +30,7 @@ TABLES = {
     "yes": "MP+yes SB+yes SWAP+yes SB+forall",
     "protocol": "STALE READERS RENEW LEASE PRIVATE FALSE",
 }
-HEAD = ["| Test | Question | One memory | Held | Ends met | Stale hits |",
+HEAD = ["| Test | Question | One memory | Rounds | Held | Stale hits |",
         "|---|---|---|---|---|---|"]
 
 
@@ -46,10 +46,9 @@ class Report:
 
 def row(name):
     text = (TESTS / (name + ".litmus")).read_text(encoding="ascii")
-    test, seeds = Test(text), Report(name, ".seeds")
-    ends = sequential.ends_of(test)
+    test, rounds, seeds = Test(text), Report(name, ".report"), Report(name, ".seeds")
     cells = [f"[{name}](../examples/litmus/{name}.litmus)", re.search(r'^"(.*)"$', text, re.M)[1],
-             sequential.answer(test, ends), seeds.said["held"], f"{len(seeds.states)}/{len(ends)}",
+             sequential.answer(test, sequential.ends_of(test)), rounds.said["verdict"], seeds.said["held"],
              seeds.said["stale-hits"]]
     return "| " + " | ".join(cells) + " |"
 

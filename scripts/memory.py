@@ -3,7 +3,7 @@
 allocation answered by `?` or by an arm such as `Err(AllocError) => ..`.
 
     scripts/memory.py            tells them: file, function, and the blocks around the answer
-    scripts/memory.py --check    compares them with the table of docs/HOSTILE.md, and fails if they differ
+    scripts/memory.py --check    compares them with tests/memory.table, and fails if they differ
 
 No contract can say that an allocation was really refused. So a place that answers so by itself needs a reason, which
 the table has. A place that isn't there might be one that gives up past some size.
@@ -14,7 +14,7 @@ from collections import Counter
 from pathlib import Path
 
 TOP = Path(__file__).resolve().parent.parent
-PAGE = TOP / "docs/HOSTILE.md"
+TABLE = TOP / "tests/memory.table"
 NOT_PRODUCTION = ("test_", "bench", "play_", "event_text", "guide_uses")
 WANT = r"(?:\bAllocError\b|\b(?:ReadError::Memory|[A-Z]\w*::NoMemory)\b|\bErr\(NoMemory\)|= NoMemory;)"
 PASSED_ON = re.compile(r"\s*(?:Err\()?(?:AllocError|(?:\w+::)+(?:NoMemory|Memory))\)?\s*")
@@ -23,7 +23,7 @@ IMPORT = re.compile(r"\s*(pub )?use ")
 FUNCTION = re.compile(r"\s*(?:pub(?:\(crate\))? )?(?:const )?fn (\w+)")
 TYPES = re.compile(r"Result<[^;{]*?AllocError>|#\[.*\]")
 PATTERNS = re.compile(r"matches!\([^,]*, [^)]*\)*|if let [^=]* =")
-ROW = re.compile(r"^\| `(\w+/src/[\w/]+\.rt)` \| `(\w+)` \| `(.+)` \| \S")
+ROW = re.compile(r"(\w+/src/[\w/]+\.rt) \| (\w+) \| (.+) \| \S")
 
 
 def answers(line):
@@ -72,9 +72,9 @@ def places():
 
 
 def listed():
-    """The places of the page's table."""
-    rows = [ROW.match(line) for line in PAGE.read_text(encoding="utf-8").splitlines()]
-    return Counter((row.group(1), row.group(2), row.group(3).replace("\\|", "|")) for row in rows if row)
+    """The places of the table."""
+    rows = [ROW.match(line) for line in TABLE.read_text(encoding="utf-8").splitlines()]
+    return Counter(row.groups() for row in rows if row)
 
 
 def main():
@@ -87,10 +87,11 @@ def main():
     for place in sorted(found.keys() | wanted.keys()):
         if found[place] != wanted[place]:
             print(f"memory.py: {' '.join(place)}: {found[place]} such places answer want of memory by themselves, and "
-                  f"docs/HOSTILE.md has {wanted[place]}")
+                  f"tests/memory.table has {wanted[place]}")
     if found != wanted or not found:
         raise SystemExit(1)
-    print(f"{sum(found.values())} places answer want of memory by themselves, each with its reason in docs/HOSTILE.md")
+    print(f"{sum(found.values())} places answer want of memory by themselves, each with its reason in "
+          "tests/memory.table")
 
 
 if sys.argv[1:2] in (["-h"], ["--help"]):

@@ -7,24 +7,21 @@ says how far the build is, how long the rest will take, and each error; the stat
 crate is tardis if none is named. N is the number of processors if it isn't given, and fewer where there is less than
 3 GB of memory for each.
 
-The kit's command locks all crates below the one that it works on. So no two crates would be proved at a time that have
-one in common below. Each is therefore proved in a folder of its own, with links to the files of the crates below and to
-what the kit built of them; what it builds there is moved to the crate's own out/.
+Each crate is proved by `scripts/kit.py prove`, which locks that crate alone. The kit's own commands lock all crates
+below, too, so that no two crates would be proved at a time that have one in common there.
 """
 import argparse
 import concurrent.futures
 import os
-import shutil
 import subprocess
 import sys
-import tempfile
 import time
 from pathlib import Path
 
 TOP = Path(__file__).resolve().parent.parent
 BYTES_A_JOB = 3_000_000_000
 READING = 300  # what a crate costs before its first function is proved, in lines: the libraries are read
-KIT = [sys.executable, str(TOP / "scripts" / "kit.py")]  # the kit's command
+PROVE = [sys.executable, str(TOP / "scripts" / "kit.py"), "prove"]
 NEARLY = 0.6  # a chain of crates of this part of the longest one's work is nearly as long
 KEPT = 3  # a crate that takes no more seconds was proved before
 
@@ -73,47 +70,12 @@ def jobs_that_fit():
     return max(1, min(len(os.sched_getaffinity(0)), memory // BYTES_A_JOB))
 
 
-def link(there, here):
-    """A link to a file, or a copy of it where there can't be one."""
-    try:
-        os.link(there, here)
-    except OSError:
-        shutil.copy2(there, here)
-
-
-def link_crate(name, room, *parts):
-    """Links the files of these parts of a crate into a folder."""
-    for part in ("src", "specs", "proofs", *parts):
-        if (TOP / "crates" / name / part).exists():
-            shutil.copytree(TOP / "crates" / name / part, room / "crates" / name / part, copy_function=link)
-
-
-def keep(name, room):
-    """Moves what was built of a crate to its own out/."""
-    for part in ("rlib", "incremental"):
-        built, out = room / "crates" / name / "out" / part, TOP / "crates" / name / "out"
-        if built.exists():
-            shutil.rmtree(out / part, ignore_errors=True)
-            out.mkdir(exist_ok=True)
-            shutil.move(built, out / part)
-
-
-def prove(name, below, jobs, is_urgent):
-    """Proves one crate by the kit; its name, how many seconds that took, and what the kit printed if it failed."""
-    kind = "lib" if (TOP / "crates" / name / "src" / "lib.rt").exists() else "check"
-    command = ([] if is_urgent else ["nice", "-n", "5"]) + [*KIT, kind, "--jobs", str(jobs)]
+def prove(name, jobs, is_urgent):
+    """Proves and builds one crate; its name, how many seconds that took, and what the kit printed if it failed."""
+    command = ([] if is_urgent else ["nice", "-n", "5"]) + [*PROVE, "--jobs", str(jobs)]
     began = time.monotonic()
-    with tempfile.TemporaryDirectory(prefix="build-") as folder:
-        room = Path(folder)
-        lines = (TOP / "crates.txt").read_text().splitlines(keepends=True)
-        (room / "crates.txt").write_text("".join(line for line in lines if line.split(":")[0] in [*below, name]))
-        for low in below:
-            link_crate(low, room, "out/rlib")
-        link_crate(name, room, "out/rlib", "out/incremental")
-        done = subprocess.run(command, cwd=room / "crates" / name, stdin=subprocess.DEVNULL,
-                              capture_output=True, text=True)
-        keep(name, room)
-    return name, time.monotonic() - began, "" if done.returncode == 0 else done.stdout + done.stderr
+    done = subprocess.run(command, cwd=TOP / "crates" / name, stdin=subprocess.DEVNULL, capture_output=True, text=True)
+    return name, time.monotonic() - began, "" if done.returncode == 0 else done.stdout + done.stderr or "no reason was given"
 
 
 def say(text):
@@ -139,8 +101,7 @@ class Build:
             is_urgent = self.longest[name] >= NEARLY * longest
             urgent = self.jobs if self.longest[name] == longest else self.jobs // 2 if is_urgent else 1
             self.waiting.remove(name)
-            below = needed(self.graph, name)[:-1]
-            self.running[pool.submit(prove, name, below, max(urgent, spare), is_urgent)] = name
+            self.running[pool.submit(prove, name, max(urgent, spare), is_urgent)] = name
 
     def minutes_left(self):
         """How long the crates that are left will take, if their lines take as long as those that are proved."""

@@ -52,19 +52,12 @@ needed() {
     ' ../crates.txt
 }
 
-# build CRATE WORDS..: proves and builds its program, and runs it once with these words.
+# build CRATE: proves and builds its program.
 build() {
-    built=$1
-    shift
     has_kit || return 1
     say "the program isn't built, or a source is newer. All that it stands on is proved first, which takes many"
     say "minutes once ('./$self --unproved ..' answers in a minute or two, without any proof)."
-    "$top/scripts/build.py" "$built" || return 1
-    said=$(cd -- "$top/crates/$built" && "$top/scripts/kit.py" run -- "$@" </dev/null 2>&1) || {
-        printf '%s\n' "$said" >&2
-        return 1
-    }
-    touch -- "$top/crates/$built/out/$built" # where nothing had to be linked anew
+    "$top/scripts/build.py" "$1"
 }
 
 # run_unproved CRATE WORDS..: runs its program from its sources without a proof. Words that name files are made to name

@@ -4,9 +4,9 @@
 # checked, through the library, with the reports that the program must give. It needs gcc, g++ and the Rattle kit, whose
 # C file for memory is linked; without rustc it says so and leaves out the caller in Rust.
 #
-# With --build the library is proved and built first, with all below it: on a new machine that takes half an hour. The
-# gate proves the same crates, but the kit's gate builds no library. So there the callers are tried only where the
-# library was built before, and else standard error says so.
+# The library is built first, over the crates below it as `rt ci` or scripts/build.py left them; with --build they are
+# proved and built, too, where they aren't: on a new machine that takes half an hour. Without --build nothing is tried
+# where one of them isn't built of its files as they are, and standard error says so.
 top=$(CDPATH='' cd -- "$(dirname -- "$0")/.." && pwd) || exit 1
 case ${1-} in -h | --help) exec sed -n '2,/^[^#]/s/^# \{0,1\}//p' "$0" ;; esac
 build=${1-}
@@ -17,14 +17,20 @@ work=$(mktemp -d) || exit 1
 trap 'rm -rf "$work"' EXIT
 trap 'exit 1' HUP INT TERM
 
-if [ "$build" = --build ]; then
-    "$top/scripts/build.py" report >"$work/built" 2>&1 && (cd -- "$crate" && "$top/scripts/kit.py" lib --jobs 2) \
-        >>"$work/built" 2>&1 || { cat "$work/built"; exit 1; }
-elif [ ! -e "$crate/out/libtardis_c.a" ]; then
-    echo "embed.sh: not tried: the library isn't built ('tests/embed.sh --build' does so)" >&2
-    exit 0
+archive=$crate/out/libtardis_c.a
+newer() { find "$top/crates" -name out -prune -o \( -name '*.rt' -o -name '*.antt' \) -newer "$archive" -print -quit; }
+if [ ! -e "$archive" ] || [ -n "$(newer)" ]; then
+    if [ "$build" = --build ]; then
+        "$top/scripts/build.py" tardis_c >"$work/built" 2>&1
+    else
+        (cd -- "$crate" && "$top/scripts/kit.py" prove --jobs 2) >"$work/built" 2>&1
+    fi || {
+        grep -q "which isn't built$" "$work/built" || { cat "$work/built"; exit 1; }
+        echo "embed.sh: not tried: $(tail -n 1 "$work/built") ('tests/embed.sh --build' builds it)" >&2
+        exit 0
+    }
 fi
-library="$crate/out/libtardis_c.a $kit/c/liblibc_c.a"
+library="$archive $kit/c/liblibc_c.a"
 
 # The numbers, as C and as C++; a check of two files; the program's commands; a history in Rust.
 memory='-Wl,--wrap=malloc,--wrap=realloc'
@@ -59,7 +65,7 @@ checks "$work/trace" "$work/none" 2 'check: give a trace and its records: two fi
 checks "$work/trace" "$work" 2 'check: give a trace and its records: two files that can be read'
 
 if command -v rustc >/dev/null; then
-    rustc --edition 2024 -O -o "$work/history" "$embed/history.rs" -C link-arg="$crate/out/libtardis_c.a" \
+    rustc --edition 2024 -O -o "$work/history" "$embed/history.rs" -C link-arg="$archive" \
         -C link-arg="$kit/c/liblibc_c.a" || exit 1
     "$work/history" | diff "$embed/history.out" - || exit 1
 else

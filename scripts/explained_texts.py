@@ -1,6 +1,7 @@
 """Faults of texts, for scripts/explain.py: the cell or field that is at fault, the cause, and what is often meant.
 
-The causes are those of the lists of kinds in docs/TEXTS.md. What is often meant stands here, with what it is known by.
+The causes are those of the lists of kinds in docs/TEXTS.md. What is often meant stands here, with what it is known by,
+and behind the causes: tests/explain.py compares the two.
 """
 import re
 
@@ -15,14 +16,14 @@ REGISTERS = "Registers are x0 to x31: not a0 or t1, nor with leading zeros."
 # By kind: what the cell, or else the line, is known by, and what is often meant. Without a pattern it is always told.
 TEST = {
     2: [(None, "A test that a program made: cut it in two.")],
-    3: [(None, "A quotation mark, a dash or a blank that a word processor set, or a byte order mark at the front.")],
+    3: [(None, "A quotation mark, dash or blank of a word processor, or a byte order mark at the front.")],
     4: [(r"^\s*(?!RISCV\b)[A-Za-z0-9_]+\s+\S+$", "Only `RISCV` is read, and one word after it, the name."),
         (r"^\s*RISCV\s+\S+\s+\S", "The name is one word."),
         (r"\(\*", HERD), (None, "A remark stands in quotes, or as `key=value`.")],
     5: [(r"\[|\(\*|0[xX][0-9a-fA-F]|\b(u?int|long)\w*\s", HERD), (rf"\d+:{ABI}\b|:x0\d", REGISTERS),
         (r"=\s*-", "No number is negative."), (r":x0\s*=", "x0 is always 0."),
         (None, "Items end in `;`. A thread must have its column in the table.")],
-    6: [(None, "One register as a value and as an address: take two.")],
+    6: [(None, "One register as a value and as an address: use two.")],
     7: [(r"^\s*(~\s+\w*|[Ee]xist\w*|[Ff]or\s?all|not)\b",
          "A condition begins with `exists`, `~exists` or `forall`; any other line counts as a row."),
         (r"^\s*(locations|filter)|\(\*", HERD), (r";.*\S.*;", "A cell has one instruction; the `;` ends the row."),
@@ -49,11 +50,11 @@ TEST = {
 MOST_SHOWN = 100
 NUMBERS = ("PLACE", "VALUE", "RECEIVED", "TIME", "NUMBER")
 CARRIAGE = "A carriage return: `tr -d '\\r'` takes it out."
-FORM_2 = "Cores from 16 on, and advances, want `trace 2` as the first line."
+FORM_2 = "Cores from 16 on, and advances, need `trace 2` as the first line."
 LINES = {
     3: [(None, "A comment that is too long.")],
     4: [(r"\r", CARRIAGE), (r"^\s*(1[6-9]|[2-5]\d|6[0-3])\s", FORM_2),
-        (r"^\s*trace\b", "`trace 2` stands first, and once."), (r",", "Fields are parted by blanks, not commas."),
+        (r"^\s*trace\b", "`trace 2` stands first, and once."), (r",", "Blanks separate fields, not commas."),
         (None, "A line begins with the core, a number alone.")],
     5: [(r"\r", CARRIAGE), (r"^\s*\d+\s+A", FORM_2), (None, "`R` is a load, `W` a store, `S` a swap: one capital.")],
     6: [(r"\r", CARRIAGE),
@@ -76,12 +77,15 @@ def often(kinds, kind, *places):
 
 
 def causes(title):
-    """By number the name and the cause of each kind, by a section of docs/TEXTS.md, with what that says of a field."""
+    """By number each kind's name, its cause, with what the page says of a field, and what is often meant, by docs/TEXTS.md."""
     text = (TOP / "docs/TEXTS.md").read_text(encoding="utf-8").split(f"\n## {title}", 1)[1].split("\n## ")[0]
     fields = dict(re.findall(r"(?ms)^- \*\*(\S+):\*\* (.*?)$(?!\n  )", text))
     kinds = re.findall(r"(?m)^(\d+)\. \*\*(\w+):\*\* (.*(?:\n +.*)*)", text)
-    return {int(number): (name, " ".join((f"{where}: {fields[where]}" if where in fields else where).split()))
-            for number, name, where in kinds}
+    told = {}
+    for number, name, words in kinds:
+        where, _, meant = " ".join(words.split()).partition(". *Often:* ")
+        told[int(number)] = name, f"{where}: {' '.join(fields[where].split())}" if where in fields else where, meant
+    return told
 
 
 def shown(text):
@@ -172,7 +176,7 @@ def explained_text(path, text, fault, what):
     text = text.decode("latin-1")
     line = (text.split("\n") + [""])[number - 1]
     title = "Litmus tests" if what == "test" else "Texts of traces and of records"
-    name, where = causes(title)[kind]
+    name, where, _ = causes(title)[kind]
     if what == "test":
         cell = cell_at_fault(text, number, kind)
         place = f"P{cell[0]}: {shown(cell[1])}" if cell else shown(line.strip(" \t\r"))

@@ -137,6 +137,9 @@ def causes(tester):
         tester.tells(wanted, text.encode(), names=["text" + ending])
     for title, kinds in (("Litmus tests", explained_texts.TEST),
                          ("Texts of traces and of records", explained_texts.LINES)):
+        for number, (_, _, often) in explained_texts.causes(title).items():
+            meant = " ".join(dict.fromkeys(words for _, words in kinds.get(number, [])))
+            tester.expect(often == meant, f"docs/TEXTS.md, {title}, {number}: {often}, and the script has {meant}")
         tester.expect(kinds.keys() <= explained_texts.causes(title).keys(), f"docs/TEXTS.md, {title}: lacks a kind")
 
 

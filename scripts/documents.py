@@ -36,7 +36,7 @@ GROUPS = [
         ("physiological_order", "*", "")]),
     ("The litmus text: which one is read, as which test, and why one is refused", [
         ("litmus_reader", "*", "told early")]),
-    ("The readings: which of a text's faults is told", [
+    ("The readings: which of a text's faults is reported", [
         ("litmus_reader", "*", "")]),
     ("Runs by threads: what a turn is, and each call of a seat that it makes", [
         ("thread_driver", "*", "")]),

@@ -77,23 +77,16 @@ def first_words(crate):
     return re.split(r"(?<=[^.][.])\s", " ".join(words))[0].rstrip(".")
 
 
-def names_in(folder, ending):
-    names = sorted(p.stem for p in folder.glob("*" + ending) if p.stem not in ("lib", "Lib"))
-    return "`%s`" % ", ".join(names) if names else "-"
-
-
 def architecture():
-    """Each crate with its first sentence, what it uses of the repository, its source files and its definitions."""
-    rows = ["| Crate | What it is | Uses | Source files | Definitions (specs/) |", "|---|---|---|---|---|"]
+    """Each crate with its first sentence, and what it uses of the repository and of the kit."""
+    rows = ["| Crate | What it is | Uses |", "|---|---|---|"]
     ours = {p.name for p in CRATES.iterdir() if p.is_dir()}
     for name, deps in lines_of_crates():
         crate = CRATES / name
         text = "".join(p.read_text(encoding="utf-8") for p in crate.rglob("*")
                        if p.suffix in (".rt", ".antt") and "out" not in p.relative_to(crate).parts)
         used = [d for d in deps if d in ours and re.search(r"\b%s\b" % d, text)] + [d for d in deps if d not in ours]
-        rows.append("| `%s` | %s | %s | %s | %s |" % (
-            name, first_words(crate), ", ".join(used) or "-",
-            names_in(crate / "src", ".rt"), names_in(crate / "specs", ".antt")))
+        rows.append("| `%s` | %s | %s |" % (name, first_words(crate), ", ".join(used) or "-"))
     return rows
 
 

@@ -58,12 +58,12 @@ LINES_A_MINUTE = 10
 NAMED_AT_MOST = 10
 
 
-def lines_of_crates():
+def names_of_crates():
+    """The crates of crates.txt, in its order."""
     for line in (TOP / "crates.txt").read_text(encoding="utf-8").splitlines():
         line = line.split("#")[0].strip()
         if line:
-            name, _, deps = line.partition(":")
-            yield name.split()[0], deps.split()
+            yield line.split(":")[0].split()[0]
 
 
 def first_words(crate):
@@ -78,16 +78,9 @@ def first_words(crate):
 
 
 def architecture():
-    """Each crate with its first sentence, and what it uses of the repository and of the kit."""
-    rows = ["| Crate | What it is | Uses |", "|---|---|---|"]
-    ours = {p.name for p in CRATES.iterdir() if p.is_dir()}
-    for name, deps in lines_of_crates():
-        crate = CRATES / name
-        text = "".join(p.read_text(encoding="utf-8") for p in crate.rglob("*")
-                       if p.suffix in (".rt", ".antt") and "out" not in p.relative_to(crate).parts)
-        used = [d for d in deps if d in ours and re.search(r"\b%s\b" % d, text)] + [d for d in deps if d not in ours]
-        rows.append("| `%s` | %s | %s |" % (name, first_words(crate), ", ".join(used) or "-"))
-    return rows
+    """Each crate with its first sentence."""
+    return ["| Crate | What it is |", "|---|---|"] + [
+        "| `%s` | %s |" % (name, first_words(CRATES / name)) for name in names_of_crates()]
 
 
 class Definitions:

@@ -22,6 +22,7 @@ TOP = Path(__file__).resolve().parent.parent
 PAGE = TOP / "docs/COST.md"
 KINDS = ("proof", "tests", "edits")
 TICK = os.sysconf("SC_CLK_TCK")
+CHEAP = 60  # crates of fewer seconds share a row
 
 
 def work_of(process, session):
@@ -112,8 +113,10 @@ def page(now, before):
            + ",\n".join(", ".join(chain[at:at + 7]) for at in range(0, len(chain), 7)) + ".\n")
     yield "| Crate | Proof (s) | Tests (s) | Edits (s) |"
     yield "|---|---|---|---|"
-    for name, cost in sorted(costs.items(), key=lambda item: -sum(item[1].values())):
-        yield f"| `{name}` | " + " | ".join(f"{cost[kind]:.0f}" if cost[kind] else "-" for kind in KINDS) + " |"
+    dear = [name for name in sorted(costs, key=lambda name: -sum(costs[name].values())) if sum(costs[name].values()) > CHEAP]
+    others = {kind: sum(cost[kind] for name, cost in costs.items() if name not in dear) for kind in KINDS}
+    for name, cost in [*((f"`{name}`", costs[name]) for name in dear), (f"{len(costs) - len(dear)} others", others)]:
+        yield f"| {name} | " + " | ".join(f"{cost[kind]:.0f}" if cost[kind] else "-" for kind in KINDS) + " |"
 
 
 def main():

@@ -36,7 +36,7 @@ GROUPS = [
         ("physiological_order", "*", "")]),
     ("The litmus text: which one is read, as which test, and why one is refused", [
         ("litmus_reader", "*", "told early")]),
-    ("The readings: which of a text's faults is told", [
+    ("The readings: which of a text's faults is reported", [
         ("litmus_reader", "*", "")]),
     ("Runs by threads: what a turn is, and each call of a seat that it makes", [
         ("thread_driver", "*", "")]),
@@ -52,18 +52,17 @@ GROUPS = [
 ]
 
 # How many lines of definitions are read in a minute.
-LINES_A_MINUTE = 10
 
 # How many definitions of a file the table of docs/TRUST.md names, where it means a part of the file.
 NAMED_AT_MOST = 10
 
 
-def lines_of_crates():
+def names_of_crates():
+    """The crates of crates.txt, in its order."""
     for line in (TOP / "crates.txt").read_text(encoding="utf-8").splitlines():
         line = line.split("#")[0].strip()
         if line:
-            name, _, deps = line.partition(":")
-            yield name.split()[0], deps.split()
+            yield line.split(":")[0].split()[0]
 
 
 def first_words(crate):
@@ -77,24 +76,10 @@ def first_words(crate):
     return re.split(r"(?<=[^.][.])\s", " ".join(words))[0].rstrip(".")
 
 
-def names_in(folder, ending):
-    names = sorted(p.stem for p in folder.glob("*" + ending) if p.stem not in ("lib", "Lib"))
-    return "`%s`" % ", ".join(names) if names else "-"
-
-
 def architecture():
-    """Each crate with its first sentence, what it uses of the repository, its source files and its definitions."""
-    rows = ["| Crate | What it is | Uses | Source files | Definitions (specs/) |", "|---|---|---|---|---|"]
-    ours = {p.name for p in CRATES.iterdir() if p.is_dir()}
-    for name, deps in lines_of_crates():
-        crate = CRATES / name
-        text = "".join(p.read_text(encoding="utf-8") for p in crate.rglob("*")
-                       if p.suffix in (".rt", ".antt") and "out" not in p.relative_to(crate).parts)
-        used = [d for d in deps if d in ours and re.search(r"\b%s\b" % d, text)] + [d for d in deps if d not in ours]
-        rows.append("| `%s` | %s | %s | %s | %s |" % (
-            name, first_words(crate), ", ".join(used) or "-",
-            names_in(crate / "src", ".rt"), names_in(crate / "specs", ".antt")))
-    return rows
+    """Each crate with its first sentence."""
+    return ["| Crate | What it is |", "|---|---|"] + [
+        "| `%s` | %s |" % (name, first_words(CRATES / name)) for name in names_of_crates()]
 
 
 class Definitions:
@@ -234,14 +219,14 @@ def reached(roots):
 
 def trust():
     """The files of definitions by group, and how many lines of each belong to the group and to none before it."""
-    rows, told = ["| Definitions | Lines | Minutes |", "|---|---|---|"], set()
+    rows, told = ["| Definitions | Lines |", "|---|---|"], set()
     for title, roots in GROUPS:
         mine, lines = [d for d in reached(roots) if d not in told], {}
         told.update(mine)
         for module, name in mine:
             lines[module] = lines.get(module, 0) + len(definitions(module).blocks[name])
-        rows.append("| **%s** | **%d** | **%d** |" % (title, sum(lines.values()), minutes(sum(lines.values()))))
-        rows += ["| `%s`%s | %d | %d |" % (module, part_of(module, {n for m, n in mine if m == module}), count, minutes(count))
+        rows.append("| **%s** | **%d** |" % (title, sum(lines.values())))
+        rows += ["| `%s`%s | %d |" % (module, part_of(module, {n for m, n in mine if m == module}), count)
                  for module, count in lines.items()]
     return rows
 
@@ -254,10 +239,6 @@ def part_of(module, names):
     if not others or len(short) > NAMED_AT_MOST:
         return ""
     return words + ", ".join("`%s`" % n for n in short)
-
-
-def minutes(lines):
-    return -(-lines // LINES_A_MINUTE)
 
 
 def with_table(text, name, rows):

@@ -1,13 +1,14 @@
 #!/usr/bin/env python3
-"""Tells each sentence of the pages (README.md and the others at the top, docs/*.md, crates/*/README.md) with over 30 words.
+"""Lists each sentence of the pages (README.md and the others at the top, docs/*.md, crates/*/README.md) with over 30
+words, and each phrase that pages don't use.
 
-    scripts/sentences.py            tells them, each with its page and line
+    scripts/sentences.py            lists them, each with its page and line
     scripts/sentences.py --check    does so, and fails if there is one
-    scripts/sentences.py PAGE ..    tells those of these pages
+    scripts/sentences.py PAGE ..    lists those of these pages
 
 A sentence ends at a full stop, a question mark or an exclamation mark, and at the end of its paragraph, list item or
 table cell; a colon or semicolon ends none. Code in backquotes is one word, and a link is the words of its text. Fenced
-blocks, indented blocks and comments are left out.
+blocks, indented blocks and comments are left out. Phrases aren't looked for in tables that a script writes, either.
 """
 import re
 import sys
@@ -18,6 +19,12 @@ TOP = Path(__file__).resolve().parent.parent
 PAGES = [TOP / name for name in ("README.md", "CONTRIBUTING.md", "GLOSSARY.md")]
 MOST_WORDS = 30
 ABBREVIATIONS = {"e.g.", "i.e.", "cf.", "vs."}
+# What pages don't say, each with what they say instead.
+UNSAID = {"is told": "is reported", "are told": "are reported", "was told": "was reported", "were told": "were reported",
+          "be told": "be reported", "is said by": "X says", "is said in": "X says", "so many": "n, or each",
+          "whatever": "any", "comes of": "the result", "come of": "the result", "came of": "the result",
+          "beside": "next to, or against", "wants": "needs", "wanted": "expected", "want of": "lack of",
+          "stands on": "depends on"}
 
 FENCE = re.compile(r"\s*(`{3,}|~{3,})")
 LIST_ITEM = re.compile(r"^\s*([-*+]|\d+[.)])\s+")
@@ -109,6 +116,16 @@ def long_sentences(text):
                     yield first + before, count, " ".join(words[:8])
 
 
+def unsaid(text):
+    """The phrases of a page that pages don't use: the line, and the phrase."""
+    text = re.sub(r"<!-- table .*?<!-- end -->", lambda m: "\n" * m.group().count("\n"), text, flags=re.S)
+    phrases = re.compile(r"\b(%s)\b" % "|".join(UNSAID).replace(" ", r"\s+"), re.I)
+    for first, passage in passages(text):
+        words = plain(passage)
+        for found in phrases.finditer(words):
+            yield first + words.count("\n", 0, found.start()), " ".join(found.group().lower().split())
+
+
 def main():
     named = [Path(word).resolve() for word in sys.argv[1:] if word != "--check"]
     faults, missing = 0, [page for page in named if not page.is_file()]
@@ -116,8 +133,12 @@ def main():
         print("sentences.py: %s: no such file" % relpath(missing[0]), file=sys.stderr)
         raise SystemExit(2)
     for page in named or PAGES + sorted((TOP / "docs").glob("*.md")) + sorted(TOP.glob("crates/*/README.md")):
-        for line, count, begin in long_sentences(page.read_text(encoding="utf-8")):
+        text = page.read_text(encoding="utf-8")
+        for line, count, begin in long_sentences(text):
             print("sentences.py: %s:%d: %d words: %s .." % (relpath(page), line, count, begin))
+            faults += 1
+        for line, phrase in unsaid(text):
+            print('sentences.py: %s:%d: "%s": say %s' % (relpath(page), line, phrase, UNSAID[phrase]))
             faults += 1
     raise SystemExit(1 if faults and "--check" in sys.argv[1:] else 0)
 

@@ -51,8 +51,6 @@ GROUPS = [
         ("machine_theorem", "*", ""), ("seat_rule", MOVES, ""), ("protocol", "*", "")]),
 ]
 
-# How many lines of definitions are read in a minute.
-
 # How many definitions of a file the table of docs/TRUST.md names, where it means a part of the file.
 NAMED_AT_MOST = 10
 

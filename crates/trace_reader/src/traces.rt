@@ -1,6 +1,7 @@
 //! The steps of a trace by core.
 
 ghost use Rattle.std.specs.Prelude.{◌≡◌, ◌<◌, ◌≤◌, ◌++◌, ◌∷◌, [], List, ℕ, max, suc, length, get_or, map, IfOk, OnOk, OnErr};
+ghost use Rattle.std.specs.Prelude.{vec_capacity};
 ghost use Rattle.std.specs.Prelude.{◌==◌, if◌then◌else◌};
 ghost use Rattle.programs.specs.declared.steps.Step.{Step};
 ghost use Rattle.trace_reader.specs.Steps.{lane, ops_of};
@@ -58,7 +59,8 @@ impl Lane {
     }
 
     fn push_op(&mut self, op: &Op) -> Result<(), AllocError>
-        ensures { OnOk result (self.new ≡ self.old ++ Step.Op op.now ∷ []) }
+        ensures pushed { OnOk result (self.new ≡ self.old ++ Step.Op op.now ∷ []) }
+        ensures refused { OnErr result (self.new ≡ self.old) }
     {
         self.steps.reserve(1)?;
         self.ops.reserve(1)?;
@@ -68,14 +70,17 @@ impl Lane {
     }
 
     fn push_advance(&mut self) -> Result<(), AllocError>
-        ensures { OnOk result (self.new ≡ self.old ++ Step.Advance ∷ []) }
+        ensures pushed { OnOk result (self.new ≡ self.old ++ Step.Advance ∷ []) }
+        ensures refused { OnErr result (self.new ≡ self.old) }
     {
-        self.steps.push(Step::Advance)?;
+        self.steps.reserve(1)?;
+        self.steps.push_reserved(Step::Advance);
         Ok(())
     }
 
     fn push(&mut self, step: Step) -> Result<(), AllocError>
-        ensures { OnOk result (self.new ≡ self.old ++ step ∷ []) }
+        ensures pushed { OnOk result (self.new ≡ self.old ++ step ∷ []) }
+        ensures refused { OnErr result (self.new ≡ self.old) }
     {
         match step {
             Step::Op(op) => self.push_op(&op),
@@ -157,26 +162,35 @@ impl Trace {
         Ok(lists)
     }
 
-    /// Lists for the cores up to this one.
-    fn reach(&mut self, core: u32) -> Result<(), AllocError>
-        requires { core < 64 }
-        ensures reached { OnOk result (length self.new ≡ max (suc core) (length self.old)) }
-        ensures same { (k : ℕ) → lane self.new k ≡ lane self.old k }
-    {
-        while self.lanes.len() <= core as usize {
-            self.lanes.push(Lane::new(self.alloc))?;
-        }
-        Ok(())
-    }
-
-    /// One more step of a core, behind those that it has.
+    /// One more step of a core, behind those that it has. If memory for it is refused, nothing changes.
     pub fn push(&mut self, core: u32, step: Step) -> Result<(), AllocError>
         requires { core < 64 }
         ensures cores { OnOk result (length self.new ≡ max (suc core) (length self.old)) }
         ensures steps { OnOk result ((k : ℕ) → lane self.new k
             ≡ (if core == k then lane self.old k ++ step ∷ [] else lane self.old k)) }
+        ensures refused { OnErr result (self.new ≡ self.old) }
     {
-        self.reach(core)?;
-        self.lanes[core as usize].push(step)
+        let at = core as usize;
+        if at < self.lanes.len() {
+            return self.lanes[at].push(step);
+        }
+        self.lanes.reserve(at + 1 - self.lanes.len())?;
+        let mut lane = Lane::new(self.alloc);
+        lane.push(step)?;
+        reach(&mut self.lanes, at, self.alloc);
+        self.lanes.push_reserved(lane);
+        Ok(())
+    }
+}
+
+// Lanes without steps, up to a number of lanes for which there is room.
+fn reach(lanes: &mut Vec<Lane>, number: usize, alloc: Global)
+    requires room { number ≤ vec_capacity lanes.old }
+    ensures reached { length lanes.new.items ≡ max number (length lanes.old.items) }
+    ensures same { (k : ℕ) → lane lanes.new.items k ≡ lane lanes.old.items k }
+    ensures capacity { vec_capacity lanes.new ≡ vec_capacity lanes.old }
+{
+    while lanes.len() < number {
+        lanes.push_reserved(Lane::new(alloc));
     }
 }

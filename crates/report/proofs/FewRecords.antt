@@ -18,8 +18,7 @@ use Rattle.trace_reader.specs.declared.limits.TheConstants.{MOST_LINES}
 use Rattle.trace_reader.specs.Grammar.{IsTrace, TellSteps, TellTrace}
 use Rattle.text_lines.specs.Lines.{lines_of}
 use Rattle.trace_reader.specs.Lines.{with_fields, worded}
-use Rattle.trace_reader.specs.Steps.{lane, ops_of, steps_of}
-use Rattle.report.specs.Runs.{trace_ops}
+use Rattle.trace_reader.specs.Steps.{lane, ops_of, steps_of, trace_ops}
 use Rattle.report.proofs.InTrace.{issued_is}
 
 -- ---- a list of which each number stands as often in another one is no longer than that

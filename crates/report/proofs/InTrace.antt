@@ -27,11 +27,11 @@ use Rattle.worker_driver.specs.Orders.{LeadsTo}
 use Rattle.programs.specs.declared.ends.End.{End}
 use Rattle.programs.specs.declared.steps.Step.{Step}
 use Rattle.programs.specs.declared.steps.Step.TheVariants as step
-use Rattle.trace_reader.specs.Steps.{lane, ops_of}
+use Rattle.trace_reader.specs.Steps.{lane, ops_of, trace_cores, trace_ops}
 use Rattle.machine_theorem.specs.Service.{AreServed}
 use Rattle.programs.specs.Performs.{Performs, Told, rests, advances, does}
 use Rattle.schedules.specs.declared.policy.Policy.{Policy}
-use Rattle.report.specs.Runs.{IsTraceRun, trace_cores, trace_ops, programs_below, step_acts}
+use Rattle.report.specs.Runs.{IsTraceRun, programs_below, step_acts}
 use Rattle.report.proofs.CoreCounts.{programs_count}
 
 -- ---- what a program of steps gave

@@ -16,7 +16,8 @@ use Rattle.trace_reader.specs.Grammar.{AreRecords, IsTrace}
 use Rattle.text_lines.specs.Lines.{lines_of}
 use Rattle.trace_reader.specs.Reading.{steps_read}
 use Rattle.report.specs.Refusals.{IsFault, IsRead, WantsMemory}
-use Rattle.report.specs.Runs.{IsTraceRun, trace_cores, is_all_done, run_text}
+use Rattle.trace_reader.specs.Steps.{trace_cores}
+use Rattle.report.specs.Runs.{IsTraceRun, is_all_done, run_text}
 
 -- the text has a line for each record, and if these are no more than a text may have, it is the text of the records
 abbrev pub TellsRecords : List ℕ → List Record → Type 0

@@ -1,5 +1,5 @@
 -- What a run of a trace is, and the texts that tell it.
-use Rattle.std.specs.Prelude.{◌≡◌, ℕ, zero, suc, ◌+◌, max, Bool, true, false, List, [], ◌∷◌, ◌++◌, length, map, Option}
+use Rattle.std.specs.Prelude.{◌≡◌, ℕ, zero, suc, ◌+◌, Bool, true, false, List, [], ◌∷◌, ◌++◌, length, map, Option}
 use Rattle.std.specs.Prelude.{slice_index_or}
 use Rattle.std.specs.Ordering.{nat_cmp}
 use Rattle.std.specs.FinMap.{FinMap, empty, entries, insert}
@@ -8,6 +8,7 @@ use Rattle.machine_table.specs.Machine.{Machine}
 use Rattle.machine_theorem.specs.Coherence.{coherent}
 use Rattle.physiological_order.specs.declared.operation.Op.{Op}
 use Rattle.physiological_order.specs.declared.operation.Record.{Record}
+use Rattle.physiological_order.specs.declared.verdict.Verdict.TheVariants.{Legal as LegalVerdict}
 use Rattle.physiological_order.specs.Order.{address, flat, Legal, Arrangement, replay_end}
 use Rattle.physiological_order.specs.StaleHits.{RisesByNumber, stale_count}
 use Rattle.trace_texts.specs.Records.{AreComplete, records_text}
@@ -15,7 +16,7 @@ use Rattle.worker_driver.specs.Orders.{LeadsTo}
 use Rattle.programs.specs.declared.ends.End.{End}
 use Rattle.programs.specs.declared.ends.End.TheVariants.{AllDone, Stalled, TurnsUsed, Exhausted, NoMemory}
 use Rattle.programs.specs.declared.steps.Step.{Step}
-use Rattle.trace_reader.specs.Steps.{lane, ops_of}
+use Rattle.trace_reader.specs.Steps.{lane, ops_of, trace_cores, trace_ops}
 use Rattle.trace_texts.specs.declared.reports.TraceEnd.{TraceEnd}
 use Rattle.trace_texts.specs.Reports.{trace_text}
 use Rattle.programs.specs.Acts.{Acts, first_step, behind_first}
@@ -25,18 +26,10 @@ use Rattle.schedules.specs.declared.policy.Policy.{Policy}
 abbrev pub step_acts : Acts (List Step)
 step_acts = record { next = first_step; done = behind_first }
 
--- a machine has a core for each of the trace, and one if no line has a step
-abbrev pub trace_cores : List (List Step) → ℕ
-trace_cores lanes = max 1 (length lanes)
-
 -- the programs of the cores below a number
 abbrev pub programs_below : List (List Step) → ℕ → List (List Step)
 programs_below lanes zero = []
 programs_below lanes (suc core) = programs_below lanes core ++ lane lanes core ∷ []
-
--- the operations of each core of a trace; a core that it hasn't has none
-abbrev pub trace_ops : List (List Step) → ℕ → List Op
-trace_ops lanes core = slice_index_or (map ops_of lanes) core []
 
 -- A run of a trace over a memory of zeros, by a policy or by threads. Its records are a legal history of what the cores
 -- were issued, and so of the operations of the trace. They stand by rising number, and are such as a text of records
@@ -71,21 +64,22 @@ words_below lanes (suc core) = with_words (words_below lanes core) (ops_of (lane
 abbrev pub values_in : Machine → FinMap nat_cmp ℕ → List (ℕ × ℕ)
 values_in m words = map (λ entry. (entry.0, coherent m entry.0)) (entries words)
 
--- what the report says of a run beside its records and its words
+-- what the report says of a run beside its records and its words: they are a legal history of the trace's operations
+-- (`legal_in_trace`), and so a check's verdict on them is Legal
 abbrev pub trace_end_of : List (List Step) → End → Machine → TraceEnd
 trace_end_of lanes end m = record {
-  cores = trace_cores lanes;
   issued = issued_below m (trace_cores lanes);
   end = end;
   counts = m.mail.counts;
   stale = stale_count m.records;
+  verdict = LegalVerdict;
 }
 
 -- the text of the records alone, or the report
 abbrev pub run_text : Bool → List (List Step) → End → Machine → List ℕ
 run_text true lanes end m = records_text m.records
 run_text false lanes end m =
-    trace_text (trace_end_of lanes end m) m.records (values_in m (words_below lanes (trace_cores lanes)))
+    trace_text lanes (trace_end_of lanes end m) m.records (values_in m (words_below lanes (trace_cores lanes)))
 
 abbrev pub is_all_done : End → Bool
 is_all_done AllDone = true

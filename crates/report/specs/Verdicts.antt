@@ -17,7 +17,7 @@ use Rattle.trace_reader.specs.Grammar.{AreRecords}
 use Rattle.trace_reader.specs.Reading.{steps_read, records_at}
 use Rattle.report.specs.Refusals.{IsFault, IsRead, WantsMemory}
 use Rattle.report.specs.Reports.{IsTraceFault}
-use Rattle.report.specs.Runs.{trace_ops}
+use Rattle.trace_reader.specs.Steps.{trace_ops}
 use Rattle.trace_texts.specs.Verdicts.{check_text}
 
 -- the records that were read: their text is all that the source had, where that is known

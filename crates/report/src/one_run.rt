@@ -1,20 +1,23 @@
 //! One run of a trace, by a policy or by threads, and its text.
 ghost use Rattle.std.specs.Prelude.{◌≡◌, ◌<◌, ◌≤◌, true, IfOk, None, Some};
+ghost use Rattle.std.specs.FinMap.{empty};
 ghost use Rattle.machine_table.specs.Machine.{Machine};
 ghost use Rattle.machine_table.specs.SetUp.{is_good};
 ghost use Rattle.closed_machine.specs.RunParts.{Parts};
+ghost use Rattle.physiological_order.specs.Order.{flat, Legal};
 ghost use Rattle.physiological_order.specs.StaleHits.{RisesByNumber};
 ghost use Rattle.trace_texts.specs.Records.{AreComplete, records_text};
 ghost use Rattle.thread_driver.specs.ThreadRuns.{machine_of};
 ghost use Rattle.report.specs.Reports.{TellsRecords};
-ghost use Rattle.report.specs.Runs.{IsTraceRun, trace_cores, trace_end_of, run_text};
+ghost use Rattle.trace_reader.specs.Steps.{trace_cores, trace_ops};
+ghost use Rattle.report.specs.Runs.{IsTraceRun, trace_end_of, run_text};
 
 use crate::trace_programs::programs_of;
 use crate::words::{issued_below, values_of};
 use interleaving_core::{Config, System};
 use machine_theorem::laws::every_history_is_legal;
 use mailboxes::Run;
-use physiological_order::{Memory, stale_hits};
+use physiological_order::{Memory, Verdict, stale_hits};
 use programs::End;
 use schedules::{Policy, run_to_end};
 use shared_jobs::Free;
@@ -103,11 +106,11 @@ fn end_of<M: Finished + Drop>(
 {
     let stale = stale_hits(alloc, ran.machine.records())?;
     Ok(TraceEnd {
-        cores: trace.cores(),
         issued: issued_below(&ran.machine, trace.cores()),
         end: ran.end,
         counts: ran.machine.counts(),
         stale,
+        verdict: Verdict::Legal,
     })
 }
 
@@ -118,7 +121,8 @@ pub(crate) fn text_of<M: Finished + Drop>(
     ran: &Ran<M>,
     records: bool,
 ) -> Result<Vec<u8>, AllocError>
-    requires shows { (m : Machine) × M.shows ran.now.machine m × AreComplete m.records }
+    requires shows { (m : Machine) × M.shows ran.now.machine m × AreComplete m.records
+        × Legal (flat empty) (trace_ops trace.now) m.records }
     ensures text { IfOk result (λ text. (m : Machine) → M.shows ran.now.machine m →
         text.items ≡ run_text records trace.now ran.now.end m) }
     ensures stands { IfOk result (λ text. (m : Machine) → M.shows ran.now.machine m →
@@ -129,5 +133,5 @@ pub(crate) fn text_of<M: Finished + Drop>(
     }
     let end = end_of(alloc, trace, ran)?;
     let values = values_of(alloc, trace, &ran.machine)?;
-    trace_text(alloc, &end, ran.machine.records(), &values)
+    trace_text(alloc, trace, &end, ran.machine.records(), &values)
 }

@@ -1,14 +1,17 @@
 //! From a source with the text of a trace to a sink for its report.
 ghost use Rattle.std.specs.Prelude.{◌≡◌, ◌≢◌, IfErr, IfOk, IfSome, IsErrOf, None, Some, false, true};
+ghost use Rattle.std.specs.FinMap.{empty};
 ghost use Rattle.byte_streams.specs.Device.{AtEnd};
 ghost use Rattle.machine_table.specs.Machine.{Machine};
 ghost use Rattle.machine_table.specs.SetUp.{is_good};
+ghost use Rattle.physiological_order.specs.Order.{flat, Legal};
 ghost use Rattle.trace_texts.specs.Records.{AreComplete};
 ghost use Rattle.report.specs.Answers.{FailuresAreCounted, IsCutOff, IsReported};
 ghost use Rattle.worker_driver.specs.SetUp.{config_of, policy_of};
 ghost use Rattle.report.specs.Refusals.{OnAccepted};
 ghost use Rattle.report.specs.Reports.{HasNoTraceReport, HasNoRun, IsTraceReport, TellsTraceRun, TellsOf};
-ghost use Rattle.report.specs.Runs.{trace_cores, is_all_done};
+ghost use Rattle.trace_reader.specs.Steps.{trace_cores, trace_ops};
+ghost use Rattle.report.specs.Runs.{is_all_done};
 
 use crate::one_run::{Ran, run_by_policy, run_by_threads, text_of};
 use crate::outputs::{Report, put_out};
@@ -153,7 +156,8 @@ fn report_on<M: Finished + Drop>(
     ran: &Ran<M>,
     records: bool,
 ) -> Result<Report, AllocError>
-    requires shows { (m : Machine) × M.shows ran.now.machine m × AreComplete m.records }
+    requires shows { (m : Machine) × M.shows ran.now.machine m × AreComplete m.records
+        × Legal (flat empty) (trace_ops trace.now) m.records }
     ensures { IfOk result (λ report. (m : Machine) → M.shows ran.now.machine m →
         TellsOf records trace.now ran.now.end m report.all_done report.text.items) }
 {

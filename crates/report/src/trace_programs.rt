@@ -1,6 +1,7 @@
 //! The programs of a trace's cores.
 ghost use Rattle.std.specs.Prelude.{◌≡◌, IfOk};
-ghost use Rattle.report.specs.Runs.{trace_cores, programs_below};
+ghost use Rattle.trace_reader.specs.Steps.{trace_cores};
+ghost use Rattle.report.specs.Runs.{programs_below};
 
 use programs::StepProgram;
 use std::alloc::{AllocError, Global};

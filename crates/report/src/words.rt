@@ -3,8 +3,8 @@
 ghost use Rattle.std.specs.Prelude.{◌≡◌, ◌≤◌, max, map, length, IfOk, OnOk};
 ghost use Rattle.std.specs.FinMap.{entries};
 ghost use Rattle.machine_table.specs.Machine.{Machine};
-ghost use Rattle.trace_reader.specs.Steps.{ops_of};
-ghost use Rattle.report.specs.Runs.{trace_cores, issued_below, values_in, with_words, words_below};
+ghost use Rattle.trace_reader.specs.Steps.{ops_of, trace_cores};
+ghost use Rattle.report.specs.Runs.{issued_below, values_in, with_words, words_below};
 
 use physiological_order::{Memory, Op, WordAddr};
 use std::alloc::{AllocError, Global};

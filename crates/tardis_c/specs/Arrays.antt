@@ -7,8 +7,7 @@ use Rattle.physiological_order.specs.declared.verdict.Verdict.TheVariants.{Wrong
 use Rattle.physiological_order.specs.Faults.{IsVerdict}
 use Rattle.physiological_order.specs.Order.{flat}
 use Rattle.programs.specs.declared.steps.Step.{Step}
-use Rattle.report.specs.Runs.{trace_ops}
-use Rattle.trace_reader.specs.Steps.{IsByCore}
+use Rattle.trace_reader.specs.Steps.{IsByCore, trace_ops}
 use Rattle.tardis_c.specs.Plain.{operation_fault, record_fault, record_of, step_of}
 use Rattle.tardis_c.specs.declared.arrays.Told.{Told}
 use Rattle.tardis_c.specs.declared.plain.PlainOperation.{PlainOperation}

@@ -1,5 +1,6 @@
 -- Steps in the order of a text, and the same by core.
-use Rattle.std.specs.Prelude.{◌≡◌, ℕ, suc, ◌==◌, max, if◌then◌else◌, List, [], ◌∷◌, length, get_or}
+use Rattle.std.specs.Prelude.{◌≡◌, ℕ, suc, ◌==◌, max, if◌then◌else◌, List, [], ◌∷◌, length, map, get_or}
+use Rattle.std.specs.Prelude.{slice_index_or}
 use Rattle.physiological_order.specs.declared.operation.Op.{Op}
 use Rattle.programs.specs.declared.steps.Step.{Step}
 use Rattle.programs.specs.declared.steps.Step.TheVariants as step
@@ -27,3 +28,11 @@ unfoldable pub ops_of : List Step → List Op
 ops_of [] = []
 ops_of (step.Op op ∷ steps) = op ∷ ops_of steps
 ops_of (step.Advance ∷ steps) = ops_of steps
+
+-- a machine that runs a trace has a core for each of the trace, and one if no line has a step
+abbrev pub trace_cores : List (List Step) → ℕ
+trace_cores lanes = max 1 (length lanes)
+
+-- the operations of each core of a trace; a core that it hasn't has none
+abbrev pub trace_ops : List (List Step) → ℕ → List Op
+trace_ops lanes core = slice_index_or (map ops_of lanes) core []

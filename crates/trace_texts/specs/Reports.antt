@@ -4,10 +4,11 @@ use Rattle.std.specs.List.{flat_map}
 use Rattle.physiological_order.specs.declared.operation.Op.{Op}
 use Rattle.physiological_order.specs.declared.operation.Op.TheVariants.{Load, Store, Swap}
 use Rattle.physiological_order.specs.declared.operation.Record.{Record}
-use Rattle.physiological_order.specs.declared.verdict.Verdict.TheVariants.{Legal}
 use Rattle.report_lines.specs.Lines.{counts_text, field, value_line, word_line}
 use Rattle.programs.specs.declared.ends.End.{End}
 use Rattle.programs.specs.declared.ends.End.TheVariants.{AllDone, Stalled, TurnsUsed, Exhausted, NoMemory}
+use Rattle.programs.specs.declared.steps.Step.{Step}
+use Rattle.trace_reader.specs.Steps.{trace_cores}
 use Rattle.trace_texts.specs.Verdicts.{order_line}
 use Rattle.trace_texts.specs.declared.reports.TraceEnd.{TraceEnd}
 
@@ -34,8 +35,8 @@ is_swap (Store word value) = false
 is_swap (Swap word value) = true
 
 -- the cores, how many operations were issued and how many completed, and how the run ended
-abbrev pub trace_end_text : TraceEnd → ℕ → List ℕ
-trace_end_text run completed = field (codes "cores") run.cores
+abbrev pub trace_end_text : (cores : ℕ) → TraceEnd → (completed : ℕ) → List ℕ
+trace_end_text cores run completed = field (codes "cores") cores
     ++ field (codes "issued") run.issued
     ++ field (codes "completed") completed
     ++ word_line (codes "end") (end_name run.end)
@@ -59,6 +60,8 @@ kinds_text records = field (codes "loads") (loads_among records)
 abbrev pub word_values_text : List (ℕ × ℕ) → List ℕ
 word_values_text values = flat_map (λ v. value_line v.0 v.1) values
 
-unfoldable pub trace_text : TraceEnd → List Record → List (ℕ × ℕ) → List ℕ
-trace_text run records values = trace_end_text run (length records) ++ kinds_text records ++ counts_text run.counts
-    ++ field (codes "stale-hits") run.stale ++ order_line Legal ++ word_values_text values
+-- the report on a run of a trace that left these records and these values of the words that the trace names
+unfoldable pub trace_text : List (List Step) → TraceEnd → List Record → List (ℕ × ℕ) → List ℕ
+trace_text lanes run records values = trace_end_text (trace_cores lanes) run (length records) ++ kinds_text records
+    ++ counts_text run.counts ++ field (codes "stale-hits") run.stale ++ order_line run.verdict
+    ++ word_values_text values

@@ -1,23 +1,26 @@
 //! The text of a trace's run, part by part.
 
 ghost use Rattle.std.specs.Prelude.{◌≡◌, ◌++◌, OnOk, IfOk};
+ghost use Rattle.std.specs.FinMap.{empty};
+ghost use Rattle.physiological_order.specs.Faults.{IsVerdict};
+ghost use Rattle.physiological_order.specs.Order.{flat};
+ghost use Rattle.trace_reader.specs.Steps.{trace_ops};
 ghost use Rattle.trace_texts.specs.Reports.{end_name, is_load_op, is_store, is_swap};
 ghost use Rattle.trace_texts.specs.Reports.{loads_among, stores_among, swaps_among};
 ghost use Rattle.trace_texts.specs.Reports.{trace_end_text, kinds_text, trace_text, word_values_text};
 
 use crate::verdicts::put_order;
 use network::Counts;
-use physiological_order::{Op, Record, WordAddr};
+use physiological_order::{Op, Record, Verdict, WordAddr};
 use programs::End;
 use report_lines::{put_counts, put_field, put_value, put_word};
 use std::alloc::{AllocError, Global};
+use trace_reader::Trace;
 
 /// What the run of a trace came to, beside its records and the values that it left.
 #[derive(Clone, Copy, Debug)]
 pub struct TraceEnd {
-    /// How many cores the machine has.
-    pub cores: u32,
-    /// How many operations it was issued, over all cores.
+    /// How many operations the machine was issued, over all cores.
     pub issued: u128,
     pub end: End,
     /// How many renewals, upgrades, flushes and write-backs were sent.
@@ -25,6 +28,8 @@ pub struct TraceEnd {
     /// How many of the records are loads of a value that was overwritten by a smaller completion number at a greater
     /// time.
     pub stale: u64,
+    /// What a check of the records answers, for what the trace issues over a memory of zeros.
+    pub verdict: Verdict,
 }
 
 // How a run ended, in a word.
@@ -77,10 +82,15 @@ fn swaps_among(records: &[Record]) -> usize
 }
 
 // The cores, how many operations were issued and completed, and how the run ended.
-fn put_ends(out: &mut Vec<u8>, run: &TraceEnd, completed: usize) -> Result<(), AllocError>
-    ensures { OnOk result (out.new.items ≡ out.old.items ++ trace_end_text run.now completed) }
+fn put_ends(
+    out: &mut Vec<u8>,
+    cores: u32,
+    run: &TraceEnd,
+    completed: usize,
+) -> Result<(), AllocError>
+    ensures { OnOk result (out.new.items ≡ out.old.items ++ trace_end_text cores run.now completed) }
 {
-    put_field(out, b"cores", u128::from(run.cores))?;
+    put_field(out, b"cores", u128::from(cores))?;
     put_field(out, b"issued", run.issued)?;
     put_field(out, b"completed", completed as u128)?;
     put_word(out, b"end", end_name(run.end))
@@ -106,22 +116,25 @@ fn put_values(out: &mut Vec<u8>, values: &[(WordAddr, u64)]) -> Result<(), Alloc
 }
 
 /// The text that reports on the run of a trace that left these records, by rising number, and these values of the
-/// words that the trace names, in lines that end with a line feed (docs/TEXTS.md).
+/// words that the trace names, in lines that end with a line feed (docs/TEXTS.md). It tells the verdict that a check
+/// answers on the records, so `order legal` stands in it only if they are legal.
 #[tactic(auto, unfolding(crate::specs::Reports::trace_text))]
 pub fn trace_text(
     alloc: Global,
+    trace: &Trace,
     run: &TraceEnd,
     records: &[Record],
     values: &[(WordAddr, u64)],
 ) -> Result<Vec<u8>, AllocError>
-    ensures { IfOk result (λ text. text.items ≡ trace_text run.now records.now values.now) }
+    requires { IsVerdict (flat empty) (trace_ops trace.now) records.now run.now.verdict }
+    ensures { IfOk result (λ text. text.items ≡ trace_text trace.now run.now records.now values.now) }
 {
     let mut out = Vec::new(alloc);
-    put_ends(&mut out, run, records.len())?;
+    put_ends(&mut out, trace.cores(), run, records.len())?;
     put_kinds(&mut out, records)?;
     put_counts(&mut out, run.counts)?;
     put_field(&mut out, b"stale-hits", u128::from(run.stale))?;
-    put_order(&mut out)?;
+    put_order(&mut out, run.verdict)?;
     put_values(&mut out, values)?;
     Ok(out)
 }

@@ -4,7 +4,7 @@ ghost use Rattle.std.specs.Prelude.{◌≡◌, ◌++◌, OnOk, IfOk};
 ghost use Rattle.trace_texts.specs.Verdicts.{check_text, order_line};
 
 use physiological_order::Verdict;
-use report_lines::{put_field, put_word};
+use report_lines::put_field;
 use std::alloc::{AllocError, Global};
 
 /// The line of a verdict on records: `legal`, or what is wrong and the number that it is wrong with (docs/TEXTS.md).
@@ -12,20 +12,28 @@ pub fn check_text(alloc: Global, verdict: Verdict) -> Result<Vec<u8>, AllocError
     ensures { IfOk result (λ text. text.items ≡ check_text verdict) }
 {
     let mut out = Vec::new(alloc);
-    match verdict {
-        Verdict::Legal => out.extend_from_slice(b"legal\n")?,
-        Verdict::BadNumber(number) => put_field(&mut out, b"bad number", u128::from(number))?,
-        Verdict::OutOfProgramOrder(number) => {
-            put_field(&mut out, b"out of program order", u128::from(number))?
-        }
-        Verdict::WrongValue(number) => put_field(&mut out, b"wrong value", u128::from(number))?,
-    }
+    put_verdict(&mut out, verdict)?;
     Ok(out)
 }
 
-/// What the report of a run says of its records: they are always legal.
-pub(crate) fn put_order(out: &mut Vec<u8>) -> Result<(), AllocError>
-    ensures { OnOk result (out.new.items ≡ out.old.items ++ order_line Verdict.Legal) }
+// The line of a verdict.
+fn put_verdict(out: &mut Vec<u8>, verdict: Verdict) -> Result<(), AllocError>
+    ensures { OnOk result (out.new.items ≡ out.old.items ++ check_text verdict) }
 {
-    put_word(out, b"order", b"legal")
+    match verdict {
+        Verdict::Legal => out.extend_from_slice(b"legal\n"),
+        Verdict::BadNumber(number) => put_field(out, b"bad number", u128::from(number)),
+        Verdict::OutOfProgramOrder(number) => {
+            put_field(out, b"out of program order", u128::from(number))
+        }
+        Verdict::WrongValue(number) => put_field(out, b"wrong value", u128::from(number)),
+    }
+}
+
+/// The same line in a report.
+pub(crate) fn put_order(out: &mut Vec<u8>, verdict: Verdict) -> Result<(), AllocError>
+    ensures { OnOk result (out.new.items ≡ out.old.items ++ order_line verdict) }
+{
+    out.extend_from_slice(b"order ")?;
+    put_verdict(out, verdict)
 }

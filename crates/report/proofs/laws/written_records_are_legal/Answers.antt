@@ -9,7 +9,7 @@ use Rattle.run_results.specs.declared.results.RunError.TheVariants.{Read, Write,
 use Rattle.programs.specs.declared.steps.Step.{Step}
 use Rattle.trace_reader.specs.Grammar.{AreRecords, IsTrace}
 use Rattle.trace_reader.specs.declared.limits.TheConstants.{MOST_LINES}
-use Rattle.report.specs.Runs.{trace_ops}
+use Rattle.trace_reader.specs.Steps.{trace_ops}
 use Rattle.report.specs.Verdicts.{HasNoVerdict, is_legal}
 use Rattle.trace_texts.specs.Verdicts.{check_text}
 use Rattle.report.proofs.FewRecords.{few_records}

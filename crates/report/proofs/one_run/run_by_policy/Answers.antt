@@ -8,7 +8,8 @@ use Rattle.machine_theorem.specs.Consistency.{IsConsistent}
 use Rattle.programs.specs.declared.steps.Step.{Step}
 use Rattle.schedules.specs.Policies.{EndedBy}
 use Rattle.machine_theorem.specs.Service.{AreServed}
-use Rattle.report.specs.Runs.{trace_cores, step_acts}
+use Rattle.trace_reader.specs.Steps.{trace_cores}
+use Rattle.report.specs.Runs.{step_acts}
 use Rattle.report.proofs.CoreCounts.{programs_count}
 use Rattle.report.proofs.InTrace.{is_run}
 use Rattle.report.proofs.one_run.run_by_policy.Goals as goal

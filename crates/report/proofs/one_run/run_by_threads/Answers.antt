@@ -6,7 +6,8 @@ use Rattle.machine_table.specs.Opening.{at_start}
 use Rattle.thread_driver.specs.ThreadRuns.{IsThreadRun, machine_of}
 use Rattle.programs.specs.declared.steps.Step.{Step}
 use Rattle.machine_theorem.specs.Service.{AreServed}
-use Rattle.report.specs.Runs.{trace_cores, programs_below, step_acts}
+use Rattle.trace_reader.specs.Steps.{trace_cores}
+use Rattle.report.specs.Runs.{programs_below, step_acts}
 use Rattle.report.proofs.CoreCounts.{programs_count}
 use Rattle.report.proofs.InTrace.{is_run}
 use Rattle.report.proofs.one_run.run_by_threads.Goals as goal

@@ -4,11 +4,14 @@ use Rattle.machine_table.specs.declared.config.Config.{Config}
 use Rattle.machine_table.specs.SetUp.{is_good}
 use Rattle.worker_driver.specs.SetUp.{config_of, limit_of}
 use Rattle.schedules.specs.declared.policy.Policy.{Policy}
-use Rattle.report.specs.Runs.{IsTraceRun, trace_cores}
+use Rattle.trace_reader.specs.Steps.{trace_cores}
+use Rattle.report.specs.Runs.{IsTraceRun}
 use Rattle.report.proofs.reports.told_by_policy.Goals as goal
 
 pub report_on-requires : goal.report_on-requires
-report_on-requires c = record { shows = (c.in_ok-ran.ran.machine, refl, c.in_ok-ran.ensures.complete) }
+report_on-requires c =
+    let is = c.in_ok-ran.ensures in
+    record { shows = (c.in_ok-ran.ran.machine, refl, is.complete, is.legal_in_trace) }
 
 pub returns : goal.returns
 returns c =

@@ -5,13 +5,14 @@ use Rattle.machine_table.specs.SetUp.{is_good}
 use Rattle.worker_driver.specs.SetUp.{config_of, limit_of}
 use Rattle.thread_driver.specs.ThreadRuns.{machine_of}
 use Rattle.schedules.specs.declared.policy.Policy.{Policy}
-use Rattle.report.specs.Runs.{IsTraceRun, trace_cores}
+use Rattle.trace_reader.specs.Steps.{trace_cores}
+use Rattle.report.specs.Runs.{IsTraceRun}
 use Rattle.report.proofs.reports.told_by_threads.Goals as goal
 
 pub report_on-requires : goal.report_on-requires
 report_on-requires g c =
     let is = c.in_ok-ran.ensures in
-    record { shows = (machine_of c.in_ok-ran.ran.machine is.0, (is.0, refl), is.1.complete) }
+    record { shows = (machine_of c.in_ok-ran.ran.machine is.0, (is.0, refl), is.1.complete, is.1.legal_in_trace) }
 
 pub returns : goal.returns
 returns g c =

@@ -6,7 +6,7 @@ use Rattle.physiological_order.specs.declared.operation.Op.{Op}
 use Rattle.physiological_order.specs.declared.operation.Record.{Record}
 use Rattle.physiological_order.specs.Faults.{IsVerdict, issued_by, IssuedLists}
 use Rattle.physiological_order.specs.Order.{flat}
-use Rattle.report.specs.Runs.{trace_ops}
+use Rattle.trace_reader.specs.Steps.{trace_ops}
 use Rattle.tardis_c.proofs.arrays.verdict_on.Goals as goal
 
 pub returns : goal.returns

@@ -15,15 +15,25 @@ from pathlib import Path
 LOOKS = ("def stamp(self):", "def below(self):"), ("rtlib = ", "def main(words):")  # what is taken of the kit
 
 
-def main(words):
+def command():
     found = shutil.which("rt") or sys.exit("kit.py: the command 'rt' of the Rattle kit isn't on the path")
-    command = Path(found).resolve()
-    library = command.parent / "rtlib.py"
-    parts = [library.read_text(), command.read_text()] if library.exists() else ["", ""]
-    if not all(word in part for part, wanted in zip(parts, LOOKS) for word in wanted):
-        os.execv(command, ["rt", *words])
-    sys.argv = [str(command), *words]
-    kit = runpy.run_path(str(command), run_name="kit")
+    return Path(found).resolve()
+
+
+def loaded(looks):
+    """What the kit's command defines; None of a kit in whose library and command these words don't stand."""
+    library = command().parent / "rtlib.py"
+    parts = [library.read_text(), command().read_text()] if library.exists() else ["", ""]
+    if all(word in part for part, wanted in zip(parts, looks) for word in wanted):
+        return runpy.run_path(str(command()), run_name="kit")
+    return None
+
+
+def main(words):
+    kit = loaded(LOOKS)
+    if kit is None:
+        os.execv(command(), ["rt", *words])
+    sys.argv = [str(command()), *words]
     crate = kit["rtlib"].Crate
     stamp, below = map(functools.cache, (crate.stamp, crate.below))
     crate.stamp, crate.below = stamp, lambda each: list(below(each))

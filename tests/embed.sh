@@ -1,12 +1,12 @@
 #!/bin/sh
 # Builds callers of the static library of crates/tardis_c in C, C++ and Rust (examples/embed), and tries them:
-# tests/embed.sh [--build]. Each number that a call answers is met once, by hand; the examples are run, and records
-# checked, through the library, with the reports that the program must give. It needs gcc, g++ and the Rattle kit, whose
-# C file for memory is linked; without rustc it says so and leaves out the caller in Rust.
+# tests/embed.sh [--build | --kept]. Each number that a call answers is met once, by hand; the examples are run, and
+# records checked, through the library, with the reports that the program must give. It needs gcc, g++ and the Rattle
+# kit, whose C file for memory is linked; without rustc it says so and leaves out the caller in Rust.
 #
-# With --build the library is proved and built first, with all below it: on a new machine that takes half an hour. The
-# gate proves the same crates, but the kit's gate builds no library. So there the callers are tried only where the
-# library was built before, and else standard error says so.
+# With --build the library is proved and built first, with all below it: on a new machine that takes half an hour. With
+# --kept it is built over what rt ci kept of the crates below, in a minute or two, as the gate does. Where the kit kept
+# nothing, standard error says so, and nothing is tried.
 top=$(CDPATH='' cd -- "$(dirname -- "$0")/.." && pwd) || exit 1
 case ${1-} in -h | --help) exec sed -n '2,/^[^#]/s/^# \{0,1\}//p' "$0" ;; esac
 build=${1-}
@@ -17,12 +17,21 @@ work=$(mktemp -d) || exit 1
 trap 'rm -rf "$work"' EXIT
 trap 'exit 1' HUP INT TERM
 
-if [ "$build" = --build ]; then
+case $build in
+--build)
     "$top/scripts/build.py" report >"$work/built" 2>&1 && (cd -- "$crate" && "$top/scripts/kit.py" lib --jobs 2) \
-        >>"$work/built" 2>&1 || { cat "$work/built"; exit 1; }
-elif [ ! -e "$crate/out/libtardis_c.a" ]; then
-    echo "embed.sh: not tried: the library isn't built ('tests/embed.sh --build' does so)" >&2
+        >>"$work/built" 2>&1
+    ;;
+--kept) "$top/scripts/static_library.py" >"$work/built" 2>&1 ;;
+*) [ -e "$crate/out/libtardis_c.a" ] || echo "the library isn't built: --build does so" >"$work/built" ;;
+esac
+status=$?
+if [ "$status" -eq 3 ]; then
+    echo "embed.sh: not tried: $(tail -n 1 "$work/built")" >&2
     exit 0
+elif [ "$status" -ne 0 ] || [ ! -e "$crate/out/libtardis_c.a" ]; then
+    cat "$work/built"
+    exit 1
 fi
 library="$crate/out/libtardis_c.a $kit/c/liblibc_c.a"
 

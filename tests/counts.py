@@ -1,7 +1,7 @@
 #!/usr/bin/env python3
 """Tries scripts/counts.py: tests/counts.py PLAYER, the built crate play_events.
 
-Thirteen runs were counted by hand from docs/COUNTS.md, PROTOCOL.md and SCHEDULES.md. Then the player and the second
+Sixteen runs were counted by hand from docs/COUNTS.md, PROTOCOL.md and SCHEDULES.md. Then the player and the second
 program's, which counts by the same pages, count random traces on random machines, and litmus tests by seeds. The last
 line is `N tried, M wrong`.
 """
@@ -68,6 +68,14 @@ BY_HAND = {
         "loads 1 1; stores 1 1; misses 2 2; last-time 1 1; recalls 1 1; evicted-entries 1 1; ShReq 1 1 1; ExReq 1 1 1; "
         "ShRep 1 1 1; ExRep 1 1 1; FlushReq 1 1 1; FlushRep 1 1 1; DramLd 2 0 2; DramLdRep 2 0 2; DramSt 1 0 1; "
         "DramStRep 1 0 1"),
+    # The second store may keep the time of the first.
+    "a private write": ("0 W 0x0 1\n0 W 0x0 2\n", "--private-write --time 5", "all-done 7 16",
+                        f"stores 2 2; hits 1 1; misses 1 1; last-time 6 6; ExReq 1 1 1; ExRep 1 1 1; {LOAD}"),
+    "two banks": ("0 R 0x8\n", "--banks 2", "all-done 6 14",
+                  "loads 1 1; misses 1 1; ShReq 1 1 0 1; ShRep 1 1 0 1; DramLd 1 0 0 1; DramLdRep 1 0 0 1; "
+                  "dram-loads 1 0 1"),
+    # The request has no room for the message to DRAM that would follow from it.
+    "a network of one message": ("0 W 0x0 1\n", "--messages 1", "stalled 2 5", "ExReq 1 1 1; ExReq-delivered 0 0 0"),
     "a run that is cut": ("0 W 0x0 1\n", "--limit 3", "limit 3 9", f"ExReq 1 1 1; ExReq-delivered 0 0 0; {LOAD}"),
     # docs/SCHEDULES.md has these events. The fourth turn makes none.
     "a test by a seed": ("SB", "--schedule seed --seed 4 --limit 9", "limit 8 8",
@@ -83,9 +91,8 @@ def wanted_of(ended, told_rows):
         name, *numbers = row.split(" ")
         names = [f"{name}-sent", f"{name}-delivered"] if name in counts.KINDS else [name]
         found |= dict.fromkeys(names, numbers)
-    found |= {f"dram-{what}": found[row][:1] + found[row][-1:] for what, row in
-              (("loads", "DramLd-sent"), ("stores", "DramSt-sent")) if row in found}
-    return found
+    return {f"dram-{what}": found[row][:1] + found[row][-1:] for what, row in
+            (("loads", "DramLd-sent"), ("stores", "DramSt-sent")) if row in found} | found
 
 
 class Counter(Tester):

@@ -20,23 +20,25 @@ def command():
     return Path(found).resolve()
 
 
-def loaded(looks):
-    """What the kit's command defines; None of a kit in whose library and command these words don't stand."""
+def loaded(*more):
+    """What the kit's command defines, as it is run here; None of a kit in whose library and command the words that are
+    looked for don't stand: those meant here, and more."""
     library = command().parent / "rtlib.py"
-    parts = [library.read_text(), command().read_text()] if library.exists() else ["", ""]
-    if all(word in part for part, wanted in zip(parts, looks) for word in wanted):
-        return runpy.run_path(str(command()), run_name="kit")
-    return None
-
-
-def main(words):
-    kit = loaded(LOOKS)
-    if kit is None:
-        os.execv(command(), ["rt", *words])
-    sys.argv = [str(command()), *words]
+    texts = [library.read_text(), command().read_text()] if library.exists() else ["", ""]
+    if not all(word in text for looks in (LOOKS, more) for text, wanted in zip(texts, looks) for word in wanted):
+        return None
+    kit = runpy.run_path(str(command()), run_name="kit")
     crate = kit["rtlib"].Crate
     stamp, below = map(functools.cache, (crate.stamp, crate.below))
     crate.stamp, crate.below = stamp, lambda each: list(below(each))
+    return kit
+
+
+def main(words):
+    kit = loaded()
+    if kit is None:
+        os.execv(command(), ["rt", *words])
+    sys.argv = [str(command()), *words]
     sys.exit(kit["main"](words))
 
 

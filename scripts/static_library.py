@@ -17,7 +17,7 @@ from kit import loaded
 from program import TOP
 
 NAME = "tardis_c"
-LOOKS = (("def words(self, flags", "cuts_libraries", "def below(self):", "def guarded():"),  # what is taken of the kit
+LOOKS = (("def words(self, flags", "cuts_libraries", "def guarded():"),  # what is taken of the kit, beside kit.py
          ("def copy_crates(root, to)", "def crates_of(root)", "def handles_of(root)", "def prove(self, *commands)",
           "class Kept", "def give(self, crate, tests, key)", "def key(self, crate)", "def is_built(self, crate)"))
 
@@ -41,7 +41,7 @@ def built(kit, crates):
 
 
 def main():
-    kit = loaded(LOOKS)
+    kit = loaded(*LOOKS)
     if kit is None:
         return skip("the kit isn't the one that this was written for")
     kit["rtlib"].guarded()  # its first call wants the main thread

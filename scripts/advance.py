@@ -3,6 +3,8 @@
 
     scripts/advance.py [--whole-words] N TRACE > NEW.trace
 
+TRACE is a file, or - for standard input.
+
 A core that waits for a word loads it again and again. Its time doesn't go on by that, so it may read its old copy for
 ever; advances bring it on (docs/REAL-TRACES.md). The new trace is of form 2 (docs/TEXTS.md). Comments stay, and so do
 advances that are there; these count as no operation. N may be 0: then no advance is put in.
@@ -20,7 +22,7 @@ from program import TOP
 sys.path.insert(0, str(TOP / "examples"))
 from reference.given import Bad, Words, contents, tool  # noqa: E402
 from reference.schedules import ADVANCE  # noqa: E402
-from reference.traces import LINES, Fault, form_of, lines_with_fields, trace_step  # noqa: E402
+from reference.traces import BAD_ADDRESS, LINES, Fault, form_of, lines_with_fields, trace_step  # noqa: E402
 
 WORD, BYTES = 8, 2 ** 64
 ACCESS = re.compile(rb"0x([0-9a-f]{1,16})(?::([1-9][0-9]{0,3}))?")
@@ -67,21 +69,27 @@ def advanced(text, after, whole_words=False):
                 yield b"%d A" % core
 
 
+def new_trace(path, after, whole_words=False):
+    """The text of the new trace."""
+    try:
+        lines = list(advanced(sys.stdin.buffer.read() if path == "-" else contents(path), after, whole_words))
+    except Fault as fault:
+        hint = " (--whole-words rounds addresses)" if fault.kind == BAD_ADDRESS and not whole_words else ""
+        raise Bad(f"{path}: {fault}{hint}") from None
+    if len(lines) > LINES:
+        raise Bad(f"{path}: the new trace has {len(lines)} lines, and a trace has at most {LINES}")
+    return b"".join(line + b"\n" for line in lines)
+
+
 def main(given):
     words = Words(__doc__)
     words.add_argument("N", type=int, help="how many operations of a core lie between two advances; 0 for no advance")
-    words.add_argument("TRACE", help="a trace, as docs/TEXTS.md has it")
+    words.add_argument("TRACE", help="a trace, as docs/TEXTS.md has it, or - for standard input")
     words.add_argument("--whole-words", action="store_true", help="an operation on any bytes becomes some on words")
     options = words.parse_args(given)
     if options.N < 0:
         raise Bad("N isn't a number from 0 on")
-    try:
-        lines = list(advanced(contents(options.TRACE), options.N, options.whole_words))
-    except Fault as fault:
-        raise Bad(f"{options.TRACE}: {fault}") from None
-    if len(lines) > LINES:
-        raise Bad(f"{options.TRACE}: the new trace has {len(lines)} lines, and a trace has at most {LINES}")
-    sys.stdout.buffer.write(b"".join(line + b"\n" for line in lines))
+    sys.stdout.buffer.write(new_trace(options.TRACE, options.N, options.whole_words))
 
 
 if __name__ == "__main__":

@@ -10,6 +10,7 @@ The status is 0 if the run is all done, 1 if it was counted and ended otherwise,
 import re
 import subprocess
 import sys
+from argparse import SUPPRESS, ArgumentTypeError
 
 from program import TOP
 
@@ -138,9 +139,14 @@ def tables(counts, is_shown):
         yield from (line[0].ljust(20) + "".join(word.rjust(wide + 1) for word in line[1:]) for line in lines)
 
 
+def one_run(_):
+    raise ArgumentTypeError("one run is counted: scripts/sweep.py --counts --seed 0..99 makes a table of many")
+
+
 def main(words):
     parser = Words(__doc__)
     parser.run_options()
+    parser.add_argument("--runs", type=one_run, help=SUPPRESS)
     parser.player_option()
     options = parser.parse_args(words)
     given = Given(options.FILE)

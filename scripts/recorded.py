@@ -1,40 +1,28 @@
 #!/usr/bin/env python3
-"""Writes the tables of docs/REAL-TRACES.md and their picture anew from runs of the recorded traces, or tests them.
+"""Writes the tables of docs/REAL-TRACES.md and their picture anew by a sweep of the recorded traces, or tests them.
 
     scripts/recorded.py PROGRAM            writes the tables and docs/pictures/recorded.svg
     scripts/recorded.py --check PROGRAM    says what differs, and fails if something does
 
-PROGRAM is a program that is built. Each trace of examples/traces whose name begins with RECORDED is run in each of the
-ways below. The numbers are those of the program's reports and records; each report and each list of records must
-be the one that examples/oracle.py gives.
+PROGRAM is a program that is built. scripts/sweep.py runs each trace of examples/traces whose name begins with RECORDED
+in each way of examples/traces/record/ways, and a player counts. All that a row has, and the records of its run, must be
+what the second program gives, with its own player.
 """
-import subprocess
+import os
 import sys
 import tempfile
+from concurrent.futures import ThreadPoolExecutor
 from pathlib import Path
 
-TOP = Path(__file__).resolve().parent.parent
+import program
+import sweep
+from catalogue import with_table
+from sweep import words
+
+TOP = program.TOP
 PAGE, PICTURE = TOP / "docs/REAL-TRACES.md", TOP / "docs/pictures/recorded.svg"
-sys.path.insert(0, str(TOP / "examples"))
-
-import oracle  # noqa: E402
-from advance import advanced  # noqa: E402
-from catalogue import with_table  # noqa: E402
-from reference.reports import trace_report  # noqa: E402
-from reference.traces import read_records, record_line  # noqa: E402
-
-# What each way is called in the tables, its options, and how many operations of a core lie between two advances, or 0.
-WAYS = {
-    "lines of one word": ("", 0),
-    "lines of eight words": ("--line-words 8", 0),
-    "lease 1": ("--line-words 8 --lease 1", 0),
-    "lease 100": ("--line-words 8 --lease 100", 0),
-    "private writes": ("--line-words 8 --private-write", 0),
-    "advance.py 1": ("--line-words 8", 1),
-    "advance.py 10": ("--line-words 8", 10),
-    "by seed 0": ("--line-words 8 --schedule seed", 0),
-    "by seed 0, lease 1": ("--line-words 8 --schedule seed --lease 1", 0),
-}
+WAYS, TRACES = TOP / "examples/traces/record/ways", sorted((TOP / "examples/traces").glob("RECORDED-*.trace"))
+SECOND = str(TOP / "examples/oracle.py")
 # The messages that are counted, each with its colour in the picture.
 COUNTED = {"renewals": "#3b7dd8", "upgrades": "#8d6bc7", "flushes": "#d8663b", "write-backs": "#e0b13c"}
 HEAD = ["| Options | Renewals | Upgrades | Flushes | Write-backs | Stale hits | Last time |",
@@ -43,92 +31,85 @@ HEAD = ["| Options | Renewals | Upgrades | Flushes | Write-backs | Stale hits | 
 LEFT, WIDTH, BAR, STEP, PANEL = 170, 300, 14, 20, 570
 
 
-def by_oracle(trace, options):
-    """The report and the text of the records that the oracle gives."""
-    kept = []
-    report, _ = trace_report(oracle.read_trace(trace), oracle.words().parse_args(["trace", *options, str(trace)]),
-                             after=lambda run, *_: kept.extend(run.machine.records))
-    return report, "".join(record_line(record) + "\n" for record in kept)
+def swept(made_by, table, *player):
+    """The rows of the sweep by this program, and the records of each."""
+    os.environ["TARDIS"] = made_by
+    given = ["--named", str(WAYS), "--csv", table, "--counts", *player]
+    options = sweep.parser().parse_args([*given, *map(str, TRACES)])
+    rows = sweep.sweep(options, sweep.Sweep(options))
+    with ThreadPoolExecutor(os.cpu_count()) as pool:
+        return rows, list(pool.map(records, rows))
 
 
-class Run:
-    """What the program says of a trace that is run with some options, and whether the oracle says the same."""
-
-    def __init__(self, program, trace, options):
-        report, records = (subprocess.run([program, "trace", *options, *more, trace], capture_output=True, text=True,
-                                          check=True).stdout for more in ([], ["--records"]))
-        self.agrees = (report, records) == by_oracle(trace, options)
-        self.said = dict(line.split(" ", 1) for line in report.splitlines())
-        self.last = max(record.time for record in read_records(records.encode("ascii")))
-
-    def number(self, name):
-        return int(self.said[name])
-
-    def row(self, way):
-        cells = [way, *(self.said[name] for name in (*COUNTED, "stale-hits")), str(self.last)]
-        return "| " + " | ".join(cells) + " |"
+def records(row):
+    with sweep.file_of(row["trace"], row) as file:
+        return program.run("trace", "--records", *sweep.options_of(row), file)
 
 
-def runs_of(program, path):
-    """The runs of a trace, by what the ways are called."""
-    runs = {}
-    for way, (options, after) in WAYS.items():
-        with tempfile.NamedTemporaryFile(suffix=".trace") as trace:
-            trace.write(b"".join(line + b"\n" for line in advanced(path.read_bytes(), after)))
-            trace.flush()
-            runs[way] = Run(program, trace.name, options.split())
-    return runs
+def differ(row, its_records, other, other_records):
+    """In what two programs differ: the columns, but for who made them, and the records. A row that failed is one."""
+    found = [name for name in row if name != "program" and row[name] != other[name]]
+    return found + ["records"] * (its_records != other_records) + ["failed"] * bool(row["failed"])
 
 
-def words(x, y, text, more=""):
-    return f'<text x="{x:g}" y="{y:g}"{more}>{text}</text>'
+def table_row(row):
+    return "| " + " | ".join(row[name] for name in ("name", *COUNTED, "stale-hits", "last-time")) + " |"
 
 
-def bars(runs, left, top, most):
+def bars(rows, left, top, most):
     """The bars of a trace: the messages of each run, one kind behind the other, and its stale hits."""
-    for place, (way, run) in enumerate(runs.items()):
+    for place, row in enumerate(rows):
         x, y = left + LEFT, top + place * STEP
-        yield words(x - 8, y + BAR - 3, way, ' text-anchor="end"')
+        yield words(x - 8, y + BAR - 3, row["name"], "end")
         for name, colour in COUNTED.items():
-            wide = run.number(name) * WIDTH / most
+            wide = int(row[name]) * WIDTH / most
             yield f'<rect x="{x:.1f}" y="{y}" width="{wide:.1f}" height="{BAR}" fill="{colour}"/>'
             x += wide
-        yield words(x + 6, y + BAR - 3, f"{run.said['stale-hits']} stale hits", ' fill="#666"')
+        yield words(x + 6, y + BAR - 3, f"{row['stale-hits']} stale hits", more=' fill="#666"')
 
 
 def picture(traces):
-    most = max(sum(map(run.number, COUNTED)) for runs in traces.values() for run in runs.values())
-    height = 50 + (len(traces) + 1) // 2 * (len(WAYS) * STEP + 60)
-    lines = [f'<svg xmlns="http://www.w3.org/2000/svg" width="{2 * PANEL}" height="{height}" '
-             'font-family="sans-serif" font-size="12">', f'<rect width="{2 * PANEL}" height="{height}" fill="white"/>']
+    most = max(sum(int(row[name]) for name in COUNTED) for rows in traces.values() for row in rows)
+    panel = max(map(len, traces.values())) * STEP + 60
+    height = 50 + (len(traces) + 1) // 2 * panel
+    yield f'<svg xmlns="http://www.w3.org/2000/svg" width="{2 * PANEL}" height="{height}" font-family="sans-serif" ' \
+          'font-size="12">'
+    yield f'<rect width="{2 * PANEL}" height="{height}" fill="white"/>'
     for place, (name, colour) in enumerate(COUNTED.items()):
-        lines.append(f'<rect x="{LEFT + 130 * place}" y="14" width="12" height="12" fill="{colour}"/>')
-        lines.append(words(LEFT + 18 + 130 * place, 25, name))
-    for place, (name, runs) in enumerate(traces.items()):
-        left, top = place % 2 * PANEL, 70 + place // 2 * (len(WAYS) * STEP + 60)
-        lines.append(words(left + LEFT, top - 8, name, ' font-weight="bold"'))
-        lines += bars(runs, left, top, most)
-    return "\n".join([*lines, "</svg>"]) + "\n"
+        yield f'<rect x="{LEFT + 130 * place}" y="14" width="12" height="12" fill="{colour}"/>'
+        yield words(LEFT + 18 + 130 * place, 25, name)
+    for place, (name, rows) in enumerate(traces.items()):
+        left, top = place % 2 * PANEL, 70 + place // 2 * panel
+        yield words(left + LEFT, top - 8, name, more=' font-weight="bold"')
+        yield from bars(rows, left, top, most)
+    yield "</svg>"
+
+
+def written(rows, check):
+    """Writes the page and the picture of these rows, or says which of them differs."""
+    traces, page = {path.stem: [] for path in TRACES}, PAGE.read_text(encoding="utf-8")
+    for row in rows:
+        traces[Path(row["trace"]).stem].append(row)
+    for name, of in traces.items():
+        page = with_table(page, name, HEAD + list(map(table_row, of)))
+    for path, text in ((PAGE, page), (PICTURE, "\n".join(picture(traces)) + "\n")):
+        if check and (not path.exists() or path.read_text(encoding="utf-8") != text):
+            yield f"{path.relative_to(TOP)} differs (scripts/recorded.py writes it)"
+        elif not check:
+            path.write_text(text, encoding="utf-8")
 
 
 def main(given):
     check, programs = given[:1] == ["--check"], [word for word in given if word != "--check"]
     if len(programs) != 1:
         return __doc__
-    traces = {path.stem: runs_of(Path(programs[0]).absolute(), path)
-              for path in sorted((TOP / "examples/traces").glob("RECORDED-*.trace"))}
-    faults = [f"{name}, {way}: the program and examples/oracle.py differ"
-              for name, runs in traces.items() for way, run in runs.items() if not run.agrees]
-    new = PAGE.read_text(encoding="utf-8")
-    for name, runs in traces.items():
-        new = with_table(new, name, HEAD + [run.row(way) for way, run in runs.items()])
-    for path, text in ((PAGE, new), (PICTURE, picture(traces))):
-        if check and (not path.exists() or path.read_text(encoding="utf-8") != text):
-            faults.append(f"{path.relative_to(TOP)} differs (scripts/recorded.py writes it)")
-        elif not check:
-            path.write_text(text, encoding="utf-8")
-    said = f"{len(traces)} traces, each run in {len(WAYS)} ways: the program and examples/oracle.py say the same"
-    print("\n".join(faults) or said)
+    with tempfile.TemporaryDirectory() as folder:
+        first = swept(os.path.abspath(programs[0]), f"{folder}/first.csv")
+        second = swept(SECOND, f"{folder}/second.csv", "--player", str(TOP / "examples/play.py"))
+    faults = [f"{Path(row['trace']).stem}, {row['name']}: the programs differ in {', '.join(names)}"
+              for row, *other in zip(*first, *second) if (names := differ(row, *other))]
+    faults = faults or list(written(first[0], check))
+    print("\n".join(faults) or f"{len(TRACES)} traces, {len(first[0])} runs: the two programs say the same")
     return int(bool(faults))
 
 

@@ -1,13 +1,17 @@
 #!/usr/bin/env python3
 """Runs traces with all combinations of options, and writes a table and a plot (docs/SCALING.md, Many options).
 
-    scripts/sweep.py [--csv TABLE] [--counts] [--plot X:Y [--svg PICTURE]] [--jobs N] [options] TRACE ..
+    scripts/sweep.py [--csv TABLE] [--counts] [--plot X:Y [--svg PICTURE]] [--jobs N] [--named FILE] [options] TRACE ..
 
 An option has a list of values, as --lease 1..100 or --line-words 1,8 or --banks 1,2,4..8; --schedule and
---private-write have words, as --private-write both. What isn't named is as the program has it. TABLE (sweep.csv) gets a
-row for each trace and combination: the options, the lines of the program's report, with --counts the rows of
-docs/COUNTS.md, and the program's file. A run that fails has a row, too, which says why in its last column. A row that TABLE has already isn't
-made again. PICTURE (TABLE's name with .svg) shows column Y over column X: a line for each combination of the others.
+--private-write have words, as --private-write both. What isn't named is as the program has it. --advance N has an
+advance after each N operations of a core (scripts/advance.py). A line of FILE has a name, a colon, and options with
+lists, which stand in place of those that are given here: then the combinations of each line are run.
+
+TABLE (sweep.csv) gets a row for each trace and combination: its name in FILE, the options, the lines of the program's
+report, with --counts the rows of docs/COUNTS.md, and the program's file. A run that fails has a row, too, which says
+why in its last column. A row that TABLE has already isn't made again. PICTURE (TABLE's name with .svg) shows column Y
+over column X: a line for each name, or for each combination of the others.
 
 The program is what TARDIS names, else the one that ./tardis built, else examples/oracle.py. With --counts a player
 counts (scripts/counts.py). N runs are made at a time, as many as there are processors if it isn't given.
@@ -15,24 +19,30 @@ The status is 0 if each row has a run that is all done, 1 if not, and 2 if nothi
 """
 import csv
 import io
+import math
 import os
 import re
+import shlex
 import sys
+import tempfile
+from argparse import Namespace
 from concurrent.futures import ThreadPoolExecutor
+from contextlib import contextmanager
 from itertools import product
 from pathlib import Path
-from types import SimpleNamespace
 from xml.sax.saxutils import escape
 
 import counts
 import program
+from advance import new_trace
 from program import Refused
-from reference.given import NUMBERS, Bad, Words, tool
+from reference.given import NUMBERS, Bad, Words, contents, tool
 from reference.machine import COUNTED
 from shown.played import player_of
 
 CHOICES = {"schedule": ("round", "seed"), "private-write": ("no", "yes")}
-OPTIONS = ("schedule", *NUMBERS, "private-write")
+LISTED = {**NUMBERS, "advance": (0, "an advance after each so many operations of a core, or none")}
+OPTIONS = ("schedule", *NUMBERS, "private-write", "advance")
 REPORT = ("cores", "issued", "completed", "end", "loads", "stores", "swaps", *COUNTED.values(), "stale-hits", "order")
 # The rows of docs/COUNTS.md: first those that a report has, too, with what must be the same there.
 SAME = {"loads": "loads", "stores": "stores", "swaps": "swaps", "stale-hits": "stale-hits",
@@ -75,24 +85,49 @@ def parser():
     words.add_argument("--plot", metavar="X:Y", help="the columns that are drawn")
     words.add_argument("--svg", metavar="PICTURE", help="the picture (TABLE's name with .svg)")
     words.add_argument("--jobs", type=int, default=os.cpu_count(), metavar="N", help="so many runs at a time")
+    words.add_argument("--named", metavar="FILE", help="names with options, one a line")
     words.player_option()
-    for name, (usual, says) in NUMBERS.items():
+    return with_lists(words)
+
+
+def with_lists(words):
+    for name, (usual, says) in LISTED.items():
         words.add_argument("--" + name, default=str(usual), metavar="LIST", help=f"{says} ({usual})")
     for name, choices in CHOICES.items():
         words.add_argument("--" + name, default=choices[0], metavar="LIST", help=f"{', '.join(choices)}, or both")
     return words
 
 
+def named_options(options):
+    """The options by their names; without a file of names there are those that are given, which have none."""
+    if not options.named:
+        return {None: options}
+    found = {}
+    for number, line in enumerate(contents(options.named).decode(errors="replace").splitlines(), 1):
+        name, colon, said = map(str.strip, line.partition("#")[0].partition(":"))
+        try:
+            if name and colon and name not in found:
+                found[name] = with_lists(Words("")).parse_args(shlex.split(said), Namespace(**vars(options)))
+            elif name or colon:
+                raise Bad("a new name, a colon and options are wanted")
+        except (Bad, ValueError) as cause:
+            raise Bad(f"{options.named}, line {number}: {cause}") from None
+    if not found:
+        raise Bad(f"{options.named} has no name")
+    return found
+
+
 def combinations(options):
-    """Each combination of the values of all options, by their names."""
-    lists = [words_of(value, CHOICES[name]) if name in CHOICES else values_of(value)
-             for name, value in ((name, getattr(options, name.replace("-", "_"))) for name in OPTIONS)]
-    count = len(traces_of(options))
-    for values in lists:
-        count *= len(values)
-    if count > MOST_ROWS:
-        raise Bad(f"{count:,} rows are too many: {MOST_ROWS:,} at most")
-    return [dict(zip(OPTIONS, values)) for values in product(*lists)]
+    """Each combination of the values of all options, by the options' names, and with its own if it has one."""
+    found, count = [], 0
+    for own, given in named_options(options).items():
+        lists = [words_of(value, CHOICES[name]) if name in CHOICES else values_of(value)
+                 for name, value in ((name, getattr(given, name.replace("-", "_"))) for name in OPTIONS)]
+        count += math.prod(map(len, [traces_of(options), *lists]))
+        if count > MOST_ROWS:
+            raise Bad(f"{count:,} rows are too many: {MOST_ROWS:,} at most")
+        found += [dict(zip(OPTIONS, values)) | ({"name": own} if own else {}) for values in product(*lists)]
+    return found
 
 
 def traces_of(options):
@@ -105,39 +140,57 @@ def made_by():
     return program.program().removeprefix(f"{program.TOP}/")
 
 
+@contextmanager
+def file_of(trace, chosen):
+    """The file that is run: the trace's, or another one while it has advances."""
+    path = f"./{trace}" if trace.startswith("-") else trace
+    if chosen["advance"] == "0":
+        yield path
+        return
+    with tempfile.NamedTemporaryFile(suffix=".trace") as file:
+        file.write(new_trace(path, int(chosen["advance"])))
+        file.flush()
+        yield file.name
+
+
+def options_of(chosen):
+    """The program's own options."""
+    words = [word for name, value in chosen.items() if name in ("schedule", *NUMBERS) for word in ("--" + name, value)]
+    return words + ["--private-write"] * (chosen["private-write"] == "yes")
+
+
 class Sweep:
     """Makes rows: a row has a text for each column."""
 
     def __init__(self, options):
         self.traces, self.counts = traces_of(options), options.counts
-        self.columns = ["trace", *OPTIONS, *REPORT, *(COUNTS if self.counts else []), "program", "failed"]
+        self.columns = ["trace", *["name"] * bool(options.named), *OPTIONS, *REPORT, *(COUNTS if self.counts else []),
+                        "program", "failed"]
         self.player, _ = player_of(options) if self.counts else (None, None)
-        self.given = {}  # by trace what the player is given
+        self.given = {}  # by trace and advances what the player is given
 
     def row(self, trace, chosen):
         row = dict.fromkeys(self.columns, "") | {"trace": trace, "program": made_by()} | chosen
         try:
-            row |= self.report(trace, chosen)
-            row |= self.counted(trace, chosen, row) if self.counts else {}
+            with file_of(trace, chosen) as file:
+                row |= self.report(file, chosen)
+                row |= self.counted((trace, chosen["advance"]), file, row) if self.counts else {}
         except (Bad, Refused) as cause:
             row["failed"] = str(cause).replace("\n", " ") or "the program prints nothing"
         return row
 
-    def report(self, trace, chosen):
-        words = [word for name, value in chosen.items() if name != "private-write" for word in ("--" + name, value)]
-        words += ["--private-write"] * (chosen["private-write"] == "yes")
-        file = f"./{trace}" if trace.startswith("-") else trace
-        lines = dict(line.split(" ", 1) for line in program.run("trace", *words, file).splitlines())
+    def report(self, file, chosen):
+        lines = dict(line.split(" ", 1) for line in program.run("trace", *options_of(chosen), file).splitlines())
         if not set(REPORT) <= lines.keys():
             raise Bad("the program prints no report")
         return {name: lines[name] for name in REPORT}
 
-    def counted(self, trace, chosen, row):
-        values = {name.replace("-", "_"): value if name in CHOICES else int(value) for name, value in chosen.items()}
-        options = SimpleNamespace(**values | {"private_write": chosen["private-write"] == "yes"})
-        if trace not in self.given:
-            self.given[trace] = counts.Given(trace)
-        found = counts.counted(self.player, self.given[trace], options)
+    def counted(self, key, file, row):
+        values = {name.replace("-", "_"): int(row[name]) for name in NUMBERS}
+        options = Namespace(**values, schedule=row["schedule"], private_write=row["private-write"] == "yes")
+        if key not in self.given:
+            self.given[key] = counts.Given(file)
+        found = counts.counted(self.player, self.given[key], options)
         totals = found.totals()
         if found.end != row["end"] or any(str(totals[name]) != row[column] for name, column in SAME.items()):
             raise Bad("the program and the player differ")
@@ -169,7 +222,7 @@ class Table:
         self.rows[self.key(row)] = row
 
     def key(self, row):
-        return tuple(row.get(name) for name in ("trace", *OPTIONS))
+        return tuple(row.get(name) for name in ("trace", "name", *OPTIONS))
 
     def write(self, text, how):
         try:
@@ -214,13 +267,15 @@ def tell(number, what, is_last):
 
 def series(rows, x, y):
     """The points of each line of the plot, by what is said of it: the columns that differ, but for x."""
-    names = [name for name in ("trace", *OPTIONS) if name != x and len({row[name] for row in rows}) > 1]
+    apart = ("trace", "name") if "name" in rows[0] else ("trace", *OPTIONS)
+    names = [name for name in apart if name != x and len({row[name] for row in rows}) > 1]
     traces = {row["trace"] for row in rows}
     short = Path.stem.fget if len({Path(trace).stem for trace in traces}) == len(traces) else str
     found = {}
     for row in rows:
         if re.fullmatch("[0-9]+", row[x]) and re.fullmatch("[0-9]+", row[y]):
-            said = ", ".join(short(Path(row[name])) if name == "trace" else f"{name} {row[name]}" for name in names)
+            said = ", ".join(short(Path(row[name])) if name == "trace" else f"{name} {row[name]}".removeprefix("name ")
+                             for name in names)
             found.setdefault(said or y, []).append((int(row[x]), int(row[y])))
     return {said: sorted(points) for said, points in found.items()}
 

@@ -37,15 +37,16 @@ CASES = [
     ("--whole-words 1", "trace 2\n0 A\n0 R 0x6:3\n", "trace 2\n0 A\n0 R 0x0\n0 A\n0 R 0x8\n0 A\n"),
     ("--whole-words 2", "0 R 0x6:4\n1 R 0x1\n", "trace 2\n0 R 0x0\n0 R 0x8\n0 A\n1 R 0x0\n"),
 ]
+HINT = " (--whole-words rounds addresses)"
 # The words, the trace, and what standard error says behind the trace's name.
 FAULTS = [
-    ("1", "0 R 0x0\n0 R 0x4\n", "line 2: 6 BadAddress"),
-    ("1", "0 R 0x8:4\n", "line 1: 6 BadAddress"),
+    ("1", "0 R 0x0\n0 R 0x4\n", f"line 2: 6 BadAddress{HINT}"),
+    ("1", "0 R 0x8:4\n", f"line 1: 6 BadAddress{HINT}"),
     ("1", "0 R 0x0\n16 R 0x0\n", "line 2: 4 BadCore"),
     ("1", "0 R 0x0\ntrace 2\n", "line 2: 4 BadCore"),
     ("1", "\n0 A\n", "line 2: 5 BadOperation"),
     ("0", "trace 3\n", "line 1: 9 BadForm"),
-    ("1", "0 R 0x0\r\n", "line 1: 6 BadAddress"),
+    ("1", "0 R 0x0\r\n", f"line 1: 6 BadAddress{HINT}"),
     ("1", "0 W 0x0\n", "line 1: 7 BadValue"),
     ("1", "#" * 257, "line 1: 3 TooLong"),
     ("--whole-words 0", "0 R 0x4:9\n0 R 0x4:0\n", "line 2: 6 BadAddress"),
@@ -80,6 +81,10 @@ def main(program):
     for words, text, fault in FAULTS:
         got = tester.run(*words.split(), "/dev/stdin", text=text.encode())
         tester.expect(got == (2, "", f"advance.py: /dev/stdin: {fault}\n"), f"{words} of {text!r}: {got}, not {fault}")
+    got = tester.run("1", "-", text=b"0 R 0x0\n")
+    tester.expect(got == (0, "trace 2\n0 R 0x0\n0 A\n", ""), f"standard input: {got}")
+    got = tester.run("1", "-", text=b"0 R 0x4\n")
+    tester.expect(got == (2, "", f"advance.py: -: line 1: 6 BadAddress{HINT}\n"), f"a fault of standard input: {got}")
     for words in (["1"], ["x", "/dev/null"], ["-1", "/dev/null"], ["1", "/dev/null", "--no-such"], ["1", "no-such"]):
         status, out, error = tester.run(*words)
         tester.expect((status, out, error.count("\n")) == (2, "", 1), f"{words}: {status} {out!r} {error!r}")

@@ -1,7 +1,7 @@
 #!/usr/bin/env python3
 """Tries scripts/counts.py: tests/counts.py PLAYER, the built crate play_events.
 
-Twelve runs were counted by hand from docs/COUNTS.md, PROTOCOL.md and SCHEDULES.md. Then the player and the second
+Sixteen runs were counted by hand from docs/COUNTS.md, PROTOCOL.md and SCHEDULES.md. Then the player and the second
 program's, which counts by the same pages, count random traces on random machines, and litmus tests by seeds. The last
 line is `N tried, M wrong`.
 """
@@ -52,6 +52,13 @@ BY_HAND = {
                  "loads 2 0 2; stores 1 1 0; hits 1 0 1; misses 2 1 1; last-time 1 1 1; recalls 1 1; ShReq 1 0 1 1; "
                  "ShRep 1 0 1 1; ExReq 1 1 0 1; ExRep 1 1 0 1; WbReq 1 1 0 1; WbRep 1 1 0 1; DramLd 1 0 0 1; "
                  "DramLdRep 1 0 0 1"),
+    # Core 1 asks at time 5, in the round in which core 0's store completes; so the bank recalls the line. In the next
+    # round core 0 gives it back to make place, before that message is delivered.
+    "a recall that is dropped": (
+        "trace 2\n0 W 0x0 1\n0 R 0x8\n" + "1 A\n" * 5 + "1 R 0x0\n", "--sets 1 --ways 1", "all-done 12 47",
+        "loads 2 1 1; stores 1 1 0; misses 3 2 1; evicted-copies 1 1 0; last-time 5 1 5; recalls 1 1; ShReq 2 1 1 2; "
+        "ShRep 2 1 1 2; ExReq 1 1 0 1; ExRep 1 1 0 1; WbReq 1 1 0 1; FlushRep 1 1 0 1; DramLd 2 0 0 2; "
+        "DramLdRep 2 0 0 2"),
     "a copy that makes place": ("0 R 0x0\n0 R 0x8\n", "--sets 1 --ways 1", "all-done 12 30",
                                 "loads 2 2; misses 2 2; evicted-copies 1 1; ShReq 2 2 2; ShRep 2 2 2; DramLd 2 0 2; "
                                 "DramLdRep 2 0 2"),
@@ -61,6 +68,14 @@ BY_HAND = {
         "loads 1 1; stores 1 1; misses 2 2; last-time 1 1; recalls 1 1; evicted-entries 1 1; ShReq 1 1 1; ExReq 1 1 1; "
         "ShRep 1 1 1; ExRep 1 1 1; FlushReq 1 1 1; FlushRep 1 1 1; DramLd 2 0 2; DramLdRep 2 0 2; DramSt 1 0 1; "
         "DramStRep 1 0 1"),
+    # The second store may keep the time of the first.
+    "a private write": ("0 W 0x0 1\n0 W 0x0 2\n", "--private-write --time 5", "all-done 7 16",
+                        f"stores 2 2; hits 1 1; misses 1 1; last-time 6 6; ExReq 1 1 1; ExRep 1 1 1; {LOAD}"),
+    "two banks": ("0 R 0x8\n", "--banks 2", "all-done 6 14",
+                  "loads 1 1; misses 1 1; ShReq 1 1 0 1; ShRep 1 1 0 1; DramLd 1 0 0 1; DramLdRep 1 0 0 1; "
+                  "dram-loads 1 0 1"),
+    # The request has no room for the message to DRAM that would follow from it.
+    "a network of one message": ("0 W 0x0 1\n", "--messages 1", "stalled 2 5", "ExReq 1 1 1; ExReq-delivered 0 0 0"),
     "a run that is cut": ("0 W 0x0 1\n", "--limit 3", "limit 3 9", f"ExReq 1 1 1; ExReq-delivered 0 0 0; {LOAD}"),
     # docs/SCHEDULES.md has these events. The fourth turn makes none.
     "a test by a seed": ("SB", "--schedule seed --seed 4 --limit 9", "limit 8 8",
@@ -76,9 +91,8 @@ def wanted_of(ended, told_rows):
         name, *numbers = row.split(" ")
         names = [f"{name}-sent", f"{name}-delivered"] if name in counts.KINDS else [name]
         found |= dict.fromkeys(names, numbers)
-    found |= {f"dram-{what}": found[row][:1] + found[row][-1:] for what, row in
-              (("loads", "DramLd-sent"), ("stores", "DramSt-sent")) if row in found}
-    return found
+    return {f"dram-{what}": found[row][:1] + found[row][-1:] for what, row in
+            (("loads", "DramLd-sent"), ("stores", "DramSt-sent")) if row in found} | found
 
 
 class Counter(Tester):
@@ -186,6 +200,7 @@ def refusals(tester):
     tester.refused("no-player: No such file or directory", "--player", "no-player", str(trace))
     tester.refused("the player failed, with status 1", "--player", "false", str(trace))
     tester.refused("invalid choice: 'threads'", *played, "--schedule", "threads", str(trace))
+    tester.refused("one run is counted", *played, "--runs", "5", str(trace))
     _, out, _ = tester.run(*played, "--cores", "1", str(tester.file("0 R 0x0\n1 R 0x8\n")))
     heads = [line.split()[1:] for line in out.splitlines() if line.split()[:1] in (["cores"], ["banks"], ["messages"])]
     wanted = [["all", "core", "1"], ["all", "bank", "0"], ["all", "core", "1", "bank", "0"]]

@@ -46,6 +46,14 @@ TWICE = ("0 W 0x0 1\n0 W 0x0 2\n1 R 0x0\n", "0 0 W 0x0 1 1 0\n0 1 W 0x0 2 2 1\n1
     "wrong value 2", "received 1, and not 2:", "  line 2: 0 1 W 0x0 2 2 1 wrote that",
     "1 is what line 1: 0 0 W 0x0 1 1 0 wrote; it is overwritten by line 2.", "  line 2: 0 1 W 0x0 2 2 1",
     "> line 3: 1 0 R 0x0 1 3 2"])
+# The same by swaps, in a trace with advances: a swap writes, and it receives.
+SWAPS = ("trace 2\n0 A\n0 S 0x0 1\n0 A\n0 S 0x0 2\n1 R 0x0\n", [
+    ("0 0 S 0x0 1 0 1 0\n0 1 S 0x0 2 0 2 1\n1 0 R 0x0 2 2 2\n", [
+        "wrong value 1", "Core 0's swap of 0x0 received 0, and not 1:", "  line 1: 0 0 S 0x0 1 0 1 0 wrote that"]),
+    ("0 0 S 0x0 1 0 1 0\n0 1 S 0x0 2 1 2 1\n1 0 R 0x0 1 2 2\n", [
+        "wrong value 2", "  line 2: 0 1 S 0x0 2 1 2 1 wrote that", "it is overwritten by line 2."]),
+    ("0 1 S 0x0 2 1 2 1\n0 0 S 0x0 1 0 3 0\n1 0 R 0x0 2 2 2\n", [
+        "out of program order 1", "  line 3 of the trace: 0 S 0x0 1"])])
 # Texts that are refused: the end of the file's name, the text, and what must be told.
 PLAIN = "RISCV T\n"
 OPENING = "{ 0:x5=1; 0:x6=x; 1:x6=x; }\n P0 | P1 ;\n"
@@ -110,6 +118,8 @@ def verdicts(tester):
         out = tester.tells([verdict], *map(of_printf, texts.split("|")), is_good=verdict == "legal")
         tester.expect(out.splitlines()[0] == verdict, f"{texts}: {out}, wanted {verdict}")
     tester.tells(TWICE[2], TWICE[0].encode(), TWICE[1].encode())
+    for records, wanted in SWAPS[1]:
+        tester.tells(wanted, SWAPS[0].encode(), records.encode())
     for line, record, wanted in RECORDS:
         records = [*GOOD[:line - 1], record, *GOOD[line:]]
         tester.tells(wanted, MP.encode(), "\n".join(records).encode())

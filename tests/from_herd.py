@@ -23,6 +23,7 @@ FIXED = {"SB+rfi-addrs": ("0:x7", "1:x7")}
 FILTERED = "R+fence.w.w+fence.tso"
 OPENING = "RISCV T\n{ 0:x5=1; 0:x6=x; 0:x8=y; 1:x6=x; }\n P0 | P1 ;\n"
 LOAD, STORE = "lw x7,0(x6)", "sw x5,0(x6)"
+# A cell, or two of which the second is looked at, and what it becomes.
 CELLS = [("lwu x7,0(x6)", LOAD), ("lw.aq.rl t2 , ( x6 )", LOAD), ("sw.rl x5,0(t1)", STORE),
          ("amoor.w.aq x7,zero,(x6)", LOAD), ("amoswap.w.aq.rl x7,x5,(x6)", "amoswap.w.aq x7,x5,(x6)"),
          ("amoswap.w.rl a0,x5,(x6)", "amoswap.w.rl x10,x5,(x6)"),
@@ -30,7 +31,8 @@ CELLS = [("lwu x7,0(x6)", LOAD), ("lw.aq.rl t2 , ( x6 )", LOAD), ("sw.rl x5,0(t1
          ("fence iorw,ow", "fence rw,w"), ("fence i,o", None), ("fence.i", None), ("nop", None),
          ("(* nothing *)", None), ("li x7,0x10", "li x7,16"), ("li x7,010", "li x7,10"),
          ("ori x7,x0,2", "ori x7,x0,2"), ("ori x7,x5,2", "li x7,3"), ("mv x7,x5", "li x7,1"),
-         ("addi x7,x0,5", "li x7,5"), ("xor x7,x5,x5", "li x7,0"), ("andi x7,x5,0", "li x7,0"), ("add x7,x6,x0", None),
+         ("addi x7,x5,5", "li x7,6"), ("xori x7,x5,3", "li x7,2"), ("andi x7,x5,3", "li x7,1"),
+         ("li x9,3|sub x7,x9,x5", "li x7,2"), ("lwu x7,0(x6)|mv x9,x5", "li x9,1"), ("xor x7,x5,x5", "li x7,0"), ("andi x7,x5,0", "li x7,0"), ("add x7,x6,x0", None),
          ("bne x5,x0,L0", None), ("L0: sw x5,0(x6)", STORE)]
 # Cells that are refused, in line 4, or with another cell above them in line 5.
 NO_CELLS = ["lr.w x7,(x6)", "sc.w x7,x5,(x6)", "amoadd.w x7,x5,(x6)", "lw x7,4(x6)", "lw x7,0(x9)",
@@ -102,8 +104,9 @@ def generated(tester, program):
 
 def cells(tester):
     for cell, wanted in CELLS:
-        status, out, error = tester.turned(f"{OPENING} {cell} | ;\n L0: | ;\n{END}")
-        rows = [row.split("|")[0].strip() for row in out.splitlines() if "|" in row][1:]
+        above = "".join(f" {part} | ;\n" for part in cell.split("|"))
+        status, out, error = tester.turned(f"{OPENING}{above} L0: | ;\n{END}")
+        rows = [row.split("|")[0].strip() for row in out.splitlines() if "|" in row][1 + cell.count("|"):]
         good = (status, rows) == (0, [wanted] if wanted else [])
         tester.expect(good, f"{cell}: {status} {rows} {error}, not {wanted}")
     for cell in NO_CELLS:

@@ -16,6 +16,7 @@ from pathlib import Path
 
 TOP = Path(__file__).resolve().parent.parent
 sys.path.insert(0, str(TOP / "examples"))
+import try_rule  # noqa: E402
 from reference.order import check  # noqa: E402
 from reference.traces import Trace, read_records  # noqa: E402
 
@@ -119,8 +120,27 @@ def refusals():
         yield f"{names}: {done.stdout} {done.stderr}"
 
 
+# What drawn trials must have, each value in some of the first 300.
+DRAWN = {"schedule": {"seed", "round", "threads"}, "private_write": {False, True}, "lease": {1, 2, 10}, "banks": {1, 2},
+         "line_words": {1, 8}, "ways": {1, 2}, "bank_ways": {1, 2}}
+
+
+def draws():
+    """What isn't so of drawn trials, and of where they begin."""
+    trials = [try_rule.trial_of(number, []) for number in range(300)]
+    for name, values in DRAWN.items():
+        if {getattr(trial.options, name) for trial in trials} != values:
+            yield f"drawn trials don't have each of {values} for {name}"
+    steps = {step[0] for trial in trials for of in trial.steps for step in of}
+    if steps != {"load", "store", "swap", "advance"} or {len(trial.steps) for trial in trials} != {2, 3}:
+        yield f"drawn programs have {steps}"
+    status, out, _ = ran(WRONG[1][3], "--first", "33")  # a wrong rule that is found before
+    if status != 1 or not 33 <= int(out.partition(": try ")[2].partition(",")[0]):
+        yield f"--first 33: {out.splitlines()[:1]}"
+
+
 def main():
-    wrong = list(refusals())
+    wrong = [*refusals(), *draws()]
     pool = ThreadPoolExecutor(cpu_count())
     for (name, may_be, most, _), of in zip(WRONG, pool.map(lambda rule: ran(rule[3]), WRONG)):
         wrong += [f"{name}: {fault}" for fault in faults(may_be, most, *of)]
@@ -129,7 +149,7 @@ def main():
     for (name, _), (status, out, _) in zip(SOUND, pool.map(lambda rule: ran(rule[1], "--tries", "300"), SOUND)):
         if status or not out.startswith("300 tries: all legal"):
             wrong.append(f"{name}: {status} {out}")
-    print("\n".join([*wrong, f"{10 + len(WRONG) + len(SOUND)} tried, {len(wrong)} wrong"]))
+    print("\n".join([*wrong, f"{12 + len(DRAWN) + len(WRONG) + len(SOUND)} tried, {len(wrong)} wrong"]))
     return int(bool(wrong))
 
 

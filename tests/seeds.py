@@ -62,7 +62,7 @@ def made(tester, program, folder):
         said = json.loads(Path(folder, f"{part:06d}.json").read_text())
         version = said["program"].pop("version")
         named = git("-C", os.path.dirname(program), "describe", "--always", "--dirty")
-        tester.expect(version is None or version in named, f"version {version}")
+        tester.expect(version == (named.strip() or None), f"version {version}, wanted {named}")
         tester.expect(said == {
             "report": {"sha256": sum_of(f"{folder}/{part:06d}.report")}, "seeds": {"first": first, "runs": runs},
             "range": {"first": LAST - 30, "runs": RUNS, "part": part, "parts": 4}, "options": ["--limit", "90"],
@@ -86,6 +86,11 @@ def bad_reports(tester):
             got = merger.run("examples/litmus/SB.report", file.name)
         good = got[0] == 2 and got[1] == "" and got[2].count("\n") == 1 and f"{file.name} isn't" in got[2]
         tester.expect(good and said in got[2], f"a bad report: {got}, wanted {said}")
+    with tempfile.NamedTemporaryFile("w", suffix=".report") as file:
+        file.write(text.replace("renewals 0\n", f"renewals {2 ** 128 - 1}\n"))
+        file.flush()
+        got = merger.run(file.name, file.name)
+    tester.expect(f"\nrenewals {2 ** 128 - 1}\n" in got[1], f"no sum goes on beyond 2^128 - 1: {got}")
 
 
 def git(*words):

@@ -15,6 +15,9 @@ from texts import TOP, Tester, oracle
 
 # Two loads of a word, with three advances between them. The second load, at time 3, asks anew if the lease is below 3.
 RENEWED, ALONE = "trace 2\n0 R 0x0\n0 A\n0 A\n0 A\n0 R 0x0\n", "0 W 0x0 1\n"
+# With lease 1 and an advance after each, the loads are at the times 0 to 3, and the one at time 2 asks anew.
+LOADS, BY_ADVANCE = "0 R 0x0\n" * 4, [("0", "0", "0"), ("1", "1", "3"), ("2", "0", "1")]
+NAMED = "# two\nshort : --lease 1,3\n\nlong: --lease 4 --private-write yes # and one\n"
 # The columns that are looked at, and their rows by lease, for lines of one word.
 LOOKED = ["lease", "line-words", "completed", "end", "renewals", "stale-hits", "order", "hits", "misses", "last-time",
           "turns", "events", "dram-loads", "RenewRep-delivered", "failed"]
@@ -71,6 +74,41 @@ def by_hand(tester):
                            table="none.csv")
     said = [row["failed"] for row in missing]
     tester.expect("read failed" in said[0] and said[1].endswith("line 1: 4 BadCore"), f"no trace: {said}")
+
+
+def advances(tester):
+    """Traces with advances: renewals and the last time of each."""
+    rows = tester.sweep("--csv", "advance.csv", "--counts", "--player", tester.player, "--lease", "1", "--advance",
+                        "0..2", "loads.trace", made=3, rows=3, table="advance.csv")
+    got = [(row["advance"], row["renewals"], row["last-time"]) for row in rows]
+    tester.expect(got == BY_ADVANCE, f"advances: {got}, wanted {BY_ADVANCE}")
+    bad = tester.sweep("--csv", "bad.csv", "--advance", "1", "bad.trace", "none.trace", status=1, made=2, rows=2,
+                       failed=2, table="bad.csv")
+    said = [row["failed"] for row in bad]
+    tester.expect(said == ["bad.trace: line 1: 4 BadCore", "none.trace: No such file or directory"], f"bad: {said}")
+
+
+def names(tester):
+    """The combinations of each line of a file of names, and a plot with a line for each."""
+    Path("names").write_text(NAMED)
+    rows = tester.sweep("--csv", "names.csv", "--named", "names", "--lease", "2", "--time", "5", "--plot",
+                        "lease:renewals", "renewed.trace", made=3, rows=3, table="names.csv")
+    got = [(row["name"], row["lease"], row["private-write"], row["time"], row["renewals"]) for row in rows]
+    wanted = [("short", "1", "no", "5", "1"), ("short", "3", "no", "5", "0"), ("long", "4", "yes", "5", "0")]
+    tester.expect(got == wanted, f"names: {got}, wanted {wanted}")
+    root = xml.parse("names.svg").getroot()
+    said = [text.text for text in root.iter(f"{SVG}text")][-2:]
+    points = [line.get("points") for line in root.iter(f"{SVG}polyline")]
+    tester.expect((said, points) == (["short", "long"], ["220.0,30.0 500.0,430.0", "640.0,430.0"]), f"{said} {points}")
+    for text, wrong in (("one\n", "names, line 1: a new name"), ("a:\n\na:\n", "names, line 3: a new name"),
+                        (":\n", "names, line 1: a new name"), ("# a: b\n", "names has no name"),
+                        ("a: --csv b\n", "names, line 1: unrecognized arguments: --csv b"),
+                        ("a: b.trace\n", "names, line 1: unrecognized"), ("a: 'b\n", "names, line 1: No closing"),
+                        ("a: --lease x\n", "x is no number"),
+                        ("a: --seed 0..999998\nb: --lease 1,2\n", "rows are too many")):
+        Path("names").write_text(text)
+        tester.refused(wrong, "--named", "names", "renewed.trace")
+    tester.refused("none: No such file or directory", "--named", "none", "renewed.trace")
 
 
 def goes_on(tester):
@@ -186,9 +224,9 @@ def main(program, player):
     with tempfile.TemporaryDirectory() as folder:
         os.chdir(folder)
         Path("line").write_text("no table")
-        for name, text in (("renewed", RENEWED), ("alone", ALONE), ("bad", "x\n")):
+        for name, text in (("renewed", RENEWED), ("alone", ALONE), ("loads", LOADS), ("bad", "x\n")):
             Path(f"{name}.trace").write_text(text)
-        for part in (by_hand, goes_on, plot, passed_on, compared, traces_apart, by_the_second, refusals):
+        for part in (by_hand, advances, names, goes_on, plot, passed_on, compared, traces_apart, by_the_second, refusals):
             part(tester)
         os.chdir(TOP)
     print(f"{tester.tried} tried, {tester.wrong} wrong")

@@ -18,7 +18,7 @@ from reference import order, reports  # noqa: E402
 
 # A test of the catalogue, and options; how many seeds from which one on. In the last two some runs aren't all done.
 CASES = [("SB+yes", "", 60, 0), ("MP", "--lease 1", 50, 990), ("2+2W", "--line-words 8", 50, 7),
-         ("PRIVATE", "--private-write", 50, 0),
+         ("PRIVATE", "--private-write", 50, 0), ("SB", "--workers 16", 3, 2 ** 64 - 1),
          ("WRC", "--banks 2 --sets 1 --ways 1", 40, 2 ** 64 - 20), ("LEASE", "--lease 1 --limit 100", 60, 5000),
          ("SB+forall", "--limit 80", 60, 0)]
 NO_FILE, CUT, SB = "none.litmus", "examples/bad/SB-cut.litmus", "examples/litmus/SB.litmus"
@@ -92,6 +92,34 @@ def a_dash(tester):
     tester.expect((status, error) == (0, "") and out.endswith(" ./-x.litmus\n"), f"a dash: {status} {out} {error}")
 
 
+# A program by which the runs up to seed 1,000,002 end as x=0, and those behind it as x=1.
+TWO_ENDS = """#!/bin/sh
+while [ "$1" != --seed ]; do shift; done
+zeros=$((1000003 - $2)) runs=1
+[ "$3" != --runs ] || runs=$4
+[ $zeros -ge 0 ] || zeros=0
+[ $zeros -le $runs ] || zeros=$runs
+printf '%s\\n' 'test T' 'stalled 0' 'limit 0' 'exhausted 0' 'memory 0' "held $((runs - zeros))"
+[ $zeros -eq 0 ] || echo "$zeros x=0"
+[ $zeros -eq $runs ] || echo "$((runs - zeros)) x=1"
+"""
+
+
+def beyond_a_million(tester):
+    """No report has more than 1,000,000 seeds; those behind them are found in the next."""
+    kept = os.environ["TARDIS"]
+    with tempfile.TemporaryDirectory() as folder:
+        program = Path(folder, "program")
+        program.write_text(TWO_ENDS)
+        program.chmod(0o755)
+        os.environ["TARDIS"] = str(program)
+        status, out, error = tester.run("--seeds", "1000010", SB)
+    os.environ["TARDIS"] = kept
+    lines = ["T: 1000010 seeds from 0, 2 ends", "  x=0: 1000003 of 1000010, first by seed 0",
+             "* x=1: 7 of 1000010, first by seed 1000003"]
+    tester.expect((status, error, out.splitlines()[:1] + out.splitlines()[1::2]) == (0, "", lines), f"{out} {error}")
+
+
 def main(program):
     os.environ["TARDIS"] = os.path.abspath(program)
     os.chdir(TOP)
@@ -100,6 +128,7 @@ def main(program):
         tries(tester, *case)
     refusals(tester)
     a_dash(tester)
+    beyond_a_million(tester)
     print(f"{tester.tried} tried, {tester.wrong} wrong")
     return int(tester.wrong > 0)
 

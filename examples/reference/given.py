@@ -32,7 +32,7 @@ class Words(argparse.ArgumentParser):
         super().__init__(description=about, allow_abbrev=False, formatter_class=argparse.RawDescriptionHelpFormatter)
 
     def error(self, message):
-        raise Bad(message)
+        raise Bad(f"{message} (--help tells all)")
 
     def run_options(self):
         """The options of a run, and whose run it is."""

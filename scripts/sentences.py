@@ -1,6 +1,6 @@
 #!/usr/bin/env python3
-"""Lists each sentence of the pages (README.md and the others at the top, docs/*.md, crates/*/README.md) with over 30
-words, and each phrase that pages don't use.
+"""Lists each sentence of the pages (README.md and the others at the top, docs/*.md, crates/*/README.md and
+examples/README.md) with over 30 words, and each phrase that pages don't use.
 
     scripts/sentences.py            lists them, each with its page and line
     scripts/sentences.py --check    does so, and fails if there is one
@@ -16,7 +16,7 @@ from os.path import relpath
 from pathlib import Path
 
 TOP = Path(__file__).resolve().parent.parent
-PAGES = [TOP / name for name in ("README.md", "CONTRIBUTING.md", "GLOSSARY.md")]
+PAGES = [TOP / name for name in ("README.md", "CONTRIBUTING.md", "GLOSSARY.md", "examples/README.md")]
 MOST_WORDS = 30
 ABBREVIATIONS = {"e.g.", "i.e.", "cf.", "vs."}
 # What pages don't say, each with what they say instead.

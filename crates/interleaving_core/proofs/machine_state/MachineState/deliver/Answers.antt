@@ -1,4 +1,4 @@
-use Rattle.std.proofs.Common.{◌≡◌, ℕ, ◌||◌, Result, Ok, Err, IfOk, IsTrue, OnErr, sym, subst, refl, ◌∙◌, arith, set}
+use Rattle.std.proofs.Common.{◌≡◌, ◌||◌, List, Result, Ok, Err, IfOk, OnErr, sym, subst, refl, ◌∙◌, arith, set}
 use Rattle.std.proofs.lemmas.Bool.{false≢true}
 use Rattle.std.specs.Vec.{vec_capacity}
 use Rattle.network.specs.Flight.{SameNetwork}
@@ -13,8 +13,7 @@ use Rattle.machine_table.specs.Transition.{deliver_message}
 use Rattle.interleaving_core.specs.contracts.machine_state.MachineState.{the_view}
 use Rattle.interleaving_core.specs.declared.machine_state.MachineState.TheInside.{Inside}
 use Rattle.interleaving_core.specs.PartChanges.{answer_of, concluded, stops}
-use Rattle.interleaving_core.specs.Reservation.{IsFitted}
-use Rattle.interleaving_core.specs.StepAnswers.{TakesMemory, delivery_asks}
+use Rattle.interleaving_core.specs.Reservation.{IsFitted, owed}
 use Rattle.interleaving_core.proofs.ChangedParts.{delivered, delivery_wanted, set_same}
 use Rattle.interleaving_core.proofs.Endpoints.{bank_delivers, bank_endpoints, bank_has, bank_here, core_delivers}
 use Rattle.interleaving_core.proofs.Endpoints.{core_endpoints, core_has, core_here, dram_asks, dram_delivers, dram_here}
@@ -25,11 +24,12 @@ use Rattle.interleaving_core.proofs.machine_state.MachineState.deliver.Goals as 
 use Rattle.interleaving_core.proofs.machine_state.MachineState.deliver.Goals.{in-Core, in-Bank, in-Dram}
 
 -- what is so of a response that is there, and of one that isn't
-of_ok : {X E : Type 0} (P : X → Type 0) (s r : Result X E) (x : X) → s ≡ r → s ≡ Ok x → IfOk r P → P x
-of_ok P s r x e was is = subst (λ o. IfOk o P) (sym e ∙ was) is
+module _ {X E : Type 0} {s r : Result X E} (same : s ≡ r) where
+  of_ok : (P : X → Type 0) {x : X} → s ≡ Ok x → IfOk r P → P x
+  of_ok P was is = subst (λ o. IfOk o P) (sym same ∙ was) is
 
-of_err : {X E : Type 0} (P : Type 0) (s r : Result X E) (x : E) → s ≡ r → s ≡ Err x → OnErr r P → P
-of_err P s r x e was is = subst (λ o. OnErr o P) (sym e ∙ was) is
+  of_err : {P : Type 0} {x : E} → s ≡ Err x → OnErr r P → P
+  of_err {P = P} was is = subst (λ o. OnErr o P) (sym same ∙ was) is
 
 pub respond-response-requires-clause-case : goal.respond-response-requires-clause-case
 respond-response-requires-clause-case c =
@@ -65,12 +65,10 @@ pub returns-in_err-response-clause-wanted : goal.returns-in_err-response-clause-
 returns-in_err-response-clause-wanted c =
     let m : Machine = the_view c.self.inside in
     let message = c.in-Some.message.now in
-    let s = c.match-message.response in
+    let was = c.in_err-response.was in
     elim c.match-message.branch [
-      | in-Core w ↦ absurd (false≢true (of_err _ s _ _ w.response-is c.in_err-response.was
-          w.respond-response.ensures.sure))
-      | in-Bank w ↦ absurd (false≢true (of_err _ s _ _ w.response-is c.in_err-response.was
-          w.respond-response-in-Bank.ensures.sure))
+      | in-Core w ↦ absurd (false≢true (of_err w.response-is was w.respond-response.ensures.sure))
+      | in-Bank w ↦ absurd (false≢true (of_err w.response-is was w.respond-response-in-Bank.ensures.sure))
       | in-Dram w ↦
           let part = w.index_mut-in-Dram.result.now in
           let read = w.index_mut-in-Dram.ensures.value in
@@ -80,22 +78,20 @@ returns-in_err-response-clause-wanted c =
           (dram_table part message) c.self.inside.flight.capacity c.self.invariant.capacity_is _ c.self.view_is
           (dram_delivers m _ c.self.view_is c.requires c.args.number message c.in-Some.ensures.value w.in-Dram.bank
           w.in-Dram.is part read) _
-          (of_err _ s _ _ w.response-is c.in_err-response.was w.respond-response-in-Dram.ensures.memory c.args.number)
+          (of_err w.response-is was w.respond-response-in-Dram.ensures.memory c.args.number)
     ]
 
 pub returns-in_err-response-clause-store : goal.returns-in_err-response-clause-store
 returns-in_err-response-clause-store c =
     let m : Machine = the_view c.self.inside in
-    let s = c.match-message.response in
+    let was = c.in_err-response.was in
     elim c.match-message.branch [
-      | in-Core w ↦ absurd (false≢true (of_err _ s _ _ w.response-is c.in_err-response.was
-          w.respond-response.ensures.sure))
-      | in-Bank w ↦ absurd (false≢true (of_err _ s _ _ w.response-is c.in_err-response.was
-          w.respond-response-in-Bank.ensures.sure))
+      | in-Core w ↦ absurd (false≢true (of_err w.response-is was w.respond-response.ensures.sure))
+      | in-Bank w ↦ absurd (false≢true (of_err w.response-is was w.respond-response-in-Bank.ensures.sure))
       | in-Dram w ↦ dram_asks m _ c.self.view_is c.requires c.args.number c.in-Some.message.now
           c.in-Some.ensures.value w.in-Dram.bank w.in-Dram.is w.index_mut-in-Dram.result.now
           w.index_mut-in-Dram.ensures.value _
-          (of_err _ s _ _ w.response-is c.in_err-response.was w.respond-response-in-Dram.ensures.sure)
+          (of_err w.response-is was w.respond-response-in-Dram.ensures.sure)
     ]
 
 pub invariant_of-self-2 : goal.invariant_of-self-2
@@ -103,30 +99,26 @@ invariant_of-self-2 c =
     let m : Machine = the_view c.self.inside in
     let flight = c.conclude.new.flight in
     let Fits : Inside → Type 0 = λ i. SameNetwork i.flight flight →
-        IsFitted i.config flight i.cores.items i.records.items (vec_capacity i.records) in
-    let kept = λ (set_up : SameNetwork c.self.inside.flight flight).
-        still_fitted m.config c.self.inside.flight c.self.inside.cores.items c.self.inside.records.items _
-        c.self.invariant flight c.self.inside.cores.items c.self.inside.records.items
-        (vec_capacity c.self.inside.records) set_up c.self.invariant.reserved in
+    IsFitted i.config flight i.cores.items i.records.items (vec_capacity i.records) in
+    let fitted = λ (cores : List CoreState) (same : owed cores ≡ owed m.cores)
+    (set_up : SameNetwork c.self.inside.flight flight).
+    still_fitted m.config c.self.inside.flight m.cores c.self.inside.records.items _ c.self.invariant flight cores
+    c.self.inside.records.items (vec_capacity c.self.inside.records) set_up
+    (omega (arith, same, c.self.invariant.reserved)) in
     let fits : Fits c.match-message.self-inside = elim c.match-message.branch [
       | in-Core w ↦
-          let message = c.in-Some.message.now in
+          let k = w.in-Core.core in
           let part = w.index_mut.result.now in
-          let new = w.respond-response.new.part in
-          let here = core_here m _ c.self.view_is c.requires c.args.number message c.in-Some.ensures.value
-          w.in-Core.core w.in-Core.is part w.index_mut.ensures.value in
-          let responds = of_ok _ c.match-message.response _ c.in_ok-response.field-0 w.response-is
-          c.in_ok-response.was w.respond-response.ensures.done c.args.number in
-          let kept_op = subst (λ (x : Answer × CoreState × Mail). x.1.open_op ≡ part.open_op) (sym responds)
-          (kept_open part m.mail _ (core_only part message c.self.inside.flight.capacity m.mail c.args.number)) in
-          let same = owed_kept m.cores w.in-Core.core part new here kept_op in
-          subst Fits (sym w.self-inside-is) (λ set_up.
-          still_fitted m.config c.self.inside.flight c.self.inside.cores.items c.self.inside.records.items _
-          c.self.invariant flight (set c.self.inside.cores.items w.in-Core.core new) c.self.inside.records.items
-          (vec_capacity c.self.inside.records) set_up
-          (omega (arith, same, c.self.invariant.reserved)))
-      | in-Bank w ↦ subst Fits (sym w.self-inside-is) kept
-      | in-Dram w ↦ subst Fits (sym w.self-inside-is) kept
+          let here = core_here m _ c.self.view_is c.requires c.args.number c.in-Some.message.now
+          c.in-Some.ensures.value k w.in-Core.is part w.index_mut.ensures.value in
+          let kept = subst (λ (x : Answer × CoreState × Mail). x.1.open_op ≡ part.open_op)
+          (sym (of_ok w.response-is _ c.in_ok-response.was w.respond-response.ensures.done c.args.number))
+          (kept_open part m.mail _ (core_only part c.in-Some.message.now c.self.inside.flight.capacity m.mail
+          c.args.number)) in
+          subst Fits (sym w.self-inside-is) (fitted (set m.cores k w.respond-response.new.part)
+          (owed_kept m.cores k part w.respond-response.new.part here kept))
+      | in-Bank w ↦ subst Fits (sym w.self-inside-is) (fitted m.cores refl)
+      | in-Dram w ↦ subst Fits (sym w.self-inside-is) (fitted m.cores refl)
     ] in
     fits c.conclude.ensures.set_up
 
@@ -141,18 +133,18 @@ returns-clause-done c =
     let mail = c.conclude.new.flight.mail in
     let stopped = c.conclude.new.is_stopped in
     let response = c.in_ok-response.field-0 in
-    let s = c.match-message.response in
+    let was = c.in_ok-response.was in
     let Made : Inside → Type 0 = λ i. (told, mail) ≡ concluded i.flight.mail n response →
-        stopped ≡ (stops told || i.is_stopped) →
-        ◌≡◌ {A = Answer × Machine}
-        (told, the_view (record i { flight = c.conclude.new.flight; is_stopped = stopped }))
-        (deliver_message c.args.self.now n (at_number n c.args.self.now.mail.messages)) in
+    stopped ≡ (stops told || i.is_stopped) →
+    ◌≡◌ {A = Answer × Machine}
+    (told, the_view (record i { flight = c.conclude.new.flight; is_stopped = stopped }))
+    (deliver_message c.args.self.now n (at_number n c.args.self.now.mail.messages)) in
     let made : Made c.match-message.self-inside = elim c.match-message.branch [
       | in-Core w ↦
           let k = w.in-Core.core in
           let part = w.index_mut.result.now in
           let read = w.index_mut.ensures.value in
-          let responds = of_ok _ s _ response w.response-is c.in_ok-response.was w.respond-response.ensures.done n in
+          let responds = of_ok w.response-is _ was w.respond-response.ensures.done n in
           subst Made (sym w.self-inside-is) (λ concludes stop.
           delivered m (λ x. set m.cores k x) (λ x. m.banks) (λ x. m.drams) part
           (set_same m.cores k part (core_here m _ c.self.view_is c.requires n message there k w.in-Core.is part read))
@@ -163,8 +155,7 @@ returns-clause-done c =
           let k = w.in-Bank.bank in
           let part = w.index_mut-in-Bank.result.now in
           let read = w.index_mut-in-Bank.ensures.value in
-          let responds = of_ok _ s _ response w.response-is c.in_ok-response.was
-          w.respond-response-in-Bank.ensures.done n in
+          let responds = of_ok w.response-is _ was w.respond-response-in-Bank.ensures.done n in
           subst Made (sym w.self-inside-is) (λ concludes stop.
           delivered m (λ x. m.cores) (λ x. set m.banks k x) (λ x. m.drams) part refl
           (set_same m.banks k part (bank_here m _ c.self.view_is c.requires n message there k w.in-Bank.is part read))
@@ -175,8 +166,7 @@ returns-clause-done c =
           let k = w.in-Dram.bank in
           let part = w.index_mut-in-Dram.result.now in
           let read = w.index_mut-in-Dram.ensures.value in
-          let responds = of_ok _ s _ response w.response-is c.in_ok-response.was
-          w.respond-response-in-Dram.ensures.done n in
+          let responds = of_ok w.response-is _ was w.respond-response-in-Dram.ensures.done n in
           subst Made (sym w.self-inside-is) (λ concludes stop.
           delivered m (λ x. m.cores) (λ x. m.banks) (λ x. set m.drams k x) part refl refl
           (set_same m.drams k part (dram_here m _ c.self.view_is c.requires n message there k w.in-Dram.is part read))

@@ -1,12 +1,12 @@
 -- What parts send goes between nodes of its kind, and messages in flight find their part.
-use Rattle.std.proofs.Common.{◌≡◌, ℕ, ◌+◌, ◌<◌, ◌≤◌, ◌%◌, ◌++◌, Bool, true, false, cond, List, [], ◌∷◌, length}
+use Rattle.std.proofs.Common.{◌≡◌, ℕ, ◌+◌, ◌<◌, ◌≤◌, ◌%◌, ◌++◌, Bool, true, false, cond, List, [], ◌∷◌, length, get_or}
 use Rattle.std.proofs.Common.{Option, Some, None, Result, Ok, Err, OnErr, IsTrue, refl, sym, ap, ◌∙◌, subst, arith}
 use Rattle.std.specs.List.{slice_get, AllByRecursion as Each}
 use Rattle.std.specs.Ordering.{nat_cmp}
 use Rattle.std.specs.FinMap.{FinMap}
-use Rattle.std.proofs.lemmas.Bool.{eq-eqb, lt-ltb}
+use Rattle.std.proofs.lemmas.Bool.{eq-eqb, false≢true, lt-ltb}
 use Rattle.std.proofs.Math.Nat.{mod-lt}
-use Rattle.std.proofs.lemmas.Option.{slice_get_within}
+use Rattle.std.proofs.lemmas.Option.{slice_get_read, slice_get_within}
 use Rattle.physiological_order.specs.declared.operation.Record.{Record}
 use Rattle.network.specs.declared.message.Message.{Message}
 use Rattle.network.specs.declared.message.Node.{Node}
@@ -55,6 +55,16 @@ each_last P (y ∷ ys) x each = each_last P ys x each.1
 pub with_case : {X : Type 0} (b : Bool) (x y : X) → b ≡ true → cond b x y ≡ x
 with_case true x y is = refl
 with_case false x y is = cc
+
+-- a part that was read at its place among parts of its kind, where one is there that has a case
+found_here : {S : Type 0} (parts : List S) (k : ℕ) (case : Option S → Bool) → case None ≡ false →
+    case (slice_get parts k) ≡ true → (part : S) → part ≡ get_or parts k part → slice_get parts k ≡ Some part
+found_here {S} parts k case none finds part read =
+    slice_get_read parts (length parts) k part refl (within (slice_get parts k) refl finds) read
+  where
+    within : (o : Option S) → slice_get parts k ≡ o → case o ≡ true → k < length parts
+    within None at is = absurd (false≢true (sym none ∙ is))
+    within (Some x) at is = slice_get_within parts k x at
 
 -- messages in flight that are fitted to the machine
 module _ (config : Config) (flight : Flight) (cores : List CoreState) (records : List Record) (capacity : ℕ)
@@ -127,11 +137,17 @@ module _ (m seen : Machine) (is_view : m ≡ seen) (holds : Invariant seen) (n :
       (at_number n m.mail.messages)
   delivers_there k to = sym (ap (deliver_message m n) found ∙ ap (deliver_to m n message) to)
 
-  -- a message that goes to a core
-  module _ (c : ℕ) (to : message.to ≡ node.Core c) (core : CoreState) (here : slice_get m.cores c ≡ Some core) where
+  -- the part that it goes to has a case for it
+  case_at : (k : Node) → message.to ≡ k → has_case_at m message k ≡ true
+  case_at k to = subst (λ x. has_case_at m message x ≡ true) to found_case
+
+  -- a message that goes to a core, which was read where it is
+  module _ (c : ℕ) (to : message.to ≡ node.Core c) (core : CoreState) (read : core ≡ get_or m.cores c core) where
+    pub core_here : slice_get m.cores c ≡ Some core
+    core_here = found_here m.cores c (λ o. core_case o message) refl (case_at (node.Core c) to) core read
+
     pub core_has : core_table.core_has_case core message ≡ true
-    core_has = subst (λ o. core_case o message ≡ true) here
-        (subst (λ k. has_case_at m message k ≡ true) to found_case)
+    core_has = subst (λ o. core_case o message ≡ true) core_here (case_at (node.Core c) to)
 
     pub core_endpoints : can_send m.config.messages m.mail (sent_by (core_table.core_table core message)) ≡ true →
         ReactionHasEndpoints m.config.cores m.config.banks (core_table.core_table core message)
@@ -140,20 +156,22 @@ module _ (m seen : Machine) (is_view : m ≡ seen) (holds : Invariant seen) (n :
         Invariant (cond b
         (changed m (with_core m c) (reacted m.config.messages m.mail n (core_table.core_table core message)))
         (refused m NoSuch)).1) core_has
-        (subst (λ o. Invariant (deliver_core m n message c o).1) here (any_core_delivery m invariant n message found c
-        (slice_get m.cores c) refl)))
+        (subst (λ o. Invariant (deliver_core m n message c o).1) core_here (any_core_delivery m invariant n message
+        found c (slice_get m.cores c) refl)))
 
     pub core_delivers : changed m (with_core m c) (reacted m.config.messages m.mail n
         (core_table.core_table core message)) ≡ deliver_message m n (at_number n m.mail.messages)
     core_delivers = sym (with_case (core_table.core_has_case core message) _ _ core_has)
-        ∙ ap (deliver_core m n message c) (sym here)
+        ∙ ap (deliver_core m n message c) (sym core_here)
         ∙ delivers_there (node.Core c) to
 
-  -- a message that goes to a bank
-  module _ (b : ℕ) (to : message.to ≡ node.Bank b) (bank : BankState) (here : slice_get m.banks b ≡ Some bank) where
+  -- so a bank
+  module _ (b : ℕ) (to : message.to ≡ node.Bank b) (bank : BankState) (read : bank ≡ get_or m.banks b bank) where
+    pub bank_here : slice_get m.banks b ≡ Some bank
+    bank_here = found_here m.banks b (λ o. bank_case o message) refl (case_at (node.Bank b) to) bank read
+
     pub bank_has : bank_table.bank_has_case bank message ≡ true
-    bank_has = subst (λ o. bank_case o message ≡ true) here
-        (subst (λ k. has_case_at m message k ≡ true) to found_case)
+    bank_has = subst (λ o. bank_case o message ≡ true) bank_here (case_at (node.Bank b) to)
 
     pub bank_endpoints : can_send m.config.messages m.mail (sent_by (bank_table.bank_table bank message)) ≡ true →
         ReactionHasEndpoints m.config.cores m.config.banks (bank_table.bank_table bank message)
@@ -162,26 +180,28 @@ module _ (m seen : Machine) (is_view : m ≡ seen) (holds : Invariant seen) (n :
         Invariant (cond t
         (changed m (with_bank m b) (reacted m.config.messages m.mail n (bank_table.bank_table bank message)))
         (refused m NoSuch)).1) bank_has
-        (subst (λ o. Invariant (deliver_bank m n message b o).1) here (any_bank_delivery m invariant n
+        (subst (λ o. Invariant (deliver_bank m n message b o).1) bank_here (any_bank_delivery m invariant n
         message found b to)))
 
     pub bank_delivers : changed m (with_bank m b) (reacted m.config.messages m.mail n
         (bank_table.bank_table bank message)) ≡ deliver_message m n (at_number n m.mail.messages)
     bank_delivers = sym (with_case (bank_table.bank_has_case bank message) _ _ bank_has)
-        ∙ ap (deliver_bank m n message b) (sym here)
+        ∙ ap (deliver_bank m n message b) (sym bank_here)
         ∙ delivers_there (node.Bank b) to
 
-  -- a message that goes to a DRAM
+  -- so a DRAM
   module _ (b : ℕ) (to : message.to ≡ node.Dram b) (lines : FinMap nat_cmp (List ℕ))
-      (here : slice_get m.drams b ≡ Some lines) where
-    pub dram_has : dram_has_case lines message ≡ true
-    dram_has = subst (λ o. dram_takes o message ≡ true) here
-        (subst (λ k. has_case_at m message k ≡ true) to found_case)
+      (read : lines ≡ get_or m.drams b lines) where
+    pub dram_here : slice_get m.drams b ≡ Some lines
+    dram_here = found_here m.drams b (λ o. dram_takes o message) refl (case_at (node.Dram b) to) lines read
+
+    dram_has : dram_has_case lines message ≡ true
+    dram_has = subst (λ o. dram_takes o message ≡ true) dram_here (case_at (node.Dram b) to)
 
     pub dram_delivers : changed m (with_dram m b) (reacted m.config.messages m.mail n (dram_table lines message)) ≡
         deliver_message m n (at_number n m.mail.messages)
     dram_delivers = sym (with_case (dram_has_case lines message) _ _ dram_has)
-        ∙ ap (deliver_dram m n message b) (sym here)
+        ∙ ap (deliver_dram m n message b) (sym dram_here)
         ∙ delivers_there (node.Dram b) to
 
     -- a store of a line that the DRAM doesn't have yet asks for memory
@@ -193,7 +213,7 @@ module _ (m seen : Machine) (is_view : m ≡ seen) (holds : Invariant seen) (n :
         (there ∙ ap (λ (k : Machine). at_number n k.mail.messages) is_view)
         (subst (λ k. is_first_store_at seen message k ≡ true) (sym to)
         (subst (λ (k : Machine). is_first_store (slice_get k.drams b) message ≡ true) is_view
-        (subst (λ o. is_first_store o message ≡ true) (sym here) takes)))
+        (subst (λ o. is_first_store o message ≡ true) (sym dram_here) takes)))
 
 -- what a core sends back goes to a bank
 module _ (m : Machine) (whole : IsWhole m) (c : ℕ) (core : CoreState) (here : slice_get m.cores c ≡ Some core) where

@@ -121,24 +121,12 @@ impl MachineState {
         let Some(message) = self.flight.look(number) else {
             return Ok(PlainAnswer::Refused(Refusal::NoSuch));
         };
-        match message.to {
-            Node::Core(core) if (core as usize) < self.cores.len() => {
-                let at = core as usize;
-                let response = respond(&mut self.cores[at], &self.flight, message)?;
-                Ok(conclude(&mut self.flight, &mut self.is_stopped, number, response))
-            }
-            Node::Bank(bank) if (bank as usize) < self.banks.len() => {
-                let at = bank as usize;
-                let response = respond(&mut self.banks[at], &self.flight, message)?;
-                Ok(conclude(&mut self.flight, &mut self.is_stopped, number, response))
-            }
-            Node::Dram(bank) if (bank as usize) < self.drams.len() => {
-                let at = bank as usize;
-                let response = respond(&mut self.drams[at], &self.flight, message)?;
-                Ok(conclude(&mut self.flight, &mut self.is_stopped, number, response))
-            }
-            _ => Ok(PlainAnswer::Refused(Refusal::NoSuch)),
-        }
+        let response = match message.to {
+            Node::Core(core) => respond(&mut self.cores[core as usize], &self.flight, message),
+            Node::Bank(bank) => respond(&mut self.banks[bank as usize], &self.flight, message),
+            Node::Dram(bank) => respond(&mut self.drams[bank as usize], &self.flight, message),
+        };
+        Ok(conclude(&mut self.flight, &mut self.is_stopped, number, response?))
     }
 
     // What the table answers to an event, if there is memory for it.

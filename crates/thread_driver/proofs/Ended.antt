@@ -1,5 +1,7 @@
 -- How a run by threads ends, said of the machine that the closed one shows.
-use Rattle.std.proofs.Common.{◌≡◌, ◌⊎◌, inl, inr, ℕ, ◌<◌, List, length, map, Option, sym, ap, ◌∙◌, arith}
+use Rattle.std.proofs.Common.{◌≡◌, ◌⊎◌, inl, inr, ℕ, ◌<◌, Bool, true, false, cond, ◌||◌, List, length, map, Option}
+use Rattle.std.proofs.Common.{refl, sym, ap, ap₂, ◌∙◌, arith}
+use Rattle.std.specs.List.{list_any}
 use Rattle.std.proofs.lemmas.Option.{slice_get_within}
 use Rattle.programs.specs.declared.ends.End.{End}
 use Rattle.programs.specs.declared.ends.End.TheVariants as end
@@ -8,15 +10,29 @@ use Rattle.mailboxes.specs.declared.machine.Machine.{Machine}
 use Rattle.mailboxes.specs.declared.core_seat.CoreSeat.{CoreSeat}
 use Rattle.mailboxes.specs.declared.bank_seat.BankSeat.{BankSeat}
 use Rattle.closed_machine.specs.declared.run.Run.{Run}
-use Rattle.mailboxes.specs.Remains.{core_part}
+use Rattle.mailboxes.specs.Remains.{bank_part, core_part}
 use Rattle.closed_machine.specs.RunParts.{Parts}
-use Rattle.thread_driver.specs.Shifts.{AreCoresInOrder, AreOver, Ran, RefusedAtOnce}
-use Rattle.thread_driver.specs.ThreadRuns.{IsOver, machine_of}
+use Rattle.thread_driver.specs.declared.told.Told.{Told}
+use Rattle.thread_driver.specs.Shifts.{AreBanksInOrder, AreCoresInOrder, AreOver, Ran, RefusedAtOnce, one_stopped}
+use Rattle.thread_driver.specs.ThreadRuns.{AreOpened, IsOver, is_one_stopped, machine_of}
 use Rattle.thread_driver.proofs.Seats.{none_left, none_open}
 use Rattle.thread_driver.proofs.AllServed.{there}
+use Rattle.thread_driver.proofs.Stops.{any_map, new_stopped}
 
 not_done : {A : Type 0} (e : End) → e ≡ end.NoMemory → e ≡ end.AllDone → A
 not_done e lacks done = (let both : end.NoMemory ≡ end.AllDone = sym lacks ∙ done in absurd cc)
+
+-- what the turns reported of stops, by the end
+told_stopped : (a b : Bool) → cond a end.NoMemory (cond b end.Exhausted end.TurnsUsed) ≡ end.Exhausted → b ≡ true
+told_stopped true b e = absurd (cc)
+told_stopped false true e = refl
+told_stopped false false e = absurd (cc)
+
+told_not_stopped : (a b : Bool) → cond a end.NoMemory (cond b end.Exhausted end.TurnsUsed) ≡ end.TurnsUsed →
+    b ≡ false
+told_not_stopped true b e = absurd (cc)
+told_not_stopped false true e = absurd (cc)
+told_not_stopped false false e = refl
 
 module _ {P : Type 0} (acts : Acts P) (m : Machine) (run : Run) (parts : Parts run) (ended : List CoreSeat)
     (after : List P) (order : AreCoresInOrder m ended) (all : length ended ≡ run.set_up.config.cores)
@@ -47,6 +63,36 @@ module _ {P : Type 0} (acts : Acts P) (m : Machine) (run : Run) (parts : Parts r
       | inl refused ↦ not_done e refused.end_is done
       | inr ran ↦ is_over (ran.done done)
     ]
+
+    module _ (opened : AreOpened m cores banks) (behind : AreBanksInOrder m banks')
+        (left_banks : run.banks.items ≡ map bank_part banks') where
+      -- what the turns reported is what the closed machine shows
+      shown : (told : Told) → told.is_exhausted ≡ (one_stopped (λ (p : CoreSeat). p.is_stopped) cores ended
+          || one_stopped (λ (p : BankSeat). p.is_stopped) banks banks') → told.is_exhausted ≡ is_one_stopped run
+      shown told stopped =
+          stopped ∙ ap₂ (λ a b. a || b)
+          (new_stopped (λ (p : CoreSeat). p.is_stopped) cores ended (order.long ∙ sym opened.all_cores)
+          (λ i p at. (opened.new_cores i p at).4)
+          ∙ sym (ap (list_any (λ p. p.is_stopped)) left ∙ any_map core_part (λ p. p.is_stopped) ended))
+          (new_stopped (λ (p : BankSeat). p.is_stopped) banks banks' (behind.long ∙ sym opened.all_banks)
+          (λ i p at. (opened.new_banks i p at).4)
+          ∙ sym (ap (list_any (λ p. p.is_stopped)) left_banks ∙ any_map bank_part (λ p. p.is_stopped) banks'))
+
+      pub exhausted_is_stopped : e ≡ end.Exhausted → is_one_stopped run ≡ true
+      exhausted_is_stopped is_so = elim is [
+        | inl refused ↦ absurd (let both : end.NoMemory ≡ end.Exhausted = sym refused.end_is ∙ is_so in cc)
+        | inr ran ↦ sym (shown ran.told ran.stopped)
+            ∙ told_stopped ran.told.no_memory ran.told.is_exhausted
+            (sym (ran.otherwise (λ d. let both : end.Exhausted ≡ end.AllDone = sym is_so ∙ d in cc)) ∙ is_so)
+      ]
+
+      pub used_is_not_stopped : e ≡ end.TurnsUsed → is_one_stopped run ≡ false
+      used_is_not_stopped is_so = elim is [
+        | inl refused ↦ absurd (let both : end.NoMemory ≡ end.TurnsUsed = sym refused.end_is ∙ is_so in cc)
+        | inr ran ↦ sym (shown ran.told ran.stopped)
+            ∙ told_not_stopped ran.told.no_memory ran.told.is_exhausted
+            (sym (ran.otherwise (λ d. let both : end.TurnsUsed ≡ end.AllDone = sym is_so ∙ d in cc)) ∙ is_so)
+      ]
 
     pub over_is_done : IsOver acts (machine_of run parts) after →
         (e ≡ end.AllDone) ⊎ RefusedAtOnce cores banks before ended banks' after e

@@ -1,6 +1,6 @@
 -- What turns of a core's seat leave: its number, its operations and its records, and so the operation that is open.
-use Rattle.std.proofs.Common.{◌≡◌, ℕ, zero, suc, ◌<◌, Bool, true, false, List, ◌++◌, map, Option, Some, None}
-use Rattle.std.proofs.Common.{Result, Ok, Err, refl, sym, ap, subst, ◌∙◌}
+use Rattle.std.proofs.Common.{◌≡◌, ℕ, ◌<◌, List, ◌++◌, map, Option, Some, None}
+use Rattle.std.proofs.Common.{Bool, true, Result, refl, sym, ap, subst, ◌∙◌}
 use Rattle.std.proofs.lemmas.List.{append_cancel_left}
 use Rattle.physiological_order.specs.declared.operation.Op.{Op}
 use Rattle.physiological_order.specs.declared.operation.Record.{Record}
@@ -16,13 +16,12 @@ use Rattle.inbox.specs.declared.answer.Served.{Served}
 use Rattle.mailboxes.specs.declared.machine.Machine.{Machine}
 use Rattle.mailboxes.specs.declared.core_seat.CoreSeat.{CoreSeat}
 use Rattle.mailboxes.specs.declared.taken.Take.{Take}
-use Rattle.mailboxes.specs.declared.taken.Take.TheVariants.{Taken, Nothing, HandFull}
 use Rattle.mailboxes.specs.declared.turning.Turn.{Turn}
 use Rattle.mailboxes.specs.BoxMoves.{hold}
 use Rattle.mailboxes.specs.CoreTurns.{CorePuts, CoreServes, CoreTakes, CoreTurns, core_hand}
 use Rattle.mailboxes.specs.Seats.{IsCoreSeat}
-use Rattle.mailboxes.specs.Turns.{PutSo, PutAll, Ends, Goes, Rests, TurnsBy, is_idle}
 use Rattle.thread_driver.specs.Playing.{SameWork}
+use Rattle.thread_driver.proofs.TurnLaws.{turns_keep}
 
 -- the law that a core's seat was issued the operations of its records and then the open one
 abbrev pub IssuedLaw : Type 0
@@ -64,39 +63,10 @@ module _ (m : Machine) where
         records = ap (λ (a : Hold). a.records) c.2;
       }
 
-  kept_puts : (n : ℕ) (p q : CoreSeat) → PutSo (CorePuts m) n p q → IsKept p q
-  kept_puts zero p q e = kept_same p q e
-  kept_puts (suc n) p q (r, so, put) = kept_on p r q (kept_puts n p r so) (kept_put true r q put)
-
-  kept_put_all : (n : ℕ) (p q : CoreSeat) → PutAll (CorePuts m) n p q → IsKept p q
-  kept_put_all n p q (r, so, put) = kept_on p r q (kept_puts n p r so) (kept_put false r q put)
-
-  kept_ends : (t : Take) (before result : Result Served Refusal) (p q : CoreSeat) →
-      Ends (CoreServes m) (CoreTakes m) t before p result q → IsKept p q
-  kept_ends Taken before result p q c = kept_serve result p q c
-  kept_ends HandFull before result p q c = kept_serve result p q c
-  kept_ends Nothing before result p q c = kept_same p q c.1
-
-  kept_goes : (b : Bool) (before result : Result Served Refusal) (p q : CoreSeat) →
-      Goes (CoreServes m) (CoreTakes m) b before p result q → IsKept p q
-  kept_goes true before result p q (t, r, takes, ends) =
-      kept_on p r q (kept_take t p r takes) (kept_ends t before result r q ends)
-  kept_goes false before result p q c = kept_same p q c.1
-
-  kept_rests : (b : Bool) (result : Result Served Refusal) (p q : CoreSeat) →
-      Rests (CoreServes m) (CoreTakes m) b p result q → IsKept p q
-  kept_rests true result p q c = kept_serve result p q c
-  kept_rests false result p q (before, r, serves, goes) =
-      kept_on p r q (kept_serve before p r serves) (kept_goes (is_idle before) before result r q goes)
-
-  kept_turn : (n : ℕ) (result : Result Served Refusal) (p q : CoreSeat) →
-      TurnsBy (CoreServes m) (CoreTakes m) core_hand (CorePuts m) n p result q → IsKept p q
-  kept_turn n result p q (r, all, rests) =
-      kept_on p r q (kept_put_all n p r all) (kept_rests (core_hand r) result r q rests)
-
   kept_turns : (result : Result Turn Refusal) (p q : CoreSeat) → CoreTurns m p result q → IsKept p q
-  kept_turns (Ok turn) p q c = kept_turn turn.put (Ok turn.served) p q c
-  kept_turns (Err refusal) p q c = kept_turn c.0 (Err refusal) p q c.1
+  kept_turns =
+      turns_keep (CoreServes m) (CoreTakes m) core_hand (CorePuts m) IsKept kept_same kept_on kept_serve kept_take
+      kept_put
 
   module _ (law : IssuedLaw) where
     issued_of : (p : CoreSeat) → IsCoreSeat m p →

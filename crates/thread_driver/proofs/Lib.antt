@@ -1,4 +1,6 @@
 mod KeptWork
+mod TurnLaws
+mod Stops
 pub mod Lemmas
 mod Played
 mod Turned

@@ -1,5 +1,5 @@
 -- What comes of seats that threads drove: the seats in order, what each core's program was told, and the end.
-use Rattle.std.specs.Prelude.{◌≡◌, ◌≢◌, ℕ, ◌+◌, List, ◌++◌, length, if◌then◌else◌}
+use Rattle.std.specs.Prelude.{◌≡◌, ◌≢◌, ℕ, ◌+◌, Bool, false, ◌||◌, List, [], ◌∷◌, ◌++◌, length, if◌then◌else◌}
 use Rattle.std.specs.Prelude.{Some, None, slice_get}
 use Rattle.physiological_order.specs.declared.operation.Record.{Record}
 use Rattle.programs.specs.declared.ends.End.{End}
@@ -12,6 +12,7 @@ use Rattle.programs.specs.Acts.{Acts}
 use Rattle.machine_theorem.specs.Service.{IsServed}
 use Rattle.thread_driver.specs.declared.told.Told.{Told}
 use Rattle.thread_driver.specs.Given.{SeatsGiven}
+use Rattle.thread_driver.specs.Turns.{has_stopped}
 
 -- the seats of all cores of the machine, in order
 pub record AreCoresInOrder (m : Machine) (cores : List CoreSeat) : Type 0 where
@@ -27,6 +28,13 @@ pub record AreBanksInOrder (m : Machine) (banks : List BankSeat) : Type 0 where
 -- no core has an open operation
 abbrev pub NoneOpen : List CoreSeat → Type 0
 NoneOpen cores = (i : ℕ) (p : CoreSeat) → slice_get cores i ≡ Some p → p.part.core.open_op ≡ None
+
+-- whether one of these seats has stopped, by index
+abbrev pub one_stopped : {S : Type 0} → (S → Bool) → List S → List S → Bool
+one_stopped is_stopped [] after = false
+one_stopped is_stopped (p ∷ before) [] = false
+one_stopped is_stopped (p ∷ before) (q ∷ after) =
+    has_stopped (is_stopped p) (is_stopped q) || one_stopped is_stopped before after
 
 -- How it ends where something is left to do, by what the turns reported: for want of memory if a turn reported it, else
 -- exhausted if a turn reported it, else since the turns are used up.
@@ -57,7 +65,8 @@ module _ {P : Type 0} (acts : Acts P) where
       (p.part.core.open_op ≡ None) × (acts.next a ≡ None)
 
   -- Seats of the machine were given at most `limit` turns each. All is done exactly if nothing is left to do.
-  -- Otherwise what the turns reported decides how it ends.
+  -- Otherwise what the turns reported decides how it ends. They reported a stop exactly if a seat is stopped now that
+  -- wasn't before.
   pub record Ran (m : Machine) (limit : ℕ) (cores : List CoreSeat) (banks : List BankSeat) (programs : List P)
       (cores' : List CoreSeat) (banks' : List BankSeat) (programs' : List P) (e : End) : Type 0 where
     pub told : Told
@@ -65,6 +74,8 @@ module _ {P : Type 0} (acts : Acts P) where
     pub done : e ≡ end.AllDone → AreOver cores' programs'
     pub all_done : AreOver cores' programs' → e ≡ end.AllDone
     pub otherwise : e ≢ end.AllDone → e ≡ end_told told
+    pub stopped : told.is_exhausted ≡ (one_stopped (λ p. p.is_stopped) cores cores'
+        || one_stopped (λ p. p.is_stopped) banks banks')
 
 -- Memory was refused before a turn was made: all are as they were given.
 pub record RefusedAtOnce {P : Type 0} (cores : List CoreSeat) (banks : List BankSeat) (programs : List P)

@@ -1,5 +1,6 @@
 -- What a run by threads is: of which machine and programs, to which machine, programs and end.
-use Rattle.std.specs.Prelude.{◌≡◌, ◌⊎◌, ℕ, ◌<◌, List, length, map, None}
+use Rattle.std.specs.Prelude.{◌≡◌, ◌⊎◌, ℕ, ◌<◌, Bool, true, false, ◌||◌, List, length, map, None}
+use Rattle.std.specs.List.{list_any}
 use Rattle.machine_table.specs.Machine.{Machine, open_op}
 use Rattle.machine_table.specs.Opening.{at_start}
 use Rattle.seat_rule.specs.Moves.{Reached}
@@ -21,6 +22,10 @@ use Rattle.thread_driver.specs.Shifts.{AreBanksInOrder, AreCoresInOrder, Ran, Re
 abbrev pub machine_of : (run : Run) → Parts run → Machine
 machine_of run parts = numbered run.set_up.config run.set_up.memory (state_of_run run parts)
 
+-- whether a seat is stopped of those that the closed machine had
+abbrev pub is_one_stopped : Run → Bool
+is_one_stopped run = list_any (λ p. p.is_stopped) run.cores.items || list_any (λ p. p.is_stopped) run.banks.items
+
 -- The seats that a machine opened with: those of all its cores and banks, in order.
 pub record AreOpened (m : shared.Machine) (cores : List CoreSeat) (banks : List BankSeat) : Type 0 where
   pub all_cores : length cores ≡ m.set_up.config.cores
@@ -37,7 +42,8 @@ module _ {P : Type 0} (acts : Acts P) where
   -- A machine opened. Its seats, with these programs, were given at most `limit` turns each, or memory for the workers
   -- was refused; that decides how it ended. What the seats stored then is what the run has: the parts of one reached
   -- state. The cores were issued what the programs gave. If all is done, nothing is left to do. If nothing is left to
-  -- do, all is done, or else memory was refused and all is as it opened.
+  -- do, all is done, or else memory was refused and all is as it opened. It ends exhausted only if a seat is stopped,
+  -- and with its turns used only if none is.
   pub record IsRunFrom (limit : ℕ) (before : List P) (run : Run) (after : List P) (e : End) : Type 0 where
     pub parts : Parts run
     pub reached : Reached run.set_up.config run.set_up.memory (state_of_run run parts)
@@ -58,6 +64,8 @@ module _ {P : Type 0} (acts : Acts P) where
     pub done : e ≡ end.AllDone → IsOver (machine_of run parts) after
     pub over : IsOver (machine_of run parts) after →
         (e ≡ end.AllDone) ⊎ RefusedAtOnce opened_cores opened_banks before cores banks after e
+    pub exhausted : e ≡ end.Exhausted → is_one_stopped run ≡ true
+    pub turns_used : e ≡ end.TurnsUsed → is_one_stopped run ≡ false
 
   -- the same of the machine that the closed one shows
   pub record IsThreadRun (limit : ℕ) (before : List P) (m : Machine) (after : List P) (e : End) : Type 0 where

@@ -48,12 +48,16 @@ abbrev pub is_done : Result Bool Refusal → Bool
 is_done (Ok done) = done
 is_done (Err r) = false
 
+-- whether a seat has stopped that was stopped or not before and after
+abbrev pub has_stopped : Bool → Bool → Bool
+has_stopped before after = after && not before
+
 -- what is told of a seat that was stopped or not before and after, by what its turn answered
 abbrev pub told_of_turn : Bool → Bool → Result Turn Refusal → Told
 told_of_turn before after moved =
     record {
       no_memory = lacks_memory moved;
-      is_exhausted = after && not before;
+      is_exhausted = has_stopped before after;
       has_progressed = has_moved moved;
     }
 
@@ -62,7 +66,7 @@ abbrev pub told_of : Bool → Bool → Result Bool Refusal → Result Turn Refus
 told_of before after done moved =
     record {
       no_memory = lacks_memory moved || lacks_memory done;
-      is_exhausted = after && not before;
+      is_exhausted = has_stopped before after;
       has_progressed = has_moved moved || is_done done;
     }
 

@@ -1,6 +1,6 @@
 //! Laws for callers: of new seats, and of a machine that was closed. The functions do nothing: their contracts are the
 //! laws.
-ghost use Rattle.std.specs.Prelude.{◌≡◌, ◌<◌, ◌≤◌, ℕ, List, [], length, slice_index_or};
+ghost use Rattle.std.specs.Prelude.{◌≡◌, ◌<◌, ◌≤◌, ℕ, true, List, [], length, slice_index_or};
 ghost use Rattle.machine_theorem.specs.Consistency.{IsConsistent};
 ghost use Rattle.mailboxes.specs.declared.machine.Machine.{Machine};
 ghost use Rattle.mailboxes.specs.declared.core_seat.CoreSeat.{CoreSeat};
@@ -8,10 +8,13 @@ ghost use Rattle.mailboxes.specs.declared.bank_seat.BankSeat.{BankSeat};
 ghost use Rattle.closed_machine.specs.declared.run.Run.{Run};
 ghost use Rattle.closed_machine.specs.RunParts.{Parts, state_of_run};
 ghost use Rattle.mailboxes.specs.Seats.{AllNewBanks, AllNewCores};
+ghost use Rattle.thread_driver.specs.declared.told.Told.{Told};
+ghost use Rattle.thread_driver.specs.Given.{IsBankTurn, IsCoreTurn, TurnsGiven};
 ghost use Rattle.thread_driver.specs.Shifts.{AreBanksInOrder, AreCoresInOrder, NoneOpen};
 ghost use Rattle.thread_driver.specs.ThreadRuns.{machine_of};
 
 use machine_theorem::laws::machines_with_the_invariant_are_consistent;
+use programs::program::Program;
 use seat_rule::move_laws::reached_states_have_the_invariant;
 
 /// The seats of a machine that has just opened are in order, and no core has an open operation: so they can be driven.
@@ -20,6 +23,15 @@ pub fn new_seats_can_be_driven()
         AllNewCores m 0 ps → AreCoresInOrder m ps × NoneOpen ps }
     ensures banks { (m : Machine) (ps : List BankSeat) → length ps ≡ m.set_up.config.banks →
         AllNewBanks m m.set_up.config.cores ps → AreBanksInOrder m ps }
+{}
+
+/// A seat that is stopped stays stopped, whatever turns it is given.
+pub fn stopped_seats_stay_stopped<P: Program>()
+    ensures cores { (m : Machine) (p q : CoreSeat) (before after : P) (n : ℕ) (told : Told) →
+        TurnsGiven (IsCoreTurn P.acts m) (p, before) n told (q, after) → p.is_stopped ≡ true →
+        q.is_stopped ≡ true }
+    ensures banks { (m : Machine) (p q : BankSeat) (n : ℕ) (told : Told) →
+        TurnsGiven (IsBankTurn m) p n told q → p.is_stopped ≡ true → q.is_stopped ≡ true }
 {}
 
 /// The machine that a closed one shows is consistent, as are those that events lead to: its records are a legal

@@ -8,6 +8,7 @@ use Rattle.thread_driver.specs.declared.shift.Shift.{Shift}
 use Rattle.thread_driver.specs.Given.{quiet}
 use Rattle.thread_driver.specs.Shifts.{Ran, RefusedAtOnce}
 use Rattle.thread_driver.proofs.Ordered.{Comes, ahead_at_first, comes_of, same_three}
+use Rattle.thread_driver.proofs.Stops.{given_report}
 use Rattle.thread_driver.proofs.Worked.{not_given}
 use Rattle.thread_driver.proofs.drive.drive_threads.Goals as goal
 
@@ -63,7 +64,15 @@ returns-in-Ok g c =
     c.records_of_seats_are_counted.ensures.issued c.requires.cores.0 c.requires.cores.1 c.requires.banks
     c.requires.programs given) in
     let ran : Ran acts m limit cores banks programs s.cores.items s.banks.items s.programs.items c.end_of-shift.result =
-    record { told = c.in-Ok.told; given = given; done = e.done; all_done = e.all_done; otherwise = e.otherwise } in
+    record {
+      told = c.in-Ok.told;
+      given = given;
+      done = e.done;
+      all_done = e.all_done;
+      otherwise = e.otherwise;
+      stopped = given_report acts m limit cores s.cores.items banks s.banks.items programs s.programs.items
+          c.in-Ok.told c.requires.programs given;
+    } in
     record {
       cores = comes.in_order;
       banks = comes.behind;

@@ -3,7 +3,8 @@ use Rattle.machine_table.specs.declared.config.Config.{Config}
 use Rattle.seat_rule.specs.declared.views.SetUp.{SetUp}
 use Rattle.closed_machine.specs.PartsOfState.{PartsOfState}
 use Rattle.mailboxes.specs.Seats.{AllNewBanks}
-use Rattle.thread_driver.proofs.Ended.{done_is_over, over_is_done}
+use Rattle.thread_driver.specs.ThreadRuns.{AreOpened}
+use Rattle.thread_driver.proofs.Ended.{done_is_over, exhausted_is_stopped, over_is_done, used_is_not_stopped}
 use Rattle.thread_driver.proofs.AllServed.{all_served}
 use Rattle.thread_driver.proofs.run.run_threads.Goals as goal
 
@@ -50,6 +51,13 @@ returns-clause-run g c =
     let e = c.drive_threads-end.result.end in
     let banks = c.in-Ok.banks.items in
     let banks' = c.drive_threads-end.result.banks.items in
+    let opened : AreOpened m cores banks = record {
+      all_cores = c.in-Ok.ensures.cores.0 ∙ sym (ap (λ (k : Config). k.cores) c.in-Ok.ensures.set_up.0);
+      all_banks = c.in-Ok.ensures.banks.0 ∙ sym (ap (λ (k : Config). k.banks) c.in-Ok.ensures.set_up.0);
+      new_cores = c.in-Ok.ensures.cores.1;
+      new_banks = subst (λ n. AllNewBanks m n banks) (sym (ap (λ (k : Config). k.cores) c.in-Ok.ensures.set_up.0))
+          c.in-Ok.ensures.banks.1;
+    } in
     record {
       parts = parts;
       reached = parts.whole.reached;
@@ -59,13 +67,7 @@ returns-clause-run g c =
       set_up = c.in_ok-run.ensures.set_up;
       opened_cores = cores;
       opened_banks = banks;
-      opened = record {
-        all_cores = c.in-Ok.ensures.cores.0 ∙ sym (ap (λ (k : Config). k.cores) c.in-Ok.ensures.set_up.0);
-        all_banks = c.in-Ok.ensures.banks.0 ∙ sym (ap (λ (k : Config). k.banks) c.in-Ok.ensures.set_up.0);
-        new_cores = c.in-Ok.ensures.cores.1;
-        new_banks = subst (λ n. AllNewBanks m n banks) (sym (ap (λ (k : Config). k.cores) c.in-Ok.ensures.set_up.0))
-            c.in-Ok.ensures.banks.1;
-      };
+      opened = opened;
       cores = ended;
       banks = banks';
       in_order = order;
@@ -77,4 +79,8 @@ returns-clause-run g c =
           c.drive_threads-end.ensures.ended;
       over = over_is_done acts m run parts ended after order all told left limit cores banks banks' before e
           c.drive_threads-end.ensures.ended;
+      exhausted = exhausted_is_stopped acts m run parts ended after order all told left limit cores banks banks'
+          before e c.drive_threads-end.ensures.ended opened c.drive_threads-end.ensures.banks c.in_ok-run.ensures.banks;
+      turns_used = used_is_not_stopped acts m run parts ended after order all told left limit cores banks banks'
+          before e c.drive_threads-end.ensures.ended opened c.drive_threads-end.ensures.banks c.in_ok-run.ensures.banks;
     }

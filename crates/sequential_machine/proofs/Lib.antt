@@ -7,3 +7,4 @@ mod Names
 mod Outcomes
 mod Steps
 mod NeverBoth
+mod Openings

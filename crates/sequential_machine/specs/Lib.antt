@@ -2,3 +2,4 @@ pub mod SequentialMachine
 pub mod Performed
 pub mod Example
 pub mod Threads
+pub mod Openings

@@ -12,7 +12,14 @@ ghost use Rattle.sequential_machine.specs.SequentialMachine.{registers_opened};
 ghost use Rattle.sequential_machine.specs.SequentialMachine.{IsOutcome};
 ghost use Rattle.sequential_machine.specs.Threads.{Goes, ThreadIsAt};
 ghost use Rattle.sequential_machine.specs.Performed.{ArePerformed};
+ghost use Rattle.sequential_machine.specs.Openings.{OpensAsSet};
 ghost use Rattle.sequential_machine.specs.Example.{store_buffering};
+
+/// A test opens as its text says. A register of a thread holds the number to which the initial
+/// block sets it, and so does a location's word; all other registers and words are 0.
+pub fn tests_open_as_set()
+    ensures { (text : List ℕ) (test : Litmus) → IsTest text test → OpensAsSet test }
+{}
 
 /// A thread of a litmus test, taken as a program, is a thread of the machine. From its initial
 /// state, steps of its own come to the program's state. The operation that the program gives next

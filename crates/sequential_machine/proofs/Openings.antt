@@ -1,0 +1,319 @@
+-- Items that set each name once, and what is there when all have been taken in turn.
+use Rattle.std.proofs.Common.{◌≡◌, ◌≢◌, ℕ, zero, suc, ◌+◌, ◌-◌, ◌*◌, ◌<◌, Bool, true, false, eqb, ◌||◌, ◌&&◌, nat_le}
+use Rattle.std.proofs.Common.{List, [], ◌∷◌, ◌++◌, length, Option, Some, None, replicate, slice_set}
+use Rattle.std.proofs.Common.{refl, sym, ap, ◌∙◌, subst, inl, inr, arith}
+use Rattle.std.specs.Prelude.{slice_get, nat_lt, unwrap_or}
+use Rattle.std.specs.List.{list_any}
+use Rattle.std.specs.FinMap as finite
+use Rattle.std.specs.FinMap.{get-empty, get-insert}
+use Rattle.std.specs.Ordering.{nat_cmp, eq_by_cmp}
+use Rattle.std.specs.Cmp.{nat_cmp_total, unsigned_tied}
+use Rattle.std.proofs.lemmas.Bool.{cond_both, cond-true, cond-false, eqb-true, eq-eqb, ne_eqb, and_parts}
+use Rattle.std.proofs.lemmas.Bool.{leb-true, lt-ltb}
+use Rattle.std.proofs.lemmas.List.Folds.{list_any-append}
+use Rattle.physiological_order.specs.Order.{flat}
+use Rattle.litmus_lexer.specs.Pieces.{Piece, between}
+use Rattle.litmus_lexer.specs.Spelling.{is_digit, small_of, register_of}
+use Rattle.litmus_parser.specs.Names.{Names, same_name}
+use Rattle.litmus_parser.specs.GrammarBlock.{IsItem, AreItems}
+use Rattle.litmus_parser.specs.declared.syntax.Name.{Name}
+use Rattle.litmus_parser.specs.declared.syntax.Name.TheVariants.{Register, Location}
+use Rattle.litmus_parser.specs.declared.syntax.Setting.{Setting}
+use Rattle.litmus_parser.specs.declared.syntax.Setting.TheVariants.{Number, Address}
+use Rattle.litmus_parser.specs.declared.syntax.Item.{Item}
+use Rattle.litmus_reader.specs.Litmus.{Litmus, settings_of}
+use Rattle.litmus_reader.specs.Grammar.{IsTest}
+use Rattle.litmus_reader.specs.OpeningMemory.{Words, with_setting, words_opened}
+use Rattle.litmus_reader.specs.ThreadSteps.{or_zero, register_value, with_register, with_item, with_items}
+use Rattle.sequential_machine.specs.Openings.{OpensAsSet}
+
+abbrev Settings : Type 0
+Settings = List (Name × Setting)
+
+abbrev Among : Name → Setting → Settings → Type 0
+Among name setting items = (i : ℕ) × (slice_get items i ≡ Some (name, setting))
+
+-- x1 to x31, or a location
+abbrev IsSettable : Name → Type 0
+IsSettable (Register t r) = (0 < r) × (r < 32)
+IsSettable (Location l) = Unit {0}
+
+-- each sets a name that can be set, and that no later one sets
+abbrev AreSingle : Settings → Type 0
+AreSingle [] = Unit {0}
+AreSingle (item ∷ items) =
+    IsSettable item.0 × ((setting : Setting) → Among item.0 setting items → ⊥) × AreSingle items
+
+-- Each item takes a step of a state, in which one value is that of the name.
+record Opens {X : Type 0} (step : Name → Setting → X → X) (all : Settings → X → X) (value : X → ℕ)
+    (IsGood : X → Type 0) (name : Name) : Type 0 where
+  ends : (x : X) → all [] x ≡ x
+  goes : (item : Name × Setting) (items : Settings) (x : X) → all (item ∷ items) x ≡ all items (step item.0 item.1 x)
+  stays : (other : Name) (setting : Setting) (x : X) → IsGood x → IsGood (step other setting x)
+  own : (n : ℕ) (x : X) → IsSettable name → IsGood x → value (step name (Number n) x) ≡ n
+  addresses : (other : Name) (l : ℕ) (x : X) → step other (Address l) x ≡ x
+  others : (other : Name) (n : ℕ) (x : X) → other ≢ name → value (step other (Number n) x) ≡ value x
+
+abbrev some_item : Name → Setting → Option (Name × Setting)
+some_item name setting = Some (name, setting)
+
+module _ {X : Type 0} {step : Name → Setting → X → X} {all : Settings → X → X} {value : X → ℕ} {IsGood : X → Type 0}
+    {name : Name} (o : Opens step all value IsGood name) where
+  one_kept : (other : Name) (setting : Setting) (x : X) →
+      ((n : ℕ) → some_item other setting ≡ some_item name (Number n) → ⊥) → value (step other setting x) ≡ value x
+  one_kept other (Number n) x differs =
+      o.others other n x (λ e. differs n (ap (λ (m : Name). some_item m (Number n)) e))
+  one_kept other (Address l) x differs = ap value (o.addresses other l x)
+
+  -- items that don't set the name leave its value
+  kept : (items : Settings) (x : X) → ((n : ℕ) → Among name (Number n) items → ⊥) → value (all items x) ≡ value x
+  kept [] x none = ap value (o.ends x)
+  kept (item ∷ items) x none =
+      ap value (o.goes item items x) ∙ kept items (step item.0 item.1 x) (λ n h. none n (suc h.0, h.1))
+      ∙ one_kept item.0 item.1 x (λ n e. none n (0, e))
+
+  -- one that sets it gives it its number
+  given : (items : Settings) (x : X) (n i : ℕ) → AreSingle items → IsGood x →
+      slice_get items i ≡ Some (name, Number n) → value (all items x) ≡ n
+  given [] x n i once good e = absurd cc
+  given (item ∷ items) x n zero once good e =
+      let same : item ≡ (name, Number n) = cc in
+      ap value (o.goes item items x)
+      ∙ kept items (step item.0 item.1 x) (λ m h. once.1 (Number m)
+      (subst (λ (k : Name × Setting). Among k.0 (Number m) items) (sym same) h))
+      ∙ ap (λ (k : Name × Setting). value (step k.0 k.1 x)) same
+      ∙ o.own n x (subst (λ (k : Name × Setting). IsSettable k.0) same once.0) good
+  given (item ∷ items) x n (suc i) once good e =
+      ap value (o.goes item items x)
+      ∙ given items (step item.0 item.1 x) n i once.2 (o.stays item.0 item.1 x good) e
+
+-- the registers of a thread
+
+both_true : {a b : Bool} → a ≡ true → b ≡ true → (a && b) ≡ true
+both_true e f = rw (e, f) refl
+
+set_here : (xs : List ℕ) (i x : ℕ) → i < length xs → slice_get (slice_set xs i x) i ≡ Some x
+set_here [] i x l = absurd (omega arith)
+set_here (z ∷ xs) zero x l = refl
+set_here (z ∷ xs) (suc i) x l = set_here xs i x (omega arith)
+
+set_else : (xs : List ℕ) (i j x : ℕ) → i ≢ j → slice_get (slice_set xs i x) j ≡ slice_get xs j
+set_else [] i j x ne = refl
+set_else (z ∷ xs) zero zero x ne = absurd (ne refl)
+set_else (z ∷ xs) zero (suc j) x ne = refl
+set_else (z ∷ xs) (suc i) zero x ne = refl
+set_else (z ∷ xs) (suc i) (suc j) x ne = set_else xs i j x (λ e. ne (ap suc e))
+
+set_length : (xs : List ℕ) (i x : ℕ) → length (slice_set xs i x) ≡ length xs
+set_length [] i x = refl
+set_length (z ∷ xs) zero x = refl
+set_length (z ∷ xs) (suc i) x = ap suc (set_length xs i x)
+
+none_set : (n i : ℕ) → or_zero (slice_get (replicate n 0) i) ≡ 0
+none_set zero i = refl
+none_set (suc n) zero = refl
+none_set (suc n) (suc i) = none_set n i
+
+module _ (t : ℕ) where
+  register_length : (xs : List ℕ) (r n : ℕ) → length xs ≡ 32 → length (with_register xs r n) ≡ 32
+  register_length xs r n l =
+      cond_both (nat_lt 0 r && nat_lt r 32) (slice_set xs r n) xs (λ (ys : List ℕ). length ys ≡ 32)
+      (λ _. set_length xs r n ∙ l) (λ _. l)
+
+  item_length : (name : Name) (setting : Setting) (xs : List ℕ) → length xs ≡ 32 →
+      length (with_item t name setting xs) ≡ 32
+  item_length (Register owner r) (Number n) xs l =
+      cond_both (eqb owner t) (with_register xs r n) xs (λ (ys : List ℕ). length ys ≡ 32)
+      (λ _. register_length xs r n l) (λ _. l)
+  item_length (Register owner r) (Address a) xs l = l
+  item_length (Location m) (Number n) xs l = l
+  item_length (Location m) (Address a) xs l = l
+
+  register_else : (xs : List ℕ) (q r n : ℕ) → q ≢ r → register_value (with_register xs q n) r ≡ register_value xs r
+  register_else xs q r n ne =
+      cond_both (nat_lt 0 q && nat_lt q 32) (slice_set xs q n) xs
+      (λ (ys : List ℕ). register_value ys r ≡ register_value xs r)
+      (λ _. ap or_zero (set_else xs q r n ne)) (λ _. refl)
+
+  item_else : (r : ℕ) (name : Name) (n : ℕ) (xs : List ℕ) → name ≢ Register t r →
+      register_value (with_item t name (Number n) xs) r ≡ register_value xs r
+  item_else r (Register owner q) n xs ne =
+      cond_both (eqb owner t) (with_register xs q n) xs (λ (ys : List ℕ). register_value ys r ≡ register_value xs r)
+      (λ e. register_else xs q r n (λ same. ne (ap (λ (x : ℕ). Register x q) (eqb-true owner t e)
+      ∙ ap (λ (x : ℕ). Register t x) same))) (λ _. refl)
+  item_else r (Location l) n xs ne = refl
+
+  item_here : (r n : ℕ) (xs : List ℕ) → (0 < r) × (r < 32) → length xs ≡ 32 →
+      register_value (with_item t (Register t r) (Number n) xs) r ≡ n
+  item_here r n xs near l =
+      ap (λ (ys : List ℕ). register_value ys r)
+      (cond-true (eqb t t) (with_register xs r n) xs (eq-eqb t t refl)
+      ∙ cond-true (nat_lt 0 r && nat_lt r 32) (slice_set xs r n) xs
+      (both_true (lt-ltb 0 r near.0) (lt-ltb r 32 near.1)))
+      ∙ ap or_zero (set_here xs r n (omega (arith, near.1, l)))
+
+  item_address : (name : Name) (l : ℕ) (xs : List ℕ) → with_item t name (Address l) xs ≡ xs
+  item_address (Register owner r) l xs = refl
+  item_address (Location m) l xs = refl
+
+  all_length : (items : Settings) (xs : List ℕ) → length xs ≡ 32 → length (with_items t items xs) ≡ 32
+  unfolding with_items
+  all_length [] xs l = l
+  all_length (item ∷ items) xs l = all_length items (with_item t item.0 item.1 xs) (item_length item.0 item.1 xs l)
+
+  registers_open : (r : ℕ) → Opens (with_item t) (with_items t) (λ xs. register_value xs r) (λ xs. length xs ≡ 32)
+      (Register t r)
+  unfolding with_items
+  registers_open r = record {
+    ends = λ x. refl;
+    goes = λ item items x. refl;
+    stays = item_length;
+    own = λ n x near l. item_here r n x near l;
+    addresses = item_address;
+    others = item_else r;
+  }
+
+-- the words of memory
+
+word_address : (name : Name) (l : ℕ) (words : Words) → with_setting name (Address l) words ≡ words
+word_address (Register owner r) l words = refl
+word_address (Location m) l words = refl
+
+word_else : (l : ℕ) (name : Name) (n : ℕ) (words : Words) → name ≢ Location l →
+    flat (with_setting name (Number n) words) l ≡ flat words l
+word_else l (Register owner r) n words ne = refl
+word_else l (Location m) n words ne =
+    ap (λ (x : Option ℕ). unwrap_or x 0) (get-insert nat_cmp_total words m n l
+    ∙ cond-false (eq_by_cmp nat_cmp l m) (Some n) (finite.get words l) (unsigned_tied l m
+    ∙ ne_eqb l m (λ e. ne (ap (λ (x : ℕ). Location x) (sym e)))))
+
+word_here : (l n : ℕ) (words : Words) → flat (with_setting (Location l) (Number n) words) l ≡ n
+word_here l n words =
+    ap (λ (x : Option ℕ). unwrap_or x 0) (get-insert nat_cmp_total words l n l
+    ∙ cond-true (eq_by_cmp nat_cmp l l) (Some n) (finite.get words l) (unsigned_tied l l ∙ eq-eqb l l refl))
+
+words_open : (l : ℕ) → Opens with_setting words_opened (λ words. flat words l) (λ words. Unit {0}) (Location l)
+unfolding words_opened
+words_open l = record {
+  ends = λ x. refl;
+  goes = λ item items x. refl;
+  stays = λ other setting x good. tt;
+  own = λ n x near good. word_here l n x;
+  addresses = word_address;
+  others = word_else l;
+}
+
+-- items of the grammar
+
+digits_below : (word : List ℕ) (n : ℕ) → small_of 31 word ≡ Some n → n < 32
+digits_below [] n e = absurd cc
+digits_below (a ∷ []) n e =
+    cond_both (is_digit a) (Some (a - 48)) None (λ (o : Option ℕ). o ≡ Some n → n < 32)
+    (λ d s. let same : a - 48 ≡ n = cc in
+    omega (arith, same, leb-true a 57 (and_parts (nat_le 48 a) (nat_le a 57) d).1))
+    (λ _ s. absurd cc) e
+digits_below (a ∷ b ∷ []) n e =
+    let value = 10 * (a - 48) + (b - 48) in
+    cond_both (between 49 57 a && is_digit b && nat_le value 31) (Some value) None
+    (λ (o : Option ℕ). o ≡ Some n → n < 32)
+    (λ d s. let same : value ≡ n = cc in
+    omega (arith, same, leb-true value 31 (and_parts (between 49 57 a && is_digit b) (nat_le value 31) d).1))
+    (λ _ s. absurd cc) e
+digits_below (a ∷ b ∷ c ∷ word) n e = absurd cc
+
+register_below : (word : List ℕ) (r : ℕ) → register_of word ≡ Some r → r < 32
+register_below [] r e = absurd cc
+register_below (first ∷ number) r e =
+    cond_both (eqb first 120) (small_of 31 number) None (λ (o : Option ℕ). o ≡ Some r → r < 32)
+    (λ _ s. digits_below number r s) (λ _ s. absurd cc) e
+
+settable : (pieces : List Piece) (before : Names) (name : Name) (setting : Setting) (after : Names)
+    (rest : List Piece) → IsItem pieces before name setting after rest → IsSettable name
+settable pieces before (Register t r) setting after rest h =
+    let ne = h.14 in (omega (arith, ne), register_below h.1 r h.13)
+settable pieces before (Location l) setting after rest h = tt
+
+is_same : (name : Name) → same_name name name ≡ true
+is_same (Register t r) = rw (eq-eqb t t refl, eq-eqb r r refl) refl
+is_same (Location l) = eq-eqb l l refl
+
+abbrev IsEarlier : Name → List Item → Type 0
+IsEarlier name earlier = list_any (λ other. same_name other.name name) earlier ≡ true
+
+abbrev name_or : Name → Option (Name × Setting) → Name
+name_or name None = name
+name_or name (Some item) = item.0
+
+never : (b : Bool) → b ≡ true → b ≡ false → ⊥
+never b e f = cc
+
+still_earlier : (name : Name) (earlier : List Item) (item : Item) → IsEarlier name earlier →
+    IsEarlier name (earlier ++ item ∷ [])
+still_earlier name earlier item h =
+    list_any-append (λ other. same_name other.name name) earlier (item ∷ []) ∙ rw h refl
+
+or_last : (a b : Bool) → b ≡ true → (a || (b || false)) ≡ true
+or_last true b e = refl
+or_last false b e = rw e refl
+
+last_earlier : (earlier : List Item) (item : Item) → IsEarlier item.name (earlier ++ item ∷ [])
+last_earlier earlier item =
+    list_any-append (λ other. same_name other.name item.name) earlier (item ∷ [])
+    ∙ or_last (list_any (λ other. same_name other.name item.name) earlier) (same_name item.name item.name)
+    (is_same item.name)
+
+no_place : {item : Name × Setting} → None ≡ Some item → ⊥
+no_place e = cc
+
+no_item : (items : List Item) (name : Name) (setting : Setting) (i : ℕ) → items ≡ [] →
+    slice_get (settings_of items) i ≡ Some (name, setting) → ⊥
+no_item items name setting i none e =
+    no_place (subst (λ (xs : List Item). slice_get (settings_of xs) i ≡ Some (name, setting)) none e)
+
+-- none sets a name that an earlier one sets
+module _ (after : Names) (rest : List Piece) where
+  none_again : (items earlier : List Item) (pieces : List Piece) (before : Names) →
+      AreItems earlier pieces before items after rest → (name : Name) (setting : Setting) (i : ℕ) →
+      IsEarlier name earlier → slice_get (settings_of items) i ≡ Some (name, setting) → ⊥
+  none_again [] earlier pieces before h name setting i is e = cc
+  none_again (item ∷ items) earlier pieces before h name setting zero is e =
+      let same : item.name ≡ name = ap (λ (o : Option (Name × Setting)). name_or name o) e in
+      never (list_any (λ other. same_name other.name name) earlier) is
+      (subst (λ (n : Name). list_any (λ other. same_name other.name n) earlier ≡ false) same h.3)
+  none_again (item ∷ items) earlier pieces before h name setting (suc i) is e =
+      elim h.4 [
+        | inl k ↦ none_again items (earlier ++ item ∷ []) k.0 h.0 k.2 name setting i
+            (still_earlier name earlier item is) e
+        | inr k ↦ no_item items name setting i k.1 e
+      ]
+
+  are_single : (items earlier : List Item) (pieces : List Piece) (before : Names) →
+      AreItems earlier pieces before items after rest → AreSingle (settings_of items)
+  are_single [] earlier pieces before h = tt
+  are_single (item ∷ items) earlier pieces before h =
+      elim h.4 [
+        | inl k ↦ (
+          settable pieces before item.name item.setting h.0 h.1 h.2,
+          λ setting m. none_again items (earlier ++ item ∷ []) k.0 h.0 k.2 item.name setting m.0
+              (last_earlier earlier item) m.1,
+          are_single items (earlier ++ item ∷ []) k.0 h.0 k.2,
+        )
+        | inr k ↦ (
+          settable pieces before item.name item.setting h.0 h.1 h.2,
+          λ setting m. no_item items item.name setting m.0 k.1 m.1,
+          subst (λ (xs : List Item). AreSingle (settings_of xs)) (sym k.1) tt,
+        )
+      ]
+
+pub opens_as_set : (text : List ℕ) (test : Litmus) → IsTest text test → OpensAsSet test
+opens_as_set text test h =
+    let single : AreSingle test.items =
+    subst AreSingle (sym h.items_are) (are_single h.named h.block.1 h.items [] h.block.0 [] h.block.3) in
+    record {
+      register_count = λ t. all_length t test.items (replicate 32 0) refl;
+      register_set = λ t r n s. given (registers_open t r) test.items (replicate 32 0) n s.0 single refl s.1;
+      register_unset = λ t r no. kept (registers_open t r) test.items (replicate 32 0) no ∙ none_set 32 r;
+      location_set = λ l n s. given (words_open l) test.items finite.empty n s.0 single tt s.1;
+      location_unset = λ l no. kept (words_open l) test.items finite.empty no
+          ∙ ap (λ (x : Option ℕ). unwrap_or x 0) (get-empty nat_cmp l);
+    }

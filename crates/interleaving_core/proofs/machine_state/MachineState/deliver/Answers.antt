@@ -1,4 +1,4 @@
-use Rattle.std.proofs.Common.{◌≡◌, sym, subst, refl, arith, length, set}
+use Rattle.std.proofs.Common.{◌≡◌, ap, sym, subst, refl, ◌∙◌, arith, length, set}
 use Rattle.std.proofs.lemmas.Bool.{false≢true}
 use Rattle.std.proofs.lemmas.Option.{slice_get_read}
 use Rattle.network.specs.Mail.{Mail}
@@ -12,7 +12,9 @@ use Rattle.interleaving_core.specs.PartChanges.{answer_of}
 use Rattle.interleaving_core.proofs.ChangedParts.{delivered, delivery_wanted, set_same}
 use Rattle.interleaving_core.proofs.Endpoints.{bank_delivers, bank_endpoints, bank_has, core_delivers, core_endpoints}
 use Rattle.interleaving_core.proofs.Endpoints.{core_has, dram_asks, dram_delivers, fitted_reaction, still_fitted}
-use Rattle.interleaving_core.proofs.Only.{core_only, kept_open}
+use Rattle.interleaving_core.specs.CoreMasks.{AreMasks}
+use Rattle.interleaving_core.proofs.MaskedCores.{read_back}
+use Rattle.interleaving_core.proofs.Only.{SameOpen, core_only, kept}
 use Rattle.interleaving_core.proofs.OpenCounts.{owed_kept}
 use Rattle.interleaving_core.proofs.machine_state.MachineState.deliver.Goals as goal
 
@@ -46,12 +48,18 @@ invariant_of-self-then-core-len c =
     let part = c.index_mut.result.now in
     let here = slice_get_read c.self.inside.cores.items (length c.self.inside.cores.items) c.in-Core.core part refl
     (omega (arith, c.if-core-len.true, c.len.ensures)) c.index_mut.ensures.value in
-    let kept = subst (λ (x : Answer × CoreState × Mail). x.1.open_op ≡ part.open_op)
+    let open_kept = subst (λ (x : Answer × CoreState × Mail). x.1.open_op ≡ part.open_op)
     (sym (c.in_ok-response-in-Core.ensures.done c.args.number))
-    (kept_open part m.mail _ (core_only part message c.self.inside.flight.capacity m.mail c.args.number)) in
-    let same = owed_kept m.cores c.in-Core.core part c.respond.new.part here kept in
+    (kept part (SameOpen part) refl m.mail _ (core_only part message c.self.inside.flight.capacity m.mail
+    c.args.number)) in
+    let same = owed_kept m.cores c.in-Core.core part c.respond.new.part here open_kept in
+    let read = read_back m.cores c.in-Core.core c.respond.new.part c.index.result.now
+    (omega (arith, c.if-core-len.true, c.len.ensures)) c.index.ensures in
     still_fitted m.config c.self.inside.flight c.self.inside.cores.items c.self.inside.records.items _
-    c.self.invariant _ _ _ _ c.conclude.ensures.set_up (omega (arith, same, c.self.invariant.reserved))
+    c.self.invariant _ _ _ _ _ c.conclude.ensures.set_up (omega (arith, same, c.self.invariant.reserved))
+    (subst (λ (x : CoreState). AreMasks c.note_delivery.new.masks (set m.cores c.in-Core.core x)) read
+    (c.note_delivery.ensures m.cores part here (ap (λ (x : CoreState). x.open_op) read ∙ open_kept)
+    c.self.invariant.masked))
 
 pub respond-requires-in-Bank-clause-case : goal.respond-requires-in-Bank-clause-case
 respond-requires-in-Bank-clause-case c =

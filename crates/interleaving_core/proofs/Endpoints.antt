@@ -43,6 +43,8 @@ use Rattle.machine_theorem.specs.Shape.{GoesHome, IsOwnedBelow, IsWhole}
 use Rattle.machine_theorem.specs.Kept.{Invariant}
 use Rattle.machine_theorem.proofs.Lemmas.{each_at_number, messages_find_cases, both, core_and_bank, any_core_delivery}
 use Rattle.machine_theorem.proofs.Lemmas.{any_bank_delivery}
+use Rattle.interleaving_core.specs.declared.core_masks.CoreMasks.{CoreMasks}
+use Rattle.interleaving_core.specs.CoreMasks.{AreMasks}
 use Rattle.interleaving_core.specs.Reservation.{IsFitted, owed}
 use Rattle.interleaving_core.specs.StepAnswers.{delivery_asks, is_first_store, is_first_store_at}
 use Rattle.interleaving_core.specs.Endpoints.{BackHasEndpoints, EvictedHasEndpoints, ReactionHasEndpoints}
@@ -67,8 +69,8 @@ found_here {S} parts k case none finds part read =
     within (Some x) at is = slice_get_within parts k x at
 
 -- messages in flight that are fitted to the machine
-module _ (config : Config) (flight : Flight) (cores : List CoreState) (records : List Record) (capacity : ℕ)
-    (fits : IsFitted config flight cores records capacity) where
+module _ {masks : CoreMasks} (config : Config) (flight : Flight) (cores : List CoreState) (records : List Record)
+    (capacity : ℕ) (fits : IsFitted config flight cores records capacity masks) where
   pub fitted_ends : (Ends : ℕ → ℕ → Type 0) → Ends config.cores config.banks → Ends flight.cores flight.banks
   fitted_ends Ends ends = subst (λ k. Ends k flight.banks) (sym fits.cores_are) (subst (λ k. Ends config.cores k)
       (sym fits.banks_are) ends)
@@ -83,14 +85,15 @@ module _ (config : Config) (flight : Flight) (cores : List CoreState) (records :
       (ends (subst (λ k. can_send k flight.mail (sent_by reaction) ≡ true) fits.capacity_is can))
 
   -- they stay so while the machine's set-up does
-  pub still_fitted : (new : Flight) (after : List CoreState) (more : List Record) (room : ℕ) →
+  pub still_fitted : (new : Flight) (after : List CoreState) (more : List Record) (room : ℕ) (others : CoreMasks) →
       SameNetwork flight new →
-      length more + owed after ≤ room → IsFitted config new after more room
-  still_fitted new after more room set_up reserved = record {
+      length more + owed after ≤ room → AreMasks others after → IsFitted config new after more room others
+  still_fitted new after more room others set_up reserved masked = record {
     cores_are = ap (λ (t : Flight). t.cores) set_up ∙ fits.cores_are;
     banks_are = ap (λ (t : Flight). t.banks) set_up ∙ fits.banks_are;
     capacity_is = ap (λ (t : Flight). t.capacity) set_up ∙ fits.capacity_is;
     reserved = reserved;
+    masked = masked;
   }
 
 -- what a reaction sends is in flight in a machine that has the invariant

@@ -6,6 +6,7 @@ mod Endpoints
 mod DramWords
 mod InOrder
 mod LastRecord
+mod MaskedCores
 mod MemoryAnswers
 mod OpenedOps
 mod Only

@@ -53,9 +53,12 @@ only_tested made completed true done only = only
 only_tested made completed false done only = ((λ records. refl), refl)
 
 module _ (core : CoreState) where
-  -- the core's open operation is unchanged; or it is completed
+  -- the core's open operation is unchanged, and with it whether its request is out; or it is completed
   abbrev pub SameOpen : CoreState → Type 0
   SameOpen after = after.open_op ≡ core.open_op
+
+  abbrev pub SameStatus : CoreState → Type 0
+  SameStatus after = (after.open_op ≡ core.open_op) × (after.is_out ≡ core.is_out)
 
   abbrev pub OneLess : CoreState → Type 0
   OneLess after = owed_for after.open_op + 1 ≡ owed_for core.open_op
@@ -97,45 +100,75 @@ module _ (core : CoreState) where
         by_open None opens = ((λ records. refl), refl)
         by_open (Some op) opens = attempted_only op opens (core_table.attempt core) (attempt_closes core)
 
-  pub kept_open : (mail : Mail) (change : Change CoreState) → Only SameOpen (λ after. ⊥) change →
-      (applied core mail change).1.open_op ≡ core.open_op
-  kept_open mail (Keeps why) only = refl
-  kept_open mail Exhausts only = refl
-  kept_open mail (Drops left) only = refl
-  kept_open mail (Makes done after sent) only = only.1
-  kept_open mail (Completes done after) only = absurd only
+    -- where it waits the core is unchanged
+    abbrev Waits : Change CoreState → Type 0
+    Waits change = (applied core mail change).0 ≡ answer.Waiting → (applied core mail change).1 ≡ core
+
+    asked_waits : (b : Bool) (after : CoreState) (new : Mail) →
+        Waits (cond b (Makes answer.Requested after new) (Keeps (answer.Refused refusal.NetworkFull)))
+    asked_waits true after new waits = absurd (let z : answer.Requested ≡ answer.Waiting = waits in cc)
+    asked_waits false after new waits = refl
+
+    attempted_waits : (op : Op) (tries : Option Attempt × CoreState) →
+        Waits (attempted_op c number capacity mail core op tries)
+    attempted_waits op (None, after) waits = refl
+    attempted_waits op (Some (attempted.Completed received ts), after) waits =
+        absurd (let z : answer.Completed _ ≡ answer.Waiting = waits in cc)
+    attempted_waits op (Some (attempted.NeedShared pts version), after) waits =
+        asked_waits (has_capacity capacity mail) _ _ waits
+    attempted_waits op (Some (attempted.NeedExclusive version), after) waits =
+        asked_waits (has_capacity capacity mail) _ _ waits
+    attempted_waits op (Some attempted.NoRoom, after) waits = refl
+    attempted_waits op (Some attempted.Waiting, after) waits = refl
+    attempted_waits op (Some attempted.Idle, after) waits = refl
+
+    pub attempt_waits : Waits (attempt c number capacity mail core)
+    attempt_waits = by_open core.open_op
+      where
+        by_open : (o : Option Op) → Waits (attempt_open c number capacity mail core o)
+        by_open None waits = refl
+        by_open (Some op) waits = attempted_waits op (core_table.attempt core) waits
+
+  -- what holds of the core and of each core that a change makes
+  pub kept : (made : CoreState → Type 0) → made core → (mail : Mail) (change : Change CoreState) →
+      Only made (λ after. ⊥) change → made (applied core mail change).1
+  kept made same mail (Keeps why) only = same
+  kept made same mail Exhausts only = same
+  kept made same mail (Drops left) only = same
+  kept made same mail (Makes done after sent) only = only.1
+  kept made same mail (Completes done after) only = absurd only
 
   -- the core's time goes on
-  pub advance_only : (mail : Mail) → Only SameOpen (λ after. ⊥) (advanced mail (core_table.advance core))
+  pub advance_only : (mail : Mail) → Only SameStatus (λ after. ⊥) (advanced mail (core_table.advance core))
   advance_only mail = by_test (fits (core.pts + 1))
     where
-      by_test : (b : Bool) → Only SameOpen (λ after. ⊥)
+      by_test : (b : Bool) → Only SameStatus (λ after. ⊥)
           (advanced mail (cond b (Some tt, record core { pts = core.pts + 1 }) (None, core)))
-      by_test true = (((λ records. refl), refl), refl)
+      by_test true = (((λ records. refl), refl), (refl, refl))
       by_test false = tt
 
   -- a copy leaves the core's cache
-  pub evict_only : (capacity : ℕ) (mail : Mail) (line : ℕ) → Only SameOpen (λ after. ⊥)
+  pub evict_only : (capacity : ℕ) (mail : Mail) (line : ℕ) → Only SameStatus (λ after. ⊥)
       (copy_evicted capacity mail (core_table.evict core line))
   evict_only capacity mail line = by_copy (copy_of core.cache line)
     where
-      by_state : (copy : LineCopy) (b : Bool) → Only SameOpen (λ after. ⊥)
+      by_state : (copy : LineCopy) (b : Bool) → Only SameStatus (λ after. ⊥)
           (copy_evicted capacity mail (
             Ok (cond b (Some (to_bank core line (body.FlushRep (words_of_copy copy))))
                 None),
             record core { cache = without_copy core.cache line },
           ))
       by_state copy true =
-          only_tested SameOpen (λ after. ⊥) (has_capacity capacity mail) _ (((λ records. refl), refl), refl)
-      by_state copy false = (((λ records. refl), refl), refl)
+          only_tested SameStatus (λ after. ⊥) (has_capacity capacity mail) _ (((λ records. refl), refl), (refl, refl))
+      by_state copy false = (((λ records. refl), refl), (refl, refl))
 
-      by_pin : (copy : LineCopy) (b : Bool) → Only SameOpen (λ after. ⊥)
+      by_pin : (copy : LineCopy) (b : Bool) → Only SameStatus (λ after. ⊥)
           (copy_evicted capacity mail
           (sent_back core line (cond b (Err not_left.Pinned, core.cache) (Ok copy, without_copy core.cache line))))
       by_pin copy true = ((λ records. refl), refl)
       by_pin copy false = by_state copy (is_exclusive copy.state)
 
-      by_copy : (o : Option LineCopy) → Only SameOpen (λ after. ⊥)
+      by_copy : (o : Option LineCopy) → Only SameStatus (λ after. ⊥)
           (copy_evicted capacity mail (sent_back core line (left_cache core.cache line (pinned_line core) o)))
       by_copy None = ((λ records. refl), refl)
       by_copy (Some copy) = by_pin copy (is_pinned (pinned_line core) line)

@@ -1,4 +1,5 @@
 pub mod PartChanges
+pub mod CoreMasks
 pub mod Endpoints
 pub mod OpeningWords
 pub mod RecordOrder

@@ -1,6 +1,6 @@
 -- What is looked up in a machine. A core or a bank that isn't there has nothing.
 use Rattle.std.specs.Prelude.{ℕ, Bool, true, false, List, [], Option, Some, None, option_map, slice_get}
-use Rattle.std.specs.Prelude.{if◌then◌else◌, is_some}
+use Rattle.std.specs.Prelude.{if◌then◌else◌}
 use Rattle.line_sets.specs.SetTable.{all_listed}
 use Rattle.network.specs.declared.message.Body.{Body}
 use Rattle.network.specs.declared.message.Body.TheVariants.{ShReq, ExReq}
@@ -15,14 +15,6 @@ use Rattle.llc_bank.specs.BankTable as bank_table
 use Rattle.llc_bank.specs.BankTable.{BankState}
 use Rattle.llc_bank.specs.Settled.{is_settled}
 use Rattle.machine_table.specs.Machine.{Machine}
-
--- whether a core has an open operation, and whether its request is out
-abbrev pub open_status_of : Option CoreState → Bool × Bool
-open_status_of None = (false, false)
-open_status_of (Some core) = (is_some core.open_op, core.is_out)
-
-abbrev pub open_status : Machine → ℕ → Bool × Bool
-open_status m core = open_status_of (slice_get m.cores core)
 
 -- the copy that leaves a core's cache to make a place for a line, where there is none: the least recently used one
 abbrev pub victim_of : ℕ → Option CoreState → Option ℕ

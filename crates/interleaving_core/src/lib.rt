@@ -2,6 +2,7 @@
 //! docs/PROTOCOL.md has the order of refusals.
 #![tactic(auto)]
 
+mod core_masks;
 mod kept_orders;
 pub mod laws;
 mod line_words;
@@ -17,6 +18,7 @@ mod reopening;
 mod steps;
 pub mod system;
 
+pub use core_masks::with_bit;
 pub use machine_table::{Answer, Config, Counts, Event, OpenError, Refusal};
 pub use network::{Body, LineNo, Message, MsgNo, Node, TimedLine, Words};
 pub use op_list::OpList;

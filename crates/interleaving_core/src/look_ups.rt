@@ -4,7 +4,8 @@ ghost use Rattle.network.specs.NumberedMessages.{IsRising, at_number};
 ghost use Rattle.ranked_lines.specs.Rising.{sorted};
 ghost use Rattle.interleaving_core.specs.LookUps.{copies, entries, free_copies, is_request, make_room};
 ghost use Rattle.machine_table.specs.Machine.{open_op};
-ghost use Rattle.interleaving_core.specs.LookUps.{open_status, room_at, victim};
+ghost use Rattle.interleaving_core.specs.LookUps.{room_at, victim};
+ghost use Rattle.interleaving_core.specs.CoreMasks.{IsMask, is_idle, is_trying};
 
 use crate::machine_state::MachineState;
 use core_pts::Core;
@@ -63,15 +64,20 @@ impl MachineState {
         self.cores.get(core as usize)?.open_op()
     }
 
-    // Whether a core has an open operation, and whether its request is out.
+    // The cores without an open operation.
     #[inline(always)]
-    pub(crate) fn open_status(&self, core: u32) -> (bool, bool)
-        ensures { result ≡ open_status self.now core }
+    pub(crate) fn idle_cores(&self) -> u64
+        ensures { IsMask result (is_idle self.now) }
     {
-        match self.cores.get(core as usize) {
-            Some(core) => core.open_status(),
-            None => (false, false),
-        }
+        self.masks.idle
+    }
+
+    // The cores with an open operation whose request isn't out.
+    #[inline(always)]
+    pub(crate) fn trying_cores(&self) -> u64
+        ensures { IsMask result (is_trying self.now) }
+    {
+        self.masks.trying
     }
 
     // The copy to evict from a core's cache to make a place for a line, where there is none.

@@ -1,6 +1,7 @@
 //! The machine's parts in memory.
 ghost use Rattle.std.specs.Prelude.{◌≡◌};
 
+use crate::core_masks::CoreMasks;
 use crate::op_list::OpList;
 use core_pts::Core;
 use dram_mts::Dram;
@@ -22,6 +23,7 @@ pub(crate) struct MachineState {
     pub(crate) issued: Vec<OpList>,
     pub(crate) records: Vec<Record>,
     pub(crate) is_stopped: bool,
+    pub(crate) masks: CoreMasks,
 }
 
 impl Model for MachineState {
@@ -38,6 +40,7 @@ impl Model for MachineState {
 
     ghost view = { λ a. record { config = a.config; opening = a.opening; cores = a.cores.items; banks = a.banks.items; drams = a.drams.items; mail = a.flight.mail; issued = a.issued.items; records = a.records.items; is_stopped = a.is_stopped } };
 
-    // The messages in flight are those of this machine, and there is capacity for the record of each open operation.
-    ghost invariant = { λ a. IsFitted a.config a.flight a.cores.items a.records.items (vec_capacity a.records) };
+    // The messages in flight are those of this machine, there is capacity for the record of each open operation, and the
+    // masks are those of the cores.
+    ghost invariant = { λ a. IsFitted a.config a.flight a.cores.items a.records.items (vec_capacity a.records) a.masks };
 }

@@ -6,6 +6,7 @@ ghost use Rattle.machine_table.specs.Opening.{at_start, bank_config, banks_from,
 ghost use Rattle.machine_table.specs.Opening.{geometry};
 ghost use Rattle.interleaving_core.specs.OpeningWords.{word_set};
 
+use crate::core_masks::all_idle;
 use crate::machine_state::MachineState;
 use crate::op_list::OpList;
 use core_pts::{Core, CoreConfig};
@@ -43,6 +44,7 @@ impl MachineState {
             issued,
             records: Vec::new(alloc),
             is_stopped: false,
+            masks: all_idle(config.cores),
         })
     }
 }

@@ -4,6 +4,7 @@ ghost use Rattle.std.specs.FinMap.{empty, entries};
 ghost use Rattle.machine_table.specs.SetUp.{is_good};
 ghost use Rattle.machine_table.specs.Opening.{at_start, banks_from, cores_from, drams_from};
 
+use crate::core_masks::all_idle;
 use crate::machine_state::MachineState;
 use crate::op_list::OpList;
 use crate::opening::{bank_config, core_config, fill_drams, geometry};
@@ -46,6 +47,7 @@ impl MachineState {
             issued,
             records,
             is_stopped: false,
+            masks: all_idle(config.cores),
         })
     }
 }

@@ -7,6 +7,7 @@ ghost use Rattle.machine_theorem.specs.Kept.{Invariant};
 ghost use Rattle.interleaving_core.specs.PartChanges.{answer_in, answer_of};
 ghost use Rattle.interleaving_core.specs.StepAnswers.{Stepped, TakesMemory, asks_memory, delivery_asks};
 
+use crate::core_masks::{note, note_attempt, note_delivery};
 use crate::machine_state::MachineState;
 use crate::operations;
 use crate::plain_answer::{PlainAnswer, answer_in, answer_of, plain_of, stop_after};
@@ -40,6 +41,7 @@ impl MachineState {
         reserve(&mut self.records, self.cores.len())?;
         self.issued[at].push(&op)?;
         let _issued = self.cores[at].issue(op);
+        note(&mut self.masks, core, &self.cores[at]);
         Ok(PlainAnswer::Issued)
     }
 
@@ -56,6 +58,7 @@ impl MachineState {
         }
         let count = self.records.len();
         let answer = operations::attempt(&mut self.cores[at], &mut self.flight, core, count);
+        note_attempt(&mut self.masks, core, &self.cores[at], &answer);
         keep(&mut self.records, &answer);
         stop(&mut self.is_stopped, &answer);
         plain_of(&answer)
@@ -122,7 +125,12 @@ impl MachineState {
             return Ok(PlainAnswer::Refused(Refusal::NoSuch));
         };
         let response = match message.to {
-            Node::Core(core) => respond(&mut self.cores[core as usize], &self.flight, message),
+            Node::Core(core) => {
+                let at = core as usize;
+                let response = respond(&mut self.cores[at], &self.flight, message);
+                note_delivery(&mut self.masks, core, &self.cores[at]);
+                response
+            }
             Node::Bank(bank) => respond(&mut self.banks[bank as usize], &self.flight, message),
             Node::Dram(bank) => respond(&mut self.drams[bank as usize], &self.flight, message),
         };

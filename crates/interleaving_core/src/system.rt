@@ -15,7 +15,8 @@ ghost use Rattle.machine_theorem.specs.Coherence.{owners, coherent};
 ghost use Rattle.machine_theorem.specs.Kept.{Invariant};
 ghost use Rattle.interleaving_core.specs.LookUps.{copies, entries, free_copies, make_room};
 ghost use Rattle.machine_table.specs.Machine.{open_op};
-ghost use Rattle.interleaving_core.specs.LookUps.{open_status, victim};
+ghost use Rattle.interleaving_core.specs.LookUps.{victim};
+ghost use Rattle.interleaving_core.specs.CoreMasks.{IsMask, is_idle, is_trying};
 ghost use Rattle.interleaving_core.specs.Reservation.{completes};
 ghost use Rattle.interleaving_core.specs.Midway.{IsMidway};
 ghost use Rattle.interleaving_core.specs.StepAnswers.{Stepped, Ran, asks_memory};
@@ -226,12 +227,20 @@ impl System {
         self.state.open_op(core)
     }
 
-    /// Whether a core has an open operation, and whether its request is out; neither for a core that isn't there.
+    /// The cores without an open operation: core c is one exactly if bit c is set.
     #[inline(always)]
-    pub fn open_status(&self, core: u32) -> (bool, bool)
-        ensures { result ≡ open_status self.now core }
+    pub fn idle_cores(&self) -> u64
+        ensures { IsMask result (is_idle self.now) }
     {
-        self.state.open_status(core)
+        self.state.idle_cores()
+    }
+
+    /// The cores with an open operation whose request isn't out, in the same way.
+    #[inline(always)]
+    pub fn trying_cores(&self) -> u64
+        ensures { IsMask result (is_trying self.now) }
+    {
+        self.state.trying_cores()
     }
 
     /// The copy to evict from a core's cache to make a place for a line, where there is none: the least recently used

@@ -19,14 +19,22 @@ fn put_number(number: Option<u64>, out: &mut Reply) {
     }
 }
 
+fn has_core(cores: u64, core: u32) -> bool {
+    core < 64 && cores >> core & 1 == 1
+}
+
 /// Tells a core's open operation, and whether its request is out, which the machine must tell alike in two ways.
 pub(crate) fn put_open_of(system: &System, core: u32, out: &mut Reply) {
     let open = system.open_op(core);
     let wanted = match &open {
-        Some((_, is_out)) => (true, *is_out),
-        None => (false, false),
+        Some((_, is_out)) => (false, !*is_out),
+        None => (core < system.cores(), false),
     };
-    if system.open_status(core) == wanted {
+    if (
+        has_core(system.idle_cores(), core),
+        has_core(system.trying_cores(), core),
+    ) == wanted
+    {
         put_open(open, out);
     } else {
         out.word(DIFFER);

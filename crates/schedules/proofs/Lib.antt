@@ -1,6 +1,7 @@
 mod KnownEvents
 mod Over
 mod Pieces
+mod ReadyCores
 mod RunSteps
 mod TurnSteps
 mod TurnEnds

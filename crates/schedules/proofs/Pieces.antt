@@ -1,7 +1,10 @@
 -- Lists that have a piece for each number.
-use Rattle.std.proofs.Common.{◌≡◌, ℕ, ◌+◌, ◌<◌, List, [], ◌∷◌, ◌++◌, length, get_or, take, sym, ap, ◌∙◌}
+use Rattle.std.proofs.Common.{◌≡◌, ℕ, zero, suc, ◌+◌, ◌/◌, ◌<◌, ◌≤◌, List, [], ◌∷◌, ◌++◌, length, get_or, take, sym, ap, ap₂, ◌∙◌}
 use Rattle.std.proofs.Common.{arith}
 use Rattle.std.specs.List.{flat_map, range_with_len}
+use Rattle.std.specs.Int.{bit_at}
+use Rattle.std.specs.Int.Count.{ones, ones_step, ones-le}
+use Rattle.std.proofs.lemmas.Nat.Bits.{bit_at-suc, bit_at-zero, bit_at_lowest, same_from_bits}
 use Rattle.std.proofs.lemmas.Grind.{flat_map-append}
 use Rattle.std.proofs.lemmas.List.{map-id, length-append, append-nil}
 use Rattle.std.proofs.lemmas.List.Concat.{get_or-flat_map}
@@ -30,6 +33,29 @@ module _ {A : Type 0} (f : ℕ → List A) where
 
   pub length_more : (n : ℕ) → length (pieces (n + 1)) ≡ length (pieces n) + length (f n)
   length_more n = ap length (pieces_more n) ∙ length-append (pieces n) (f n)
+
+  ones_from : (k start mask : ℕ) → ((i : ℕ) → i < k → bit_at mask i ≡ length (f (start + i))) →
+      ((i : ℕ) → k ≤ i → bit_at mask i ≡ 0) → ones mask ≡ length (flat_map f (range_with_len start k))
+  ones_from zero start mask each past =
+      let none = ones-le 0 0 (omega arith) in
+      ap ones (same_from_bits mask 0 (λ i. past i (omega arith) ∙ sym (bit_at-zero i))) ∙ omega (arith, none)
+  ones_from (suc k) start mask each past =
+      ones_step mask
+      ∙ ap₂ (λ x y. x + y)
+      (sym (bit_at_lowest mask) ∙ each 0 (omega arith)
+      ∙ (let same : start + 0 ≡ start = omega arith in ap (λ n. length (f n)) same))
+      (ones_from k (start + 1) (mask / 2)
+      (λ i below. sym (bit_at-suc mask i) ∙ each (suc i) (omega (arith, below))
+      ∙ (let same : start + suc i ≡ start + 1 + i = omega arith in ap (λ n. length (f n)) same))
+      (λ i from. sym (bit_at-suc mask i) ∙ past (suc i) (omega (arith, from))))
+      ∙ sym (length-append (f start) (flat_map f (range_with_len (start + 1) k)))
+
+  -- a number whose bits are the lengths of the pieces has as many ones as these have elements
+  pub ones_counted : (n mask : ℕ) → ((i : ℕ) → i < n → bit_at mask i ≡ length (f i)) →
+      ((i : ℕ) → n ≤ i → bit_at mask i ≡ 0) → ones mask ≡ length (pieces n)
+  ones_counted n mask each past =
+      ones_from n 0 mask
+      (λ i below. each i below ∙ (let same : i ≡ 0 + i = omega arith in ap (λ k. length (f k)) same)) past
 
   -- what stands in a piece stands behind the pieces before it
   pub at_piece : (n h j : ℕ) (d : A) → h < n → j < length (f h) →

@@ -1,19 +1,16 @@
 -- The entry of a seeded turn's list that is made.
 use Rattle.std.proofs.Common.{◌≡◌, ◌+◌, ◌%◌, ◌<◌, ℕ, Bool, true, false, List, [], ◌∷◌, ◌++◌}
-use Rattle.std.proofs.Common.{length, map, get_or, Option, Some, None, sym, ap, ◌∙◌, arith}
+use Rattle.std.proofs.Common.{length, map, get_or, Some, sym, ap, ◌∙◌, arith}
 use Rattle.std.proofs.Common.{◌≢◌}
-use Rattle.std.specs.Prelude.{◌≤◌, slice_get}
+use Rattle.std.specs.Prelude.{slice_get}
 use Rattle.std.proofs.Math.Nat.{mod-lt}
-use Rattle.std.proofs.Common.{inl, inr, set, subst, get_or-set_same, get_or-set_other}
+use Rattle.std.proofs.Common.{inl, inr, set, get_or-set_same, get_or-set_other}
 use Rattle.std.proofs.lemmas.Bool.{cases_eq, false≢true}
 use Rattle.std.proofs.lemmas.List.{length-map, length-append, get_or_append_left, get_or-append-add, get_or-map}
 use Rattle.std.proofs.lemmas.List.{get_or_past}
 use Rattle.std.proofs.lemmas.List.FromFn.{get_or-map-range_with_len, length-map-range_with_len}
 use Rattle.std.proofs.lemmas.Option.{get_or_from_slice_get, slice_get_within, slice_get-get_or}
 use Rattle.machine_table.specs.Machine.{open_op, Machine}
-use Rattle.physiological_order.specs.declared.operation.Op.{Op}
-use Rattle.programs.specs.declared.steps.Step.{Step}
-use Rattle.programs.specs.declared.steps.Step.TheVariants as step
 use Rattle.machine_table.specs.declared.event.Event.{Event}
 use Rattle.machine_table.specs.declared.event.Event.TheVariants as event
 use Rattle.ranked_lines.specs.Rising.{sorted}
@@ -22,7 +19,7 @@ use Rattle.schedules.specs.declared.schedule.Choice.{Choice as Chosen}
 use Rattle.programs.specs.Acts.{Acts, next_in}
 use Rattle.schedules.specs.Schedules.{Choice, Does, Delivers, Over}
 use Rattle.schedules.specs.SeedSchedule.{Seeded, advances, core_step, core_steps, choice_at, line_events}
-use Rattle.schedules.specs.SeedViews.{Picks, StepsAt}
+use Rattle.schedules.specs.SeedViews.{Picks}
 use Rattle.schedules.proofs.Pieces.{at_piece, length_more}
 
 is_end : Choice Seeded → Bool
@@ -91,14 +88,6 @@ one_count_more counts lengths n count within is each i below = elim (cases_eq i 
   | inr other ↦ get_or-set_other counts n i count 0 other ∙ each i (omega (arith, other, below))
 ]
 
--- cores' steps, of which each core has one or none
-pub one_at_most : (core : ℕ) (o : Option (Op × Bool)) (next : Option Step) → length (core_step core o next) ≤ 1
-one_at_most core None None = omega arith
-one_at_most core None (Some (step.Op op)) = omega arith
-one_at_most core None (Some step.Advance) = omega arith
-one_at_most core (Some (op, true)) next = omega arith
-one_at_most core (Some (op, false)) next = omega arith
-
 module _ {P : Type 0} (acts : Acts P) (m : Machine) (programs : List P) where
   abbrev step_of : ℕ → List (Choice Seeded)
   step_of core = core_step core (open_op m core) (next_in acts programs core)
@@ -106,19 +95,6 @@ module _ {P : Type 0} (acts : Acts P) (m : Machine) (programs : List P) where
   pub one_core_more : (core : ℕ) → length (core_steps acts m programs (core + 1)) ≡
       length (core_steps acts m programs core) + length (step_of core)
   one_core_more core = length_more step_of core
-
-  -- a list of cores that do something, after one more core was written behind them and counted if it does
-  pub one_listed_more : (ready : List ℕ) (core count steps : ℕ) → count < length ready → core < m.config.cores →
-      count ≡ length (core_steps acts m programs core) → steps ≡ length (step_of core) → steps ≤ 1 →
-      ((place : ℕ) → place < count → StepsAt acts m programs (get_or ready place 0) place) →
-      (place : ℕ) → place < count + steps → StepsAt acts m programs (get_or (set ready count core) place 0) place
-  one_listed_more ready core count steps within below is are most each place inside = elim (cases_eq place count) [
-    | inl e ↦ subst (λ k. StepsAt acts m programs k place)
-        (sym (ap (λ k. get_or (set ready count core) k 0) e ∙ get_or-set_same ready count core 0 within))
-        (below, sym is ∙ sym e, omega (arith, are, inside, e))
-    | inr other ↦ subst (λ k. StepsAt acts m programs k place)
-        (sym (get_or-set_other ready count place core 0 other)) (each place (omega (arith, other, inside, most)))
-  ]
 
   -- what a core does stands behind what the cores below it do
   pub step_found : (cores core place left : ℕ) (choice : Chosen) → core < cores →

@@ -1,12 +1,10 @@
 -- How many steps are left in a seeded turn, and how an entry that is picked stands for what the schedule has next.
-use Rattle.std.specs.Prelude.{◌≡◌, ◌≢◌, ◌<◌, ℕ, List, [], ◌∷◌, length, Option, Some, None, IsSome}
+use Rattle.std.specs.Prelude.{◌≡◌, ◌≢◌, ℕ, List, [], ◌∷◌, Option, Some, None, IsSome}
 use Rattle.std.specs.Prelude.{Result, Ok, Err}
 use Rattle.schedules.specs.declared.schedule.Choice.{Choice as Chosen}
 use Rattle.schedules.specs.declared.schedule.Choice.TheVariants as chosen
 use Rattle.schedules.specs.Schedules.{Choice, Does, Tries, Delivers, Advances, Over}
-use Rattle.machine_table.specs.Machine.{Machine, open_op}
-use Rattle.programs.specs.Acts.{Acts, next_in}
-use Rattle.schedules.specs.SeedSchedule.{Seeded, core_step, core_steps}
+use Rattle.schedules.specs.SeedSchedule.{Seeded}
 
 -- one step, while the words of the turn are there
 abbrev pub left_with : Option (ℕ × ℕ) → ℕ
@@ -37,9 +35,3 @@ PicksOne next (Err e) = next ≢ Over
 abbrev pub PicksAny : List (Choice Seeded) → Option Chosen → Type 0
 PicksAny choices None = choices ≡ []
 PicksAny choices (Some choice) = (next : Choice Seeded) × (choices ≡ next ∷ []) × Picks next choice
-
--- a core does something next, behind so many steps of the cores below it
-abbrev pub StepsAt : {P : Type 0} → Acts P → Machine → List P → ℕ → ℕ → Type 0
-StepsAt acts m programs core place =
-    (core < m.config.cores) × (length (core_steps acts m programs core) ≡ place)
-    × (0 < length (core_step core (open_op m core) (next_in acts programs core)))

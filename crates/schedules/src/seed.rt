@@ -1,18 +1,20 @@
 //! The seeded schedule: each turn draws two words, the first for a list of events, the second for the entry of it that
-//! is made. No list of events is built: the cores that do something are listed, other entries are counted, and the one
+//! is made. No list of events is built: the cores that do something are known, other entries are counted, and the one
 //! that is wanted is looked up.
-ghost use Rattle.std.specs.Prelude.{◌≡◌, ◌∷◌, [], ◌<◌, ◌≤◌, ◌+◌, ◌%◌, ◌*◌, ◌^◌, ℕ, List, length, IfOk, Some};
-ghost use Rattle.std.specs.Prelude.{if◌then◌else◌, slice_get, slice_index_or};
+ghost use Rattle.std.specs.Prelude.{◌≡◌, ◌∷◌, [], ◌<◌, ◌≤◌, ◌+◌, ◌%◌, ◌*◌, ◌^◌, ◌&&◌, ℕ, List, length, IfOk, Some};
+ghost use Rattle.std.specs.Prelude.{count_ones, is_some, slice_get};
+ghost use Rattle.std.specs.Int.{bit_at};
+ghost use Rattle.interleaving_core.specs.CoreMasks.{IsMask, is_idle};
 ghost use Rattle.interleaving_core.specs.LookUps.{entries, free_copies};
 ghost use Rattle.machine_table.specs.Machine.{open_op};
 ghost use Rattle.ranked_lines.specs.Rising.{sorted};
 ghost use Rattle.programs.specs.Acts.{next_in};
 ghost use Rattle.schedules.specs.SeedSchedule.{advances, core_step, core_steps, choice_at, line_events, of_seed, steps};
-ghost use Rattle.schedules.specs.SeedViews.{Picks, PicksAny, PicksOne, StepsAt};
+ghost use Rattle.schedules.specs.SeedViews.{Picks, PicksAny, PicksOne};
 
 use crate::look_ups::next_in;
 use crate::schedule::{Choice, Schedule};
-use interleaving_core::{Event, System};
+use interleaving_core::{Event, System, with_bit};
 use network::LineNo;
 use physiological_order::Op;
 use programs::Step;
@@ -225,45 +227,33 @@ fn core_step<P: Program>(system: &System, programs: &mut [P], core: u32) -> Opti
     }
 }
 
-// One step where a core has an open operation whose request isn't out, or none and its program has a step; else none.
-#[inline(always)]
-fn step_count(is_open: bool, is_out: bool, has_next: bool) -> u32
-    ensures { result ≡ (if is_open then (if is_out then 0 else 1) else
-        (if has_next then 1 else 0)) }
-{
-    u32::from(is_open & !is_out | !is_open & has_next)
-}
-
-// How many steps a core does next: one, or none. The program is asked even while the core waits. So no branch depends
-// on which cores do something, and the processor guesses none of these wrong.
-#[inline(always)]
-fn steps_next<P: Program>(system: &System, programs: &mut [P], core: u32) -> u32
-    ensures step { result ≡ length (core_step core (open_op system.now core)
-        (next_in P.acts programs.old core)) }
+// The cores that have no open operation and whose programs have a step: core c is one exactly if bit c is set.
+fn issuing<P: Program>(system: &System, programs: &mut [P]) -> u64
+    ensures mask { IsMask result (λ core. is_idle system.now core
+        && is_some (next_in P.acts programs.old core)) }
     ensures same { programs.new ≡ programs.old }
 {
-    let (is_open, is_out) = system.open_status(core);
-    let has_next = next_in(programs, core).is_some();
-    step_count(is_open, is_out, has_next)
-}
-
-// The cores that do something next, in rising order, and how many they are. A machine has at most 64.
-fn list_ready<P: Program>(system: &System, programs: &mut [P], ready: &mut [u8]) -> u32
-    requires place_each { 64 ≤ length ready.old }
-    ensures each { (place : ℕ) → place < result → StepsAt P.acts system.now programs.old
-        (slice_index_or ready.new place 0) place }
-    ensures count { result ≡ length (core_steps P.acts system.now programs.old
-        system.now.config.cores) }
-    ensures bound { result ≤ 64 }
-    ensures long { length ready.new ≡ length ready.old }
-    ensures same { programs.new ≡ programs.old }
-{
-    let mut count = 0;
-    for core in 0..system.cores() {
-        ready[count as usize] = core as u8;
-        count += steps_next(system, programs, core);
+    let mut ready = 0;
+    let mut left = system.idle_cores();
+    while left != 0 {
+        let core = left.trailing_zeros();
+        ready = with_bit(ready, core, next_in(programs, core).is_some());
+        left = with_bit(left, core, false);
     }
-    count
+    ready
+}
+
+// The cores that do something next, in the same way.
+#[inline(always)]
+fn ready_cores<P: Program>(system: &System, programs: &mut [P]) -> u64
+    ensures each { (core : ℕ) → core < system.now.config.cores → bit_at result core ≡ length
+        (core_step core (open_op system.now core) (next_in P.acts programs.old core)) }
+    ensures count { count_ones result ≡ length (core_steps P.acts system.now programs.old
+        system.now.config.cores) }
+    ensures same { programs.new ≡ programs.old }
+{
+    let _cores = system.cores();
+    system.trying_cores() | issuing(system, programs)
 }
 
 // What a core does next that does something.
@@ -281,18 +271,24 @@ fn sure_step<P: Program>(system: &System, programs: &mut [P], core: u32) -> Choi
     }
 }
 
-// What the core does next that comes after so many others that do something.
-fn step_at<P: Program>(system: &System, programs: &mut [P], ready: &[u8], place: u32) -> Choice
+// What the core does next that comes after so many others of those that do something.
+fn step_at<P: Program>(system: &System, programs: &mut [P], ready: u64, place: u32) -> Choice
     requires inside { place < length (core_steps P.acts system.now programs.old
         system.now.config.cores) }
-    requires there { place < length ready.now }
-    requires core { StepsAt P.acts system.now programs.old
-        (slice_index_or ready.now place 0) place }
+    requires each { (core : ℕ) → core < system.now.config.cores → bit_at ready core ≡ length
+        (core_step core (open_op system.now core) (next_in P.acts programs.old core)) }
     ensures step { (next : _) × (slice_get (core_steps P.acts system.now programs.old
         system.now.config.cores) place ≡ Some next) × Picks next result }
     ensures same { programs.new ≡ programs.old }
 {
-    sure_step(system, programs, u32::from(ready[place as usize]))
+    let mut count = 0;
+    for core in 0..system.cores() {
+        count += (ready >> core & 1) as u32;
+        if count > place {
+            return sure_step(system, programs, core);
+        }
+    }
+    unreachable!()
 }
 
 // A step of a core, or the delivery of a message.
@@ -300,15 +296,15 @@ fn step<P: Program>(system: &System, programs: &mut [P], b: u32) -> Choice
     ensures step { Picks (choice_at (steps P.acts system.now programs.old) b) result }
     ensures same { programs.new ≡ programs.old }
 {
-    let mut ready = [0; 64];
-    let count = list_ready(system, programs, &mut ready);
+    let ready = ready_cores(system, programs);
+    let count = ready.count_ones();
     let total = u128::from(count) + u128::from(system.messages());
     if total == 0 {
         return Choice::Over;
     }
     let at = place_in(b, total);
     if at < count {
-        return step_at(system, programs, &ready, at);
+        return step_at(system, programs, ready, at);
     }
     match system.message(at - count) {
         Some(number) => Choice::Delivers(number),

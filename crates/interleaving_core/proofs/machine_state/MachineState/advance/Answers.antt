@@ -1,4 +1,4 @@
-use Rattle.std.proofs.Common.{◌≡◌, ap, sym, subst, refl, ◌∙◌, arith, length, slice_get, set}
+use Rattle.std.proofs.Common.{ap, sym, subst, refl, ◌∙◌, arith, length, slice_get, set}
 use Rattle.std.proofs.lemmas.Option.{slice_get_read}
 use Rattle.network.specs.Mail.{Mail}
 use Rattle.core_pts.specs.CoreTable.{CoreState}
@@ -8,7 +8,8 @@ use Rattle.machine_table.specs.Transition.{advance_at}
 use Rattle.interleaving_core.specs.contracts.machine_state.MachineState.{the_view}
 use Rattle.interleaving_core.specs.PartChanges.{answer_of}
 use Rattle.interleaving_core.proofs.ChangedParts.{made_without, set_same}
-use Rattle.interleaving_core.proofs.Only.{SameOpen, advance_only, kept_open}
+use Rattle.interleaving_core.proofs.MaskedCores.{still_masked}
+use Rattle.interleaving_core.proofs.Only.{SameStatus, advance_only, kept}
 use Rattle.interleaving_core.proofs.OpenCounts.{owed_kept}
 use Rattle.interleaving_core.proofs.machine_state.MachineState.advance.Goals as goal
 
@@ -18,14 +19,16 @@ invariant_of-self c =
     let mail : Mail = c.self.inside.flight.mail in
     let here = slice_get_read c.self.inside.cores.items (length c.self.inside.cores.items) c.args.core
     c.index_mut.result.now refl (omega (arith, c.if-at-len.false, c.len.ensures)) c.index_mut.ensures.value in
-    let kept = subst (λ (x : Answer × CoreState × Mail). x.1.open_op ≡ core.open_op)
-    (sym (c.advance-plain.ensures mail)) (kept_open core mail _ (advance_only core mail)) in
-    let same = owed_kept c.self.inside.cores.items c.args.core core c.advance-plain.new.core here kept in
+    let status = subst (λ (x : Answer × CoreState × Mail). SameStatus core x.1) (sym (c.advance-plain.ensures mail))
+    (kept core (SameStatus core) (refl, refl) mail _ (advance_only core mail)) in
+    let same = owed_kept c.self.inside.cores.items c.args.core core c.advance-plain.new.core here status.0 in
     record {
       cores_are = c.self.invariant.cores_are;
       banks_are = c.self.invariant.banks_are;
       capacity_is = c.self.invariant.capacity_is;
       reserved = omega (arith, same, c.self.invariant.reserved);
+      masked = still_masked c.self.inside.masks c.self.inside.cores.items c.args.core core _ here c.self.invariant.masked
+          status.0 status.1;
     }
 
 pub returns : goal.returns
@@ -36,7 +39,7 @@ returns c =
     c.index_mut.result.now refl (omega (arith, c.if-at-len.false, c.len.ensures)) c.index_mut.ensures.value in
     made_without m (λ x. set m.cores c.args.core x) (λ x. m.banks) (λ x. m.drams) core
     (set_same m.cores c.args.core core here) refl refl
-    (SameOpen core) _ (advance_only core m.mail) (answer_of c.advance-plain.result) c.advance-plain.new.core m.mail
+    (SameStatus core) _ (advance_only core m.mail) (answer_of c.advance-plain.result) c.advance-plain.new.core m.mail
     c.stop_after.new.is_stopped (c.advance-plain.ensures m.mail) c.stop_after.ensures
     ∙ ap (advance_at m c.args.core) (sym here)
     ∙ ap (λ (n : Machine). advance_at n c.args.core (slice_get n.cores c.args.core)) c.self.view_is

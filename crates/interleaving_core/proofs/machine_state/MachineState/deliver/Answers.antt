@@ -1,5 +1,6 @@
-use Rattle.std.proofs.Common.{◌≡◌, ◌||◌, List, Result, Ok, Err, IfOk, OnErr, sym, subst, refl, ◌∙◌, arith, set}
+use Rattle.std.proofs.Common.{◌≡◌, ◌||◌, List, Result, Ok, Err, IfOk, OnErr, ap, sym, subst, refl, ◌∙◌, arith, set}
 use Rattle.std.proofs.lemmas.Bool.{false≢true}
+use Rattle.std.proofs.lemmas.Option.{slice_get_within}
 use Rattle.std.specs.Vec.{vec_capacity}
 use Rattle.network.specs.Flight.{SameNetwork}
 use Rattle.network.specs.Mail.{Mail}
@@ -12,13 +13,16 @@ use Rattle.machine_table.specs.Machine.{Machine}
 use Rattle.machine_table.specs.Transition.{deliver_message}
 use Rattle.interleaving_core.specs.contracts.machine_state.MachineState.{the_view}
 use Rattle.interleaving_core.specs.declared.machine_state.MachineState.TheInside.{Inside}
+use Rattle.interleaving_core.specs.declared.core_masks.CoreMasks.{CoreMasks}
+use Rattle.interleaving_core.specs.CoreMasks.{AreMasks}
 use Rattle.interleaving_core.specs.PartChanges.{answer_of, concluded, stops}
 use Rattle.interleaving_core.specs.Reservation.{IsFitted, owed}
 use Rattle.interleaving_core.proofs.ChangedParts.{delivered, delivery_wanted, set_same}
 use Rattle.interleaving_core.proofs.Endpoints.{bank_delivers, bank_endpoints, bank_has, bank_here, core_delivers}
 use Rattle.interleaving_core.proofs.Endpoints.{core_endpoints, core_has, core_here, dram_asks, dram_delivers, dram_here}
 use Rattle.interleaving_core.proofs.Endpoints.{fitted_reaction, still_fitted}
-use Rattle.interleaving_core.proofs.Only.{core_only, kept_open}
+use Rattle.interleaving_core.proofs.MaskedCores.{read_back}
+use Rattle.interleaving_core.proofs.Only.{SameOpen, core_only, kept}
 use Rattle.interleaving_core.proofs.OpenCounts.{owed_kept}
 use Rattle.interleaving_core.proofs.machine_state.MachineState.deliver.Goals as goal
 use Rattle.interleaving_core.proofs.machine_state.MachineState.deliver.Goals.{in-Core, in-Bank, in-Dram}
@@ -99,26 +103,32 @@ invariant_of-self-2 c =
     let m : Machine = the_view c.self.inside in
     let flight = c.conclude.new.flight in
     let Fits : Inside → Type 0 = λ i. SameNetwork i.flight flight →
-    IsFitted i.config flight i.cores.items i.records.items (vec_capacity i.records) in
-    let fitted = λ (cores : List CoreState) (same : owed cores ≡ owed m.cores)
-    (set_up : SameNetwork c.self.inside.flight flight).
+    IsFitted i.config flight i.cores.items i.records.items (vec_capacity i.records) i.masks in
+    let fitted = λ (cores : List CoreState) (same : owed cores ≡ owed m.cores) (masks : CoreMasks)
+    (masked : AreMasks masks cores) (set_up : SameNetwork c.self.inside.flight flight).
     still_fitted m.config c.self.inside.flight m.cores c.self.inside.records.items _ c.self.invariant flight cores
-    c.self.inside.records.items (vec_capacity c.self.inside.records) set_up
-    (omega (arith, same, c.self.invariant.reserved)) in
+    c.self.inside.records.items (vec_capacity c.self.inside.records) masks set_up
+    (omega (arith, same, c.self.invariant.reserved)) masked in
     let fits : Fits c.match-message.self-inside = elim c.match-message.branch [
       | in-Core w ↦
           let k = w.in-Core.core in
           let part = w.index_mut.result.now in
           let here = core_here m _ c.self.view_is c.requires c.args.number c.in-Some.message.now
           c.in-Some.ensures.value k w.in-Core.is part w.index_mut.ensures.value in
-          let kept = subst (λ (x : Answer × CoreState × Mail). x.1.open_op ≡ part.open_op)
+          let open_kept = subst (λ (x : Answer × CoreState × Mail). x.1.open_op ≡ part.open_op)
           (sym (of_ok w.response-is _ c.in_ok-response.was w.respond-response.ensures.done c.args.number))
-          (kept_open part m.mail _ (core_only part c.in-Some.message.now c.self.inside.flight.capacity m.mail
-          c.args.number)) in
-          subst Fits (sym w.self-inside-is) (fitted (set m.cores k w.respond-response.new.part)
-          (owed_kept m.cores k part w.respond-response.new.part here kept))
-      | in-Bank w ↦ subst Fits (sym w.self-inside-is) (fitted m.cores refl)
-      | in-Dram w ↦ subst Fits (sym w.self-inside-is) (fitted m.cores refl)
+          (kept part (SameOpen part) refl m.mail _ (core_only part c.in-Some.message.now
+          c.self.inside.flight.capacity m.mail c.args.number)) in
+          let after = w.respond-response.new.part in
+          let read = read_back m.cores k after w.index.result.now (slice_get_within m.cores k part here)
+          w.index.ensures in
+          subst Fits (sym w.self-inside-is) (fitted (set m.cores k after)
+          (owed_kept m.cores k part after here open_kept) w.note_delivery.new.masks
+          (subst (λ (x : CoreState). AreMasks w.note_delivery.new.masks (set m.cores k x)) read
+          (w.note_delivery.ensures m.cores part here (ap (λ (x : CoreState). x.open_op) read ∙ open_kept)
+          c.self.invariant.masked)))
+      | in-Bank w ↦ subst Fits (sym w.self-inside-is) (fitted m.cores refl c.self.inside.masks c.self.invariant.masked)
+      | in-Dram w ↦ subst Fits (sym w.self-inside-is) (fitted m.cores refl c.self.inside.masks c.self.invariant.masked)
     ] in
     fits c.conclude.ensures.set_up
 

@@ -1,4 +1,4 @@
-use Rattle.std.proofs.Common.{◌≡◌, ap, sym, subst, refl, arith, length, set, slice_get}
+use Rattle.std.proofs.Common.{ap, sym, subst, refl, arith, length, set, slice_get}
 use Rattle.std.proofs.lemmas.Option.{slice_get_read}
 use Rattle.network.specs.Mail.{Mail}
 use Rattle.core_pts.specs.CoreTable as core_table
@@ -13,7 +13,8 @@ use Rattle.interleaving_core.specs.PartChanges.{answer_of}
 use Rattle.interleaving_core.specs.Endpoints.{BackHasEndpoints}
 use Rattle.interleaving_core.proofs.ChangedParts.{event_done, set_same}
 use Rattle.interleaving_core.proofs.Endpoints.{back_endpoints, fitted_ends, still_fitted}
-use Rattle.interleaving_core.proofs.Only.{SameOpen, evict_only, kept_open}
+use Rattle.interleaving_core.proofs.MaskedCores.{still_masked}
+use Rattle.interleaving_core.proofs.Only.{SameStatus, evict_only, kept}
 use Rattle.interleaving_core.proofs.OpenCounts.{owed_kept}
 use Rattle.interleaving_core.proofs.machine_state.MachineState.evict_cache.Goals as goal
 
@@ -36,12 +37,13 @@ invariant_of-self c =
     let part = c.index_mut.result.now in
     let here = slice_get_read c.self.inside.cores.items (length c.self.inside.cores.items) c.args.core part refl
     (omega (arith, c.if-at-len.false, c.len.ensures)) c.index_mut.ensures.value in
-    let kept = subst (λ (x : Answer × CoreState × Mail). x.1.open_op ≡ part.open_op)
-    (sym c.evict_copy-plain.ensures.done)
-    (kept_open part m.mail _ (evict_only part c.self.inside.flight.capacity m.mail c.args.line)) in
-    let same = owed_kept m.cores c.args.core part c.evict_copy-plain.new.core here kept in
+    let status = subst (λ (x : Answer × CoreState × Mail). SameStatus part x.1) (sym c.evict_copy-plain.ensures.done)
+    (kept part (SameStatus part) (refl, refl) m.mail _ (evict_only part c.self.inside.flight.capacity m.mail
+    c.args.line)) in
+    let same = owed_kept m.cores c.args.core part c.evict_copy-plain.new.core here status.0 in
     still_fitted m.config c.self.inside.flight c.self.inside.cores.items c.self.inside.records.items _
-    c.self.invariant _ _ _ _ c.evict_copy-plain.ensures.set_up (omega (arith, same, c.self.invariant.reserved))
+    c.self.invariant _ _ _ _ _ c.evict_copy-plain.ensures.set_up (omega (arith, same, c.self.invariant.reserved))
+    (still_masked c.self.inside.masks m.cores c.args.core part _ here c.self.invariant.masked status.0 status.1)
 
 pub returns : goal.returns
 returns c =
@@ -51,7 +53,7 @@ returns c =
     (omega (arith, c.if-at-len.false, c.len.ensures)) c.index_mut.ensures.value in
     event_done m (λ x. set m.cores c.args.core x) (λ x. m.banks) (λ x. m.drams) part
     (set_same m.cores c.args.core part here) refl refl
-    (SameOpen part) (λ n. copy_evicted n m.mail (core_table.evict part c.args.line))
+    (SameStatus part) (λ n. copy_evicted n m.mail (core_table.evict part c.args.line))
     (evict_only part m.config.messages m.mail c.args.line)
     c.self.inside.flight.capacity c.self.invariant.capacity_is _ c.self.view_is
     (λ n. evict_copy n c.args.core c.args.line (slice_get n.cores c.args.core))

@@ -5,6 +5,8 @@ use Rattle.core_pts.specs.CoreTable.{CoreState}
 use Rattle.machine_table.specs.Machine.{Machine}
 use Rattle.machine_theorem.specs.Kept.{Invariant}
 use Rattle.interleaving_core.specs.contracts.machine_state.MachineState.{the_view}
+use Rattle.interleaving_core.specs.CoreMasks.{AreMasks}
+use Rattle.interleaving_core.proofs.MaskedCores.{read_back}
 use Rattle.interleaving_core.proofs.OpenedOps.{issue_done, issue_wanted, read_there, tested_free}
 use Rattle.interleaving_core.proofs.OpenCounts.{owed_within}
 use Rattle.interleaving_core.proofs.machine_state.MachineState.issue.Goals as goal
@@ -38,13 +40,20 @@ returns-in_err-push-clause-wanted c =
 
 pub invariant_of-self-2 : goal.invariant_of-self-2
 invariant_of-self-2 c =
-    let same = length-set c.self.inside.cores.items c.args.core c.issue-issued.new.self in
-    let most = owed_within (set c.self.inside.cores.items c.args.core c.issue-issued.new.self) in
+    let cores = c.self.inside.cores.items in
+    let within : c.args.core < length cores = omega (arith, c.if-at-len.false, c.len.ensures) in
+    let here = slice_get_read cores (length cores) c.args.core c.index_mut-2.result.now refl within
+    c.index_mut-2.ensures.value in
+    let same = length-set cores c.args.core c.issue-issued.new.self in
+    let most = owed_within (set cores c.args.core c.issue-issued.new.self) in
     record {
       cores_are = c.self.invariant.cores_are;
       banks_are = c.self.invariant.banks_are;
       capacity_is = c.self.invariant.capacity_is;
       reserved = omega (arith, same, most, c.in_ok-reserve.ensures.ok, c.len-2.ensures);
+      masked = subst (λ (x : CoreState). AreMasks c.note.new.masks (set cores c.args.core x))
+          (read_back cores c.args.core c.issue-issued.new.self c.index-3.result.now within c.index-3.ensures)
+          (c.note.ensures cores c.index_mut-2.result.now here c.self.invariant.masked);
     }
 
 pub returns-clause-done : goal.returns-clause-done

@@ -1,4 +1,5 @@
-use Rattle.std.proofs.Common.{ap, ◌∙◌, arith, length}
+use Rattle.std.proofs.Common.{ap, subst, sym, ◌∙◌, arith, length}
+use Rattle.interleaving_core.specs.CoreMasks.{AreMasks}
 use Rattle.interleaving_core.specs.Reservation.{owed}
 use Rattle.network.specs.Flight.{Flight}
 use Rattle.interleaving_core.proofs.GoodRanges.{flight_in_range}
@@ -17,4 +18,5 @@ invariant_of-result c =
       banks_are = ap (λ (t : Flight). t.banks) c.in_ok-flight.ensures;
       capacity_is = ap (λ (t : Flight). t.capacity) c.in_ok-flight.ensures;
       reserved = omega (arith, none, empty);
+      masked = subst (AreMasks _) (sym c.in_ok-cores.ensures) (c.all_idle.ensures c.args.config);
     }

@@ -1,4 +1,5 @@
-use Rattle.std.proofs.Common.{ap, ◌∙◌, arith, length}
+use Rattle.std.proofs.Common.{ap, subst, sym, ◌∙◌, arith, length}
+use Rattle.interleaving_core.specs.CoreMasks.{AreMasks}
 use Rattle.interleaving_core.specs.Reservation.{owed}
 use Rattle.network.specs.Flight.{Flight}
 use Rattle.interleaving_core.proofs.OpenCounts.{none_at_first}
@@ -13,4 +14,5 @@ invariant_of-result c =
       banks_are = ap (λ (t : Flight). t.banks) c.clear.ensures ∙ c.self.invariant.banks_are;
       capacity_is = ap (λ (t : Flight). t.capacity) c.clear.ensures ∙ c.self.invariant.capacity_is;
       reserved = omega (arith, none, empty);
+      masked = subst (AreMasks _) (sym c.in_ok-reopen_parts.ensures.cores) (c.all_idle.ensures c.self.inside.config);
     }

@@ -15,3 +15,4 @@ mod ServiceSteps
 mod RunLaws
 mod Served
 mod SameRuns
+mod RoundEvents

@@ -28,6 +28,7 @@ use Rattle.schedules.specs.RoundEvents.{Standing, Part, step_events, copy_events
 use Rattle.schedules.specs.RoundEvents.{after_answer_to, after_event, after_events, followed_by, for_each, steps_on}
 use Rattle.schedules.specs.RoundEvents.{makes_place, attempts_once, tries_again, attempts, core_turn, makes_room}
 use Rattle.schedules.specs.RoundEvents.{delivery, deliveries, round_events, AreRounds, none, more}
+use Rattle.schedules.specs.RoundEvents.{ArePartOfRounds}
 
 append_assoc : {X : Type 0} (xs ys zs : List X) → (xs ++ ys) ++ zs ≡ xs ++ (ys ++ zs)
 append_assoc [] ys zs = refl
@@ -119,10 +120,10 @@ module _ {P : Type 0} (acts : Acts P) where
   untold programs answer.Recalled e = refl
   untold programs answer.Advanced e = refl
 
-  module _ (limit cores : ℕ) (m : Machine) (programs : List P) (progressed : Bool) (turns : ℕ) where
-    abbrev plan : Plan P Round
-    plan = plan_of acts (rounds acts) limit
+  abbrev plan : ℕ → Plan P Round
+  plan limit = plan_of acts (rounds acts) limit
 
+  module _ (limit cores : ℕ) (m : Machine) (programs : List P) (progressed : Bool) (turns : ℕ) where
     abbrev here : Standing P
     here = record { machine = m; programs = programs }
 
@@ -153,7 +154,7 @@ module _ {P : Type 0} (acts : Acts P) where
     step_fits : (core : ℕ) (o : Option (Op × Bool)) (s : Option Step) →
         Fits cores (at Within (Stepping core)) (step_events core o s
         ++ left_in cores (Attempting core) (after_events acts here (step_events core o s)))
-        (chosen plan (at Within (Stepping core)) (step_of (at Within (Stepping core)).own core o s))
+        (chosen (plan limit) (at Within (Stepping core)) (step_of (at Within (Stepping core)).own core o s))
     step_fits core None None = (refl, refl, refl)
     step_fits core None (Some (step.Op op)) =
         let rest = λ (x : Answer × Machine). left_in cores (Attempting core)
@@ -196,7 +197,7 @@ module _ {P : Type 0} (acts : Acts P) where
     attempt_fits : (core : ℕ) (o : Option (Op × Bool)) →
         Fits cores (at Within (Attempting core)) (attempts acts core o here
         ++ others cores (core + 1) (after_events acts here (attempts acts core o here)))
-        (chosen plan (at Within (Attempting core)) (attempt_of (at Within (Attempting core)).own core o))
+        (chosen (plan limit) (at Within (Attempting core)) (attempt_of (at Within (Attempting core)).own core o))
     attempt_fits core None = (refl, refl, refl)
     attempt_fits core (Some x) = (
       behind_attempt core,
@@ -221,14 +222,14 @@ module _ {P : Type 0} (acts : Acts P) where
         ]
 
     within_fits : (own : RoundStage) →
-        Fits cores (at Within own) (left_in cores own here) (next_at plan (at Within own) Within)
+        Fits cores (at Within own) (left_in cores own here) (next_at (plan limit) (at Within own) Within)
     within_fits (Stepping core) =
         let d = at Within (Stepping core) in
         cond_both (nat_lt core cores) (step_of d.own core (open_op m core) (next_in acts programs core))
         (to_stage d.own (Delivering (numbers_in_flight m)))
-        (λ choice. Fits cores d (others cores core here) (chosen plan d choice))
+        (λ choice. Fits cores d (others cores core here) (chosen (plan limit) d choice))
         (λ lt. subst (λ (l : List Event). Fits cores d l
-        (chosen plan d (step_of d.own core (open_op m core) (next_in acts programs core))))
+        (chosen (plan limit) d (step_of d.own core (open_op m core) (next_in acts programs core))))
         (sym (turn_begins core (ltb-true core cores lt)))
         (step_fits core (open_op m core) (next_in acts programs core)))
         (λ ge. (refl, refl, turns_end core (ltb-false core cores ge)))
@@ -285,7 +286,7 @@ module _ {P : Type 0} (acts : Acts P) where
     Suits Before = Unit {0}
     Suits OutOfTimes = Unit {0}
     Suits stage = (own : RoundStage) →
-        Fits cores (at stage own) (left_at cores stage own here) (next_at plan (at stage own) stage)
+        Fits cores (at stage own) (left_at cores stage own here) (next_at (plan limit) (at stage own) stage)
 
     suits : (stage : Stage) → Suits stage
     suits Before = tt
@@ -308,7 +309,7 @@ module _ {P : Type 0} (acts : Acts P) where
 
   abbrev Stands : ℕ → Standing P → List Event → Position P Round → Stage → Type 0
   Stands cores start events d Before = AreRounds acts cores start events (standing d) × (d.own.cores ≡ cores)
-  Stands cores start events d OutOfTimes = Unit {0}
+  Stands cores start events d OutOfTimes = ArePartOfRounds acts cores start events
   Stands cores start events d stage = InRound cores start events d stage
 
   module _ (cores : ℕ) (start : Standing P) (events : List Event) (d : Position P Round) (stage : Stage)
@@ -355,7 +356,15 @@ module _ {P : Type 0} (acts : Acts P) where
         Arrives cores (after_events acts (standing d) new) rest e next_stage →
         Stands cores start (events ++ new) e next_stage
     goes_on e Before a = (ends_round e a.0 a.2, a.1)
-    goes_on e OutOfTimes a = tt
+    goes_on e OutOfTimes a = record {
+      before = h.before;
+      begun = h.begun;
+      rounds_are = h.made;
+      made = h.done ++ new;
+      left = rest;
+      events_are = events_then;
+      round_is = h.left_is ∙ ap (λ (l : List Event). h.done ++ l) left ∙ sym (append_assoc h.done new rest);
+    }
     goes_on e Within a = stays_within e Within a.0 a.1 a.2
     goes_on e (Evicting core) a = stays_within e (Evicting core) a.0 a.1 a.2
     goes_on e (MakingRoom number) a = stays_within e (MakingRoom number) a.0 a.1 a.2
@@ -382,12 +391,9 @@ module _ {P : Type 0} (acts : Acts P) where
       (f stalled))
 
   module _ (limit cores : ℕ) (start : Standing P) where
-    abbrev the_plan : Plan P Round
-    the_plan = plan_of acts (rounds acts) limit
-
     begin_comes : (events : List Event) (d : Position P Round) (over : Bool) →
         AreRounds acts cores start events (standing d) → d.own.cores ≡ cores →
-        Comes cores start events d (begin the_plan d over)
+        Comes cores start events d (begin (plan limit) d over)
     begin_comes events d true made is = λ _. made
     begin_comes events d false made is =
         cond_both (d.turns == limit) (Ends TurnsUsed)
@@ -408,17 +414,17 @@ module _ {P : Type 0} (acts : Acts P) where
         })
 
     within : (events : List Event) (d : Position P Round) (stage : Stage) → InRound cores start events d stage →
-        Fits d.own.cores d (left_at d.own.cores stage d.own.stage (standing d)) (next_at the_plan d stage) →
-        Comes cores start events d (next_at the_plan d stage)
+        Fits d.own.cores d (left_at d.own.cores stage d.own.stage (standing d)) (next_at (plan limit) d stage) →
+        Comes cores start events d (next_at (plan limit) d stage)
     within events d stage h f =
-        within_comes cores start events d stage (next_at the_plan d stage) h
-        (subst (λ (n : ℕ). Fits n d (left_at n stage d.own.stage (standing d)) (next_at the_plan d stage))
+        within_comes cores start events d stage (next_at (plan limit) d stage) h
+        (subst (λ (n : ℕ). Fits n d (left_at n stage d.own.stage (standing d)) (next_at (plan limit) d stage))
         h.cores_are f)
 
     comes_at : (events : List Event) (m : Machine) (programs : List P) (own : Round) (progressed : Bool) (turns : ℕ)
         (stage : Stage) →
         let d = at limit own.cores m programs progressed turns stage own.stage in
-        Stands cores start events d stage → Comes cores start events d (next_at the_plan d stage)
+        Stands cores start events d stage → Comes cores start events d (next_at (plan limit) d stage)
     comes_at events m programs own progressed turns Before h =
         begin_comes events (at limit own.cores m programs progressed turns Before own.stage)
         (are_over acts m programs m.config.cores) h.0 h.1
@@ -435,11 +441,11 @@ module _ {P : Type 0} (acts : Acts P) where
         (suits limit own.cores m programs progressed turns (MakingRoom number) own.stage)
 
     comes : (events : List Event) (d : Position P Round) → Stands cores start events d d.stage →
-        Comes cores start events d (next the_plan d)
+        Comes cores start events d (next (plan limit) d)
     comes events d h = comes_at events d.machine d.programs d.own d.has_progressed d.turns d.stage h
 
     all_stand : (events : List Event) (d : Position P Round) →
-        FollowsPlan the_plan (initial_position start.machine start.programs (no_round cores)) events d →
+        FollowsPlan (plan limit) (initial_position start.machine start.programs (no_round cores)) events d →
         Stands cores start events d d.stage
     all_stand events d stays = (none, refl)
     all_stand events d (moves {events = taken} {d = before} {e = e} follows is) =
@@ -447,9 +453,42 @@ module _ {P : Type 0} (acts : Acts P) where
     all_stand events d (makes {events = taken} {d = before} {event = event} {leads = leads} follows is) =
         subst (Comes cores start taken before) is (comes taken before (all_stand taken before follows))
 
+    is_part : (events : List Event) (d : Position P Round) (stage : Stage) → InRound cores start events d stage →
+        ArePartOfRounds acts cores start events
+    is_part events d stage h = record {
+      before = h.before;
+      begun = h.begun;
+      rounds_are = h.made;
+      made = h.done;
+      left = left_at cores stage d.own.stage (standing d);
+      events_are = h.events_are;
+      round_is = h.left_is;
+    }
+
+    are_part : (events : List Event) (d : Position P Round) (stage : Stage) → Stands cores start events d stage →
+        ArePartOfRounds acts cores start events
+    are_part events d Before h = record {
+      before = events;
+      begun = standing d;
+      rounds_are = h.0;
+      made = [];
+      left = round_events acts cores (standing d);
+      events_are = sym (append_none events);
+      round_is = refl;
+    }
+    are_part events d OutOfTimes h = h
+    are_part events d Within h = is_part events d Within h
+    are_part events d (Evicting core) h = is_part events d (Evicting core) h
+    are_part events d (MakingRoom number) h = is_part events d (MakingRoom number) h
+
+    pub part_of_rounds : (events : List Event) (d : Position P Round) →
+        FollowsPlan (plan limit) (initial_position start.machine start.programs (no_round cores)) events d →
+        ArePartOfRounds acts cores start events
+    part_of_rounds events d follows = are_part events d d.stage (all_stand events d follows)
+
     pub whole_rounds : (events : List Event) (d : Position P Round) →
-        FollowsPlan the_plan (initial_position start.machine start.programs (no_round cores)) events d →
-        (d.stage ≡ Before) ⊎ (next the_plan d ≡ Ends Stalled) → AreRounds acts cores start events (standing d)
+        FollowsPlan (plan limit) (initial_position start.machine start.programs (no_round cores)) events d →
+        (d.stage ≡ Before) ⊎ (next (plan limit) d ≡ Ends Stalled) → AreRounds acts cores start events (standing d)
     whole_rounds events d follows (inl before) =
         (subst (Stands cores start events d) before (all_stand events d follows)).0
     whole_rounds events d follows (inr stalled) =

@@ -1,5 +1,5 @@
 -- A round in the words of a round: the events of its parts, one behind the other, without the stages of a schedule.
-use Rattle.std.specs.Prelude.{ℕ, zero, suc, ◌+◌, Bool, List, [], ◌∷◌, ◌++◌, Option, Some, None, if◌then◌else◌}
+use Rattle.std.specs.Prelude.{◌≡◌, ℕ, zero, suc, ◌+◌, Bool, List, [], ◌∷◌, ◌++◌, Option, Some, None, if◌then◌else◌}
 use Rattle.physiological_order.specs.declared.operation.Op.{Op}
 use Rattle.programs.specs.declared.steps.Step.{Step}
 use Rattle.programs.specs.declared.steps.Step.TheVariants as step
@@ -117,3 +117,14 @@ pub data AreRounds {P : Type 0} (acts : Acts P) (cores : ℕ) (start : Standing 
   none : AreRounds acts cores start [] start
   more : {events : List Event} {s : Standing P} → AreRounds acts cores start events s →
       AreRounds acts cores start (events ++ round_events acts cores s) (after_events acts s (round_events acts cores s))
+
+-- whole rounds, and the first events of one more
+pub record ArePartOfRounds {P : Type 0} (acts : Acts P) (cores : ℕ) (start : Standing P) (events : List Event) : Type
+    0 where
+  pub before : List Event
+  pub begun : Standing P
+  pub rounds_are : AreRounds acts cores start before begun
+  pub made : List Event
+  pub left : List Event
+  pub events_are : events ≡ before ++ made
+  pub round_is : round_events acts cores begun ≡ made ++ left

@@ -14,7 +14,7 @@ ghost use Rattle.schedules.specs.Policies.{EndedBy};
 ghost use Rattle.schedules.specs.Runs.{Position, Before, Ends, next, plan_of, is_progress};
 ghost use Rattle.schedules.specs.RunEvents.{FollowsPlan, initial_position};
 ghost use Rattle.schedules.specs.RoundSchedule.{Round, no_round, rounds};
-ghost use Rattle.schedules.specs.RoundEvents.{AreRounds};
+ghost use Rattle.schedules.specs.RoundEvents.{AreRounds, ArePartOfRounds};
 
 use programs::End;
 use programs::program::Program;
@@ -36,20 +36,27 @@ pub fn progress_is_all_but_waiting()
     ensures refused { (why : Refusal) → is_progress (answer.Refused why) ≡ false }
 {}
 
-/// Up to each position before a round, and up to the end of a last round without progress, a run by rounds has made
-/// the events of whole rounds, one after the other. A round's events are the cores' turns in rising order. In each
-/// there is an Issue or Advance exactly if the core has no open operation and its program a next step, and then an
-/// Attempt exactly if it has one. Behind NoRoom, and only there, EvictCache of the copy that makes a place follows, if
-/// there is one, and a second Attempt. Then there is one Deliver of each message in flight after the cores, in their
-/// order. Behind Held, and only there, EvictBank of the line that makes a place follows, if there is one.
+/// A run by rounds makes the events of whole rounds, one after the other, and the first events of one more: none
+/// before a round, and all of them at the end of a last round without progress. A round's events are the cores' turns
+/// in rising order. In each there is an Issue or Advance exactly if the core has no open operation and its program a
+/// next step, and then an Attempt exactly if it has one. Behind NoRoom, and only there, EvictCache of the copy that
+/// makes a place follows, if there is one, and a second Attempt. Then there is one Deliver of each message in flight
+/// after the cores, in their order. Behind Held, and only there, EvictBank of the line that makes a place follows, if
+/// there is one.
 pub fn rounds_make_their_events<P: Program>()
-    ensures { (start : Machine) (opening : List P) (limit : ℕ) (events : List Event)
+    ensures whole { (start : Machine) (opening : List P) (limit : ℕ) (events : List Event)
         (last : Position P Round) →
         FollowsPlan (plan_of P.acts (rounds P.acts) limit)
         (initial_position start opening (no_round start.config.cores)) events last →
         (last.stage ≡ Before) ⊎ (next (plan_of P.acts (rounds P.acts) limit) last ≡ Ends End.Stalled) →
         AreRounds P.acts start.config.cores (record { machine = start; programs = opening })
         events (record { machine = last.machine; programs = last.programs }) }
+    ensures part { (start : Machine) (opening : List P) (limit : ℕ) (events : List Event)
+        (last : Position P Round) →
+        FollowsPlan (plan_of P.acts (rounds P.acts) limit)
+        (initial_position start opening (no_round start.config.cores)) events last →
+        ArePartOfRounds P.acts start.config.cores (record { machine = start; programs = opening })
+        events }
 {}
 
 /// Up to 2^64 runs of a batch by seeds have seeds that differ: run i has the first seed plus i, modulo 2^64.

@@ -16,3 +16,4 @@ mod ServiceSteps
 mod RunLaws
 mod Served
 mod SameRuns
+mod RoundEvents

@@ -1,6 +1,7 @@
 pub mod Schedules
 pub mod Runs
 pub mod RoundSchedule
+pub mod RoundEvents
 pub mod RoundViews
 pub mod SeedSchedule
 pub mod SeedViews

@@ -1,6 +1,6 @@
-//! Which answers are progress, that seeds differ, and that a run has no choice. A function does nothing: its contract is
-//! the law.
-ghost use Rattle.std.specs.Prelude.{◌≡◌, ◌≢◌, ◌+◌, ◌<◌, ◌^◌, false, true, ℕ, List};
+//! Which answers are progress, which events rounds make, that seeds differ, and that a run has no choice. A function
+//! does nothing: its contract is the law.
+ghost use Rattle.std.specs.Prelude.{◌≡◌, ◌≢◌, ◌⊎◌, ◌+◌, ◌<◌, ◌^◌, false, true, ℕ, List};
 ghost use Rattle.physiological_order.specs.declared.operation.Record.{Record};
 ghost use Rattle.machine_table.specs.Machine.{Machine};
 ghost use Rattle.machine_table.specs.declared.event.Event.{Event};
@@ -11,7 +11,10 @@ ghost use Rattle.schedules.specs.declared.policy.Policy.{Policy};
 ghost use Rattle.schedules.specs.declared.policy.Policy.TheVariants as policy;
 ghost use Rattle.schedules.specs.Batches.{policy_of_run};
 ghost use Rattle.schedules.specs.Policies.{EndedBy};
-ghost use Rattle.schedules.specs.Runs.{is_progress};
+ghost use Rattle.schedules.specs.Runs.{Position, Before, Ends, next, plan_of, is_progress};
+ghost use Rattle.schedules.specs.RunEvents.{FollowsPlan, initial_position};
+ghost use Rattle.schedules.specs.RoundSchedule.{Round, no_round, rounds};
+ghost use Rattle.schedules.specs.RoundEvents.{AreRounds, ArePartOfRounds};
 
 use programs::End;
 use programs::program::Program;
@@ -31,6 +34,29 @@ pub fn progress_is_all_but_waiting()
     ensures waiting { is_progress answer.Waiting ≡ false }
     ensures held { is_progress answer.Held ≡ false }
     ensures refused { (why : Refusal) → is_progress (answer.Refused why) ≡ false }
+{}
+
+/// A run by rounds makes the events of whole rounds, one after the other, and the first events of one more: none
+/// before a round, and all of them at the end of a last round without progress. A round's events are the cores' turns
+/// in rising order. In each there is an Issue or Advance exactly if the core has no open operation and its program a
+/// next step, and then an Attempt exactly if it has one. Behind NoRoom, and only there, EvictCache of the copy that
+/// makes a place follows, if there is one, and a second Attempt. Then there is one Deliver of each message in flight
+/// after the cores, in their order. Behind Held, and only there, EvictBank of the line that makes a place follows, if
+/// there is one.
+pub fn rounds_make_their_events<P: Program>()
+    ensures whole { (start : Machine) (opening : List P) (limit : ℕ) (events : List Event)
+        (last : Position P Round) →
+        FollowsPlan (plan_of P.acts (rounds P.acts) limit)
+        (initial_position start opening (no_round start.config.cores)) events last →
+        (last.stage ≡ Before) ⊎ (next (plan_of P.acts (rounds P.acts) limit) last ≡ Ends End.Stalled) →
+        AreRounds P.acts start.config.cores (record { machine = start; programs = opening })
+        events (record { machine = last.machine; programs = last.programs }) }
+    ensures part { (start : Machine) (opening : List P) (limit : ℕ) (events : List Event)
+        (last : Position P Round) →
+        FollowsPlan (plan_of P.acts (rounds P.acts) limit)
+        (initial_position start opening (no_round start.config.cores)) events last →
+        ArePartOfRounds P.acts start.config.cores (record { machine = start; programs = opening })
+        events }
 {}
 
 /// Up to 2^64 runs of a batch by seeds have seeds that differ: run i has the first seed plus i, modulo 2^64.

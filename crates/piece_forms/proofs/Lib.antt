@@ -1,4 +1,0 @@
-mod Places
-mod Laws
-mod Loops
-pub mod Lemmas

@@ -1,4 +1,0 @@
-pub mod Places
-pub mod Forms
-pub mod Faults
-pub mod Reading

@@ -75,7 +75,8 @@ def prove(name, jobs, is_urgent):
     command = ([] if is_urgent else ["nice", "-n", "5"]) + [*PROVE, "--jobs", str(jobs)]
     began = time.monotonic()
     done = subprocess.run(command, cwd=TOP / "crates" / name, stdin=subprocess.DEVNULL, capture_output=True, text=True)
-    return name, time.monotonic() - began, "" if done.returncode == 0 else done.stdout + done.stderr or "no reason was given"
+    fault = done.stdout + done.stderr or "no reason was given"
+    return name, time.monotonic() - began, fault if done.returncode else ""
 
 
 def say(text):

@@ -113,7 +113,8 @@ def page(now, before):
            + ",\n".join(", ".join(chain[at:at + 7]) for at in range(0, len(chain), 7)) + ".\n")
     yield "| Crate | Proof (s) | Tests (s) | Edits (s) |"
     yield "|---|---|---|---|"
-    dear = [name for name in sorted(costs, key=lambda name: -sum(costs[name].values())) if sum(costs[name].values()) > CHEAP]
+    whole = {name: sum(cost.values()) for name, cost in costs.items()}
+    dear = [name for name in sorted(costs, key=lambda name: -whole[name]) if whole[name] > CHEAP]
     others = {kind: sum(cost[kind] for name, cost in costs.items() if name not in dear) for kind in KINDS}
     for name, cost in [*((f"`{name}`", costs[name]) for name in dear), (f"{len(costs) - len(dear)} others", others)]:
         yield f"| {name} | " + " | ".join(f"{cost[kind]:.0f}" if cost[kind] else "-" for kind in KINDS) + " |"

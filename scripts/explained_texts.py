@@ -77,7 +77,7 @@ def often(kinds, kind, *places):
 
 
 def causes(title):
-    """By number each kind's name, its cause, with what the page says of a field, and what is often meant, by docs/TEXTS.md."""
+    """By number each kind's name, its cause, with what docs/TEXTS.md says of a field, and what is often meant."""
     text = (TOP / "docs/TEXTS.md").read_text(encoding="utf-8").split(f"\n## {title}", 1)[1].split("\n## ")[0]
     fields = dict(re.findall(r"(?ms)^- \*\*(\S+):\*\* (.*?)$(?!\n  )", text))
     kinds = re.findall(r"(?m)^(\d+)\. \*\*(\w+):\*\* (.*(?:\n +.*)*)", text)

@@ -7,8 +7,9 @@ have the calls meant is run as it is.
 
     scripts/kit.py prove [--jobs N]    proves and builds the crate of the current folder over those below it
 
-does so from nothing, as `rt ci` does. Of a library it keeps what the crates above can cite, and its code. They are proved
-faster over that than over what `rt lib` keeps. Nothing is kept for the next check of the same crate.
+does so from nothing, as `rt ci` does, if the crates below are built. Of a library it keeps what the crates above can
+cite, and its code. They are proved faster over that than over what `rt lib` keeps. Nothing is kept for the next check
+of the same crate. A kit that doesn't have the calls meant can't do this.
 """
 import functools
 import os
@@ -17,15 +18,28 @@ import shutil
 import sys
 from pathlib import Path
 
-LOOKS = (("def stamp(self):", "def below(self):", "cuts_libraries = False", "def lock(crates):", "def prove(self, "),
-         ("rtlib = ", "KIT = ", "def main(words):", "def handles_of(root):", "def ci(self, flags, tests):",
-          "def compile_by(self, backend, words, to):"))  # what is taken of the kit
+LOOKS = ("def stamp(self):", "def below(self):"), ("rtlib = ", "def main(words):")  # what is taken of the kit
+PROVES = (("cuts_libraries = False", "def lock(crates):", "def is_built(self):", "def words(self, flags"),
+          ("KIT = ", "def handles_of(root):", "def ci(self, flags, tests):", "def compile_by(self, backend, words"))
 
 
-def is_built(crate, or_by_gate=False):
-    """Whether a library is built of its files as they lie here; if so wanted, also one of which only the gate can know."""
-    stamp = Path(crate.rlib).parent / "stamp"
-    return os.path.isdir(crate.rlib) and (stamp.read_text() == crate.stamp() if stamp.exists() else or_by_gate)
+def command():
+    found = shutil.which("rt") or sys.exit("kit.py: the command 'rt' of the Rattle kit isn't on the path")
+    return Path(found).resolve()
+
+
+def loaded(*more):
+    """What the kit's command defines, as it is run here; None of a kit in whose library and command the words that are
+    looked for don't stand: those meant here, and more."""
+    library = command().parent / "rtlib.py"
+    texts = [library.read_text(), command().read_text()] if library.exists() else ["", ""]
+    if not all(word in text for looks in (LOOKS, *more) for text, wanted in zip(texts, looks) for word in wanted):
+        return None
+    kit = runpy.run_path(str(command()), run_name="kit")
+    crate = kit["rtlib"].Crate
+    stamp, below = map(functools.cache, (crate.stamp, crate.below))
+    crate.stamp, crate.below = stamp, lambda each: list(below(each))
+    return kit
 
 
 def prove(kit, jobs):
@@ -37,16 +51,18 @@ def prove(kit, jobs):
     rtlib.guarded()
     crate = rtlib.Crate(folder, root, {})
     crate.held = rtlib.lock([crate])
-    lacking = [each.name for each in crate.below() if not is_built(each, or_by_gate=True)]
+    lacking = [each.name for each in crate.below() if not each.is_built()]
     if lacking:
         sys.exit(f"kit.py: {crate.name} stands on {lacking[0]}, which isn't built")
     flags, stamp, is_library = ["--jobs", jobs], crate.stamp(), not (crate.is_program or crate.is_static)
-    if is_library and is_built(crate):
+    if is_library and crate.is_built():
         return 0
     os.makedirs("out", exist_ok=True)
     if crate.is_static:
-        flags += ["--toolchain", f"{kit['KIT']}/toolchain", "--backend", "llvm", "-o", f"out/lib{crate.name}.a"]
-        return crate.prove(["build", *crate.words(flags, keeps=False)])
+        made, archive = f"out/made.{os.getpid()}.a", f"out/lib{crate.name}.a"
+        flags += ["--toolchain", f"{kit['KIT']}/toolchain", "--backend", "llvm", "-o", made]
+        status = crate.prove(["build", *crate.words(flags, keeps=False)])
+        return status or os.replace(made, archive) or 0
     by = crate.compile_by
     crate.compile_by = lambda backend, *words: by(backend, *words) if backend == "llvm" else 0  # the gate tries both
     status = crate.ci(flags, False)
@@ -56,20 +72,16 @@ def prove(kit, jobs):
 
 
 def main(words):
-    found = shutil.which("rt") or sys.exit("kit.py: the command 'rt' of the Rattle kit isn't on the path")
-    command = Path(found).resolve()
-    library = command.parent / "rtlib.py"
-    parts = [library.read_text(), command.read_text()] if library.exists() else ["", ""]
-    proves = words[:1] == ["prove"]
-    if not all(word in part for part, wanted in zip(parts, LOOKS) for word in wanted):
-        instead = ["lib" if Path("src/lib.rt").exists() else "run", *words[1:]]
-        os.execv(command, ["rt", *(instead if proves else words)])
-    sys.argv = [str(command), *words]
-    kit = runpy.run_path(str(command), run_name="kit")
-    crate = kit["rtlib"].Crate
-    stamp, below = map(functools.cache, (crate.stamp, crate.below))
-    crate.stamp, crate.below = stamp, lambda each: list(below(each))
-    sys.exit(prove(kit, words[2] if len(words) > 2 else "1") if proves else kit["main"](words))
+    if words[:1] == ["prove"]:
+        if words[1:] and (len(words) != 3 or words[1] != "--jobs" or not words[2].isdigit()):
+            sys.exit("kit.py: prove takes --jobs N alone")
+        kit = loaded(PROVES) or sys.exit("kit.py: this kit lacks calls that prove takes: use 'rt lib' and 'rt run'")
+        sys.exit(prove(kit, words[2] if words[1:] else "1"))
+    kit = loaded()
+    if kit is None:
+        os.execv(command(), ["rt", *words])
+    sys.argv = [str(command()), *words]
+    sys.exit(kit["main"](words))
 
 
 if __name__ == "__main__":

@@ -1,12 +1,12 @@
 #!/bin/sh
 # Builds callers of the static library of crates/tardis_c in C, C++ and Rust (examples/embed), and tries them:
-# tests/embed.sh [--build]. Each number that a call answers is met once, by hand; the examples are run, and records
-# checked, through the library, with the reports that the program must give. It needs gcc, g++ and the Rattle kit, whose
-# C file for memory is linked; without rustc it says so and leaves out the caller in Rust.
+# tests/embed.sh [--build | --kept]. Each number that a call answers is met once, by hand; the examples are run, and
+# records checked, through the library, with the reports that the program must give. It needs gcc, g++ and the Rattle
+# kit, whose C file for memory is linked; without rustc it says so and leaves out the caller in Rust.
 #
-# The library is built first, over the crates below it as `rt ci` or scripts/build.py left them; with --build they are
-# proved and built, too, where they aren't: on a new machine that takes half an hour. Without --build nothing is tried
-# where one of them isn't built of its files as they are, and standard error says so.
+# With --build the library is proved and built first, with all below it: on a new machine that takes half an hour. With
+# --kept it is built over what rt ci kept of the crates below, in a minute or two, as the gate does. Where the kit kept
+# nothing, standard error says so, and nothing is tried.
 top=$(CDPATH='' cd -- "$(dirname -- "$0")/.." && pwd) || exit 1
 case ${1-} in -h | --help) exec sed -n '2,/^[^#]/s/^# \{0,1\}//p' "$0" ;; esac
 build=${1-}
@@ -17,20 +17,22 @@ work=$(mktemp -d) || exit 1
 trap 'rm -rf "$work"' EXIT
 trap 'exit 1' HUP INT TERM
 
-archive=$crate/out/libtardis_c.a
-newer() { find "$top/crates" -name out -prune -o \( -name '*.rt' -o -name '*.antt' \) -newer "$archive" -print -quit; }
-if [ ! -e "$archive" ] || [ -n "$(newer)" ]; then
-    if [ "$build" = --build ]; then
-        "$top/scripts/build.py" tardis_c >"$work/built" 2>&1
-    else
-        (cd -- "$crate" && "$top/scripts/kit.py" prove --jobs 2) >"$work/built" 2>&1
-    fi || {
-        grep -q "which isn't built$" "$work/built" || { cat "$work/built"; exit 1; }
-        echo "embed.sh: not tried: $(tail -n 1 "$work/built") ('tests/embed.sh --build' builds it)" >&2
-        exit 0
-    }
+case $build in
+--build)
+    "$top/scripts/build.py" tardis_c >"$work/built" 2>&1
+    ;;
+--kept) "$top/scripts/static_library.py" >"$work/built" 2>&1 ;;
+*) [ -e "$crate/out/libtardis_c.a" ] || echo "the library isn't built: --build does so" >"$work/built" ;;
+esac
+status=$?
+if [ "$status" -eq 3 ]; then
+    echo "embed.sh: not tried: $(tail -n 1 "$work/built")" >&2
+    exit 0
+elif [ "$status" -ne 0 ] || [ ! -e "$crate/out/libtardis_c.a" ]; then
+    cat "$work/built"
+    exit 1
 fi
-library="$archive $kit/c/liblibc_c.a"
+library="$crate/out/libtardis_c.a $kit/c/liblibc_c.a"
 
 # The numbers, as C and as C++; a check of two files; the program's commands; a history in Rust.
 memory='-Wl,--wrap=malloc,--wrap=realloc'
@@ -65,7 +67,7 @@ checks "$work/trace" "$work/none" 2 'check: give a trace and its records: two fi
 checks "$work/trace" "$work" 2 'check: give a trace and its records: two files that can be read'
 
 if command -v rustc >/dev/null; then
-    rustc --edition 2024 -O -o "$work/history" "$embed/history.rs" -C link-arg="$archive" \
+    rustc --edition 2024 -O -o "$work/history" "$embed/history.rs" -C link-arg="$crate/out/libtardis_c.a" \
         -C link-arg="$kit/c/liblibc_c.a" || exit 1
     "$work/history" | diff "$embed/history.out" - || exit 1
 else

@@ -32,7 +32,8 @@ CELLS = [("lwu x7,0(x6)", LOAD), ("lw.aq.rl t2 , ( x6 )", LOAD), ("sw.rl x5,0(t1
          ("(* nothing *)", None), ("li x7,0x10", "li x7,16"), ("li x7,010", "li x7,10"),
          ("ori x7,x0,2", "ori x7,x0,2"), ("ori x7,x5,2", "li x7,3"), ("mv x7,x5", "li x7,1"),
          ("addi x7,x5,5", "li x7,6"), ("xori x7,x5,3", "li x7,2"), ("andi x7,x5,3", "li x7,1"),
-         ("li x9,3|sub x7,x9,x5", "li x7,2"), ("lwu x7,0(x6)|mv x9,x5", "li x9,1"), ("xor x7,x5,x5", "li x7,0"), ("andi x7,x5,0", "li x7,0"), ("add x7,x6,x0", None),
+         ("li x9,3|sub x7,x9,x5", "li x7,2"), ("lwu x7,0(x6)|mv x9,x5", "li x9,1"), ("xor x7,x5,x5", "li x7,0"),
+         ("andi x7,x5,0", "li x7,0"), ("add x7,x6,x0", None),
          ("bne x5,x0,L0", None), ("L0: sw x5,0(x6)", STORE)]
 # Cells that are refused, in line 4, or with another cell above them in line 5.
 NO_CELLS = ["lr.w x7,(x6)", "sc.w x7,x5,(x6)", "amoadd.w x7,x5,(x6)", "lw x7,4(x6)", "lw x7,0(x9)",

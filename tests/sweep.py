@@ -208,7 +208,8 @@ def refusals(tester):
     tester.refused("there is no column misses (--counts has it)", "--plot", "lease:misses", "alone.trace")
     tester.refused("there is no column without a name", "--plot", "lease", "alone.trace")
     for wrong in ("", "1..", "5..4", "x", "-1", f"{2 ** 64}", "0..1000000"):
-        tester.refused("no number" if wrong in ("", "1..", "x", "-1") else "is no range", f"--lease={wrong}", "alone.trace")
+        why = "no number" if wrong in ("", "1..", "x", "-1") else "is no range"
+        tester.refused(why, f"--lease={wrong}", "alone.trace")
     tester.refused("rows are too many", "--lease", "1..2000", "--seed", "1..2000", "alone.trace")
     tester.refused("some is none of no, yes, both", "--private-write", "some", "alone.trace")
     tester.refused("has other columns", "--csv", "plot.csv", "--counts", "alone.trace")

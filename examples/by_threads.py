@@ -1,18 +1,18 @@
 #!/usr/bin/env python3
-"""Says what can't be so in what runs by threads printed, and fails if there is something: examples/by_threads.py <ROWS
+"""Finds faults in what runs by threads printed, and fails if there is one: examples/by_threads.py <ROWS
 
 Each row has one of these forms. STATUS is the exit status; all other words but RUNS are names of files:
 
-    litmus|TEST|RUNS|STATUS|REPORT       a test's report of so many runs
+    litmus|TEST|RUNS|STATUS|REPORT       a test's report of RUNS runs
     trace|TRACE|STATUS|REPORT            a trace's report
     records|TRACE|STATUS|RECORDS         a trace's records
 
-Runs by several threads differ from one time to the next, so nothing here is asked that only some run has. The ends of
-a test are those of sequential.py; texts are read by the parts of oracle.py. Memory must be found: a run that ended for
-want of it is told as a fault.
+Runs by several threads differ from one time to the next, so the script tests only what every run has. The ends of a
+test are those of sequential.py; the parts of oracle.py read texts. Memory must be found: a run that ended with a
+failed allocation is a fault.
 
-Tried: each line of six reports dropped and doubled, each number one more and one less. What isn't told then: counts of
-messages, stale hits up to the loads, an end state that became another possible one, and `completed` where few runs
+Tried: each line of six reports dropped and doubled, each number one more and one less. The script doesn't find: counts
+of messages, stale hits up to the loads, an end state that became another possible one, and `completed` where few runs
 were all done; of a trace by several workers also `issued`, if the run isn't all done.
 """
 import re
@@ -39,7 +39,7 @@ class Lines:
             raise ValueError("the last line has no line feed")
 
     def take(self, name):
-        """What stands behind this word and one space in the next line."""
+        """What follows this word and one space in the next line."""
         line = self.left.pop(0) if self.left else ""
         if not line.startswith(name + " "):
             raise ValueError(f"'{name} ..' wanted, '{line}' is there")
@@ -49,7 +49,7 @@ class Lines:
         return number_of(self.take(name))
 
     def state(self, names):
-        """How often an end state was met, and the values of these names."""
+        """How often an end state occurred, and the values of these names."""
         count, *values = self.left.pop(0).split(" ")
         pairs = [pair.split("=") for pair in values]
         if [name for name, _ in pairs] != names:
@@ -65,7 +65,7 @@ def number_of(word):
 
 
 def read_batch(test, text):
-    """The batch that a report tells; the lines that follow from others are left out."""
+    """The batch that a report is of; the lines that follow from others are left out."""
     batch, lines = Batch(test), Lines(text)
     lines.take("test")
     lines.take("threads")
@@ -81,7 +81,7 @@ def read_batch(test, text):
 
 
 def batch_faults(test, possible, batch, runs, status, text):
-    """What can't be so in a report of these runs, whatever their schedule; `possible` are the sequential ends."""
+    """Faults in a report of these runs, by any schedule; `possible` are the sequential ends."""
     if batch.text() != text:
         yield f"its other lines say\n{batch.text()}"
     if batch.runs != runs or sum(batch.ends.values()) != runs:
@@ -136,7 +136,7 @@ def trace_faults(path, status, text):
 
 
 def word_faults(trace, is_all_done, lines):
-    """Of each word that is named, in rising order: what completed operations can leave there."""
+    """For each word that is named, in rising order: what completed operations can leave there."""
     for word in trace.words():
         value = lines.number(f"word {8 * word:#x}")
         written = [[op[2] for op in ops if op[1] == word and op[0] != "load"] for ops in trace.issued()]

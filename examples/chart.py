@@ -3,10 +3,10 @@
 
     examples/chart.py [options] FILE > chart.svg
 
-Time goes down, an event a row. Each core, each bank and each DRAM has a lane. An arrow is a message, from the event
-that sends it to its first delivery, with its number and its times: a reader's time (pts), the version and the end of
-the lease (wts..rts), or a time that a lease is to reach (rts). A message that waits at its end is dotted there until
-it is taken. Operations stand beside their core; a load that reads the past is red.
+Time goes down, with a row for each event. Each core, each bank and each DRAM has a lane. An arrow is a message, from
+the event that sends it to its first delivery, with its number and its times: a reader's time (pts), the version and
+the end of the lease (wts..rts), or a time that a lease is to reach (rts). A message that waits at its end is dotted
+there until it is taken. Operations are next to their core; a load that reads the past is red.
 """
 import sys
 
@@ -23,7 +23,7 @@ INK, NOTE, PAST = "#245", "#823", "#c8102e"
 
 
 def times(message):
-    """What a message says of times."""
+    """The times that a message carries."""
     if message.kind in ("ShRep", "ExRep", "FlushRep", "WbRep"):
         return f" {message.wts}..{message.rts}"
     if message.kind in ("RenewRep", "UpgradeRep", "WbReq"):
@@ -32,7 +32,7 @@ def times(message):
 
 
 class Charted(Run):
-    """A run that notes of each message where it was sent, first delivered and taken, and what operations did."""
+    """A run that notes for each message where it was sent, first delivered and taken, and what operations did."""
     subject, shown = None, None
 
     def __init__(self, *given):

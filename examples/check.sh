@@ -416,7 +416,7 @@ by_many_workers() {
     judge
 }
 
-# exhausted TRACE TIME LEAST MOST: by two workers a seat stops, after so many operations were completed.
+# exhausted TRACE TIME LEAST MOST: by two workers a seat stops, after LEAST to MOST completed operations.
 exhausted() {
     by_threads trace --workers 2 --limit 4294967295 --time "$2" "$1"
     must "${1##*/} by two workers: not exhausted" has 'end exhausted'
@@ -505,7 +505,7 @@ lines() {
     late_faults
 }
 
-# loads_of CORES NUMBER: the report of so many loads, up to its words.
+# loads_of CORES NUMBER: the report of NUMBER loads, up to its words.
 loads_of() {
     printf '%s\n' "cores $1" "issued $2" "completed $2" 'end all-done' "loads $2" 'stores 0' 'swaps 0' 'renewals 0' \
         'upgrades 0' 'flushes 0' 'write-backs 0' 'stale-hits 0' 'order legal'
@@ -594,7 +594,7 @@ faults() {
     done <"$table"
 }
 
-# many NUMBER LETTER: so many times the letter.
+# many NUMBER LETTER: the letter, NUMBER times.
 many() {
     head -c "$1" /dev/zero | tr '\0' "$2"
 }

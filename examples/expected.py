@@ -1,15 +1,15 @@
 #!/usr/bin/env python3
-"""Writes what is wanted of the examples by examples/oracle.py, or says what differs from it.
+"""Writes what the examples must print by examples/oracle.py, or says what differs from it.
 
     examples/expected.py            writes the .report of each litmus test and trace, the .seeds and the .also of each
                                     test of the catalogue (litmus/), and the .records of each trace
     examples/expected.py --check    says which of these files differ, and fails if one does
 
-The options of an example stand in its text: in a litmus test in the header line `options=..`, in a trace in the comment
+The options of an example are in its text: in a litmus test in the header line `options=..`, in a trace in the comment
 line `# options= ..`. A .seeds is the report on the seeds 0 to 999. A .also is there for a test with a header line
 `also=..`: it is the report with these options. Every end state of the catalogue must be one that plain enumeration
 finds (sequential.py). Each trace's records must be legal. The tables (bad/traces.table, bad/records.table,
-lines.table, verdicts.table) are written by hand: a row that the oracle answers otherwise is told, too.
+lines.table, verdicts.table) are written by hand: the script also reports a row that the oracle answers otherwise.
 """
 import re
 import sys
@@ -48,7 +48,7 @@ def wanted():
 
 
 def rows(name):
-    """The rows of a table, with their line's number: the wanted words, and the texts as bytes."""
+    """The rows of a table, with their line's number: the expected words, and the texts as bytes."""
     for number, line in enumerate((FOLDER / name).read_text(encoding="ascii").splitlines(), 1):
         if not line.startswith("#"):
             words, *texts = line.split("|")
@@ -63,7 +63,7 @@ def printed(text):
 
 
 def said_of(reader, *texts):
-    """The fault that a reader tells, or what it answers."""
+    """The fault that a reader reports, or what it answers."""
     try:
         return reader(*texts)
     except Fault as fault:
@@ -71,7 +71,7 @@ def said_of(reader, *texts):
 
 
 def states_in(report):
-    """The lines of a report's end states, without how often each was met."""
+    """The lines of a report's end states, without how often each occurred."""
     lines = report.read_text(encoding="ascii").splitlines()
     start = next(place for place, line in enumerate(lines) if line.startswith("states "))
     return [line.split(" ", 1)[1] for line in lines[start + 1:start + 1 + int(lines[start].split()[1])]]

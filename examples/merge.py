@@ -4,14 +4,14 @@
     examples/merge.py REPORT REPORT ..    in the order of the seeds; the joined report goes to standard output
     examples/merge.py --self-test         compares joined reports with those of whole ranges, by examples/oracle.py
 
-End states stand in the order in which they were first met, so the order of the reports counts.
+A report lists end states in the order in which they first occurred, so the order of the reports counts.
 
-Beside K.report there may be K.json, which says how it was made (scripts/seeds.py writes both). Reports with such files
-are joined only if one program made them, of one text, with the same options. Their seeds must follow each other without
-gap or overlap, and be all of the range whose parts they are. Of reports without such files nothing of that is known:
-only those of another test are refused.
+Next to K.report there may be K.json, which says how it was made (scripts/seeds.py writes both). The script joins
+reports with such files only if one program made them, of one text, with the same options. Their seeds must follow each
+other without gap or overlap, and be all of the range whose parts they are. Nothing of that is known of reports without
+such files: the script refuses only those of another test.
 
-The status is 0 if the reports are joined, and 2 if not, which standard error tells in one line.
+The status is 0 if the reports are joined, and 2 if not; then standard error says why in one line.
 """
 import hashlib
 import json
@@ -29,7 +29,7 @@ LOCK = "litmus/LOCK.litmus"
 
 
 class Report:
-    """A report's lines by name, and its end states with how often each was met."""
+    """A report's lines by name, and its end states with how often each occurred."""
 
     def __init__(self, text):
         lines, self.states, self.said = iter(text.splitlines()), {}, {}
@@ -78,7 +78,7 @@ class Report:
 
 
 class Made:
-    """How a report was made, as the file beside it says."""
+    """How a report was made, as the file next to it says."""
 
     def __init__(self, path, report):
         self.path, file = path, made_file(path)
@@ -113,7 +113,7 @@ def numbers(said):
 
 
 def told_file(said):
-    """The checksum of a file, and how the file is told."""
+    """The checksum of a file, and how messages name the file."""
     return said["sha256"], " ".join(str(said[name]) for name in ("path", "version", "sha256") if said.get(name))
 
 
@@ -169,7 +169,7 @@ def joined_files(paths):
 
 
 def report(path, seed, runs, options):
-    """The oracle's report of so many seeds. Nothing else here needs it."""
+    """The oracle's report of this many seeds. Nothing else here needs it."""
     import oracle
     given = ["litmus", "--schedule", "seed", "--seed", str(seed), "--runs", str(runs), *options, str(path)]
     return oracle.run(oracle.words().parse_args(given))[0]

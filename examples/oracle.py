@@ -1,9 +1,9 @@
 #!/usr/bin/env python3
 """Prints what `tardis litmus|trace|check [options] FILE..` must print, without the program.
 
-Written from docs/ alone: PROTOCOL.md, SCHEDULES.md, SEATS.md, TEXTS.md, ORDER.md. Its parts are in reference/. What is
-refused has the program's status and its line on standard error, but that a litmus test is refused without its line and
-kind, and an option that is no option by this script's own words, both with status 2.
+Written from docs/ alone: PROTOCOL.md, SCHEDULES.md, SEATS.md, TEXTS.md, ORDER.md. Its parts are in reference/. A
+refusal has the program's status and its line on standard error. But a refused litmus test has neither its line nor its
+kind, and a wrong option has this script's own words, both with status 2.
 
     examples/oracle.py litmus [--schedule seed --seed N] [--runs N] [--lease N] .. [--private-write] FILE
     examples/oracle.py trace [--records] [--schedule seed --seed N] [--lease N] .. FILE
@@ -14,8 +14,8 @@ kind, and an option that is no option by this script's own words, both with stat
 By --schedule threads it makes runs of one worker: with more, no two runs need be alike. Each row of --rows has the form
 FILE|WORD|WORD ..: what is printed with these words is written to FILE, and the status to FILE.status.
 
---trace tells each event and its answer on standard error; of a run by threads, each call of a seat. --events prints the
-lists of events in place of the report, as docs/EVENTS.md has them. `litmus` may be left out.
+--trace prints each event and its answer on standard error; of a run by threads, each call of a seat. --events prints
+the lists of events in place of the report, as docs/EVENTS.md has them. `litmus` may be left out.
 """
 import argparse
 import re

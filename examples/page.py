@@ -1,9 +1,9 @@
 #!/usr/bin/env python3
 """Writes a run of a litmus test or a trace as one HTML page, to be stepped through: examples/page.py FILE > run.html
 
-What the page shows is what a machine did: a player (docs/EVENTS.md) makes the events and is asked what there is behind
-each. That is the proved machine's, ./play, if it is built and no source is newer. Else it is the second program's,
-examples/play.py, which standard error then says; nothing is built. --player names another. The page says which.
+What the page shows is what a machine did: a player (docs/EVENTS.md) makes the events and answers look-ups after each.
+That is the proved machine's, ./play, if it is built and no source is newer. Otherwise it is the second program's,
+examples/play.py, and standard error says so; nothing is built. --player names another. The page says which.
 
 The page stands alone: it loads nothing. Keys: right and left (on to the next event that changes something, and back),
 down and up (each event), space (play), c, s, r, l, e (the next completion, stale hit, renewal, recall, eviction; with
@@ -42,8 +42,8 @@ def marks(run, step, before):
 
 
 class Places:
-    """How far each core is in its program. A seed may draw an advance that no program wants, so by a seed those of the
-    program count as done once the operation behind them is issued."""
+    """How far each core is in its program. A seed may draw an advance that no program has, so by a seed those of the
+    program count as done once the operation after them is issued."""
 
     def __init__(self, run):
         self.programs, self.by_rounds = run.programs, run.options.schedule == "round"
@@ -70,7 +70,7 @@ def changes(before, view):
 
 
 def steps(run):
-    """The events, each with what is said of it, what changed, and what it is."""
+    """The events, each with its description, what changed, and what it is."""
     rules, places, before, waits = Rules(run), Places(run), run.opening, set()
     shown = dict(before)
     for step in run.steps:

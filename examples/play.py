@@ -2,7 +2,7 @@
 """Plays examples of the machine as texts (docs/EVENTS.md) on the second program's machine: examples/play.py [FILE..].
 
 A text is read from standard input if FILE is `-`, or if none is named. `--print FILE` writes the text with the answers
-that came. The second program is never without memory, so that `--again` changes nothing.
+that came. No allocation of the second program fails, so that `--again` changes nothing.
 """
 import sys
 from collections import Counter
@@ -53,7 +53,7 @@ def text_of(name):
 
 
 def tell(name, is_print):
-    """Prints what comes of a text; the status."""
+    """Prints the result of a text; the status."""
     try:
         text = text_of(name)
     except OSError as error:

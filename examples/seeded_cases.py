@@ -1,9 +1,9 @@
 #!/usr/bin/env python3
 """Writes the seeded drives of crates/play_events/data: examples/seeded_cases.py [FOLDER].
 
-FOLDER, by default crates/play_events/data, gets seeded-evictions.events and seeds.events, texts of docs/EVENTS.md. A case's
-seed is the one out of those that it names (most: 0 to 2,999) whose run shows all that is wanted within the fewest
-events: so the files are the same each time.
+FOLDER, by default crates/play_events/data, gets seeded-evictions.events and seeds.events, texts of docs/EVENTS.md. Of
+the seeds that a case names (most: 0 to 2,999), the script takes the one whose run shows all that the case asks for
+within the fewest events: so the files are the same each time.
 """
 import sys
 from itertools import chain
@@ -150,7 +150,7 @@ def drive_case(options, programs, seed, limit):
 
 
 def search(shows, options, programs, limit, wanted_end, wanted, seeds):
-    """The seed, the run and its end, with the fewest events of those that show all that is wanted."""
+    """The seed, the run and its end, with the fewest events of those that show all that the case asks for."""
     best = None
     for seed in seeds:
         run, end = drive_case(options, programs, seed, limit)
@@ -161,7 +161,7 @@ def search(shows, options, programs, limit, wanted_end, wanted, seeds):
 
 
 def drive_lines(run, end, seed, limit, has_notes=True):
-    """A drive and its events; notes tell of the turns and of the list that each drew."""
+    """A drive and its events; notes have the turns and the list that each drew."""
     starts = [start for start, _, _ in run.drawn] + [len(run.made)]
     turns = [[event for event, _ in run.made[start:after]] for start, after in zip(starts, starts[1:])]
 

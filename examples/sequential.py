@@ -3,9 +3,9 @@
 
     examples/sequential.py TEST ..
 
-One flat memory, no caches and no times: in each step some thread does its next memory instruction. For each test: the
-ends, each with a star if the condition's expression holds in it, and then what the condition is answered over all of
-them. It shares the reading of texts with examples/oracle.py, and nothing else.
+One flat memory, no caches and no times: in each step some thread does its next memory instruction. The script prints
+for each test the ends, each with a star if the condition's expression holds in it, and then the verdict on the
+condition over all of them. It shares the reading of texts with examples/oracle.py, and nothing else.
 """
 import copy
 import sys

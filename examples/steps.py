@@ -1,5 +1,5 @@
 #!/usr/bin/env python3
-"""Tells how the copies of one line go through a run, step by step, by the second program (oracle.py).
+"""Shows how the copies of one line go through a run, step by step, by the second program (oracle.py).
 
     examples/steps.py WORD [options] FILE
 
@@ -31,7 +31,7 @@ def line_of(machine, event):
 
 
 def told(machine, event):
-    """An event in words, as it stands before it is made."""
+    """An event in words, before it is made."""
     name, *of = event
     if name == "Deliver":
         message = machine.flight[of[0]]

@@ -61,7 +61,7 @@ def told(record, name):
 
 
 def labels(records, stale, across, up, name):
-    """A label beside each point, where no other label and no point lies."""
+    """A label next to each point, where no other label and no point lies."""
     placed = Labels(SIZE)
     for record in records:
         x, y = across.at(record.number), up.at(record.time)
@@ -75,7 +75,7 @@ def labels(records, stale, across, up, name):
 
 
 def label(record, stale):
-    """What a point says where the mouse rests on it."""
+    """What a point shows when the mouse rests on it."""
     said = f"core {record.core}: {record.kind} of {8 * record.word:#x}"
     said += "" if record.value is None else f", writes {record.value}"
     said += "" if record.received is None else f", receives {record.received}"
@@ -121,7 +121,7 @@ def address(word):
 
 
 def picture(records, name=address):
-    """`name` tells a word's name by its number."""
+    """`name` gives a word's name by its number."""
     records = sorted(records, key=lambda record: record.number)
     across = Scale([record.number for record in records], LEFT + 10, WIDTH - RIGHT - 10)
     up = Scale([record.time for record in records], HEIGHT - BOTTOM - 10, TOP + 10)

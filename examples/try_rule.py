@@ -3,15 +3,16 @@
 
     examples/try_rule.py [--tries N] [--first N] [TEST|TRACE ..]
 
-N tries are made, 10,000 if it isn't given, from number 0 on, or from --first. Each draws a trace of a few operations
-and advances, a machine with small caches, and a schedule; its number alone decides what is drawn. Where files are
-named, their programs are played in place of drawn ones. What can't be: records that aren't legal, two owners of a
-line, a message that the machine can't take, and a round in which nothing goes on; a seeded run that reaches its limit
-goes on by rounds. Then the trace is cut as far as some of 120 runs still shows it, and is printed with its records and
-the command that tells its run event by event.
+The script makes N tries, 10,000 if it isn't given, from number 0 on, or from --first. Each draws a trace of a few
+operations and advances, a machine with small caches, and a schedule; its number alone decides what is drawn. If files
+are named, the script plays their programs in place of drawn ones. What can't be: records that aren't legal, two owners
+of a line, a message that the machine can't take, and a round that makes no progress; a seeded run that reaches its
+limit goes on by rounds. Then the script cuts the trace as far as one of 120 runs still shows the fault, and prints it
+with its records and the command that prints its run event by event.
 
 Change a rule in a copy of examples/ (docs/CHANGING-A-RULE.md). The status is 0 if nothing was found, 1 if something
-was, and 2 for a bad file or word, told in one line. Nothing is written but what is printed.
+was, and 2 for a bad file or word, which standard error names in one line. The script writes nothing but what it
+prints.
 """
 import argparse
 import shlex
@@ -113,7 +114,7 @@ class Trial:
         return found.smallest() if found else self
 
     def words(self):
-        """The options, as words of the command line; those that say what is usual are left out."""
+        """The options, as words of the command line; defaults are left out."""
         given = vars(self.options)
         named = [(name, given[name]) for name in DEFAULTS if given[name] != DEFAULTS[name] and name != "seed"]
         schedule = ["--schedule", given["schedule"]] if given["schedule"] != "round" else []
@@ -182,7 +183,7 @@ def trial_of(number, programs):
 
 
 def told(number, trial, name):
-    """What is printed of a fault."""
+    """The text printed for a fault."""
     trial = trial.smallest()
     fault, records = trial.fault()
     yield f"{fault}: try {number}" + (f", cut to {sum(map(len, trial.steps))} steps" if trial.steps else "")

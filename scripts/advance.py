@@ -5,14 +5,14 @@
 
 TRACE is a file, or - for standard input.
 
-A core that waits for a word loads it again and again. Its time doesn't go on by that, so it may read its old copy for
-ever; advances bring it on (docs/REAL-TRACES.md). The new trace is of form 2 (docs/TEXTS.md). Comments stay, and so do
-advances that are there; these count as no operation. N may be 0: then no advance is put in.
+A core that waits for a word loads it again and again. These loads don't advance its time, so it may read its old copy
+for ever; advances do (docs/REAL-TRACES.md). The new trace is of form 2 (docs/TEXTS.md). It keeps comments and the
+advances of TRACE, which count as no operation. N may be 0: then the script adds no advance.
 
 With --whole-words an operation may be on any bytes. ADDR is a byte address, as 0x1006, and may have a count of bytes
-behind it, as 0x1006:4. The line becomes one for each word of 8 bytes that has some of these bytes, with the same value.
+after it, as 0x1006:4. The line becomes one for each word of 8 bytes that has some of these bytes, with the same value.
 
-The status is 0 if the trace is written, and 2 if not, which standard error tells in one line.
+The status is 0 if the script wrote the trace, and 2 if not; then standard error says why in one line.
 """
 import re
 import sys

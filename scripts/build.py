@@ -1,14 +1,14 @@
 #!/usr/bin/env python3
-"""Proves and builds crates with all that they stand on, several at a time: scripts/build.py [CRATE..] [--jobs N]
+"""Proves and builds crates with all that they depend on, several at a time: scripts/build.py [CRATE..] [--jobs N]
 
-Each crate is built once those below it are: first the one with the longest chain of crates behind it. That one may use
+Each crate is built once those below it are: first the one with the longest chain of crates above it. That one may use
 all processors, and each one whose chain is nearly as long half of them; the others share what is left. Standard error
 says how far the build is, how long the rest will take, and each error; the status is 0 exactly if all is proved. The
-crate is tardis if none is named. N is the number of processors if it isn't given, and fewer where there is less than
-3 GB of memory for each.
+crate is tardis if none is named. N is the number of processors if it isn't given, and fewer if there is less than 3 GB
+of memory for each.
 
 Each crate is proved by `scripts/kit.py prove`, which locks that crate alone. The kit's own commands lock all crates
-below, too, so that no two crates would be proved at a time that have one in common there.
+below, too, so they never prove two crates at a time that have one in common there.
 """
 import argparse
 import concurrent.futures
@@ -27,7 +27,7 @@ KEPT = 3  # a crate that takes no more seconds was proved before
 
 
 def crates():
-    """The crates of the repository, each with those that it stands on, in the order of crates.txt."""
+    """The crates of the repository, each with those that it depends on, in the order of crates.txt."""
     lines = (TOP / "crates.txt").read_text().splitlines()
     named = [line.split("#")[0].split(":") for line in lines if ":" in line.split("#")[0]]
     names = {name.split()[0] for name, _ in named}
@@ -35,7 +35,7 @@ def crates():
 
 
 def needed(graph, *tops):
-    """These crates and all below them, each after those that it stands on."""
+    """These crates and all below them, each after those that it depends on."""
     order = []
 
     def visit(name):

@@ -4,9 +4,9 @@
     scripts/catalogue.py            writes the tables
     scripts/catalogue.py --check    says what differs, and fails if something does
 
-What a test asks stands in its text. What sequential consistency says of it comes from examples/sequential.py, and what
-runs report from the .report, .seeds and .also beside it, which examples/expected.py wrote. Each test is in one table,
-and each end that a report has is one that some interleaving has.
+What a test asks comes from its text. What sequential consistency says of it comes from examples/sequential.py, and
+what runs report from the .report, .seeds and .also next to it, which examples/expected.py wrote. Each test is in one
+table, and each end in a report must be one that some interleaving has.
 """
 import re
 import sys

@@ -2,13 +2,13 @@
 """Says what a gate costs, in processor seconds by crate, and writes docs/COST.md.
 
     scripts/cost.py measure FILE COMMAND..     runs a command, such as .ci/run, and writes what its proofs cost to FILE
-    scripts/cost.py write FILE [BEFORE]        writes docs/COST.md of such a file, beside the sum of an earlier one's
+    scripts/cost.py write FILE [BEFORE]        writes docs/COST.md from such a file, with the sum of an earlier one
 
-The kit's log has no times. So while the command runs, the processes of its prover are looked at ten times a second.
-Each names its crate, and is a proof, a check of tests (`--test`) or the trial of an edit (which works on a copy of
-the crate, outside the repository). What a process used after its last look is lost: about a tenth of a second for each
-of its threads. Two figures can be compared if they were measured on one machine in one sitting. Where something else
-has to be said of a measurement, FILE may have it as "note".
+The kit's log has no times. So while the command runs, the script looks at the processes of its prover ten times a
+second. Each names its crate, and is a proof, a check of tests (`--test`) or the trial of an edit (which works on a
+copy of the crate, outside the repository). What a process used after its last look is lost: about a tenth of a second
+for each of its threads. Two figures can be compared if they were measured on one machine in one sitting. FILE may have
+anything else that the page should say of a measurement as "note".
 """
 import json
 import os

@@ -1,9 +1,9 @@
 #!/usr/bin/env python3
-"""Counts what a run comes to: hits, misses, messages by kind, DRAM, evictions: scripts/counts.py [options] FILE
+"""Counts what a run does: hits, misses, messages by kind, DRAM, evictions: scripts/counts.py [options] FILE
 
 FILE is a trace or a litmus test. docs/COUNTS.md says what each row of the tables counts. A player (docs/EVENTS.md)
-makes the run and counts. That is the proved machine's, ./play, if it is built and no source is newer. Else it is the
-second program's, examples/play.py, which standard error then says; nothing is built. --player names another.
+makes the run and counts. That is the proved machine's, ./play, if it is built and no source is newer. Otherwise it is
+the second program's, examples/play.py, and standard error says so; nothing is built. --player names another.
 
 The status is 0 if the run is all done, 1 if it was counted and ended otherwise, and 2 if nothing was counted.
 """
@@ -67,7 +67,7 @@ def plain_programs(text):
 
 
 class Counts:
-    """What a run comes to: its end, how many events it made in how many turns, and by part the numbers by names."""
+    """What a run counts: its end, how many events it made in how many turns, and by part the numbers by names."""
 
     def __init__(self, drive, counts):
         self.end, events = drive.removesuffix(" events").split(", ")
@@ -97,7 +97,7 @@ class Counts:
 
 
 def numbers_of(words):
-    """The numbers of a part by names: one behind a name, and two behind a message's kind."""
+    """The numbers of a part by names: one after a name, and two after a message's kind."""
     found, words = {}, iter(words)
     for name in words:
         if name in KINDS:

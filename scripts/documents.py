@@ -261,7 +261,7 @@ def item_of(path, name):
 
 
 def with_quotations(text):
-    """The text of a page with what it quotes of the sources as it stands there."""
+    """The text of a page, with its quotations of the sources as these now are."""
     def quotation(found):
         file, names = found.group(2), found.group(3).split()
         items = ["\n".join(item_of(CRATES / file, name)) for name in names]
@@ -294,7 +294,7 @@ def open_proofs():
 
 
 def pages():
-    """The documents whose quotations, paths and links are tested."""
+    """The documents whose quotations, paths and links the script tests."""
     return [page for place in ("*.md", "docs/*.md", "examples/README.md", "crates/*/README.md")
             for page in sorted(TOP.glob(place))]
 

@@ -1,15 +1,15 @@
 #!/usr/bin/env python3
 """Says why records aren't legal, or why a text is refused.
 
-    scripts/explain.py TRACE RECORDS    the verdict of `check`, with the record, what was wanted of it, and what lies
+    scripts/explain.py TRACE RECORDS    the verdict of `check`, with the record, what was expected of it, and what lies
                                         around it in the order by time and number
     scripts/explain.py TEST|TRACE       the fault of a text, with its cell, its cause and what is often meant
 
 A text is a litmus test if its name ends in .litmus, or if it has a brace and no name that ends in .trace. Verdicts and
 faults are the program's: what TARDIS names, else the one that ./tardis built, else, of traces and records,
-examples/oracle.py. The line and the kind of a test's fault are told by `./tardis --unproved litmus TEST`, too.
-The status is 0 if nothing is wrong, 1 if something is explained, and 2 if a file can't be read,
-told in one line.
+examples/oracle.py. `./tardis --unproved litmus TEST` prints the line and the kind of a test's fault, too.
+The status is 0 if nothing is wrong, 1 if something is explained, and 2 if a file can't be read; then standard error
+says so in one line.
 """
 import re
 import sys
@@ -73,7 +73,7 @@ class History:
 
 
 def around(title, records, at):
-    """What stands before and behind a place in a list of records, with a mark there."""
+    """What comes before and after a place in a list of records, with a mark there."""
     yield title
     for place in range(max(0, at - AROUND), min(len(records), at + AROUND + 1)):
         yield f"{'>' if place == at else ' '} {records[place].told()}"
@@ -187,7 +187,7 @@ def fault_of(path, is_test):
 
 
 def explained(paths):
-    """The lines that are told of the files, and whether something is wrong."""
+    """The lines that explain the files, and whether something is wrong."""
     texts = [text_of(path) for path in paths]
     is_test = len(paths) == 1 and (paths[0].endswith(".litmus") or b"{" in texts[0] and not paths[0].endswith(".trace"))
     fault = fault_of(paths[0], is_test)

@@ -1,7 +1,7 @@
 """Faults of texts, for scripts/explain.py: the cell or field that is at fault, the cause, and what is often meant.
 
-The causes are those of the lists of kinds in docs/TEXTS.md. What is often meant stands here, with what it is known by,
-and behind the causes: tests/explain.py compares the two.
+The causes are those of the lists of kinds in docs/TEXTS.md. This file has what is often meant, and how to recognize
+it; tests/explain.py compares the two.
 """
 import re
 
@@ -139,7 +139,7 @@ def cell_at_fault(text, number, kind):
 
 
 def names_of(fields, is_record):
-    """The names of the fields that a line wants, as far as its letter tells them."""
+    """The names of the fields that a line needs, as far as its letter decides them."""
     letter = (fields + [""] * 3)[2 if is_record else 1]
     names = ["CORE", *["PLACE"] * is_record, "the letter", *["ADDR"] * (letter != "A"), *["VALUE"] * (letter in "WS")]
     return names + (["RECEIVED"] * (letter in "RS") + ["TIME", "NUMBER"]) * is_record
@@ -168,7 +168,7 @@ def field_at_fault(line, kind, is_record):
 
 
 def explained_text(path, text, fault, what):
-    """The lines that explain the fault of a test, a trace or records, which is told as `line 6: 8 BadInstruction`."""
+    """The lines that explain the fault of a test, a trace or records, given as `line 6: 8 BadInstruction`."""
     found = re.fullmatch(r"line (\d+): (\d+) \w+", fault)
     if not found or found[1] == "0":
         fail(f"{path}: {fault}")

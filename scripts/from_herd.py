@@ -4,9 +4,10 @@
     scripts/from_herd.py TEST > NEW.litmus
     scripts/from_herd.py --observation REPORT ..
 
-Only what means the same is turned; docs/FROM-HERD7.md lists it. Anything else is refused with its line and status 2,
-and nothing is printed. A report is what `tardis litmus` prints. The name of a test with a filter gets `+filter`: herd7
-drops runs outside the filter, and a report counts them, so that its Observation isn't printed, and the status is 1.
+The script turns only what means the same; docs/FROM-HERD7.md lists it. It refuses anything else with its line and
+status 2, and prints nothing. A report is what `tardis litmus` prints. The name of a test with a filter gets `+filter`:
+herd7 drops runs outside the filter, and a report counts them. So the script doesn't print that test's Observation, and
+the status is 1.
 """
 import re
 import sys
@@ -30,7 +31,7 @@ def number_of(text):
 
 
 class Source:
-    """A text whose comments are blanked, and faults told by its lines."""
+    """A text whose comments are blanked, and which reports faults by its lines."""
 
     def __init__(self, path):
         self.path = path
@@ -136,7 +137,8 @@ class Herd:
 
 
 class Column:
-    """A thread: what each of its registers is known to have (a number, a location's name or None) as it goes on."""
+    """A thread: what each of its registers is known to have (a number, a location's name or None) after each
+    instruction."""
 
     def __init__(self, herd, thread):
         self.herd, self.thread = herd, thread
@@ -227,7 +229,7 @@ class Column:
             self.known[target] = value
 
     def computed(self, at, cell, name, words):
-        """An instruction whose result is known: a number is set, and an address is only taken note of."""
+        """An instruction whose result is known: it sets a number, or an address, which is only noted."""
         target, *sources = words
         target = self.register(at, cell, target)
         values = [self.known[REGISTERS[word]] if word in REGISTERS else number_of(word) for word in sources]

@@ -2,14 +2,14 @@
 """The kit's command, in a fraction of the time: scripts/kit.py WORDS.., as rt WORDS..
 
 The kit's command sums up a crate's files once for each path that leads to the crate in the graph of crates, some 69,000
-below tardis: minutes for an upper crate, before anything is proved. Here it does so once a crate. A kit that doesn't
-have the calls meant is run as it is.
+below tardis: minutes for an upper crate, before anything is proved. This script does so once for each crate. It runs a
+kit that doesn't have the calls meant as it is.
 
     scripts/kit.py prove [--jobs N]    proves and builds the crate of the current folder over those below it
 
 does so from nothing, as `rt ci` does, if the crates below are built. Of a library it keeps what the crates above can
-cite, and its code. They are proved faster over that than over what `rt lib` keeps. Nothing is kept for the next check
-of the same crate. A kit that doesn't have the calls meant can't do this.
+cite, and its code. These prove faster over that than over what `rt lib` keeps. Nothing is kept for the next check of
+the same crate. A kit that doesn't have the calls meant can't do this.
 """
 import functools
 import os
@@ -29,8 +29,8 @@ def command():
 
 
 def loaded(*more):
-    """What the kit's command defines, as it is run here; None of a kit in whose library and command the words that are
-    looked for don't stand: those meant here, and more."""
+    """What the kit's command defines, as it is run here; None of a kit whose library and command lack the words that
+    are looked for: those meant here, and more."""
     library = command().parent / "rtlib.py"
     texts = [library.read_text(), command().read_text()] if library.exists() else ["", ""]
     if not all(word in text for looks in (LOOKS, *more) for text, wanted in zip(texts, looks) for word in wanted):

@@ -1,12 +1,12 @@
 #!/usr/bin/env python3
-"""Tells each place of the production crates that answers want of memory by itself, and doesn't pass on what an
+"""Lists each place of the production crates that answers a failed allocation by itself, and doesn't pass on what an
 allocation answered by `?` or by an arm such as `Err(AllocError) => ..`.
 
-    scripts/memory.py            tells them: file, function, and the blocks around the answer
+    scripts/memory.py            lists them: file, function, and the blocks around the answer
     scripts/memory.py --check    compares them with tests/memory.table, and fails if they differ
 
-No contract can say that an allocation was really refused. So a place that answers so by itself needs a reason, which
-the table has. A place that isn't there might be one that gives up past some size.
+No contract can say that an allocation really failed. So a place that answers so by itself needs a reason, which the
+table has. A place that isn't there might be one that gives up past some size.
 """
 import re
 import sys
@@ -27,7 +27,7 @@ ROW = re.compile(r"(\w+/src/[\w/]+\.rt) \| (\w+) \| (.+) \| \S")
 
 
 def answers(line):
-    """How many times a line answers want of memory by itself."""
+    """How many times a line answers a failed allocation by itself."""
     if IMPORT.match(line):
         return len(re.findall(WANT + " as ", line))
     if SKIPPED.match(line):

@@ -7,7 +7,7 @@
 # output and standard error. A command whose line ends in a backslash goes on in the next line. The commands of a page
 # run in a folder of their own, one after the other. There ./tardis is the program, which TARDIS names, too; examples,
 # scripts, tests, docs, crates and bench are those of the repository. A fenced block `sh` shows commands that aren't
-# run: they prove, or want other machines. A command in any other block is a fault of the page.
+# run: they prove, or need other machines. A command in any other block is a fault of the page.
 case ${1-} in -h | --help) exec sed -n '2,/^[^#]/s/^# \{0,1\}//p' "$0" ;; esac
 
 top=$(CDPATH='' cd -- "$(dirname -- "$0")/.." && pwd) || exit 1

@@ -6,10 +6,10 @@
 
 - past.svg: the records of examples/traces/PAST.trace, by examples/timeline.py.
 - first_store.svg: the messages of examples/traces/FIRST-STORE.trace, by examples/chart.py.
-- line_life.svg: the changes of a bank's entry that are met in the runs of all traces of examples/traces.
-- layers.svg: the crates of crates.txt, each above all that it stands on.
+- line_life.svg: the changes of a bank's entry that occur in the runs of all traces of examples/traces.
+- layers.svg: the crates of crates.txt, each above all that it depends on.
 
-page.png, a page of examples/page.py in a browser, is written by `tests/page.py PLAYER --pictures docs/pictures`.
+`tests/page.py PLAYER --pictures docs/pictures` writes page.png, a page of examples/page.py in a browser.
 """
 import sys
 from pathlib import Path
@@ -68,7 +68,7 @@ class Watched(Run):
 
 
 def changes():
-    """From one entry to the next, with the causes that are met."""
+    """From one entry to the next, with the causes that occur."""
     Watched.met = {}
     for path in sorted(TRACES.glob("*.trace")):
         options = oracle.words().parse_args(["trace", *options_of(path), str(path)])
@@ -111,7 +111,8 @@ def line_life():
 
 
 def levels():
-    """The crates by their level: one more than the highest that each stands on. Tests and measurements are left out."""
+    """The crates by their level: one more than the highest that each depends on. Tests and measurements are left
+    out."""
     level = {}
     for line in (TOP / "crates.txt").read_text(encoding="utf-8").splitlines():
         name, _, below = line.split("#")[0].replace(" staticlib", "").partition(":")

@@ -13,8 +13,8 @@ has_kit() {
     }
 }
 
-# is_built CRATE: whether its program is as new as every source of the crates that it stands on. Which these are is kept
-# beside the program, so that nothing has to be searched for: a source that came later is named by one that changed.
+# is_built CRATE: whether its program is as new as every source of the crates that it depends on. A file next to the
+# program lists these, so that nothing has to be searched for: a source that came later is named by one that changed.
 is_built() {
     built=$top/crates/$1/out/$1
     [ -x "$built" ] || return 1
@@ -27,7 +27,7 @@ is_built() {
     { sources "$1" -print0 >"$built.$$" && mv -- "$built.$$" "$built.sources"; } 2>/dev/null || :
 }
 
-# sources CRATE WORDS..: what `find` says with these words of the sources of the crates that it stands on.
+# sources CRATE WORDS..: what `find` says with these words of the sources of the crates that it depends on.
 sources() {
     of=$1
     shift
@@ -36,7 +36,7 @@ sources() {
         \( -name '*.rt' -o -name '*.antt' \) "$@")
 }
 
-# needed CRATE: the crates of the repository that it stands on. Each stands behind these in crates.txt.
+# needed CRATE: the crates of the repository that it depends on. In crates.txt each follows those that it depends on.
 needed() {
     awk -v crate="$1" '
         { sub(/#.*/, ""); gsub(/:/, " "); below[NR] = $0 }

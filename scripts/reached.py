@@ -3,9 +3,9 @@
 
 A definition and its code may be changed alike, and every proof still pass. So the examples of crates/play_events/data
 and crates/play_seats/data say what they refuse, in comments `# refuses: FILE.DEFINITION: WORDS`. FILE is a file of the
-tables' specs/. A comment counts if it stands in an example in which an answer is wanted. Whether that answer changes
-with the definition isn't tried. A change of any other definition is refused by a law, or by nothing. With --check the
-status is 1 if a comment names a definition that there isn't, or stands where no answer is wanted.
+tables' specs/. A comment counts if it is in an example that expects an answer. The script doesn't try whether that
+answer changes with the definition. A change of any other definition is refused by a law, or by nothing. With --check
+the status is 1 if a comment names a definition that doesn't exist, or is where no answer is expected.
 """
 import re
 import sys

@@ -57,7 +57,7 @@ def table_row(row):
 
 
 def bars(rows, left, top, most):
-    """The bars of a trace: the messages of each run, one kind behind the other, and its stale hits."""
+    """The bars of a trace: the messages of each run, one kind after the other, and its stale hits."""
     for place, row in enumerate(rows):
         x, y = left + LEFT, top + place * STEP
         yield words(x - 8, y + BAR - 3, row["name"], "end")

@@ -9,9 +9,9 @@ once as there are processors or as --jobs says, and prints the report of the who
 from 0, as a task of a cluster does. Its report becomes FOLDER/K.report, with zeros in front so that the names are in
 the order of the seeds; FOLDER/K.json says how it was made. examples/merge.py joins the reports.
 
-The program is what TARDIS names, or the one that ./tardis builds where it isn't built. The status is 0 if every run was
-all done, and 1 if one ended otherwise; of a part it is 0 for both. If a report is missing, the status is 2, standard
-error tells why in one line, and nothing is printed.
+The program is what TARDIS names, or else the one that ./tardis builds, which the script builds if need be. The status
+is 0 if every run was all done, and 1 if one ended otherwise; of a part it is 0 for both. If a report is missing, the
+status is 2, standard error says why in one line, and nothing is printed.
 """
 import argparse
 import concurrent.futures
@@ -51,7 +51,7 @@ def words():
 
 
 def built_program():
-    """The file of the program; it is built here, where it isn't."""
+    """The file of the program; the script builds it here if it isn't built."""
     named = os.environ.get("TARDIS")
     found = shutil.which(named or TOP / "tardis")
     if found is None:

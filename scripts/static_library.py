@@ -1,9 +1,9 @@
 #!/usr/bin/env python3
 """Builds the static library of crates/tardis_c over what rt ci kept of the crates below it: scripts/static_library.py
 
-rt ci proves a static library and builds nothing of it. What it built of the crates below is kept on the machine, by the
-checksums of all that went into it. Here that is taken, in a copy of the crates. So no crate below is proved again, and
-this one is proved once more as it is built. The library goes to crates/tardis_c/out.
+rt ci proves a static library and builds nothing of it. The kit keeps what it built of the crates below on the machine,
+by the checksums of all that went into it. This script takes that, in a copy of the crates. So it proves no crate below
+again, and proves this one once more as it builds it. The library goes to crates/tardis_c/out.
 
 The status is 0 if it is built, 1 if it isn't proved, and 3 if nothing was tried: then standard error says in one line
 what is missing, of the kit or of what it kept.

@@ -4,14 +4,14 @@
     scripts/sweep.py [--csv TABLE] [--counts] [--plot X:Y [--svg PICTURE]] [--jobs N] [--named FILE] [options] TRACE ..
 
 An option has a list of values, as --lease 1..100 or --line-words 1,8 or --banks 1,2,4..8; --schedule and
---private-write have words, as --private-write both. What isn't named is as the program has it. --advance N has an
+--private-write have words, as --private-write both. Any other option has the program's default. --advance N has an
 advance after each N operations of a core (scripts/advance.py). A line of FILE has a name, a colon, and options with
-lists, which stand in place of those that are given here: then the combinations of each line are run.
+lists, which replace those that are given here: then the script runs the combinations of each line.
 
 TABLE (sweep.csv) gets a row for each trace and combination: its name in FILE, the options, the lines of the program's
 report, with --counts the rows of docs/COUNTS.md, and the program's file. A run that fails has a row, too, which says
-why in its last column. A row that TABLE has already isn't made again. PICTURE (TABLE's name with .svg) shows column Y
-over column X: a line for each name, or for each combination of the others.
+why in its last column. The script doesn't make a row again that TABLE already has. PICTURE (TABLE's name with .svg)
+shows column Y over column X: a line for each name, or for each combination of the others.
 
 The program is what TARDIS names, else the one that ./tardis built, else examples/oracle.py. With --counts a player
 counts (scripts/counts.py). N runs are made at a time, as many as there are processors if it isn't given.
@@ -198,7 +198,7 @@ class Sweep:
 
 
 class Table:
-    """The rows of a file, by trace and options. New rows go in behind the others as they are made."""
+    """The rows of a file, by trace and options. New rows are appended as they are made."""
 
     def __init__(self, path, columns):
         self.path, self.columns, self.rows = Path(path), columns, {}
@@ -243,7 +243,7 @@ def line_of(values):
 
 
 def sweep(options, made):
-    """The rows of what is asked for, as they stand in the table once they are all made."""
+    """The rows that the words ask for, as they are in the table once they are all made."""
     asked, table = combinations(options), Table(options.csv, made.columns)
     keys = [(trace, chosen) for trace in made.traces for chosen in asked]
     left = [(trace, chosen) for trace, chosen in keys if table.key({"trace": trace} | chosen) not in table.rows]
@@ -266,7 +266,7 @@ def tell(number, what, is_last):
 
 
 def series(rows, x, y):
-    """The points of each line of the plot, by what is said of it: the columns that differ, but for x."""
+    """The points of each line of the plot, by its label: the columns that differ, but for x."""
     apart = ("trace", "name") if "name" in rows[0] else ("trace", *OPTIONS)
     names = [name for name in apart if name != x and len({row[name] for row in rows}) > 1]
     traces = {row["trace"] for row in rows}
@@ -304,7 +304,7 @@ def grid(most, place):
 
 
 def drawn(number, said, of):
-    """A line of the plot, with what is said of it at the right."""
+    """A line of the plot, with its label at the right."""
     colour = COLOURS[number % len(COLOURS)]
     joined = " ".join(f"{at:.1f},{down:.1f}" for at, down in of)
     yield f'<polyline fill="none" stroke="{colour}" points="{joined}"/>'

@@ -3,11 +3,12 @@
 
     scripts/witness.py [--seeds N] [--seed FIRST] [--command WORDS] [options of the program] TEST
 
-N seeds are run, 1,000 if it isn't given, from FIRST on, or from 0. Ends stand in the order in which they are first
-met, each with how many runs had it; a star marks those in which the condition's expression holds. A run that isn't all
-done has no end state: it stands as limit, exhausted or memory. WORDS stand in front of the options in the commands, and
-are `./tardis litmus` if they aren't given. The program is what TARDIS names, else the one that ./tardis built, else
-examples/oracle.py. The status is 0 if the seeds were run, and 2 if not, which standard error tells in one line.
+The script runs N seeds, 1,000 if it isn't given, from FIRST on, or from 0. It lists the ends in the order in which
+they first occurred, each with how many runs had it; a star marks those in which the condition's expression holds. A
+run that isn't all done has no end state: its row is limit, exhausted or memory. WORDS precede the options in the
+commands, and are `./tardis litmus` if they aren't given. The program is what TARDIS names, else the one that ./tardis
+built, else examples/oracle.py. The status is 0 if the seeds were run, and 2 if not; then standard error says why in
+one line.
 """
 import argparse
 import shlex

@@ -1,8 +1,8 @@
 #!/usr/bin/env python3
 """Tries scripts/advance.py: tests/advance.py PROGRAM.
 
-The traces that it must write, and what it must say of faulty ones, are by hand, and so is what a spinning core must
-receive of the program. The last line is `N tried, M wrong`.
+The traces that it must write, and what it must say of faulty ones, were worked out by hand, and so was what a spinning
+core must receive from the program. The last line is `N tried, M wrong`.
 """
 import sys
 import tempfile

@@ -1,10 +1,10 @@
 #!/usr/bin/env python3
 """Counts what no contract sees: instructions and bytes: tests/costs.py [--print] [ROW..]
 
-Each row of tests/costs.table is a program of the gate with two numbers: what it costs with the greater one, less what it
-costs with the smaller one, is shared among the difference. The figure of the row must be met within a tenth. It was
-measured; the reason beside it says why it should be no more. Instructions are counted by valgrind's callgrind, bytes
-by tests/refuse.c. With --print the figures that came are printed. The rows are all, or those whose names begin so.
+Each row of tests/costs.table is a program of the gate with two numbers. The cost with the greater one, less the cost
+with the smaller one, is divided by their difference. It must be within a tenth of the row's figure. That was measured;
+the reason next to it says why it should be no more. valgrind's callgrind counts instructions, tests/refuse.c bytes.
+With --print the script prints the figures that came. It tries all rows, or those whose names begin with a ROW.
 """
 import argparse
 import re

@@ -85,7 +85,7 @@ BY_HAND = {
 
 
 def wanted_of(ended, told_rows):
-    """The rows that are wanted, by their names, but for those that are 0."""
+    """The expected rows, by their names, but for those that are 0."""
     found = dict(zip(("end", "turns", "events"), ([word] for word in ended.split(" "))))
     for row in told_rows.split("; "):
         name, *numbers = row.split(" ")
@@ -184,7 +184,7 @@ def quick_reading(tester):
 
 
 def plainly(step):
-    """A step without more blanks and zeros than need be."""
+    """A step without needless blanks and zeros."""
     letter, *of = step.split()
     return " ".join([letter, *(f"{int(word, 16):#x}" if word[:2] == "0x" else str(int(word)) for word in of)])
 

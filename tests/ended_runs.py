@@ -1,12 +1,12 @@
-"""Runs that end for want of memory, by the second program (examples/reference): all that may be told of one.
+"""Runs that end with a failed allocation, by the second program (examples/reference): all that one may report.
 
-A run ends so only before an event that asks for memory: one that opens an operation, or brings DRAM the first store
-of a line. Or it ends where the schedule lists something: the messages in flight, before a round's first delivery, and
-the lines that may be evicted, if a seed drew an eviction. What is told then is what is told of the events before.
+A run ends so only before an event that allocates: one that opens an operation, or brings DRAM the first store of a
+line. Or it ends where the schedule lists something: the messages in flight, before a round's first delivery, and the
+lines that may be evicted, if a seed drew an eviction. The run then reports the events before that.
 
-A run by a seed keeps its lines in order, and then lists none for an eviction. It does only where memory for that order
-was refused. So if one growth is refused alone, no run of a command ends before an eviction. (A driver that keeps the
-list of events may, since an event's place in that list may be refused.)
+A run by a seed keeps its lines in order, and then lists none for an eviction. It lists them only if the allocation for
+that order failed. So if one growth is refused alone, no run of a command ends before an eviction. (A driver that keeps
+the list of events may, since the growth of that list may be refused.)
 """
 from itertools import product
 
@@ -23,8 +23,8 @@ class OutOfMemory(Exception):
 
 
 class Watched(Run):
-    """A run that ends before the event of this number, if there is one; it notes before which events memory is asked
-    for. If a growth is refused alone, it isn't for an eviction, and no run ends before one."""
+    """A run that ends before the event of this number, if there is one; it notes before which events it allocates. If
+    a growth is refused alone, it isn't for an eviction, and no run ends before one."""
 
     def __init__(self, machine, programs, last, is_alone=False):
         super().__init__(machine, programs)
@@ -60,13 +60,14 @@ def run_of(options, programs, memory, seed, last=None, is_alone=False):
 
 
 def ends_of(start, tell):
-    """What is told of a run that ends before each event that asks for memory, in the order of the events."""
+    """The report of a run that ends before each event that allocates, in the order of the events."""
     whole, _ = start(None)
     return [tell(*start(last)) for last in whole.asks]
 
 
 def cuts_of(options, is_alone=False):
-    """Of each run of a batch what is told of it alone, and all that is told of it if it ended for want of memory."""
+    """Of each run of a batch its report alone, and all reports that it may have if it ended with a failed
+    allocation."""
     test = oracle.read_litmus(options.FILE)
 
     def tell(run, end):
@@ -87,7 +88,7 @@ def cuts_of(options, is_alone=False):
 
 
 def of_litmus(options, is_alone):
-    """What may be told of a batch in which a run, or some, ended for want of memory."""
+    """The reports that a batch may have if one or more of its runs ended with a failed allocation."""
     wholes, cuts = cuts_of(options, is_alone)
     if options.runs == 1:
         return cuts[0]
@@ -96,7 +97,7 @@ def of_litmus(options, is_alone):
 
 
 def of_trace(options, is_alone):
-    """What may be told of the run of a trace, or of its records, if it ended for want of memory."""
+    """The reports that the run of a trace may have, or its records, if it ended with a failed allocation."""
     trace = oracle.read_trace(options.FILE)
 
     def tell(run, end):
@@ -107,7 +108,7 @@ def of_trace(options, is_alone):
 
 
 def told_of(words, is_alone=False):
-    """All texts that a command may write if its runs, or some, end for want of memory, which is refused alone or with
-    all later memory. Of one run they stand in the order of its events."""
+    """All texts that a command may write if one or more of its runs end with a failed allocation, which is refused
+    alone or with all later ones. Those of one run are in the order of its events."""
     options = oracle.words().parse_args([*map(str, words)])
     return (of_litmus if options.command == "litmus" else of_trace)(options, is_alone)

@@ -39,7 +39,7 @@ def options_of(generator):
 
 
 class Picker:
-    """A game on a machine of the second program, and what is picked for it."""
+    """A game on a machine of the second program, and what the test picks for it."""
 
     def __init__(self, title, generator):
         self.random, self.o, self.game = generator, options_of(generator), Game(title, MachinePlayer())

@@ -2,8 +2,8 @@
 """Tries scripts/explain.py: tests/explain.py PROGRAM.
 
 Verdicts and faults come from tables that were written by hand (examples/verdicts.table, examples/bad and
-tests/litmus_faults.table); what is told of them, from the cases below, worked out by hand. The last line is
-`N tried, M wrong`.
+tests/litmus_faults.table). What the script must say of them comes from the cases below, worked out by hand. The last
+line is `N tried, M wrong`.
 """
 import os
 import sys
@@ -100,7 +100,7 @@ class Explainer(Tester):
         self.folder = folder
 
     def tells(self, wanted, *texts, names=("trace", "records"), is_good=False):
-        """These words are told, in this order."""
+        """The script says these words, in this order."""
         paths = [Path(self.folder, name) for name, _ in zip(names, texts)]
         for path, text in zip(paths, texts):
             path.write_bytes(text)
@@ -126,7 +126,7 @@ def verdicts(tester):
 
 
 def told_fault(fault):
-    """What must be told of a fault `line 6: 8 BadInstruction`."""
+    """What the script must say of a fault `line 6: 8 BadInstruction`."""
     line, kind = fault.split(": ")
     return [f", {line}, ", f"  {kind}: "]
 

@@ -3,7 +3,7 @@
 
 The tests of tests/herd were typed in as herd7's generator writes them. Each asks for the one end that the cycle of its
 name forbids, so under sequential consistency it has every other end: loads receive 0 or 1, and locations end as 1 or
-2. What single cells are turned into, and which line is refused, was worked out by hand. The last line is
+2. What the script turns single cells into, and which line it refuses, was worked out by hand. The last line is
 `N tried, M wrong`.
 """
 import os

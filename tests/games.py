@@ -12,7 +12,7 @@ from reference.texts import LAST, Turned  # noqa: E402
 
 
 class Game:
-    """Calls that are played, one after the other, and the lines that are wanted."""
+    """Calls that are played, one after the other, and the expected lines."""
 
     def __init__(self, title, player):
         self.player, self.given, self.wanted = player, [f"example {title}"], []
@@ -68,7 +68,7 @@ def opening_text(name, options, memory=()):
 
 
 def is_played(program, name, games):
-    """Whether the player prints what is wanted of the text of these games; the first other line is printed."""
+    """Whether the player prints the expected text of these games; the script prints the first line that differs."""
     text, wanted = "".join(game.text() for game in games), [line for game in games for line in game.wanted]
     wanted.append(summary(len(games)))
     ran = subprocess.run([program], input=text, capture_output=True, text=True)

@@ -1,10 +1,10 @@
 #!/usr/bin/env python3
 """Asks the tools of examples/ and scripts/ for help, and gives them files that they can't read: tests/helps.py
 
-Help comes on standard output, with status 0, and no file of the repository is written. A missing file and one of
-another kind are each told in one line, with status 2; examples/oracle.py tells a missing one with status 4.
-examples/page.py is tried in copies of the repository, too: who
-plays, where the proved player isn't built, is built, or is older than a source. The last line is `N tried, M wrong`.
+Help comes on standard output, with status 0, and no tool writes a file of the repository. For a missing file and one
+of another kind, each tool writes one line and ends with status 2; examples/oracle.py ends with status 4 for a missing
+one. The script also tries examples/page.py in copies of the repository: who plays, if the proved player isn't built,
+is built, or is older than a source. The last line is `N tried, M wrong`.
 """
 import os
 import shutil
@@ -34,8 +34,8 @@ def ran(words):
 
 
 def page_players():
-    """What isn't so of who plays a page's run, and of what standard error says. What stands for the proved player here
-    is a script that has the second program play; a build would fail, as there is nothing to build."""
+    """Faults in who plays a page's run, and in what standard error says. The proved player here is a script that has
+    the second program play; a build would fail, as there is nothing to build."""
     with tempfile.TemporaryDirectory() as folder:
         top, program = Path(folder), Path(folder, "crates/play_events/out/play_events")
         shutil.copytree(TOP / "examples", top / "examples", ignore=shutil.ignore_patterns("__pycache__"))

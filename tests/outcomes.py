@@ -1,7 +1,7 @@
 #!/usr/bin/env python3
 """Runs small litmus tests under 512 settings each: tests/outcomes.py PROGRAM.
 
-Whatever the setting, a reported end state must be one that plain enumeration of the interleavings finds
+Under any setting, a reported end state must be one that plain enumeration of the interleavings finds
 (examples/sequential.py). How many these are was counted by hand, and none of them meets the test's expression. The
 tests are those of examples/outcomes, whose header line `ends=..` has the number, and four of the catalogue. The last
 line is `N tried, M wrong`.

@@ -1,11 +1,11 @@
 #!/usr/bin/env python3
 """Opens pages of examples/page.py in a browser, and compares them with what the player says: tests/page.py PLAYER
 
-Eight runs are stepped to their end and back by keys. At ten places of each and more, what stands in the page is
-compared with the records and look-ups that PLAYER, a built play_events, answers to texts that were written by hand
-here. What is said of an event of each kind stands in page.table, by hand, too. The slider, the jumps and what is
-refused are tried, and the time is told that a key takes in a page of thousands of events. If no Chromium is installed,
-that is said, and only what needs none is tried.
+The script steps eight runs to their end and back by keys. At ten places of each and more, it compares the page with
+the records and look-ups that PLAYER, a built play_events, answers to texts that were written by hand here. What the
+page says of an event of each kind is in page.table, by hand, too. The script tries the slider, the jumps and what is
+refused, and prints the time that a key takes in a page of thousands of events. If no Chromium is installed, it says
+so, and tries only what needs none.
 
     tests/page.py PLAYER --pictures FOLDER    writes the picture of README.md and docs/TUTORIAL.md into FOLDER, too
 """
@@ -165,7 +165,7 @@ def lines_of(events, machine):
 
 
 class Compared:
-    """Compares one page with what is wanted of a place. `faults` has what differs."""
+    """Compares one page with what a place must have. `faults` has what differs."""
 
     def __init__(self, case):
         _, self.machine, programs, self.drive, self.names = case
@@ -235,7 +235,7 @@ class Compared:
             self.faults.append(f"core {core}'s program: {shown}, wanted a part of {texts}")
 
     def said(self, step, record):
-        """An operation as it stands in a program or a box: what it received stands behind it."""
+        """An operation as a program or a box shows it: followed by what it received."""
         letter, word, value = [*step, ""][:3]
         name = self.names.get(word, word)
         text = {"R": f"load {name}", "W": f"store {value} to {name}", "S": f"swap {value} into {name}"}[letter]
@@ -258,8 +258,8 @@ class Compared:
         return self.names.get(line, line) + says
 
     def message(self, seen, answer):
-        """A message's text, with an arrow before it if it is one of DRAM; the core beside which, or the bank in which
-        it stands; and the arrow's head: the cores stand on the left, and the bank on the right."""
+        """A message's text, with an arrow before it if it is one of DRAM; the core next to which, or the bank in which
+        it is shown; and the arrow's head: the cores are on the left, and the bank on the right."""
         kind, sender, from_number, _, receiver, to_number, line, *carried = answer.split(" ")
         text, place, points = seen
         sign = {"bank": "↓ ", "dram": "↑ "}[sender] if "dram" in (sender, receiver) else ""

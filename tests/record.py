@@ -1,8 +1,8 @@
 #!/usr/bin/env python3
 """Records programs in C and C++ with each compiler that is there: tests/record.py PROGRAM.
 
-What must stand in each trace is by hand: the words that threads hand to each other. The program must run each trace to
-its end. Compilers that aren't there are told on standard error. The last line is `N tried, M wrong`.
+What each trace must have was worked out by hand: the words that threads hand to each other. The program must run each
+trace to its end. Standard error names the compilers that aren't there. The last line is `N tried, M wrong`.
 """
 import os
 import shutil

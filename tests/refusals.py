@@ -2,10 +2,10 @@
 """Refuses the program memory, reads and writes, each in turn: tests/refusals.py PROGRAM SHIM [PART..].
 
 PROGRAM is the built program, SHIM the shared object made of tests/refuse.c; tests/refusals.sh makes both. What a whole
-run must print comes from the examples, whose reports the second program made. What may be told of a run that ended for
-want of memory is by the second program, too (ended_runs.py); all else follows from docs/TEXTS.md. Each part prints what
-it tried; the last line is `N tried, M wrong`. The parts `steps`, `lists` and `drives` want the player
-crates/play_events as PROGRAM, and `seats` wants crates/play_seats.
+run must print comes from the examples, whose reports the second program made. The second program also gives the
+reports that a run may have which ended with a failed allocation (ended_runs.py); all else follows from docs/TEXTS.md.
+Each part prints what it tried; the last line is `N tried, M wrong`. The parts `steps`, `lists` and `drives` need the
+player crates/play_events as PROGRAM, and `seats` needs crates/play_seats.
 """
 import os
 import subprocess
@@ -46,9 +46,9 @@ word 0x0 0
 
 
 class Refused:
-    """What a run answered: what the shim told of it, its status, and what it wrote.
+    """The result of a run: what the shim reports, its status, and what it wrote.
 
-    The shim tells whether anything was refused, and if so, whether threads were at work; and how many were started.
+    The shim says whether anything was refused, and if so, whether threads were at work; and how many were started.
     """
 
     def __init__(self, told, status, out, error):
@@ -86,7 +86,7 @@ class Tester:
     def sweep(self, what, words, name, how, usual, allowed):
         """Refuses the 1st, 2nd, .. until nothing is left to refuse; then the answer is the usual one.
 
-        So it may be earlier, too, if what was refused can be done without: a sort then sorts in place, and a run by
+        It may be so earlier, if the program can do without what was refused: a sort then sorts in place, and a run by
         seeds finds its lines by a walk.
         """
         number = done_without = counted = 0
@@ -114,9 +114,10 @@ def options_of(text):
 
 
 class Told:
-    """Whether a refused run is told as it must be: there is no memory; or a run, or some, ended for want of it.
+    """Whether the program reports a refusal as it must: no memory; or one or more runs that ended with it.
 
-    What may be told then is by the second program. A refusal that comes later ends a single run no earlier.
+    The second program gives the reports that it may have then. A refusal that comes later ends a single run no
+    earlier.
     """
 
     def __init__(self, words, is_alone=False):
@@ -155,7 +156,7 @@ def runs():
 def growths(tester):
     """Each growth of memory is refused alone; then with each later one.
 
-    Refused alone, some growths are those of a run, which is then told as one that ended for want of memory.
+    Refused alone, some growths are those of a run, whose report then says that it ended with a failed allocation.
     """
     for what, words, usual in runs():
         counted = tester.sweep(what, words, "growth", "", (0, usual, ""), Told(words, is_alone=True))
@@ -208,7 +209,8 @@ def commands(folder):
 def devices(tester):
     """A read that fails: status 4 and nothing written. A write that fails, or takes nothing: a beginning is written.
 
-    A read or write that moves one byte at a time changes nothing. Where such a one fails, it fails behind each byte.
+    A read or write that moves one byte at a time changes nothing. If such a one fails, the script lets it fail after
+    each byte.
     """
     with tempfile.TemporaryDirectory() as folder:
         for words, usual in commands(folder)[:-1]:

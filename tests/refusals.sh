@@ -2,7 +2,7 @@
 # Refuses the program memory, reads and writes, each in turn, and gives it the examples byte by byte: tests/refusals.sh
 # [PROGRAM [PART..]]. PROGRAM is a program that is built; without it the program at the top is built where it isn't. For
 # the parts `steps`, `lists` and `drives` it is the event player (crates/play_events), for `seats` the seat player
-# (crates/play_seats). It wants a C compiler and the GNU C library.
+# (crates/play_seats). It needs a C compiler and the GNU C library.
 top=$(CDPATH='' cd -- "$(dirname -- "$0")/.." && pwd) || exit 1
 if [ $# -gt 0 ]; then
     program=$1

@@ -1,9 +1,9 @@
 """Batches of seeds that two workers share, whose growths are refused, each in turn; tests/refusals.py runs this part.
 
-The report is the same for every number of workers. If one growth was refused, it is the whole one. Or a run of it, one
-alone, ended for want of memory, and is told so. Or there is no memory; but not if a worker was refused memory at its
-work: it stops, and the calling thread makes the runs that are left. What is told of a run that ended so is by the
-second program (ended_runs.py).
+The report is the same for every number of workers. If one growth was refused, it is the whole one. Or one run of it,
+and no more, ended with a failed allocation, and the report says so. Or there is no memory; but not if a worker was
+refused memory at its work: it stops, and the calling thread makes the runs that are left. The second program gives the
+reports of a run that ended so (ended_runs.py).
 """
 from collections import Counter
 from pathlib import Path

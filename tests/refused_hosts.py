@@ -111,7 +111,7 @@ def unwritable(tester, words):
 
 
 def may_not_grow(tester, file, words, usual):
-    """Standard output is a file of so many bytes at most: just these go out."""
+    """Standard output is a file that may not grow past a number of bytes: just these are written."""
     sizes = [0, 1, 7, len(usual) // 2, len(usual) - 1]
     for size in [size for size in sizes if size < len(usual)]:
         def limited(size=size):
@@ -126,7 +126,7 @@ def may_not_grow(tester, file, words, usual):
 
 def without_descriptors(tester, words, usual):
     """A descriptor is closed: the next file that is opened gets its number. It is open for reads alone, so what would
-    go there doesn't."""
+    be written there isn't."""
     texts = [Path(word).read_bytes() for word in words if os.path.exists(word)]
     wanted = {0: (0, usual, b""), 1: (4, b"", WRITE_FAILED), 2: (0, usual, b"")}
     for number, answer in wanted.items():
@@ -138,8 +138,8 @@ def without_descriptors(tester, words, usual):
 
 
 def cut_short(words, usual):
-    """Whether a text may be told of a run that ended for want of memory. Of many loads of one word, which are told by
-    one number, that is any beginning; of a short run, what the second program says."""
+    """Whether a run that ended with a failed allocation may have this report. For many loads of one word, which one
+    number counts, that is any beginning; for a short run, what the second program says."""
     if words[0] == "check":
         return lambda text: False
     many = re.search(r"^cores 1\nissued (\d+)$", usual, re.M)
@@ -156,8 +156,8 @@ def cut_short(words, usual):
 
 
 def with_little_memory(tester, words, usual):
-    """The host gives a process so much memory and no more. From what the program wants to begin, up to what it wants
-    for all: the answer is the usual one, or there is no memory, or the run ended for want of it."""
+    """The host limits a process's memory. From what the program needs to begin, up to what it needs for all: the
+    answer is the usual one, or there is no memory, or the run ended with a failed allocation."""
     whole, size, is_begun, may_be_told = (0, usual, b""), 0, False, cut_short(words, usual.decode())
     while True:
         size += STEP
@@ -171,8 +171,8 @@ def with_little_memory(tester, words, usual):
 
 
 def without_threads(tester, folder):
-    """The host starts no thread. The runs of a batch are made by the calling one. A run by threads has its turns by
-    that one, too: one worker's seats after the other's, so that it ends at its limit."""
+    """The host starts no thread. The calling thread makes the runs of a batch. It also makes the turns of a run by
+    threads: one worker's seats after the other's, so that the run ends at its limit."""
     text = folder / "SB.litmus"
     shutil.copy(TOP / "examples" / "litmus" / "SB.litmus", text)
 

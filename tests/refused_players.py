@@ -1,10 +1,10 @@
 """Memory that is refused to the players crates/play_events and crates/play_seats, for tests/refusals.py: each growth
 alone, and to seats also with all later ones.
 
-Each game is a text, and has each call twice that may be refused, with what can be seen then behind both. A call that is
-refused is told so. It changes nothing, but that a turn keeps what it put and took; and the second one goes on as if
-nothing had been asked. What must be told is by the second program, which is told which calls were refused. Where the
-player itself has no memory, it ends with status 4, and what it told is a beginning.
+Each game is a text. It has each call that may be refused twice, and what can be seen then after both. The player must
+report a call that is refused. The call changes nothing, except that a turn keeps what it put and took; and the second
+one goes on as if the first had never been. The second program gives the expected lines, once it knows which calls were
+refused. If the player itself has no memory, it ends with status 4, and its output is a beginning.
 """
 import random
 import re
@@ -32,7 +32,8 @@ LOOKS = ("state", "check", "stale", "arranged", "flight", "copies", "free", "ent
 
 
 class Machines(MachinePlayer):
-    """A player that is given with each call what is told of it, and lets be refused what is told so, if it may be."""
+    """A player that gets with each call the line printed of it, and refuses the call if that says so, and if it may be
+    refused."""
 
     def __init__(self):
         super().__init__()
@@ -73,7 +74,7 @@ class Machines(MachinePlayer):
         return "; ".join(answers)
 
     def ended(self, name, of, count):
-        """A run that ends for want of memory when so many events were made."""
+        """A run that ends with a failed allocation after this many events."""
         run = self.run_of(lambda machine, programs: Watched(machine, programs, count))
         try:
             end = by_rounds(run, of[0]) if name == "rounds" else by_seed(run, of[1], of[0])
@@ -123,7 +124,7 @@ class Numbers(NumbersPlayer):
 
 
 def followed(game, kind, out):
-    """What must be told, if this is what is told, and what was refused."""
+    """The expected lines, if these are printed, and what was refused."""
     if NO_MEMORY not in out and ": memory, " not in out:
         return text_of([*game.wanted, summary(1)]), Counter()
     player, told, wanted = kind(), out.splitlines(), []
@@ -190,7 +191,7 @@ def stepped(seed):
 
 
 def listed(seed):
-    """Lists of events, that are picked on a copy of the machine."""
+    """Lists of events, which the test picks on a copy of the machine."""
     picker = opened_twice(f"lists {seed}", seed)
     for _ in range(LISTS):
         machine, calls = picker.machine, []

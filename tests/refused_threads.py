@@ -1,16 +1,16 @@
 """Runs by threads whose growths are refused, each in turn; tests/refusals.py runs this part.
 
-A run by threads differs from one time to the next, so what is asked is what holds of each. If nothing was refused, all
-is done. If one growth was refused, the answer is one of these, and the shim tells which of them it may be:
+A run by threads differs from one time to the next, so the script tests what holds of each. If nothing was refused, all
+is done. If one growth was refused, the answer is one of these, and the shim says which of them it may be:
 
-- It was refused to a worker at its work, so to a turn of some seat: that run ended for want of memory, and is told so.
+- It was refused to a worker at its work, so to a turn of some seat: that run ended with it, and the report says so.
 - The second worker's thread couldn't be started: its seats had their turns before or after those of the first. That
   leaves one order of all turns, and the run is the second program's, byte for byte.
-- It was refused elsewhere: there is no memory; or the run ended for want of it before any turn; or it was one that can
-  be done without, and all is done.
+- It was refused elsewhere: there is no memory; or the run ended with it before any turn; or the program can do without
+  it, and all is done.
 
-How many turns a seat may have must not matter: a run whose threads were all started and that ends at its limit is made
-again with a higher one.
+How many turns a seat may have must not matter: if the threads of a run were all started and it ends at its limit, the
+script makes it again with a higher one.
 """
 import tempfile
 from collections import Counter
@@ -52,7 +52,7 @@ class OneAfterTheOther(WorkerRun):
 
 
 def by_one_thread(options, programs, memory, tell):
-    """What may be told of a run whose second worker's thread couldn't be started; `programs` makes them."""
+    """The reports of a run whose second worker's thread couldn't be started; `programs` makes them."""
     for first in range(WORKERS):
         run = OneAfterTheOther(SharedMachine(options, len(programs()), memory), programs())
         yield tell(run, run.drive_all(first))
@@ -76,7 +76,7 @@ def lines_of(text):
 
 
 class Litmus:
-    """Runs of store buffering, and what must be told of them."""
+    """Runs of store buffering, and what their report must say."""
 
     def __init__(self):
         self.words, self.runs = ["litmus", *SCHEDULE, "--runs", RUNS, LITMUS], RUNS
@@ -104,12 +104,12 @@ class Litmus:
 
     @staticmethod
     def rest(ran, others):
-        """How many operations completed in the runs that aren't all done, if so many aren't."""
+        """How many operations completed in the runs that aren't all done, given how many aren't."""
         return int(lines_of(ran.out)["completed"]) - OPERATIONS * (RUNS - others)
 
 
 class Trace:
-    """The run of a trace, and what must be told of it."""
+    """The run of a trace, and what its report must say."""
 
     def __init__(self):
         options = next(line for line in TRACE.read_text().splitlines() if "options=" in line).split("options=")[1]
@@ -140,7 +140,7 @@ class Trace:
 
 
 class Records(Trace):
-    """The records of a trace's run. They don't tell how the run ended: only the status tells whether all is done."""
+    """The records of a trace's run. They don't say how the run ended: only the status says whether all is done."""
 
     def __init__(self, tester, file):
         super().__init__()
@@ -187,7 +187,7 @@ def kind_of(what, ran, are_later):
 
 
 def run_through(tester, what, growth):
-    """What comes of the command, and its kind; with more turns, if these were too few."""
+    """The result of the command, and its kind; with more turns, if these were too few."""
     for limit in LIMITS:
         ran = tester.run([*what.words, "--limit", limit], growth=growth)
         kind = kind_of(what, ran, growth.endswith("+"))
@@ -218,7 +218,7 @@ KINDS = ("no memory", "ended for want of memory", "by one thread", "done")
 
 
 def are_started(tester, *words):
-    """So many workers are the calling thread, and one that is started for each of the others."""
+    """As many workers as these are the calling thread, and one thread that is started for each of the others."""
     for workers in (1, 2, 3, 5, 16):
         ran = tester.run([*words, "--workers", workers])
         tester.expect(ran.started == workers - 1, f"{words} by {workers} workers: {ran.started} threads were started")

@@ -1,10 +1,10 @@
 #!/usr/bin/env python3
 """Tries examples/try_rule.py: tests/rules.py.
 
-Each wrong rule below is made in a copy of the second program, and must be found there. What is wrong of its records is
-judged by the checker of the tree, which isn't changed. Rules that only differ must be found nothing wrong of. What each
-may lead to, and the most operations and advances that its history needs, was worked out by hand. The last line is
-`N tried, M wrong`.
+The test makes each wrong rule below in a copy of the second program, and the script must find it there. The checker of
+the tree, which isn't changed, judges what is wrong with its records. In rules that only differ the script must find
+nothing wrong. What each may lead to, and the most operations and advances that its history needs, was worked out by
+hand. The last line is `N tried, M wrong`.
 """
 import shutil
 import subprocess
@@ -77,7 +77,7 @@ def changed(folder, changes):
 
 
 def ran(changes, *words):
-    """The status of the script on a copy, what it prints, and what the command does that it prints last."""
+    """The status of the script on a copy, what it prints, and what the last command that it prints does."""
     with tempfile.TemporaryDirectory() as folder:
         copy = changed(folder, changes)
         done = subprocess.run([copy / "try_rule.py", *words], capture_output=True, text=True, timeout=120)
@@ -88,7 +88,7 @@ def ran(changes, *words):
 
 
 def faults(may_be, most, status, out, again):
-    """What isn't so of what was printed of a wrong rule."""
+    """Faults in what was printed of a wrong rule."""
     lines = out.splitlines()
     if status != 1 or not lines[0].startswith(may_be):
         yield f"status {status}, {lines[:1]}, not {may_be}"
@@ -107,7 +107,7 @@ def faults(may_be, most, status, out, again):
 
 
 def refusals():
-    """What isn't so of words and files that are refused."""
+    """Faults in how words and files are refused."""
     script = str(TOP / "examples/try_rule.py")
     for words in (["none.trace"], ["--tries"], [str(TOP / "examples/bad/SB-cut.litmus")], [str(TOP)],
                   ["--tries", "0"], ["--tries", "-5"], ["--first", "-3"], ["--first", str(2 ** 64)], ["/dev/null"]):
@@ -126,7 +126,7 @@ DRAWN = {"schedule": {"seed", "round", "threads"}, "private_write": {False, True
 
 
 def draws():
-    """What isn't so of drawn trials, and of where they begin."""
+    """Faults in drawn trials, and in where they begin."""
     trials = [try_rule.trial_of(number, []) for number in range(300)]
     for name, values in DRAWN.items():
         if {getattr(trial.options, name) for trial in trials} != values:

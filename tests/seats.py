@@ -1,10 +1,10 @@
 #!/usr/bin/env python3
-"""Plays random calls of seats on random machines, closes each machine, and compares all that is told with the second
-program's seats: tests/seats.py PROGRAM [--machines N] [--calls N] [--crowded N] [--seed N].
+"""Plays random calls of seats on random machines, closes each machine, and compares all that is printed with the
+second program's seats: tests/seats.py PROGRAM [--machines N] [--calls N] [--crowded N] [--seed N].
 
 PROGRAM is the built crate play_seats. Each machine is an example as a text (docs/EVENTS.md). The machines have few
-words, and every limit of theirs is small or at its end. On crowded ones many lines are written and evicted, so that
-outboxes and held lists are full. Before these, numbers are drawn, and store buffering is played by single calls and
+words, and every limit of theirs is small or at its end. On crowded ones the script writes and evicts many lines, so
+that outboxes and held lists are full. Before these, it draws numbers, and plays store buffering by single calls,
 stopped after each number of them.
 """
 import argparse
@@ -47,8 +47,8 @@ CROWDED = SimpleNamespace(cores=2, banks=1, sets=64, ways=8, bank_sets=64, bank_
 
 
 class SeatGame(Game):
-    """The calls that are made of a machine's seats, which are numbered, cores first. Behind each is told what can be
-    seen of the seat, with so many words."""
+    """The calls of a machine's seats, which are numbered, cores first. After each, what can be seen of the seat, with
+    this many words."""
 
     def __init__(self, title, options, words, values, looks):
         super().__init__(title, SeatPlayer())
@@ -195,7 +195,7 @@ def played(title, generator, calls):
 
 
 def drawn(generator, count, draws):
-    """So many draws by so many drawers, with all that the drawer drew behind each."""
+    """Draws by drawers, and after each all that the drawer drew."""
     game = Game(f"{count} drawers", NumbersPlayer())
     game.ask(f"numbers {count}")
     for _ in range(draws):
@@ -208,8 +208,8 @@ def drawn(generator, count, draws):
 
 
 def buffering(calls):
-    """The first calls of store buffering, if there are so many: it ends when all is completed. A core is issued its
-    next operation right after the one before is completed, or in its next round."""
+    """The first calls of store buffering, as many as asked for or as there are: it ends when all is completed. A core
+    is issued its next operation right after the one before is completed, or in its next round."""
     game = SeatGame(f"store buffering is stopped after {calls} calls", TWO, 2, [0, 0, 0, 0], 2)
     while len(game.calls) < calls and len(game.seats.records) < 4:
         for seat, name in ROUND:
@@ -221,7 +221,7 @@ def buffering(calls):
 
 
 def stops():
-    """Store buffering, stopped after each number of calls up to its end: also right behind each issue, where a core has
+    """Store buffering, stopped after each number of calls up to its end: also right after each issue, when a core has
     an operation that it never attempted."""
     games = [buffering(0)]
     while len(games[-1].seats.records) < 4:

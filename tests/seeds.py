@@ -2,8 +2,8 @@
 """Tries scripts/seeds.py, and examples/merge.py on reports that it mustn't join: tests/seeds.py PROGRAM.
 
 Joined reports must be those of one run of the whole range, by the program and by the second program. How each part was
-made is worked out here. One file beside a report is wrong in each way that there is, and merge.py must say which. With
-GNU parallel, where it is installed, the parts must come to the same. The last line is `N tried, M wrong`.
+made is worked out here. The test spoils the file next to a report in each way that there is, and merge.py must say
+which. With GNU parallel, if it is installed, the parts must give the same. The last line is `N tried, M wrong`.
 """
 import hashlib
 import json
@@ -53,7 +53,7 @@ def put_parts(tester, folder, parts=PARTS, runs=RUNS, first=0, test=TEST, option
 
 
 def made(tester, program, folder):
-    """What stands beside each report, by hand: 90 seeds in 4 parts are 22, 23, 22 and 23."""
+    """The files next to the reports, by hand: 90 seeds in 4 parts are 22, 23, 22 and 23."""
     put_parts(tester, folder, parts=4, first=LAST - 30, options=["--limit", "90"])
     firsts, counts = (LAST - 30, LAST - 8, 14, 36), (22, 23, 22, 23)
     names = sorted(path.name for path in Path(folder).iterdir())
@@ -116,7 +116,7 @@ class Folder:
 
 
 def put(folder, name, change):
-    """Changes what is said beside a report."""
+    """Changes what the file next to a report says."""
     said = json.loads((folder / name).read_text())
     change(said)
     (folder / name).write_text(json.dumps(said))

@@ -41,7 +41,7 @@ class Sweeper(Tester):
         self.player = player
 
     def sweep(self, *words, status=0, made=None, rows=None, failed=0, table="sweep.csv"):
-        """The rows of the table, if the script says what is wanted."""
+        """The rows of the table, if the script says what it must."""
         got = self.run(*words)
         wanted = status, f"{table}: {rows} rows, {failed} failed\n", f"{made} of {made} rows\n" if made else ""
         self.expect(got == wanted, f"{words}: {got}, wanted {wanted}")

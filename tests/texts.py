@@ -1,7 +1,7 @@
 #!/usr/bin/env python3
 """Gives the program cut, faulty, huge and changed texts: tests/texts.py PROGRAM [PART..].
 
-What it must say of each was worked out by hand from docs/TEXTS.md, or is said by the second program, which was written
+What it must say of each was worked out by hand from docs/TEXTS.md, or comes from the second program, which was written
 from the same page (examples/oracle.py). The last line is `N tried, M wrong`.
 """
 import os
@@ -73,7 +73,7 @@ def told(line, kind):
 
 
 def cuts(tester):
-    """Store buffering, cut behind each byte."""
+    """Store buffering, cut after each byte."""
     text, report = b"", (TOP / "examples/litmus/SB.report").read_text()
     tester.refuses(told(1, CUT_SHORT), text)
     for line, pieces in enumerate(STORE_BUFFERING, 1):
@@ -85,7 +85,7 @@ def cuts(tester):
 
 
 def line_cuts(tester):
-    """A trace and its records, each cut behind each byte: the answer of `check` is the second program's."""
+    """A trace and its records, each cut after each byte: the answer of `check` is the second program's."""
     trace = (TOP / "examples/traces/SWAP-LOCK.trace").read_bytes()
     records = (TOP / "examples/traces/SWAP-LOCK.records").read_bytes()
     for at in range(len(trace)):
@@ -117,7 +117,7 @@ def faults(tester):
 
 
 def ends(tester):
-    """Litmus texts that are read: the name, the one end and the verdict that each report tells."""
+    """Litmus texts that are read: the name, the one end and the verdict that each report has."""
     for told_end, text in rows(TOP / "tests/litmus_ends.table"):
         verdict, end = told_end.split(" ", 1)
         text = unescaped(text)
@@ -139,7 +139,7 @@ def of_printf(text):
 
 
 def moved(fault, lines):
-    """The fault's line in a text that has so many lines in front."""
+    """The fault's line in a text with this many lines in front."""
     line, rest = fault.removeprefix("line ").split(":", 1)
     return f"line {int(line) + lines}:{rest}"
 
@@ -156,7 +156,7 @@ FORM_1 = (b"16 R 0x0", b"16 A", b"16 X 0x4 x y", b"0 A")
 
 
 def form_2_faults():
-    """Lines with a fault in form 2, each told as in line 2: those that the table has behind `trace 2`, and those that
+    """Lines with a fault in form 2, each reported at line 2: those that the table has after `trace 2`, and those that
     have it in any form."""
     for fault, text in rows(TOP / "examples/bad/traces.table"):
         text = of_printf(text).removesuffix(b"\n")
@@ -170,7 +170,7 @@ def form_2_faults():
 def places(tester):
     """Each faulty line of a trace and of records, as the first line, between others, and as the last.
 
-    Behind a line with fields no form is told any more: a line that begins with `trace` has no core then.
+    After a line with fields no line declares a form: a line that begins with `trace` has no core then.
     """
     with tempfile.NamedTemporaryFile(suffix=".trace") as some:
         commands = {"traces.table": ("trace", "/dev/stdin"), "records.table": ("check", some.name, "/dev/stdin")}
@@ -311,7 +311,7 @@ def past_limits():
 
 
 def limits(tester):
-    """Litmus texts at each limit, and past it. A configuration is looked at behind the longest text, too."""
+    """Litmus texts at each limit, and past it. Even after the longest text, the program looks at the configuration."""
     for what, text in at_limits():
         tester.reports(what, text)
     for fault, text in past_limits():

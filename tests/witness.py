@@ -1,8 +1,8 @@
 #!/usr/bin/env python3
 """Tries scripts/witness.py: tests/witness.py PROGRAM.
 
-The second program makes the runs one by one: its first seed of each end is what must be told, and how many runs have
-it. Each command that is told must print that end as its one state. The last line is `N tried, M wrong`.
+The second program makes the runs one by one: the script must print its first seed of each end, and how many runs have
+it. Each command that the script prints must have that end as its one state. The last line is `N tried, M wrong`.
 """
 import os
 import shlex
@@ -106,7 +106,7 @@ printf '%s\\n' 'test T' 'stalled 0' 'limit 0' 'exhausted 0' 'memory 0' "held $((
 
 
 def beyond_a_million(tester):
-    """No report has more than 1,000,000 seeds; those behind them are found in the next."""
+    """No report has more than 1,000,000 seeds; those after them are found in the next."""
     kept = os.environ["TARDIS"]
     with tempfile.TemporaryDirectory() as folder:
         program = Path(folder, "program")

@@ -1,7 +1,7 @@
 #!/usr/bin/env python3
 """Gives the program the command lines of tests/words.table: tests/words.py PROGRAM.
 
-The first lines of the table say how to read it. Bad configurations are asked of the second program, too.
+The first lines of the table say how to read it. The second program must refuse bad configurations, too.
 The last line is `N tried, M wrong`.
 """
 import os

@@ -157,7 +157,7 @@ class Parts(Player):
         return number < self.machine.o.banks
 
     def words_of(self, count):
-        """The lines of so many words from 0 on."""
+        """The lines of the first `count` words."""
         return range((count - 1) // self.machine.o.line_words + 1) if count else range(0)
 
     def copy_at(self, core, line):

@@ -1,6 +1,6 @@
 """What the tools that show a run are given: a litmus test, a trace or records, and the options of a run.
 
-A tool's `--help` is its own docstring and its options. What is bad is told in one line, with status 2.
+A tool's `--help` is its own docstring and its options. It reports a bad text or option in one line, with status 2.
 """
 import argparse
 import sys
@@ -22,7 +22,7 @@ NUMBERS = {"seed": (0, "the seed, with --schedule seed"), "limit": (100000, "at 
 
 
 class Bad(Exception):
-    """What is told in one line, behind the tool's name."""
+    """What a tool reports in one line, after its name."""
 
 
 class Words(argparse.ArgumentParser):
@@ -107,7 +107,7 @@ class Subject:
 
 
 def has_machine(options, cores):
-    """Whether there is a machine of these options with so many cores."""
+    """Whether there is a machine of these options with this many cores."""
     named = {name: getattr(options, name.replace("-", "_")) for name in NUMBERS if name not in ("seed", "limit")}
     return options_of({**named, "cores": cores}) is not None
 

@@ -72,7 +72,7 @@ class Run:
         return issued
 
     def make_step(self, core):
-        """What a core's program wants next: an Issue, or an Advance that the program is told of."""
+        """Makes the next step of a core's program: an Issue, or an Advance, which the program then leaves behind."""
         wanted = self.programs[core].next()
         if wanted != ADVANCE:
             return self.make("Issue", core, wanted)
@@ -105,7 +105,7 @@ class Run:
                 self.make("EvictBank", line % self.machine.o.banks, line)
 
     def attempt(self, core):
-        """Attempt, and the eviction that follows where there is no place for the line. Tells whether there was none."""
+        """Attempt, and the eviction that follows if there is no place for the line. Whether there was none."""
         if self.make("Attempt", core) != "NoRoom":
             return False
         victim = self.machine.victim(core, self.machine.line_at(core))
@@ -159,7 +159,7 @@ def by_seed(run, limit, seed):
 
 
 def chosen_list(run, which):
-    """A list of events for a turn; ("Step", core) stands for what the core's program wants next."""
+    """A list of events for a turn; ("Step", core) stands for the next step of the core's program."""
     machine, cores = run.machine, range(len(run.programs))
     if which == 0:
         return [("Advance", core) for core in cores]

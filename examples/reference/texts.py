@@ -34,7 +34,7 @@ class Turned:
 
 
 class Line:
-    """A call, and the answer that is wanted, if one is; both with one blank between words."""
+    """A call, and the expected answer, if there is one; both with one blank between words."""
 
     def __init__(self, number, words, is_repeated):
         at = words.index(":") if ":" in words else len(words)
@@ -125,7 +125,7 @@ class Example:
             self.kind.read(line.of_turn(turn)[0])
 
     def lines(self):
-        """Each line that is played, with its turn, its call and the answer that is wanted."""
+        """Each line that is played, with its turn, its call and the expected answer."""
         for turns, lines in self.blocks:
             for turn in range(turns):
                 yield from ((line, turn, *line.of_turn(turn)) for line in lines)

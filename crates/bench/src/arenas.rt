@@ -22,7 +22,7 @@ fn put(arena: &mut Arena<Line>, list: u32, value: u64) -> Option<Cell> {
     arena.push_back(list, Line { words: [value; 10] }).ok()
 }
 
-/// Makes an arena, puts eight values into it and drops it, so many times.
+/// Makes an arena, puts eight values into it and drops it, once for each round.
 pub(crate) fn make(alloc: Global, [rounds, cells, lists, _]: [u32; 4]) -> Option<u64> {
     let mut sum = 0u64;
     for round in 0..rounds {
@@ -37,7 +37,7 @@ pub(crate) fn make(alloc: Global, [rounds, cells, lists, _]: [u32; 4]) -> Option
     Some(sum)
 }
 
-/// Moves a cell of a full arena to the end of a list, so many times.
+/// Moves a cell of a full arena to the end of a list, once for each round.
 pub(crate) fn moves(alloc: Global, [rounds, cells, lists, _]: [u32; 4]) -> Option<u64> {
     let mut arena = Arena::new(alloc, cells, lists).ok()?;
     for number in 0..cells {
@@ -59,7 +59,8 @@ pub(crate) fn moves(alloc: Global, [rounds, cells, lists, _]: [u32; 4]) -> Optio
     Some(sum)
 }
 
-/// Puts values into a full arena, so many times: if no cell is free, the first value of the list is taken out.
+/// Puts a value into a full arena, once for each round: if no cell is free, it first takes the first value of the list
+/// out.
 pub(crate) fn churn(alloc: Global, [rounds, cells, lists, _]: [u32; 4]) -> Option<u64> {
     let mut arena = Arena::new(alloc, cells, lists).ok()?;
     let mut sum = 0u64;

@@ -1,16 +1,16 @@
-//! What a measurement came to, and how long its call took.
+//! The result of a measurement, and how long its call took.
 
 use std::rt::Clock;
 use std::time::Instant;
 
-/// What a measurement came to, and the nanoseconds of what it times.
+/// The result of a measurement, and the nanoseconds of what it times.
 #[derive(Clone, Copy)]
 pub(crate) struct Told {
     pub(crate) done: u128,
     pub(crate) nanos: u128,
 }
 
-/// The time now, if the clock tells it.
+/// The time now, if the clock gives it.
 pub(crate) fn now<R: Clock>(rt: &R) -> Option<Instant> {
     Instant::now(rt).ok()
 }

@@ -1,5 +1,4 @@
-//! A legal history of so many records of so many cores: what all calls say of it, or one call by itself. The numbers
-//! are records and cores.
+//! Measures the checker on a legal history: all its calls, or one call by itself. The numbers are records and cores.
 ghost use Rattle.std.specs.Prelude.{◌<◌};
 
 use crate::clock::{Told, now, since};
@@ -59,7 +58,7 @@ fn issued(alloc: Global, records: &[Record], cores: u32) -> Result<Vec<Vec<Op>>,
     Ok(lists)
 }
 
-/// What all calls saw of a history that is legal.
+/// What all calls answered about a legal history.
 #[derive(Clone, Copy)]
 struct Seen {
     stale: u64,
@@ -89,8 +88,8 @@ fn all_calls(alloc: Global, history: &mut Vec<Record>, lists: &[Vec<Op>]) -> Opt
     })
 }
 
-/// Times one call: `check`, which tells its comparisons, `stale_hits`, which tells its looks, `records_text`, which
-/// tells its bytes, or none, `made`.
+/// Times one call. The count is of comparisons for `check`, of looks for `stale_hits`, and of bytes for
+/// `records_text`; `made` has none.
 fn one_call<R: Clock>(
     rt: &R,
     alloc: Global,
@@ -120,7 +119,7 @@ fn one_call<R: Clock>(
     since(rt, &start, done)
 }
 
-/// A history is made, and a call on it timed by itself.
+/// Makes a history, and times one call on it.
 pub(crate) fn measure<R: Clock>(
     rt: &R,
     alloc: Global,
@@ -135,7 +134,7 @@ pub(crate) fn measure<R: Clock>(
     one_call(rt, alloc, word, &history, &lists)
 }
 
-/// A history is made, and what all calls saw of it.
+/// Makes a history, and gives what all calls answer about it.
 fn measure_all(alloc: Global, [records, cores, _, _]: [u32; 4]) -> Option<Seen> {
     if cores == 0 {
         return None;
@@ -145,7 +144,7 @@ fn measure_all(alloc: Global, [records, cores, _, _]: [u32; 4]) -> Option<Seen> 
     all_calls(alloc, &mut history, &lists)
 }
 
-/// Tells what all calls saw of a history.
+/// Prints what all calls answer about a history.
 pub(crate) fn tell_all<R: AllocGlobal + Print>(rt: &R, numbers: [u32; 4]) -> io::Result<()> {
     let Some(seen) = measure_all(rt.alloc(), numbers) else {
         return Err(io::ErrorKind::InvalidInput.into());

@@ -1,5 +1,5 @@
-//! One machine: cores that load, store and swap words, so many events in all. The numbers are events, cores, words, and
-//! how many machines are opened, the last of which is driven; one, if that is 0.
+//! One machine whose cores load, store and swap words, for a number of events. The numbers are events, cores, words,
+//! and how many machines are opened (one, if that is 0); the last of them is driven.
 
 use interleaving_core::{Answer, Config, Event, Refusal, System};
 use network::LineNo;
@@ -26,7 +26,7 @@ const MULTIPLIER: u64 = 6_364_136_223_846_793_005;
 
 const INCREMENT: u64 = 1_442_695_040_888_963_407;
 
-/// The operation of a number on one of so many words: five loads to two stores and a swap.
+/// The operation of a number on one of the first `words` words: five loads to two stores and a swap.
 fn operation_of(number: u64, words: u64) -> Op {
     let mixed = number.wrapping_mul(MULTIPLIER).wrapping_add(INCREMENT);
     let word = WordAddr::at((mixed >> 33).checked_rem(words).unwrap_or(0));
@@ -43,7 +43,7 @@ fn victim_of(system: &System, core: u32) -> Option<LineNo> {
     system.victim(core, LineNo(op.word()))
 }
 
-/// A core is issued its next operation where none is open, and attempts it; without room a copy goes. Whether the
+/// Issues a core its next operation if none is open, and attempts it; evicts a copy if there is no room. Whether the
 /// operation is completed, and how many events that made, without the eviction.
 fn turn(system: &mut System, core: u32, number: u64, words: u64) -> (bool, u64) {
     let mut events = 1;
@@ -63,7 +63,7 @@ fn turn(system: &mut System, core: u32, number: u64, words: u64) -> (bool, u64) 
     (false, events)
 }
 
-/// Each message in flight is delivered; where one is held for room, a line leaves its bank.
+/// Delivers each message in flight; evicts a line from its bank where a message is held for room.
 fn deliver(system: &mut System) -> Result<u64, AllocError> {
     let numbers = system.in_flight()?;
     for number in &numbers {
@@ -76,7 +76,7 @@ fn deliver(system: &mut System) -> Result<u64, AllocError> {
     Ok(numbers.len() as u64)
 }
 
-/// Rounds of turns and deliveries, until so many events were made. How many operations were completed.
+/// Makes rounds of turns and deliveries until `most` events were made. How many operations were completed.
 fn drive(system: &mut System, most: u64, words: u64) -> Result<u64, AllocError> {
     let mut events = 0u64;
     let mut completed = 0u64;
@@ -97,12 +97,12 @@ fn drive(system: &mut System, most: u64, words: u64) -> Result<u64, AllocError> 
     Ok(completed)
 }
 
-/// A machine of so many cores.
+/// A machine with this many cores.
 fn machine(alloc: Global, cores: u32) -> Option<System> {
     System::new(alloc, Config { cores, ..ONE_CORE }, Memory::new(alloc)).ok()
 }
 
-/// Opens the machines and drives the last; how many events were wanted, which were made. `None`, too, if a completion
+/// Opens the machines and drives the last; the number of events asked for, which it made. `None`, too, if a completion
 /// wasn't recorded.
 pub(crate) fn measure(alloc: Global, [events, cores, words, machines]: [u32; 4]) -> Option<u64> {
     for _opened in 1..machines {

@@ -1,14 +1,14 @@
 //! Measurements: of arenas, of histories and of one machine. docs/BENCHMARKS.md has the tables.
 //!
-//! Each word below is a measurement, and so many numbers follow it. Several may stand one after the other. Each tells
-//! what it came to; after the word `time`, each but `history` tells its nanoseconds, too.
+//! Each word below is a measurement, and its numbers follow it. Several may stand one after the other. Each prints its
+//! result; after the word `time`, each but `history` prints its nanoseconds, too.
 //!
-//! | Words | Numbers | Told |
+//! | Words | Numbers | Result |
 //! |---|---|---|
 //! | `make`, `move`, `churn` | rounds, cells, lists | a sum of what was seen |
 //! | `history` | records, cores | its stale hits, and the verdicts as it lies and backwards |
 //! | `made`, `check`, `stale_hits`, `records_text` | records, cores | nothing, comparisons, looks, bytes |
-//! | `machine` | events, cores, words, machines that are opened | events that were wanted |
+//! | `machine` | events, cores, words, machines that are opened | the first number |
 #![tactic(auto)]
 
 mod arenas;
@@ -51,7 +51,7 @@ fn measure<R: AllocGlobal + Clock>(rt: &R, word: &str, numbers: [u32; 4]) -> Opt
     since(rt, &start, u128::from(done))
 }
 
-/// Tells what a measurement came to, and its time if that is wanted.
+/// Prints the result of a measurement, and its time if the words ask for it.
 fn tell<R: AllocGlobal + Print + Clock>(
     rt: &R,
     word: &str,

@@ -56,8 +56,8 @@ fn operations(alloc: Global, core: u32, words: u32, count: u32) -> Result<Vec<Op
     Ok(ops)
 }
 
-/// The programs of so many cores, each of so many operations; `None` if that is more than a core is issued, or too much
-/// for the memory.
+/// The programs of all cores, `count` operations each; `None` if that is more than a core may be issued, or if memory
+/// runs out.
 fn programs_of(alloc: Global, cores: u32, words: u32, count: u32) -> Option<Vec<OpProgram>> {
     let mut programs = Vec::new(alloc);
     for core in 0..cores {
@@ -70,8 +70,8 @@ fn programs_of(alloc: Global, cores: u32, words: u32, count: u32) -> Option<Vec<
     Some(programs)
 }
 
-/// Runs the programs to their ends: the completed operations, or the events if they are kept. `None` if not all is
-/// done.
+/// Runs the programs to their ends: the completed operations, or the events if they are kept. `None` if some program
+/// isn't done.
 fn driven(alloc: Global, word: &str, system: &mut System, programs: &mut [OpProgram]) -> Option<u64>
     requires { length programs.old ≡ system.old.config.cores }
 {

@@ -55,8 +55,8 @@ fn operations(alloc: Global, core: u32, count: u32) -> Result<Vec<Op>, AllocErro
     Ok(ops)
 }
 
-/// The programs of so many cores, each of so many operations; `None` if that is more than a core is issued, or too much
-/// for the memory.
+/// The programs of all cores, `count` operations each; `None` if that is more than a core may be issued, or if memory
+/// runs out.
 pub(crate) fn programs_of(alloc: Global, cores: u32, count: u32) -> Option<Vec<OpProgram>> {
     let mut programs = Vec::new(alloc);
     for core in 0..cores {

@@ -1,9 +1,9 @@
-//! Measurements of a machine that threads share: so many workers, each a thread, give its seats turns until all cores
-//! have completed their operations. docs/BENCHMARKS.md has the table.
+//! Measurements of a machine that threads share: workers, each in a thread, give its seats turns until all cores have
+//! completed their operations. docs/BENCHMARKS.md has the table.
 //!
-//! The word `seats` is followed by four numbers: cores, banks, operations of a core, and threads. The word `rounds` and
-//! the first three make the same operations by rounds, on a machine that isn't shared. Several may stand one after the
-//! other. Each tells how many operations were completed; after the word `time`, each tells its nanoseconds, too.
+//! The word `seats` is followed by four numbers: cores, banks, operations of a core, and threads. The word `rounds`
+//! and the first three make the same operations by rounds, on a machine that isn't shared. Several may stand one after
+//! the other. Each prints how many operations were completed; after the word `time`, each prints its nanoseconds, too.
 #![tactic(auto)]
 
 mod loads;

@@ -25,12 +25,12 @@ Grows None new bytes = Unit {0}
 Grows (Some old) None bytes = ⊥
 Grows (Some old) (Some new) bytes = new ≡ old ++ bytes
 
--- the first n of the bytes went out; some, where there are any
+-- the first n bytes were written; n is 0 only if there are none
 abbrev pub TakesBytes : Option (List ℕ) → Option (List ℕ) → Result ℕ DeviceError → List ℕ → Type 0
 TakesBytes old new (Ok n) bytes = (n ≤ length bytes) × Grows old new (take n bytes) × (0 < length bytes → 0 < n)
 TakesBytes old new (Err e) bytes = Grows old new []
 
--- a failure is counted, and nothing else is
+-- a failure is counted, and nothing else
 abbrev pub Counts : {A : Type 0} → ℕ → ℕ → Result A DeviceError → Type 0
 Counts old new (Ok x) = new ≡ old
 Counts old new (Err e) = new ≡ suc old

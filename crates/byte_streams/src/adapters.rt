@@ -7,7 +7,7 @@ use crate::device::{DeviceError, Sink, Source};
 use crate::tally::Tally;
 use std::io::{Read, Write};
 
-/// A reader as a source. It fails where the reader answers an error.
+/// A reader as a source. Its calls fail if the reader answers an error.
 #[derive(Drop)]
 pub struct FromRead<R> {
     inner: R,
@@ -41,7 +41,7 @@ impl<R: Read> Source for FromRead<R> {
     }
 }
 
-/// A writer as a sink. It fails where the writer answers an error, or takes none of bytes that there are.
+/// A writer as a sink. Its calls fail if the writer answers an error, or takes none of the bytes it is given.
 #[derive(Drop)]
 pub struct ToWrite<W> {
     inner: W,
@@ -49,7 +49,7 @@ pub struct ToWrite<W> {
 }
 
 impl<W> ToWrite<W> {
-    /// Bytes go after what the writer holds, with no failure so far.
+    /// A sink that appends to what the writer holds, with no failure so far.
     pub fn new(inner: W) -> ToWrite<W>
         ensures writer { writer_of result ≡ inner }
         ensures fresh { writes_failed result ≡ 0 }
@@ -58,7 +58,7 @@ impl<W> ToWrite<W> {
         ToWrite { inner, failed }
     }
 
-    /// The writer, which holds what went to it.
+    /// The writer, with what was written to it.
     pub fn into_inner(self) -> W
         ensures { result ≡ writer_of self }
     {

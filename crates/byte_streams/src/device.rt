@@ -15,8 +15,8 @@ pub trait Source {
     /// How many calls have failed.
     ghost failures: { Self → ℕ };
 
-    /// Puts the next bytes into the front of the buffer, and says how many. There are none only at the end, or where
-    /// the buffer is empty.
+    /// Puts the next bytes into the front of the buffer, and answers how many. It answers 0 only at the end, or if the
+    /// buffer is empty.
     fn read(&mut self, buffer: &mut [u8]) -> Result<usize, DeviceError>
         ensures bytes { GivesBytes (remaining self.old) (remaining self.new) result buffer.new }
         ensures count { Counts (failures self.old) (failures self.new) result };
@@ -30,7 +30,7 @@ pub trait Sink {
     /// How many calls have failed.
     ghost failures: { Self → ℕ };
 
-    /// Takes some bytes of the front, and says how many. To take none of bytes that there are is a failure.
+    /// Takes some bytes of the front, and answers how many. To take none, unless there are none, is a failure.
     fn write(&mut self, bytes: &[u8]) -> Result<usize, DeviceError>
         ensures bytes { TakesBytes (contents self.old) (contents self.new) result bytes.now }
         ensures count { Counts (failures self.old) (failures self.new) result };

@@ -1,4 +1,4 @@
-//! Where bytes come from and where they go, with a count of the failures that contracts alone see.
+//! Where bytes come from and where they go, with a count of failures that only contracts see.
 #![tactic(auto)]
 
 mod adapters;

@@ -1,4 +1,4 @@
-//! A count that contracts alone see: it takes no memory, and has no greatest value.
+//! A count that only contracts see: it takes no memory, and has no greatest value.
 
 ghost use Rattle.std.specs.Prelude.{◌≡◌, ℕ, suc};
 ghost use Rattle.std.specs.Borrow.{ftrue};

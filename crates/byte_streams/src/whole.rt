@@ -1,4 +1,4 @@
-//! All that a source has, and all of a text to a sink.
+//! Reads all that a source has, and writes all of a text to a sink.
 ghost use Rattle.std.specs.Prelude.{◌≡◌, ◌+◌, ◌<◌, ◌≤◌, IfOk, IfSome, OnOk, OnErr, IsErrOf, length};
 ghost use Rattle.byte_streams.specs.Device.{AtEnd, Grows};
 ghost use Rattle.byte_streams.specs.Whole.{GrowsByFront, ReadsAll, TakesAtMost};
@@ -11,18 +11,18 @@ use std::alloc::{AllocFailed, Global};
 pub enum ReadError {
     /// A call of the source failed.
     Device,
-    /// Memory was refused for the bytes.
+    /// Allocation failed for the bytes.
     NoMemory,
-    /// There are more bytes than were to be read.
+    /// The source has more bytes than the call allows.
     TooMany,
 }
 
 // How many bytes are asked for at once.
 const BLOCK_BYTES: usize = 4096;
 
-/// Reads all the bytes that are still to come, if they are `most` bytes or fewer. If there are more, that is answered as
-/// soon as they have come, and at most a block of 4,096 bytes beyond them: a device without an end is not read for ever.
-/// Where reading ends in an error, the bytes that came are lost.
+/// Reads all the bytes that are still to come, if they are `most` bytes or fewer. If there are more, it answers
+/// TooMany as soon as they have come, at most a block of 4,096 bytes beyond them, so it returns on a device without an
+/// end, too. If it answers an error, the bytes that came are lost.
 pub fn read_all<S: Source>(alloc: Global, source: &mut S, most: usize) -> Result<Vec<u8>, ReadError>
     ensures all { IfOk result (λ bytes. ReadsAll (S.remaining source.old) bytes.items) }
     ensures few { IfOk result (λ bytes. length bytes.items ≤ most) }
@@ -62,7 +62,7 @@ pub fn read_all<S: Source>(alloc: Global, source: &mut S, most: usize) -> Result
     Err(ReadError::TooMany)
 }
 
-/// Writes all of the bytes, in order. Where a call fails, what went out is a beginning of them.
+/// Writes all of the bytes, in order. If a call fails, a beginning of them was written.
 pub fn write_all<K: Sink>(sink: &mut K, bytes: &[u8]) -> Result<(), DeviceError>
     ensures all { OnOk result (Grows (K.contents sink.old) (K.contents sink.new) bytes.now) }
     ensures none_failed { OnOk result (K.failures sink.new ≡ K.failures sink.old) }

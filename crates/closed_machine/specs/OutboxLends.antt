@@ -8,6 +8,6 @@ use Rattle.inbox.specs.contracts.queue.Queue as queue
 use Rattle.closed_machine.specs.Sending.{OutboxState}
 use Rattle.closed_machine.specs.contracts.outbox.Outbox.{the_row}
 
--- it has the messages that were left there; what was sent and counted stays
+-- it has the messages that were left there; what was sent and counted doesn't change
 abbrev pub lends_queue : MutBor OutboxState → MutBor (List (ℕ × Message)) → Fml
 lends_queue o r = Lends the_row (queue.the_row message.the_row) o r (λ w. record (o.now) { messages = values_of w })

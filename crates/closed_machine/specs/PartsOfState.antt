@@ -29,8 +29,8 @@ pub record IsBankOf (h : Hold) (p : BankPart) : Type 0 where
   pub hand : h.hand ≡ p.inbox.hand
   pub held : h.held ≡ p.inbox.held
 
--- There is one reached and consistent state with these records, of which the parts of all cores and banks are the
--- parts, and the messages that they hold and those in the slots are in flight.
+-- There is one reached and consistent state with these records. Its parts are those of all cores and banks, and its
+-- messages in flight are those that they hold and those in the slots.
 pub record PartsOfState (z : SetUp) (cores : List CorePart) (banks : List BankPart) (slots : List (Option Message))
     (log : List Record) : Type 0 where
   pub good : is_good z.config ≡ true
@@ -39,7 +39,7 @@ pub record PartsOfState (z : SetUp) (cores : List CorePart) (banks : List BankPa
   pub whole : Whole z seats phases log
   pub of_cores : (i : ℕ) (p : CorePart) → slice_get cores i ≡ Some p → IsCoreOf (seats p.number) p
   pub of_banks : (i : ℕ) (p : BankPart) → slice_get banks i ≡ Some p → IsBankOf (seats p.number) p
-  -- no part is wanting
+  -- no part is missing
   pub cores_there : (j : ℕ) → j < z.config.cores →
       (i : ℕ) × (p : CorePart) × (slice_get cores i ≡ Some p) × (p.number ≡ j)
   pub banks_there : (j : ℕ) → j < z.config.banks →

@@ -3,7 +3,7 @@ use Rattle.seat_rule.specs.States.{State}
 use Rattle.closed_machine.specs.declared.run.Run.{Run}
 use Rattle.closed_machine.specs.PartsOfState.{PartsOfState, state_of_parts}
 
--- what the run has is one reached and consistent state: so is what `close` answers
+-- the run has the parts of one reached and consistent state: what `close` answers has
 abbrev pub Parts : Run → Type 0
 Parts run = PartsOfState run.set_up run.cores.items run.banks.items run.slots.items run.records.items
 

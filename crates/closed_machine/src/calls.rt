@@ -1,4 +1,4 @@
-//! What is looked up in a machine that was closed: the records, what cores were issued, and the values of words.
+//! What can be looked up in a closed machine: the records, what cores were issued, and the values of words.
 ghost use Rattle.std.specs.Prelude.{◌≡◌, ℕ, ◌<◌, ◌≤◌, List, [], map, Some, slice_get, IfOk};
 ghost use Rattle.physiological_order.specs.declared.operation.Record.{Record};
 ghost use Rattle.physiological_order.specs.Order.{flat, Legal, Arrangement, of_core, replay_end};
@@ -35,7 +35,8 @@ impl Run {
         self.records.as_slice()
     }
 
-    /// The operations that a core was issued, in order: all that its seat accepted. None for a core that isn't there.
+    /// The operations that a core was issued, in order: all that its seat accepted. The list is empty for a core that
+    /// isn't there.
     pub fn issued(&self, core: u32) -> &[Op]
         requires { Parts self.now }
         ensures issued { (parts : Parts self.now) → core < self.now.set_up.config.cores →
@@ -52,9 +53,9 @@ impl Run {
         self.cores[at].issued.as_slice()
     }
 
-    /// A word's value where its line stands: with the line's owner, or with its ownership in flight, or else in the
-    /// bank, or else in a store on its way to DRAM, or else in DRAM. That is what the records leave, in the order of
-    /// their times, on the opening memory. It is found in the records, each of which is looked at once.
+    /// A word's value where its line is: with the line's owner, or with its ownership in flight, or else in the bank,
+    /// or else in a store on its way to DRAM, or else in DRAM. The records leave this value on the opening memory, in
+    /// the order of their times. The call finds it in the records, and looks at each once.
     pub fn value(&self, addr: WordAddr) -> u64
         ensures value { (parts : Parts self.now) → result ≡ coherent self.now.set_up.config
             self.now.set_up.memory (state_of_run self.now parts) addr }
@@ -64,8 +65,9 @@ impl Run {
         value_left(&self.set_up.memory, self.records.as_slice(), addr)
     }
 
-    /// The values of these words, in their order, each as `value` answers it. Each record is looked at once, however
-    /// many words there are. AllocError where there is no memory for the list, or for the last write of each word.
+    /// The values of these words, in their order, each as `value` answers it. The call looks at each record once,
+    /// however many words there are. AllocError if memory for the list, or for the last write of each word, can't be
+    /// allocated.
     pub fn values(&self, alloc: Global, words: &[WordAddr]) -> Result<Vec<u64>, AllocError>
         ensures value { IfOk result (λ values. (parts : Parts self.now) →
             values.items ≡ map (coherent self.now.set_up.config self.now.set_up.memory

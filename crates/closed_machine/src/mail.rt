@@ -1,4 +1,4 @@
-//! The messages and counts that a seat left in a machine that was closed, looked up by the seat's number.
+//! The messages and counts that a seat left in a closed machine, looked up by the seat's number.
 ghost use Rattle.std.specs.Prelude.{◌≡◌, ◌<◌};
 ghost use Rattle.seat_rule.specs.Rule.{seat_count};
 ghost use Rattle.closed_machine.specs.RunParts.{Parts};

@@ -16,7 +16,7 @@ use std::alloc::{AllocError, Global};
 use std::marker::Model;
 
 /// What a seat sends by: up to 256 messages to be put, the oldest first, and how many messages it sent, of the counted
-/// kinds and in all. Contracts see these.
+/// kinds and in all. Contracts see the messages and the counts.
 #[derive(Drop)]
 pub struct Outbox {
     queue: Queue<Message>,
@@ -44,7 +44,7 @@ impl Model for Outbox {
 impl Outbox {
     ghost use Rattle.closed_machine.specs.OutboxLends.{lends_queue};
 
-    /// An outbox of a seat that sent nothing. All memory is taken here, for 256 messages.
+    /// An outbox of a seat that sent nothing. All its memory, for 256 messages, is allocated here.
     pub fn new(alloc: Global) -> Result<Outbox, AllocError>
         ensures { IfOk result (λ outbox. outbox ≡ no_outbox) }
     {
@@ -71,7 +71,8 @@ impl Outbox {
         self.queue.is_empty()
     }
 
-    /// The messages that are to be put, the oldest first: a seat takes those out that it puts. What was counted stays.
+    /// The messages that are to be put, the oldest first: a seat takes out those that it puts. The counts don't
+    /// change.
     pub fn queue(&mut self) -> &mut Queue<Message>
         ensures* takes_back { sem 𝓛 (lends_queue self.entry result) }
         ensures value { values_of result.now ≡ self.old.messages }

@@ -1,4 +1,4 @@
-//! Who owns a line in a machine that was closed.
+//! Who owns a line in a closed machine.
 ghost use Rattle.std.specs.Prelude.{◌≡◌, ◌+◌, ◌*◌, ◌≤◌, ◌<◌, length, option_copied, option_to_list};
 ghost use Rattle.private_cache.specs.CopyTable.{copy_of};
 ghost use Rattle.machine_table.specs.SetUp.{is_good};

@@ -22,7 +22,8 @@ pub struct CorePart {
     pub outbox: Outbox,
     /// The message that was taken and not served, and those that waited for the core.
     pub inbox: Inbox<Message>,
-    /// Whether the seat was stopped: it answered that times don't fit, and has refused each call since that can refuse.
+    /// Whether the seat was stopped: it answered that times don't fit, and since then every call that can refuse
+    /// refuses.
     pub is_stopped: bool,
 }
 
@@ -37,7 +38,7 @@ pub struct BankPart {
     pub outbox: Outbox,
     /// The message that was taken and not served, and those that waited for the bank or its DRAM.
     pub inbox: Inbox<Message>,
-    /// Whether the seat was stopped, as that of a core.
+    /// Whether the seat was stopped, as for a core's seat.
     pub is_stopped: bool,
 }
 

@@ -1,10 +1,11 @@
-//! A machine that was closed, with the records of all its cores.
+//! A closed machine, with the records of all its cores.
 use crate::parts::{BankPart, CorePart};
 use network::Message;
 use physiological_order::Record;
 use seat_rule::SetUp;
 
-/// What a machine leaves that is closed with all its seats: the parts of one state that moves reach from the opening.
+/// What a machine leaves when it is closed with all its seats: the parts of one state that moves reach from the
+/// opening.
 #[derive(Drop)]
 pub struct Run {
     /// How the machine was set up, and the memory that it opened with.

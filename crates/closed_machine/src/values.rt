@@ -17,8 +17,8 @@ pub(crate) struct Write {
     value: u64,
 }
 
-/// The value of a word once the operations of these records were done on a memory, one after the other by their times,
-/// and at equal times by their numbers. The records may stand in any order. Each is looked at once.
+/// The value of a word once the operations of these records were performed on a memory, one after the other by their
+/// times, and at equal times by their numbers. The records may stand in any order. The call looks at each once.
 pub(crate) fn value_left(opening: &Memory, records: &[Record], addr: WordAddr) -> u64
     ensures { (arranged : List Record) → Arrangement records.now arranged →
         result ≡ replay_end (flat opening.now) (map (λ r. r.op) arranged) addr }
@@ -29,8 +29,9 @@ pub(crate) fn value_left(opening: &Memory, records: &[Record], addr: WordAddr) -
     }
 }
 
-/// The values of these words, in their order, each as `value_left` answers it. Each record is looked at once, however
-/// many words there are. AllocError where there is no memory for the list, or for the last write of each word.
+/// The values of these words, in their order, each as `value_left` answers it. The call looks at each record once,
+/// however many words there are. AllocError if memory for the list, or for the last write of each word, can't be
+/// allocated.
 pub(crate) fn values_left(
     alloc: Global,
     opening: &Memory,

@@ -20,7 +20,7 @@ NamesSchedules p =
     (names : Bor (List (Bor Text))) × (p ≡ Names names)
     × (map (λ name. name.now) names.now ≡ codes "round" ∷ codes "seed" ∷ codes "threads" ∷ [])
 
--- --name N, which is a default where it isn't given
+-- name N, a number with a default
 abbrev pub number_rule : Text → Text → ValueParser → Rule
 number_rule name default p =
     record (new_rule name) { long = Some name; action = Some Set; parser = Some p; defaults = default ∷ [] }
@@ -32,7 +32,7 @@ schedule_rule p = number_rule (codes "schedule") (codes "round") p
 abbrev pub flag_rule : Text → Rule
 flag_rule name = record (new_rule name) { long = Some name; action = Some SetTrue }
 
--- a word in its place, which may not be left out
+-- a word in its place, which is required
 abbrev pub file_rule : Text → Rule
 file_rule name = record (new_rule name) { required = true }
 
@@ -73,11 +73,11 @@ abbrev pub litmus_app : ValueParser → App
 litmus_app p =
     with_run_and_file (with_rule (new_app (codes "litmus")) (number_rule (codes "runs") (codes "1") (up_to 1000000))) p
 
--- of a trace the records may be asked for
+-- a trace may be run with its records reported
 abbrev pub trace_app : ValueParser → App
 trace_app p = with_run_and_file (with_rule (new_app (codes "trace")) (flag_rule (codes "records"))) p
 
--- a check wants two files
+-- a check needs two files
 abbrev pub check_app : App
 check_app = with_rule (with_rule (new_app (codes "check")) (file_rule (codes "TRACE"))) (file_rule (codes "RECORDS"))
 
@@ -88,7 +88,7 @@ Parsers = ValueParser × ValueParser
 abbrev pub NameSchedules : Parsers → Type 0
 NameSchedules p = NamesSchedules p.0 × NamesSchedules p.1
 
--- a command is wanted
+-- a command is required
 abbrev pub wanting : App → App
 wanting app = record app { top = record (app.top) { subcommand_required = true } }
 

@@ -1,4 +1,4 @@
--- What the options say of the matches.
+-- What the options say in the matches.
 use Rattle.std.specs.Prelude.{◌≡◌, ◌⊎◌, ℕ, ◌≤◌, Bool, true, false, List, [], Option, Some, None, codes, unwrap_or}
 use Rattle.std.specs.Str.Parse.{IsNumeral, digits_value, without_leading_plus}
 use Rattle.clap.specs.Words.{Row, Text, first_of, one_of}
@@ -26,19 +26,19 @@ IsNumberOf None least most other value = value ≡ other
 IsNumberOf (Some text) least most other value = WritesWithin text least most value
     ⊎ (((n : ℕ) → WritesWithin text least most n → ⊥) × (value ≡ other))
 
--- the option has the number that its text writes, which is its default's text where the words don't have the option
+-- the option has the number that its text writes; the text is the default's if the words don't have the option
 abbrev pub HasNumber : List Row → Text → ℕ → ℕ → ℕ → ℕ → Type 0
 HasNumber rows name least most other value = IsNumberOf (one_of name rows) least most other value
 
 abbrev pub HasAnyNumber : List Row → Text → ℕ → ℕ → Type 0
 HasAnyNumber rows name other value = HasNumber rows name 0 18446744073709551615 other value
 
--- the flag is there exactly if its text is true, as it is where the words have it
+-- the flag is set exactly if its text is true, as it is if the words have it
 abbrev pub IsFlag : List Row → Text → Bool → Type 0
 IsFlag rows name value = (one_of name rows ≡ Some (codes "true") → value ≡ true)
     × ((one_of name rows ≡ Some (codes "true") → ⊥) → value ≡ false)
 
--- the text is the word that the argument has, as it was written; empty where it has none
+-- the text is the word that the argument has, as it was written; empty if it has none
 abbrev pub HasWord : List Row → Text → Text → Type 0
 HasWord rows name text = text ≡ unwrap_or (first_of name rows) []
 

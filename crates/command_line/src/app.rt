@@ -63,7 +63,7 @@ const TRACE_FILE: &str = "The file with the text of the trace";
 
 const RECORDS_FILE: &str = "The file with the text of the records";
 
-/// An option with a value, and the value that it has where the words don't give it.
+/// An option with a value, and its default.
 fn option<'a>(
     alloc: Global,
     name: &'a str,
@@ -98,7 +98,7 @@ fn flag<'a>(alloc: Global, name: &'a str, help: &'a str) -> Arg<'a>
         .help(help)
 }
 
-/// The path of a file, without which the words are refused.
+/// The path of a file, which the words must have.
 fn file<'a>(alloc: Global, name: &'a str, help: &'a str) -> Arg<'a>
     ensures { IsArg result (file_rule name.entry.now) }
 {
@@ -232,7 +232,7 @@ fn with_command<'a>(
     command.subcommand(inner)
 }
 
-/// The program without its commands, of which it wants one.
+/// The program without its commands, of which it needs one.
 fn program<'a>(alloc: Global) -> Result<Command<'a>, AllocError>
     ensures { IfOk result (IsApp (wanting (new_app (codes "tardis")))) }
 {

@@ -6,7 +6,7 @@ ghost use Rattle.run_options.specs.declared.options.RunOptions.{RunOptions};
 ghost use Rattle.run_options.specs.declared.options.TraceOptions.{TraceOptions};
 ghost use Rattle.command_line.specs.Options.{RunIsInRange, TellsLitmus, TellsRun, TellsTrace};
 
-/// Whatever the words say, options ask for 1 to 16 workers, a limit of 1 to 4,294,967,295 and 1 to 1,000,000 runs.
+/// Options always ask for 1 to 16 workers, a limit of 1 to 4,294,967,295 and 1 to 1,000,000 runs, for any words.
 pub fn options_are_in_range()
     ensures run { (rows : List Row) (options : RunOptions) → TellsRun rows options →
         RunIsInRange options }

@@ -7,7 +7,7 @@ ghost use Rattle.command_line.specs.Options.{TellsMachine, TellsRun, TellsTrace}
 use clap::ArgMatches;
 use run_options::{LitmusOptions, MachineOptions, RunOptions, Schedule, TraceOptions};
 
-/// The number from least to most that an option's text writes, or this one where it writes none.
+/// The number from least to most that an option's text writes, or this one if it writes none.
 fn number(matches: &ArgMatches<'_>, name: &str, least: u64, most: u64, other: u64) -> u64
     ensures { HasNumber (rows_of (found_of matches.now)) name.now least most other result }
 {
@@ -18,7 +18,7 @@ fn number(matches: &ArgMatches<'_>, name: &str, least: u64, most: u64, other: u6
     number
 }
 
-/// The number of 64 bits that an option has, or this one where it has none.
+/// The number of 64 bits that an option has, or this one if it has none.
 fn any_number(matches: &ArgMatches<'_>, name: &str, other: u64) -> u64
     ensures { HasAnyNumber (rows_of (found_of matches.now)) name.now other result }
 {
@@ -32,7 +32,7 @@ fn flag(matches: &ArgMatches<'_>, name: &str) -> bool
     matches.get_one::<bool>(name).unwrap_or(false)
 }
 
-/// The word that an argument has, as the path of a file, or nothing where it has none.
+/// The word that an argument has, as the path of a file; empty if it has none.
 pub(crate) fn word_of<'a>(matches: &ArgMatches<'a>, name: &str) -> &'a str
     ensures { HasWord (rows_of (found_of matches.now)) name.now result.now }
 {

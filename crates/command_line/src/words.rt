@@ -18,7 +18,7 @@ pub enum Job<'a> {
     Litmus(LitmusOptions, &'a str),
     /// To run the trace of the file that has this path.
     Trace(TraceOptions, &'a str),
-    /// To check the records of the file that has the second path against the trace of the file that has the first.
+    /// To check the records of the file at the second path against the trace of the file at the first.
     Check(&'a str, &'a str),
 }
 
@@ -27,7 +27,7 @@ pub enum Job<'a> {
 pub enum WordsError {
     /// The command line doesn't take the words, or they ask for help. This is the text to show, in whole lines.
     Refused(String),
-    /// Memory was refused.
+    /// Allocation failed.
     NoMemory,
 }
 

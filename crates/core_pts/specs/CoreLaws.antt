@@ -64,7 +64,7 @@ pub record IsNotBefore (pts rts ts : ℕ) : Type 0 where
   pub lease : rts ≤ ts
   pub core : pts ≤ ts
 
--- a store or swap comes after all that may have read the words that it overwrites
+-- a store or swap comes after every read of the words that it overwrites
 abbrev pub WriteAfterReaders : Type 0
 WriteAfterReaders =
     (core after : CoreState) (op : Op) (copy : LineCopy) (received : Option ℕ) (ts : ℕ) →
@@ -99,7 +99,7 @@ WritesOwnedCopy =
     (core after : CoreState) (op : Op) (copy : LineCopy) (received : Option ℕ) (ts : ℕ) →
     Completes core op copy received ts after → is_write op ≡ true → copy.state ≡ Exclusive
 
--- a recall of the line of the open operation is held, whatever the copy
+-- a recall of the line of the open operation is held, for any copy
 abbrev pub FlushOfOpenLineHeld : Type 0
 FlushOfOpenLineHeld =
     (core : CoreState) (from to : Node) (line : ℕ) → pinned_line core ≡ Some line →

@@ -96,7 +96,7 @@ need pts (Load a) version = NeedShared pts version
 need pts (Store a v) version = NeedExclusive version
 need pts (Swap a v) version = NeedExclusive version
 
--- the operation is completed at a time; nothing is answered if that doesn't fit: times are exhausted
+-- the operation is completed at a time; there is no answer if that doesn't fit: times are exhausted
 abbrev pub completed_at : CoreState → Op → LineCopy → Option ℕ → Option Attempt × CoreState
 completed_at core op copy None = (None, core)
 completed_at core op copy (Some ts) = (
@@ -109,7 +109,7 @@ completed_at core op copy (Some ts) = (
   },
 )
 
--- what is answered to an attempt if there is no copy, and if the copy doesn't serve the operation
+-- the answer to an attempt if there is no copy, or if the copy doesn't serve the operation
 abbrev pub attempt_without : CoreState → Op → Attempt
 attempt_without core op =
     if core.is_out then Waiting
@@ -132,7 +132,7 @@ attempt_open core (Some op) = attempt_on core op (copy_of core.cache (line_of co
 abbrev pub attempt : CoreState → Option Attempt × CoreState
 attempt core = attempt_open core core.open_op
 
--- the core's time goes on by itself
+-- the core advances its time by 1
 abbrev pub advance : CoreState → Option (Unit {0}) × CoreState
 advance core = if fits (core.pts + 1) then (Some tt, record core { pts = core.pts + 1 }) else (None, core)
 
@@ -148,7 +148,7 @@ sent_back core line (Ok copy, cache) = (
 abbrev pub evict : CoreState → ℕ → Result (Option Message) CacheError × CoreState
 evict core line = sent_back core line (evicted core.cache line (pinned_line core) (copy_of core.cache line))
 
--- the cache with the copy that stays of a line that goes back
+-- the cache with the copy that the core keeps of a line that it returns
 abbrev pub kept_in : CoreState → ℕ → Option LineCopy → Sets LineCopy
 kept_in core line None = without_copy core.cache line
 kept_in core line (Some copy) = with_changed core.cache line copy

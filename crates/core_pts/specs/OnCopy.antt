@@ -28,8 +28,8 @@ serves (Load a) pts copy = is_exclusive copy.state || nat_le pts copy.rts
 serves (Store a v) pts copy = is_exclusive copy.state
 serves (Swap a v) pts copy = is_exclusive copy.state
 
--- the time of a store or swap: after all that may have read the old words; under private writes a core that wrote the
--- words itself needs no later time. Nothing if the sum doesn't fit
+-- the time of a store or swap: after every read of the old words; under private writes a core that wrote the words
+-- itself needs no later time. Nothing if the sum doesn't fit
 abbrev pub write_time : Bool → ℕ → LineCopy → Option ℕ
 write_time private_write pts copy =
     if private_write && copy.written then Some (max pts copy.rts)
@@ -51,7 +51,7 @@ received_at index (Swap a v) copy = Some (slice_index copy.words index)
 abbrev pub written_at : ℕ → ℕ → ℕ → LineCopy → LineCopy
 written_at index ts v copy = record copy { wts = ts; rts = ts; words = slice_set copy.words index v; written = true }
 
--- a copy that was read at a time: an owner's lease goes on to that time
+-- a copy that was read at a time: an owner's lease is extended to that time
 abbrev pub read_at : ℕ → LineCopy → LineCopy
 read_at ts copy = if is_exclusive copy.state then record copy { rts = max ts copy.rts } else copy
 
@@ -70,12 +70,12 @@ abbrev pub with_copy : (LineCopy → LineCopy) → Option LineCopy → CoreReact
 with_copy change None = NoCase
 with_copy change (Some copy) = Grants (change copy)
 
--- the line is asked back, and no copy stays
+-- the bank asks for the line back, and no copy stays
 abbrev pub flushed : Option LineCopy → CoreReaction
 flushed None = Drops
 flushed (Some copy) = if is_exclusive copy.state then Returns None (FlushRep (words_of_copy copy)) else Drops
 
--- the line is asked back, and a copy stays to be read, leased up to this time, if it fits
+-- the bank asks for the line back, and a copy stays to be read, leased up to this time, if it fits
 abbrev pub returned : LineCopy → Option ℕ → CoreReaction
 returned copy None = TooLate
 returned copy (Some rts) = Returns (Some (downgraded rts copy)) (WbRep (words_of_copy (downgraded rts copy)))

@@ -1,15 +1,15 @@
-//! What an attempt to complete the open operation answers, and why an operation isn't taken.
+//! What an attempt to complete the open operation answers, and why a core doesn't accept an operation.
 
 /// What an attempt answers.
 #[derive(Clone, Copy, Debug, PartialEq, Eq)]
 pub enum Attempt {
     /// The operation is completed: what it received, `None` for a store alone, and its timestamp.
     Completed(Option<u64>, u64),
-    /// A request to read is needed, with the core's time and the version of its copy, if it has one.
+    /// The core needs a request to read, with its time and the version of its copy, if it has one.
     NeedShared(u64, Option<u64>),
-    /// A request to own the line is needed, with the version of the core's copy, if it has one.
+    /// The core needs a request to own the line, with the version of its copy, if it has one.
     NeedExclusive(Option<u64>),
-    /// A request is needed, but there is no copy of the line and its set is full.
+    /// The core needs a request, but it has no copy of the line and the line's set is full.
     NoRoom,
     /// A request is out.
     Waiting,
@@ -17,7 +17,7 @@ pub enum Attempt {
     Idle,
 }
 
-/// Why an operation isn't taken.
+/// Why a core doesn't accept an operation.
 #[derive(Clone, Copy, Debug, PartialEq, Eq)]
 pub enum IssueError {
     /// 1: an operation is open.

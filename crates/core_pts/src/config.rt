@@ -9,9 +9,9 @@ pub struct CoreConfig {
     pub banks: u32,
     /// The words of a line, 1 or 8.
     pub line_words: u32,
-    /// How far a lease goes on from a time, 1 to 2^32.
+    /// How far a lease extends from a time, 1 to 2^32.
     pub lease: u64,
-    /// Whether a core writes a line that it wrote already without a later time.
+    /// Whether a core may write a line again without a later time, once it has written it.
     pub private_write: bool,
     /// The time at which the core opens.
     pub opening_time: u64,

@@ -23,7 +23,7 @@ use std::marker::Model;
 use timestamp_manager::Exhausted;
 
 /// A core: its time, the copies of lines in its private cache, and at most one open operation with at most one request
-/// out. It takes no memory after `new`, but for `keep_order`. Contracts see it as data.
+/// out. It allocates nothing after `new`, except in `keep_order`. Contracts see it as data.
 #[derive(Drop)]
 pub struct Core {
     config: CoreConfig,
@@ -61,8 +61,8 @@ impl Model for Core {
 }
 
 impl Core {
-    /// A core at its opening time, with an empty cache, no open operation and nothing issued. All its memory is taken
-    /// here.
+    /// A core at its opening time, with an empty cache, no open operation and nothing issued. All its memory is
+    /// allocated here.
     pub fn new(alloc: Global, config: CoreConfig, geometry: Geometry) -> Result<Core, AllocError>
         requires config { IsInRange config }
         requires geometry { IsGeometry geometry.sets geometry.ways }
@@ -80,8 +80,8 @@ impl Core {
         })
     }
 
-    /// The core as `new` makes it, set up so. If its cache has that shape, no memory is taken, and the time grows with
-    /// the copies that the core had. Where memory is refused nothing changes.
+    /// Makes it the core that `new` makes with this set-up. If its cache already has that shape, the call allocates
+    /// nothing, and takes time in proportion to the copies that the core had. If an allocation fails, nothing changes.
     pub fn reopen(&mut self, config: CoreConfig, geometry: Geometry) -> Result<(), AllocError>
         requires config { IsInRange config }
         requires geometry { IsGeometry geometry.sets geometry.ways }
@@ -126,8 +126,8 @@ impl Core {
         }
     }
 
-    /// Whether an operation is open, and whether a request is out. It is as much as `open_op` tells but the operation,
-    /// and is read without a branch.
+    /// Whether an operation is open, and whether a request is out. This is what `open_op` answers, without the
+    /// operation; the call needs no branch.
     #[inline(always)]
     pub fn open_status(&self) -> (bool, bool)
         ensures { result ≡ (is_some self.now.open_op, self.now.is_out) }
@@ -155,7 +155,7 @@ impl Core {
         self.cache.victim(line)
     }
 
-    /// The lines of all copies, rising.
+    /// The lines of all copies, in rising order.
     pub fn lines(&self) -> Result<Vec<LineNo>, AllocError>
         ensures { IfOk result (λ lines. lines.items ≡ sorted (all_listed (λ _. true)
             self.now.cache.sets)) }
@@ -171,7 +171,7 @@ impl Core {
         if self.has_copy { copies - 1 } else { copies }
     }
 
-    /// The line that comes after so many others, once those of the copies that may be evicted are in rising order.
+    /// The line at an index of the copies that may be evicted, in rising order of their lines.
     pub fn free_copy(&self, at: usize) -> Result<LineNo, AllocError>
         requires { at < length (free_copies self.now) }
         ensures { IfOk result (λ line. slice_get (sorted (free_copies self.now)) at ≡ Some line) }
@@ -179,8 +179,8 @@ impl Core {
         self.cache.free_copy(self.pinned_line(), at)
     }
 
-    /// Keeps the lines of all copies in rising order from now on, so that `free_copy` takes no memory.
-    /// `LineSets::keep_order` tells what that takes and moves. Where the memory is refused nothing changes, and the
+    /// Keeps the lines of all copies in rising order from now on, so that `free_copy` allocates nothing.
+    /// `LineSets::keep_order` states what that allocates and moves. If the allocation fails, nothing changes, and the
     /// answers are the same.
     pub fn keep_order(&mut self)
         ensures { self.new ≡ self.old }
@@ -188,7 +188,7 @@ impl Core {
         self.cache.keep_order();
     }
 
-    /// Keeps the lines in rising order no longer, and gives the memory for that back.
+    /// Stops keeping the lines in rising order, and frees the memory for that.
     pub fn forget_order(&mut self)
         ensures { self.new ≡ self.old }
     {
@@ -363,7 +363,7 @@ impl Core {
         self.has_copy = false;
     }
 
-    /// Marks the request of the open operation out.
+    /// Notes that the request of the open operation is out.
     #[inline(always)]
     pub fn requested(&mut self)
         ensures { self.new ≡ record self.old { is_out = true } }
@@ -384,9 +384,9 @@ impl Core {
         Ok(())
     }
 
-    /// Takes out the copy of a line; a copy that the core owns is sent back by the message that is given. On an error
-    /// the core is unchanged: NotHere exactly when there is no copy, else Pinned exactly when the open operation
-    /// is on the line. NoRoom is never answered.
+    /// Takes out the copy of a line; if the core owns it, the answer is the message that returns the line. On an error
+    /// the core is unchanged: NotHere exactly when there is no copy, else Pinned exactly when the open operation is on
+    /// the line. The call never answers NoRoom.
     pub fn evict(&mut self, line: LineNo) -> Result<Option<Message>, CacheError>
         ensures result { (result, self.new) ≡ evict self.old line }
         ensures never { result ≢ Err CacheError.NoRoom }

@@ -1,4 +1,4 @@
-//! What a message does with a core's copy of one line: a decision, which changes nothing.
+//! What a message does to a core's copy of one line: a decision, which changes nothing.
 ghost use Rattle.std.specs.Prelude.{◌≡◌, option_copied};
 ghost use Rattle.private_cache.specs.CopyTable.{renewed, upgraded};
 ghost use Rattle.core_pts.specs.OnCopy.{at_core, flushed, with_copy, written_back};

@@ -27,7 +27,7 @@ pub fn time_never_falls()
     ensures leases { SharedReadInLease }
 {}
 
-/// A recall of the line of the open operation is held, whatever the copy.
+/// A recall of the line of the open operation is held, for any copy.
 pub fn open_line_stays()
     ensures flushes { FlushOfOpenLineHeld }
     ensures write_backs { WriteBackOfOpenLineHeld }

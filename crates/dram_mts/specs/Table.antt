@@ -38,6 +38,6 @@ dram_case lines m _ = Some (Dropped, lines)
 abbrev pub dram_table : map.FinMap nat_cmp (List ℕ) → Message → Option (Reaction × map.FinMap nat_cmp (List ℕ))
 dram_table lines m = dram_case lines m m.body
 
--- memory is asked for only by the first store of a line
+-- only the first store of a line allocates
 abbrev pub needs_memory : map.FinMap nat_cmp (List ℕ) → Message → Bool
 needs_memory lines m = is_dram_store m.body && is_none (map.get lines m.line)

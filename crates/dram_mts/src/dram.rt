@@ -30,7 +30,7 @@ impl Model for Dram {
 }
 
 impl Dram {
-    /// A DRAM of zeros; it takes no memory yet.
+    /// A DRAM of zeros; it allocates nothing yet.
     pub fn new(alloc: Global) -> Dram
         ensures { result ≡ map.empty }
     {
@@ -39,7 +39,7 @@ impl Dram {
         }
     }
 
-    /// Makes it a DRAM of zeros again. The memory stays.
+    /// Makes it a DRAM of zeros again, and keeps its memory.
     pub fn clear(&mut self)
         ensures { self.new ≡ map.empty }
     {

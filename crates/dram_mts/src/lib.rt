@@ -1,5 +1,5 @@
 //! The DRAM behind each bank, and the memory time: the greatest time up to which a line was leased when it left the
-//! bank. docs/PROTOCOL.md tells how they answer.
+//! bank. docs/PROTOCOL.md states how they answer.
 #![tactic(auto)]
 
 pub mod dram;

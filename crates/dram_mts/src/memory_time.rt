@@ -20,7 +20,7 @@ impl Model for MemoryTime {
 }
 
 impl MemoryTime {
-    /// A memory time to begin with.
+    /// A memory time that begins at this time.
     pub fn new(time: u64) -> MemoryTime
         ensures { result ≡ time }
     {

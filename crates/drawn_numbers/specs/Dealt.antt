@@ -16,7 +16,7 @@ pub record AllDrawn (count : ℕ) (drawers : List Drawer) (lists : List (List �
   pub bound : ℕ
   pub dealt : AreDealt count (λ j. slice_index_or lists j []) bound
 
--- what is learned of a drawer that is joined: its number and what it drew
+-- what is learned from a drawer that is joined: its number and what it drew
 abbrev pub drawer_entry : Drawer → ℕ × List ℕ
 drawer_entry d = (d.seat.me.0.number, d.seat.me.0.mine)
 

@@ -1,4 +1,4 @@
--- The rule that all drawers keep, and what a draw tells: together they have drawn the numbers below the next one.
+-- The rule that all drawers keep, and what a draw answers: together they have drawn the numbers below the next one.
 use Rattle.std.specs.Prelude.{◌≡◌, ℕ, ◌+◌, ◌<◌, ◌≤◌, cond, eqb, ltb, List, [], ◌∷◌, ◌++◌, length}
 use Rattle.std.specs.Prelude.{slice_index_or}
 use Rattle.atomic_table.specs.Table.{State, Me}
@@ -25,7 +25,7 @@ AllBelow bound (x ∷ xs) = (x < bound) × AllBelow bound xs
 abbrev pub once_below : ℕ → ℕ → ℕ
 once_below x bound = cond (ltb x bound) 1 0
 
--- the first lists, so many, have together the numbers below the next one, each once, and no others
+-- the first n lists together have the numbers below the next one, each once, and no others
 abbrev pub AreDealt : ℕ → (ℕ → List ℕ) → ℕ → Type 0
 AreDealt count lists next = (x : ℕ) → over count (λ j. times x (lists j)) ≡ once_below x next
 
@@ -54,7 +54,7 @@ pub record Drawn (count : ℕ) (s : State (Unit {0}) (View (List ℕ))) : Type 0
   pub total : over count (λ j. length (drawn j)) ≡ slice_index_or s.words 0 0
   pub bounded : (j : ℕ) → length (drawn j) ≤ 4294967296
 
--- what a draw tells: the number is kept behind those before, is above them all, and is the next of all drawers
+-- what a draw answers: the number is kept after those before, is above them all, and is the next of all drawers
 abbrev pub drew : Me (Unit {0}) (View (List ℕ)) → ℕ → Me (Unit {0}) (View (List ℕ)) → Type 0
 drew before number after =
     (after.0 ≡ with_hold before.0 (before.0.mine ++ number ∷ [])) × (after.1 ≡ before.1)

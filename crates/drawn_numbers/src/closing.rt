@@ -10,7 +10,7 @@ use crate::steps::{CounterSeat, CounterTable, meet};
 
 impl Numbers {
     /// Gives up the numbers and all their drawers. The list at a drawer's number is what it drew, in order. Together
-    /// the lists are the numbers below some bound, each once. No memory is taken.
+    /// the lists are the numbers below some bound, each once. The call allocates nothing.
     pub fn close(self, mut drawers: Vec<Drawer>) -> Vec<Vec<u64>>
         requires drawers { AllDrawersOf self drawers.items }
         requires whole { HasDrawers drawers.items self.drawers }

@@ -8,8 +8,8 @@ use seat_views::View;
 use std::alloc::Global;
 use std::collections::LinkedList;
 
-/// The numbers 0, 1, 2, .. of which each draw gives the next one, whichever drawer draws (README.md). The lists
-/// are room for what the drawers drew, one for each.
+/// The numbers 0, 1, 2, .. of which each draw gives the next one, to any drawer (README.md). The lists are room for
+/// what the drawers drew, one for each.
 #[derive(Drop)]
 pub struct Numbers {
     pub table: Table<(), View<LinkedList<u64>>, u32, Law, Global>,

@@ -8,7 +8,7 @@ use crate::steps::{CounterSeat, make};
 use atomic_table::Table;
 use std::alloc::{AllocError, Global};
 
-/// Numbers of which none is drawn, with 1 to 16 drawers, by number. AllocError where there is no memory for them.
+/// Numbers of which none is drawn, with 1 to 16 drawers, by number. AllocError if memory for them can't be allocated.
 pub fn open_numbers(alloc: Global, drawers: u32) -> Result<(Numbers, Vec<Drawer>), AllocError>
     requires { (0 < drawers) × (drawers ≤ 16) }
     ensures { IfOk result (λ r. (r.0.drawers ≡ drawers) × (length r.1.items ≡ drawers) ×

@@ -1,4 +1,4 @@
-//! Answers as texts write them: those to events, and the operations, records and events that look-ups tell.
+//! Answers as texts write them: those to events, and the operations, records and events that look-ups answer.
 
 use crate::replies::Reply;
 use machine_table::{Answer, Event, Refusal};
@@ -100,7 +100,7 @@ pub fn put_verdict(verdict: &Verdict, out: &mut Reply) {
     }
 }
 
-/// The name of an answer with no more to say.
+/// The name of an answer that has nothing else to write.
 fn name_of_answer(answer: &Answer) -> &'static str {
     match answer {
         Answer::Completed(_) => "completed",

@@ -6,7 +6,7 @@ use std::alloc::{AllocError, AllocFailed};
 #[derive(Clone, Copy)]
 pub enum Cause {
     Number,
-    /// A number past 64 bits, or past 32 where so many are wanted.
+    /// A number past 64 bits, or past 32 where a call takes only those.
     TooLarge,
     Drawers,
     Address,
@@ -32,12 +32,12 @@ pub enum Cause {
     Empty,
     NoEnd,
     NoRepeat,
-    /// The player has no memory to read the line: no fault of the line.
+    /// The player can't allocate memory to read the line: no fault of the line.
     NoMemory,
 }
 
 impl Cause {
-    /// What is told of it.
+    /// The player's message about it.
     pub fn text(self) -> &'static str {
         match self {
             Cause::Number => "a number is wanted",

@@ -13,16 +13,17 @@ pub struct Wishes {
 /// How texts are played.
 #[derive(Clone, Copy)]
 pub struct Manner {
-    /// The texts are written, with the answers that came.
+    /// The player writes the texts, with the answers that came.
     pub prints: bool,
-    /// A line that is refused for want of memory is played once more.
+    /// The player plays a line once more if memory was refused to it.
     pub again: bool,
-    /// Each example is played in three ways.
+    /// The player plays each example in three ways.
     pub three_ways: bool,
 }
 
 impl Wishes {
-    /// What these words ask for, the first of which is the program's name; nothing if one is no option.
+    /// What these words ask for, the first of which is the program's name; nothing if a word that should be an option
+    /// is none.
     pub fn new(alloc: Global, words: Vec<String>) -> Result<Option<Wishes>, AllocError> {
         let mut files = Vec::new(alloc);
         let mut how = Manner {

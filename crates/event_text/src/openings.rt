@@ -79,7 +79,7 @@ fn with_words(alloc: Global, words: &mut Words<'_>) -> Result<Vec<(WordAddr, u64
     Ok(values)
 }
 
-/// What stands behind `machine` or `seats`.
+/// Reads what follows `machine` or `seats`.
 pub fn read_opening(alloc: Global, words: &mut Words<'_>) -> Result<Opening, Cause> {
     let mut config = usual();
     for _ in 0..u64::MAX {
@@ -98,7 +98,7 @@ pub fn read_opening(alloc: Global, words: &mut Words<'_>) -> Result<Opening, Cau
     })
 }
 
-/// What stands behind `reopen`: `with` and words, or nothing.
+/// Reads what follows `reopen`: `with` and words, or nothing.
 pub fn read_words(alloc: Global, words: &mut Words<'_>) -> Result<Vec<(WordAddr, u64)>, Cause> {
     match words.next_word() {
         None => Ok(Vec::new(alloc)),

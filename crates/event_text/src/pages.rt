@@ -1,4 +1,5 @@
-//! What is told of a text while it is played: answers that came in place of others, and how many there were.
+//! What the player reports of a text while it plays it: answers that differ from the expected ones, and how many there
+//! were.
 
 use crate::command_line::Manner;
 use crate::replies::Reply;
@@ -16,14 +17,14 @@ pub struct First {
     pub answer: String,
 }
 
-/// What is told of a text.
+/// What the player reports of a text.
 #[derive(Drop)]
 pub struct Page<'a> {
     name: &'a str,
     alloc: Global,
-    /// How the text is played.
+    /// How the player plays the text.
     pub how: Manner,
-    /// The answers to the example that is played, where they are asked for later.
+    /// The answers to the example that is played, kept if later ways are compared with them.
     pub firsts: Vec<First>,
     examples: u64,
     answers: u64,
@@ -34,7 +35,7 @@ pub struct Page<'a> {
     wrong_turns: Vec<(usize, u64)>,
     /// The faults of a text that is written itself.
     pub(crate) faults: String,
-    /// By line, what came of it, to be written behind it.
+    /// By line, the answers that came, to be written after it.
     written: Vec<Option<Written>>,
     told: Reply,
 }
@@ -75,7 +76,8 @@ impl<'a> Page<'a> {
         self.wrong_turns.clear();
     }
 
-    /// An example ends: tells of repeated lines in how many turns a wrong answer came, if that was more than one.
+    /// An example ends: reports in how many turns a wrong answer came to each repeated line, if that was more than
+    /// one.
     pub(crate) fn end_example<W: Write + Drop>(&self, out: &mut W) -> io::Result<()> {
         let name = self.name;
         for (line, turns) in &self.wrong_turns {
@@ -95,7 +97,7 @@ impl<'a> Page<'a> {
         }
     }
 
-    /// Tells why a line can't be read.
+    /// Reports why a line can't be read.
     pub(crate) fn tell_fault<W: Write + Drop>(
         &mut self,
         line: usize,
@@ -111,7 +113,7 @@ impl<'a> Page<'a> {
         writeln!(out, "{name}:{line}: {cause}")
     }
 
-    /// Notes what came of a line whose text is to be written.
+    /// Notes the answers to a line whose text is to be written.
     fn note(&mut self, turn: &Turn<'_>, came: &str, is_right: bool) -> Result<(), AllocError> {
         let Some(place) = self.written.get_mut(turn.line.saturating_sub(1)) else {
             return Ok(());
@@ -125,7 +127,7 @@ impl<'a> Page<'a> {
         }
     }
 
-    /// A line was played, and this answer came.
+    /// Takes the answer to a line that was played.
     pub fn tell<W: Write + Drop>(
         &mut self,
         turn: &Turn<'_>,
@@ -171,7 +173,7 @@ impl<'a> Page<'a> {
         Ok(true)
     }
 
-    /// Tells the answer to a line for which none is wanted.
+    /// Reports the answer to a line that expects none.
     pub fn tell_unasked<W: Write + Drop>(
         &mut self,
         turn: &Turn<'_>,
@@ -192,7 +194,7 @@ impl<'a> Page<'a> {
         Ok(())
     }
 
-    /// Tells what came in another way, where it is another answer than that at an index of the first ones.
+    /// Reports an answer of another way, if it differs from that at an index of the first ones.
     pub fn compare<W: Write + Drop>(
         &mut self,
         at: usize,
@@ -212,8 +214,8 @@ impl<'a> Page<'a> {
         writeln!(out, "{name}:{line}: wanted {wanted}, came {came} ({way})")
     }
 
-    /// Compares what a machine tells that was opened in another way with what it must tell. A difference is told at the
-    /// line of the first answer.
+    /// Compares the look-ups of a machine that was opened in another way with their expected values. A difference is
+    /// reported at the line of the first answer.
     pub fn compare_opening<W: Write + Drop>(
         &mut self,
         wanted: &str,
@@ -234,7 +236,7 @@ impl<'a> Page<'a> {
         writeln!(out, "{name}:{line}: wanted {wanted}, came {came} ({way})")
     }
 
-    /// Tells how many examples and answers there were, or writes the text with its answers.
+    /// Reports how many examples and answers there were, or writes the text with its answers.
     pub(crate) fn end<W: Write + Drop>(&mut self, lines: &[&str], out: &mut W) -> io::Result<()> {
         if self.how.prints {
             return self.write_text(lines, out);

@@ -10,10 +10,10 @@ use std::io::{BufWriter, Write};
 use std::rt::{Env, Files};
 use std::{env, fs, io};
 
-/// The answer to a call for which there is no memory.
+/// The answer to a call for which memory can't be allocated.
 pub const NO_MEMORY: &str = "refused NoMemory";
 
-/// The answer to a call where there is no machine.
+/// The answer to a call if there is no machine.
 pub const NO_MACHINE: &str = "no machine";
 
 /// What plays examples.
@@ -51,7 +51,7 @@ fn read_all<P: Player>(player: &P, alloc: Global, example: &Example<'_>) -> Resu
     Ok(())
 }
 
-/// Plays an example, or tells why a line of it can't be read.
+/// Plays an example, or reports why a line of it can't be read.
 fn play_example<P: Player, W: Write + Drop>(
     player: &P,
     alloc: Global,
@@ -106,7 +106,7 @@ fn content_of<R: AllocGlobal + Input + Files>(rt: &R, name: &str) -> io::Result<
     fs::read_to_string(rt, name)
 }
 
-/// Plays the files that are wished for; the exit status.
+/// Plays the files that the command line names; the exit status.
 fn play_wishes<R, P: Player, W: Write + Drop>(
     rt: &R,
     player: &P,
@@ -126,7 +126,7 @@ where
     Ok(status)
 }
 
-/// The words of the command line, as wishes.
+/// What the words of the command line ask for.
 fn wishes_of<R: AllocGlobal + Env>(rt: &R, has_ways: bool) -> io::Result<Option<Wishes>> {
     let words = env::args(rt)?.collect(rt.alloc())?;
     match Wishes::new(rt.alloc(), words)? {
@@ -135,7 +135,7 @@ fn wishes_of<R: AllocGlobal + Env>(rt: &R, has_ways: bool) -> io::Result<Option<
     }
 }
 
-/// Plays all that the command line names. What was told before a fault goes out, too.
+/// Plays all that the command line names. What was reported before a fault is written, too.
 fn play_all<R, P: Player>(rt: &R, player: &P) -> io::Result<u8>
 where
     R: AllocGlobal + Input + Print + Eprint + Files + Env,

@@ -3,7 +3,7 @@
 use network::LineNo;
 use std::alloc::{AllocError, Global};
 
-/// An answer. Where there is no memory for a part of it, that is told when it is read.
+/// An answer. If memory for a part of it can't be allocated, `told` reports that.
 #[derive(Drop)]
 pub struct Reply {
     text: String,
@@ -21,17 +21,17 @@ impl Reply {
         }
     }
 
-    /// Takes away all words.
+    /// Removes all words.
     pub fn clear(&mut self) {
         self.text.clear();
     }
 
-    /// There was no memory for a part of it.
+    /// Notes that memory for a part of the answer can't be allocated.
     pub fn cut(&mut self) {
         self.is_cut = true;
     }
 
-    /// The words, if there was memory for all of them.
+    /// The words, unless memory for some of them couldn't be allocated.
     pub fn told(&self) -> Result<&str, AllocError> {
         if self.is_cut {
             return Err(AllocError);
@@ -52,7 +52,7 @@ impl Reply {
         self.text.is_empty() || self.text.as_str().ends_with(' ')
     }
 
-    /// Adds a blank, if a word stands there.
+    /// Adds a blank, if there is a word before it.
     fn blank(&mut self) {
         if !self.has_blank() {
             self.add(" ");
@@ -72,7 +72,7 @@ impl Reply {
         }
     }
 
-    /// Adds `; ` behind what stands there, if something does.
+    /// Adds `; ` after what is there, if anything is.
     pub fn next_part(&mut self) {
         if !self.text.is_empty() {
             self.add("; ");
@@ -90,7 +90,7 @@ impl Reply {
         self.number(number);
     }
 
-    /// Adds what is counted, and how often it was.
+    /// Adds what is counted, and how often it occurred.
     pub fn counted(&mut self, name: &str, count: u128) {
         self.word(name);
         self.blank();

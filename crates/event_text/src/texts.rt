@@ -24,12 +24,12 @@ pub(crate) fn said_in(line: &str) -> &str {
     }
 }
 
-/// The first word of a text; an empty one where there is none.
+/// The first word of a text; an empty one if there is none.
 pub(crate) fn first_word(text: &str) -> &str {
     text.split_ascii_whitespace().next().unwrap_or("")
 }
 
-/// What stands in a text behind its beginning.
+/// What follows a beginning of a text.
 pub fn behind<'a>(text: &'a str, beginning: &str) -> &'a str {
     text.strip_prefix(beginning).unwrap_or("")
 }
@@ -51,7 +51,7 @@ impl<'a> Text<'a> {
         &self.lines
     }
 
-    /// The example that begins at an index, or what stands before the first one; nothing behind the last line.
+    /// The example that begins at an index, or what comes before the first one; nothing after the last line.
     pub fn example_at(&self, from: usize) -> Option<Example<'_>> {
         let lines = self.lines.get(from..)?;
         let (_, rest) = lines.split_first()?;
@@ -65,12 +65,12 @@ impl<'a> Text<'a> {
 }
 
 impl<'a> Example<'a> {
-    /// The index of the line behind it.
+    /// The index of the line after it.
     pub fn end(&self) -> usize {
         self.before.saturating_add(self.lines.len())
     }
 
-    /// Whether it begins with a line `example`; else it is what stands before the first one.
+    /// Whether it begins with a line `example`; otherwise it is what comes before the first one.
     pub fn has_heading(&self) -> bool {
         match self.lines.first() {
             Some(line) => is_heading(line),

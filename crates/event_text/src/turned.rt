@@ -58,7 +58,7 @@ struct Step {
     by: u64,
 }
 
-/// A number after so many turns of a step; nothing if that is no number of 64 bits.
+/// A number after this many turns of a step; nothing if that is no number of 64 bits.
 fn moved(kind: Kind, number: u64, turn: u64, step: Step) -> Option<u64> {
     let each = if kind == Kind::Address { 8 } else { 1 };
     let far = turn.checked_mul(step.by.checked_mul(each)?)?;
@@ -83,7 +83,7 @@ fn stepped(word: &str) -> Option<(&str, Step)> {
     Some((first, Step { is_up, by }))
 }
 
-/// The kind and the number of a word after so many turns; outside of what is repeated, of the word itself.
+/// The kind and the number of a word after this many turns; outside of a repetition, those of the word itself.
 pub(crate) fn in_turn(word: &str, turn: Option<u64>) -> Result<Option<(Kind, u64)>, Cause> {
     let (Some(turn), Some((first, step))) = (turn, stepped(word)) else {
         return Ok(valued(word));
@@ -129,7 +129,7 @@ pub(crate) fn put_turned(text: &str, turn: Option<u64>, out: &mut Reply) {
     }
 }
 
-/// Whether an answer is the one that is wanted, or begins with the words before the word `..`.
+/// Whether an answer is the expected one, or begins with the words before the word `..`.
 pub(crate) fn is_wanted(wanted: &str, came: &str) -> bool {
     if wanted == came {
         return true;

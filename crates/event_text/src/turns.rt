@@ -12,14 +12,14 @@ pub struct Turn<'a> {
     /// The number of the line in its text, from 1.
     pub line: usize,
     pub call: &'a str,
-    /// The answer that is wanted.
+    /// The expected answer.
     pub wanted: Option<&'a str>,
-    /// How many turns were made before, of what is repeated.
+    /// How many turns of a repetition came before.
     pub turn: Option<u64>,
 }
 
 impl<'a> Turn<'a> {
-    /// The words of its call, where lines of the machine have so many words.
+    /// The words of its call, for a machine with this many words in a line.
     pub fn words(&self, line_words: u32) -> Words<'a> {
         Words::new(self.call, self.turn, line_words)
     }
@@ -29,19 +29,19 @@ impl<'a> Turn<'a> {
         first_word(self.call)
     }
 
-    /// The texts between the `;` behind the call's name.
+    /// The texts between the `;` after the call's name.
     pub fn parts(&self) -> Split<'a, char> {
         behind(self.call, self.name()).split(';')
     }
 }
 
-/// What is repeated: from which index of the lines on, in which turn, and how many there are.
+/// What is repeated: from which index of the lines on, in which turn, and how many turns there are.
 #[derive(Clone, Copy)]
 struct Repeated {
     from: usize,
     turn: u64,
     turns: u64,
-    /// Whether it is a line that is repeated, and no block.
+    /// Whether one line is repeated, and no block.
     is_line: bool,
     has_call: bool,
 }
@@ -65,7 +65,7 @@ impl<'a> Cursor<'a> {
         }
     }
 
-    /// The next line, or why it can't be read; nothing behind the last one.
+    /// The next line, or why it can't be read; nothing after the last one.
     pub fn next_turn(&mut self) -> Result<Option<Turn<'a>>, Fault> {
         for _ in 0..u64::MAX {
             let Some(line) = self.example.lines.get(self.at) else {
@@ -189,7 +189,7 @@ impl<'a> Cursor<'a> {
         Ok(Some(turn))
     }
 
-    /// A call and the answer that is wanted.
+    /// A call and its expected answer.
     fn turn_of(&mut self, said: &'a str) -> Result<Turn<'a>, Cause> {
         let (call, wanted) = parted(said)?;
         if !self.has_begun && !begins(call) {
@@ -210,7 +210,7 @@ fn begins(call: &str) -> bool {
     matches!(first_word(call), "machine" | "seats" | "numbers")
 }
 
-/// How many turns a line with `repeat` has, and what stands behind that.
+/// How many turns a line with `repeat` has, and what follows that.
 fn turns_of(said: &str) -> Result<(u64, &str), Cause> {
     let rest = behind(said.trim(), "repeat").trim();
     let number = first_word(rest);
@@ -229,7 +229,7 @@ fn begins_blank(text: &str) -> bool {
     text.is_empty() || text.starts_with(' ') || text.starts_with('\t')
 }
 
-/// A call, and the answer behind the word `:`, if there is one.
+/// A call, and the answer after the word `:`, if there is one.
 fn parted(said: &str) -> Result<(&str, Option<&str>), Cause> {
     match said.split_once(':') {
         Some((call, wanted)) if ends_blank(call) && begins_blank(wanted) => {

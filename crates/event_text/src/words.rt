@@ -13,7 +13,7 @@ pub enum Seat {
     Bank(u32),
 }
 
-/// What stands behind a call's name.
+/// What may follow a call's name.
 #[derive(Clone, Copy)]
 pub enum Part {
     Nothing,
@@ -33,7 +33,8 @@ pub struct Words<'a> {
 }
 
 impl<'a> Words<'a> {
-    /// The words of a text in a turn of what is repeated, if it is. Lines are of so many words, or of one if that is 0.
+    /// The words of a text in a turn of a repetition, if it is in one. A line of memory has `line_words` words, or one
+    /// if that is 0.
     pub fn new(text: &'a str, turn: Option<u64>, line_words: u32) -> Words<'a> {
         Words {
             left: text.split_ascii_whitespace(),
@@ -47,7 +48,7 @@ impl<'a> Words<'a> {
         self.left.next()
     }
 
-    /// The next word, which is wanted.
+    /// The next word, which must be there.
     pub fn wanted(&mut self, cause: Cause) -> Result<&'a str, Cause> {
         self.next_word().ok_or(cause)
     }
@@ -60,7 +61,7 @@ impl<'a> Words<'a> {
         }
     }
 
-    /// The number of a word of this kind, which is wanted.
+    /// The number of the next word, which must be there and of this kind.
     fn value(&self, word: &str, wanted: Kind, cause: Cause) -> Result<u64, Cause> {
         match in_turn(word, self.turn)? {
             Some((kind, number)) if kind == wanted => Ok(number),

@@ -1,18 +1,18 @@
-//! Lines with the answers that came behind them.
+//! Lines with the answers that came, written after them.
 
 use crate::replies::Reply;
 use crate::texts::{behind, said_in};
 use crate::turned::{is_wanted, parted, put_turned};
 use std::alloc::{AllocError, Global};
 
-/// What came of a line.
+/// The answers to a line.
 #[derive(Drop)]
 pub(crate) struct Written {
     /// The answer of the first turn.
     first: String,
     /// The answers of all turns so far, as one text that goes on in each turn.
     by_turn: Option<Reply>,
-    /// Whether an answer came that isn't the one that stands there.
+    /// Whether an answer came that differs from the one in the text.
     is_new: bool,
 }
 
@@ -63,7 +63,7 @@ impl Written {
         Ok(())
     }
 
-    /// Tells the line with the answer that came, before its comment; a line that had it already stays.
+    /// Writes the line with the answer that came, before its comment; a line that had it already doesn't change.
     pub(crate) fn put(&self, line: &str, told: &mut Reply) -> Result<(), AllocError> {
         if !self.is_new {
             told.add(line);
@@ -87,7 +87,7 @@ impl Written {
     }
 }
 
-/// Tells a comment behind the blanks that stand before it, or one blank.
+/// Writes a comment after the blanks that precede it, or after one blank.
 fn put_comment(said: &str, comment: &str, told: &mut Reply) {
     if comment.is_empty() {
         return;

@@ -1,4 +1,4 @@
--- What the threads do that pass a message, and what it means that one received it.
+-- What the threads do that pass a message, and when the second one has received it.
 use Rattle.std.specs.Prelude.{◌==◌, ℕ, Bool, false, List, if◌then◌else◌, Option, Some, None}
 use Rattle.std.specs.FinMap.{empty}
 use Rattle.physiological_order.specs.declared.operation.Op.{Op}
@@ -25,7 +25,7 @@ abbrev pub is_up : Option ℕ → Bool
 is_up None = false
 is_up (Some flag) = flag == 1
 
--- a thread that received something else than 1 for the flag waits, and loads it again
+-- a thread that received anything but 1 for the flag waits, and loads it again
 abbrev pub thread_done : Thread → Option ℕ → Thread
 thread_done thread.StoreMessage received = thread.StoreFlag
 thread_done thread.StoreFlag received = thread.Over received
@@ -37,8 +37,8 @@ thread_done (thread.Over last) received = thread.Over received
 abbrev pub passing_acts : Acts Thread
 passing_acts = record { next = thread_next; done = thread_done }
 
--- a legal history of a memory of zeros has it: in it core 0 ran the first thread, as far as it came, and core 1 ran the
--- second one to its end, and received this last
+-- there is a legal history of a memory of zeros in which core 0 ran the first thread, as far as it came, and core 1
+-- ran the second one to its end, and received this last
 pub record IsPassed (message : ℕ) : Type 0 where
   pub issued : ℕ → List Op
   pub records : List Record

@@ -20,7 +20,7 @@ one_core lease = record TWO_CORES { cores = 1; lease = lease }
 abbrev pub list_acts : Acts (List Step)
 list_acts = record { next = first_step; done = behind_first }
 
--- the run by rounds does all these steps, and then so many renewals were sent
+-- the run by rounds does all these steps and sends this many renewals
 pub record AreRenewals (steps : List Step) (lease count : ℕ) : Type 0 where
   pub events : List Event
   pub machine : Machine

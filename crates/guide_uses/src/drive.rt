@@ -22,8 +22,8 @@ pub const TWO_CORES: Config = Config {
     private_write: false,
 };
 
-/// Core 0 stores 1 to word 0. The machine afterwards, and what each event was answered. Whatever that is, the records
-/// are a legal history, as they are after any events.
+/// Core 0 stores 1 to word 0. Answers the machine afterwards, and the answer to each event. With any answers the
+/// records are a legal history, as they are after any events.
 pub fn first_store(alloc: Global) -> Result<(System, Vec<Answer>), OpenError>
     ensures { IfOk result (λ ran. Legal (flat empty)
         (λ core. slice_index_or ran.0.issued core []) ran.0.records) }

@@ -6,7 +6,7 @@ use report::{Done, FromRead, LitmusOptions, RunError, ToWrite, run_litmus};
 use std::alloc::Global;
 use std::thread::Threads;
 
-/// Runs the test as the options say; runs by seeds may be shared by threads. Whether every run was all done, and the
+/// Runs the test as the options say; threads may share runs by seeds. Answers whether every run was all done, and the
 /// report: each end state in it is one that sequential consistency allows.
 pub fn run_text<R: Threads + Sync>(
     rt: &R,

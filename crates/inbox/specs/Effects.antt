@@ -1,4 +1,4 @@
--- What a serving does, whatever the table: the few things that become of the messages of a seat and of its part.
+-- What a serving can do, for any table: the few things that may happen to the messages of a seat and to its part.
 use Rattle.std.specs.Prelude.{◌≡◌, ℕ, ◌+◌, Bool, true, false, List, [], ◌∷◌, ◌++◌, remove, slice_get, Option, Some}
 use Rattle.std.specs.Prelude.{None, Result, Ok, Err, option_to_list}
 use Rattle.inbox.specs.declared.answer.Answer.{Answer}
@@ -25,7 +25,7 @@ module _ {T : Type 0} where
     pub none : weigh [] ≡ 0
     pub one_more : (m : T) (ms : List T) → weigh (m ∷ ms) ≡ f m + weigh ms
 
-  -- the same messages in any order, each as often: they weigh the same, whatever each weighs
+  -- the same messages in any order, each as often: for any weight they weigh the same
   abbrev pub SameMessages : List T → List T → Type 0
   SameMessages xs ys = (f : T → ℕ) (weigh : List T → ℕ) → IsWeight f weigh → weigh xs ≡ weigh ys
 
@@ -52,7 +52,7 @@ module _ {T : Type 0} where
     abbrev pub IsAsked : InboxState T → P → Place → T → Answer T → P → Type 0
     IsAsked b p at m answer q = LiesAt b at m × (table p m (places b.held at) ≡ (answer, q))
 
-    -- what serving made of the messages b and the part p, where it gave the result, the messages c and the part q
+    -- what a serving of the messages b by the part p did, if it gave the result, the messages c and the part q
     pub data Effect (b : InboxState T) (p : P) (result : Result Served Refusal) (c : InboxState T) (q : P) : Type 0
       where
         -- one message was consumed, and another was sent for it, if there was one to send; the others are there

@@ -16,7 +16,7 @@ pub data Place : Type 0 where
   in_hand : Place
   held_at : ℕ → Place
 
--- whether nothing was done for want of a place
+-- whether nothing was done because there was no place
 abbrev pub lacks_place : Refusal → Bool
 lacks_place Full = true
 lacks_place NoMemory = false
@@ -114,14 +114,15 @@ module _ {T : Type 0} where
   after answer (in_hand, m) b = after_hand answer m b.held
   after answer (held_at i, m) b = inbox b.hand (after_held answer i b.held)
 
-  -- if no message is served: the want of a place, if there was one; else all are held, or there is none
+  -- the answer if no message is served: that there was no place, if one found none; otherwise that all are held, or
+  -- that there is none
   abbrev pub none_served : Bool → List T → Result Served Refusal
   none_served true held = Err Full
   none_served false [] = Ok served.Nothing
   none_served false (m ∷ ms) = Ok served.Held
 
   module _ {P : Type 0} (table : P → T → ℕ → Answer T × P) where
-    -- the answer to a message for which the held list has so many places, and the part afterwards
+    -- the answer to a message if the held list has this many places, and the part afterwards
     abbrev pub asked : P → T → ℕ → Answer T × P
     asked p m n = (fitted n (table p m n).0, (table p m n).1)
 

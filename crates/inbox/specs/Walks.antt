@@ -18,7 +18,7 @@ module _ {T P : Type 0} (table : P → T → ℕ → Answer T × P) (takes_memor
       ((result, c, q) ≡ serve_by table (refused || is_refused table b.held p xs) (served_of table b.held p xs) b p)
       ⊎ ((result ≡ Err NoMemory) × (c ≡ b) × (q ≡ p) × WantsMemory table takes_memory b.held p xs)
 
-  -- what a walk of the held messages came to: the cell and the answer of the one that is served
+  -- the result of a walk of the held messages: the cell and the answer of the one that is served
   abbrev pub Walks : List (ℕ × T) → P → Bool → Option (ℕ × Answer T) → P → Type 0
   Walks cells p refused None q =
       let held = map (λ c. c.1) cells in

@@ -11,7 +11,8 @@ pub enum Refusal {
     Exhausted,
 }
 
-/// What a part did with a message. What it sends to its own seat is told, and goes to the end of the held list.
+/// What a part did with a message. A message that it sends to its own seat is in the answer, and goes to the end of
+/// the held list.
 #[derive(Drop)]
 pub enum Answer<T> {
     /// The message is consumed, and this one is sent, if any.
@@ -26,16 +27,16 @@ pub enum Answer<T> {
     Refused(Refusal),
 }
 
-/// What became of the message that was served.
+/// What happened to the message that was served.
 #[derive(Clone, Copy, Debug, PartialEq, Eq)]
 pub enum Served {
     /// It is consumed.
     Delivered,
     /// It is consumed and had no effect.
     Dropped,
-    /// It is in the held list, and something is fetched for it.
+    /// It is in the held list, and the part asked for what it needs.
     Started,
-    /// It is in the held list, as it came from the hand; or, with an empty hand, all messages are still held.
+    /// It is in the held list, moved there from the hand; or, with an empty hand, all messages are still held.
     Held,
     /// There was no message.
     Nothing,

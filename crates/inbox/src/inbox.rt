@@ -27,7 +27,7 @@ impl<T> Model for Inbox<T> {
 }
 
 impl<T> Inbox<T> {
-    /// An inbox without a message. All memory is taken here, for 256 held messages.
+    /// An inbox without a message. All its memory, for 256 held messages, is allocated here.
     pub fn new(alloc: Global) -> Result<Inbox<T>, AllocError>
         ensures { IfOk result (λ b. b ≡ inbox None []) }
     {
@@ -42,7 +42,7 @@ impl<T> Inbox<T> {
         self.hand.as_ref()
     }
 
-    /// The held message at an index, from 0 for the oldest, if there are so many.
+    /// The held message at an index, from 0 for the oldest, if there is one.
     pub fn held(&self, at: u32) -> Option<&T>
         ensures { option_copied result ≡ slice_get self.now.held at }
     {
@@ -59,7 +59,7 @@ impl<T> Inbox<T> {
         Some(self.held.get(cell))
     }
 
-    /// For how many more messages the held list has place. It has 256 places.
+    /// How many more messages the held list has places for, of 256.
     pub fn places(&self) -> u32
         ensures value { result ≡ 256 - length self.now.held }
         ensures within { length self.now.held ≤ 256 }

@@ -1,4 +1,5 @@
-//! The messages that came in at a seat, and the order in which they are served. It knows no message and no part.
+//! The messages that came in at a seat, and the order in which they are served. The crate works for any type of
+//! message and of part.
 #![tactic(auto)]
 
 mod answer;

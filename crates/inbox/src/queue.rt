@@ -9,11 +9,11 @@ use line_arena::{Arena, ArenaError, Cell};
 use std::alloc::{AllocError, Global};
 use std::marker::Model;
 
-/// How many values a queue has place for.
+/// How many values a queue has places for.
 pub(crate) const PLACES: u32 = 256;
 
-/// Up to 256 values, the oldest first, by docs/SEATS.md. A cell names one of them while it is there. All memory is
-/// taken when a queue is made. Contracts see pairs of a cell and its value.
+/// Up to 256 values, the oldest first, by docs/SEATS.md. A cell names one of them while it is there. A queue allocates
+/// all its memory when it is made. Contracts see pairs of a cell and its value.
 #[derive(Drop)]
 pub struct Queue<T> {
     // the values, on its only list
@@ -61,7 +61,7 @@ impl<T> Queue<T> {
         self.list.len(0) == 0
     }
 
-    /// For how many more values there is place. There are 256 places.
+    /// How many more values there are places for, of 256.
     pub fn places(&self) -> u32
         ensures value { result ≡ 256 - length (values_of self.now) }
         ensures within { length (values_of self.now) ≤ 256 }
@@ -109,7 +109,7 @@ impl<T> Queue<T> {
         let _cell = pushed.unwrap();
     }
 
-    /// Takes the value of a cell out. The others stay, in their order.
+    /// Takes the value of a cell out. The others keep their order.
     pub fn take(&mut self, cell: Cell) -> T
         requires { IsIn cell self.old }
         ensures value { (k : ℕ) → IsAfter k cell self.old →

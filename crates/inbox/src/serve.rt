@@ -1,4 +1,4 @@
-//! Serving: of the messages in their order, the first that isn't passed is delivered. docs/SEATS.md tells the order.
+//! Serving: of the messages in their order, the first that isn't passed is delivered. docs/SEATS.md gives the order.
 ghost use Rattle.std.specs.Prelude.{◌≡◌, ℕ, ◌+◌, ◌-◌, ◌<◌, ◌≤◌, ◌++◌, ◌||◌, ◌∷◌, [], true, drop, length};
 ghost use Rattle.std.specs.Prelude.{IfSome, IsTrue, IsSome, Some, None, slice_get};
 ghost use Rattle.inbox.specs.Inboxes.{inbox};
@@ -133,12 +133,12 @@ fn settle_held<T: Drop>(held: &mut Queue<T>, found: (Cell, Answer<T>)) -> Result
 
 impl<T: Drop> Inbox<T> {
     /// Delivers to the part the first message that isn't passed: the one in the hand comes first, and then the held
-    /// ones, the oldest first. Passed is a message that finds no place, and a held one that stays held.
+    /// ones, the oldest first. The serving passes a message that finds no place, and a held one that stays held.
     ///
-    /// A message that has to wait is held, also before the one that is sent on its behalf; one that is consumed leaves.
-    /// All others stay where they are, in their order. Where no message is served: Full if one found no place; else
-    /// Held, or Nothing if there is no message. Exhausted is the part's. So is NoMemory, and
-    /// only where the message that would be served is one that the part takes memory for. A refusal changes nothing.
+    /// A message that has to wait is held, and comes before the one that is sent on its behalf; one that is consumed
+    /// leaves. All others keep their places and their order. If no message is served: Full if one found no place;
+    /// otherwise Held, or Nothing if there is no message. Exhausted is the part's answer. So is NoMemory, and only if
+    /// the part takes memory for the message that would be served. A refusal changes nothing.
     pub fn serve<P: Receiver<T>>(&mut self, part: &mut P) -> Result<Served, Refusal>
         requires { HaveCases P.has_case self.old part.old }
         ensures { Serves P.table P.takes_memory self.old part.old result self.new part.new }

@@ -6,7 +6,7 @@ use Rattle.machine_table.specs.declared.event.Event.TheVariants.{Issue}
 use Rattle.machine_table.specs.declared.event.Answer.{Answer}
 use Rattle.machine_table.specs.declared.event.Answer.TheVariants.{Issued}
 
--- an Issue event issues its core its operation where it is answered Issued; nothing else issues one
+-- an Issue event issues its core its operation if the answer is Issued; no other event issues one
 abbrev pub issued_at_event : ℕ → Event → Answer → List Op
 issued_at_event core (Issue c op) Issued = if c == core then op ∷ [] else []
 issued_at_event core _ _ = []

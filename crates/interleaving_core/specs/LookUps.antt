@@ -1,4 +1,4 @@
--- What is looked up in a machine. A core or a bank that isn't there has nothing.
+-- What can be looked up in a machine. A core or a bank that isn't there has nothing.
 use Rattle.std.specs.Prelude.{ℕ, Bool, true, false, List, [], Option, Some, None, option_map, slice_get}
 use Rattle.std.specs.Prelude.{if◌then◌else◌}
 use Rattle.line_sets.specs.SetTable.{all_listed}
@@ -16,7 +16,7 @@ use Rattle.llc_bank.specs.BankTable.{BankState}
 use Rattle.llc_bank.specs.Settled.{is_settled}
 use Rattle.machine_table.specs.Machine.{Machine}
 
--- the copy that leaves a core's cache to make a place for a line, where there is none: the least recently used one
+-- the copy to evict from a core's cache to make a place for a line, if there is none: the least recently used one
 abbrev pub victim_of : ℕ → Option CoreState → Option ℕ
 victim_of line None = None
 victim_of line (Some core) = victim_for core.cache line
@@ -24,7 +24,7 @@ victim_of line (Some core) = victim_for core.cache line
 abbrev pub victim : Machine → ℕ → ℕ → Option ℕ
 victim m core line = victim_of line (slice_get m.cores core)
 
--- the lines of a core's copies, and those that a bank has and that nothing is under way for, set by set
+-- the lines of a core's copies, and those of a bank's entries that are settled, set by set
 abbrev pub copies_of : Option CoreState → List ℕ
 copies_of None = []
 copies_of (Some core) = all_listed (λ copy. true) core.cache.sets

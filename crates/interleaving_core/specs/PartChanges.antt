@@ -63,7 +63,7 @@ plain_of answer.Recalled = Some plain.Recalled
 plain_of answer.Advanced = Some plain.Advanced
 plain_of (answer.Refused why) = Some (plain.Refused why)
 
--- what a completion is answered whose record this is
+-- the answer to a completion with this record
 abbrev pub completed_by : Option Record → Answer
 completed_by None = answer.Idle
 completed_by (Some done) = answer.Completed done
@@ -73,17 +73,17 @@ abbrev pub answer_in : List Record → Option PlainAnswer → Answer
 answer_in records None = completed_by (slice_get records (length records - 1))
 answer_in records (Some plain) = answer_of plain
 
--- what an attempt is answered that needs a request, by whether it was sent
+-- the answer to an attempt that needs a request, by whether it was sent
 abbrev pub request_answer : Bool → Answer
 request_answer true = answer.Requested
 request_answer false = answer.Refused NetworkFull
 
--- what a reaction to a delivered message is answered, and the messages in flight afterwards: the same at every part
+-- the answer of a reaction to a delivered message, and the messages in flight afterwards: the same at every part
 abbrev pub settled_answer : Mail → ℕ → Reaction → Answer × Mail
 settled_answer mail n reaction =
     let x = applied {S = Unit {0}} tt mail (change.settled mail n reaction tt) in (x.0, x.2)
 
--- what a part's response to a delivered message is answered, and the messages in flight afterwards
+-- the answer of a part's response to a delivered message, and the messages in flight afterwards
 abbrev pub concluded : Mail → ℕ → Result Reaction Refusal → Answer × Mail
 concluded mail n (Ok reaction) = settled_answer mail n reaction
 concluded mail n (Err why) = (answer.Refused why, mail)

@@ -16,7 +16,7 @@ last_of [] = []
 last_of (message ∷ []) = message ∷ []
 last_of (message ∷ next ∷ messages) = last_of (next ∷ messages)
 
--- what one event sent: where the number of the next message rose, the last message that is then in flight
+-- what one event sent: if the number of the next message rose, the last message that is then in flight
 abbrev pub newly_sent : Mail → Mail → List (ℕ × Message)
 newly_sent before after = if nat_lt before.next after.next then last_of after.messages else []
 

@@ -1,5 +1,5 @@
--- How a machine in memory follows the table: each event is answered as the table says, or, where it takes memory, it is
--- refused for want of that and leaves the machine as it was.
+-- How a machine in memory follows the table: each event is answered as the table says, or, if it allocates and the
+-- allocation fails, it is refused and leaves the machine as it was.
 use Rattle.std.specs.Prelude.{◌≡◌, ◌⊎◌, ◌<◌, ℕ, Bool, true, false, List, [], ◌∷◌, IsTrue, Option, Some, None}
 use Rattle.std.specs.Prelude.{slice_get}
 use Rattle.std.specs.FinMap.{FinMap}
@@ -17,7 +17,7 @@ use Rattle.machine_table.specs.declared.event.Refusal.TheVariants.{NoMemory}
 use Rattle.machine_table.specs.Machine.{Machine}
 use Rattle.machine_table.specs.Transition.{transition}
 
--- memory is taken to open an operation and to send a message, and else for nothing
+-- only opening an operation and sending a message allocate
 abbrev pub TakesMemory : Machine → Answer × Machine → Type 0
 TakesMemory m next = (next.0 ≡ Issued) ⊎ (m.mail.next < next.1.mail.next)
 
@@ -41,7 +41,7 @@ asks_memory m (Issue core op) = true
 asks_memory m (Deliver number) = delivery_asks m (at_number number m.mail.messages)
 asks_memory m _ = false
 
--- one event; memory is refused only to one that asks for it, where the table takes some
+-- one event; it is refused memory only if it asks for some and the table's answer takes some
 abbrev pub Stepped : Machine → Event → Answer → Machine → Type 0
 Stepped m event answer after = ((answer, after) ≡ transition m event) ⊎ ((answer ≡ Refused NoMemory) × (after ≡ m) ×
     TakesMemory m (transition m event) × IsTrue (asks_memory m event))

@@ -13,9 +13,9 @@ ghost use Rattle.interleaving_core.specs.Midway.{IsMidway};
 ghost use Rattle.interleaving_core.specs.SentMessages.{AreCounted, AreNext, all_sent};
 ghost use Rattle.interleaving_core.specs.StepAnswers.{Ran};
 
-/// After each beginning of a list of events, whatever events came before it since the machine opened: the records are
-/// legal, a line has at most one owner, every word has the coherent value that the records leave, the cores were
-/// issued what was answered so, and the counts rose by the messages sent.
+/// After each beginning of a list of events, for any events before it since the machine opened: the records are legal,
+/// a line has at most one owner, every word has the coherent value that the records leave, the cores were issued the
+/// operations that were answered Issued, and the counts rose by the messages sent.
 pub fn runs_are_legal_throughout()
     ensures { (config : Config) (memory : FinMap nat_cmp ℕ) (m after : Machine)
         (before events : List Event) (said answers : List Answer) → is_good config ≡ true →
@@ -23,8 +23,8 @@ pub fn runs_are_legal_throughout()
         IsMidway m events answers after k }
 {}
 
-/// What a core was issued by a list of events of a machine that opened is the operations of the Issue events of that
-/// core that were answered Issued, in order.
+/// A list of events issues a core of an opened machine the operations of the Issue events of that core that were
+/// answered Issued, in order.
 pub fn cores_are_issued_what_is_answered_so()
     ensures { (config : Config) (memory : FinMap nat_cmp ℕ) (after : Machine)
         (events : List Event) (answers : List Answer) → is_good config ≡ true →

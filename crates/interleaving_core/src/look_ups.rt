@@ -1,4 +1,4 @@
-//! What is looked up in a machine.
+//! What can be looked up in a machine.
 ghost use Rattle.std.specs.Prelude.{◌≡◌, ◌<◌, IfOk, length, map, option_copied, slice_get, Some};
 ghost use Rattle.network.specs.NumberedMessages.{IsRising, at_number};
 ghost use Rattle.ranked_lines.specs.Rising.{sorted};

@@ -19,8 +19,8 @@ use private_cache::Geometry;
 use std::alloc::{AllocError, Global};
 
 impl MachineState {
-    /// A machine that is set up so, with this memory. All the memory of its parts and of messages is taken
-    /// here, but that of records and operations.
+    /// A machine with this set-up and this memory. All the memory of its parts and messages is allocated here, but not
+    /// that of records and operations.
     pub(crate) fn open(
         alloc: Global,
         config: Config,

@@ -20,7 +20,7 @@ use physiological_order::{Op, Record};
 use private_cache::{CacheError, CopyState};
 use timestamp_manager::Exhausted;
 
-/// A core of this number attempts its open operation, where so many operations were completed before.
+/// A core of this number attempts its open operation, after `number` completed operations.
 #[inline(always)]
 pub(crate) fn attempt(core: &mut Core, flight: &mut InFlight, number: u32, count: usize) -> Answer
     requires number { core.old.number < flight.old.cores }
@@ -86,7 +86,7 @@ fn request(core: &mut Core, flight: &mut InFlight, op: &Op, body: Body) -> bool
     true
 }
 
-/// A core's time goes on by one.
+/// A core advances its time by one.
 #[inline(always)]
 pub(crate) fn advance(core: &mut Core) -> PlainAnswer
     ensures { (mail : Mail) → (answer_of result, core.new, mail) ≡ applied core.old mail
@@ -98,7 +98,7 @@ pub(crate) fn advance(core: &mut Core) -> PlainAnswer
     }
 }
 
-/// A copy of a line leaves a core's cache. A copy that the core owns is sent back.
+/// Evicts a copy of a line from a core's cache, and returns the line if the core owns it.
 #[inline(always)]
 pub(crate) fn evict_copy(core: &mut Core, flight: &mut InFlight, line: LineNo) -> PlainAnswer
     requires endpoints { BackHasEndpoints flight.old.cores flight.old.banks
@@ -124,7 +124,7 @@ pub(crate) fn evict_copy(core: &mut Core, flight: &mut InFlight, line: LineNo) -
     }
 }
 
-/// A line leaves a bank, or its owner is asked to give it back for that.
+/// Evicts a line from a bank, or asks its owner to return it.
 #[inline(always)]
 pub(crate) fn evict_entry(bank: &mut Bank, flight: &mut InFlight, line: LineNo) -> PlainAnswer
     requires endpoints { EvictedHasEndpoints flight.old.cores flight.old.banks

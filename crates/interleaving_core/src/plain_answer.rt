@@ -1,4 +1,4 @@
-//! What an event is answered, without the record of a completion.
+//! The answer to an event, without the record of a completion.
 ghost use Rattle.std.specs.Prelude.{◌≡◌, ◌||◌};
 ghost use Rattle.interleaving_core.specs.PartChanges.{answer_in, answer_of, plain_of, stops};
 
@@ -26,7 +26,7 @@ pub(crate) enum PlainAnswer {
     Started,
     /// The copy or the line is gone.
     Evicted,
-    /// The owner is asked to give the line back; the line stays.
+    /// The bank asks the owner to return the line; the line stays.
     Recalled,
     Advanced,
     /// Nothing changes, or the machine is stopped if times are exhausted.
@@ -90,7 +90,7 @@ pub(crate) fn answer_in(records: &[Record], plain: Option<PlainAnswer>) -> Answe
     }
 }
 
-/// Stops the machine where times are exhausted.
+/// Stops the machine if times are exhausted.
 #[inline(always)]
 pub(crate) fn stop_after(is_stopped: &mut bool, plain: PlainAnswer)
     ensures { is_stopped.new ≡ (stops (answer_of plain) || is_stopped.old) }

@@ -1,4 +1,4 @@
-//! A message in flight is handed to the part that it goes to.
+//! A message in flight is delivered to its part.
 ghost use Rattle.std.specs.Prelude.{◌≡◌, ◌<◌, ◌||◌, ℕ, IfOk, IsSome, IsTrue, OnErr};
 ghost use Rattle.network.specs.Flight.{IsWithMail, SameNetwork};
 ghost use Rattle.network.specs.Mail.{Mail, answered, has_capacity, has_number, sent, taken};
@@ -51,8 +51,8 @@ pub(crate) fn respond<P: Part>(
     }
 }
 
-/// What a delivery is answered after a part's response, and what becomes of the messages in flight. Exhausted times
-/// stop the machine.
+/// The answer to a delivery by a part's response, and the messages in flight afterwards. Exhausted times stop the
+/// machine.
 #[inline(always)]
 pub(crate) fn conclude(
     flight: &mut InFlight,

@@ -6,7 +6,7 @@ use machine_table::{Answer, Refusal};
 use physiological_order::{Op, Record};
 use std::alloc::AllocError;
 
-/// Capacity for so many more records.
+/// Reserves capacity for this many more records.
 pub(crate) fn reserve(records: &mut Vec<Record>, more: usize) -> Result<(), AllocError>
     ensures items { records.new.items ≡ records.old.items }
     ensures ok { OnOk result (length records.new.items + more ≤ vec_capacity records.new) }
@@ -34,14 +34,14 @@ pub(crate) fn keep(records: &mut Vec<Record>, answer: &Answer)
     }
 }
 
-/// Drops all records. The memory stays.
+/// Drops all records, and keeps their memory.
 pub(crate) fn clear(records: &mut Vec<Record>)
     ensures { records.new.items ≡ [] }
 {
     records.clear();
 }
 
-/// Stops the machine where times are exhausted.
+/// Stops the machine if times are exhausted.
 #[inline(always)]
 pub(crate) fn stop(is_stopped: &mut bool, answer: &Answer)
     ensures { is_stopped.new ≡ (stops answer.now || is_stopped.old) }

@@ -162,8 +162,9 @@ impl MachineState {
         }
     }
 
-    /// One event. The answer and the machine afterwards are those of the machine's table, or, where the table issues an
-    /// operation, or answers a DRAM's first store of a line, the answer is NoMemory and the machine is as it was.
+    /// One event. The answer and the machine afterwards are those of the machine's table. If the table issues an
+    /// operation, or answers a DRAM's first store of a line, the answer may be NoMemory instead, and the machine is as
+    /// it was.
     #[inline(always)]
     pub(crate) fn step(&mut self, event: Event) -> Answer
         requires { Invariant self.old }

@@ -31,9 +31,9 @@ use physiological_order::{Memory, Op, Record, WordAddr};
 use std::alloc::{AllocError, Global};
 use std::marker::Model;
 
-/// A machine: its cores, its banks, the DRAM behind each bank and the messages in flight. Contracts see it as data.
-/// It is always one that the protocol reaches from an opening: what `records`, `owners` and `coherent` say holds at
-/// every point.
+/// A machine: its cores, its banks, the DRAM behind each bank and the messages in flight. Contracts see it as data. It
+/// is always one that the protocol reaches from an opening, so the contracts of `records`, `owners` and `coherent`
+/// hold at every point.
 #[derive(Drop)]
 pub struct System {
     state: MachineState,
@@ -63,8 +63,8 @@ impl Model for System {
 }
 
 impl System {
-    /// A machine that is set up so, with this memory. BadConfig exactly where a value of the configuration is out of
-    /// its range; where the machine is refused the memory is given up.
+    /// A machine with this set-up and this memory. BadConfig exactly if a value of the configuration is out of its
+    /// range; on an error the memory is dropped.
     pub fn new(alloc: Global, config: Config, memory: Memory) -> Result<System, OpenError>
         ensures opened { IfOk result (λ system. system ≡ at_start config memory) }
         ensures bad { is_good config ≡ false → IfErr result (λ e. e ≡ OpenError.BadConfig) }
@@ -82,9 +82,10 @@ impl System {
         }
     }
 
-    /// The machine that `new` makes of its configuration and this memory. Its parts keep the memory that they have:
-    /// more is taken only for lines of DRAM beyond those that it had, and for the list of words. The time grows with
-    /// what was touched since the machine was made or opened again last. If memory is refused the machine is given up.
+    /// Makes the machine that `new` makes of its configuration and this memory. Its parts keep the memory that they
+    /// have: the call allocates only for lines of DRAM beyond those that it had, and for the list of words. Its time
+    /// is in proportion to what was touched since the machine was last made or opened again. If an allocation fails,
+    /// the machine is dropped.
     pub fn reopen(self, memory: Memory) -> Result<System, AllocError>
         ensures { IfOk result (λ system. system ≡ at_start self.config memory) }
     {
@@ -96,8 +97,8 @@ impl System {
     }
 
     /// One event. The answer and the machine afterwards are those of the machine's table; or allocation failed, the
-    /// answer is NoMemory, and the machine is unchanged. That comes only if the table issues an operation, or a DRAM's
-    /// first store of a line is delivered to it: nothing else takes memory. A message in flight always finds its part,
+    /// answer is NoMemory, and the machine is unchanged. That happens only if the table issues an operation, or
+    /// delivers a DRAM's first store of a line: no other event allocates. A message in flight always finds its part,
     /// with a case for it: its delivery is never answered NoSuch.
     #[inline(always)]
     pub fn step(&mut self, event: Event) -> Answer
@@ -120,7 +121,7 @@ impl System {
     /// A list of events, one after the other, with their answers. After each beginning of the list the records are a
     /// legal history, a line has at most one owner, and each word's coherent value is what the records leave; each
     /// core was issued the operations of its Issue events that were answered Issued, in order, and the counts rose by
-    /// the messages that were sent. Memory for all answers is reserved first: if that fails nothing happened.
+    /// the messages that were sent. Memory for all answers is reserved first: if that fails, no event happens.
     pub fn run(&mut self, events: &[Event]) -> Result<Vec<Answer>, AllocError>
         ensures ran { IfOk result (λ answers. Ran self.old events.now answers.items self.new) }
         ensures throughout { IfOk result (λ answers. (k : ℕ) → IsMidway self.old events.now
@@ -176,7 +177,7 @@ impl System {
         self.state.records()
     }
 
-    /// The operations that a core was issued, in order; none for a core that isn't there.
+    /// The operations that a core was issued, in order; empty for a core that isn't there.
     pub fn issued(&self, core: u32) -> &[Op]
         ensures { result.now ≡ slice_index_or self.now.issued core [] }
     {
@@ -186,9 +187,9 @@ impl System {
         }
     }
 
-    /// A word's value where its line now stands: with the line's owner, or with its ownership in flight, or else in
-    /// the bank, or else in a store on its way to DRAM, or else in DRAM. It is the value that the records leave, one
-    /// after the other in the order of their times, on the opening memory.
+    /// A word's value where its line now is: with the line's owner, or with its ownership in flight, or else in the
+    /// bank, or else in a store on its way to DRAM, or else in DRAM. It is the value that the records leave, one after
+    /// the other in the order of their times, on the opening memory.
     pub fn coherent(&self, addr: WordAddr) -> u64
         ensures value { result ≡ coherent self.now addr }
         ensures left { (arranged : List Record) → Arrangement self.now.records arranged →
@@ -243,17 +244,17 @@ impl System {
         self.state.trying_cores()
     }
 
-    /// The copy to evict from a core's cache to make a place for a line, where there is none: the least recently used
-    /// one of the line's set.
+    /// The copy to evict from a core's cache to make a place for a line, if there is none: the least recently used one
+    /// of the line's set.
     pub fn victim(&self, core: u32, line: LineNo) -> Option<LineNo>
         ensures { result ≡ victim self.now core line }
     {
         self.state.victim(core, line)
     }
 
-    /// The bank and the line to evict from it so that this message, a request that is held for want of room, finds
-    /// room: the least recently used line of the set that no core owns, else the least recently used one. None where
-    /// the bank has the line or room for it, and where a line of the set is being loaded, recalled or stored.
+    /// The bank and the line to evict from it so that this message, a request that is held because there is no room,
+    /// finds room: the least recently used line of the set that no core owns, else the least recently used one. `None`
+    /// if the bank has the line or room for it, and if a line of the set is being loaded, recalled or stored.
     #[inline(always)]
     pub fn make_room(&self, number: MsgNo) -> Option<(u32, LineNo)>
         ensures { result ≡ make_room self.now number }
@@ -261,30 +262,29 @@ impl System {
         self.state.make_room(number)
     }
 
-    /// The lines of a core's copies, rising; none for a core that isn't there.
+    /// The lines of a core's copies, in rising order; none for a core that isn't there.
     pub fn copies(&self, core: u32) -> Result<Vec<LineNo>, AllocError>
         ensures { IfOk result (λ lines. lines.items ≡ sorted (copies self.now core)) }
     {
         self.state.copies(core)
     }
 
-    /// The lines that a bank has Shared or Exclusive, rising; none for a bank that isn't there.
+    /// The lines that a bank has Shared or Exclusive, in rising order; none for a bank that isn't there.
     pub fn entries(&self, bank: u32) -> Result<Vec<LineNo>, AllocError>
         ensures { IfOk result (λ lines. lines.items ≡ sorted (entries self.now bank)) }
     {
         self.state.entries(bank)
     }
 
-    /// How many of a core's copies may be evicted: all but that of its open operation; none for a core that isn't
-    /// there.
+    /// How many of a core's copies may be evicted: all but that of its open operation; 0 for a core that isn't there.
     pub fn free_copies(&self, core: u32) -> usize
         ensures { result ≡ length (free_copies self.now core) }
     {
         self.state.free_copies(core)
     }
 
-    /// The line of the copy that may be evicted and comes after so many others, by rising line. Refused only
-    /// where no memory is left for the list of the lines.
+    /// The line at an index of a core's copies that may be evicted, in rising order of their lines. AllocError only if
+    /// the list of the lines can't be allocated.
     pub fn free_copy(&self, core: u32, at: usize) -> Result<LineNo, AllocError>
         requires { at < length (free_copies self.now core) }
         ensures { IfOk result (λ line. slice_get (sorted (free_copies self.now core)) at ≡ Some
@@ -293,15 +293,15 @@ impl System {
         self.state.free_copy(core, at)
     }
 
-    /// How many lines a bank has Shared or Exclusive; none for a bank that isn't there.
+    /// How many lines a bank has Shared or Exclusive; 0 for a bank that isn't there.
     pub fn settled(&self, bank: u32) -> usize
         ensures { result ≡ length (entries self.now bank) }
     {
         self.state.settled(bank)
     }
 
-    /// The line that a bank has Shared or Exclusive and that comes after so many others, by rising line. Refused only
-    /// where no memory is left for the list of the lines.
+    /// The line at an index of those that a bank has Shared or Exclusive, in rising order. AllocError only if the list
+    /// of the lines can't be allocated.
     pub fn entry(&self, bank: u32, at: usize) -> Result<LineNo, AllocError>
         requires { at < length (entries self.now bank) }
         ensures { IfOk result (λ line. slice_get (sorted (entries self.now bank)) at ≡ Some line) }
@@ -309,10 +309,10 @@ impl System {
         self.state.entry(bank, at)
     }
 
-    /// Each core and each bank keeps its lines in rising order from now on, so that `free_copy` and `entry` take no
-    /// memory. `line_sets::LineSets::keep_order` tells what that takes of memory, for each core and each bank, and
-    /// what moves when a line comes or goes. A core or bank that is refused the memory goes on as before, and all
-    /// answers are the same. If the machine keeps them so already, this does nothing.
+    /// From now on each core and each bank keeps its lines in rising order, so that `free_copy` and `entry` allocate
+    /// nothing. `line_sets::LineSets::keep_order` states what that allocates, for each core and each bank, and what
+    /// moves when a line comes or goes. If the allocation for a core or bank fails, it goes on as before, and all
+    /// answers are the same. If the machine keeps them so already, the call does nothing.
     pub fn keep_order(&mut self)
         ensures { self.new ≡ self.old }
     {
@@ -329,7 +329,7 @@ impl System {
         self.has_order
     }
 
-    /// The cores and banks keep their lines in rising order no longer, and give the memory for that back.
+    /// The cores and banks stop keeping their lines in rising order, and free the memory for that.
     pub fn forget_order(&mut self)
         ensures { self.new ≡ self.old }
     {
@@ -337,21 +337,21 @@ impl System {
         self.has_order = false;
     }
 
-    /// The core of a number, counted from 0; none if there are fewer.
+    /// The core of a number, counted from 0; `None` if there are fewer.
     pub fn core(&self, number: u32) -> Option<&Core>
         ensures { option_copied result ≡ slice_get self.now.cores number }
     {
         self.state.core(number)
     }
 
-    /// The bank of a number, counted from 0; none if there are fewer.
+    /// The bank of a number, counted from 0; `None` if there are fewer.
     pub fn bank(&self, number: u32) -> Option<&Bank>
         ensures { option_copied result ≡ slice_get self.now.banks number }
     {
         self.state.bank(number)
     }
 
-    /// The DRAM behind the bank of a number; none if there is no such bank.
+    /// The DRAM behind the bank of a number; `None` if there is no such bank.
     pub fn dram(&self, number: u32) -> Option<&Dram>
         ensures { option_copied result ≡ slice_get self.now.drams number }
     {
@@ -372,14 +372,15 @@ impl System {
         self.state.flight.count()
     }
 
-    /// The number of the message in flight that was sent after so many others in flight; none past the last one.
+    /// The number of the message at an index of those in flight, in the order in which they were sent; `None` past the
+    /// last one.
     pub fn message(&self, at: u32) -> Option<MsgNo>
         ensures { result ≡ slice_get (map (λ m. m.0) self.now.mail.messages) at }
     {
         self.state.flight.nth(at)
     }
 
-    /// The numbers of the messages in flight, rising.
+    /// The numbers of the messages in flight, in rising order.
     pub fn in_flight(&self) -> Result<Vec<MsgNo>, AllocError>
         ensures numbers { IfOk result (λ numbers. numbers.items ≡ map (λ m. m.0)
             self.now.mail.messages) }
@@ -388,8 +389,9 @@ impl System {
         self.state.flight.numbers()
     }
 
-    /// Fills a list with the numbers of the messages in flight, rising. The list is emptied first and keeps the memory
-    /// that it has. More is taken only if that is too small for all numbers; if it is refused the list is empty.
+    /// Fills a list with the numbers of the messages in flight, in rising order. It empties the list first, and keeps
+    /// the memory that the list has. It allocates only if that is too small for all numbers; if the allocation fails,
+    /// the list is empty.
     pub fn list_in_flight(&self, into: &mut Vec<MsgNo>) -> Result<(), AllocError>
         ensures numbers { OnOk result (into.new.items ≡ map (λ m. m.0) self.now.mail.messages) }
         ensures refused { OnErr result (into.new.items ≡ []) }

@@ -43,6 +43,6 @@ module _ (R : RattleType) where
   lent_row_at null_ptr cs = said ffalse
   lent_row_at (block_ptr b o) cs = beside (said (is_short cs)) (lent_slots_at b o cs)
 
-  -- What the allocator wants back for a block of n places.
+  -- What the allocator takes back for a block of n places.
   abbrev pub block_claim : (Ty → Ptr → Fml) → Ptr → ℕ → Fml
   block_claim token p n = token (bare (ty_array (lone R.mir) n)) p

@@ -45,8 +45,8 @@ impl ArenaError {
     }
 }
 
-/// Lists of values in one block of cells. A cell is free or on exactly one list. The arena takes its memory when it is
-/// made, and no call after that takes any. What is on the lists is dropped with it.
+/// Lists of values in one block of cells. A cell is free or on exactly one list. The arena allocates its memory when
+/// it is made, and no call after that allocates any. Dropping it drops the values on its lists.
 ///
 /// Contracts see the lists, each of pairs of a cell and its value, and the number of cells.
 pub struct Arena<T> {
@@ -69,7 +69,7 @@ impl<T> Model for Arena<T> {
 impl<T> Arena<T> {
     ghost use Rattle.line_arena.specs.ArenaLends.{lends_value};
 
-    /// So many free cells and so many empty lists. No cell is written.
+    /// An arena of this many free cells and empty lists. No cell is written.
     ///
     /// TooLarge exactly if there are more than 16,777,216 cells or 1,048,576 lists, and NoMemory if allocation failed.
     pub fn new(alloc: Global, cells: u32, lists: u32) -> Result<Arena<T>, ArenaError>
@@ -143,8 +143,8 @@ impl<T> Arena<T> {
         self.chains.relink(self.lists, list, cell.0);
     }
 
-    /// Takes all cells off their lists and drops their values, so that all lists are empty and all cells free. The time
-    /// grows with the most cells that were on lists at once since the arena was made or cleared.
+    /// Takes all cells off their lists and drops their values, so that all lists are empty and all cells free. Its
+    /// time is in proportion to the most cells that were on lists at once since the arena was made or cleared.
     pub fn clear(&mut self)
     where
         T: Drop,
@@ -187,7 +187,7 @@ impl<T> Arena<T> {
         self.chains.value(cell.0)
     }
 
-    /// The value of a cell, to be written to.
+    /// The value of a cell, to write to.
     #[inline(always)]
     pub fn get_mut(&mut self, cell: Cell) -> &mut T
         requires { IsSome (look_up cell self.old.lists) }

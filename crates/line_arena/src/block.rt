@@ -51,7 +51,7 @@ impl<T> Block<T> {
         })
     }
 
-    /// Gives the memory back. Every place has to be empty.
+    /// Frees the memory. Every place has to be empty.
     pub(crate) fn release(self)
         requires { self ≡ replicate (length self) None }
     {
@@ -94,7 +94,7 @@ impl<T> Block<T> {
         self.cells.get(self.base, index)
     }
 
-    /// The value of a place, to be written to.
+    /// The value of a place, to write to.
     #[inline(always)]
     pub(crate) fn get_mut(&mut self, index: usize) -> &mut T
         requires { IsFilled self.old index }

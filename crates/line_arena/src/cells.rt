@@ -53,7 +53,7 @@ unsafe impl<T: Send> Send for Cells<T> {}
 
 unsafe impl<T: Sync> Sync for Cells<T> {}
 
-/// The right to give a block of `len` places at the address `at` back to the allocator `alloc`. It takes no bytes.
+/// The right to return a block of `len` places at the address `at` to the allocator `alloc`. It takes no bytes.
 pub struct Claim<T, A: Allocator> {
     own: PhantomData<*const (T, A)>,
     ghost at: { Ptr },
@@ -94,7 +94,7 @@ pub(crate) fn allocate<T, A: Allocator>(
     }
 }
 
-/// Gives a block back, all of whose places are empty.
+/// Frees a block, all of whose places are empty.
 pub(crate) fn deallocate<T, A: Allocator>(
     alloc: &A,
     base: Base<T>,
@@ -147,7 +147,7 @@ impl<T> Cells<T> {
         unsafe { &*base.ptr.add(index) }
     }
 
-    /// The value of a place, to be written to.
+    /// The value of a place, to write to.
     pub(crate) fn get_mut(&mut self, base: Base<T>, index: usize) -> &mut T
         requires base { base.ptr ≡ self.old.at }
         requires filled { IsFilled self.old.slots index }

@@ -1,4 +1,4 @@
-//! What is kept of a cell and of a list.
+//! What the arena keeps of a cell and of a list.
 
 /// A cell that was used: its neighbours, its list, and its value if that is one of the caller's lists. A neighbour that
 /// isn't below the number of cells is the end of the list.

@@ -1,4 +1,4 @@
--- What every bank keeps, whatever comes to it.
+-- What every bank keeps, for any message and any eviction.
 use Rattle.std.specs.Prelude.{◌≡◌, ℕ, ◌<◌, ◌≤◌, Bool, true, false, not, List, length, Option, Some, None}
 use Rattle.network.specs.declared.message.TimedLine.{TimedLine}
 use Rattle.network.specs.declared.message.Body.{Body}
@@ -80,14 +80,14 @@ FillsAtMemoryTime =
     bank_table bank m ≡ Some (reaction, after) →
     entry_of after m.line ≡ Some (Shared false (record { wts = bank.mts; rts = bank.mts; words = words }))
 
--- the lease that a reader is told, 0 by any other message
+-- the lease that a message gives a reader, 0 for any other message
 abbrev pub lease_told : Body → ℕ
 lease_told (ShRep line) = line.rts
 lease_told (RenewRep rts) = rts
 lease_told _ = 0
 
--- a reader is told a lease that never falls, and covers a whole lease from the last write and from the reader's time;
--- the line is leased so far then
+-- a reader gets a lease that never falls, and covers a whole lease from the last write and from the reader's time; the
+-- line's lease then ends there
 pub record IsLeased
     (bank : BankState) (m sent : Message) (after : BankState) (pts : ℕ) (dirty : Bool) (line : TimedLine) : Type 0
   where

@@ -135,7 +135,7 @@ comes_to_bank from entry _ = false
 abbrev pub bank_has_case : BankState → Message → Bool
 bank_has_case bank m = is_this_bank bank.number m.to && comes_to_bank m.from (entry_of bank m.line) m.body
 
--- a bank without entries, set up so
+-- a bank without entries, with this set-up
 abbrev pub empty_bank : BankConfig → BankState
 empty_bank config = record {
   number = config.number;
@@ -180,7 +180,7 @@ all_settled entries = list_all (λ e. is_settled e.1) entries
 abbrev pub first_of : (Entry → Bool) → List (ℕ × Entry) → Option ℕ
 first_of test entries = option_map (λ e. e.0) (find (λ e. test e.1) entries)
 
--- the first of two lines, or else the second
+-- the first of two lines, or the second if there is no first
 abbrev pub or_else : Option ℕ → Option ℕ → Option ℕ
 or_else None other = other
 or_else (Some line) other = Some line

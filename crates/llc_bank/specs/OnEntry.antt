@@ -14,11 +14,11 @@ use Rattle.llc_bank.specs.declared.decision.Eviction.{Eviction}
 use Rattle.llc_bank.specs.declared.decision.Eviction.TheVariants.{NotThere, IsBusy, Drops, Stores, AsksBack}
 use Rattle.timestamp_manager.specs.Lease.{if_fits, is_version, shared_lease}
 
--- what a reader of a line that is leased so is sent: a renewal if it has the version, the line if it hasn't
+-- what a reader gets of a line with this lease: a renewal if it has the version, the line if it hasn't
 abbrev pub read_answer : (renews : Bool) → TimedLine → Body
 read_answer renews line = if renews then RenewRep line.rts else ShRep line
 
--- a reader of a line is given a lease
+-- a reader of a line gets a lease
 abbrev pub leased : Bool → TimedLine → Option (ℕ × Bool) → Decision
 leased dirty line None = TooLate
 leased dirty line (Some lease) =
@@ -54,7 +54,7 @@ exclusive_request room core version (Some (Exclusive owner)) = Recalls owner Flu
 exclusive_request room core version (Some (Recalling owner)) = Waits
 exclusive_request room core version (Some Storing) = Waits
 
--- the owner gives the line back: it is dirty from now on
+-- the owner returns the line: it is dirty from now on
 abbrev pub given_back : TimedLine → Option Entry → Decision
 given_back line (Some (Exclusive owner)) = Becomes (Shared true line)
 given_back line (Some (Recalling owner)) = Becomes (Shared true line)
@@ -98,7 +98,7 @@ evicted (Some (Exclusive owner)) = AsksBack owner
 evicted (Some (Recalling owner)) = IsBusy
 evicted (Some Storing) = IsBusy
 
--- what a decision writes has a way: an entry that is there is changed, and one that is loaded finds room
+-- what a decision writes has a place: an entry that is there is changed, and one that is loaded finds room
 abbrev pub finds_place : (there room : Bool) → Decision → Bool
 finds_place there room Loads = room
 finds_place there room (Recalls owner sent) = there

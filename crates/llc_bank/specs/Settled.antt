@@ -1,4 +1,4 @@
--- Entries that nothing is under way for.
+-- Entries that are settled: nothing is under way for them.
 use Rattle.std.specs.Prelude.{Bool, true, false, not}
 use Rattle.llc_bank.specs.declared.choice.EntryTest.{EntryTest}
 use Rattle.llc_bank.specs.declared.choice.EntryTest.TheVariants as test
@@ -16,7 +16,7 @@ abbrev pub is_shared : Entry → Bool
 is_shared (Shared dirty line) = true
 is_shared _ = false
 
--- what is asked of an entry
+-- what a test asks of an entry
 abbrev pub passes : EntryTest → Entry → Bool
 passes test.UnderWay entry = not (is_settled entry)
 passes test.Settled entry = is_settled entry

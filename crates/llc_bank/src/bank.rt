@@ -1,4 +1,4 @@
-//! A bank of the shared cache, whose memory is all taken when it is made.
+//! A bank of the shared cache. It allocates all its memory when it is made.
 ghost use Rattle.std.specs.Prelude.{◌≡◌, ◌≢◌, ◌≤◌, ◌<◌, length, IfOk, IfSome, IsOk, IsSome};
 ghost use Rattle.std.specs.Prelude.{IsTrue, false, is_some, slice_get, Err, None, OnErr, OnOk, Some};
 ghost use Rattle.std.specs.Option.{option_copied};
@@ -20,9 +20,9 @@ use network::{Body, LineNo, Message, Node, Part, PartError, Reaction, quotient, 
 use std::alloc::{AllocError, Global};
 use std::marker::Model;
 
-/// The entries of a bank by set, and its memory time. A line belongs to the set of its number over the number of banks,
-/// and that over the number of sets. A set lists its entries from the least recently used one to the latest used one.
-/// Contracts see a `BankState`.
+/// The entries of a bank by set, and its memory time. A line belongs to the set whose number is the line's, divided by
+/// the number of banks, modulo the number of sets. A set lists its entries from the least to the most recently used
+/// one. Contracts see a `BankState`.
 #[derive(Drop)]
 pub struct Bank {
     number: u32,
@@ -54,7 +54,7 @@ impl Bank {
     ghost use Rattle.llc_bank.specs.BankTable.{make_room, set_of, to_dram, with_changed, with_used, without_entry};
     ghost use Rattle.llc_bank.specs.OwnSets.{IsSound};
 
-    /// A bank without entries. All memory is taken here, for all the entries that it can have.
+    /// A bank without entries. All memory is allocated here, for all the entries that it can have.
     pub fn new(alloc: Global, config: BankConfig) -> Result<Bank, AllocError>
         requires config { IsInRange config }
         requires geometry { IsGeometry config.sets config.ways }
@@ -70,8 +70,9 @@ impl Bank {
         })
     }
 
-    /// The bank as `new` makes it, set up so. If its table has that shape, no memory is taken, and the time grows with
-    /// the entries that the bank had. Where memory is refused nothing changes.
+    /// Makes it the bank that `new` makes with this set-up. If its table already has that shape, the call allocates
+    /// nothing, and takes time in proportion to the entries that the bank had. If an allocation fails, nothing
+    /// changes.
     pub fn reopen(&mut self, config: BankConfig) -> Result<(), AllocError>
         requires config { IsInRange config }
         requires geometry { IsGeometry config.sets config.ways }
@@ -191,10 +192,9 @@ impl Bank {
         )
     }
 
-    /// Evicts a line. A Shared line raises the memory time to the time up to which it is leased; a clean one is gone
-    /// then, and a dirty one is sent to DRAM. The owner of an Exclusive line is asked to give it back, and the line
-    /// stays. NotHere exactly when the bank does not have the line; Busy exactly when it is being loaded, recalled or
-    /// stored.
+    /// Evicts a line. A Shared line raises the memory time to the end of its lease; a clean one is gone then, and the
+    /// bank sends a dirty one to DRAM. The bank asks the owner of an Exclusive line to return it, and the line stays.
+    /// NotHere exactly when the bank does not have the line; Busy exactly when it is being loaded, recalled or stored.
     pub fn evict(&mut self, line: LineNo) -> Result<Evict, EvictError>
         ensures { (result, self.new) ≡ evict self.old line }
     {
@@ -232,9 +232,9 @@ impl Bank {
         }
     }
 
-    /// The line to evict for a request of a line that waits for room: `None` if the bank has the line, if its set
-    /// has room, and if a line of the set is being loaded, recalled or stored. Else the least recently used line of
-    /// the set that no core owns, or the least recently used one if cores own them all; its eviction is not refused.
+    /// The line to evict for a request of a line that waits for room: `None` if the bank has the line, if its set has
+    /// room, and if a line of the set is being loaded, recalled or stored. Else the least recently used line of the
+    /// set that no core owns, or the least recently used one if cores own them all; `evict` does not refuse it.
     #[inline(always)]
     pub fn make_room(&self, line: LineNo) -> Option<LineNo>
         ensures line { result ≡ make_room self.now line }
@@ -257,7 +257,7 @@ impl Bank {
         settled_choice(&self.table, set)
     }
 
-    /// The lines that are Shared or Exclusive, rising.
+    /// The lines that are Shared or Exclusive, in rising order.
     pub fn lines(&self) -> Result<Vec<LineNo>, AllocError>
         ensures { IfOk result (λ lines. lines.items ≡ sorted (all_listed is_settled
             self.now.table.sets)) }
@@ -272,7 +272,7 @@ impl Bank {
         self.table.listed()
     }
 
-    /// The line that comes after so many others, once those that are Shared or Exclusive are in rising order.
+    /// The line at an index of those that are Shared or Exclusive, in rising order.
     pub fn settled_line(&self, at: usize) -> Result<LineNo, AllocError>
         requires { at < length (all_listed is_settled self.now.table.sets) }
         ensures { IfOk result (λ line. slice_get (sorted (all_listed is_settled
@@ -281,8 +281,8 @@ impl Bank {
         self.table.nth_listed(None, at)
     }
 
-    /// Keeps the lines that are Shared or Exclusive in rising order from now on, so that `settled_line` takes no
-    /// memory. `LineSets::keep_order` tells what that takes and moves. Where the memory is refused nothing changes,
+    /// Keeps the lines that are Shared or Exclusive in rising order from now on, so that `settled_line` allocates
+    /// nothing. `LineSets::keep_order` states what that allocates and moves. If the allocation fails, nothing changes,
     /// and the answers are the same.
     pub fn keep_order(&mut self)
         ensures { self.new ≡ self.old }
@@ -290,7 +290,7 @@ impl Bank {
         self.table.keep_order();
     }
 
-    /// Keeps the lines in rising order no longer, and gives the memory for that back.
+    /// Stops keeping the lines in rising order, and frees the memory for that.
     pub fn forget_order(&mut self)
         ensures { self.new ≡ self.old }
     {

@@ -8,7 +8,7 @@ use crate::entry::Entry;
 use line_sets::{LineSets, LineTest};
 use network::LineNo;
 
-/// What is asked of the entry of a line.
+/// What a test asks of the entry of a line.
 pub enum EntryTest {
     /// Something is under way for the line.
     UnderWay,

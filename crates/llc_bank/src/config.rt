@@ -9,10 +9,10 @@ pub struct BankConfig {
     pub banks: u32,
     /// The number of sets, 1 to 1,024.
     pub sets: u32,
-    /// The most entries in a set, 1 to 16.
+    /// How many ways each set has, 1 to 16.
     pub ways: u32,
-    /// How far a lease goes, 1 to 4,294,967,296.
+    /// How far a lease extends from a time, 1 to 4,294,967,296.
     pub lease: u64,
-    /// The memory time to begin with.
+    /// The memory time at which the bank opens.
     pub opening_time: u64,
 }

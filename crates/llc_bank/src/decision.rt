@@ -1,4 +1,4 @@
-//! What a message and an eviction do with a bank's entry of one line: decisions, which change nothing.
+//! What a message and an eviction do to a bank's entry of one line: decisions, which change nothing.
 ghost use Rattle.std.specs.Prelude.{◌≡◌, IsTrue, is_some};
 ghost use Rattle.std.specs.Option.{option_copied};
 ghost use Rattle.std.specs.Result.{result_ok};
@@ -16,11 +16,11 @@ pub enum Decision {
     Waits,
     /// The line is loaded for a request, which waits.
     Loads,
-    /// The owner is asked to give the line back by this message, for a request, which waits.
+    /// The bank asks the owner to return the line by this message, for a request, which waits.
     Recalls { owner: u32, sent: Body },
     /// A request is answered, which makes the entry the most recently used one.
     Grants { entry: Entry, sent: Body },
-    /// A message that is no request makes this of the entry.
+    /// A message that is no request makes the entry this one.
     Becomes(Entry),
     /// A message that is no request makes the line leave.
     Leaves,
@@ -41,7 +41,7 @@ pub enum Eviction {
     Drops { rts: u64 },
     /// A dirty line goes to DRAM, leased up to this time.
     Stores { rts: u64, words: Words },
-    /// The owner is asked to give the line back.
+    /// The bank asks the owner to return the line.
     AsksBack { owner: u32 },
 }
 

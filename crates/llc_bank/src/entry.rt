@@ -6,13 +6,13 @@ use network::{Message, TimedLine};
 /// What a bank keeps of a line that it has.
 #[derive(Clone, Copy, Debug, PartialEq, Eq)]
 pub enum Entry {
-    /// The words are asked of DRAM.
+    /// The bank has asked DRAM for the words.
     Loading,
-    /// The bank has the line; `dirty` if a core gave it back since it came from DRAM.
+    /// The bank has the line; `dirty` if a core returned it since it came from DRAM.
     Shared { dirty: bool, line: TimedLine },
     /// A core owns the line.
     Exclusive { owner: u32 },
-    /// A core owns the line and is asked to give it back.
+    /// A core owns the line, and the bank has asked it to return the line.
     Recalling { owner: u32 },
     /// The words are on their way to DRAM, and the line leaves when they are stored.
     Storing,
@@ -54,11 +54,11 @@ pub enum Evict {
     Clean,
     /// The line's words go to DRAM by this message.
     Stored(Message),
-    /// The owner is asked to give the line back by this message; the line stays.
+    /// The bank asks the owner to return the line by this message; the line stays.
     Recalled(Message),
 }
 
-/// Why a line was not evicted.
+/// Why a line can't be evicted.
 #[derive(Clone, Copy, Debug, PartialEq, Eq)]
 pub enum EvictError {
     /// 1: the bank does not have the line.

@@ -22,14 +22,14 @@ pub fn fills_at_memory_time()
     ensures { FillsAtMemoryTime }
 {}
 
-/// The lease that a reader is told never falls, and covers a whole lease from the line's last write and from the
-/// reader's time; the line is leased so far from then on.
+/// The lease that a bank sends a reader never falls, and covers a whole lease from the line's last write and from the
+/// reader's time; the line's lease then ends there.
 pub fn readers_are_leased()
     ensures { ReadersAreLeased }
 {}
 
-/// A request of a line that no core owns is answered without words exactly when it names the line's version; one that
-/// names none is always sent them.
+/// A bank answers a request of a line that no core owns without words exactly when the request names the line's
+/// version; it always sends words to one that names none.
 pub fn words_go_to_other_versions()
     ensures { WordsGoToOtherVersions }
 {}

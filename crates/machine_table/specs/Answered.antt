@@ -10,7 +10,7 @@ use Rattle.machine_table.specs.declared.event.Refusal.TheVariants.{Busy, TooMany
 use Rattle.machine_table.specs.declared.event.Refusal.TheVariants.{NoMemory, Exhausted, Stopped}
 use Rattle.machine_table.specs.Machine.{Machine}
 
--- a refusal leaves the machine as it was, but Exhausted stops it; want of memory is never the table's answer
+-- a refusal leaves the machine as it was, but Exhausted stops it; the table never answers NoMemory
 abbrev pub RefusedSo : Machine → Refusal → Machine → Type 0
 RefusedSo m Exhausted after = after ≡ record m { is_stopped = true }
 RefusedSo m Busy after = after ≡ m

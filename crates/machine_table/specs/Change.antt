@@ -1,5 +1,5 @@
 -- What an event makes of one part and of the messages in flight. The machine's table and the code that follows it both
--- stand on these definitions.
+-- use these definitions.
 use Rattle.std.specs.Prelude.{ℕ, ◌-◌, Bool, true, Option, Some, None, Result, Ok, Err, if◌then◌else◌}
 use Rattle.physiological_order.specs.declared.operation.Op.{Op}
 use Rattle.physiological_order.specs.declared.operation.Record.{Record}
@@ -91,14 +91,14 @@ settled mail n (Done None) part = Makes Delivered part (taken mail n)
 settled mail n (Done (Some reply)) part = Makes Delivered part (answered mail n reply)
 settled mail n (HeldAfter started) part = Makes Started part (sent mail started)
 
--- a message of this number is delivered, by what its part's table says
+-- a message of this number is delivered, by its part's table
 abbrev pub reacted : {S : Type 0} → ℕ → Mail → ℕ → Option (Reaction × S) → Change S
 reacted capacity mail n None = Exhausts
 reacted capacity mail n (Some (reaction, part)) =
     if can_send capacity mail (sent_in reaction) then settled mail n reaction part else Keeps
     (Refused refusal.NetworkFull)
 
--- a copy of a line leaves a core's cache: one that is owned is sent back
+-- a copy of a line is evicted from a core's cache: one that is owned is sent back
 abbrev pub copy_evicted : ℕ → Mail → Result (Option Message) CacheError × CoreState → Change CoreState
 copy_evicted capacity mail (Err NotHere, core) = Keeps (Refused refusal.NoSuch)
 copy_evicted capacity mail (Err NoRoom, core) = Keeps (Refused refusal.NoSuch)
@@ -106,7 +106,7 @@ copy_evicted capacity mail (Err Pinned, core) = Keeps (Refused refusal.Pinned)
 copy_evicted capacity mail (Ok None, core) = Makes Evicted core mail
 copy_evicted capacity mail (Ok (Some back), core) = sends capacity mail Evicted core back
 
--- a line leaves a bank, or is recalled for that
+-- a line leaves a bank, or is recalled
 abbrev pub entry_evicted : ℕ → Mail → Result Evict EvictError × BankState → Change BankState
 entry_evicted capacity mail (Err not_evicted.NotHere, bank) = Keeps (Refused refusal.NoSuch)
 entry_evicted capacity mail (Err not_evicted.Busy, bank) = Keeps (Refused refusal.Busy)
@@ -114,7 +114,7 @@ entry_evicted capacity mail (Ok evict.Clean, bank) = Makes Evicted bank mail
 entry_evicted capacity mail (Ok (evict.Stored store), bank) = sends capacity mail Evicted bank store
 entry_evicted capacity mail (Ok (evict.Recalled recall), bank) = sends capacity mail Recalled bank recall
 
--- a core's time goes on by itself
+-- a core advances its time
 abbrev pub advanced : Mail → Option (Unit {0}) × CoreState → Change CoreState
 advanced mail (None, core) = Exhausts
 advanced mail (Some done, core) = Makes Advanced core mail

@@ -1,5 +1,5 @@
--- What each event makes of the machine: the answer and the machine afterwards. Stopped goes before all else, then
--- NoSuch; every refusal but Exhausted leaves the machine unchanged, and Exhausted only stops it.
+-- What each event makes of the machine: the answer and the machine afterwards. Stopped takes precedence over all else,
+-- then NoSuch; every refusal but Exhausted leaves the machine unchanged, and Exhausted only stops it.
 use Rattle.std.specs.Prelude.{ℕ, true, List, [], ◌∷◌, ◌++◌, length, Option, Some, None, Result, Ok, Err}
 use Rattle.std.specs.Prelude.{if◌then◌else◌, slice_get, slice_set, slice_index_or}
 use Rattle.std.specs.Ordering.{nat_cmp}
@@ -30,7 +30,7 @@ use Rattle.machine_table.specs.Change.{Change, Keeps, Exhausts, Drops, Makes, Co
 abbrev pub refused : Machine → Refusal → Answer × Machine
 refused m why = (Refused why, m)
 
--- what a change of one part makes of the machine, where `put` puts the part into it
+-- the machine after a change of one part, if `put` puts the part into it
 abbrev pub changed : {S : Type 0} → Machine → (S → Machine) → Change S → Answer × Machine
 changed m put (Keeps answer) = (answer, m)
 changed m put Exhausts = (Refused refusal.Exhausted, record m { is_stopped = true })
@@ -111,6 +111,6 @@ on_event m (EvictCache c line) = evict_copy m c line (slice_get m.cores c)
 on_event m (EvictBank b line) = evict_entry m b line (slice_get m.banks b)
 on_event m (Advance c) = advance_at m c (slice_get m.cores c)
 
--- what an event is answered, and the machine after it
+-- the answer to an event, and the machine after it
 abbrev pub transition : Machine → Event → Answer × Machine
 transition m event = if m.is_stopped then refused m refusal.Stopped else on_event m event

@@ -12,11 +12,11 @@ pub struct Config {
     pub banks: u32,
     /// The sets of a private cache, 1 to 1,024.
     pub sets: u32,
-    /// The ways of each of them, 1 to 16.
+    /// The ways of each set, 1 to 16.
     pub ways: u32,
     /// The sets of a bank, 1 to 1,024.
     pub bank_sets: u32,
-    /// The ways of each of them, 1 to 16.
+    /// The ways of each set of a bank, 1 to 16.
     pub bank_ways: u32,
     /// The words of a line: 1 or 8.
     pub line_words: u32,

@@ -12,13 +12,13 @@ pub enum Event {
     Issue(u32, Op),
     /// A core tries to complete its open operation, or sends the request that it needs.
     Attempt(u32),
-    /// A message in flight is delivered to the part that it goes to.
+    /// A message in flight is delivered to its part.
     Deliver(MsgNo),
-    /// A copy of a line leaves a core's cache.
+    /// A copy of a line is evicted from a core's cache.
     EvictCache(u32, LineNo),
-    /// A line leaves a bank, or is recalled for that.
+    /// A bank evicts a line, or asks its owner to return it.
     EvictBank(u32, LineNo),
-    /// A core's time goes on by one.
+    /// A core advances its time by one.
     Advance(u32),
 }
 
@@ -31,11 +31,11 @@ pub enum Refusal {
     TooMany,
     /// There is no such core, bank, message in flight, copy or entry.
     NoSuch,
-    /// A request is needed, there is no copy of the line, and its set is full.
+    /// The core needs a request, has no copy of the line, and the line's set is full.
     NoRoom,
     /// The open operation is on the line.
     Pinned,
-    /// As many messages are in flight as may be, or message numbers are used up.
+    /// The capacity for messages in flight is used up, or message numbers are.
     NetworkFull,
     /// Allocation failed.
     NoMemory,
@@ -64,7 +64,7 @@ impl Refusal {
     }
 }
 
-/// What an event is answered.
+/// The answer to an event.
 #[derive(Clone, Copy, Debug, PartialEq, Eq)]
 pub enum Answer {
     Issued,
@@ -86,7 +86,7 @@ pub enum Answer {
     Started,
     /// The copy or the line is gone, or a dirty line is on its way to DRAM.
     Evicted,
-    /// The owner is asked to give the line back; the line stays.
+    /// The bank asks the owner to return the line; the line stays.
     Recalled,
     Advanced,
     Refused(Refusal),

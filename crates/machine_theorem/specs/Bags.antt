@@ -11,6 +11,6 @@ abbrev pub weigh : (Message → ℕ) → List Message → ℕ
 weigh h [] = 0
 weigh h (m ∷ ms) = h m + weigh h ms
 
--- the same messages in any order, each as often: they weigh the same, whatever each weighs
+-- the same messages in any order, each as often: for any weight they weigh the same
 abbrev pub SameBag : List Message → List Message → Type 0
 SameBag xs ys = (h : Message → ℕ) → weigh h xs ≡ weigh h ys

@@ -1,5 +1,5 @@
--- What a run issued to each core, and what the core's program was told: the program gave these operations, one after
--- the other, and was told what each completed one received.
+-- What a run issued to each core, and what the core's program received: the program gave these operations, one after
+-- the other, and received what each completed one did.
 use Rattle.std.specs.Prelude.{◌≡◌, ℕ, ◌<◌, List, [], ◌++◌, length, map, Option, None}
 use Rattle.std.specs.Prelude.{slice_get, slice_index_or}
 use Rattle.std.specs.List.{AllByRecursion}
@@ -12,7 +12,7 @@ use Rattle.machine_table.specs.Machine.{Machine, open_op, operation_of}
 use Rattle.protocol.specs.Issued.{listed}
 
 -- What a core was issued in all, earlier and later; the records that it got in between; the operation that is still
--- open; and its program, before and after, if it has one. It is said of a core that had no open operation.
+-- open; and its program, before and after, if it has one. The core had no open operation before.
 pub record IsServed {P : Type 0} (acts : Acts P) (earlier later : List Op) (added : List Record)
     (still_open : Option Op) (before after : Option P) : Type 0 where
   -- in between it was issued the operations of the records, in their order, and then the one that is still open

@@ -28,7 +28,7 @@ pub record IsCore (config : Config) (number : ℕ) (issued : List Op) (core : Co
   pub count : core.issued ≡ length issued
   pub room : (op : Op) → core.open_op ≡ Some op → core.is_out ≡ true → place_for core.cache (line_of core op) ≡ true
 
--- an entry is owned by a core that there is, if by any
+-- the owner of an entry, if it has one, is a core that there is
 abbrev pub IsOwnedBelow : ℕ → Entry → Type 0
 IsOwnedBelow cores (Exclusive owner) = owner < cores
 IsOwnedBelow cores (Recalling owner) = owner < cores

@@ -30,7 +30,7 @@ pub fn events_keep_the_invariant()
     ensures set_up { (m : Machine) (event : Event) → SetUpAs m (transition m event).1 }
 {}
 
-/// A machine that is well set up has the invariant as it opens, whatever the opening memory.
+/// A machine with a good set-up has the invariant as it opens, with any opening memory.
 pub fn openings_have_the_invariant()
     ensures { (config : Config) (opening : FinMap nat_cmp ℕ) → is_good config ≡ true →
         Invariant (at_start config opening) }
@@ -54,11 +54,11 @@ pub fn machines_with_the_invariant_are_consistent()
     ensures { (m : Machine) → Invariant m → IsConsistent m }
 {}
 
-/// After any list of events, refused ones included, of a machine that was well set up: the records are a legal history
-/// of the opening memory and the lists that the cores were issued; a line has at most one owner, and grants and returns
-/// in flight count; and a word's coherent value is the one that the records leave, one after the other in the order of
-/// their times, on the opening memory. And the part that a message in flight goes to has a case for it, with
-/// a place for the line that it brings: a delivery of it is never answered that there is no such thing.
+/// After any list of events, refused ones included, of a machine that opened with a good set-up: the records are a
+/// legal history of the opening memory and the lists that the cores were issued; a line has at most one owner, and
+/// grants and returns in flight count; and a word's coherent value is the one that the records leave, one after the
+/// other in the order of their times, on the opening memory. And the part that a message in flight goes to has a case
+/// for it, with a place for the line that it brings: its delivery is never answered NoSuch.
 pub fn every_history_is_legal()
     ensures consistent { (config : Config) (opening : FinMap nat_cmp ℕ) (events : List Event) →
         is_good config ≡ true → IsConsistent (after_all (at_start config opening) events) }
@@ -71,7 +71,7 @@ pub fn every_history_is_legal()
         (transition m (Deliver number)).0 ≢ Refused NoSuch }
 {}
 
-/// A run by the table, whatever the opening memory: a core reads a word, another writes it, and the first reads the
+/// A run by the table, with any opening memory: a core reads a word, another writes it, and the first reads the
 /// opening value once more, at a time before the write.
 pub fn stale_hits_happen()
     ensures good { is_good two_cores ≡ true }
@@ -79,8 +79,8 @@ pub fn stale_hits_happen()
         (after_all (at_start two_cores opening) stale_hit).records ≡ stale_records (flat opening 0) }
 {}
 
-/// A run by the table under private writes, whatever the opening memory: a core writes a word twice at one time, and
-/// then reads what it wrote last.
+/// A run by the table under private writes, with any opening memory: a core writes a word twice at one time, and then
+/// reads what it wrote last.
 pub fn private_writes_happen()
     ensures good { is_good private_cores ≡ true }
     ensures records { (opening : FinMap nat_cmp ℕ) →

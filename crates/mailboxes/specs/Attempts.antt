@@ -1,4 +1,4 @@
--- What an attempt of a core's seat at its open operation comes to.
+-- What an attempt of a core's seat at its open operation does.
 use Rattle.std.specs.Prelude.{◌≡◌, ◌≢◌, ℕ, ◌-◌, ◌<◌, ◌^◌, Bool, true, false, cond, Option, Some, None}
 use Rattle.physiological_order.specs.declared.operation.Op.{Op}
 use Rattle.physiological_order.specs.declared.operation.Record.{Record}
@@ -33,7 +33,7 @@ pub record CoreCompletes (p : CoreState) (op : Op) (place : ℕ) (received : Opt
     pub few : p.issued < 2 ^ 32
     pub closed : q.open_op ≡ None
 
--- the seat completed its open operation with this record, which it drew the number of
+-- the seat completed its open operation with this record, whose number it drew
 abbrev pub Completes : Machine → Record → CoreSeat → CoreSeat → Type 0
 Completes m r p q =
     CoreCompletes p.part.core r.op r.place r.received r.ts q.part.core
@@ -68,7 +68,7 @@ tried_open core (Some op) = tried_op core op (core_table.attempt core).0
 abbrev pub tried : CoreState → Outcome
 tried core = tried_open core core.open_op
 
--- what is so of the core before and after
+-- the core before and after, for each result of the attempt
 abbrev pub Tries : CoreState → Outcome → CoreState → Type 0
 Tries p (Keeps answer) q = (q ≡ p) × (answer ≢ Refused NoMemory)
 Tries p Exhausts q = q ≡ p
@@ -82,7 +82,7 @@ sent_if_room out Exhausts = Exhausts
 sent_if_room out (Requests m) = cond (can_send_out out) (Requests m) (Keeps (Refused NetworkFull))
 sent_if_room out (CompletesWith d) = CompletesWith d
 
--- what an attempt comes to: by the core's table, but a stopped seat refuses
+-- what an attempt does: by the core's table, but a stopped seat refuses
 abbrev pub outcome : Bool → SendingCore → Outcome
 outcome true part = Keeps (Refused Stopped)
 outcome false part = sent_if_room part.outbox (tried part.core)

@@ -75,8 +75,8 @@ bank_evict_answer false out held (Err evict_error.NotHere) = Err NoSuch
 bank_evict_answer false out held (Err evict_error.Busy) = Err Busy
 bank_evict_answer false out held (Ok done) = cond (eviction_fits out held done) (Ok (became done)) (Err NetworkFull)
 
--- a message is sent, if there is one: the outbox, and the messages that came in, with what is told at the end of the
--- held list
+-- a message is sent, if there is one: the outbox, and the messages that came in, with one to the seat itself at the
+-- end of the held list
 abbrev pub posted_if : OutboxState → Option Message → OutboxState
 posted_if out None = out
 posted_if out (Some m) = posted out m

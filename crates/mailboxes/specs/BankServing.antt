@@ -21,28 +21,28 @@ leaves (node.Core c) = true
 leaves (node.Bank b) = false
 leaves (node.Dram d) = false
 
--- how many places of the held list are wanted: for the delivered message, if that stays, and for one that is sent
+-- how many places of the held list are needed: for the delivered message, if that stays, and for one that is sent
 abbrev pub places_for : Bool → Bool → ℕ
 places_for true true = 1
 places_for true false = 2
 places_for false true = 0
 places_for false false = 1
 
--- whether what would be sent, if anything, and the delivered message find their places, where the held list has so
+-- whether what would be sent, if anything, and the delivered message find their places, if the held list has this
 -- many: there is a number for the message that is sent, and a place in the outbox for one that leaves
 abbrev pub finds_places : OutboxState → ℕ → Option (Node × Bool) → Bool
 finds_places out places None = true
 finds_places out places (Some (to, stays)) =
     cond (leaves to) (can_send_out out) (can_still_send out) && nat_le (places_for stays (leaves to)) places
 
--- a message is sent: one that leaves goes to the outbox, and any other is told, for the held list
+-- a message is sent: one that leaves goes to the outbox, and the answer has any other, for the held list
 abbrev pub posted : OutboxState → Message → OutboxState
 posted out m = cond (leaves m.to) (sent_out out m) (noted out m)
 
 abbrev pub told : Message → Option Message
 told m = cond (leaves m.to) None (Some m)
 
--- what is answered to a delivered message, by what the part did with it, and the outbox afterwards
+-- the answer to a delivered message, by what the part did with it, and the outbox afterwards
 abbrev pub reaction_answer : Reaction → Answer Message
 reaction_answer (does.Done None) = Delivered None
 reaction_answer (does.Done (Some m)) = Delivered (told m)

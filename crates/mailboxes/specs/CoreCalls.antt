@@ -40,7 +40,7 @@ issue_answer false (Err issue_error.Busy) = Err Busy
 issue_answer false (Err issue_error.TooMany) = Err TooMany
 issue_answer false (Ok done) = Ok done
 
--- what is answered to an issue: that, but NoMemory where allocation failed for one that would be done
+-- the answer to an issue: that, or NoMemory if allocation failed for one that would be done
 abbrev pub IssueAnswers : Bool → Result (Unit {0}) IssueError → Result (Unit {0}) Refusal → Type 0
 IssueAnswers stopped issued result =
     (result ≡ issue_answer stopped issued)

@@ -21,7 +21,7 @@ abbrev pub sends_or_full : SendingCore → CoreState → Message → Answer Mess
 sends_or_full p core m answer =
     cond (can_send_out p.outbox) (answer, record { core = core; outbox = sent_out p.outbox m }) (Refused Full, p)
 
--- what is answered to a delivered message, by what the core did with it, and the part afterwards
+-- the answer to a delivered message, by what the core did with it, and the part afterwards
 abbrev pub core_reacts : SendingCore → Option (Reaction × CoreState) → Answer Message × SendingCore
 core_reacts p None = (Refused Exhausted, p)
 core_reacts p (Some (does.Done None, core)) = (Delivered None, record p { core = core })

@@ -1,4 +1,4 @@
--- What an eviction of a copy by a core's seat comes to.
+-- What an eviction of a copy by a core's seat does.
 use Rattle.std.specs.Prelude.{◌≡◌, ℕ, Bool, true, false, cond, Option, Some, None, Result, Ok, Err}
 use Rattle.network.specs.declared.message.Message.{Message}
 use Rattle.private_cache.specs.declared.cache.CacheError.{CacheError}

@@ -44,7 +44,7 @@ bank_part p =
       is_stopped = p.is_stopped;
     }
 
--- what is learned of a seat that is joined: its number and what it holds
+-- what is learned from a seat that is joined: its number and what it holds
 abbrev pub entry : Mailbox → ℕ × Hold
 entry p = (p.seat.me.0.number, p.seat.me.0.mine)
 
@@ -65,8 +65,8 @@ CoresAt t ps = (i : ℕ) (p : CoreSeat) → slice_get ps i ≡ Some p → p.mail
 abbrev pub BanksAt : TableId → List BankSeat → Type 0
 BanksAt t ps = (i : ℕ) (p : BankSeat) → slice_get ps i ≡ Some p → p.mail.seat.table_id ≡ t
 
--- There is one reached and consistent state, with these records, of which what each given seat holds is the part, and
--- the messages in these slots are those in flight. No link lost or doubled a message.
+-- There is one reached and consistent state, with these records. Each given seat holds its own part of it, and its
+-- messages in flight are those of the seats and those in these slots. No link lost or doubled a message.
 pub record OneState (z : SetUp) (cores : List CoreSeat) (banks : List BankSeat) (log : List Record)
     (slots : List (Option Message)) : Type 0 where
   pub seats : ℕ → Hold

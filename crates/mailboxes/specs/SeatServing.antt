@@ -11,7 +11,7 @@ use Rattle.inbox.specs.declared.answer.Served.TheVariants as served
 use Rattle.inbox.specs.Inboxes.{InboxState}
 use Rattle.inbox.specs.Serving.{Serves}
 
--- why no message was served, as a seat tells it
+-- why no message was served, as a seat answers it
 abbrev pub seat_refusal : ServingRefusal → Refusal
 seat_refusal serving.Full = NetworkFull
 seat_refusal serving.NoMemory = NoMemory

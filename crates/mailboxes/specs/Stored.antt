@@ -1,4 +1,4 @@
--- What a seat holds once that is what it stores.
+-- What a seat holds when it holds what it stores.
 use Rattle.std.specs.Prelude.{List}
 use Rattle.physiological_order.specs.declared.operation.Op.{Op}
 use Rattle.network.specs.declared.message.Message.{Message}

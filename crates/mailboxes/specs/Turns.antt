@@ -1,4 +1,4 @@
--- What a turn of a seat does, whichever kind the seat is of: it puts, serves and takes.
+-- What a turn of a seat of either kind does: it puts, serves and takes.
 use Rattle.std.specs.Prelude.{◌≡◌, ℕ, zero, suc, Bool, true, false, Result, Ok, Err}
 use Rattle.machine_table.specs.declared.event.Refusal.{Refusal}
 use Rattle.inbox.specs.declared.answer.Served.{Served}
@@ -7,7 +7,7 @@ use Rattle.mailboxes.specs.declared.taken.Take.{Take}
 use Rattle.mailboxes.specs.declared.taken.Take.TheVariants.{Taken, Nothing, HandFull}
 use Rattle.mailboxes.specs.declared.turning.Turn.{Turn}
 
--- nothing came of the messages that are held, or there are none
+-- no held message was served, or there are none
 abbrev pub is_idle : Result Served Refusal → Bool
 is_idle (Ok served.Held) = true
 is_idle (Ok served.Nothing) = true
@@ -16,12 +16,12 @@ is_idle (Ok served.Dropped) = false
 is_idle (Ok served.Started) = false
 is_idle (Err r) = false
 
--- so many messages were put, one after the other
+-- this many messages were put, one after the other
 abbrev pub PutSo : {S : Type 0} → (Bool → S → S → Type 0) → ℕ → S → S → Type 0
 PutSo puts zero p q = q ≡ p
 PutSo {S} puts (suc n) p q = (r : S) × PutSo puts n p r × puts true r q
 
--- so many were put, and then none was found for which there is a free slot
+-- this many were put, and then none was left whose link had a free slot
 abbrev pub PutAll : {S : Type 0} → (Bool → S → S → Type 0) → ℕ → S → S → Type 0
 PutAll {S} puts n p q = (r : S) × PutSo puts n p r × puts false r q
 
@@ -37,7 +37,7 @@ module _ {S : Type 0} (serves : Result Served Refusal → S → S → Type 0) (t
   abbrev pub Follows : Result Served Refusal → S → Result Served Refusal → S → Type 0
   Follows before p result q = (t : Take) × (r : S) × takes t p r × Ends t before r result q
 
-  -- that, where nothing came of the messages that are held; else the earlier answer is the turn's
+  -- that, if no held message was served; otherwise the earlier answer is the turn's
   abbrev pub Goes : Bool → Result Served Refusal → S → Result Served Refusal → S → Type 0
   Goes true before p result q = Follows before p result q
   Goes false before p result q = (result ≡ before) × (q ≡ p)

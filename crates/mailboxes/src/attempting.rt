@@ -81,7 +81,7 @@ impl CoreSeat {
     /// Stopped exactly if the seat is stopped; else NoRoom exactly if a request is needed, but there is no copy of the
     /// line and its set is full; else NetworkFull exactly if a request is needed, and the outbox has no place or the
     /// seat sent 2 ^ 64 - 1 messages. These refusals change nothing. Exhausted exactly if a sum of times doesn't fit:
-    /// the seat is then stopped, and nothing else changes. NoMemory is never answered.
+    /// the seat is then stopped, and nothing else changes. The call never answers NoMemory.
     pub fn attempt(&mut self, machine: &Machine) -> Answer
         requires { IsCoreSeat machine.now self.old }
         ensures seat { IsCoreSeat machine.now self.new × SamePlace self.old self.new }

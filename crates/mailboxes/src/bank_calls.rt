@@ -17,7 +17,7 @@ use llc_bank::Bank;
 use machine_table::Refusal;
 use network::{Body, LineNo, Message};
 
-/// Why no message was served, as a seat tells it.
+/// Why no message was served, as a seat answers it.
 pub(crate) fn seat_refusal(refusal: inbox::Refusal) -> Refusal
     ensures { result ≡ seat_refusal refusal }
 {
@@ -44,10 +44,10 @@ impl BankSeat {
     /// docs/SEATS.md. It is delivered to the bank, or to the DRAM behind it. What these send to a core goes to the
     /// outbox, and what they send each other to the end of the held list.
     ///
-    /// Stopped exactly if the seat is stopped. NetworkFull where no message is served and one finds no place, there or
-    /// in the outbox, or the seat sent 2^64 - 1 messages. Exhausted where a sum of times doesn't fit 64 bits: the seat
-    /// is then stopped. NoMemory only where the message that would be served is a store to DRAM. A refusal changes
-    /// nothing else.
+    /// Stopped exactly if the seat is stopped. NetworkFull if no message is served and one finds no place, there or in
+    /// the outbox, or the seat sent 2^64 - 1 messages. Exhausted if a sum of times doesn't fit 64 bits: the seat is
+    /// then stopped. NoMemory only if the message that would be served is a store to DRAM. A refusal changes nothing
+    /// else.
     pub fn serve(&mut self, machine: &Machine) -> Result<Served, Refusal>
         requires { IsBankSeat machine.now self.old }
         ensures seat { IsBankSeat machine.now self.new × SameBankPlace self.old self.new }
@@ -72,13 +72,13 @@ impl BankSeat {
         }
     }
 
-    /// Evicts a line from the bank. A clean line that no core owns is gone then, and a dirty one is sent to DRAM; the
-    /// owner of a line is asked to give it back, and the line stays.
+    /// Evicts a line from the bank. A clean line that no core owns is gone then, and the bank sends a dirty one to
+    /// DRAM; it asks the owner of a line to return it, and the line stays.
     ///
-    /// Stopped exactly if the seat is stopped; else NoSuch exactly if the bank doesn't have the line; else Busy exactly
-    /// if it is being loaded, recalled or stored; else NetworkFull exactly if a message would be sent for which there
-    /// is no place, in the held list for one to DRAM and in the outbox for one to a core, or the seat sent 2^64 - 1
-    /// messages. A refusal changes nothing.
+    /// Stopped exactly if the seat is stopped; else NoSuch exactly if the bank doesn't have the line; else Busy
+    /// exactly if it is being loaded, recalled or stored; else NetworkFull exactly if a message would be sent for
+    /// which there is no place, in the held list for one to DRAM and in the outbox for one to a core, or the seat sent
+    /// 2^64 - 1 messages. A refusal changes nothing.
     pub fn evict(&mut self, machine: &Machine, line: LineNo) -> Result<Eviction, Refusal>
         requires { IsBankSeat machine.now self.old }
         ensures seat { IsBankSeat machine.now self.new × SameBankPlace self.old self.new }
@@ -100,8 +100,8 @@ impl BankSeat {
     }
 
     /// The line to evict to make room for a held request, the oldest that waits for room in a set in which nothing is
-    /// under way: the least recently used line of the set that no core owns, or else the least recently used one. None
-    /// if there is no such request. Its eviction is not refused by the bank.
+    /// under way: the least recently used line of the set that no core owns, or else the least recently used one.
+    /// `None` if there is no such request. The bank doesn't refuse the line's eviction.
     pub fn make_room(&self) -> Option<LineNo>
         ensures line { result ≡ first_room self.now.part.bank self.now.mail.inbox.held }
         ensures evicted { IfSome result (λ victim. IsOk (evict self.now.part.bank victim).0) }

@@ -1,4 +1,4 @@
-//! A bank evicts a line, and its seat sends what that asks for.
+//! A bank evicts a line, and its seat sends the message that the eviction needs.
 ghost use Rattle.std.specs.Prelude.{◌≡◌, ◌-◌, ◌++◌, false, IsTrue, OnOk, Ok, Err, Some, length};
 ghost use Rattle.llc_bank.specs.declared.entry.Evict.{Evict};
 ghost use Rattle.machine_table.specs.declared.event.Refusal.{Refusal};
@@ -17,12 +17,12 @@ use llc_bank::{Evict, EvictError};
 use machine_table::Refusal;
 use network::{Body, LineNo, Message, Node};
 
-/// What became of a line that was evicted.
+/// What an eviction did.
 #[derive(Clone, Copy, Debug, PartialEq, Eq)]
 pub enum Eviction {
     /// The line is gone, or it is on its way to DRAM.
     Evicted,
-    /// The owner is asked to give the line back; the line stays.
+    /// The bank asks the owner to return the line; the line stays.
     Recalled,
 }
 
@@ -75,7 +75,7 @@ fn send(outbox: &mut Outbox, came_in: &mut Inbox<Message>, message: Message)
     }
 }
 
-/// Evicts a line, which can be evicted, and sends what that asks for.
+/// Evicts a line, which can be evicted, and sends the message that the eviction needs.
 pub(crate) fn evict_line(
     part: &mut SendingBank,
     came_in: &mut Inbox<Message>,

@@ -21,20 +21,20 @@ use inbox::Inbox;
 use llc_bank::{Bank, BankConfig};
 use std::alloc::{AllocError, Global};
 
-/// A bank's seat: the messages that came in, and the bank and the DRAM behind it with what their seat sends by. All
-/// messages of the outbox go to seats to which there is a link.
+/// A bank's seat: the messages that came in, and the bank and the DRAM behind it with what their seat sends by. Each
+/// message of the outbox goes to a seat to which there is a link.
 #[derive(Drop)]
 pub struct BankSeat {
     pub mail: Mailbox,
     pub part: SendingBank,
-    /// Whether a sum of times didn't fit: the seat's calls that can refuse are then refused.
+    /// Whether a sum of times didn't fit: the seat's calls that can refuse then answer Stopped.
     pub is_stopped: bool,
     pub ghost tied: { BankTied mail.seat.me.0.mine part.bank part.dram part.outbox } by { Prim.hlevel (props, codes, stored_dram.the_row.coded) },
     pub ghost linked: { AllLinked mail.cores mail.banks mail.number part.outbox.messages },
 }
 
 impl BankSeat {
-    /// A bank's seat as it opens. All memory is taken here, but that of the DRAM's lines.
+    /// A bank's seat as it opens. All memory is allocated here, but not that of the DRAM's lines.
     pub(crate) fn new(
         alloc: Global,
         machine: &Machine,

@@ -49,7 +49,7 @@ pub(crate) fn finds_places(outbox: &Outbox, places: u32, sends: &Option<(Node, b
     }
 }
 
-/// Sends a message: one that leaves goes to the outbox, and any other is told.
+/// Sends a message: one that leaves goes to the outbox, and the answer has any other.
 pub(crate) fn post(outbox: &mut Outbox, message: Message) -> Option<Message>
     requires { (places : ℕ) × (stays : Bool) ×
         IsTrue (finds_places outbox.old places (Some (message.to, stays))) }

@@ -50,10 +50,11 @@ impl Turner for BankSeat {
 }
 
 impl BankSeat {
-    /// A turn: puts messages until none is left for which there is a free slot, and then serves. A full hand is served.
-    /// With an empty one a held message is served; where nothing comes of these, a message is taken and then served.
+    /// A turn: puts messages until none is left whose link has a free slot, and then serves. It serves the message in
+    /// a full hand. With an empty hand it serves a held message; if none is served, it takes a message and serves
+    /// that.
     ///
-    /// A refusal is that of a serve, told by the last one; what was put, served or taken before stays so.
+    /// A refusal is that of the last serve; what was put, served or taken before it stays so.
     pub fn turn(&mut self, machine: &Machine) -> Result<Turn, Refusal>
         requires { IsBankSeat machine.now self.old }
         ensures seat { IsBankSeat machine.now self.new × (self.new.mail.number ≡ self.old.mail.number) }

@@ -58,8 +58,8 @@ pub(crate) fn may_change(was_full: bool, served: &Result<Served, Refusal>) -> bo
     }
 }
 
-/// What a core's seat holds becomes what it stores, if that is a move of the seat. Where nothing changes, no exchange
-/// is made.
+/// What a core's seat holds becomes what it stores, if that is a move of the seat. If nothing changes, the call makes
+/// no exchange.
 pub(crate) fn change_core_if(
     changes: bool,
     machine: &Machine,
@@ -90,8 +90,8 @@ pub(crate) fn change_core_if(
     }
 }
 
-/// What a bank's seat holds becomes what it stores, if that is a move of the seat. Where nothing changes, no exchange
-/// is made.
+/// What a bank's seat holds becomes what it stores, if that is a move of the seat. If nothing changes, the call makes
+/// no exchange.
 pub(crate) fn change_bank_if(
     changes: bool,
     machine: &Machine,

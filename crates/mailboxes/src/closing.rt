@@ -20,8 +20,8 @@ use std::alloc::{AllocError, Global};
 
 impl Machine {
     /// Gives up the machine and all its seats, and answers what they leave, with the records of all cores by number.
-    /// That is one state that moves reach from the opening, and it is consistent. AllocError where there is no memory
-    /// for what is left; then all is given up.
+    /// That is one state that moves reach from the opening, and it is consistent. AllocError if memory for what is
+    /// left can't be allocated; then the call drops all.
     pub fn close(
         self,
         alloc: Global,

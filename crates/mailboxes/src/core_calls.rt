@@ -1,4 +1,5 @@
-//! What a core's seat does with its core alone: it takes an operation, its time goes on, and it is looked at.
+//! What a core's seat does with its core alone: it issues an operation, advances the core's time, and answers look-ups
+//! of the core.
 ghost use Rattle.std.specs.Prelude.{◌≡◌, ◌||◌, ◌<◌, ◌≤◌, ◌++◌, ◌∷◌, [], true, is_none, length, option_map};
 ghost use Rattle.std.specs.Prelude.{OnOk, OnErr, vec_capacity};
 ghost use Rattle.physiological_order.specs.declared.operation.Op.{Op};
@@ -62,9 +63,9 @@ impl CoreSeat {
         self.part.core.victim(line)
     }
 
-    /// Gives the core its next operation, which is open then. Stopped exactly if the seat is stopped; else Busy exactly
-    /// if an operation is open; else TooMany exactly if the core was issued 4,294,967,295 operations; else NoMemory only
-    /// if allocation failed. A refusal changes nothing.
+    /// Gives the core its next operation, which is open then. Stopped exactly if the seat is stopped; else Busy
+    /// exactly if an operation is open; else TooMany exactly if the core was issued 4,294,967,295 operations; else
+    /// NoMemory only if allocation failed. A refusal changes nothing.
     pub fn issue(&mut self, machine: &Machine, op: Op) -> Result<(), Refusal>
         requires { IsCoreSeat machine.now self.old }
         ensures seat { IsCoreSeat machine.now self.new × SamePlace self.old self.new }
@@ -94,7 +95,7 @@ impl CoreSeat {
         Ok(())
     }
 
-    /// The core's time goes on by 1. Exhausted exactly if that doesn't fit 64 bits: the seat is then stopped, and
+    /// Advances the core's time by 1. Exhausted exactly if that doesn't fit 64 bits: the seat is then stopped, and
     /// nothing else changes. Stopped exactly if it was stopped before.
     pub fn advance(&mut self, machine: &Machine) -> Result<(), Refusal>
         requires { IsCoreSeat machine.now self.old }

@@ -19,14 +19,14 @@ use private_cache::Geometry;
 use std::alloc::{AllocError, Global};
 
 /// A core's seat: the messages that came in, the core with what its seat sends by, the operations that it was issued,
-/// and its records. All messages of the outbox go to seats to which there is a link.
+/// and its records. Each message of the outbox goes to a seat to which there is a link.
 #[derive(Drop)]
 pub struct CoreSeat {
     pub mail: Mailbox,
     pub part: SendingCore,
     pub issued: Vec<Op>,
     pub records: Vec<Record>,
-    /// Whether a sum of times didn't fit: the seat's calls that can refuse are then refused.
+    /// Whether a sum of times didn't fit: the seat's calls that can refuse then answer Stopped.
     pub is_stopped: bool,
     pub ghost tied: { CoreTied mail.seat.me.0.mine part.core issued.items records.items part.outbox },
     pub ghost linked: { AllLinked mail.cores mail.banks mail.number part.outbox.messages },
@@ -34,7 +34,7 @@ pub struct CoreSeat {
 }
 
 impl CoreSeat {
-    /// A core's seat as it opens. All memory is taken here, but that of operations and records.
+    /// A core's seat as it opens. All memory is allocated here, but not that of operations and records.
     pub(crate) fn new(
         alloc: Global,
         machine: &Machine,

@@ -57,12 +57,12 @@ impl Mailbox {
 
 impl CoreSeat {
     /// Serves a message: the one in the hand, or else the oldest held one that isn't passed, by the order of
-    /// docs/SEATS.md. It is delivered to the core, and what that sends goes to the outbox.
+    /// docs/SEATS.md. It is delivered to the core, and what the core sends goes to the outbox.
     ///
-    /// Stopped exactly if the seat is stopped. NetworkFull where no message is served and one finds no place: in the
-    /// held list, or in the outbox for what the core would send, or the seat sent 2^64 - 1 messages. Exhausted where a
-    /// sum of times doesn't fit 64 bits: the seat is then stopped. NoMemory is never answered. A refusal changes
-    /// nothing else.
+    /// Stopped exactly if the seat is stopped. NetworkFull if no message is served and one finds no place: in the held
+    /// list, or in the outbox for what the core would send, or the seat sent 2^64 - 1 messages. Exhausted if a sum of
+    /// times doesn't fit 64 bits: the seat is then stopped. The call never answers NoMemory. A refusal changes nothing
+    /// else.
     pub fn serve(&mut self, machine: &Machine) -> Result<Served, Refusal>
         requires { IsCoreSeat machine.now self.old }
         ensures seat { IsCoreSeat machine.now self.new × SamePlace self.old self.new }

@@ -1,4 +1,4 @@
-//! A copy leaves the cache of a core's seat.
+//! A core's seat evicts a copy.
 ghost use Rattle.std.specs.Prelude.{◌≡◌, ◌≢◌, ◌&&◌, not, Err, OnOk, OnErr};
 ghost use Rattle.core_pts.specs.CoreTable as core_table;
 ghost use Rattle.mailboxes.specs.BoxMoves.{hold};
@@ -50,11 +50,12 @@ fn take_out(part: &mut SendingCore, line: LineNo) -> Result<(), Refusal>
 }
 
 impl CoreSeat {
-    /// Takes a copy out of the core's cache; one that the core owns is sent back.
+    /// Evicts a copy from the core's cache, and sends it back if the core owns it.
     ///
-    /// Stopped exactly if the seat is stopped; else NoSuch exactly if there is no copy of the line; else Pinned exactly
-    /// if the open operation is on the line; else NetworkFull exactly if the copy would be sent back, and the outbox
-    /// has no place or the seat sent 2 ^ 64 - 1 messages. NoMemory is never answered. A refusal changes nothing.
+    /// Stopped exactly if the seat is stopped; else NoSuch exactly if there is no copy of the line; else Pinned
+    /// exactly if the open operation is on the line; else NetworkFull exactly if the copy would be sent back, and the
+    /// outbox has no place or the seat sent 2 ^ 64 - 1 messages. The call never answers NoMemory. A refusal changes
+    /// nothing.
     pub fn evict(&mut self, machine: &Machine, line: LineNo) -> Result<(), Refusal>
         requires { IsCoreSeat machine.now self.old }
         ensures seat { IsCoreSeat machine.now self.new × SamePlace self.old self.new }

@@ -1,4 +1,4 @@
-//! The messages of a seat, whatever its part.
+//! The messages of a seat, of either kind.
 ghost use Rattle.std.specs.Prelude.{◌≡◌, ◌<◌, is_some};
 ghost use Rattle.mailboxes.specs.Places.{AllOwn};
 ghost use Rattle.mailboxes.specs.Ties.{BoxTied};
@@ -7,8 +7,8 @@ use crate::steps::SlotSeat;
 use inbox::Inbox;
 use network::Message;
 
-/// A seat at the table of slots, with its hand and its held list. All messages of these go to the seat's own core, or
-/// to its bank or the DRAM behind that.
+/// A seat at the table of slots, with its hand and its held list. Each message in these goes to the seat's own core,
+/// or to its bank or the DRAM behind that.
 #[derive(Drop)]
 pub struct Mailbox {
     pub seat: SlotSeat,

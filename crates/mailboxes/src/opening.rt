@@ -17,8 +17,8 @@ use seat_rule::laws::{opened_machines_keep_the_rule, slots_are_few};
 use seat_rule::parts::seats_stand;
 use std::alloc::{AllocError, Global};
 
-/// A machine that is set up so, with this memory, and its seats by number: those of its cores, and those of its banks.
-/// BadConfig exactly where a value of the configuration is out of its range.
+/// A machine with this set-up and this memory, and its seats by number: those of its cores, and those of its banks.
+/// BadConfig exactly if a value of the configuration is out of its range.
 pub fn open(
     alloc: Global,
     config: Config,

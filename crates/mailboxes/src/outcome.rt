@@ -1,4 +1,4 @@
-//! What an attempt at the open operation of a core's seat comes to.
+//! What an attempt at the open operation of a core's seat does.
 use machine_table::Answer;
 use network::Message;
 use physiological_order::Op;
@@ -12,14 +12,14 @@ pub struct Completion {
     pub ts: u64,
 }
 
-/// What an attempt comes to.
+/// What an attempt does.
 #[derive(Drop)]
 pub enum Outcome {
     /// Nothing changes.
     Keeps(Answer),
     /// A sum of times does not fit.
     Exhausts,
-    /// This request is needed.
+    /// The operation needs this request.
     Requests(Message),
     /// The open operation is completed.
     Completes(Completion),

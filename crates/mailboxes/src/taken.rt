@@ -1,4 +1,4 @@
-//! What became of an attempt to take a message.
+//! The result of an attempt to take a message.
 
 /// What `take` answers.
 #[derive(Clone, Copy, Debug, PartialEq, Eq)]
@@ -7,6 +7,6 @@ pub enum Take {
     Taken,
     /// All slots that come in were found empty.
     Nothing,
-    /// A message was already in the hand, and nothing was looked at.
+    /// A message was already in the hand, so no slot was looked at.
     HandFull,
 }

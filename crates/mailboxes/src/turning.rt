@@ -7,12 +7,12 @@ use crate::taken::Take;
 use inbox::Served;
 use machine_table::Refusal;
 
-/// What a turn came to.
+/// The result of a turn.
 #[derive(Clone, Copy, Debug, PartialEq, Eq)]
 pub struct Turn {
     /// How many messages were put, up to 256.
     pub put: u32,
-    /// What became of the message that was served last.
+    /// What happened to the message that was served last.
     pub served: Served,
 }
 
@@ -40,7 +40,7 @@ pub(crate) trait Turner {
     /// How many messages are to be put.
     ghost waiting: { Self → ℕ };
 
-    /// The seat's number, which stays.
+    /// The seat's number, which doesn't change.
     ghost number: { Self → ℕ };
 
     fn put_one(&mut self, machine: &Machine) -> bool

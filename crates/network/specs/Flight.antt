@@ -4,8 +4,8 @@ use Rattle.network.specs.declared.counts.Counts.{Counts}
 use Rattle.network.specs.Mail.{Mail, AreCounts}
 use Rattle.network.specs.Stored.{Linked}
 
--- the messages in flight between so many cores and banks, how many there may be, how many slots are kept for them, the
--- empty ones of taken messages included, and how many more can be sent before memory is asked for
+-- the messages in flight between these cores and banks, how many there may be, how many slots are kept for them, the
+-- empty ones of taken messages included, and how many more can be sent before the next allocation
 pub record Flight : Type 0 where
   pub cores : ℕ
   pub banks : ℕ
@@ -22,7 +22,7 @@ IsWithMail mail p q = q ≡ record p { slots = q.slots; reserved = q.reserved; m
 abbrev pub SameNetwork : Flight → Flight → Type 0
 SameNetwork p q = IsWithMail q.mail p q
 
--- what contracts see, where at most so many messages may be in flight and so many of the counted kinds were sent
+-- what contracts see, if at most `capacity` messages may be in flight and these counts were sent
 abbrev pub flight_of : ℕ → Counts → Linked → Flight
 flight_of capacity counts linked =
     record {
@@ -35,8 +35,8 @@ flight_of capacity counts linked =
           record { messages = linked.messages; next = linked.next; counts = counts };
     }
 
--- what is true of all that is kept: there is room for as many messages as may be in flight, the numbers are below
--- 2 ^ 64, and the counts are not above the next number
+-- what is true of all that is kept: there is room for all messages that may be in flight, the numbers are below 2 ^
+-- 64, and the counts are not above the next number
 pub record IsKept (capacity : ℕ) (counts : Counts) (linked : Linked) : Type 0 where
   pub fits : capacity ≡ linked.capacity
   pub numbered : linked.next < 2 ^ 64

@@ -5,7 +5,7 @@ use Rattle.network.specs.declared.message.Node.{Node}
 use Rattle.network.specs.declared.message.Node.TheVariants.{Core, Bank, Dram}
 use Rattle.network.specs.declared.message.Message.{Message}
 
--- how many links there are between so many cores and banks, and between the banks and the DRAM behind each
+-- how many links there are between these cores and banks, and between the banks and the DRAM behind each
 abbrev pub count_links : ℕ → ℕ → ℕ
 count_links cores banks = 2 * banks + 2 * (cores * banks)
 

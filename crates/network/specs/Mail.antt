@@ -39,7 +39,7 @@ counted counts _ = counts
 abbrev pub has_number : Mail → Bool
 has_number mail = nat_lt mail.next (2 ^ 64 - 1)
 
--- whether one more message can be sent, if at most so many may be in flight
+-- whether one more message can be sent, if at most this many may be in flight
 abbrev pub has_capacity : ℕ → Mail → Bool
 has_capacity capacity mail = nat_lt (length mail.messages) capacity && has_number mail
 

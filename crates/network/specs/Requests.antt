@@ -1,4 +1,4 @@
--- Whether a message is one that is looked for.
+-- Whether a search looks for a message.
 use Rattle.std.specs.Prelude.{Bool}
 use Rattle.network.specs.declared.message.Message.{Message}
 use Rattle.network.specs.declared.criteria.Wanted.{Wanted}

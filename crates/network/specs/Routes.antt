@@ -35,7 +35,7 @@ has_route cores banks from to (DramSt words) = is_bank_to_dram banks from to
 has_route cores banks from to (DramLdRep words) = is_bank_to_dram banks to from
 has_route cores banks from to DramStRep = is_bank_to_dram banks to from
 
--- whether a message goes between nodes that its kind goes between, where there are so many cores and banks
+-- whether a message goes between nodes that its kind goes between, in a machine with these cores and banks
 abbrev pub has_endpoints : ℕ → ℕ → Message → Bool
 has_endpoints cores banks m = has_route cores banks m.from m.to m.body
 

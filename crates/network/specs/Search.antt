@@ -1,4 +1,4 @@
--- Which messages in flight are looked for.
+-- Searches of the messages in flight.
 use Rattle.std.specs.Prelude.{ℕ, ◌+◌, Bool, true, false, ◌&&◌, ◌==◌, nat_lt, List, [], ◌∷◌, Option, Some, None, if◌then◌else◌}
 use Rattle.std.specs.Borrow.{Bor}
 use Rattle.network.specs.declared.message.Node.{Node}

@@ -1,4 +1,4 @@
--- Of which machine, and how many, messages may be in flight.
+-- In which machines messages may be in flight, and how many.
 use Rattle.std.specs.Prelude.{ℕ, ◌≤◌}
 
 -- 1 to 64 cores, 1 to 8 banks, and room for 1 to 65,536 messages

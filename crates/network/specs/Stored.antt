@@ -1,5 +1,5 @@
--- How the messages in flight are stored: each with its number in a cell of an arena, on the list of its link, and
--- beside them slots in the order of sending, each with a number and its cell.
+-- How the messages in flight are stored: each with its number in a cell of an arena, on the list of its link; and
+-- slots in the order of sending, each with a number and its cell.
 use Rattle.std.specs.Prelude.{◌≡◌, ℕ, ◌+◌, ◌*◌, ◌≤◌, ◌<◌, ◌^◌, List, [], ◌∷◌, length, map, filter, get_or, sum_by}
 use Rattle.std.specs.Prelude.{Option, Some, None, option_map}
 use Rattle.line_arena.specs.Arenas.{Lists}
@@ -9,8 +9,8 @@ use Rattle.network.specs.NumberedMessages.{IsRising, given, still_there}
 use Rattle.network.specs.LinkNumbers.{count_links, is_on}
 use Rattle.network.specs.Routes.{AllHaveEndpoints}
 
--- what contracts see: the messages between so many cores and banks by rising number, the number that the next one gets,
--- how many messages there is room for, how many slots are kept, and for how many there is room
+-- what contracts see: the messages between these cores and banks by rising number, the number that the next one gets,
+-- how many messages there is room for, how many slots are kept, and how many there is room for
 pub record Linked : Type 0 where
   pub cores : ℕ
   pub banks : ℕ
@@ -61,9 +61,9 @@ pub record AreLinked (cores banks : ℕ) (lists : List (List (ℕ × (ℕ × Mes
   pub total : sum_by length lists ≡ length cells
   pub endpoints : AllHaveEndpoints cores banks (cell_messages lists cells)
 
--- what is true of all that is stored: the numbers of the slots rise and are below the next one, so many slots still
--- have their cell, no more than the arena has cells, at most one slot more than these has none, and there is room for
--- every slot that may be kept and for one more
+-- what is true of all that is stored: the numbers of the slots rise and are below the next one; the slots that still
+-- have their cell are as many as the messages, and no more than the arena has cells; at most one slot more than these
+-- has none; and there is room for every slot that may be kept and for one more
 pub record IsStored (cores banks next count places : ℕ) (slots : List (ℕ × Option ℕ)) (arena : Lists (ℕ × Message)) :
     Type 0 where
   pub most_cores : cores ≤ 64

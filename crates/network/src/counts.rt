@@ -1,4 +1,4 @@
-//! How many messages of the counted kinds were sent. docs/PROTOCOL.md tells what they say.
+//! How many messages of the counted kinds were sent. docs/PROTOCOL.md states what they mean.
 ghost use Rattle.std.specs.Prelude.{◌≡◌, ◌<◌, ◌^◌};
 ghost use Rattle.network.specs.Mail.{counted};
 
@@ -26,7 +26,7 @@ impl Counts {
         }
     }
 
-    /// Counts a message that says this, if its kind is counted. None of the counts has more than 64 bits yet.
+    /// Counts a message with this body, if its kind is counted. None of the counts has more than 64 bits yet.
     #[inline(always)]
     pub fn count(&mut self, body: &Body)
         requires renewals { self.old.renewals < 2 ^ 64 }

@@ -1,4 +1,4 @@
-//! The messages that are looked for among those in flight.
+//! Which messages a search among those in flight looks for.
 ghost use Rattle.std.specs.Prelude.{◌≡◌};
 ghost use Rattle.network.specs.Search.{is_ownership_of, is_same_node, is_store_of, carries_ownership};
 ghost use Rattle.network.specs.Requests.{is_wanted};
@@ -6,7 +6,7 @@ ghost use Rattle.network.specs.Requests.{is_wanted};
 use crate::message::{Body, Message, Node};
 use crate::numbers::LineNo;
 
-/// What is looked for.
+/// What a search looks for.
 #[derive(Clone, Copy)]
 pub(crate) enum Wanted {
     /// A message that carries the line's ownership.
@@ -30,7 +30,7 @@ impl Node {
 }
 
 impl Body {
-    /// Whether a message that says this carries its line's ownership: a grant of the line, or a return of it.
+    /// Whether a message with this body carries its line's ownership: a grant of the line, or a return of it.
     pub fn carries_ownership(&self) -> bool
         ensures { result ≡ carries_ownership self.now }
     {
@@ -42,7 +42,7 @@ impl Body {
 }
 
 impl Wanted {
-    /// Whether the message is one that is looked for.
+    /// Whether the search looks for this message.
     pub(crate) fn fits(&self, message: &Message) -> bool
         ensures { result ≡ is_wanted self.now message.now }
     {

@@ -1,8 +1,8 @@
-//! Division of the numbers of words and lines, which takes no division of the processor where a machine is of the usual
-//! sizes: one bank, lines of one or eight words, as many sets as a power of two.
+//! Division of the numbers of words and lines. It needs no division by the processor if a machine has the usual sizes:
+//! one bank, lines of one or eight words, a power of two as the number of sets.
 ghost use Rattle.std.specs.Prelude.{◌≡◌, ◌<◌, ◌/◌, ◌%◌};
 
-/// How often a number above 0 goes into another one.
+/// A number divided by another one, which is above 0, rounded down.
 #[inline(always)]
 pub fn quotient(number: u64, by: u64) -> u64
     requires { 0 < by }
@@ -15,7 +15,7 @@ pub fn quotient(number: u64, by: u64) -> u64
     }
 }
 
-/// What is left of a number over another one, which is above 0.
+/// The remainder of a number divided by another one, which is above 0.
 #[inline(always)]
 pub fn remainder(number: u64, by: u64) -> u64
     requires { 0 < by }

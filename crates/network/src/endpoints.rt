@@ -24,9 +24,9 @@ fn is_bank_to_dram(banks: u32, from: Node, to: Node) -> bool
     }
 }
 
-/// Whether a message goes between nodes that its kind goes between, in a machine with so many cores and banks. Requests
-/// and returns go from a core to a bank; replies and recalls from a bank to a core; loads and stores from a bank to the
-/// DRAM behind it, and their replies back.
+/// Whether a message goes between nodes that its kind goes between, in a machine with this many cores and banks.
+/// Requests and returns go from a core to a bank; replies and recalls from a bank to a core; loads and stores from a
+/// bank to the DRAM behind it, and their replies back.
 pub fn has_endpoints(cores: u32, banks: u32, message: &Message) -> bool
     ensures { result ≡ has_endpoints cores banks message.now }
 {

@@ -18,10 +18,10 @@ use crate::numbers::{LineNo, MsgNo};
 use std::alloc::{AllocError, Global};
 use std::marker::Model;
 
-/// Why a message was not sent.
+/// Why a message can't be sent.
 #[derive(Clone, Copy, Debug, PartialEq, Eq)]
 pub enum SendError {
-    /// 1: as many messages as may be are in flight, or the numbers are used up.
+    /// 1: as many messages are in flight as may be, or the numbers are used up.
     Full,
     /// 2: allocation failed.
     NoMemory,
@@ -40,8 +40,8 @@ impl SendError {
 }
 
 /// The messages in flight, each with the number that it got when it was sent. Contracts see the list of both by rising
-/// number, the number that the next one gets, how many of the counted kinds were sent, how many slots are kept, and how
-/// many messages can be sent before memory is asked for.
+/// number, the number that the next one gets, how many of the counted kinds were sent, how many slots are kept, and
+/// how many messages can be sent before the next allocation.
 #[derive(Drop)]
 pub struct InFlight {
     capacity: u32,
@@ -61,8 +61,8 @@ impl Model for InFlight {
 }
 
 impl InFlight {
-    /// No message in flight, for a machine with 1 to 64 cores and 1 to 8 banks. At most `capacity`, 1 to 65,536, may be
-    /// in flight at once. All memory is taken here, for all of them, and none of it is written.
+    /// No message in flight, for a machine with 1 to 64 cores and 1 to 8 banks. At most `capacity`, 1 to 65,536, may
+    /// be in flight at once. All memory for these is allocated here, and none of it is written.
     pub fn new(alloc: Global, cores: u32, banks: u32, capacity: u32) -> Result<InFlight, AllocError>
         requires { IsInRange cores banks capacity }
         ensures { IfOk result (λ flight. flight ≡ record {
@@ -83,9 +83,9 @@ impl InFlight {
         })
     }
 
-    /// Drops all messages, and counts and numbers from 0 again, as a new one does. No memory is taken or given back.
-    /// The time grows with the slots that are kept, and with the most messages that were in flight at once since the
-    /// memory was taken or this was called last.
+    /// Drops all messages, and counts and numbers from 0 again, as a new one does. It neither allocates nor frees
+    /// memory. Its time is in proportion to the slots that are kept, and to the most messages that were in flight at
+    /// once since the memory was allocated or last cleared.
     pub fn clear(&mut self)
         ensures { self.new ≡ record self.old {
           slots = 0;
@@ -106,7 +106,7 @@ impl InFlight {
         self.linked.next() < u64::MAX
     }
 
-    /// Whether one more message can be sent. Never are more in flight than may be.
+    /// Whether one more message can be sent. No more are ever in flight than may be.
     #[inline(always)]
     pub fn has_capacity(&self) -> bool
         ensures value { result ≡ has_capacity self.now.capacity self.now.mail }
@@ -125,7 +125,7 @@ impl InFlight {
         self.linked.look(number.0)
     }
 
-    /// Reserves memory for one more message: `new` took it, so there always is some.
+    /// Reserves memory for one more message: `new` allocated it, so this never fails.
     pub fn reserve(&mut self) -> Result<(), AllocError>
         ensures after { self.new ≡ self.old }
         ensures ok { 0 < self.new.reserved }
@@ -135,8 +135,8 @@ impl InFlight {
         Ok(())
     }
 
-    /// Sends a message, which has the endpoints of its kind: it gets the next number. Else the message is given back,
-    /// and nothing changes. This takes no memory: NoMemory is never answered.
+    /// Sends a message, which has the endpoints of its kind: it gets the next number. Otherwise the caller gets the
+    /// message back, and nothing changes. The call allocates nothing, and never answers NoMemory.
     #[inline(always)]
     pub fn send(&mut self, message: Message) -> Result<MsgNo, (SendError, Message)>
         requires { IsTrue (has_endpoints self.old.cores self.old.banks message) }
@@ -166,8 +166,8 @@ impl InFlight {
         Ok(MsgNo(self.linked.push(message)))
     }
 
-    /// Takes the message with this number, if it is in flight; if it isn't, nothing changes. This takes no memory, and
-    /// keeps what is reserved.
+    /// Takes the message with this number, if it is in flight; if it isn't, nothing changes. The call allocates
+    /// nothing, and keeps what is reserved.
     pub fn take(&mut self, number: MsgNo) -> Option<Message>
         ensures value { result ≡ at_number number self.old.mail.messages }
         ensures absent { result ≡ None → self.new ≡ self.old }
@@ -181,8 +181,8 @@ impl InFlight {
         message
     }
 
-    /// Takes the message with this number away, and answers whether it was in flight; if it wasn't, nothing changes. As
-    /// `take`, but the message isn't given. This takes no memory, and keeps what is reserved.
+    /// Removes the message with this number, and answers whether it was in flight; if it wasn't, nothing changes. As
+    /// `take`, but the caller doesn't get the message. The call allocates nothing, and keeps what is reserved.
     #[inline(always)]
     pub fn remove(&mut self, number: MsgNo) -> bool
         ensures value { result ≡ is_some (at_number number self.old.mail.messages) }
@@ -194,8 +194,8 @@ impl InFlight {
     }
 
     /// Takes the message with this number, which is in flight, and sends another in its place: that gets the next
-    /// number. There always is room for it. This takes no memory: it uses up at most what is reserved for one message,
-    /// and leaves some.
+    /// number. There always is room for it. The call allocates nothing: it uses up at most what is reserved for one
+    /// message, and leaves some.
     #[inline(always)]
     pub fn answer(&mut self, number: MsgNo, message: Message) -> MsgNo
         requires there { IsSome (at_number number self.old.mail.messages) }
@@ -210,8 +210,8 @@ impl InFlight {
         MsgNo(self.linked.answer(number.0, message))
     }
 
-    /// How many slots are kept: one for each message in flight, and those of taken messages that weren't given back
-    /// yet. At most one more of them is empty than has its message, so old messages leave nothing behind.
+    /// How many slots are kept: one for each message in flight, and those of taken messages that weren't freed yet. At
+    /// most one more of them is empty than has its message, so the slots of old messages don't add up.
     pub fn slots(&self) -> usize
         ensures slots { result ≡ self.now.slots }
         ensures bound { result ≤ 2 * length self.now.mail.messages + 1 }
@@ -234,7 +234,7 @@ impl InFlight {
         self.linked.oldest(from, to)
     }
 
-    /// The numbers of the messages in flight, rising.
+    /// The numbers of the messages in flight, in rising order.
     pub fn numbers(&self) -> Result<Vec<MsgNo>, AllocError>
         ensures numbers { IfOk result (λ numbers. numbers.items ≡ map (λ x. x.0)
             self.now.mail.messages) }
@@ -243,8 +243,9 @@ impl InFlight {
         self.linked.numbers()
     }
 
-    /// Fills a list with the numbers of the messages in flight, rising. The list is emptied first and keeps the memory
-    /// that it has. More is taken only if that is too small for all numbers; if it is refused the list is empty.
+    /// Fills a list with the numbers of the messages in flight, in rising order. It empties the list first, and keeps
+    /// the memory that the list has. It allocates only if that is too small for all numbers; if the allocation fails,
+    /// the list is empty.
     pub fn list_numbers(&self, into: &mut Vec<MsgNo>) -> Result<(), AllocError>
         ensures numbers { OnOk result (into.new.items ≡ map (λ x. x.0) self.now.mail.messages) }
         ensures refused { OnErr result (into.new.items ≡ []) }
@@ -263,7 +264,7 @@ impl InFlight {
         self.linked.count()
     }
 
-    /// The number of the message in flight before which so many were sent that still are; none past the last one.
+    /// The number of the message at an index of those in flight, in the order of sending; `None` past the last one.
     pub fn nth(&self, at: u32) -> Option<MsgNo>
         ensures { result ≡ slice_get (map (λ x. x.0) self.now.mail.messages) at }
     {

@@ -1,5 +1,5 @@
 //! The messages of the protocol, those in flight by their numbers, and the parts that they are delivered to.
-//! docs/PROTOCOL.md tells which message says what.
+//! docs/PROTOCOL.md states what each message says.
 #![tactic(auto)]
 
 pub mod counts;

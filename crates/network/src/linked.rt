@@ -20,9 +20,10 @@ use line_arena::{Arena, ArenaError, Cell};
 use std::alloc::{AllocError, Global};
 use std::marker::Model;
 
-/// Messages with their numbers, for so many cores and banks. Each lies in a cell of an arena, on the list of its link,
-/// and a slot has its number and its cell until it is taken. Contracts see the messages by rising number, the number
-/// that the next one gets, for how many there is room, how many slots are kept, and for how many there is room.
+/// Messages with their numbers, for a machine with these cores and banks. Each lies in a cell of an arena, on the list
+/// of its link, and a slot has its number and its cell until it is taken. Contracts see the messages by rising number,
+/// the number that the next one gets, how many messages there is room for, how many slots are kept, and how many slots
+/// there is room for.
 #[derive(Drop)]
 pub struct LinkedMessages {
     cores: u32,
@@ -46,7 +47,7 @@ impl Model for LinkedMessages {
     ghost invariant = { λ a. IsStored a.cores a.banks a.next a.count (vec_capacity a.slots) a.slots.items a.arena };
 }
 
-/// The message that a slot's cell has, if it has a cell and the message is one that is looked for.
+/// The message that a slot's cell has, if it has a cell and the search looks for the message.
 fn wanted_in<'a>(
     arena: &'a Arena<(u64, Message)>,
     slot: &Slot,
@@ -65,7 +66,7 @@ fn wanted_in<'a>(
     }
 }
 
-/// The first message that is looked for, with its number, or `None` where there is none.
+/// The first message that the search looks for, with its number; `None` if there is none.
 fn first_wanted<'a>(
     arena: &'a Arena<(u64, Message)>,
     slots: &[Slot],
@@ -83,7 +84,7 @@ fn first_wanted<'a>(
     None
 }
 
-/// How many messages are looked for.
+/// How many messages the search looks for.
 fn count_wanted(arena: &Arena<(u64, Message)>, slots: &[Slot], wanted: &Wanted) -> usize
     requires { ArePlaced arena.now.lists (still_there slots.now) }
     ensures { result ≡ count_messages (is_wanted wanted.now) (cell_messages arena.now.lists
@@ -98,7 +99,7 @@ fn count_wanted(arena: &Arena<(u64, Message)>, slots: &[Slot], wanted: &Wanted) 
     count
 }
 
-/// The first message of a list that is looked for, with its number, or `None` where there is none.
+/// The first message of a list that the search looks for, with its number; `None` if there is none.
 fn first_on<'a>(
     arena: &'a Arena<(u64, Message)>,
     list: u32,
@@ -141,8 +142,8 @@ fn earlier<'a>(
 }
 
 impl LinkedMessages {
-    /// No message, and room for so many. All memory is taken here, and none of it is written but the heads of the
-    /// lists.
+    /// No message, and room for `capacity`. All memory is allocated here, and none of it is written but the heads of
+    /// the lists.
     pub(crate) fn new(
         alloc: Global,
         cores: u32,
@@ -176,7 +177,7 @@ impl LinkedMessages {
         }
     }
 
-    /// Drops all messages and all slots; numbers start from 0 again. The memory stays.
+    /// Drops all messages and all slots, and keeps the memory; numbers start from 0 again.
     pub(crate) fn clear(&mut self)
         ensures { self.new ≡ record self.old {
           slots = 0;
@@ -198,7 +199,7 @@ impl LinkedMessages {
         self.next
     }
 
-    /// How many messages there are. Never are there more than there is room for.
+    /// How many messages there are, never more than there is room for.
     #[inline(always)]
     pub(crate) fn count(&self) -> u32
         ensures value { result ≡ length self.now.messages }
@@ -321,7 +322,7 @@ impl LinkedMessages {
         Some(MsgNo(self.arena.get(cell).0))
     }
 
-    /// The first message that is looked for.
+    /// The first message that the search looks for.
     pub(crate) fn first(&self, wanted: &Wanted) -> Option<&Message>
         ensures { option_copied result ≡ option_map (λ x. x.1)
             (first_message (is_wanted wanted.now) self.now.messages) }
@@ -330,7 +331,8 @@ impl LinkedMessages {
         Some(message)
     }
 
-    /// The first message that stores a line's words in DRAM. Only the links to DRAM are looked at, which are the first.
+    /// The first message that stores a line's words in DRAM. The call looks only at the links to DRAM, which are the
+    /// first.
     pub(crate) fn store_of(&self, line: LineNo) -> Option<&Message>
         ensures { option_copied result ≡ option_map (λ x. x.1)
             (first_message (is_store_of line) self.now.messages) }
@@ -343,14 +345,14 @@ impl LinkedMessages {
         Some(message)
     }
 
-    /// How many messages are looked for.
+    /// How many messages the search looks for.
     pub(crate) fn count_of(&self, wanted: &Wanted) -> usize
         ensures { result ≡ count_messages (is_wanted wanted.now) self.now.messages }
     {
         count_wanted(&self.arena, &self.slots, wanted)
     }
 
-    /// The numbers of the messages, rising.
+    /// The numbers of the messages, in rising order.
     pub(crate) fn numbers(&self) -> Result<Vec<MsgNo>, AllocError>
         ensures numbers { IfOk result (λ numbers. numbers.items ≡ map (λ x. x.0)
             self.now.messages) }
@@ -361,8 +363,8 @@ impl LinkedMessages {
         Ok(numbers)
     }
 
-    /// Fills a list, which is emptied first, with the numbers of the messages, rising. Memory is refused only if the
-    /// list's is too small for them; the list is then empty.
+    /// Fills a list, which it empties first, with the numbers of the messages, in rising order. It allocates only if
+    /// the list's memory is too small for them; if that fails, the list is empty.
     pub(crate) fn list_numbers(&self, into: &mut Vec<MsgNo>) -> Result<(), AllocError>
         ensures numbers { OnOk result (into.new.items ≡ map (λ x. x.0) self.now.messages) }
         ensures refused { OnErr result (into.new.items ≡ []) }
@@ -373,7 +375,8 @@ impl LinkedMessages {
         list_numbers(&self.slots, self.count as usize, into)
     }
 
-    /// The number of the message before which so many were sent that are still there; none past the last one.
+    /// The number of the message at an index of those that are there, in the order of sending; `None` past the last
+    /// one.
     pub(crate) fn nth(&self, at: u32) -> Option<MsgNo>
         ensures { result ≡ slice_get (map (λ x. x.0) self.now.messages) at }
     {

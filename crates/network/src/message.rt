@@ -12,7 +12,7 @@ pub enum Node {
     Dram(u32),
 }
 
-/// A line's words, valid from the time of their last write to the time up to which they are leased.
+/// A line's words, valid from the time of their last write to the end of their lease.
 #[derive(Clone, Copy, Debug, PartialEq, Eq)]
 pub struct TimedLine {
     /// The time of the last write: the line's version.
@@ -29,17 +29,17 @@ pub enum Body {
     ShReq { pts: u64, version: Option<u64> },
     /// Core to bank: the core asks to own the line, and has the copy of this version, or none.
     ExReq { version: Option<u64> },
-    /// Bank to core: the line, to be read.
+    /// Bank to core: the line, to read.
     ShRep(TimedLine),
-    /// Bank to core: the line, to be owned.
+    /// Bank to core: the line, to own.
     ExRep(TimedLine),
     /// Bank to core: the copy that the core has may be read up to this time.
     RenewRep { rts: u64 },
     /// Bank to core: the core owns the copy that it has, which others may read up to this time.
     UpgradeRep { rts: u64 },
-    /// Bank to owner: give the line back and keep no copy.
+    /// Bank to owner: return the line and keep no copy.
     FlushReq,
-    /// Bank to owner: give the line back and keep a copy to read, leased at least to this time.
+    /// Bank to owner: return the line and keep a copy to read, leased at least to this time.
     WbReq { rts: u64 },
     /// Owner to bank: the line, of which the core keeps no copy.
     FlushRep(TimedLine),

@@ -48,20 +48,20 @@ pub trait Part {
     /// Whether the part's table has a case for the message.
     ghost has_case: { Self → Message → Bool };
 
-    /// The part's table: what it does with a message and what it is afterwards, or `None` where a sum does not fit.
+    /// The part's table: what it does with a message and what it is afterwards, or `None` if a sum does not fit.
     ghost table: { Self → Message → Option (Reaction × Self) };
 
     /// Whether the part takes memory for the message.
     ghost takes_memory: { Self → Message → Bool };
 
-    /// The node that `deliver` would send a message to, and whether the delivered one stays in flight then; `None`
-    /// where nothing would be sent.
+    /// The node that `deliver` would send a message to, and whether the delivered one stays in flight then; `None` if
+    /// it would send nothing.
     fn sends(&self, message: &Message) -> Option<(Node, bool)>
         requires { IsTrue (has_case self.now message.now) }
         ensures { result ≡ sent_by (table self.now message.now) };
 
-    /// Hands the part a message. An error leaves the part as it was; Exhausted goes before NoMemory, which is answered
-    /// only where the part would send a message.
+    /// Hands the part a message. An error leaves the part as it was; Exhausted takes precedence over NoMemory, which
+    /// is answered only if the part would send a message.
     fn deliver(&mut self, message: &Message) -> Result<Reaction, PartError>
         requires { IsTrue (has_case self.old message.now) }
         ensures done { IfOk result (λ reaction. table self.old message.now ≡ Some (

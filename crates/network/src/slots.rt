@@ -10,7 +10,8 @@ use std::alloc::{AllocError, Global};
 /// The number of a message, and the cell where it lies until it is taken.
 pub(crate) type Slot = (u64, Option<u32>);
 
-/// No slots yet, and memory for all that may be kept where so many messages may be in flight, and for one more.
+/// No slots yet, and memory for all that may be kept if at most `capacity` messages may be in flight, and for one
+/// more.
 pub(crate) fn with_room(alloc: Global, capacity: u32) -> Result<Vec<Slot>, AllocError>
     requires { capacity ≤ 65536 }
     ensures items { IfOk result (λ slots. slots.items ≡ []) }
@@ -39,7 +40,7 @@ fn first_from(slots: &[Slot], number: u64) -> usize
     low
 }
 
-/// The index of the slot with the number, or `None` where there is none, found by halving.
+/// The index of the slot with the number, found by halving; `None` if there is none.
 fn halved_slot_of(slots: &[Slot], number: u64) -> Option<usize>
     requires { IsRising 0 slots.now (2 ^ 64) }
     ensures found { IfSome result (λ at. slice_get slots.now at ≡ Some
@@ -56,8 +57,8 @@ fn halved_slot_of(slots: &[Slot], number: u64) -> Option<usize>
     Some(at)
 }
 
-/// The same, where eight slots from one on are looked at before. It is a call of its own, so that a look that finds its
-/// slot at once stays short.
+/// The same, but the call looks at eight slots first, from one on. It is a call of its own, so that a look-up that
+/// finds its slot at once stays short.
 #[inline(never)]
 fn searched_slot_of(slots: &[Slot], from: usize, number: u64) -> Option<usize>
     requires { IsRising 0 slots.now (2 ^ 64) }
@@ -73,9 +74,9 @@ fn searched_slot_of(slots: &[Slot], from: usize, number: u64) -> Option<usize>
     halved_slot_of(slots, number)
 }
 
-/// The index of the slot with the number, or `None` where there is none. Numbers near the last one have a slot each: so
-/// the slot is tried first that is as far before the last one as the number is below that one's. The slots of older
-/// numbers may be gone, and then the number's slot stands behind that one, mostly by a few.
+/// The index of the slot with the number; `None` if there is none. Numbers near the last one have a slot each, so the
+/// call first tries the slot that is as far before the last one as the number is below that one's. The slots of older
+/// numbers may be gone, and then the number's slot comes after that one, mostly by a few.
 #[inline(always)]
 pub(crate) fn slot_of(slots: &[Slot], number: u64) -> Option<usize>
     requires { IsRising 0 slots.now (2 ^ 64) }
@@ -102,7 +103,7 @@ pub(crate) fn slot_of(slots: &[Slot], number: u64) -> Option<usize>
     searched_slot_of(slots, at, number)
 }
 
-/// The cell of the number, or `None` where there is none.
+/// The cell of the number; `None` if there is none.
 #[inline(always)]
 pub(crate) fn cell_of(slots: &[Slot], number: u64) -> Option<u32>
     requires { IsRising 0 slots.now (2 ^ 64) }
@@ -144,7 +145,7 @@ fn drop_all_empty(slots: &mut Vec<Slot>)
     slots.retain(|slot| slot.1.is_some());
 }
 
-/// Drops the empty slots where they are more than the others by two or more. So many slots have a cell.
+/// Drops the empty slots if they outnumber the others by two or more. `used` slots have a cell.
 #[inline(always)]
 pub(crate) fn drop_empty(slots: &mut Vec<Slot>, count: usize)
     requires { count ≡ length (still_there slots.old.items) }
@@ -177,8 +178,8 @@ pub(crate) fn take_cell(slots: &mut Vec<Slot>, number: u64) -> Option<u32>
     empty_slot(slots, at, number)
 }
 
-/// Fills a list, which is emptied first, with the numbers of the slots that have a cell, in their order. So many slots
-/// have one. Memory is refused only if the list's is too small for them; the list is then empty.
+/// Fills a list, which it empties first, with the numbers of the slots that have a cell, in their order. `used` slots
+/// have one. It allocates only if the list's memory is too small for them; if that fails, the list is empty.
 pub(crate) fn list_numbers(
     slots: &[Slot],
     count: usize,
@@ -200,7 +201,7 @@ pub(crate) fn list_numbers(
     Ok(())
 }
 
-/// The number of the slot that has a cell and comes after so many others that have one; none past the last.
+/// The number at an index of the slots that have a cell; `None` past the last.
 pub(crate) fn nth_number(slots: &[Slot], at: u32) -> Option<MsgNo>
     ensures { result ≡ slice_get (map (λ x. x.0) (still_there slots.now)) at }
 {

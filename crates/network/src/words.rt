@@ -3,7 +3,7 @@ ghost use Rattle.std.specs.Prelude.{◌≡◌, ◌<◌, length, replicate, slice
 
 use std::marker::Model;
 
-/// The eight words of a line; where lines have one word, all but the first are 0. Contracts see the list.
+/// The eight words of a line; if lines have one word, all but the first are 0. Contracts see the list.
 #[derive(Clone, Copy, Debug, PartialEq, Eq)]
 pub struct Words {
     values: [u64; 8],

@@ -1,4 +1,4 @@
-//! A map from numbers to values, seen as a finite map: the memories of words and of lines rest on it.
+//! A map from numbers to values, which contracts see as a finite map: the memories of words and of lines use it.
 #![tactic(auto)]
 
 pub mod number_map;

@@ -29,7 +29,7 @@ impl<V> Model for NumberMap<V> {
 }
 
 impl<V: Copy> NumberMap<V> {
-    /// An empty map; it takes no memory yet.
+    /// An empty map; it allocates nothing yet.
     pub fn new(alloc: Global) -> NumberMap<V>
         ensures { result ≡ finite.empty }
     {
@@ -46,7 +46,7 @@ impl<V: Copy> NumberMap<V> {
         self.hash.get(&key).copied()
     }
 
-    /// Gives a key its value. Where memory is refused nothing changes; a key that is there needs none.
+    /// Gives a key its value. If an allocation fails, nothing changes; a key that is there needs none.
     pub fn insert(&mut self, key: u64, value: V) -> Result<(), AllocError>
         ensures inserted { OnOk result (self.new ≡ finite.insert self.old key value) }
         ensures refused { OnErr result (self.new ≡ self.old) }
@@ -56,7 +56,7 @@ impl<V: Copy> NumberMap<V> {
         Ok(())
     }
 
-    /// Drops all entries and keeps the memory. The time grows with the memory.
+    /// Drops all entries and keeps the memory. Its time is in proportion to that memory.
     pub fn clear(&mut self)
         ensures { self.new ≡ finite.empty }
     {

@@ -1,4 +1,4 @@
--- Records as they complete: what is kept of those that are there, and what the next one meets.
+-- Records as they complete: what the ones that are there keep, and what the next one meets.
 use Rattle.std.specs.Prelude.{◌≡◌, ℕ, ◌<◌, ◌≤◌, ◌==◌, nat_le, List, [], ◌∷◌, length, Some, if◌then◌else◌, count_by}
 use Rattle.std.specs.Prelude.{slice_get}
 use Rattle.std.specs.List.{AllByRecursion as Each}
@@ -8,7 +8,7 @@ use Rattle.physiological_order.specs.declared.operation.Op.TheVariants.{Load, St
 use Rattle.physiological_order.specs.declared.operation.Record.{Record}
 use Rattle.physiological_order.specs.Order.{Memory, Before, address, flat_received, flat_after, of_core, Follows}
 
--- r behind all records of its time or an earlier one: its place in an arrangement, if its number is the largest
+-- r after all records of its time or an earlier one: its place in an arrangement, if its number is the largest
 abbrev pub placed : Record → List Record → List Record
 placed r [] = r ∷ []
 placed r (s ∷ ss) = if nat_le s.ts r.ts then s ∷ placed r ss else r ∷ s ∷ ss
@@ -21,7 +21,7 @@ arranged_from start (r ∷ rs) = arranged_from (placed r start) rs
 abbrev pub arranged : List Record → List Record
 arranged rs = arranged_from [] rs
 
--- each comes before all that stand behind it
+-- each comes before all that follow it
 abbrev pub Ascends : List Record → Type 0
 Ascends [] = Unit {0}
 Ascends (r ∷ rs) = Each (λ s. Before r s) rs × Ascends rs
@@ -36,7 +36,7 @@ abbrev pub memory_at : Memory → List Record → ℕ → Memory
 memory_at m [] t = m
 memory_at m (r ∷ rs) t = memory_at (if nat_le r.ts t then flat_after m r.op else m) rs t
 
--- no record of r's word stands behind r, if r writes
+-- no record of r's word follows r, if r writes
 abbrev pub Undisturbed : Op → ℕ → List Record → Type 0
 Undisturbed (Load a) t rs = Unit {0}
 Undisturbed (Store a v) t rs = Each (λ s. address s.op ≡ a → s.ts ≤ t) rs

@@ -36,7 +36,7 @@ flat_after m (Load a) = m
 flat_after m (Store a v) = with_word m a v
 flat_after m (Swap a v) = with_word m a v
 
--- the operations of a list, one after the other on one memory: what each receives, and the end memory
+-- the operations of a list, one after the other on one memory: what each receives, and the memory that they leave
 abbrev pub replay : Memory → List Op → List (Option ℕ)
 replay m [] = []
 replay m (op ∷ ops) = flat_received m op ∷ replay (flat_after m op) ops
@@ -72,7 +72,7 @@ Follows k ops (r ∷ rs) = (r.place ≡ k) × (slice_get ops k ≡ Some r.op) ×
 abbrev pub of_core : ℕ → List Record → List Record
 of_core core rs = filter (λ r. r.core == core) rs
 
--- each core's records stand in its program order: the lists that cores were issued, by their numbers
+-- each core's records are in its program order: the lists that cores were issued, by their numbers
 abbrev pub KeepsProgramOrder : (ℕ → List Op) → List Record → Type 0
 KeepsProgramOrder issued arranged = (core : ℕ) → Follows 0 (issued core) (of_core core arranged)
 

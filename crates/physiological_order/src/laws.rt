@@ -40,8 +40,8 @@ pub fn kept_records_are_legal()
 {}
 
 /// The memory up to a time, with one more record placed: it is as before at earlier times, and at every time for a
-/// word that the record keeps; from its time on it has the record's value, where no later record uses the word; and
-/// past all times it is what the replay leaves.
+/// word that the record doesn't change; from its time on it has the record's value, if no later record uses the word;
+/// and past all times it is what the replay leaves.
 pub fn memory_up_to_a_time()
     ensures before { (opening : Memory) (next : Record) (records : List Record) (time : ℕ) →
         time < next.ts → memory_at opening (placed next records) time ≡ memory_at opening records
@@ -59,13 +59,13 @@ pub fn memory_up_to_a_time()
         (λ r. r.op) records) }
 {}
 
-/// Only loads are stale, whatever the other records are.
+/// Only loads are stale hits, for any other records.
 pub fn stale_hits_are_loads()
     ensures { (op : Op) (records : List Record) (r : Record) →
         is_stale_load op records r ≡ true → (a : ℕ) × (op ≡ Load a) }
 {}
 
-/// A store of 1 and a load behind it that receives 1 are legal; with 0 received they are not.
+/// A store of 1 and a load after it that receives 1 are legal; with 0 received they are not.
 pub fn example()
     ensures one { Legal (λ word. 0) two_issued (two_records 1) }
     ensures zero { Legal (λ word. 0) two_issued (two_records 0) → ⊥ }

@@ -1,5 +1,5 @@
 //! Histories of a multiprocessor's memory: operations, records of completed ones, and the test whether a list of
-//! records is sequentially consistent by its timestamps. docs/ORDER.md tells what is promised.
+//! records is sequentially consistent by its timestamps. docs/ORDER.md states what the crate promises.
 #![tactic(auto)]
 
 pub mod arrangement;

@@ -43,14 +43,14 @@ impl Memory {
         }
     }
 
-    /// The value of the word: 0 where it was never set.
+    /// The value of the word: 0 if it was never set.
     pub fn get(&self, addr: WordAddr) -> u64
         ensures { result ≡ flat self.now addr }
     {
         self.words.get(addr.word()).unwrap_or(0)
     }
 
-    /// Sets the word; one that was set before takes no memory.
+    /// Sets the word; one that was set before needs no allocation.
     pub fn set(&mut self, addr: WordAddr, value: u64) -> Result<(), AllocError>
         ensures set { OnOk result (self.new ≡ finite.insert self.old addr value) }
         ensures refused { OnErr result (self.new ≡ self.old) }
@@ -60,8 +60,8 @@ impl Memory {
         Ok(())
     }
 
-    /// Does the operation, and gives what it receives: the word's value before it, or `None` for a store. A load takes
-    /// no memory, nor does a store or a swap of a word that was set before.
+    /// Performs the operation, and answers what it receives: the word's value before it, or `None` for a store. A load
+    /// allocates nothing, nor does a store or a swap of a word that was set before.
     pub fn perform(&mut self, op: Op) -> Result<Option<u64>, AllocError>
         ensures received { IfOk result (λ received. received ≡ flat_received (flat self.old) op) }
         ensures performed { OnOk result (self.new ≡ words_after self.old op) }

@@ -25,7 +25,7 @@ impl Op {
         }
     }
 
-    /// The number of the operation's word, counted from address 0.
+    /// The number of the operation's word: its byte address divided by 8.
     pub fn word(self) -> u64
         ensures number { result ≡ address self }
         ensures bound { address self < 2 ^ 61 }

@@ -7,7 +7,7 @@ use crate::memory::Memory;
 use crate::operation::Op;
 use std::alloc::{AllocError, Global};
 
-/// What each operation receives when they are done in this order on a memory that opens as given, and the memory
+/// What each operation receives when they are performed in this order on a memory that opens as given, and the memory
 /// that they leave.
 pub fn replay(
     alloc: Global,

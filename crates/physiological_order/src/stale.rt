@@ -16,8 +16,8 @@ pub fn rises_by_number(records: &[Record]) -> bool
     records.is_sorted_by(|record, next| record.number < next.number)
 }
 
-/// The number of loads for which a store or swap of the same word has a smaller number and a greater time. The
-/// records stand by rising number.
+/// The number of loads for which a store or swap of the same word has a smaller number and a greater time. The records
+/// are in rising order of number.
 pub fn stale_hits(alloc: Global, records: &[Record]) -> Result<u64, AllocError>
     requires { RisesByNumber records.now }
     ensures { IfOk result (λ count. count ≡ stale_count records.now) }
@@ -25,8 +25,8 @@ pub fn stale_hits(alloc: Global, records: &[Record]) -> Result<u64, AllocError>
     stale_hits_counted(alloc, &mut Steps::new(), records)
 }
 
-/// What `stale_hits` answers, with its looks into the map of the greatest store times counted: one for each load, and
-/// two for each store or swap, so at most 2 * n for n records. The count never falls.
+/// What `stale_hits` answers, with a count of its looks into the map of the greatest store times: one for each load,
+/// and two for each store or swap, so at most 2 * n for n records. The count never falls.
 pub fn stale_hits_counted(
     alloc: Global,
     steps: &mut Steps,

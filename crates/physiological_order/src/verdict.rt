@@ -1,6 +1,6 @@
 //! What a check of records answers.
 
-/// Whether records are a legal history, and if not, what is the first thing wrong with them.
+/// Whether records are a legal history, and if not, their first fault.
 #[derive(Clone, Copy, Debug, PartialEq, Eq)]
 pub enum Verdict {
     /// The records are what cores that run their issued lists in order, on one memory, would have.

@@ -10,7 +10,7 @@ use crate::operation::{Op, Record};
 use crate::verdict::Verdict;
 use std::alloc::{AllocError, Global};
 
-/// The verdict on records picked by indexes, which stand arranged: the first fault along the indexes, program order
+/// The verdict on records picked by indexes, which are arranged: the first fault along the indexes, program order
 /// before value.
 pub(crate) fn walk(
     alloc: Global,
@@ -38,7 +38,7 @@ pub(crate) fn walk(
     Ok(Verdict::Legal)
 }
 
-/// Whether the record is the next of its core's issued list, where this many of each core's were before.
+/// Whether the record is the next of its core's issued list, after this many of each core's.
 fn is_next(issued: &[Vec<Op>], places: &[u64], candidate: &Record) -> bool
     requires { length places.now ≡ length issued.now }
     ensures { IsTrue result ↔ IsNext issued.now places.now candidate.now }

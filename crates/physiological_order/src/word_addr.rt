@@ -23,7 +23,7 @@ impl Model for WordAddr {
 }
 
 impl WordAddr {
-    /// The word at a byte address, or `None` where the address is not a multiple of eight.
+    /// The word at a byte address; `None` if the address is not a multiple of eight.
     pub fn new(byte: u64) -> Option<WordAddr>
         ensures { SomeIff result (byte % 8 ≡ 0) (byte / 8) }
     {
@@ -34,7 +34,7 @@ impl WordAddr {
         }
     }
 
-    /// The word of a number below 2^61, counted from address 0.
+    /// The word of this number, below 2^61, which is its byte address divided by 8.
     pub fn at(word: u64) -> WordAddr
         requires { word < 2 ^ 61 }
         ensures { result ≡ word }
@@ -42,7 +42,7 @@ impl WordAddr {
         WordAddr { word }
     }
 
-    /// The number of the word, counted from address 0.
+    /// The number of the word: its byte address divided by 8.
     pub fn word(self) -> u64
         ensures number { result ≡ self }
         ensures bound { self < 2 ^ 61 }

@@ -21,14 +21,14 @@ pub(crate) enum Call {
     /// A schedule, and the most rounds or turns.
     Drive(Policy, u32),
     Made(u32),
-    /// What the last drive comes to.
+    /// The counts of the last drive.
     Counts,
-    /// Whether lines are to be kept in rising order.
+    /// Whether the machine is to keep lines in rising order.
     Keep(bool),
     Look(Look),
 }
 
-/// What is looked at, the core, bank or count that stands first behind that, and the number of what stands next.
+/// What a call looks up, the core, bank or count that follows its name, and the number of what follows that.
 #[derive(Clone, Copy)]
 pub(crate) struct Look {
     pub what: What,
@@ -36,7 +36,7 @@ pub(crate) struct Look {
     pub at: u64,
 }
 
-/// What can be looked at.
+/// What can be looked up.
 #[derive(Clone, Copy)]
 pub(crate) enum What {
     Owners,
@@ -64,11 +64,11 @@ pub(crate) enum What {
     Order,
     Shape,
     Stopped,
-    /// The whole machine, with the values of so many words.
+    /// The whole machine, with the values of this many words.
     State,
 }
 
-/// By the names of look-ups: whether a small number stands behind them, and what stands next.
+/// By the names of look-ups: whether a small number follows them, and what follows that.
 const LOOKS: &[(&str, (What, bool, Part))] = &[
     ("records", (What::Records, false, Part::Nothing)),
     ("record", (What::Record, false, Part::Number)),
@@ -96,7 +96,7 @@ const LOOKS: &[(&str, (What, bool, Part))] = &[
     ("dram", (What::Dram, true, Part::Line)),
 ];
 
-/// The event that a name and the next words tell.
+/// The event that a name and the next words call for.
 fn event_of(name: &str, words: &mut Words<'_>) -> Result<Event, Cause> {
     match name {
         "issue" => {
@@ -114,7 +114,7 @@ fn event_of(name: &str, words: &mut Words<'_>) -> Result<Event, Cause> {
     }
 }
 
-/// The event that a text tells, and no more.
+/// The event that a text calls for, and no more.
 fn event(mut words: Words<'_>) -> Result<Event, Cause> {
     let name = words.wanted(Cause::Event)?;
     let event = event_of(name, &mut words)?;
@@ -132,7 +132,7 @@ fn events(alloc: Global, turn: &Turn<'_>, line_words: u32) -> Result<Vec<Event>,
     Ok(events)
 }
 
-/// A step that a text tells, and how often it is done.
+/// A step that a text names, and how often it is repeated.
 fn steps_of(mut words: Words<'_>) -> Result<(u32, Step), Cause> {
     let word = words.wanted(Cause::Operation)?;
     let (times, word) = match words.number_in(word) {
@@ -148,7 +148,7 @@ fn steps_of(mut words: Words<'_>) -> Result<(u32, Step), Cause> {
     Ok((times, Step::Op(op)))
 }
 
-/// Adds a step so many times.
+/// Adds a step this many times.
 fn add_times(steps: &mut Vec<Step>, times: u32, step: &Step) -> Result<(), Cause> {
     let _inside: Option<Op> = None;
     for _ in 0..times {
@@ -157,7 +157,7 @@ fn add_times(steps: &mut Vec<Step>, times: u32, step: &Step) -> Result<(), Cause
     Ok(())
 }
 
-/// Adds the steps that a text tells.
+/// Adds the steps that a text names.
 fn add_steps(steps: &mut Vec<Step>, words: Words<'_>) -> Result<(), Cause> {
     let _inside: Option<Op> = None;
     let (times, step) = steps_of(words)?;
@@ -182,7 +182,7 @@ fn program(alloc: Global, turn: &Turn<'_>) -> Result<Call, Cause> {
     Ok(Call::Program(core, steps))
 }
 
-/// The look-up that a name and the next words tell.
+/// The look-up that a name and the next words ask for.
 fn read_look(name: &str, words: &mut Words<'_>) -> Result<Look, Cause> {
     if name == "word" {
         let at = words.address()?.byte();
@@ -218,7 +218,7 @@ fn call_of(alloc: Global, name: &str, words: &mut Words<'_>) -> Result<Call, Cau
     }
 }
 
-/// Whether lines are to be kept in order, or the look-up whether they are.
+/// Whether the machine is to keep lines in order, or the look-up whether it does.
 fn order(words: &mut Words<'_>) -> Result<Call, Cause> {
     match words.next_word() {
         Some("keep") => Ok(Call::Keep(true)),
@@ -232,7 +232,7 @@ fn order(words: &mut Words<'_>) -> Result<Call, Cause> {
     }
 }
 
-/// What a line asks for, where lines of the machine have so many words.
+/// What a line asks for, for a machine with this many words in a line.
 pub(crate) fn read_call(alloc: Global, turn: &Turn<'_>, line_words: u32) -> Result<Call, Cause> {
     let mut words = turn.words(line_words);
     match words.next_word().unwrap_or("") {

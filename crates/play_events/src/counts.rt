@@ -1,4 +1,5 @@
-//! What a run comes to (docs/COUNTS.md): its events are made once more, on a machine that opens as its own did.
+//! What a run counts (docs/COUNTS.md): the player makes its events once more, on a machine that opens as the run's own
+//! did.
 
 use crate::turns::Turns;
 use event_text::{Reply, kind_of, name_of_kind};
@@ -13,7 +14,7 @@ struct Mail {
     kinds: [(u64, u64); 14],
 }
 
-/// What is counted of a core.
+/// The counts of a core.
 #[derive(Clone, Copy)]
 struct OfCore {
     loads: u64,
@@ -30,7 +31,7 @@ struct OfCore {
     mail: Mail,
 }
 
-/// What is counted of a bank.
+/// The counts of a bank.
 #[derive(Clone, Copy)]
 struct OfBank {
     evicted: u64,
@@ -45,7 +46,7 @@ struct Mark {
     bank: Option<u32>,
 }
 
-/// A run that is made once more, and what it comes to so far.
+/// A run that is made once more, and its counts so far.
 #[derive(Drop)]
 pub(crate) struct Counted {
     system: System,
@@ -101,7 +102,7 @@ impl Mail {
         }
     }
 
-    /// Tells the kinds of which some were sent, and how many were sent and delivered.
+    /// Writes the kinds of which some were sent, and how many were sent and delivered.
     fn put(&self, out: &mut Reply) {
         for (kind, (sent, delivered)) in self.kinds.iter().enumerate() {
             if *sent > 0 {
@@ -245,7 +246,7 @@ impl Counted {
         }
     }
 
-    /// Makes an event, and counts what it comes to. An event sends one message at most.
+    /// Makes an event, and counts its effects. An event sends one message at most.
     fn make(&mut self, event: &Event) -> Result<(), AllocError> {
         let _inside: Option<Op> = None;
         let delivered = match *event {
@@ -281,7 +282,7 @@ impl Counted {
         Ok(())
     }
 
-    /// Tells what the run came to.
+    /// Writes the counts of the run.
     pub(crate) fn put(&self, out: &mut Reply) {
         for (core, of) in self.cores.iter().enumerate() {
             out.named("core", core as u64);

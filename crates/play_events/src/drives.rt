@@ -1,4 +1,4 @@
-//! Programs of steps, by which a machine is driven by rounds or by a seed.
+//! Programs of steps, by which rounds or a seed drive a machine.
 
 use crate::counts::Counted;
 use event_text::{Reply, put_event};
@@ -12,12 +12,12 @@ use std::alloc::{AllocError, Global};
 #[derive(Drop)]
 pub(crate) struct Drives {
     alloc: Global,
-    /// By core; a later program stands behind an earlier one.
+    /// By core; a later program comes after an earlier one.
     programs: Vec<(u32, Vec<Step>)>,
     events: Vec<Event>,
     /// How many of the events were looked at.
     at: usize,
-    /// Whether the machine was given no event since it opened.
+    /// Whether the machine had no event since it opened.
     is_new: bool,
     /// The schedule of the last drive, if the machine had just opened.
     counted: Option<Policy>,
@@ -96,7 +96,7 @@ impl Drives {
         }
     }
 
-    /// Drives the machine, if there is memory for programs; how that ended, and how many events were made.
+    /// Drives the machine, if memory for programs can be allocated; how that ended, and how many events were made.
     fn run(
         &mut self,
         system: &mut System,
@@ -123,12 +123,12 @@ impl Drives {
         self.counted = None;
     }
 
-    /// The machine is given events.
+    /// The machine gets events.
     pub(crate) fn go_on(&mut self) {
         self.is_new = false;
     }
 
-    /// Drives the machine, and tells how that ended, and how many events were made.
+    /// Drives the machine, and writes how that ended, and how many events were made.
     pub(crate) fn drive(
         &mut self,
         system: &mut System,
@@ -143,7 +143,7 @@ impl Drives {
         }
     }
 
-    /// The next events of the last drive, at most so many.
+    /// The next events of the last drive, at most this many.
     pub(crate) fn look(&mut self, count: u32, out: &mut Reply) {
         for _ in 0..count {
             let Some(event) = self.events.get(self.at) else {
@@ -156,7 +156,7 @@ impl Drives {
         out.or("end");
     }
 
-    /// What the last drive comes to, made once more on this machine, which has just opened; nothing if its own had had
+    /// The counts of the last drive, made once more on this machine, which has just opened; nothing if its own had had
     /// events before.
     pub(crate) fn counts(&self, system: System) -> Result<Option<Counted>, AllocError> {
         let Some(policy) = self.counted else {

@@ -1,4 +1,4 @@
-//! What the records of a machine say.
+//! What the records of a machine show.
 
 use event_text::{NO_MEMORY, Reply, memory_of, put_numbers, put_verdict};
 use interleaving_core::System;
@@ -20,7 +20,7 @@ fn verdict(
     check(alloc, &opening, issued.as_slice(), system.records())
 }
 
-/// Tells that verdict.
+/// Writes that verdict.
 pub(crate) fn put_check(
     alloc: Global,
     system: &System,
@@ -33,7 +33,7 @@ pub(crate) fn put_check(
     }
 }
 
-/// Tells how many of the loads are stale hits.
+/// Writes how many of the loads are stale hits.
 pub(crate) fn put_stale(alloc: Global, system: &System, out: &mut Reply) {
     match stale_hits(alloc, system.records()) {
         Ok(count) => out.number(count as u64),
@@ -41,7 +41,7 @@ pub(crate) fn put_stale(alloc: Global, system: &System, out: &mut Reply) {
     }
 }
 
-/// Tells the numbers of the records in the order of their times.
+/// Writes the numbers of the records in the order of their times.
 pub(crate) fn put_arranged(alloc: Global, system: &System, out: &mut Reply) {
     match arrange(alloc, system.records()) {
         Ok(records) => put_numbers(records.as_slice(), out),

@@ -1,13 +1,13 @@
-//! Lists that a machine gives in two ways, which are compared.
+//! Lists that a machine gives in two ways, and their comparison.
 
 use event_text::{NO_MEMORY, Reply};
 use interleaving_core::{LineNo, MsgNo, System};
 use std::alloc::{AllocError, Global};
 
-/// The answer where two ways of asking differ.
+/// The answer if two ways of asking differ.
 pub(crate) const DIFFER: &str = "lists differ";
 
-/// What came of two ways.
+/// The result of two ways.
 #[derive(Drop)]
 enum Found {
     Same(Vec<LineNo>),
@@ -15,7 +15,7 @@ enum Found {
     NoMemory,
 }
 
-/// Tells the lines.
+/// Writes the lines.
 fn put_found(found: Result<Found, AllocError>, out: &mut Reply) {
     match found {
         Ok(Found::Same(lines)) => out.lines(lines.as_slice()),
@@ -85,17 +85,17 @@ fn entries(alloc: Global, system: &System, bank: u32) -> Result<Found, AllocErro
     Ok(same(entries, &wanted))
 }
 
-/// Tells the copies of a core that may be evicted.
+/// Writes the copies of a core that may be evicted.
 pub(crate) fn put_free(alloc: Global, system: &System, core: u32, out: &mut Reply) {
     put_found(free(alloc, system, core), out);
 }
 
-/// Tells the settled entries of a bank.
+/// Writes the settled entries of a bank.
 pub(crate) fn put_entries(alloc: Global, system: &System, bank: u32, out: &mut Reply) {
     put_found(entries(alloc, system, bank), out);
 }
 
-/// Tells the lines of a core's copies.
+/// Writes the lines of a core's copies.
 pub(crate) fn put_copies(system: &System, core: u32, out: &mut Reply) {
     match system.copies(core) {
         Ok(lines) => out.lines(&lines),
@@ -103,7 +103,7 @@ pub(crate) fn put_copies(system: &System, core: u32, out: &mut Reply) {
     }
 }
 
-/// So many messages are compared one by one: each is looked for from the first one on.
+/// The most messages that are compared one by one: the machine looks for each from the first one on.
 const MOST: u32 = 4096;
 
 /// Whether the message at a place is the one that is listed there.
@@ -128,7 +128,7 @@ fn are_one_by_one(system: &System, messages: &[MsgNo]) -> bool {
     count == 0 || is_listed(system, messages, count - 1)
 }
 
-/// Whether a list that has a number already is filled with these, and then once more without more memory.
+/// Whether a list that has a number already is filled with these, and then once more without another allocation.
 fn are_filled(
     system: &System,
     list: &mut Vec<MsgNo>,
@@ -141,7 +141,7 @@ fn are_filled(
     Ok(are && list.as_slice() == messages && list.capacity() == capacity)
 }
 
-/// Tells the messages in flight: at once, one by one, and in a list that is there already.
+/// Writes the messages in flight: at once, one by one, and in a list that is there already.
 pub(crate) fn put_flight(
     alloc: Global,
     system: &System,

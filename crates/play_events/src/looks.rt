@@ -23,7 +23,7 @@ fn has_core(cores: u64, core: u32) -> bool {
     core < 64 && cores >> core & 1 == 1
 }
 
-/// Tells a core's open operation, and whether its request is out, which the machine must tell alike in two ways.
+/// Writes a core's open operation, and whether its request is out; the machine must answer both in two ways alike.
 pub(crate) fn put_open_of(system: &System, core: u32, out: &mut Reply) {
     let open = system.open_op(core);
     let wanted = match &open {
@@ -57,7 +57,7 @@ fn memory_time_of(system: &System, bank: u32) -> Option<u64> {
     Some(system.bank(bank)?.memory_time())
 }
 
-/// Tells a core's copy of a line.
+/// Writes a core's copy of a line.
 pub(crate) fn put_copy_of(system: &System, core: u32, line: LineNo, out: &mut Reply) {
     match system.core(core) {
         Some(core) => put_copy(core.copy(line), out),
@@ -79,7 +79,7 @@ fn put_dram(system: &System, bank: u32, line: LineNo, out: &mut Reply) {
     }
 }
 
-/// Tells the value of the word at a byte address.
+/// Writes the value of the word at a byte address.
 fn put_value(system: &System, byte: u64, out: &mut Reply) {
     match WordAddr::new(byte) {
         Some(word) => out.number(system.coherent(word)),
@@ -93,7 +93,7 @@ fn put_shape(system: &System, out: &mut Reply) {
     out.named("line-words", u64::from(system.line_words()));
 }
 
-/// Tells whether lines are kept in rising order.
+/// Writes whether the machine keeps lines in rising order.
 pub(crate) fn put_order(system: &System, out: &mut Reply) {
     out.word(if system.keeps_order() {
         "kept"
@@ -102,7 +102,7 @@ pub(crate) fn put_order(system: &System, out: &mut Reply) {
     });
 }
 
-/// Tells what a part of the machine has.
+/// Writes what a part of the machine has.
 fn put_part(system: &System, look: &Look, out: &mut Reply) {
     let (number, line) = (look.number, LineNo(look.at));
     match look.what {
@@ -119,7 +119,7 @@ fn put_part(system: &System, look: &Look, out: &mut Reply) {
     }
 }
 
-/// Tells what the machine as a whole has.
+/// Writes what the machine as a whole has.
 fn put_whole(system: &System, look: &Look, out: &mut Reply) {
     match look.what {
         What::Owners => out.number(u64::from(system.owners(LineNo(look.at)))),
@@ -135,7 +135,7 @@ fn put_whole(system: &System, look: &Look, out: &mut Reply) {
     }
 }
 
-/// Tells what is looked at of a machine that opened with these words.
+/// Writes what a look-up finds in a machine that opened with these words.
 pub(crate) fn put_look(
     alloc: Global,
     system: &System,

@@ -1,4 +1,4 @@
-//! The machine that an example plays on, and what is kept beside it.
+//! The machine that an example plays on, and what the player keeps with it.
 
 use crate::calls::Call;
 use crate::counts::Counted;
@@ -31,7 +31,7 @@ pub(crate) fn opened(
     }
 }
 
-/// Tells the answers to a list of events.
+/// Writes the answers to a list of events.
 pub(crate) fn put_answers(answers: &[Answer], out: &mut Reply) {
     for answer in answers {
         out.next_part();
@@ -53,7 +53,7 @@ fn step(system: &mut System, event: Event, out: &mut Reply) {
     put_answer(&came, out);
 }
 
-/// Keeps lines in order, or no longer.
+/// Starts keeping lines in order, or stops.
 fn keep(system: &mut System, is_kept: bool, out: &mut Reply) {
     if is_kept {
         system.keep_order();
@@ -74,7 +74,7 @@ impl Played {
         }
     }
 
-    /// How many words a line of the machine has; 1 where there is none.
+    /// How many words a line of the machine has; 1 if there is none.
     pub(crate) fn line_words(&self) -> u32 {
         match &self.system {
             Some(system) => system.line_words(),
@@ -97,7 +97,7 @@ impl Played {
         }
     }
 
-    /// Opens the machine again with this memory; without memory for that it is given up.
+    /// Opens the machine again with this memory; if an allocation fails, the machine is dropped.
     pub(crate) fn reopen(&mut self, memory: Memory) -> Option<Result<(), AllocError>> {
         let system = self.system.take()?;
         self.drives.begin();
@@ -122,7 +122,7 @@ impl Played {
         }
     }
 
-    /// What the last drive comes to.
+    /// The counts of the last drive.
     fn counts(&self) -> Result<Option<Counted>, AllocError> {
         let Some(config) = self.config else {
             return Ok(None);
@@ -144,7 +144,7 @@ impl Played {
         }
     }
 
-    /// Plays what a line asks for, and tells the answer.
+    /// Plays what a line asks for, and writes the answer.
     pub(crate) fn play(&mut self, call: Call, out: &mut Reply) {
         let call = match call {
             Call::Machine(opening) => return self.open(opening, out),

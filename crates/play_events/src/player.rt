@@ -12,7 +12,7 @@ use std::io::Write;
 #[derive(Clone, Copy)]
 pub(crate) struct EventPlayer;
 
-/// The next line. It was read before, so only memory can be wanting.
+/// The next line. It was read before, so only an allocation can fail.
 pub(crate) fn next<'a>(cursor: &mut Cursor<'a>) -> Result<Option<Turn<'a>>, AllocError> {
     match cursor.next_turn() {
         Ok(turn) => Ok(turn),
@@ -41,7 +41,8 @@ pub(crate) fn play_turn(
     Ok(())
 }
 
-/// Plays a line, once more if it is to be and is refused for want of memory, and tells the answer.
+/// Plays a line, and writes the answer; if memory was refused to it, plays it once more where the command line asks
+/// for that.
 fn play_line<W: Write + Drop>(
     played: &mut Played,
     turn: &Turn<'_>,

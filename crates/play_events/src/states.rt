@@ -13,7 +13,7 @@ fn lines_of(system: &System, words: u32) -> u64 {
     u64::from(words).div_ceil(u64::from(system.line_words()))
 }
 
-/// Tells the core's copies, and the copy that would go for each line that has no place.
+/// Writes the core's copies, and the victim for each line that has no place.
 fn put_lines_of(system: &System, core: u32, copies: &[LineNo], words: u32, out: &mut Reply) {
     for line in copies {
         out.add("; copy");
@@ -42,7 +42,7 @@ fn put_core(system: &System, number: u32, copies: &[LineNo], words: u32, out: &m
     out.add("; ");
 }
 
-/// Tells the words that DRAM has of each line, but of those that are all 0.
+/// Writes the words that DRAM has of each line, except lines whose words are all 0.
 fn put_drams(system: &System, bank: u32, words: u32, out: &mut Reply) {
     let Some(dram) = system.dram(bank) else {
         return;
@@ -89,7 +89,7 @@ fn put_messages(system: &System, messages: &[MsgNo], out: &mut Reply) {
     }
 }
 
-/// Tells the counts, the values of words, the owners of their lines, and whether the machine has stopped.
+/// Writes the counts, the values of words, the owners of their lines, and whether the machine has stopped.
 fn put_sums(system: &System, words: u32, out: &mut Reply) {
     out.word("sent");
     put_counts(&system.counts(), out);
@@ -105,13 +105,13 @@ fn put_sums(system: &System, words: u32, out: &mut Reply) {
     out.word(yes_or_no(system.is_stopped()));
 }
 
-/// There is no memory for a list of what is told.
+/// Writes that memory for a list of the answer can't be allocated.
 fn put_no_memory(out: &mut Reply) {
     out.clear();
     out.word(NO_MEMORY);
 }
 
-/// Tells all of the machine, with the values of so many words.
+/// Writes all of the machine, with the values of this many words.
 pub(crate) fn put_state(system: &System, words: u32, out: &mut Reply) {
     for core in 0..system.cores() {
         let Ok(copies) = system.copies(core) else {

@@ -1,4 +1,4 @@
-//! How many turns of a schedule the events of a run were made in.
+//! In how many turns of a schedule the events of a run were made.
 
 use interleaving_core::{Answer, Event, Refusal, System};
 use schedules::Policy;
@@ -56,8 +56,8 @@ impl Turns {
         self.at = place;
     }
 
-    /// It was answered by the machine, which is as it is behind it. A copy makes a place where there was none for the
-    /// line of an attempt. A line of a bank does so for a message that was held, if there is one.
+    /// The machine answered the event, and is now as given. An eviction of a copy makes a place if there was none for
+    /// the line of an attempt. An eviction of a bank's line does so for a message that was held, if there is one.
     pub(crate) fn end(&mut self, system: &System, event: &Event, answer: &Answer) {
         self.evicts = match *answer {
             Answer::Refused(Refusal::NoRoom) => true,

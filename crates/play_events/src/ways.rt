@@ -14,7 +14,7 @@ use std::io::Write;
 /// Words of a memory that no example opens with.
 const OTHER_WORDS: [(u64, u64); 2] = [(0, 30), (1, 31)];
 
-/// What a machine tells that is opened again with these.
+/// What a machine must answer that is opened again with these.
 const AS_OPENED: &str = "records 0 messages 0 words 30 31";
 
 /// The events of an example.
@@ -77,7 +77,7 @@ fn events_of(alloc: Global, example: &Example<'_>, line_words: u32) -> io::Resul
     Ok(listed)
 }
 
-/// The other memory.
+/// The memory that no example opens with.
 fn other_words(alloc: Global) -> io::Result<Vec<(WordAddr, u64)>> {
     let mut words = Vec::new(alloc);
     for (word, value) in OTHER_WORDS {
@@ -95,7 +95,7 @@ fn reopen(played: &mut Played, words: &[(WordAddr, u64)]) -> io::Result<()> {
     Ok(())
 }
 
-/// Tells of a machine that was opened again with the other memory what must be so.
+/// Writes what must be so of a machine that was opened again with the other memory.
 fn put_opened(system: &System, out: &mut Reply) {
     out.named("records", system.records().len() as u64);
     out.named("messages", u64::from(system.messages()));
@@ -105,7 +105,7 @@ fn put_opened(system: &System, out: &mut Reply) {
     }
 }
 
-/// Opens the machine with the other memory, where it must have that, and then with its own.
+/// Opens the machine with the other memory, compares what it then has, and opens it with its own.
 fn restore<W: Write + Drop>(
     played: &mut Played,
     page: &mut Page<'_>,
@@ -188,7 +188,7 @@ fn play_list<W: Write + Drop>(
     )
 }
 
-/// Plays an example in the other ways, if it can be: its machine was opened, once, and all its events stand in lines.
+/// Plays an example in the other ways, if it can be: its machine was opened, once, and all its events are in lines.
 pub(crate) fn play_other_ways<W: Write + Drop>(
     played: &mut Played,
     example: &Example<'_>,

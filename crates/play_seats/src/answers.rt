@@ -1,17 +1,17 @@
-//! What calls of seats answer, and how it is told.
+//! What calls of seats answer, and how the player writes it.
 
 use event_text::{Reply, put_answer};
 use inbox::Served;
 use machine_table::{Answer, Refusal};
 use mailboxes::{Eviction, Take, Turn};
 
-/// The answer where there is no such seat.
+/// The answer if there is no such seat.
 pub(crate) const NO_SEAT: &str = "no seat";
 
 /// What a call answers.
 #[derive(Clone, Copy)]
 pub(crate) enum Says {
-    /// As an event of the machine is answered.
+    /// An answer that an event of the machine has, too.
     Answers(Answer),
     /// Whether a message was put.
     Puts(bool),
@@ -68,7 +68,7 @@ fn name_of(served: &Served) -> &'static str {
     }
 }
 
-/// Tells what a call answered.
+/// Writes what a call answered.
 pub(crate) fn put_says(says: &Says, out: &mut Reply) {
     match says {
         Says::Answers(answer) => put_answer(answer, out),

@@ -1,4 +1,4 @@
-//! The calls of the language (docs/EVENTS.md, "Seats"): what changes a seat, what is looked up, what opens and closes.
+//! The calls of the language (docs/EVENTS.md, "Seats"): those that change a seat, look something up, open or close.
 
 use event_text::Opening;
 use network::LineNo;
@@ -23,7 +23,7 @@ pub(crate) enum OfCore {
     Seat(OfSeat),
 }
 
-/// What is looked up of the messages of any seat.
+/// What can be looked up of the messages of any seat.
 #[derive(Clone, Copy)]
 pub(crate) enum MailLook {
     Hand,
@@ -36,7 +36,7 @@ pub(crate) enum MailLook {
     Stopped,
 }
 
-/// What is looked up of a core's seat.
+/// What can be looked up of a core's seat.
 #[derive(Clone, Copy)]
 pub(crate) enum CoreLook {
     Open,
@@ -48,11 +48,11 @@ pub(crate) enum CoreLook {
     /// How many it completed.
     Records,
     Mail(MailLook),
-    /// All of the seat, with so many words.
+    /// All of the seat, with this many words.
     State(u32),
 }
 
-/// What is looked up of a bank's seat.
+/// What can be looked up of a bank's seat.
 #[derive(Clone, Copy)]
 pub(crate) enum BankLook {
     Time,
@@ -62,11 +62,11 @@ pub(crate) enum BankLook {
     /// The line that makes room.
     Room,
     Mail(MailLook),
-    /// All of the seat, with so many words.
+    /// All of the seat, with this many words.
     State(u32),
 }
 
-/// What is looked up of a closed run.
+/// What can be looked up of a closed run.
 #[derive(Clone, Copy)]
 pub(crate) enum RunLook {
     Records,
@@ -83,12 +83,12 @@ pub(crate) enum RunLook {
     Slots,
 }
 
-/// A call of the language. Cores, banks and drawers are told by number.
+/// A call of the language. It names cores, banks and drawers by number.
 #[derive(Drop)]
 pub(crate) enum Call {
     /// Opens a machine of seats.
     Seats(Opening),
-    /// Opens numbers with so many drawers.
+    /// Opens numbers with this many drawers.
     Numbers(u32),
     Core(u32, OfCore),
     Bank(u32, OfSeat),

@@ -1,4 +1,4 @@
-//! What is looked up of a seat.
+//! Look-ups of a seat.
 
 use crate::calls::{BankLook, CoreLook, MailLook};
 use crate::states::{put_bank, put_core};
@@ -8,7 +8,7 @@ use event_text::{
     put_values, yes_or_no,
 };
 
-/// What is looked up of a seat's messages.
+/// Looks up a seat's messages.
 pub(crate) fn look_at_mail(mail: &Mail<'_>, look: &MailLook, out: &mut Reply) {
     match look {
         MailLook::Hand => put_message_or_none(mail.inbox.hand(), out),
@@ -27,7 +27,7 @@ pub(crate) fn look_at_mail(mail: &Mail<'_>, look: &MailLook, out: &mut Reply) {
     }
 }
 
-/// What is looked up of the seat of the core of this number.
+/// Looks up the seat of the core of this number.
 pub(crate) fn look_at_core(number: u32, view: &CoreView<'_>, look: &CoreLook, out: &mut Reply) {
     match look {
         CoreLook::Open => put_open(view.core.open_op(), out),
@@ -41,7 +41,7 @@ pub(crate) fn look_at_core(number: u32, view: &CoreView<'_>, look: &CoreLook, ou
     }
 }
 
-/// What is looked up of the seat of the bank of this number.
+/// Looks up the seat of the bank of this number.
 pub(crate) fn look_at_bank(number: u32, view: &BankView<'_>, look: &BankLook, out: &mut Reply) {
     match look {
         BankLook::Time => out.number(view.bank.memory_time()),

@@ -1,4 +1,4 @@
-//! A machine of seats, from its opening to what is asked behind its close.
+//! A machine of seats, from its opening to the calls after its close.
 ghost use Rattle.std.specs.Prelude.{IfOk};
 ghost use Rattle.closed_machine.specs.RunParts.{Parts};
 ghost use Rattle.mailboxes.specs.Seats.{AllBankSeats, AllCoreSeats};
@@ -30,8 +30,8 @@ fn opened(
     }
 }
 
-/// What a machine leaves that is closed with these seats, all that it has. AllocError where there is no memory for that,
-/// and then all is given up.
+/// What a machine leaves that is closed with these seats, which are all that it has. AllocError if memory for that
+/// can't be allocated; then all is dropped.
 fn closed(
     alloc: Global,
     machine: Machine,
@@ -72,7 +72,7 @@ fn play_open<W: Write + Drop>(
     Ok(())
 }
 
-/// Plays calls behind the close, up to a line that opens.
+/// Plays calls after the close, up to a line that opens.
 fn play_closed<W: Write + Drop>(play: &mut Play<'_, '_, '_, '_, W>, run: &Run) -> io::Result<()>
     requires { Parts run.now }
 {
@@ -88,7 +88,7 @@ fn play_closed<W: Write + Drop>(play: &mut Play<'_, '_, '_, '_, W>, run: &Run) -
     Ok(())
 }
 
-/// Plays a machine: the line that opens it, and those behind it, up to one that opens anew.
+/// Plays a machine: the line that opens it, and those after it, up to one that opens anew.
 pub(crate) fn play_machine<W: Write + Drop>(
     play: &mut Play<'_, '_, '_, '_, W>,
     opening: &Opening,

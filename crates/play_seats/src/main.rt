@@ -1,4 +1,4 @@
-//! Plays texts of seats, and of numbers that are drawn (docs/EVENTS.md, "Seats").
+//! Plays texts of seats, and of drawn numbers (docs/EVENTS.md, "Seats").
 #![tactic(auto)]
 
 mod answers;

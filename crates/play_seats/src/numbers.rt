@@ -1,4 +1,4 @@
-//! Numbers, from their opening to what is asked behind their close.
+//! Numbers, from their opening to the calls after their close.
 ghost use Rattle.std.specs.Prelude.{◌<◌, ◌≤◌, IfOk};
 ghost use Rattle.drawn_numbers.specs.Drawers.{AllDrawersOf};
 
@@ -12,7 +12,7 @@ use std::io::Write;
 /// The most drawers that numbers have.
 pub(crate) const MOST: u32 = 16;
 
-/// The answer where there is no such drawer.
+/// The answer if there is no such drawer.
 const NO_DRAWER: &str = "no drawer";
 
 /// Drawn numbers, or `none`.
@@ -76,7 +76,7 @@ fn play_open<W: Write + Drop>(
     Ok(())
 }
 
-/// Plays calls behind the close, up to a line that opens.
+/// Plays calls after the close, up to a line that opens.
 fn play_closed<W: Write + Drop>(
     play: &mut Play<'_, '_, '_, '_, W>,
     lists: &[Vec<u64>],
@@ -92,7 +92,7 @@ fn play_closed<W: Write + Drop>(
     Ok(())
 }
 
-/// Closes the numbers with these drawers, all that they have, and plays what is behind that.
+/// Closes the numbers with these drawers, which are all that they have, and plays the calls after that.
 fn play_close<W: Write + Drop>(
     play: &mut Play<'_, '_, '_, '_, W>,
     numbers: Numbers,
@@ -108,7 +108,7 @@ fn play_close<W: Write + Drop>(
     play_closed(play, lists.as_slice())
 }
 
-/// Plays numbers with so many drawers: the line that opens them, and those behind it, up to one that opens anew.
+/// Plays numbers with this many drawers: the line that opens them, and those after it, up to one that opens anew.
 pub(crate) fn play_numbers<W: Write + Drop>(
     play: &mut Play<'_, '_, '_, '_, W>,
     drawers: u32,

@@ -50,7 +50,7 @@ impl<'t, 'p, 'b, 'o, W: Write + Drop> Play<'t, 'p, 'b, 'o, W> {
         }
     }
 
-    /// The call that is played now; none behind the last line. It was read before, so only memory can be wanting.
+    /// The call that is played now; none after the last line. It was read before, so only an allocation can fail.
     pub fn call(&self) -> Result<Option<Call>, AllocError> {
         let Some(turn) = &self.now else {
             return Ok(None);
@@ -61,7 +61,7 @@ impl<'t, 'p, 'b, 'o, W: Write + Drop> Play<'t, 'p, 'b, 'o, W> {
         }
     }
 
-    /// Tells the answer, and goes on to the next line, or to this one again if it is played once more.
+    /// Takes the answer, and goes on to the next line, or to this one again if it is played once more.
     pub fn tell(&mut self) -> io::Result<()> {
         let Some(turn) = self.now else {
             return Ok(());
@@ -75,7 +75,7 @@ impl<'t, 'p, 'b, 'o, W: Write + Drop> Play<'t, 'p, 'b, 'o, W> {
         Ok(())
     }
 
-    /// Tells this answer, and goes on.
+    /// Takes this answer, and goes on.
     pub fn say(&mut self, answer: &str) -> io::Result<()> {
         self.reply.word(answer);
         self.tell()

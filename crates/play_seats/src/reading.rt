@@ -31,7 +31,7 @@ fn evict(words: &mut Words<'_>) -> Result<Call, Cause> {
     Ok(of_seat(seat, OfSeat::Evict(words.line()?)))
 }
 
-/// What changes a seat, or what is looked up.
+/// A call that changes a seat, or looks something up.
 fn act(name: &str, words: &mut Words<'_>) -> Result<Call, Cause> {
     match name {
         "issue" => issue(words),
@@ -75,7 +75,7 @@ fn room(words: &mut Words<'_>) -> Result<Call, Cause> {
     }
 }
 
-/// What is looked up of a core or a bank, or of others.
+/// A look-up of a core or a bank, or of others.
 fn part_look(name: &str, words: &mut Words<'_>) -> Result<Call, Cause> {
     match name {
         "open" => Ok(Call::CoreLook(words.small()?, CoreLook::Open)),
@@ -103,7 +103,7 @@ fn state(words: &mut Words<'_>) -> Result<Call, Cause> {
     })
 }
 
-/// What is looked up of a seat's messages, or all of a seat; or what is looked up of a closed run.
+/// A look-up of a seat's messages, of all of a seat, or of a closed run.
 fn seat_look(name: &str, words: &mut Words<'_>) -> Result<Call, Cause> {
     match name {
         "hand" => Ok(mail_look(words.seat()?, MailLook::Hand)),
@@ -119,7 +119,7 @@ fn seat_look(name: &str, words: &mut Words<'_>) -> Result<Call, Cause> {
     }
 }
 
-/// What is looked up of a closed run alone.
+/// A look-up of a closed run alone.
 fn run_look(name: &str, words: &mut Words<'_>) -> Result<RunLook, Cause> {
     match name {
         "record" => Ok(RunLook::Record(words.number()?)),

@@ -1,4 +1,4 @@
-//! What is looked up of a machine that was closed.
+//! Look-ups of a closed machine.
 ghost use Rattle.closed_machine.specs.RunParts.{Parts};
 
 use crate::answers::NO_SEAT;
@@ -60,7 +60,7 @@ fn put_check(alloc: Global, run: &Run, out: &mut Reply)
     }
 }
 
-/// What is looked up of the run alone.
+/// Looks up the run alone.
 fn look_at_run(alloc: Global, run: &Run, look: &RunLook, out: &mut Reply)
     requires { Parts run.now }
 {
@@ -78,7 +78,7 @@ fn look_at_run(alloc: Global, run: &Run, look: &RunLook, out: &mut Reply)
     }
 }
 
-/// What is looked up of the core of a number, as it was at the close.
+/// Looks up the core of a number, as it was at the close.
 fn look_at_core_left(run: &Run, number: u32, look: &CoreLook, out: &mut Reply)
     requires { Parts run.now }
 {
@@ -91,7 +91,7 @@ fn look_at_core_left(run: &Run, number: u32, look: &CoreLook, out: &mut Reply)
     }
 }
 
-/// What is looked up of the bank of a number, as it was at the close.
+/// Looks up the bank of a number, as it was at the close.
 fn look_at_bank_left(run: &Run, number: u32, look: &BankLook, out: &mut Reply) {
     let seat = u64::from(run.set_up.config.cores) + u64::from(number);
     let Some(view) = bank_left(run.banks.as_slice(), seat) else {
@@ -100,7 +100,7 @@ fn look_at_bank_left(run: &Run, number: u32, look: &BankLook, out: &mut Reply) {
     look_at_bank(number, &view, look, out)
 }
 
-/// What is answered to a call behind the close.
+/// Writes the answer to a call after the close.
 pub(crate) fn put_asked(alloc: Global, run: &Run, call: &Call, out: &mut Reply)
     requires { Parts run.now }
 {

@@ -72,7 +72,7 @@ fn bank_called(machine: &Machine, banks: &mut Vec<BankSeat>, at: usize, call: &O
     call_bank(&mut banks[at], machine, call)
 }
 
-/// What is looked up of an open seat of a core.
+/// Looks up an open seat of a core.
 fn look_at_core_seat(seat: &CoreSeat, number: u32, look: &CoreLook, out: &mut Reply) {
     let _inside: Option<Mail<'_>> = None;
     match look {
@@ -82,7 +82,7 @@ fn look_at_core_seat(seat: &CoreSeat, number: u32, look: &CoreLook, out: &mut Re
     }
 }
 
-/// What is looked up of the open seat of the core of a number.
+/// Looks up the open seat of the core of a number.
 fn look_at_open_core(cores: &Vec<CoreSeat>, number: u32, look: &CoreLook, out: &mut Reply) {
     let at = number as usize;
     if at >= cores.len() {
@@ -91,13 +91,13 @@ fn look_at_open_core(cores: &Vec<CoreSeat>, number: u32, look: &CoreLook, out: &
     look_at_core_seat(&cores[at], number, look, out)
 }
 
-/// What is looked up of an open seat of a bank.
+/// Looks up an open seat of a bank.
 fn look_at_bank_seat(seat: &BankSeat, number: u32, look: &BankLook, out: &mut Reply) {
     let _inside: Option<Mail<'_>> = None;
     look_at_bank(number, &open_bank(seat), look, out)
 }
 
-/// What is looked up of the open seat of the bank of a number.
+/// Looks up the open seat of the bank of a number.
 fn look_at_open_bank(banks: &Vec<BankSeat>, number: u32, look: &BankLook, out: &mut Reply) {
     let at = number as usize;
     if at >= banks.len() {
@@ -106,7 +106,7 @@ fn look_at_open_bank(banks: &Vec<BankSeat>, number: u32, look: &BankLook, out: &
     look_at_bank_seat(&banks[at], number, look, out)
 }
 
-/// What is answered to a call while the seats are open.
+/// Writes the answer to a call while the seats are open.
 pub(crate) fn put_called(
     machine: &Machine,
     cores: &mut Vec<CoreSeat>,

@@ -6,7 +6,7 @@ use crate::views::{BankView, CoreView, Mail};
 use event_text::{Reply, put_copy, put_entry, put_message, put_open, put_values};
 use network::{LineNo, Words};
 
-/// How many lines so many words have.
+/// How many lines this many words have.
 fn line_count(words: u32, out: &Reply) -> u64 {
     u64::from(words.div_ceil(out.line_words.max(1)))
 }
@@ -49,7 +49,7 @@ fn put_entries(view: &BankView<'_>, words: u32, out: &mut Reply) {
     }
 }
 
-/// The words that DRAM has of each line, but of those that are all 0.
+/// The words that DRAM has of each line, except lines whose words are all 0.
 fn put_drams(view: &BankView<'_>, words: u32, out: &mut Reply) {
     for line in 0..line_count(words, out) {
         let values = view.dram.load(LineNo(line));
@@ -60,7 +60,7 @@ fn put_drams(view: &BankView<'_>, words: u32, out: &mut Reply) {
     }
 }
 
-/// The answer of a look-up behind its name.
+/// The answer of a look-up, after its name.
 fn put_look(name: &str, mail: &Mail<'_>, look: MailLook, out: &mut Reply) {
     out.add(name);
     look_at_mail(mail, &look, out);

@@ -57,7 +57,7 @@ renewed rts copy = record copy { rts = rts }
 abbrev pub upgraded : ℕ → LineCopy → LineCopy
 upgraded rts copy = record copy { state = Exclusive; rts = rts; written = false }
 
--- a copy whose core gives the line back and keeps reading
+-- a copy whose core returns the line and keeps reading
 abbrev pub downgraded : ℕ → LineCopy → LineCopy
 downgraded rts copy = record copy { state = Shared; rts = rts; written = false }
 

@@ -1,4 +1,4 @@
--- The lines that may leave a cache.
+-- The lines that may be evicted from a cache.
 use Rattle.std.specs.Prelude.{ℕ, Bool, true, false, not, List, filter, Option, None, Some, is_some}
 use Rattle.line_sets.specs.SetTable.{Sets, all_listed}
 use Rattle.private_cache.specs.declared.line_copy.LineCopy.{LineCopy}

@@ -1,4 +1,4 @@
-//! A private cache, whose memory is all taken when it is made.
+//! A private cache. It allocates all its memory when it is made.
 ghost use Rattle.std.specs.Prelude.{◌≡◌, ◌≤◌, ◌<◌, length, IfOk, IfSome, IsSome, IsTrue};
 ghost use Rattle.std.specs.Prelude.{◌+◌, if◌then◌else◌, is_some, not, slice_get, true, IsOk, OnErr, OnOk};
 ghost use Rattle.std.specs.Prelude.{Option, Some, ℕ};
@@ -20,11 +20,11 @@ use std::marker::Model;
 pub struct Geometry {
     /// The number of sets, 1 to 1,024.
     pub sets: u32,
-    /// The most copies in a set, 1 to 16.
+    /// How many ways each set has, 1 to 16.
     pub ways: u32,
 }
 
-/// Why a cache did nothing.
+/// Why a call did nothing.
 #[derive(Clone, Copy, Debug, PartialEq, Eq)]
 pub enum CacheError {
     /// 1: there is no copy of the line, and its set is full.
@@ -52,8 +52,8 @@ impl CacheError {
     }
 }
 
-/// The copies of lines that a core has, by set: a line belongs to the set of its number over the number of sets.
-/// Contracts see the ways and the sets, each from the least recently used copy to the most recently used one.
+/// The copies of lines that a core has, by set: a line belongs to the set whose number is the line's, modulo the
+/// number of sets. Contracts see the ways and the sets, each from the least to the most recently used copy.
 #[derive(Drop)]
 pub struct Cache {
     table: LineSets<LineCopy>,
@@ -76,7 +76,7 @@ impl Cache {
     ghost use Rattle.private_cache.specs.CopyTable.{place_for, renewed, set_of, upgraded, victim_for, with_changed};
     ghost use Rattle.private_cache.specs.CopyTable.{with_used, without_copy};
 
-    /// A cache without copies. All memory is taken here, for all the copies that it can have.
+    /// A cache without copies. All memory is allocated here, for all the copies that it can have.
     pub fn new(alloc: Global, geometry: Geometry) -> Result<Cache, AllocError>
         requires { IsGeometry geometry.sets geometry.ways }
         ensures { IfOk result (λ cache. cache ≡ empty_sets geometry.sets geometry.ways) }
@@ -85,8 +85,9 @@ impl Cache {
         Ok(Cache { table })
     }
 
-    /// A cache of this shape without copies again. If it has the shape, no memory is taken, and the time grows with the
-    /// copies that it had; else it is made anew. Where memory for that is refused nothing changes.
+    /// Makes it a cache of this shape without copies. If it already has the shape, the call allocates nothing, and
+    /// takes time in proportion to the copies that it had; otherwise the call allocates the cache anew. If an
+    /// allocation fails, nothing changes.
     pub fn reopen(&mut self, geometry: Geometry) -> Result<(), AllocError>
         requires { IsGeometry geometry.sets geometry.ways }
         ensures opened { OnOk result (self.new ≡ empty_sets geometry.sets geometry.ways) }
@@ -250,7 +251,7 @@ impl Cache {
         Some(LineNo(oldest))
     }
 
-    /// The lines of all copies, rising.
+    /// The lines of all copies, in rising order.
     pub fn lines(&self) -> Result<Vec<LineNo>, AllocError>
         ensures { IfOk result (λ lines.
             lines.items ≡ sorted (all_listed (λ _. true) self.now.sets)) }
@@ -258,7 +259,7 @@ impl Cache {
         self.table.lines()
     }
 
-    /// How many copies there are. All but that of the pinned line, if there is one, may leave.
+    /// How many copies there are. All but that of the pinned line, if there is one, may be evicted.
     pub fn count(&self) -> usize
         ensures count { result ≡ length (all_listed (λ _. true) self.now.sets) }
         ensures free { (pinned : Option ℕ) → length (free_lines self.now pinned)
@@ -278,14 +279,14 @@ impl Cache {
         }
     }
 
-    /// How many copies may leave: all but that of the pinned line.
+    /// How many copies may be evicted: all but that of the pinned line.
     pub fn free_copies(&self, pinned: Option<LineNo>) -> usize
         ensures { result ≡ length (free_lines self.now pinned) }
     {
         self.count() - usize::from(self.has_pinned(&pinned))
     }
 
-    /// The line that comes after so many others, once the lines of all copies but the pinned one are in rising order.
+    /// The line at an index of all copies but the pinned one, in rising order of their lines.
     pub fn free_copy(&self, pinned: Option<LineNo>, at: usize) -> Result<LineNo, AllocError>
         requires { at < length (free_lines self.now pinned) }
         ensures { IfOk result (λ line. slice_get (sorted (free_lines self.now pinned)) at ≡ Some
@@ -294,8 +295,8 @@ impl Cache {
         self.table.nth_listed(pinned, at)
     }
 
-    /// Keeps the lines of all copies in rising order from now on, so that `free_copy` takes no memory.
-    /// `LineSets::keep_order` tells what that takes and moves. Where the memory is refused nothing changes, and the
+    /// Keeps the lines of all copies in rising order from now on, so that `free_copy` allocates nothing.
+    /// `LineSets::keep_order` states what that allocates and moves. If the allocation fails, nothing changes, and the
     /// answers are the same.
     pub fn keep_order(&mut self)
         ensures { self.new ≡ self.old }
@@ -303,7 +304,7 @@ impl Cache {
         self.table.keep_order();
     }
 
-    /// Keeps the lines in rising order no longer, and gives the memory for that back.
+    /// Stops keeping the lines in rising order, and frees the memory for that.
     pub fn forget_order(&mut self)
         ensures { self.new ≡ self.old }
     {

@@ -61,7 +61,7 @@ impl LineCopy {
         }
     }
 
-    /// The copy of a core that gives the line back and keeps reading, up to a time.
+    /// The copy of a core that returns the line and keeps reading, up to a time.
     pub fn downgraded(&self, rts: u64) -> LineCopy
         ensures { result ≡ downgraded rts self.now }
     {

@@ -5,9 +5,9 @@ use Rattle.programs.specs.declared.steps.Step.{Step}
 use Rattle.programs.specs.declared.steps.Step.TheVariants as step
 
 pub record Acts (P : Type 0) : Type 0 where
-  -- the step that a program does next; none where it has ended
+  -- the step that a program does next; none if it has ended
   pub next : P → Option Step
-  -- the program whose next step is done, with the value that it received
+  -- the program once its next step is done, with the value that it received
   pub done : P → Option ℕ → P
 
 -- an operation as a step
@@ -36,7 +36,7 @@ next_of acts (Some program) = acts.next program
 abbrev pub next_in : {P : Type 0} → Acts P → List P → ℕ → Option Step
 next_in acts programs core = next_of acts (slice_get programs core)
 
--- the programs after that of a core is told that its next step is done
+-- the programs once that of a core has done its next step
 abbrev pub done_of : {P : Type 0} → Acts P → List P → ℕ → Option ℕ → Option P → List P
 done_of acts programs core received None = programs
 done_of acts programs core received (Some program) = slice_set programs core (acts.done program received)

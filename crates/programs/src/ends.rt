@@ -3,11 +3,11 @@
 /// How a run ended.
 #[derive(Clone, Copy, Debug, PartialEq, Eq)]
 pub enum End {
-    /// Every thread has done all its operations.
+    /// Every program is done.
     AllDone,
-    /// A round in which nothing went on.
+    /// A round made no progress.
     Stalled,
-    /// The rounds or turns that the run was given are used up.
+    /// The run has used all its rounds or turns.
     TurnsUsed,
     /// A sum of times doesn't fit 64 bits.
     Exhausted,

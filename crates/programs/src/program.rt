@@ -3,19 +3,19 @@ ghost use Rattle.std.specs.Prelude.{◌≡◌};
 
 use crate::steps::Step;
 
-/// A program gives a core one step after the other, and is told what each operation received.
+/// A program gives a core one step after the other, and receives what each operation received.
 pub trait Program {
     ghost use Rattle.programs.specs.Acts.{Acts};
 
     /// What the program does.
     ghost acts: { Acts Self };
 
-    /// The next step, the same until `done`; `None` where the program has ended.
+    /// The next step, the same until `done`; `None` if the program has ended.
     fn next(&mut self) -> Option<Step>
         ensures next { result ≡ acts.next self.old }
         ensures same { self.new ≡ self.old };
 
-    /// Takes the next step as done, with the value that it received: `None` for a store and for an advance.
+    /// The next step is done, with the value that it received: `None` for a store and for an advance.
     fn done(&mut self, received: Option<u64>)
         ensures { self.new ≡ acts.done self.old received };
 }

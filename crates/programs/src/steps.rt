@@ -7,6 +7,6 @@ use physiological_order::Op;
 pub enum Step {
     /// The core issues an operation.
     Op(Op),
-    /// The core advances by one step of its own.
+    /// The core advances its time by one.
     Advance,
 }

@@ -86,9 +86,8 @@ abbrev pub version_of : Option Copy → Option ℕ
 version_of None = None
 version_of (Some c) = Some c.line.wts
 
--- what a message or an eviction does to one line, where a core's own state has no part but that some cores are pinned
--- on the line.
--- mts is the memory time of the line's bank before and after
+-- what a message or an eviction does to one line, if no core's own state takes part, except that some cores are pinned
+-- on the line. mts is the memory time of the line's bank before and after
 pub data LineTransition (lease : ℕ) (pinned : ℕ → Type 0) : ℕ → Line → ℕ → Line → Type 0 where
   evict_shared : {t : ℕ} {x : Line} (c : ℕ) (copy : Copy) → (pinned c → Prim.⊥) → x.copies c ≡ Some copy →
       copy.exclusive ≡ false →
@@ -213,7 +212,7 @@ pub data Asks (c pts : ℕ) : Op → Line → Line → Type 0 where
   to_write : {op : Op} {x : Line} → CannotUse op pts (x.copies c) →
       Asks c pts op x (record x { messages = ExReq c (version_of (x.copies c)) ∷ x.messages })
 
--- the time of a write: above all that others may have read, or, in place, not below what the core itself did
+-- the time of a write: above every read of the old words, or, in place, not below what the core itself did
 abbrev pub write_time : Config → ℕ → Copy → ℕ
 write_time f pts copy = if f.private_write && copy.written then max pts copy.line.rts else max pts (copy.line.rts + 1)
 
@@ -297,7 +296,7 @@ pub data Transition (f : Config) : Machine → Machine → Type 0 where
       (m.mts (l % f.banks)) (m.lines l) t y →
       Transition f m (record m { mts = with_at m.mts (l % f.banks) t; lines = with_at m.lines l y })
 
--- how many replies a core waits for on a line: one where its open operation is on it and its request is out
+-- how many replies a core waits for on a line: one if its open operation is on it and its request is out
 abbrev pub waits : Config → ℕ → Bool → Option Op → ℕ
 waits f l true (Some op) = if line_of f (address op) == l then 1 else 0
 waits f l true None = 0
@@ -347,7 +346,7 @@ owners_in (m ∷ ms) = carries_ownership m + owners_in ms
 abbrev pub owners : ℕ → Line → ℕ
 owners cores x = owned_below x.copies cores + owners_in x.messages
 
--- the words of a line where they now stand: with the owner among the first n cores, in a grant or return, in the bank's
+-- the words of a line where they now are: with the owner among the first n cores, in a grant or return, in the bank's
 -- Shared entry, in a store on its way to DRAM, in DRAM
 abbrev pub or_else : {X : Type 0} → Option X → X → X
 or_else None y = y

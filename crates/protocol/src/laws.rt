@@ -1,4 +1,4 @@
-//! What holds of every machine that the protocol reaches, whatever was done in whatever order.
+//! What holds of every machine that the protocol reaches, by any transitions in any order.
 ghost use Rattle.std.specs.Prelude.{◌≡◌, ◌<◌, ◌≤◌, ℕ, List, Some, None, map, true};
 ghost use Rattle.std.specs.List.{AllByRecursion};
 ghost use Rattle.physiological_order.specs.declared.operation.Record.{Record};

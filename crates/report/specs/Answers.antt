@@ -1,4 +1,4 @@
--- What is answered by a call that reads and then writes one text to a sink.
+-- The answer of a call that reads and then writes one text to a sink.
 use Rattle.std.specs.Prelude.{◌≡◌, ◌<◌, ℕ, List, Option, Result, Err}
 use Rattle.byte_streams.specs.Device.{Grows}
 use Rattle.byte_streams.specs.Whole.{GrowsByFront}
@@ -6,21 +6,21 @@ use Rattle.run_results.specs.declared.results.Done.{Done}
 use Rattle.run_results.specs.declared.results.RunError.{RunError}
 use Rattle.run_results.specs.declared.results.RunError.TheVariants.{Read, Write, NoMemory, Litmus, Trace, BadConfig}
 
--- some text that is right went out, and nothing else
+-- the call wrote one right text, and nothing else
 abbrev pub IsReported : (List ℕ → Type 0) → Option (List ℕ) → Option (List ℕ) → Type 0
 IsReported IsRight old new = (text : List ℕ) × IsRight text × Grows old new text
 
--- a beginning of some text that is right went out
+-- the call wrote a beginning of one right text
 abbrev pub IsCutOff : (List ℕ → Type 0) → Option (List ℕ) → Option (List ℕ) → Type 0
 IsCutOff IsRight old new = (text : List ℕ) × IsRight text × GrowsByFront old new text
 
--- failures of the source and of the sink are counted exactly where they are told
+-- failures of the source and of the sink are counted exactly if the answer reports them
 abbrev pub FailuresAreCounted : Result Done RunError → (read read' written written' : ℕ) → Type 0
 FailuresAreCounted (Err Read) read read' written written' = (read < read') × (written' ≡ written)
 FailuresAreCounted (Err Write) read read' written written' = (read' ≡ read) × (written < written')
 FailuresAreCounted came read read' written written' = (read' ≡ read) × (written' ≡ written)
 
--- writing failed: that is counted, and what went out is a beginning of the text
+-- writing failed: that is counted, and the bytes that were written are a beginning of the text
 abbrev pub IsWriteError : Option (List ℕ) → Option (List ℕ) → (before after : ℕ) → List ℕ → RunError → Type 0
 IsWriteError old new before after text Write = GrowsByFront old new text × (before < after)
 IsWriteError old new before after text Read = ⊥

@@ -7,11 +7,11 @@ use Rattle.litmus_lexer.specs.declared.limits.TheConstants.{MOST_BYTES}
 use Rattle.run_results.specs.declared.results.RunError.{RunError}
 use Rattle.run_results.specs.declared.results.RunError.TheVariants.{Read, Write, NoMemory, Litmus, Trace, BadConfig}
 
--- this holds of bytes that are all the source's, where those are known
+-- this holds of bytes that are all the source's, if those are known
 abbrev pub OfBytes : Option (List ℕ) → (List ℕ → Type 0) → Type 0
 OfBytes known P = (bytes : List ℕ) × ReadsAll known bytes × P bytes
 
--- the bytes are more than a litmus text has, which is told of its first line
+-- the bytes are more than a litmus text may have; the fault is reported at its first line
 abbrev pub IsTooLargeTest : Option (List ℕ) → LitmusError → Type 0
 IsTooLargeTest known e =
     (e ≡ record { line = 1; kind = TooLarge }) × IfSome known (λ bytes. MOST_BYTES < length bytes)

@@ -45,7 +45,7 @@ pub record IsLitmusReport (options : LitmusOptions) (bytes : List ℕ) (all_done
 abbrev pub IsNoTest : List ℕ → LitmusError → Type 0
 IsNoTest bytes e = ((test : Litmus) → IsTest bytes test → ⊥) × Fault bytes e.kind e.line
 
--- the fault that reading tells of the bytes: want of memory is none
+-- the fault that reading reports of the bytes; refused memory is none
 abbrev pub IsLitmusFault : List ℕ → LitmusError → Type 0
 IsLitmusFault bytes e = (test_at bytes ≡ Err e) × IsNoTest bytes e × (e.kind ≢ LackOfMemory)
 
@@ -60,7 +60,7 @@ HasNoReport options bytes NoMemory = 0 < length bytes
 HasNoReport options bytes Read = ⊥
 HasNoReport options bytes Write = ⊥
 
--- why a text is refused: want of memory is no fault of it
+-- why a text is refused: refused memory is no fault of it
 abbrev pub litmus_refusal_of : Kind → LitmusError → RunError
 litmus_refusal_of LackOfMemory error = NoMemory
 litmus_refusal_of kind error = Refused error

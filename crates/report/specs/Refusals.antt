@@ -10,19 +10,19 @@ use Rattle.programs.specs.declared.steps.Step.{Step}
 use Rattle.trace_reader.specs.Grammar.{IsTrace}
 use Rattle.trace_reader.specs.Outcomes.{IsOfLine}
 
--- the trace that was read: its text is all that the source had, where that is known
+-- the trace that was read: its text is all that the source had, if that is known
 abbrev pub IsRead : Option (List ℕ) → List (List Step) → Type 0
 IsRead known lanes = IfSome known (λ bytes. IsTrace bytes lanes)
 
--- The fault of a line, where Says is the grammar, Cause tells what stands in the line of a fault, and read is the
--- reading from the front: bytes that are known say nothing by the grammar, reading them tells this fault, and it has
--- its cause in its line.
+-- The fault of a line. Says is the grammar, Cause states what is in the line of a fault, and read is the reading from
+-- the front: bytes that are known say nothing by the grammar, reading them reports this fault, and it has its cause in
+-- its line.
 abbrev pub IsFault : {X Y : Type 0} → (Says : List ℕ → X → Type 0) → (Cause : List ℕ → Kind → ℕ → Type 0) →
     (read : List ℕ → Result Y TraceError) → Option (List ℕ) → TraceError → Type 0
 IsFault {X} Says Cause read known e = IsOfLine e × IfSome known (λ bytes. ((x : X) → Says bytes x → ⊥)
     × (read bytes ≡ Err e) × Cause bytes e.kind e.line)
 
--- a failed call and want of memory are no faults of a text
+-- a failed call and refused memory are no faults of a text
 abbrev pub refusal_of : Kind → TraceError → RunError
 refusal_of ReadingFailed e = Read
 refusal_of LackOfMemory e = NoMemory
@@ -31,11 +31,11 @@ refusal_of kind e = Trace e
 abbrev pub refusal : TraceError → RunError
 refusal e = refusal_of e.kind e
 
--- reading the text wants memory: there is a step or a record to keep, or a fault
+-- reading the text allocates: there is a step or a record to keep, or a fault
 abbrev pub WantsMemory : {Y : Type 0} → (read : List ℕ → Result (List Y) TraceError) → Option (List ℕ) → Type 0
 WantsMemory read known = IfSome known (λ bytes. read bytes ≢ Ok [])
 
--- how reading a text fails: a failure is counted exactly where it is told
+-- how reading a text fails: a failure is counted exactly if the answer reports it
 abbrev pub IsUnread : (IsFaultOf : TraceError → Type 0) → (Wants : Type 0) → (before after : ℕ) → RunError → Type 0
 IsUnread IsFaultOf Wants before after Read = before < after
 IsUnread IsFaultOf Wants before after NoMemory = (after ≡ before) × Wants

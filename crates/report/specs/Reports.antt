@@ -19,20 +19,21 @@ use Rattle.report.specs.Refusals.{IsFault, IsRead, WantsMemory}
 use Rattle.trace_reader.specs.Steps.{trace_cores}
 use Rattle.report.specs.Runs.{IsTraceRun, is_all_done, run_text}
 
--- the text has a line for each record, and if these are no more than a text may have, it is the text of the records
+-- the text has a line for each record, and if there are no more records than a text may have, it is the text of the
+-- records
 abbrev pub TellsRecords : List ℕ → List Record → Type 0
 TellsRecords text records =
     (length (lines_of text) ≡ length records) × (length records ≤ MOST_LINES → AreRecords text records)
 
--- the text tells a run that came to this end and machine, and says whether that ended all done; records that are told
--- alone are read back
+-- the text reports a run with this end and machine, and says whether that ended all done; a text of the records alone
+-- reads back as these records
 pub record TellsOf (records : Bool) (lanes : List (List Step)) (end : End) (machine : Machine) (all_done : Bool)
     (text : List ℕ) : Type 0 where
   pub text_is : text ≡ run_text records lanes end machine
   pub read_back : records ≡ true → TellsRecords text machine.records
   pub done : all_done ≡ is_all_done end
 
--- it tells a run of the trace on a good machine
+-- it reports a run of the trace on a good machine
 pub record TellsTraceRun (options : TraceOptions) (lanes : List (List Step)) (all_done : Bool) (text : List ℕ)
     : Type 0 where
   pub good : is_good (config_of options.run.machine (trace_cores lanes)) ≡ true
@@ -42,7 +43,7 @@ pub record TellsTraceRun (options : TraceOptions) (lanes : List (List Step)) (al
       (config_of options.run.machine (trace_cores lanes)) lanes end machine
   pub told : TellsOf options.records lanes end machine all_done text
 
--- it tells a run of the trace that the source had
+-- it reports a run of the trace that the source had
 abbrev pub IsTraceReport : TraceOptions → Option (List ℕ) → Bool → List ℕ → Type 0
 IsTraceReport options known all_done text =
     (lanes : List (List Step)) × IsRead known lanes × TellsTraceRun options lanes all_done text
@@ -51,7 +52,7 @@ IsTraceReport options known all_done text =
 abbrev pub IsTraceFault : Option (List ℕ) → TraceError → Type 0
 IsTraceFault known e = IsFault IsTrace TraceFault steps_read known e
 
--- why a trace that was read has no report; a machine that is not good is told, and no memory is wanted for it
+-- why a trace that was read has no report: BadConfig only if the machine isn't good, and NoMemory only if it is
 abbrev pub HasNoRun : TraceOptions → List (List Step) → RunError → Type 0
 HasNoRun options lanes NoMemory = is_good (config_of options.run.machine (trace_cores lanes)) ≡ true
 HasNoRun options lanes BadConfig = is_good (config_of options.run.machine (trace_cores lanes)) ≡ false
@@ -60,7 +61,7 @@ HasNoRun options lanes Write = ⊥
 HasNoRun options lanes (Litmus e) = ⊥
 HasNoRun options lanes (Trace e) = ⊥
 
--- why there is no report on what the source had; memory is wanted to read it, or for a run on a good machine
+-- why there is no report on what the source had; NoMemory only if reading it allocates, or the machine is good
 abbrev pub HasNoTraceReport : TraceOptions → Option (List ℕ) → RunError → Type 0
 HasNoTraceReport options known (Trace e) = IsTraceFault known e
 HasNoTraceReport options known BadConfig = (lanes : List (List Step)) × IsRead known lanes

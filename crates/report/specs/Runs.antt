@@ -1,4 +1,4 @@
--- What a run of a trace is, and the texts that tell it.
+-- What a run of a trace is, and the texts that report it.
 use Rattle.std.specs.Prelude.{◌≡◌, ℕ, zero, suc, ◌+◌, Bool, true, false, List, [], ◌∷◌, ◌++◌, length, map, Option}
 use Rattle.std.specs.Prelude.{slice_index_or}
 use Rattle.std.specs.Ordering.{nat_cmp}
@@ -31,9 +31,9 @@ abbrev pub programs_below : List (List Step) → ℕ → List (List Step)
 programs_below lanes zero = []
 programs_below lanes (suc core) = programs_below lanes core ++ lane lanes core ∷ []
 
--- A run of a trace over a memory of zeros, by a policy or by threads. Its records are a legal history of what the cores
--- were issued, and so of the operations of the trace. They stand by rising number, and are such as a text of records
--- can tell. The words have the values that the records leave, one after the other in the order of their times.
+-- A run of a trace over a memory of zeros, by a policy or by threads. Its records are a legal history of what the
+-- cores were issued, and so of the operations of the trace. They are in rising order of number, and a text of records
+-- can write them. The words have the values that the records leave, one after the other in the order of their times.
 pub record IsTraceRun (policy : Option Policy) (limit : ℕ) (config : Config) (lanes : List (List Step)) (end : End)
     (machine : Machine) : Type 0 where
   pub programs : List (List Step)
@@ -50,7 +50,7 @@ abbrev pub issued_below : Machine → ℕ → ℕ
 issued_below m zero = 0
 issued_below m (suc core) = issued_below m core + length (slice_index_or m.issued core [])
 
--- the words that operations name, beside those that are there: a map, whose entries rise by word
+-- the words that operations name, and those that are there: a map, whose entries rise by word
 abbrev pub with_words : FinMap nat_cmp ℕ → List Op → FinMap nat_cmp ℕ
 with_words words [] = words
 with_words words (op ∷ ops) = with_words (insert words (address op) 0) ops
@@ -60,12 +60,12 @@ abbrev pub words_below : List (List Step) → ℕ → FinMap nat_cmp ℕ
 words_below lanes zero = empty
 words_below lanes (suc core) = with_words (words_below lanes core) (ops_of (lane lanes core))
 
--- the values of words, where they stand
+-- the values of words, where they are
 abbrev pub values_in : Machine → FinMap nat_cmp ℕ → List (ℕ × ℕ)
 values_in m words = map (λ entry. (entry.0, coherent m entry.0)) (entries words)
 
--- what the report says of a run beside its records and its words: they are a legal history of the trace's operations
--- (`legal_in_trace`), and so a check's verdict on them is Legal
+-- what the report says of a run, apart from its records and its words: they are a legal history of the trace's
+-- operations (`legal_in_trace`), and so a check's verdict on them is Legal
 abbrev pub trace_end_of : List (List Step) → End → Machine → TraceEnd
 trace_end_of lanes end m = record {
   issued = issued_below m (trace_cores lanes);

@@ -20,7 +20,7 @@ use Rattle.report.specs.Reports.{IsTraceFault}
 use Rattle.trace_reader.specs.Steps.{trace_ops}
 use Rattle.trace_texts.specs.Verdicts.{check_text}
 
--- the records that were read: their text is all that the source had, where that is known
+-- the records that were read: their text is all that the source had, if that is known
 abbrev pub AreRead : Option (List ℕ) → List Record → Type 0
 AreRead known records = IfSome known (λ bytes. AreRecords bytes records)
 
@@ -47,8 +47,8 @@ abbrev pub IsCheckReport : (trace records : Option (List ℕ)) → Bool → List
 IsCheckReport trace records legal text = (lanes : List (List Step)) × (told : List Record)
     × IsRead trace lanes × AreRead records told × IsVerdictLine lanes told legal text
 
--- why there is no verdict: the trace is refused, or it was read and the records are refused; memory is wanted to read
--- the trace, behind it to read the records, and behind both for the line
+-- why there is no verdict: the trace is refused, or it was read and the records are refused; reading the trace
+-- allocates, then reading the records, and then writing the line
 abbrev pub HasNoVerdict : (trace records : Option (List ℕ)) → RunError → Type 0
 HasNoVerdict trace records (Trace e) =
     IsTraceFault trace e ⊎ (((lanes : List (List Step)) × IsRead trace lanes) × IsRecordsFault records e)
@@ -60,7 +60,7 @@ HasNoVerdict trace records Write = ⊥
 HasNoVerdict trace records (Litmus e) = ⊥
 HasNoVerdict trace records BadConfig = ⊥
 
--- failures of two sources, of which the second is read behind the first, are counted exactly where they are told
+-- failures of two sources, of which the second is read after the first, are counted exactly if the answer reports them
 abbrev pub ReadsCounted : {X : Type 0} → Result X RunError → (first first' second second' : ℕ) → Type 0
 ReadsCounted (Err Read) first first' second second' =
     ((first < first') × (second' ≡ second)) ⊎ ((first' ≡ first) × (second < second'))

@@ -18,7 +18,8 @@ use trace_texts::check_text;
 
 /// Reads a trace, and records only if that was accepted, and writes what the checker says of the records, for the
 /// operations of the trace over a memory of zeros: one line, all done exactly if the verdict is Legal. Read and Trace
-/// of the trace go before those of the records, and Write comes last; by an error but Write the sink is unchanged.
+/// for the trace take precedence over those for the records, and Write comes last; on any error but Write the sink is
+/// unchanged.
 pub fn run_check<S: Source, R: Source, K: Sink>(
     alloc: Global,
     trace: &mut S,

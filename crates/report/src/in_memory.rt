@@ -48,8 +48,8 @@ impl Source for InMemory<'_> {
     }
 }
 
-/// The report on the litmus test that a text is, run as the options say by a schedule that takes no threads. Litmus
-/// goes before BadConfig.
+/// The report on the litmus test that a text is, run as the options say by a schedule without threads. Litmus takes
+/// precedence over BadConfig.
 pub fn litmus_report(
     alloc: Global,
     text: &[u8],
@@ -102,8 +102,8 @@ fn runs_of(
     policy_runs(alloc, test, config, policy, options.runs, limit)
 }
 
-/// The report on a run of the trace that a text is, or its records, by a schedule that takes no threads. Trace goes
-/// before BadConfig.
+/// The report on a run of the trace that a text is, or its records, by a schedule without threads. Trace takes
+/// precedence over BadConfig.
 pub fn trace_report(alloc: Global, text: &[u8], options: &TraceOptions) -> Result<Report, RunError>
     requires { policy_of options.now.run ≢ None }
     ensures report { IfOk result (λ report.
@@ -137,8 +137,8 @@ fn report_of(alloc: Global, trace: &Trace, options: &TraceOptions) -> Result<Rep
     }
 }
 
-/// The line of the verdict on records for what a trace issues, both as texts. The trace's fault goes before the
-/// records'.
+/// The line of the verdict on records for what a trace issues, both as texts. The trace's fault takes precedence over
+/// the records'.
 pub fn check_report(alloc: Global, trace: &[u8], records: &[u8]) -> Result<Report, RunError>
     ensures report { IfOk result (λ report.
         IsCheckReport (Some trace.now) (Some records.now) report.all_done report.text.items) }

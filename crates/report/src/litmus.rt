@@ -30,9 +30,9 @@ use worker_driver::{
 };
 
 /// Reads a litmus test to the end of the source, runs it as the options say, and writes the report of the runs. Each
-/// end state in the report is an outcome of the sequential machine. A source that has more bytes than a litmus text may
-/// have is not read to its end. Read goes before Litmus, that before BadConfig, and Write comes last; by an error but
-/// Write the sink is unchanged.
+/// end state in the report is an outcome of the sequential machine. If the source has more bytes than a litmus text
+/// may have, the call doesn't read it to its end. Read takes precedence over Litmus, that over BadConfig, and Write
+/// comes last; on any error but Write the sink is unchanged.
 pub fn run_litmus<R: Threads + Sync, S: Source, K: Sink>(
     rt: &R,
     alloc: Global,

@@ -1,4 +1,4 @@
-//! A report, and a whole text to a sink, with what is answered where that fails.
+//! A report, and writing a whole text to a sink, with the error if that fails.
 ghost use Rattle.std.specs.Prelude.{◌≡◌, IfOk, IfErr, OnOk};
 ghost use Rattle.byte_streams.specs.Device.{Grows};
 ghost use Rattle.report.specs.Answers.{IsWriteError};
@@ -6,14 +6,14 @@ ghost use Rattle.report.specs.Answers.{IsWriteError};
 use byte_streams::{DeviceError, Sink, write_all};
 use run_results::{Done, RunError};
 
-/// A text that goes out, and whether it tells that all is done, or legal.
+/// A text to write, and whether it says that all is done, or legal.
 #[derive(Drop)]
 pub struct Report {
     pub text: Vec<u8>,
     pub all_done: bool,
 }
 
-/// Writes the text, and is then done as it is said.
+/// Writes the text, and answers whether it says that all is done.
 pub fn put_out<K: Sink>(sink: &mut K, text: &[u8], done: Done) -> Result<Done, RunError>
     ensures done { IfOk result (λ answer. answer ≡ done) }
     ensures all { OnOk result (Grows (K.contents sink.old) (K.contents sink.new) text.now) }

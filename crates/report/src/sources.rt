@@ -1,4 +1,4 @@
-//! The text that a source has, with what is answered where it has none.
+//! The text that a source has, or the error if it has none.
 ghost use Rattle.std.specs.Prelude.{◌≡◌, ◌+◌, IfOk, IfErr, OnOk};
 ghost use Rattle.byte_streams.specs.Whole.{ReadsAll, TakesAtMost};
 ghost use Rattle.report.specs.Bytes.{HasNoText};

@@ -1,5 +1,5 @@
-//! What is told of a run beside its records: the words that its trace names, their values, and how many operations
-//! were issued.
+//! What a report says of a run apart from its records: the words that its trace names, their values, and how many
+//! operations were issued.
 ghost use Rattle.std.specs.Prelude.{◌≡◌, ◌≤◌, max, map, length, IfOk, OnOk};
 ghost use Rattle.std.specs.FinMap.{entries};
 ghost use Rattle.machine_table.specs.Machine.{Machine};
@@ -62,7 +62,7 @@ fn values_in<M: Finished>(
     Ok(pairs)
 }
 
-/// The words that the operations of a trace name, by rising address, with their values, where they stand.
+/// The words that the operations of a trace name, by rising address, with their values, where they are.
 pub(crate) fn values_of<M: Finished>(
     alloc: Global,
     trace: &Trace,

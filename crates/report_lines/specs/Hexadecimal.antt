@@ -5,7 +5,7 @@ use Rattle.std.specs.Prelude.{ℕ, zero, suc, ◌+◌, ◌*◌, ◌/◌, ◌%◌
 abbrev pub hex_glyph : ℕ → ℕ
 hex_glyph d = if nat_lt d 10 then 48 + d else 87 + d
 
--- a number in at most so many hexadecimal digits, without leading zeros
+-- a number in at most n hexadecimal digits, without leading zeros
 abbrev pub hex_digits : ℕ → ℕ → List ℕ
 hex_digits zero n = []
 hex_digits (suc places) n = if nat_lt n 16 then hex_glyph n ∷ [] else

@@ -1,4 +1,4 @@
-//! Addresses in hexadecimal, each put after the text so far. If allocation fails, part of it may stand there.
+//! Addresses in hexadecimal, each appended to the text so far. If allocation fails, part of it may be in the text.
 
 ghost use Rattle.std.specs.Prelude.{◌≡◌, ◌<◌, ◌++◌, OnOk};
 ghost use Rattle.report_lines.specs.Hexadecimal.{address_text, hex_digits, hex_glyph};

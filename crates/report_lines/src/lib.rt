@@ -1,4 +1,4 @@
-//! The lines that the texts of all reports share: each is put after the text so far.
+//! The lines that the texts of all reports share: each is appended to the text so far.
 #![tactic(auto)]
 
 mod addresses;

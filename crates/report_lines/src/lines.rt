@@ -9,7 +9,7 @@ use network::Counts;
 use physiological_order::WordAddr;
 use std::alloc::AllocError;
 
-/// A label, a space and a number. If allocation fails, part of the line may stand in the text.
+/// A label, a space and a number. If allocation fails, part of the line may be in the text.
 pub fn put_field(out: &mut Vec<u8>, label: &[u8], value: u128) -> Result<(), AllocError>
     ensures { OnOk result (out.new.items ≡ out.old.items ++ field label.now value) }
 {
@@ -17,7 +17,7 @@ pub fn put_field(out: &mut Vec<u8>, label: &[u8], value: u128) -> Result<(), All
     put_word(out, label, digits.format(value).as_bytes())
 }
 
-/// A label, a space and a word. If allocation fails, part of the line may stand in the text.
+/// A label, a space and a word. If allocation fails, part of the line may be in the text.
 pub fn put_word(out: &mut Vec<u8>, label: &[u8], word: &[u8]) -> Result<(), AllocError>
     ensures { OnOk result (out.new.items ≡ out.old.items ++ word_line label.now word.now) }
 {
@@ -28,8 +28,8 @@ pub fn put_word(out: &mut Vec<u8>, label: &[u8], word: &[u8]) -> Result<(), Allo
     Ok(())
 }
 
-/// How many renewals, upgrades, flushes and write-backs were sent, a line each. If allocation fails, some of it may
-/// stand in the text.
+/// How many renewals, upgrades, flushes and write-backs were sent, a line each. If allocation fails, some of it may be
+/// in the text.
 pub fn put_counts(out: &mut Vec<u8>, counts: Counts) -> Result<(), AllocError>
     ensures { OnOk result (out.new.items ≡ out.old.items ++ counts_text counts) }
 {
@@ -39,7 +39,7 @@ pub fn put_counts(out: &mut Vec<u8>, counts: Counts) -> Result<(), AllocError>
     put_field(out, b"write-backs", counts.write_backs)
 }
 
-/// The line of a word of memory: its address, and its value. If allocation fails, part of it may stand in the text.
+/// The line of a word of memory: its address, and its value. If allocation fails, part of it may be in the text.
 pub fn put_value(out: &mut Vec<u8>, word: WordAddr, value: u64) -> Result<(), AllocError>
     ensures { OnOk result (out.new.items ≡ out.old.items ++ value_line word value) }
 {

@@ -1,4 +1,4 @@
--- How many runs ended in each way, and what is seen of those that are all done.
+-- How many runs ended in each way, and the end states of those that are all done.
 use Rattle.std.specs.Prelude.{ℕ, ◌+◌, ◌-◌, ◌^◌, ◌<◌, Bool, true, false, cond, List, Option, Some, None}
 use Rattle.std.specs.Prelude.{count_by}
 use Rattle.litmus_reader.specs.Litmus.{Litmus}
@@ -23,7 +23,7 @@ ends_as end run = same_end run.end end
 abbrev pub runs_ended : End → List RunEnd → ℕ
 runs_ended end runs = count_by (ends_as end) runs
 
--- the values of the condition's names, where a run is all done
+-- the values of the condition's names, if a run is all done
 abbrev pub done_state : End → Option (List ℕ) → Option (List ℕ)
 done_state AllDone state = state
 done_state end state = None

@@ -35,6 +35,6 @@ values_text locations (name ∷ names) (value ∷ values) =
     value_text locations name value ++ values_text locations names values
 values_text locations names values = []
 
--- an end state: how often it was met, and its values
+-- an end state: how often it occurred, and its values
 abbrev pub state_line : Litmus → ℕ × List ℕ → List ℕ
 state_line test state = decimal state.0 ++ values_text test.locations test.seen state.1 ++ newline

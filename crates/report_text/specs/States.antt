@@ -1,5 +1,5 @@
--- The end states of the runs that are all done, each once with how often it was met, in the order in which they were
--- first met.
+-- The end states of the runs that are all done, each once with how often it occurred, in the order in which they first
+-- occurred.
 use Rattle.std.specs.Prelude.{ℕ, ◌+◌, Bool, not, if◌then◌else◌, List, [], ◌∷◌, map, filter}
 use Rattle.std.specs.Borrow.{Bor}
 use Rattle.std.specs.List.{filter_map}
@@ -18,7 +18,7 @@ same_state = bytes_eq
 abbrev pub done_states : List RunEnd → List NamedValues
 done_states runs = filter_map (λ run. done_state run.end run.state) runs
 
--- how often a state is met
+-- how often a state occurs
 abbrev pub times_met : NamedValues → List NamedValues → ℕ
 times_met state [] = 0
 times_met state (other ∷ states) = (if same_state state other then 1 else 0) + times_met state states
@@ -26,8 +26,7 @@ times_met state (other ∷ states) = (if same_state state other then 1 else 0) +
 abbrev pub without_state : NamedValues → List (ℕ × NamedValues) → List (ℕ × NamedValues)
 without_state state entries = filter (λ entry. not (same_state state entry.1)) entries
 
--- each state once, with how often it is met: the first one, and then those of the rest that
--- differ from it
+-- each state once, with how often it occurs: the first one, and then those of the rest that differ from it
 abbrev pub tallied : List NamedValues → List (ℕ × NamedValues)
 tallied [] = []
 tallied (state ∷ states) = (1 + times_met state states, state) ∷ without_state state (tallied states)

@@ -7,7 +7,7 @@ abbrev pub summed : (RunEnd → ℕ) → List RunEnd → ℕ
 summed amount [] = 0
 summed amount (run ∷ runs) = amount run + summed amount runs
 
--- a sum that would pass 2^128 - 1 stands as 2^128 - 1
+-- a sum that would pass 2^128 - 1 is 2^128 - 1
 abbrev pub capped : ℕ → ℕ
 capped sum = min sum (2 ^ 128 - 1)
 

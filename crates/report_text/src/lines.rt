@@ -1,4 +1,4 @@
-//! The lines that only this text has: each is put after the text so far.
+//! The lines that only this text has: each is appended to the text so far.
 
 ghost use Rattle.std.specs.Prelude.{◌≡◌, ◌++◌, ◌∷◌, OnOk, map};
 ghost use Rattle.litmus_reader.specs.TestViews.{test_of};
@@ -76,7 +76,7 @@ fn put_values(out: &mut Vec<u8>, test: &Test, values: &[u64]) -> Result<(), Allo
     Ok(())
 }
 
-/// An end state: how often it was met, and the condition's names with their values.
+/// An end state: how often it occurred, and the condition's names with their values.
 pub(crate) fn put_state(
     out: &mut Vec<u8>,
     test: &Test,

@@ -1,5 +1,5 @@
-//! The end states of the runs that are all done, each with how often it was met, in the order in which they were
-//! first met.
+//! The end states of the runs that are all done, each with how often it occurred, in the order in which they first
+//! occurred.
 
 ghost use Rattle.std.specs.Prelude.{◌≡◌, ◌<◌, ◌-◌, ◌^◌, OnOk, IfOk, option_map};
 ghost use Rattle.report_text.specs.Ends.{done_state};
@@ -10,7 +10,7 @@ use indexmap::IndexMap;
 use programs::End;
 use std::alloc::{AllocError, Global};
 
-/// The values of the condition's names, where a run is all done.
+/// The values of the condition's names, if a run is all done.
 fn done_state(run: &RunEnd) -> Option<&[u64]>
     ensures { option_map (λ values. values.now) result ≡ done_state run.now.end run.now.state }
 {
@@ -41,7 +41,7 @@ fn count_one<'a>(states: &mut IndexMap<&'a [u64], u64>, values: &'a [u64]) -> Re
     Ok(())
 }
 
-/// The end states of the runs that are all done, in first-seen order, with how often each was met.
+/// The end states of the runs that are all done, in the order in which they first occurred, with how often each did.
 pub(crate) fn count_states(
     alloc: Global,
     runs: &[RunEnd],

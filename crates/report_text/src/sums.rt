@@ -6,7 +6,7 @@ ghost use Rattle.report_text.specs.Sums.{sums_after, sums_of};
 use crate::run_end::RunEnd;
 use machine_table::Counts;
 
-/// What the runs did, all together. A sum that would pass 2^128 - 1 stands as 2^128 - 1.
+/// What the runs did, all together. A sum that would pass 2^128 - 1 is 2^128 - 1.
 #[derive(Clone, Copy, Debug)]
 pub(crate) struct Sums {
     pub completed: u128,

@@ -48,7 +48,7 @@ fn put_states(
     Ok(())
 }
 
-/// Whether the condition is met by so many runs of these in which its expression holds.
+/// Whether this many of these runs meet the condition, if its expression holds in them.
 fn is_yes(quantifier: Quantifier, held: usize, all_done: usize) -> bool
     ensures { result ≡ is_yes quantifier held all_done }
 {
@@ -81,10 +81,10 @@ fn put_sums(out: &mut Vec<u8>, sums: Sums) -> Result<(), AllocError>
     put_field(out, b"stale-hits", sums.stale)
 }
 
-/// The text that reports on the runs of a test, in lines that end with a line feed: how the runs ended; the end
-/// states of the runs that are all done, in the order in which they were first met, each with how often it was met
-/// and the values of the condition's names; in how many of these runs the condition's expression holds, and the
-/// verdict; and sums over all runs, where 2^128 - 1 stands for a greater one.
+/// The text that reports on the runs of a test, in lines that end with a line feed: how the runs ended; the end states
+/// of the runs that are all done, in the order in which they first occurred, each with how often it occurred and the
+/// values of the condition's names; in how many of these runs the condition's expression holds, and the verdict; and
+/// sums over all runs, where 2^128 - 1 stands for a greater one.
 #[tactic(auto, unfolding(crate::specs::Text::litmus_text))]
 pub fn litmus_text(alloc: Global, test: &Test, runs: &[RunEnd]) -> Result<Vec<u8>, AllocError>
     ensures { IfOk result (λ text. text.items ≡ litmus_text (test_of test.now) runs.now) }

@@ -1,11 +1,12 @@
-//! A list is dealt to hands.
+//! Deals a list to hands.
 ghost use Rattle.std.specs.Prelude.{◌≡◌, ℕ, ◌+◌, ◌<◌, ◌≤◌, ◌^◌, [], length, map, IfOk, All};
 ghost use Rattle.std.specs.Vec.{vec_capacity};
 ghost use Rattle.round_robin.specs.Dealing.{HaveRoom, IsDealtInTurn};
 
 use std::alloc::{AllocError, Global};
 
-/// So many empty hands, with room for their shares of so many items. AllocError where there is no memory for them.
+/// Empty hands, `count` of them, with room for their shares of `items` items. AllocError if memory for them can't be
+/// allocated.
 pub fn empty_hands<T: Drop>(
     alloc: Global,
     hands: usize,
@@ -36,7 +37,7 @@ fn roomy_hands<T: Drop>(alloc: Global, hands: usize, room: usize) -> Result<Vec<
 }
 
 /// Deals all items: item i goes to hand `first + i` modulo the number of hands, and a hand has its items in the order
-/// of the list. The list is then empty, with its capacity as before. Nothing is refused, since the hands have room.
+/// of the list. The list is then empty, with its capacity as before. The call can't fail, since the hands have room.
 pub fn deal<T: Drop>(items: &mut Vec<T>, first: usize, hands: &mut Vec<Vec<T>>)
     requires some { 0 < length hands.old.items }
     requires room { HaveRoom (length items.old.items) hands.old.items }

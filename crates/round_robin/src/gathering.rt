@@ -1,10 +1,10 @@
-//! The items of hands are gathered into one list.
+//! Gathers the items of hands into one list.
 ghost use Rattle.std.specs.Prelude.{◌≡◌, ℕ, ◌+◌, ◌<◌, ◌≤◌, ◌^◌, List, [], length, map};
 ghost use Rattle.std.specs.Vec.{vec_capacity};
 ghost use Rattle.round_robin.specs.Dealing.{IsDealtInTurn, HasLengths};
 
-/// Gathers so many items from hands that have the lengths of as many that were dealt from the hand `first` on. The list
-/// is then the one of which dealing gives these hands. It has room for all items, so nothing is refused.
+/// Gathers `count` items from hands that have the lengths of as many that were dealt from the hand `first` on. The
+/// list is then the one of which dealing gives these hands. It has room for all items, so the call can't fail.
 pub fn gather<T: Drop>(mut dealt: Vec<Vec<T>>, first: usize, items: &mut Vec<T>, count: usize)
     requires empty { items.old.items ≡ [] }
     requires room { count ≤ vec_capacity items.old }

@@ -1,5 +1,5 @@
-//! Laws of dealt lists, for callers. The functions do nothing: their contracts are the laws. The law of a relation is
-//! a lemma in place of a clause: the proofs of this crate give it to those of other crates.
+//! Laws of dealt lists, for callers. The functions do nothing: their contracts are the laws. A lemma states the law of
+//! a relation in place of a clause: the proofs of this crate give it to those of other crates.
 ghost use Rattle.std.specs.Prelude.{◌≡◌, ℕ, ◌<◌, List, [], length, slice_index_or};
 ghost use Rattle.round_robin.specs.Dealing.{IsDealtInTurn, HasLengths, hand_of};
 

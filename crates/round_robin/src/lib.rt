@@ -1,4 +1,4 @@
-//! A list is dealt to so many hands, item i to hand i mod hands, and gathered again in its order.
+//! Deals a list to a number of hands, item i to hand i mod hands, and gathers it again in its order.
 #![tactic(auto)]
 
 mod dealing;

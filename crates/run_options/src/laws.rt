@@ -1,4 +1,4 @@
-//! What holds where no option says otherwise. The function does nothing: its contract is the law.
+//! The defaults of all options. The function does nothing: its contract is the law.
 
 ghost use Rattle.std.specs.Prelude.{◌≡◌, false};
 ghost use Rattle.run_options.specs.declared.options.Schedule.TheVariants.{Round};
@@ -9,7 +9,7 @@ ghost use Rattle.run_options.specs.declared.options.TheConstants.TraceOptions.{D
 
 /// A machine has a lease of 10, the time 0, one bank, private caches of 64 sets of 4 lines, a bank of 256 sets of 8
 /// lines, lines of one word, 4,096 messages in flight and no private writes. A run is by rounds, at most 100,000 of
-/// them, with one worker. A test is run once. A trace is reported.
+/// them, with one worker. A litmus test has one run. A trace has a report.
 pub fn defaults_are_these()
     ensures machine { machine_default ≡ record {
       lease = 10;

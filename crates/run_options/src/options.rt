@@ -1,5 +1,5 @@
-//! What the options of a run say. A number without a range here is any of 64 bits; what no machine can have, as no
-//! banks, is for the machine's configuration to refuse.
+//! What the options of a run say. A number without a range here is any of 64 bits; a machine's configuration refuses
+//! what no machine can have, such as no banks.
 
 /// The order in which a run takes its events.
 #[derive(Clone, Copy, Debug, PartialEq, Eq)]
@@ -8,14 +8,14 @@ pub enum Schedule {
     Round,
     /// One event a turn, drawn by a generator that a seed opens.
     Seed,
-    /// The cores and banks of a machine that threads share: each seat in turn, worker by worker.
+    /// By threads, on a machine that they share: each worker gives each of its seats a turn, one after the other.
     Threads,
 }
 
 /// How the machine is built.
 #[derive(Clone, Copy, Debug, PartialEq, Eq)]
 pub struct MachineOptions {
-    /// How many ticks a lease goes past the times that it covers. A machine takes 1 to 4294967296.
+    /// How many ticks a lease extends past the times that it covers. A machine takes 1 to 4294967296.
     pub lease: u64,
     /// The time of every core and bank before the first event, in ticks.
     pub time: u64,
@@ -31,8 +31,8 @@ pub struct MachineOptions {
     pub bank_ways: u64,
     /// How many words a line has. A machine takes 1 or 8.
     pub line_words: u64,
-    /// How many messages can be in flight. A machine takes 1 to 65536. By schedule threads it has no effect: each seat
-    /// has places of its own.
+    /// How many messages can be in flight. A machine takes 1 to 65536. The schedule threads ignores it: each seat has
+    /// places of its own.
     pub messages: u64,
     /// Whether a core that wrote a line stores to it again without a later time.
     pub private_write: bool,
@@ -62,9 +62,9 @@ pub struct RunOptions {
     /// What opens the generator of schedule seed, in the first of several runs: run i, counted from 0, has this number
     /// plus i, modulo 2^64. Schedules round and threads draw nothing.
     pub seed: u64,
-    /// How many threads there are, 1 to 16. By schedule seed they share the runs of a litmus test, and a trace uses one.
-    /// By schedule threads they drive the seats of each run, one run after the other. Schedule round uses one thread,
-    /// whatever is said here.
+    /// How many threads there are, 1 to 16. By schedule seed they share the runs of a litmus test, and a trace uses
+    /// one. By schedule threads they drive the seats of each run, one run after the other. Schedule round always uses
+    /// one thread.
     pub workers: u64,
     /// How many rounds a run has at most, or turns by schedule seed, or turns of each seat by schedule threads: 1 to
     /// 4294967295.

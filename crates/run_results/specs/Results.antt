@@ -12,7 +12,7 @@ run_number (Litmus fault) = 4
 run_number (Trace fault) = 5
 run_number BadConfig = 6
 
--- 0 if all runs are all done; 1 if one isn't, or there was no memory; 2 if the text is refused; 3 if the
+-- 0 if all runs are all done; 1 if one isn't, or an allocation failed; 2 if the text is refused; 3 if the
 -- configuration is; 4 if reading or writing failed
 abbrev pub status_of : Result Done RunError → ℕ
 status_of (Ok done) = if done.all_done then 0 else 1

@@ -1,4 +1,4 @@
-//! What a run of the program comes to: done, or an error with its number, its line on standard error and its exit
+//! The result of a run of the program: done, or an error with its number, its line on standard error and its exit
 //! status.
 #![tactic(auto)]
 

@@ -7,7 +7,7 @@ use crate::results::RunError;
 use arrayvec::ArrayVec;
 use itoa::Buffer;
 
-/// A line of at most 64 bytes, which takes no memory: the want of memory is told too.
+/// A line of at most 64 bytes. It allocates nothing, so it can report a failed allocation, too.
 pub type ErrorLine = ArrayVec<u8, 64>;
 
 // More bytes after those of the line.

@@ -7,7 +7,7 @@ use litmus_lexer::LitmusError;
 use thiserror::Error;
 use trace_lines::TraceError;
 
-/// What came of a run of the program that gave its report.
+/// The result of a run of the program that gave its report.
 #[derive(Clone, Copy, Debug, PartialEq, Eq)]
 pub struct Done {
     /// Whether every run ended all done.
@@ -20,7 +20,7 @@ pub enum RunError {
     /// A call of the source failed.
     #[error("reading failed")]
     Read,
-    /// A call of the sink failed; what went out is a beginning of the report.
+    /// A call of the sink failed; a beginning of the report was written.
     #[error("writing failed")]
     Write,
     /// An allocation failed.
@@ -54,7 +54,7 @@ impl RunError {
     }
 }
 
-/// The exit status: 0 all done, 1 a run ended otherwise or there was no memory, 2 the text is refused, 3 the
+/// The exit status: 0 all done, 1 a run ended otherwise or an allocation failed, 2 the text is refused, 3 the
 /// configuration is, 4 reading or writing failed.
 pub fn exit_status(came: &Result<Done, RunError>) -> u8
     ensures { result ≡ status_of came.now }

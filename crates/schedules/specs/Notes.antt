@@ -16,7 +16,7 @@ use Rattle.schedules.specs.Runs.{Stage, Position, plan_of, is_progress, is_times
 use Rattle.schedules.specs.RunEvents.{Arrives, Finishes}
 
 -- the events so far, if they are kept, whether an answer of this turn was progress, and how many more can be noted
--- before memory is asked for
+-- before the next allocation
 pub record Log : Type 0 where
   pub events : Option (List Event)
   pub has_progressed : Bool
@@ -36,8 +36,8 @@ abbrev pub is_no_memory : Answer → Bool
 is_no_memory (Refused NoMemoryAnswer) = true
 is_no_memory _ = false
 
--- an event is answered by the table and noted; where that says that times are exhausted the run is to end; and where
--- memory was refused nothing changed, and the event asks for some or is to be kept
+-- an event is answered by the table and noted; if the answer is that times are exhausted, the run is to end; and if an
+-- allocation failed, nothing changed, and the event asks for memory or is to be kept
 abbrev pub Noted : Machine → Log → Event → Result Answer End → Machine → Log → Type 0
 Noted m log event (Ok answer) after after_log =
     ((answer, after) ≡ transition m event) × (is_times_end answer ≡ false) × IsNoted log event answer after_log
@@ -61,7 +61,7 @@ abbrev pub at : {P S : Type 0} → Machine → List P → Log → S → Stage �
 at m programs log own stage =
     record { machine = m; programs = programs; log = log; own = own; stage = stage }
 
--- its position, after so many turns
+-- its position, after this many turns
 abbrev pub position : {P S : Type 0} → Point P S → ℕ → Position P S
 position p turns =
     record {
@@ -77,7 +77,7 @@ position p turns =
 abbrev pub KeepsAs : Log → Log → Type 0
 KeepsAs log after = is_some after.events ≡ is_some log.events
 
--- a run that follows its plan to the one point follows it to the other, whatever the most turns are
+-- a run that follows its plan to the one point follows it to the other, for any limit of turns
 abbrev pub Leads : {P S : Type 0} → Acts P → Schedule P S → Point P S → Point P S → Type 0
 Leads {P} {S} acts schedule p q = KeepsAs p.log q.log × ((limit : ℕ) (start : Position P S) (turns : ℕ) →
     Arrives (plan_of acts schedule limit) start p.log.events (position p turns) →

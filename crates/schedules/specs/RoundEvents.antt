@@ -1,4 +1,4 @@
--- A round in the words of a round: the events of its parts, one behind the other, without the stages of a schedule.
+-- A round by its events, part after part, without the stages of a schedule.
 use Rattle.std.specs.Prelude.{◌≡◌, ℕ, zero, suc, ◌+◌, Bool, List, [], ◌∷◌, ◌++◌, Option, Some, None, if◌then◌else◌}
 use Rattle.physiological_order.specs.declared.operation.Op.{Op}
 use Rattle.programs.specs.declared.steps.Step.{Step}
@@ -22,7 +22,7 @@ pub record Standing (P : Type 0) : Type 0 where
 abbrev pub Part : Type 0 → Type 0
 Part P = Standing P → List Event
 
--- programs are told what their cores complete, and which steps they advance
+-- programs receive what their cores complete, and go on where these advance
 abbrev pub told : {P : Type 0} → Acts P → List P → Event → Answer → List P
 told acts programs (event.Issue core op) answer = programs_told acts programs answer
 told acts programs (event.Attempt core) answer = programs_told acts programs answer
@@ -36,7 +36,7 @@ step_events core None (Some step.Advance) = event.Advance core ∷ []
 step_events core None None = []
 step_events core (Some x) next = []
 
--- at most one: the copy goes
+-- at most one: the copy is evicted
 abbrev pub copy_events : ℕ → Option ℕ → List Event
 copy_events core None = []
 copy_events core (Some line) = event.EvictCache core line ∷ []
@@ -46,7 +46,7 @@ abbrev pub line_events : Option (ℕ × ℕ) → List Event
 line_events None = []
 line_events (Some x) = event.EvictBank x.0 x.1 ∷ []
 
--- so many numbers, which rise from this one
+-- n numbers, which rise from this one
 abbrev pub rising : ℕ → ℕ → List ℕ
 rising zero n = []
 rising (suc count) n = n ∷ rising count (n + 1)
@@ -80,7 +80,8 @@ module _ {P : Type 0} (acts : Acts P) where
   abbrev pub attempts_once : ℕ → Part P
   attempts_once core s = event.Attempt core ∷ []
 
-  -- behind an attempt: exactly if there was no place, a copy goes if that makes one, and there is a second attempt
+  -- after an attempt: exactly if there was no place, a copy is evicted if that makes one, and there is a second
+  -- attempt
   abbrev pub tries_again : ℕ → Bool → Part P
   tries_again core no_place s =
       if no_place then followed_by (makes_place core) (attempts_once core) s else []
@@ -94,7 +95,7 @@ module _ {P : Type 0} (acts : Acts P) where
   abbrev pub core_turn : ℕ → Part P
   core_turn core = followed_by (steps_on core) (λ s. attempts core (open_op s.machine core) s)
 
-  -- behind a delivery: exactly if the message was held, a line leaves its bank if that makes a place
+  -- after a delivery: exactly if the message was held, a line leaves its bank if that makes a place
   abbrev pub makes_room : ℕ → Bool → Part P
   makes_room number held s = if held then line_events (make_room s.machine number) else []
 

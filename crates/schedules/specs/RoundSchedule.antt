@@ -1,4 +1,4 @@
--- The schedule of rounds: the cores have their turns in rising order, and then the messages that are in flight, each
+-- The schedule of rounds: the cores have their turns in rising order, and then each message in flight is delivered
 -- once.
 use Rattle.std.specs.Prelude.{ℕ, ◌+◌, nat_lt, Bool, true, false, not, List, [], ◌∷◌, map, Option, Some, None}
 use Rattle.std.specs.Prelude.{if◌then◌else◌}
@@ -14,9 +14,9 @@ use Rattle.schedules.specs.Schedules.{Schedule, Choice, Does, Tries, Delivers, A
 pub data RoundStage : Type 0 where
   -- a core's turn begins: it may do its program's next step
   Stepping : ℕ → RoundStage
-  -- its open operation is tried
+  -- it attempts its open operation
   Attempting : ℕ → RoundStage
-  -- a copy was to go: it is tried once more
+  -- a copy was to be evicted: the core attempts the operation once more
   AttemptingAgain : ℕ → RoundStage
   -- the messages with these numbers are still to be delivered
   Delivering : List ℕ → RoundStage
@@ -36,7 +36,7 @@ step_of round core None (Some step.Advance) = Advances core
 step_of round core None None = to_stage round (Attempting core)
 step_of round core (Some x) next = to_stage round (Attempting core)
 
--- an open operation is tried; without one the next core has its turn
+-- a core attempts its open operation; without one the next core has its turn
 abbrev pub attempt_of : Round → ℕ → Option (Op × Bool) → Choice Round
 attempt_of round core None = to_stage round (Stepping (core + 1))
 attempt_of round core (Some x) = Tries core
@@ -54,7 +54,7 @@ round_next acts m programs round (AttemptingAgain core) = Does (event.Attempt co
 round_next acts m programs round (Delivering []) = Over
 round_next acts m programs round (Delivering (number ∷ left)) = Delivers number
 
--- a second time without a place there is no second eviction
+-- after a second attempt without a place there is no second eviction
 abbrev pub round_behind : Bool → RoundStage → RoundStage
 round_behind full (Stepping core) = Attempting core
 round_behind full (Attempting core) = if full then AttemptingAgain core else Stepping (core + 1)
@@ -65,7 +65,7 @@ round_behind full (Delivering (number ∷ left)) = Delivering left
 abbrev pub round_pass : Bool → Round → Round
 round_pass full round = record round { stage = round_behind full round.stage }
 
--- behind the last core the messages in flight are listed
+-- after the last core, the messages in flight are listed
 abbrev pub round_lists : Round → RoundStage → Bool
 round_lists round (Stepping core) = not (nat_lt core round.cores)
 round_lists round _ = false

@@ -4,7 +4,7 @@ use Rattle.schedules.specs.declared.round.RoundStage.{RoundStage as Stored}
 use Rattle.schedules.specs.declared.round.RoundStage.TheVariants as stored
 use Rattle.schedules.specs.RoundSchedule.{Round, RoundStage, Stepping, Attempting, AttemptingAgain, Delivering}
 
--- of the messages so many were delivered
+-- of the messages, this many were delivered
 abbrev pub stage_of : Stored → ℕ → List ℕ → RoundStage
 stage_of (stored.Stepping core) delivered numbers = Stepping core
 stage_of (stored.Attempting core) delivered numbers = Attempting core

@@ -31,16 +31,16 @@ initial_position m programs own = record {
   turns = 0;
 }
 
--- memory is asked for at a position: by the event that comes next, which may have to be kept in the list of events; or
--- by the schedule, to know what comes next
+-- a position allocates: the event that comes next may, or may have to be kept in the list of events; or the schedule
+-- does, to know what comes next
 abbrev pub WantsMemoryAt : {P S : Type 0} → Bool → Plan P S → Position P S → Type 0
 WantsMemoryAt {P} {S} keeps plan d =
     ((event : Event) × (leads : Answer × Machine → Position P S) × (next plan d ≡ Makes event leads)
     × IsTrue (keeps || asks_memory d.machine event))
     ⊎ ((d.stage ≡ Within) × IsTrue (plan.schedule.lists d.own))
 
--- the events, which are kept in a list or not, lead to this machine and these programs, where the plan has this end; or
--- memory was refused, where it goes on and asks for some
+-- the events, which are kept in a list or not, lead to this machine and these programs, where the plan has this end;
+-- or an allocation failed, where the plan goes on and allocates
 pub record Ended {P S : Type 0} (keeps : Bool) (plan : Plan P S) (start : Position P S) (events : List Event)
     (m : Machine) (programs : List P) (end : End) : Type 0 where
   pub last : Position P S

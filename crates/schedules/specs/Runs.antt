@@ -1,4 +1,4 @@
--- A run by a schedule: where it stands, what comes next there, and where an answer leads.
+-- A run by a schedule: where it is, what comes next there, and where an answer leads.
 use Rattle.std.specs.Prelude.{ℕ, zero, suc, ◌+◌, ◌/◌, ◌==◌, Bool, true, false, ◌&&◌, ◌||◌, not, is_none, List}
 use Rattle.std.specs.Prelude.{Option, Some, None, if◌then◌else◌}
 use Rattle.physiological_order.specs.declared.operation.Op.{Op}
@@ -27,14 +27,14 @@ pub data Stage : Type 0 where
   Before : Stage
   -- in a turn, where the schedule says what comes next
   Within : Stage
-  -- there was no place for the line of a core's open operation: a copy is to go
+  -- there was no place for the line of a core's open operation: a copy is to be evicted
   Evicting : ℕ → Stage
   -- a message was held: its bank may be made room in
   MakingRoom : ℕ → Stage
   -- times are exhausted
   OutOfTimes : Stage
 
--- where a run is: its machine and its programs, where the schedule stands, the stage, whether an answer of the turn was
+-- where a run is: its machine and its programs, where the schedule is, the stage, whether an answer of the turn was
 -- progress, and how many turns were made
 pub record Position (P S : Type 0) : Type 0 where
   pub machine : Machine
@@ -77,16 +77,16 @@ abbrev pub is_no_room : Answer → Bool
 is_no_room (Refused NoRoom) = true
 is_no_room _ = false
 
--- a core's program is told of a completion
+-- a core's program receives what a completed operation did
 abbrev pub programs_told : {P : Type 0} → Acts P → List P → Answer → List P
 programs_told acts programs (Completed done) = done_in acts programs done.core done.received
 programs_told acts programs _ = programs
 
--- a core's program is told that it has advanced
+-- a core's program goes on after its advance
 abbrev pub told_advance : {P : Type 0} → Acts P → List P → ℕ → Answer → List P
 told_advance acts programs core answer = if is_advanced answer then done_in acts programs core None else programs
 
--- a run after an answer; exhausted times end it wherever it stands
+-- a run after an answer; exhausted times end it at any stage
 abbrev pub after_answer : {P S : Type 0} → Position P S → (Answer → Position P S → Position P S) →
     Answer × Machine → Position P S
 after_answer d leads (answer, after) =
@@ -102,7 +102,7 @@ abbrev pub are_over : {P : Type 0} → Acts P → Machine → List P → ℕ →
 are_over acts m programs zero = true
 are_over acts m programs (suc core) = are_over acts m programs core && is_over acts m programs core
 
--- the copy that goes so that there is a place for the line of a core's open operation
+-- the copy to evict to make a place for the line of a core's open operation
 abbrev pub victim_for_core : Machine → ℕ → Option (Op × Bool) → Option ℕ
 victim_for_core m core None = None
 victim_for_core m core (Some x) = victim m core (address x.0 / m.config.line_words)
@@ -140,7 +140,7 @@ evict_bank d None = Moves (at_stage d Within)
 evict_bank d (Some x) = Makes (event.EvictBank x.0 x.1) (after_answer d eviction_leads)
 
 module _ {P S : Type 0} (plan : Plan P S) where
-  -- before a turn: all done, or as many turns made as may be, or another one
+  -- before a turn: all done, or all turns used, or another turn
   abbrev pub begin : Position P S → Bool → Continuation P S
   begin d true = Ends AllDone
   begin d false =

@@ -7,7 +7,7 @@ use Rattle.machine_table.specs.Machine.{Machine}
 pub data Choice (S : Type 0) : Type 0 where
   -- an event
   Does : Event → Choice S
-  -- the open operation of a core is tried; if there is no place for its line, a copy goes
+  -- a core attempts its open operation; if there is no place for its line, a copy is evicted
   Tries : ℕ → Choice S
   -- the message with this number is delivered; if it is held, a line leaves its bank if that makes a place
   Delivers : ℕ → Choice S
@@ -18,7 +18,7 @@ pub data Choice (S : Type 0) : Type 0 where
   -- the turn is over
   Over : Choice S
 
--- a schedule, where S is where it stands
+-- a schedule, where S is its state
 pub record Schedule (P S : Type 0) : Type 0 where
   -- the stage with which a turn begins
   pub first : S → S
@@ -26,7 +26,8 @@ pub record Schedule (P S : Type 0) : Type 0 where
   pub next : Machine → List P → S → Choice S
   -- the stage after an answered event; and whether there was no place for an operation's line
   pub behind : Bool → S → S
-  -- whether what there is has to be listed before it is known what comes next: that alone takes memory here
+  -- whether messages or lines have to be listed before it is known what comes next: nothing else in a schedule
+  -- allocates
   pub lists : S → Bool
   -- whether a turn without progress is the last
   pub stalls : Bool

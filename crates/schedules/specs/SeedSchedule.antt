@@ -26,7 +26,7 @@ pub record Seeded : Type 0 where
 abbrev pub advances : Machine → List (Choice Seeded)
 advances m = map (λ core. Does (event.Advance core)) (range_with_len 0 m.config.cores)
 
--- an event for each line of each of so many holders of lines, both in rising order
+-- an event for each line of each of n holders of lines, both in rising order
 abbrev pub line_events : (ℕ → ℕ → Event) → (ℕ → List ℕ) → ℕ → List (Choice Seeded)
 line_events eviction lines holders =
     flat_map (λ holder. map (λ line. Does (eviction holder line)) (sorted (lines holder))) (range_with_len 0 holders)
@@ -38,7 +38,7 @@ cache_evictions m = line_events event.EvictCache (free_copies m) m.config.cores
 abbrev pub bank_evictions : Machine → List (Choice Seeded)
 bank_evictions m = line_events event.EvictBank (entries m) m.config.banks
 
--- a core without an open operation does its program's next step; one that has no request out tries its operation
+-- a core without an open operation does its program's next step; one that has no request out attempts its operation
 abbrev pub core_step : ℕ → Option (Op × Bool) → Option Step → List (Choice Seeded)
 core_step core None None = []
 core_step core None (Some (step.Op op)) = Does (event.Issue core op) ∷ []
@@ -61,7 +61,7 @@ drawn_list acts m programs (suc zero) = cache_evictions m
 drawn_list acts m programs (suc (suc zero)) = bank_evictions m
 drawn_list acts m programs (suc (suc (suc k))) = steps acts m programs
 
--- what stands at a number over the list's length; the turn of an empty list is over
+-- the entry at a number, modulo the list's length; the turn of an empty list is over
 abbrev pub choice_at : List (Choice Seeded) → ℕ → Choice Seeded
 choice_at choices b = get_or choices (b % length choices) Over
 

@@ -26,7 +26,7 @@ Picks next (chosen.Advances core) = next ≡ Advances core
 Picks next chosen.Goes = ⊥
 Picks next chosen.Over = next ≡ Over
 
--- or memory was refused for an entry that there is
+-- or an allocation failed for an entry that there is
 abbrev pub PicksOne : {E : Type 0} → Choice Seeded → Result Chosen E → Type 0
 PicksOne next (Ok choice) = Picks next choice
 PicksOne next (Err e) = next ≢ Over

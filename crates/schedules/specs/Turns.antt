@@ -7,7 +7,7 @@ use Rattle.programs.specs.Acts.{Acts}
 use Rattle.schedules.specs.Schedules.{Schedule, Choice, Does, Tries, Delivers, Advances, Goes, Over}
 use Rattle.schedules.specs.Notes.{Point, Leads, Stops}
 
--- the code's choice: the schedule stands where it stood, or at the other stage
+-- the code's choice: the schedule stays where it is, or goes to the other stage
 abbrev pub IsChoice : {S : Type 0} → Choice S → S → Chosen → S → Type 0
 IsChoice next old (chosen.Does event) new = (next ≡ Does event) × (new ≡ old)
 IsChoice next old (chosen.Tries core) new = (next ≡ Tries core) × (new ≡ old)
@@ -16,7 +16,7 @@ IsChoice next old (chosen.Advances core) new = (next ≡ Advances core) × (new 
 IsChoice next old chosen.Goes new = next ≡ Goes new
 IsChoice next old chosen.Over new = (next ≡ Over) × (new ≡ old)
 
--- what it answers; memory is refused only where the turn isn't over and the schedule lists what there is
+-- what it answers; it is refused memory only if the turn isn't over and the schedule lists messages or lines
 abbrev pub IsChosen : {S E : Type 0} → Choice S → Bool → S → Result Chosen E → S → Type 0
 IsChosen next lists old (Ok choice) new = IsChoice next old choice new
 IsChosen next lists old (Err e) new = (next ≢ Over) × IsTrue lists

@@ -1,4 +1,4 @@
-//! Turns of any schedule from the first one, and what they came to.
+//! Turns of any schedule from the first one, and their result.
 ghost use Rattle.std.specs.Prelude.{◌≡◌, ◌<◌, [], false, true, is_some, None, IfSome, ℕ};
 ghost use Rattle.machine_table.specs.Runs.{after_all};
 ghost use Rattle.machine_table.specs.Machine.{open_op};
@@ -17,7 +17,7 @@ use programs::End;
 use programs::program::Program;
 use std::alloc::Global;
 
-/// What a run came to: its end, and the events that the machine was given, in order.
+/// The result of a run: its end, and the events that the machine was given, in order.
 #[derive(Drop)]
 pub struct Driven {
     pub end: End,

@@ -19,7 +19,7 @@ ghost use Rattle.schedules.specs.RoundEvents.{AreRounds, ArePartOfRounds};
 use programs::End;
 use programs::program::Program;
 
-/// A round goes on if one of its answers is none of Waiting, Held and the refusals.
+/// A round makes progress exactly if one of its answers is none of Waiting, Held and the refusals.
 pub fn progress_is_all_but_waiting()
     ensures issued { is_progress answer.Issued ≡ true }
     ensures completed { (done : Record) → is_progress (answer.Completed done) ≡ true }
@@ -39,9 +39,9 @@ pub fn progress_is_all_but_waiting()
 /// A run by rounds makes the events of whole rounds, one after the other, and the first events of one more: none
 /// before a round, and all of them at the end of a last round without progress. A round's events are the cores' turns
 /// in rising order. In each there is an Issue or Advance exactly if the core has no open operation and its program a
-/// next step, and then an Attempt exactly if it has one. Behind NoRoom, and only there, EvictCache of the copy that
+/// next step, and then an Attempt exactly if it has one. After NoRoom, and only there, EvictCache of the copy that
 /// makes a place follows, if there is one, and a second Attempt. Then there is one Deliver of each message in flight
-/// after the cores, in their order. Behind Held, and only there, EvictBank of the line that makes a place follows, if
+/// after the cores, in their order. After Held, and only there, EvictBank of the line that makes a place follows, if
 /// there is one.
 pub fn rounds_make_their_events<P: Program>()
     ensures whole { (start : Machine) (opening : List P) (limit : ℕ) (events : List Event)
@@ -67,8 +67,8 @@ pub fn seeds_of_runs_differ()
         policy_of_run (policy.Seed seed) i ≡ policy_of_run (policy.Seed seed) j → i ≡ j }
 {}
 
-/// Of two runs of one policy and limit, from one machine and the same programs, that end otherwise than for want of
-/// memory, the events are the same, and so are the machine, the programs and the end. So one seed gives one list.
+/// If two runs of one policy and limit, from one machine and the same programs, don't end with a failed allocation,
+/// their events are the same, and so are the machine, the programs and the end. So one seed gives one list.
 pub fn one_seed_gives_one_list<P: Program>()
     ensures { (policy : Policy) (limit : ℕ) (start : Machine) (opening : List P)
         (events more : List Event) (m n : Machine) (programs others : List P) (end last : End) →

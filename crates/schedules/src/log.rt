@@ -1,4 +1,4 @@
-//! The events that a run made, each noted as it is answered.
+//! The events that a run made, each noted when it is answered.
 ghost use Rattle.std.specs.Prelude.{◌≡◌, ◌<◌, ◌++◌, ◌∷◌, [], false, ◌||◌, IsSome, None, OnErr, OnOk, Some};
 ghost use Rattle.std.specs.Prelude.{is_some, option_map, true};
 ghost use Rattle.schedules.specs.Notes.{Noted, is_no_memory};

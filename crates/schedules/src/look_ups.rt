@@ -1,4 +1,4 @@
-//! What a run looks up in the machine and the programs, and what it tells these.
+//! What a run looks up in the machine and the programs, and what it gives these.
 ghost use Rattle.std.specs.Prelude.{◌≡◌};
 ghost use Rattle.machine_table.specs.Machine.{open_op};
 ghost use Rattle.programs.specs.Acts.{next_in, done_in};

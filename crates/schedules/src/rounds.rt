@@ -15,13 +15,13 @@ use programs::End;
 use programs::program::Program;
 use std::alloc::Global;
 
-/// Drives the machine by the schedule of rounds (docs/SCHEDULES.md), one program a core, until every program is done,
-/// a round went by without progress, `limit` rounds were made, times are exhausted or allocation failed. The events
-/// are those that the schedule has, each by the machine and the programs as they then are, and so is the end, unless it
-/// is NoMemory. That comes before an event alone, or where the messages in flight are listed, behind the last core of a
-/// round. What was given to the machine is in the list, and nothing else. Whatever the end, each core that had no
-/// open operation before was issued what its program gave, in order, and the program was told what each completed
-/// operation received, in order.
+/// Drives the machine by the schedule of rounds (docs/SCHEDULES.md), with one program for each core, until every
+/// program is done, a round made no progress, `limit` rounds were made, times are exhausted or allocation failed. The
+/// events are those of the schedule, each by the machine and the programs as they then are, and so is the end, unless
+/// it is NoMemory. That comes only before an event, or where the schedule lists the messages in flight, after the last
+/// core of a round. The list has the events that the machine was given, and no others. At any end, each core that had
+/// no open operation before was issued what its program gave, in order, and the program received what each completed
+/// operation did, in order.
 pub fn drive_round<P: Program>(
     alloc: Global,
     system: &mut System,

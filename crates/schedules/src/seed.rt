@@ -1,6 +1,6 @@
 //! The seeded schedule: each turn draws two words, the first for a list of events, the second for the entry of it that
-//! is made. No list of events is built: the cores that do something are known, other entries are counted, and the one
-//! that is wanted is looked up.
+//! is made. No list of events is built: the schedule knows the cores that do something, counts the other entries, and
+//! looks the drawn one up.
 ghost use Rattle.std.specs.Prelude.{◌≡◌, ◌∷◌, [], ◌<◌, ◌≤◌, ◌+◌, ◌%◌, ◌*◌, ◌^◌, ◌&&◌, ℕ, List, length, IfOk, Some};
 ghost use Rattle.std.specs.Prelude.{count_ones, is_some, slice_get};
 ghost use Rattle.std.specs.Int.{bit_at};

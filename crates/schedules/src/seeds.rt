@@ -24,14 +24,14 @@ pub(crate) fn order_as_before(system: &mut System, had_order: bool)
     }
 }
 
-/// Drives the machine by the seeded schedule (docs/SCHEDULES.md), one program a core, until every program is done,
-/// `limit` turns were made, times are exhausted or allocation failed. A seed is any number of 64 bits; one seed gives
-/// one list of events. The events are those that the schedule has, each by the machine and the programs as they then
-/// are, and so is the end, unless it is NoMemory; it is never Stalled. NoMemory comes before an event alone, or where
-/// an eviction was drawn, whose line is found in a list. What was given to the machine is in the list,
-/// and nothing else. Whatever the end, each core that had no open operation before was issued what its program gave, in
-/// order, and the program was told what each completed operation received, in order. While the run goes on the machine
-/// keeps its lines in rising order (`System::keep_order`); afterwards it does so exactly if it did before.
+/// Drives the machine by the seeded schedule (docs/SCHEDULES.md), with one program for each core, until every program
+/// is done, `limit` turns were made, times are exhausted or allocation failed. A seed is any number of 64 bits; one
+/// seed gives one list of events. The events are those of the schedule, each by the machine and the programs as they
+/// then are, and so is the end, unless it is NoMemory; it is never Stalled. NoMemory comes only before an event, or
+/// where the schedule has drawn an eviction, whose line it finds in a list. The list has the events that the machine
+/// was given, and no others. At any end, each core that had no open operation before was issued what its program gave,
+/// in order, and the program received what each completed operation did, in order. During the run the machine keeps
+/// its lines in rising order (`System::keep_order`); afterwards it does so exactly if it did before.
 pub fn drive_seed<P: Program>(
     alloc: Global,
     system: &mut System,

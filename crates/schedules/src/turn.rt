@@ -1,4 +1,4 @@
-//! One turn of a schedule: each event is noted, the program is told, and the eviction that follows is made.
+//! One turn of a schedule: notes each event, gives the program what it completed, and makes the eviction that follows.
 ghost use Rattle.std.specs.Prelude.{◌≡◌, Bool, false, List, OnOk};
 ghost use Rattle.schedules.specs.Schedules.{Does, Tries, Delivers, Advances, Over};
 ghost use Rattle.schedules.specs.Runs.{Within, Evicting, MakingRoom};

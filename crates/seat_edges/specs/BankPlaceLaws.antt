@@ -1,5 +1,5 @@
--- Which messages to a bank or its DRAM, and which evictions of lines, want a place in the outbox, and which one in the
--- held list.
+-- Which messages to a bank or its DRAM, and which evictions of lines, need a place in the outbox, and which need one
+-- in the held list.
 use Rattle.std.specs.Prelude.{◌≡◌, ℕ, ◌+◌, ◌<◌, ◌≤◌, Bool, true, false, List, [], ◌∷◌, length, Option, Some, None}
 use Rattle.std.specs.Prelude.{Result, Ok, Err}
 use Rattle.network.specs.declared.message.Node.{Node}
@@ -54,7 +54,7 @@ Lacks bank line = (entry_of bank line ≡ None) × (has_room bank.table (set_of 
 
 -- Messages to DRAM
 
--- a line that is to be loaded is asked of DRAM, whatever is to be put: that message is held, behind the request
+-- a bank asks DRAM for a line that is to be loaded, even with a full outbox: that message is held, after the request
 abbrev pub LoadsWantNoOutbox : Type 0
 LoadsWantNoOutbox =
     (b c : InboxState Message) (p q : SendingBank) (result : Result Served Refusal) (core bank line : ℕ)
@@ -70,7 +70,7 @@ LoadsWantTwoHeld =
     (body : Body) → IsRequest body → b.hand ≡ Some (asked core bank line body) → 255 ≤ length b.held →
     Lacks p.bank line → BankServed b p result c q → c.hand ≡ b.hand
 
--- DRAM answers a load, whatever is to be put: the answer is held
+-- DRAM answers a load, even with a full outbox: the answer is held
 abbrev pub DramAnswersWantNoOutbox : Type 0
 DramAnswersWantNoOutbox =
     (b c : InboxState Message) (p q : SendingBank) (result : Result Served Refusal) (from : Node) (bank line : ℕ) →
@@ -89,7 +89,7 @@ GrantsWantPlace =
     IsOnly (asked core bank line body) b → entry_of p.bank line ≡ Some (Shared dirty timed) → IsFull p.outbox →
     BankServed b p result c q → LacksPlace b p result c q
 
--- but they want no place in the held list
+-- but they need no place in the held list
 abbrev pub GrantsWantNoHeld : Type 0
 GrantsWantNoHeld =
     (b c : InboxState Message) (p q : SendingBank) (result : Result Served Refusal) (core bank line : ℕ)
@@ -115,13 +115,13 @@ RecallsGoOut =
 
 -- Lines that a bank evicts, with this outbox and these held messages
 
--- one that is clean goes, whatever there is
+-- a clean line leaves, with any outbox and any held messages
 abbrev pub CleanLinesWantNone : Type 0
 CleanLinesWantNone =
     (bank : BankState) (out : OutboxState) (held : List Message) (line : ℕ) (timed : TimedLine) →
     entry_of bank line ≡ Some (Shared false timed) → bank_evict_answer false out held (evict bank line).0 ≡ Ok Evicted
 
--- one that is dirty is stored by a held message, whatever is to be put
+-- a dirty one is stored by a held message, even with a full outbox
 abbrev pub DirtyLinesWantHeld : Type 0
 DirtyLinesWantHeld =
     (bank : BankState) (out : OutboxState) (held : List Message) (line : ℕ) (timed : TimedLine) →
@@ -134,7 +134,7 @@ DirtyLinesWantNoOutbox =
     entry_of bank line ≡ Some (Shared true timed) → length held < 256 → CanNumber out →
     bank_evict_answer false out held (evict bank line).0 ≡ Ok Evicted
 
--- one that is owned is asked back by a message that goes out, whatever is held
+-- the bank asks for an owned line back by a message that goes out, with any held messages
 abbrev pub OwnedLinesWantPlace : Type 0
 OwnedLinesWantPlace =
     (bank : BankState) (out : OutboxState) (held : List Message) (line owner : ℕ) →

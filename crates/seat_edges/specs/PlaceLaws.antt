@@ -1,4 +1,4 @@
--- Which messages to a core, and which evictions of its copies, want a place in the outbox.
+-- Which messages to a core, and which evictions of its copies, need a place in the outbox.
 use Rattle.std.specs.Prelude.{◌≡◌, ℕ, ◌+◌, ◌<◌, ◌≤◌, ◌⊎◌, true, false, [], ◌∷◌, ◌++◌, length, Option, Some, None}
 use Rattle.std.specs.Prelude.{Result, Ok, Err}
 use Rattle.network.specs.declared.message.TimedLine.{TimedLine}
@@ -43,7 +43,7 @@ abbrev pub CoreServed : InboxState Message → SendingCore → Result Served Ref
     Type 0
 CoreServed b p result c q = SeatServes sending_core_table sending_core_takes_memory false b p result c q
 
--- nothing is served for want of a place, and nothing changes
+-- nothing is served because there is no place, and nothing changes
 pub record LacksPlace {P : Type 0} (b : InboxState Message) (p : P) (result : Result Served Refusal)
     (c : InboxState Message) (q : P) : Type 0 where
   pub answer : result ≡ Err NetworkFull
@@ -93,7 +93,7 @@ AsksBack body = (body ≡ FlushReq) ⊎ ((until : ℕ) × (body ≡ WbReq until)
 abbrev pub LeaseFits : CoreState → LineCopy → Type 0
 LeaseFits core copy = copy.wts + core.lease < 18446744073709551616
 
--- a line that its owner gives back goes out
+-- a line that its owner returns goes out
 abbrev pub ReturnsWantPlace : Type 0
 ReturnsWantPlace =
     (b c : InboxState Message) (p q : SendingCore) (result : Result Served Refusal) (m : Message) (copy : LineCopy) →
@@ -113,7 +113,7 @@ pub data IsReply (copy : Option LineCopy) (body : Body) : Type 0 where
   renewal : (rts : ℕ) (had : LineCopy) → body ≡ RenewRep rts → copy ≡ Some had → IsReply copy body
   grant : (rts : ℕ) (had : LineCopy) → body ≡ UpgradeRep rts → copy ≡ Some had → IsReply copy body
 
--- whatever is to be put: a reply is taken in, a message that asks back what the core doesn't own is dropped, and one
+-- even with a full outbox: a reply is taken in, a message that asks back what the core doesn't own is dropped, and one
 -- that asks back the line of the open operation waits
 abbrev pub RepliesWantNone : Type 0
 RepliesWantNone =
@@ -141,7 +141,7 @@ OpenLinesWantNone =
 
 -- Copies that a core evicts
 
--- one that it only reads goes, whatever is to be put; one that it owns is sent back
+-- a copy that the core only reads is evicted, even with a full outbox; one that it owns is sent back
 abbrev pub ReadCopiesWantNone : Type 0
 ReadCopiesWantNone =
     (p : SendingCore) (line : ℕ) (copy : LineCopy) → Reads p.core line copy →

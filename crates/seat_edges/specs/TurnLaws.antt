@@ -30,7 +30,7 @@ use Rattle.seat_edges.specs.PlaceLaws.{AsksBack, LeaseFits, IsFull, Owns}
 
 -- Takes
 
--- the place after this one of so many, going round
+-- the place after this one of n, going round
 abbrev pub IsNextGoingRound : ℕ → ℕ → ℕ → Type 0
 IsNextGoingRound count place next = ((place + 1 < count) × (next ≡ place + 1)) ⊎ ((place + 1 ≡ count) × (next ≡ 0))
 
@@ -120,12 +120,12 @@ pub record PutsFirst (p : Mailbox) (out : List Message) (q : Mailbox) : Type 0 w
   pub looks : (hold q).looks ≡ before ++ (found_full p.cores p.banks p.number left ++ later)
   pub put : length left + length (hold q).put ≡ length out + length (hold p).put
 
--- so many were put, if the turn answers how many
+-- the turn put this many, if it answers how many
 abbrev pub CountsPut : Result Turn Refusal → Mailbox → Mailbox → Type 0
 CountsPut (Ok turn) p q = length (hold p).put + turn.put ≡ length (hold q).put
 CountsPut (Err refusal) p q = Unit {0}
 
--- so does every turn, whatever its hand, its held messages and its answer, and if it is stopped, too
+-- so does every turn, with any hand, any held messages and any answer, and of a stopped seat, too
 abbrev pub CoreTurnsPut : Type 0
 CoreTurnsPut =
     (m : Machine) (p q : CoreSeat) (result : Result Turn Refusal) → CoreTurns m p result q →
@@ -136,8 +136,8 @@ BankTurnsPut =
     (m : Machine) (p q : BankSeat) (result : Result Turn Refusal) → BankTurns m p result q →
     PutsFirst p.mail p.part.outbox.messages q.mail × CountsPut result p.mail q.mail
 
--- a turn that puts nothing, with an empty hand, where the only held message finds no place in the full outbox: it
--- answers NetworkFull and takes nothing
+-- a turn that puts nothing, with an empty hand, if the only held message finds no place in the full outbox: it answers
+-- NetworkFull and takes nothing
 abbrev pub FullCoresTakeNothing : Type 0
 FullCoresTakeNothing =
     (m : Machine) (p q : CoreSeat) (result : Result Turn Refusal) (x : Message) (copy : LineCopy) →

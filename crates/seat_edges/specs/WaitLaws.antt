@@ -18,7 +18,7 @@ use Rattle.seat_edges.specs.BankPlaceLaws.{BankServed, IsTimely, asked}
 use Rattle.seat_edges.specs.PlaceLaws.{AsksBack, CoreServed, LeaseFits, IsFull, IsReply, Owns}
 
 -- a core that owns a line is asked for it, and the outbox is full: the message stays where it is, in the hand or first
--- among the held ones, and the reply behind it is served
+-- among the held ones, and the reply after it is served
 abbrev pub CoresServeBehind : Type 0
 CoresServeBehind =
     (b c : InboxState Message) (p q : SendingCore) (result : Result Served Refusal) (m reply : Message)
@@ -27,8 +27,8 @@ CoresServeBehind =
     ((b ≡ inbox (Some m) (reply ∷ others)) → (result ≡ Ok Delivered) × (c ≡ inbox (Some m) others))
     × ((b ≡ inbox None (m ∷ reply ∷ others)) → (result ≡ Ok Delivered) × (c ≡ inbox None (m ∷ others)))
 
--- a bank has a request of a line that no core owns, and the outbox is full: the request stays where it is, and the line
--- behind it, which its owner gives back, is served
+-- a bank has a request of a line that no core owns, and the outbox is full: the request stays where it is, and the
+-- line after it, which its owner returns, is served
 abbrev pub BanksServeBehind : Type 0
 BanksServeBehind =
     (b c : InboxState Message) (p q : SendingBank) (result : Result Served Refusal) (core bank line other owner : ℕ)

@@ -1,4 +1,4 @@
-//! Laws of seats at the edges of what they have place for. The functions do nothing: their contracts are the laws.
+//! Laws of seats at the edges of what they have places for. The functions do nothing: their contracts are the laws.
 #![tactic(auto)]
 
 ghost use Rattle.seat_edges.specs.BankPlaceLaws.{CleanLinesWantNone, DirtyLinesWantHeld, DirtyLinesWantNoOutbox};
@@ -16,15 +16,15 @@ ghost use Rattle.seat_edges.specs.WaitLaws.{BanksServeBehind, CoresServeBehind};
 
 use mailboxes::laws::all_incoming_slots_are_looked_at;
 
-/// A core that owns a line and is asked for it wants a place in the outbox. With 256 messages to be put, the answer is
+/// A core that owns a line and is asked for it needs a place in the outbox. With 256 messages to be put, the answer is
 /// NetworkFull and nothing changes, also if the core is to keep a copy to read; with fewer, the line goes out.
 pub fn returns_want_a_place()
     ensures full { ReturnsWantPlace }
     ensures sent { ReturnsGoOut }
 {}
 
-/// All other messages to a core want no place, however many are to be put: a reply is taken in, a message that asks for
-/// a line that the core doesn't own is dropped, and one that asks for the line of the open operation waits.
+/// All other messages to a core need no place, however many are to be put: a reply is taken in, a message that asks
+/// for a line that the core doesn't own is dropped, and one that asks for the line of the open operation waits.
 pub fn other_messages_to_cores_want_none()
     ensures replies { RepliesWantNone }
     ensures readers { ReadersWantNone }
@@ -32,14 +32,14 @@ pub fn other_messages_to_cores_want_none()
     ensures open_lines { OpenLinesWantNone }
 {}
 
-/// A bank's message to its DRAM, and DRAM's answer, want a place in the held list and none in the outbox.
+/// A bank's message to its DRAM, and DRAM's answer, need a place in the held list and none in the outbox.
 pub fn messages_to_dram_want_held_places()
     ensures loads { LoadsWantNoOutbox }
     ensures two { LoadsWantTwoHeld }
     ensures answers { DramAnswersWantNoOutbox }
 {}
 
-/// A bank's message to a core wants a place in the outbox and none in the held list.
+/// A bank's message to a core needs a place in the outbox and none in the held list.
 pub fn messages_to_cores_want_places()
     ensures grants { GrantsWantPlace }
     ensures held { GrantsWantNoHeld }
@@ -47,15 +47,15 @@ pub fn messages_to_cores_want_places()
     ensures sent { RecallsGoOut }
 {}
 
-/// A copy that a core evicts wants a place in the outbox exactly if the core owns it.
+/// A copy that a core evicts needs a place in the outbox exactly if the core owns it.
 pub fn owned_copies_want_places()
     ensures read { ReadCopiesWantNone }
     ensures owned { OwnedCopiesWantPlace }
     ensures sent { OwnedCopiesGoOut }
 {}
 
-/// A line that a bank evicts wants a place in the held list if it is dirty, one in the outbox if a core owns it, and
-/// else none.
+/// A line that a bank evicts needs a place in the held list if it is dirty, one in the outbox if a core owns it, and
+/// otherwise none.
 pub fn evicted_lines_want_places()
     ensures clean { CleanLinesWantNone }
     ensures dirty { DirtyLinesWantHeld }
@@ -64,8 +64,8 @@ pub fn evicted_lines_want_places()
     ensures recalled { OwnedLinesWantNoHeld }
 {}
 
-/// A lease whose end doesn't fit 64 bits stops the seat that would give it, or ask for it: the answer is Exhausted, and
-/// messages and part stay as they were.
+/// A lease whose end doesn't fit 64 bits stops the seat that would grant it, or ask for it: the answer is Exhausted,
+/// and messages and part stay as they were.
 pub fn late_leases_stop_the_seat()
     ensures readers { LateReadersStop }
     ensures recalls { LateRecallsStop }
@@ -89,21 +89,21 @@ pub fn turns_take_into_empty_hands()
     all_incoming_slots_are_looked_at();
 }
 
-/// A turn puts until, for each message that is left, all four slots to where it goes were found full: whatever is in
-/// the hand, and whatever the turn answers. It answers how many it put.
+/// A turn puts until, for each message that is left, all four slots to where it goes were found full, with any message
+/// in the hand and any answer of the turn. It answers how many it put.
 pub fn turns_put_first()
     ensures cores { CoreTurnsPut }
     ensures banks { BankTurnsPut }
 {}
 
-/// A message that finds no place in a full outbox stays where it is, and the one behind it is served.
+/// A message that finds no place in a full outbox stays where it is, and the seat serves the one after it.
 pub fn later_messages_are_served()
     ensures cores { CoresServeBehind }
     ensures banks { BanksServeBehind }
 {}
 
-/// If the only held message finds no place in a full outbox, of which nothing is put, a turn answers NetworkFull and
-/// takes nothing.
+/// If the only held message finds no place in a full outbox, and none of the outbox is put, a turn answers NetworkFull
+/// and takes nothing.
 pub fn full_turns_take_nothing()
     ensures cores { FullCoresTakeNothing }
     ensures banks { FullBanksTakeNothing }

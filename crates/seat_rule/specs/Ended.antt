@@ -57,7 +57,7 @@ lies writing = None
 lies (full m) = Some m
 lies (reading m) = None
 
--- the slot isn't out with a seat: no message of it is in flight but the one that lies in it
+-- the slot isn't out with a seat: of its messages, only the one that lies in it is in flight
 abbrev pub IsNotOut : Phase → Type 0
 IsNotOut phase = content phase ≡ option_to_list (lies phase)
 

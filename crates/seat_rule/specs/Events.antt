@@ -11,7 +11,8 @@ use Rattle.machine_table.specs.Transition.{transition}
 use Rattle.machine_theorem.specs.Kept.{Invariant}
 use Rattle.seat_rule.specs.States.{State, Same, seen}
 
--- a machine that runs, set up and opened so and in this state, whatever its capacity and the numbers of its messages
+-- a machine with this set-up and opening memory that runs and is in this state, with any capacity and any numbers of
+-- its messages
 pub record Shows (config : Config) (opening : FinMap nat_cmp ℕ) (a : State) (m : Machine) : Type 0 where
   pub set_up : m.config ≡ record config { messages = m.config.messages }
   pub opened : m.opening ≡ opening

@@ -23,12 +23,11 @@ pub record FindsHere (z : SetUp) (id : ℕ) (a : Hold) (m : Message) : Type 0 wh
   pub dram : (b : ℕ) → id ≡ z.config.cores + b → m.to ≡ Dram b →
       (b < z.config.banks) × (dram_has_case a.dram m ≡ true)
 
--- of every seat of a machine that is well set up, which holds a part of a reached state
+-- of every seat that holds a part of a reached state of a machine with a good set-up
 abbrev pub OfStanding : (SetUp → ℕ → Hold → Type 0) → Type 0
 OfStanding holds = (z : SetUp) (n id : ℕ) (a : Hold) → is_good z.config ≡ true → Standing z n id a → holds z id a
 
--- each message of such a seat finds its part there, whichever it is: one that goes out, the one in the hand, one that
--- waits
+-- each message of such a seat finds its part there: one that goes out, the one in the hand, one that waits
 pub record MessagesFindParts : Type 0 where
   pub any : OfStanding (λ z id a. (m : Message) (others : List Message) → SameBag (bag_of_hold a) (m ∷ others) →
       FindsHere z id a m)

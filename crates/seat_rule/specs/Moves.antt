@@ -34,7 +34,7 @@ with_bank a b bank = record a { banks = with_at a.banks b bank }
 abbrev pub with_dram : State → ℕ → FinMap nat_cmp (List ℕ) → State
 with_dram a b lines = record a { drams = with_at a.drams b lines }
 
--- a message is sent, and these are in flight beside it
+-- a message is sent, and these are in flight as well
 abbrev pub sent_beside : State → List Message → Message → State
 sent_beside a rest message = record a { bag = message ∷ rest; counts = counted a.counts message.body }
 
@@ -108,15 +108,15 @@ pub data Move (config : Config) : State → State → Type 0 where
       SameBag a.bag (message ∷ rest) → message.to ≡ Dram b → dram_has_case (a.drams b) message ≡ true →
       dram_table (a.drams b) message ≡ Some (Done answer, lines) →
       Move config a (with_answer (with_dram a b lines) rest answer)
-  -- a copy of a line leaves a core's cache, and is sent back if it was owned
+  -- a copy of a line is evicted from a core's cache, and is sent back if it was owned
   evicts_copy : {a : State} (c line : ℕ) (back : Option Message) (core : CoreState) → c < config.cores →
       core_table.evict (a.cores c) line ≡ (Ok back, core) →
       Move config a (with_answer (with_core a c core) a.bag back)
-  -- a line leaves a bank, or is stored or recalled for that
+  -- a line leaves a bank, or is stored or recalled
   evicts_entry : {a : State} (b line : ℕ) (done : Evict) (bank : BankState) → b < config.banks →
       bank_table.evict (a.banks b) line ≡ (Ok done, bank) →
       Move config a (with_answer (with_bank a b bank) a.bag (sent_by_eviction done))
-  -- a core's time goes on by itself
+  -- a core advances its time
   advances : {a : State} (c : ℕ) (core : CoreState) → c < config.cores →
       core_table.advance (a.cores c) ≡ (Some tt, core) →
       Move config a (with_core a c core)

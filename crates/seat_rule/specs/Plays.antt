@@ -1,4 +1,4 @@
--- What each kind of step of a seat tells it: a look at a slot's word, a put, a take, a change that the seat makes by
+-- What each kind of step of a seat answers: a look at a slot's word, a put, a take, a change that the seat makes by
 -- itself, and a completion. There are no other steps.
 use Rattle.std.specs.Prelude.{◌≡◌, ℕ, zero, suc, ◌+◌, ◌*◌, ◌⊎◌, ◌<◌, length, List, [], ◌∷◌, ◌++◌, Option, Some, None}
 use Rattle.std.specs.Prelude.{remove, slice_get}
@@ -68,7 +68,7 @@ HoldPuts a k m b =
     SamePart a b × (b.stage ≡ Idle) × (b.put ≡ a.put ++ (k, m) ∷ []) × (b.taken ≡ a.taken) ×
     ((f : Message → ℕ) → weigh f (bag_of_hold b) + f m ≡ weigh f (bag_of_hold a))
 
--- the message of slot k is taken, and the seat has it besides its others
+-- the message of slot k is taken, and the seat has it and its others
 abbrev pub HoldTakes : Hold → ℕ → Message → Hold → Type 0
 HoldTakes a k m b =
     SamePart a b × (b.stage ≡ Idle) × (b.put ≡ a.put) × (b.taken ≡ a.taken ++ (k, m) ∷ []) ×

@@ -161,7 +161,7 @@ no_hold = opening_hold no_set_up 0
 
 -- The whole
 
--- the lists f 0 to f (n - 1), one behind the other
+-- the lists f 0 to f (n - 1), one after the other
 abbrev pub gather : ℕ → (ℕ → List Message) → List Message
 gather zero f = []
 gather (suc n) f = f n ++ gather n f
@@ -234,12 +234,12 @@ pub record RuleIsKept (z : SetUp) (n : ℕ) (from to : ℕ → ℕ) (slots : ℕ
   pub bounded : (j : ℕ) → length (seats j).records < 2 ^ 32
   pub own : (j : ℕ) → of_core j log ≡ (seats j).records
 
--- the rule of a machine that is set up so
+-- the rule of a machine with this set-up
 abbrev pub Holds : SetUp → State (Option Message) (View Hold) → Type 0
 Holds z = RuleIsKept z (seat_count z) (from_of z) (to_of z) (slot_count z)
 
--- one seat may come to hold b in place of a: beside any other messages, and whatever the other seats hold, moves lead
--- from the state before to the state afterwards
+-- one seat may hold b in place of a: with any other messages, and for all that the other seats hold, moves lead from
+-- the state before to the state afterwards
 abbrev pub Changes : SetUp → ℕ → ℕ → Hold → Hold → Type 0
 Changes z n id a b =
     (seats : ℕ → Hold) (xs : List Message) (log : List Record) → seats id ≡ a →

@@ -65,11 +65,11 @@ pub data SeatMove (z : SetUp) (id : ℕ) (a b : Hold) : Type 0 where
       SameBag (bag_of_hold a) (m ∷ rest) → m.to ≡ Core id → core_table.core_has_case a.core m ≡ true →
       core_table.core_table a.core m ≡ Some (Dropped, core) →
       SameCore a b → SameBank a b → HoldSends a b rest None → SeatMove z id a b
-  -- a copy of a line leaves the core's cache, and is sent back if it was owned
+  -- a copy of a line is evicted from the core's cache, and is sent back if it was owned
   evicts_copy : (line : ℕ) (back : Option Message) → id < z.config.cores →
       core_table.evict a.core line ≡ (Ok back, b.core) →
       b.issued ≡ a.issued → SameBank a b → HoldSends a b (bag_of_hold a) back → SeatMove z id a b
-  -- the core's time goes on by itself
+  -- the core advances its time
   advances : id < z.config.cores → core_table.advance a.core ≡ (Some tt, b.core) →
       b.issued ≡ a.issued → SameBank a b → HoldSends a b (bag_of_hold a) None → SeatMove z id a b
   -- the bank consumes one of the seat's messages, and answers it, or not
@@ -90,7 +90,7 @@ pub data SeatMove (z : SetUp) (id : ℕ) (a b : Hold) : Type 0 where
       SameBag (bag_of_hold a) (m ∷ rest) → m.to ≡ Dram i → dram_has_case a.dram m ≡ true →
       dram_table a.dram m ≡ Some (Done answer, b.dram) →
       SameCore a b → b.bank ≡ a.bank → HoldSends a b rest answer → SeatMove z id a b
-  -- a line leaves the bank, or is stored or recalled for that
+  -- a line leaves the bank, or is stored or recalled
   evicts_entry : (i line : ℕ) (done : Evict) → i < z.config.banks → id ≡ z.config.cores + i →
       bank_table.evict a.bank line ≡ (Ok done, b.bank) →
       SameCore a b → b.dram ≡ a.dram → HoldSends a b (bag_of_hold a) (sent_by_eviction done) → SeatMove z id a b

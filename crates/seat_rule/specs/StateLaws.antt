@@ -15,7 +15,7 @@ use Rattle.seat_rule.specs.States.{State, initial_state}
 use Rattle.seat_rule.specs.Moves.{Reached}
 use Rattle.seat_rule.specs.Consistent.{Consistent, FindsPart}
 
--- of every reached state of a machine that is well set up
+-- of every reached state of a machine with a good set-up
 abbrev pub OfEach : (Config → FinMap nat_cmp ℕ → State → Type 0) → Type 0
 OfEach holds =
     (config : Config) (opening : FinMap nat_cmp ℕ) (a : State) → is_good config ≡ true →

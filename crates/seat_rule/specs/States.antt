@@ -76,7 +76,7 @@ abbrev pub numbered_from : ℕ → List Message → List (ℕ × Message)
 numbered_from number [] = []
 numbered_from number (m ∷ ms) = (number, m) ∷ numbered_from (number + 1) ms
 
--- a machine that was set up and opened so and has this state: its parts in lists, and its messages with numbers
+-- a machine with this set-up and opening memory that has this state: its parts in lists, and its messages with numbers
 abbrev pub numbered : Config → FinMap nat_cmp ℕ → State → Machine
 numbered config opening a = record {
   config = config;

@@ -44,13 +44,13 @@ pub(crate) fn laws_of_states()
     records_are_in_order();
 }
 
-/// A machine that is well set up has 2 to 72 seats.
+/// A machine with a good set-up has 2 to 72 seats.
 pub fn seats_are_few()
     ensures { (z : SetUp) → is_good z.config ≡ true →
         (1 < seat_count z) × (seat_count z ≤ 72) }
 {}
 
-/// A machine that is well set up has at most 4,096 slots.
+/// A machine with a good set-up has at most 4,096 slots.
 pub fn slots_are_few(config: &Config)
     requires { is_good config.now ≡ true }
     ensures { 8 * config.now.cores * config.now.banks ≤ 4096 }
@@ -65,8 +65,8 @@ pub fn opened_machines_keep_the_rule()
     laws_of_states();
 }
 
-/// An idle seat may look at a slot of a link at whose source it is, and at one of a link at whose target it is. What a
-/// step tells names the machine's set-up by a variable of its own, `aim`, here and below.
+/// An idle seat may look at a slot of a link at whose source it is, and at one of a link at whose target it is. The
+/// contract of a step names the machine's set-up by a variable of its own, `aim`, here and below.
 pub fn looks_keep_the_rule()
     ensures outgoing { (z : SetUp) (slots id k : ℕ) (me : SeatState) → slots ≡ slot_count z →
         k < slot_count z → from_of z k ≡ me.0.number → me.0.spent ≡ false →
@@ -80,7 +80,7 @@ pub fn looks_keep_the_rule()
 
 /// A seat that writes a slot, and has written a message of its outbox there that goes to the node at the link's
 /// target, may give the slot back full; one that reads a slot, with an empty hand, and has moved the message out, may
-/// give it back empty. What it holds afterwards is told.
+/// give it back empty. The contract says what the seat holds afterwards.
 pub fn puts_and_takes_keep_the_rule()
     ensures put { (z : SetUp) (slots id : ℕ) (before me : SeatState) (k : ℕ) (m : Message)
         (index : ℕ) (aim : SetUp) (to : View Hold) → slots ≡ slot_count z →
@@ -132,9 +132,9 @@ pub fn made_and_joined_seats_keep_the_rule()
         Joins (Holds z) id v other u (knows v u) (spent_view no_hold) }
 {}
 
-/// The table of a machine, closed with one of its seats, tells of one reached state, of which all that this seat held
-/// and knew are parts. The last word counts its records, and if all seats are known and idle, each slot has its
-/// message or none.
+/// The table of a machine, closed with one of its seats, shows one reached state, of which all that this seat held and
+/// knew are parts. The last word counts its records, and if all seats are known and idle, each slot has its message or
+/// none.
 pub fn closed_machines_are_one_state()
     ensures { (z : SetUp) (id : ℕ) (w : View Hold) (words : List ℕ)
         (slots : List (Option Message)) (count : ℕ) → is_good z.config ≡ true →
@@ -154,7 +154,7 @@ pub fn owners_are_added_up()
         owners_by_place z seats phases line }
 {}
 
-/// At the end, on each link: no message was taken more often than it was put, whatever each message weighs; and at most
+/// At the end, on each link: no message was taken more often than it was put, for any weights of messages; and at most
 /// four more messages were put than taken.
 pub fn links_lose_and_double_nothing()
     ensures taken { (z : SetUp) (seats : ℕ → Hold) (phases : ℕ → Phase) (log : List Record) →

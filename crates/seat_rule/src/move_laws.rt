@@ -45,17 +45,16 @@ fn laws_of_machines()
     machines_with_the_invariant_are_consistent();
 }
 
-/// Of a machine that keeps the invariant, whatever the capacity, the numbers of messages and the stop: an event that is
-/// answered Waiting, Idle, Held or with a refusal changes nothing of its state, and every other event is a move of one
-/// part.
+/// For a machine that keeps the invariant, with any capacity, numbers of messages and stop: an event that is answered
+/// Waiting, Idle, Held or with a refusal changes nothing of its state, and every other event is a move of one part.
 pub fn events_are_moves()
     ensures { (m : Machine) (event : Event) → Invariant m →
         Effect m (transition m event).0 (transition m event).1 }
 {}
 
-/// And no move of a reached state is more than such an event: some machine in the one state that runs, keeps the
-/// invariant, has rising message numbers and room for one more message is in the other state after it. There are
-/// 2^64 - 1 message numbers, so this is said of states with fewer messages in flight.
+/// And every move of a reached state is such an event: there is a machine in the one state that runs, keeps the
+/// invariant, has rising message numbers and room for one more message, and is in the other state after the event.
+/// There are 2^64 - 1 message numbers, so the law covers states with fewer messages in flight.
 pub fn moves_are_events()
     ensures { (config : Config) (opening : FinMap nat_cmp ℕ) (a b : State) → is_good config ≡ true →
         Reached config opening a → length a.bag < 2 ^ 64 - 1 → Move config a b →
@@ -64,7 +63,7 @@ pub fn moves_are_events()
     laws_of_machines();
 }
 
-/// Whatever the events, refused ones included, moves reach the state of the machine after them.
+/// After any events, refused ones included, moves reach the state of the machine.
 pub fn histories_are_reached()
     ensures { (config : Config) (opening : FinMap nat_cmp ℕ) (events : List Event) →
         is_good config ≡ true →
@@ -73,7 +72,7 @@ pub fn histories_are_reached()
     laws_of_machines();
 }
 
-/// Every state that moves reach from the initial state of a machine that is well set up: its records are a legal
+/// Every state that moves reach from the initial state of a machine with a good set-up: its records are a legal
 /// history of the opening memory and of what its cores were issued; a line has at most one owner, where grants and
 /// returns in flight count; a word's coherent value is the one that the records leave; and the part that a message in
 /// flight goes to has a case for it.

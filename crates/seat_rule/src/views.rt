@@ -1,4 +1,4 @@
-//! How a machine is set up, and what a seat of it holds. Proofs speak of stages and holds; no value of them is made.
+//! How a machine is set up, and what a seat of it holds. Only proofs use stages and holds; no value of them is made.
 use core_pts::Core;
 use dram_mts::Dram;
 use llc_bank::Bank;
@@ -7,7 +7,7 @@ use network::{Counts, Message};
 use physiological_order::{Memory, Op, Record};
 use std::collections::LinkedList;
 
-/// How the machine was set up, and the memory that it opened with. The laws ask for a good configuration.
+/// How the machine was set up, and the memory that it opened with. The laws require a good configuration.
 #[derive(Drop)]
 pub struct SetUp {
     /// Cores and banks, their sizes and leases; the capacity for messages is not used.

@@ -1,4 +1,5 @@
--- Views by number: the first seat makes the others, and any seat takes in what another knows, whatever a seat holds.
+-- Views by number: the first seat makes the others, and any seat takes in what another knows, for any type of what a
+-- seat holds.
 use Rattle.std.specs.Prelude.{◌≡◌, ℕ, zero, suc, ◌+◌, ◌<◌, ◌≤◌, true, false, cond, eqb, List, [], ◌∷◌, ◌++◌, length}
 use mathlib.Core.Option.{some}
 use lib.ListN.{get_elem?}
@@ -43,14 +44,14 @@ module _ {H : Type 0} where
   with_hold v h =
       record { number = v.number; mine = h; made = v.made; known = v.known; spent = v.spent }
 
--- No number of a seat stands twice among those that were joined
+-- No number of a seat occurs twice among those that were joined
 abbrev pub Once : {H : Type 0} → List (ℕ × H) → Type 0
 Once {H} known =
     (q q' : ℕ) (p p' : ℕ × H) → get_elem? known q ≡ some p → get_elem? known q' ≡ some p' → p.0 ≡ p'.0 → q ≡ q'
 
--- What the views show of seats, where each seat holds `blank` of its number until it is made, and n may be made:
--- each view, unless it is spent, has the number of its seat and what the seat holds; what a view knows of another seat
--- is what that seat holds, whose own view is then spent, and no view knows a seat twice; only the first seat makes
+-- What the views show of seats, if each seat holds `blank` of its number until it is made, and n may be made: each
+-- view, unless it is spent, has the number of its seat and what the seat holds; what a view knows of another seat is
+-- what that seat holds, whose own view is then spent, and no view knows a seat twice; only the first seat makes
 -- others, and it counts all that were made.
 pub record Shown {H : Type 0} (blank : ℕ → H) (n : ℕ) (views : List (View H)) (seats : ℕ → H) : Type 0 where
   pub few : length views ≤ n

@@ -6,8 +6,8 @@ ghost use Rattle.seat_views.specs.declared.views.View.{View};
 ghost use Rattle.seat_views.specs.Seated.{over, with_value_at, Shown, seat_view, first_view};
 ghost use Rattle.seat_views.specs.Seated.{with_hold, one_more, spent_view, knows};
 
-/// Where one value changes, a sum of weights changes by the weight of that value alone; sums whose terms are equal one
-/// by one are equal; and no term is above its sum.
+/// If one value changes, a sum of weights changes by the weight of that value alone; sums whose terms are equal one by
+/// one are equal; and no term is above its sum.
 pub fn sums_change_by_one_term<A>()
     ensures changed { (n : ℕ) (weight : ℕ → A → ℕ) (f : ℕ → A) (i : ℕ) (x : A) → i < n →
         over n (λ j. weight j (with_value_at f i x j)) + weight i (f i) ≡

@@ -1,5 +1,5 @@
-//! Seats by number, whatever a seat holds: the first seat makes the others, each changes what it holds itself, and at
-//! the end one takes in what all others know.
+//! Seats by number: the first seat makes the others, each changes what it holds itself, and at the end one takes in
+//! what all others know. A seat may hold values of any type.
 #![tactic(auto)]
 
 pub mod laws;

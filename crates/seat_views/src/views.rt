@@ -2,7 +2,7 @@
 use std::collections::LinkedList;
 
 /// What a seat knows: its number and what it holds. The first seat also counts how many were made, itself included,
-/// and any seat knows what those held that were joined to it. Proofs speak of it, and no value of it is made.
+/// and any seat knows what the seats held that were joined to it. Only proofs use it; no value of it is made.
 pub struct View<H> {
     pub number: u64,
     pub mine: H,

@@ -1,4 +1,4 @@
--- What a litmus test opens with, told by its items one by one, without the recursions that take them in turn.
+-- What a litmus test opens with, by its items one by one, without the recursions that take them in turn.
 use Rattle.std.specs.Prelude.{◌≡◌, ℕ, length, Some, slice_get}
 use Rattle.litmus_parser.specs.declared.syntax.Name.{Name}
 use Rattle.litmus_parser.specs.declared.syntax.Name.TheVariants.{Register, Location}
@@ -11,9 +11,9 @@ use Rattle.sequential_machine.specs.SequentialMachine.{registers_opened, memory_
 abbrev pub Sets : Litmus → Name → ℕ → Type 0
 Sets test name number = (i : ℕ) × (slice_get test.items i ≡ Some (name, Number number))
 
--- A register of a thread holds the number to which an item sets that register of that thread, and a location's word is
--- the number to which an item sets it. All else is 0: registers that no item sets, those that one sets to a location,
--- x0, and words of locations that no item sets.
+-- A register of a thread holds the number to which an item sets it, and a location's word is the number to which an
+-- item sets it. All else is 0: registers that no item sets, those that one sets to a location, x0, and words of
+-- locations that no item sets.
 pub record OpensAsSet (test : Litmus) : Type 0 where
   pub register_count : (t : ℕ) → length (registers_opened test t) ≡ 32
   pub register_set : (t r n : ℕ) → Sets test (Register t r) n → register_value (registers_opened test t) r ≡ n

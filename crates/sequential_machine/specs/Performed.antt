@@ -18,7 +18,7 @@ thread_acts = record { next = λ thread. as_step (next_operation thread); done =
 pub record ArePerformed (test : Litmus) (issued : ℕ → List Op) (records : List Record) (threads : List Thread) : Type
     0 where
   pub there : AllByRecursion (λ r. r.core < test.threads) records
-  -- a thread's records, in the order in which they were completed, stand in its program order
+  -- a thread's records, in the order in which they were completed, are in its program order
   pub in_order : (t : ℕ) → t < test.threads → Follows 0 (issued t) (of_core t records)
   pub performed : (t : ℕ) → t < test.threads → (last : Thread) × (slice_get threads t ≡ Some last)
       × Performs thread_acts (of_core t records) (settled_thread t (registers_opened test t) test.cells) last

@@ -1,5 +1,5 @@
 -- The plain sequential machine of a litmus test: one memory, and for each thread its registers and the instructions
--- that it has left. It knows no time and no cache.
+-- that it has left. It has no time and no cache.
 use Rattle.std.specs.Prelude.{◌≡◌, ℕ, ◌<◌, ◌==◌, List, [], ◌∷◌, map, filter, replicate, if◌then◌else◌}
 use Rattle.std.specs.FinMap.{empty}
 use Rattle.physiological_order.specs.Order.{Memory, flat, with_word}
@@ -22,7 +22,7 @@ pub record SequentialState : Type 0 where
 abbrev pub cells_of : ℕ → List Cell → List Cell
 cells_of t cells = filter (λ cell. cell.thread == t) cells
 
--- the registers that a test opens: each is 0 that no item sets
+-- the registers that a test opens: each is 0 unless an item sets it
 abbrev pub registers_opened : Litmus → ℕ → List ℕ
 registers_opened test t = with_items t test.items (replicate 32 0)
 
@@ -53,7 +53,7 @@ registers_after does.Fence registers m = registers
 abbrev pub with_at : {X : Type 0} → (ℕ → X) → ℕ → X → ℕ → X
 with_at table t x u = if u == t then x else table u
 
--- what is there when a thread has done an instruction, and has the rest left: other threads are as they were
+-- the machine once a thread has done an instruction, and has the rest left: other threads are as they were
 abbrev pub after_one : SequentialState → ℕ → Instruction → List Cell → SequentialState
 after_one s t instruction rest =
     record {
@@ -77,7 +77,7 @@ abbrev pub value_at : SequentialState → Name → ℕ
 value_at s (Register t r) = register_value (s.registers t) r
 value_at s (Location l) = s.memory l
 
--- the values of the test's names, in their order, where steps from the opening leave no thread an instruction
+-- the values of the test's names, in their order, if steps from the opening leave no thread an instruction
 pub record IsOutcome (test : Litmus) (values : List ℕ) : Type 0 where
   pub last : SequentialState
   pub steps : Steps (sequential_opening test) last

@@ -21,11 +21,10 @@ pub fn tests_open_as_set()
     ensures { (text : List ℕ) (test : Litmus) → IsTest text test → OpensAsSet test }
 {}
 
-/// A thread of a litmus test, taken as a program, is a thread of the machine. From its initial
-/// state, steps of its own come to the program's state. The operation that the program gives next
-/// is that of the instruction which it does next; that step and further ones of its own come to
-/// the program's state after it is told what memory gave. If the program gives none, no
-/// instruction is left.
+/// A thread of a litmus test, taken as a program, is a thread of the machine. From its initial state, steps of its own
+/// come to the program's state. The operation that the program gives next is that of the instruction which it does
+/// next; that step and further ones of its own come to the program's state once it has what memory gave. If the
+/// program gives none, no instruction is left.
 pub fn programs_are_threads()
     ensures opened { (test : Litmus) (s : SequentialState) (t : ℕ)
         → s.registers t ≡ registers_opened test t → s.left t ≡ cells_of t test.cells →

@@ -1,7 +1,7 @@
-//! What is told when a turn begins and when it has ended.
+//! Calls before a turn begins and after it has ended.
 
-/// A gate is passed before each turn of a seat and after it, by the thread that makes the turn. It may hold the thread
-/// up, and changes no result. A job is one turn, turn 0, of a seat that has the job's number.
+/// The thread that makes a turn of a seat passes a gate before it and after it. The gate may hold the thread up, and
+/// changes no result. A job is one turn, turn 0, of a seat that has the job's number.
 pub trait Gate {
     /// Turn `turn` of seat `seat` begins, counted from 0.
     fn before(&self, seat: u64, turn: u64);

@@ -8,8 +8,9 @@ use crate::workers::Worker;
 use std::alloc::AllocError;
 use std::collections::VecDeque;
 
-/// The results of the jobs 0 to `count - 1`, in this order, behind each other in a list that has room for them. A job
-/// whose result stands in front of no worker's is run here. AllocError where there is no memory for such a job.
+/// The results of the jobs 0 to `count - 1`, in this order, one after the other in a list that has room for them. If
+/// no worker has a job's result in front, the call runs the job. AllocError if memory for such a job can't be
+/// allocated.
 pub fn in_order<X: Drop, S: Drop, J: Jobs<X, S>, G: Gate>(
     jobs: &J,
     gate: &G,

@@ -1,11 +1,11 @@
-//! What is done.
+//! Jobs, and running one.
 ghost use Rattle.std.specs.Prelude.{ℕ, IfOk, IfSome};
 
 use crate::gate::Gate;
 use std::alloc::AllocError;
 
-/// Jobs by number, from 0 on, each with a result. Any thread may run any of them, in whatever order (README.md).
-/// A worker keeps a state from one job to the next.
+/// Jobs by number, from 0 on, each with a result. Any thread may run any of them, in any order (README.md). A worker
+/// keeps a state from one job to the next.
 pub trait Jobs<X, S> {
     /// The result that a job of this number may have.
     ghost gives: { Self → ℕ → X → Type 0 };
@@ -13,11 +13,11 @@ pub trait Jobs<X, S> {
     /// What is so of a worker's state before each job.
     ghost ready: { Self → S → Type 0 };
 
-    /// A worker's state before its first job. AllocError where there is no memory for it.
+    /// A worker's state before its first job. AllocError if memory for it can't be allocated.
     fn open(&self) -> Result<S, AllocError>
         ensures { IfOk result (ready self.now) };
 
-    /// Runs the job of this number, and gives the state back for the next one. AllocError where memory is refused.
+    /// Runs the job of this number, and gives the state back for the next one. AllocError if an allocation fails.
     fn run(&self, state: S, number: u64) -> Result<(X, S), AllocError>
         requires { ready self.now state }
         ensures given { IfOk result (λ done. gives self.now number done.0) }
@@ -41,7 +41,7 @@ pub fn run_one<X: Drop, S: Drop, J: Jobs<X, S>, G: Gate>(
     done
 }
 
-/// Runs the job of this number by the state that there is, or by one that is opened.
+/// Runs the job of this number by the state that there is, or by one that the call opens.
 pub fn run_left<X: Drop, S: Drop, J: Jobs<X, S>, G: Gate>(
     jobs: &J,
     gate: &G,

@@ -1,5 +1,5 @@
-//! Jobs that threads share: each job is claimed by one thread, by a drawn number, and the results stand in the jobs'
-//! own order, whichever thread did them.
+//! Jobs that threads share: a thread claims each job by a drawn number, and the results are in the jobs' own order, no
+//! matter which thread did which job.
 #![tactic(auto)]
 
 mod gate;

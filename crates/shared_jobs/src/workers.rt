@@ -17,8 +17,8 @@ pub struct Worker<X: Drop> {
     pub results: VecDeque<(u64, X)>,
 }
 
-/// Claims jobs and runs them, until a number is drawn that is no job's. A worker that is refused memory stops sooner.
-/// The job at which that happens, if it had claimed one, is left undone.
+/// Claims jobs and runs them, until it draws a number that is no job's. If an allocation fails, the worker stops
+/// sooner. The job at which that happens, if it had claimed one, is left undone.
 pub fn work<X: Drop, S: Drop, J: Jobs<X, S>, G: Gate>(
     numbers: &Numbers,
     jobs: &J,

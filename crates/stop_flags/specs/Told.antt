@@ -1,4 +1,4 @@
--- The rule that all signalers keep, and what each step tells.
+-- The rule that all signalers keep, and what each step answers.
 use Rattle.std.specs.Prelude.{◌≡◌, ℕ, ◌+◌, ◌<◌, ◌≤◌, true, false, ◌⊎◌, length, slice_index_or}
 use Rattle.atomic_table.specs.Table.{State, Me}
 use Rattle.atomic_table.specs.Seated.{TableId}
@@ -23,11 +23,11 @@ has_stopped h = record { finished = h.finished; stops = true }
 abbrev pub voice : ℕ → Said → Voice
 voice count h = record { said = h; workers = count }
 
--- the programs that the first signalers, so many, have finished together
+-- the programs that the first n signalers have finished together
 abbrev pub in_all : ℕ → (ℕ → Said) → ℕ
 in_all count said = over count (λ j. (said j).finished)
 
--- What each of so many signalers has said when a word is read: the signaler's own is one of them, and together they
+-- What each of `count` signalers has said when a word is read: the signaler's own is one of them, and together they
 -- have finished as many programs as the word says.
 pub record FinishedInAll (count : ℕ) (own : Said) (word : ℕ) : Type 0 where
   pub said : ℕ → Said
@@ -36,7 +36,7 @@ pub record FinishedInAll (count : ℕ) (own : Said) (word : ℕ) : Type 0 where
   pub mine : said seat ≡ own
   pub total : in_all count said ≡ word
 
--- the same of a stop: one of them has told it
+-- the same of a stop: one of them has signaled it
 pub record SomeStopped (count : ℕ) (own : Said) : Type 0 where
   pub said : ℕ → Said
   pub seat : ℕ
@@ -47,7 +47,7 @@ pub record SomeStopped (count : ℕ) (own : Said) : Type 0 where
   pub stopped : (said by).stops ≡ true
 
 -- There are at most `count` signalers, and each knows so. What they have finished is together the first word, and each
--- of them at most 2 ^ 32. The second word is 0 or 1, and it is 1 if and only if one of them has told a stop.
+-- of them at most 2 ^ 32. The second word is 0 or 1, and it is 1 if and only if one of them has signaled a stop.
 pub record FlagsHold (count : ℕ) (s : State (Unit {0}) (View Voice)) : Type 0 where
   pub voices : ℕ → Voice
   pub shown : Shown (λ _. voice count nothing) count s.views voices
@@ -68,7 +68,7 @@ with_said v h = with_hold v (voice v.mine.workers h)
 abbrev pub now_said : Me (Unit {0}) (View Voice) → Said → Me (Unit {0}) (View Voice) → Type 0
 now_said before h after = (after.0 ≡ with_said before.0 h) × (after.1 ≡ before.1)
 
--- what the four steps tell: two of them tell, and two hear
+-- the contracts of the four steps: two of them write a word, and two read one
 abbrev pub told_finished : Me (Unit {0}) (View Voice) → Me (Unit {0}) (View Voice) → Type 0
 told_finished before after = now_said before (one_finished before.0.mine.said) after
 

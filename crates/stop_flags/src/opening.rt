@@ -10,8 +10,8 @@ use crate::words::Said;
 use atomic_table::Table;
 use std::alloc::{AllocError, Global};
 
-/// Signals of which none is told, with a signaler for each of 1 to 16 workers. AllocError where there is no memory for
-/// them.
+/// Signals that nobody has set, with a signaler for each of 1 to 16 workers. AllocError if memory for them can't be
+/// allocated.
 pub fn open_signals(alloc: Global, workers: u32) -> Result<(Signals, Vec<Signaler>), AllocError>
     requires { (0 < workers) × (workers ≤ 16) }
     ensures { IfOk result (λ r. (r.0.workers ≡ workers) × (length r.1.items ≡ workers) ×

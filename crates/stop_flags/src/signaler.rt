@@ -1,4 +1,4 @@
-//! One that tells and hears.
+//! One that sets and reads the signals.
 ghost use Rattle.std.specs.Prelude.{◌≡◌, ℕ, ◌≤◌, ◌<◌, true, IsOk, IsErr};
 ghost use Rattle.stop_flags.specs.Ties.{SignalerTied};
 
@@ -21,7 +21,7 @@ impl Signaler {
     ghost use Rattle.stop_flags.specs.Told.{one_finished, has_stopped, FinishedInAll, SomeStopped};
     ghost use Rattle.stop_flags.specs.Signalers.{IsSignalerOf};
 
-    /// Tells that one more program is finished, by one addition to the word of them.
+    /// Signals that one more program is finished, by one addition to the word that counts them.
     pub fn finish(&mut self, signals: &Signals) -> Result<(), TooMany>
         requires { IsSignalerOf signals.now self.old }
         ensures signaler { IsSignalerOf signals.now self.new }
@@ -38,7 +38,7 @@ impl Signaler {
         Ok(())
     }
 
-    /// Tells that a seat has stopped. It may be told again.
+    /// Signals that a seat has stopped. It may do so again.
     pub fn stop(&mut self, signals: &Signals)
         requires { IsSignalerOf signals.now self.old }
         ensures signaler { IsSignalerOf signals.now self.new }
@@ -48,7 +48,7 @@ impl Signaler {
         self.said.stops = true;
     }
 
-    /// Hears how many programs are finished, and whether some seat has stopped. The two words are read one after the
+    /// Reads how many programs are finished, and whether some seat has stopped. It reads the two words one after the
     /// other.
     pub fn look(&mut self, signals: &Signals) -> Look
         requires { IsSignalerOf signals.now self.old }

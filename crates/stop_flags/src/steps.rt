@@ -1,4 +1,4 @@
-//! The single steps of a signaler: it tells that a program is finished or that a seat has stopped, and reads the two
+//! The single steps of a signaler: it signals that a program is finished or that a seat has stopped, and reads the two
 //! words. The first one makes the others.
 ghost use Rattle.std.specs.Prelude.{◌≡◌, ℕ, ◌+◌, ◌*◌, ◌<◌, ◌≤◌, false, []};
 ghost use Rattle.atomic_table.specs.Table.{step};

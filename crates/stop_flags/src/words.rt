@@ -1,4 +1,4 @@
-//! What a signaler says, and what it hears.
+//! What a signaler says, and what it reads.
 
 /// What one signaler has said: how many programs it finished, and whether a seat of its own has stopped.
 #[derive(Clone, Copy, Debug, PartialEq, Eq)]
@@ -7,7 +7,7 @@ pub struct Said {
     pub stops: bool,
 }
 
-/// What a seat holds: what it has said, and how many workers there are. Proofs speak of it; no value of it is made.
+/// What a seat holds: what it has said, and how many workers there are. Only proofs use it; no value of it is made.
 pub struct Voice {
     pub said: Said,
     pub workers: u64,

@@ -27,7 +27,7 @@ use Rattle.report.specs.Verdicts.{HasNoVerdict, IsCheckReport, ReadsCounted, Wri
 abbrev pub TextGoesOut : Option (List ℕ) → Option (List ℕ) → ℕ → ℕ → List ℕ → Type 0
 TextGoesOut old new failed failed' text = GrowsByFront old new text × (failed' ≡ failed → Grows old new text)
 
--- 3 if the command line is refused, 1 if there was no memory
+-- 3 if the command line is refused, 1 if an allocation failed
 abbrev pub words_status : WordsError → ℕ
 words_status (RefusedWords text) = 3
 words_status NoMemoryForWords = 1
@@ -37,11 +37,11 @@ abbrev pub words_text : WordsError → List ℕ
 words_text (RefusedWords text) = string_bytes text
 words_text NoMemoryForWords = codes "tardis: no memory\n"
 
--- what is told of words that are no text
+-- the error text for words that are no text
 abbrev pub bad_words : List ℕ
 bad_words = codes "tardis: bad command line\n"
 
--- nothing of a report that was given, and else the error's line
+-- nothing for a report that was given, and otherwise the error's line
 abbrev pub came_text : Result Done RunError → List ℕ
 came_text (Ok done) = []
 came_text (Err error) = error_line error
@@ -58,7 +58,7 @@ abbrev pub devices : {F K : Type 0} → (F → Option (List ℕ)) → (F → ℕ
 devices remaining unread contents unwritten =
     record { remaining = remaining; unread = unread; contents = contents; unwritten = unwritten }
 
--- the report went out, or a beginning of it; by another error nothing did
+-- the report was written, or a beginning of it; on any other error nothing was
 abbrev pub Came : {F K : Type 0} → Devices F K → (Bool → List ℕ → Type 0) → (RunError → Type 0) → K → K →
     Result Done RunError → Type 0
 Came d IsReport HasNone old new (Ok done) = IsReported (IsReport done.all_done) (d.contents old) (d.contents new)
@@ -85,20 +85,20 @@ abbrev pub RunsTrace : {F K : Type 0} → Devices F K → TraceOptions → Optio
 RunsTrace d options known old new came =
     Came d (IsTraceReport options known) (HasNoTraceReport options known) old new came
 
--- the job was done on a file, which it left as another: failures are told exactly as they were counted
+-- the job was done on a file, which it left as another: failures are reported exactly as they were counted
 abbrev pub RunsOn : {F K : Type 0} → Devices F K → (Option (List ℕ) → K → K → Result Done RunError → Type 0) →
     (file left : F) → K → K → Result Done RunError → Type 0
 RunsOn d Runs file left old new came =
     FailuresAreCounted came (d.unread file) (d.unread left) (d.unwritten old) (d.unwritten new)
     × Runs (d.remaining file) old new came
 
--- it was done on the file that was opened; a file that can't be opened is told as one that can't be read
+-- it was done on the file that was opened; a file that can't be opened is reported as one that can't be read
 abbrev pub OnFile : {F K : Type 0} → Devices F K → (Option (List ℕ) → K → K → Result Done RunError → Type 0) →
     Result F DeviceError → K → K → Result Done RunError → Type 0
 OnFile {F} d Runs (Ok file) old new came = (left : F) × RunsOn d Runs file left old new came
 OnFile d Runs (Err error) old new came = (came ≡ Err Read) × (new ≡ old)
 
--- the records of the second file were checked against the trace of the first; they were read only behind a trace that
+-- the records of the second file were checked against the trace of the first; they were read only after a trace that
 -- was accepted, and not at all if reading the trace failed
 abbrev pub ChecksOn : {F K : Type 0} → Devices F K → (trace records trace' records' : F) → K → K →
     Result Done RunError → Type 0
@@ -110,14 +110,14 @@ ChecksOn d trace records trace' records' old new came =
     × ReadsCounted came (d.unread trace) (d.unread trace') (d.unread records) (d.unread records')
     × WritesCounted came (d.unwritten old) (d.unwritten new)
 
--- both files could be opened; if one couldn't, that is told as a failed read, and nothing was written
+-- both files could be opened; if one couldn't, that is reported as a failed read, and nothing was written
 abbrev pub OnFiles : {F K : Type 0} → Devices F K → (trace records : Result F DeviceError) → K → K →
     Result Done RunError → Type 0
 OnFiles {F} d (Ok trace) (Ok records) old new came =
     (trace' records' : F) × ChecksOn d trace records trace' records' old new came
 OnFiles d trace records old new came = (came ≡ Err Read) × (new ≡ old)
 
--- the job was done on the files that have its names, where this tells what may come of opening a name
+-- the job was done on the files that have its names, given what opening each name may answer
 abbrev pub Does : {F K : Type 0} → Devices F K → (List ℕ → Result F DeviceError → Type 0) → Job → K → K →
     Result Done RunError → Type 0
 Does {F} d opens (LitmusJob options name) old new came = (opened : Result F DeviceError) × opens name.now opened

@@ -18,7 +18,7 @@ use std::alloc::Global;
 use std::thread::Threads;
 
 /// Does what the words ask for, and answers the exit status. A report goes to `out`; why there is none goes to
-/// `errors`, in one line, or in the lines of a command line's refusal. Errors of `errors` itself are told nowhere.
+/// `errors`, in one line, or in the lines of a command line's refusal. Nothing reports errors of `errors` itself.
 pub fn answer<R: Threads + Sync, F: Files, K: Sink, E: Sink>(
     rt: &R,
     alloc: Global,
@@ -62,7 +62,7 @@ pub fn refuse<E: Sink>(errors: &mut E) -> u8
     3
 }
 
-/// The answer if there is no memory for the words.
+/// The answer if memory for the words can't be allocated.
 pub fn refuse_memory<E: Sink>(errors: &mut E) -> u8
     ensures status { result ≡ 1 }
     ensures told { TextGoesOut (E.contents errors.old) (E.contents errors.new)

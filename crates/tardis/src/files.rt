@@ -5,11 +5,11 @@ ghost use Rattle.byte_streams.specs.declared.device.DeviceError.{DeviceError};
 
 use byte_streams::{DeviceError, Source};
 
-/// Where files are found by their names.
+/// Where the program finds files by their names.
 pub trait Files {
     type File: Source + Drop;
 
-    /// What may come of opening the file that has a name: which file, with which bytes, or that it can't be opened.
+    /// What opening the file that has a name may answer: which file, with which bytes, or that it can't be opened.
     ghost opens: { Self → List ℕ → Result Self.File DeviceError → Type 0 };
 
     /// Opens a file for reading.

@@ -12,7 +12,7 @@ use run_results::{Done, RunError};
 use std::alloc::Global;
 use std::thread::Threads;
 
-/// Does a job, for which all files are opened first.
+/// Does a job, and opens all its files first.
 pub(crate) fn run_job<R: Threads + Sync, F: Files, K: Sink>(
     rt: &R,
     alloc: Global,

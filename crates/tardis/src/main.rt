@@ -25,8 +25,8 @@ fn borrowed<'a>(rt: &HostRuntime, texts: &'a [String]) -> Result<Vec<&'a str>, A
     texts.iter().map(|text| text.as_str()).collect(rt.alloc())
 }
 
-/// The exit status. A word that is no text is a refused command line; whatever else fails here wants memory. By
-/// `threads` the runs of a litmus test are shared.
+/// The exit status. If a word is no text, the command line is refused; any other failure here is a failed allocation.
+/// `threads` share the runs of a litmus test.
 fn status<R: Threads + Sync>(rt: &HostRuntime, threads: &R) -> u8 {
     let mut out = ToWrite::new(rt.stdout());
     let mut errors = ToWrite::new(rt.stderr());

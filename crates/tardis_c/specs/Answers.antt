@@ -6,13 +6,13 @@ use Rattle.run_results.specs.ErrorLine.{error_line}
 use Rattle.run_results.specs.Results.{run_number}
 use Rattle.run_results.specs.declared.results.RunError.{RunError}
 
--- the text stands in front of what stood in the buffer, or, without room for all of it, nothing is changed; and how
--- long it is
+-- the text is written over the front of the buffer; or, if the buffer has no room for all of it, nothing is changed;
+-- and how long the text is
 abbrev pub IsPut : (text old new : List ℕ) → (long : ℕ) → Type 0
 IsPut text old new long = (long ≡ length text)
     × (new ≡ (if nat_le (length text) (length old) then text ++ drop (length text) old else old))
 
--- 8 without room for the report; 0 if it says that all is done, or legal, and else 7
+-- 8 without room for the report; 0 if it says that all is done, or legal, and otherwise 7
 abbrev pub report_number : (all_done fits : Bool) → ℕ
 report_number all_done false = 8
 report_number true true = 0
@@ -24,7 +24,7 @@ CameTo (Ok report) old new long number = IsPut report.text.items old new long
     × (number ≡ report_number report.all_done (nat_le (length report.text.items) (length old)))
 CameTo (Err e) old new long number = IsPut (error_line e) old new long × (number ≡ run_number e)
 
--- a report that is right is told; or there is none, and why that is so is told
+-- a right report is given; or there is none, and the error's line says why
 abbrev pub IsTold : (IsReport : Bool → List ℕ → Type 0) → (HasNone : RunError → Type 0) → (old new : List ℕ) →
     (long number : ℕ) → Type 0
 IsTold IsReport HasNone old new long number =

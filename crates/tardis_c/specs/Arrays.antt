@@ -39,8 +39,8 @@ abbrev pub IsVerdictOn : List PlainOperation → List PlainRecord → Verdict �
 IsVerdictOn operations records verdict = (lanes : List (List Step)) × IsByCore (map step_of operations) lanes
     × IsVerdict (flat empty) (trace_ops lanes) (map record_of records) verdict
 
--- 10 for the first operation that has a fault; else 11 for the first record that has one; else what the verdict is, or
--- 3 if there was no memory for it
+-- 10 for the first operation that has a fault; else 11 for the first record that has one; else the number of the
+-- verdict, or 3 if an allocation for it failed
 abbrev pub IsChecked : List PlainOperation → List PlainRecord → (old new : Told) → (number : ℕ) → Type 0
 IsChecked operations records old new number =
     (HasFirst operation_fault operations new.kind new.number × (number ≡ 10))

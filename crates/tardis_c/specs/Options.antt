@@ -10,7 +10,7 @@ use Rattle.tardis_c.specs.declared.options.PlainOptions.{PlainOptions}
 abbrev pub is_set : ℕ → Bool
 is_set flag = nat_lt 0 flag
 
--- by a seed if that flag is set, and else by rounds, on the machine that is asked for
+-- by a seed if that flag is set, and else by rounds, on the machine that the options describe
 abbrev pub run_options : PlainOptions → RunOptions
 run_options plain = record {
   schedule = if is_set plain.by_seed then Seed else Round;

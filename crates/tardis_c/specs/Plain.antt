@@ -13,7 +13,7 @@ abbrev pub operation_fault : PlainOperation → ℕ
 operation_fault plain = if nat_lt 63 plain.core then 4 else if nat_lt 2 plain.kind then 5 else
     if plain.address % 8 == 0 then 0 else 6
 
--- the operation's fault goes first; then 7 if a place has more than 32 bits
+-- the operation's fault takes precedence; then 7 if a place has more than 32 bits
 abbrev pub record_fault : PlainRecord → ℕ
 record_fault plain = if operation_fault plain.operation == 0
     then (if nat_lt plain.place 4294967296 then 0 else 7) else operation_fault plain.operation

@@ -10,7 +10,7 @@ use programs::Step;
 use std::alloc::{AllocError, Global};
 use trace_reader::Trace;
 
-/// What a check of arrays tells beside its number, as `tardis.h` has it.
+/// What a check of arrays answers in addition to its number, as `tardis.h` has it.
 #[repr(C)]
 #[derive(Clone, Copy)]
 pub struct Told {
@@ -20,9 +20,10 @@ pub struct Told {
     pub number: u64,
 }
 
-/// Checks records against the operations that cores were issued, each core's in its order, over a memory of zeros.
-/// 0 if they are legal, 7 if not; 10 if an operation has a fault, else 11 if a record has one, and 3 if there is no
-/// memory. `told` then has the kind and the number, both 0 for legal records; without memory it stays as it is.
+/// Checks records against the operations that cores were issued, each core's in its order, over a memory of zeros. 0
+/// if they are legal, 7 if not; 10 if an operation has a fault, else 11 if a record has one, and 3 if an allocation
+/// failed. `told` then has the kind and the number, both 0 for legal records; after a failed allocation it is
+/// unchanged.
 #[unsafe(no_mangle)]
 pub extern "C" fn tardis_c_check_arrays(
     alloc: Global,

@@ -6,11 +6,11 @@ ghost use Rattle.tardis_c.specs.Options.{litmus_options, run_options, trace_opti
 
 use run_options::{LitmusOptions, MachineOptions, RunOptions, Schedule, TraceOptions};
 
-/// The options of a run, as `tardis.h` has them. A number of which it is only asked whether it is 0 is a flag.
+/// The options of a run, as `tardis.h` has them. A flag is set if its number isn't 0.
 #[repr(C)]
 #[derive(Clone, Copy)]
 pub struct PlainOptions {
-    /// How many ticks a lease goes past the times that it covers.
+    /// How many ticks a lease extends past the times that it covers.
     pub lease: u64,
     /// The time of every core and bank before the first event, in ticks.
     pub time: u64,
@@ -98,7 +98,7 @@ pub(crate) fn trace_options(plain: &PlainOptions) -> TraceOptions
     }
 }
 
-/// The options if none is said.
+/// The defaults of all options.
 #[unsafe(no_mangle)]
 pub extern "C" fn tardis_c_defaults(options: &mut PlainOptions)
     ensures litmus { litmus_options options.new ≡ litmus_default }

@@ -14,7 +14,7 @@ pub struct PlainOperation {
     pub kind: u32,
     /// A byte address, which is a multiple of 8.
     pub address: u64,
-    /// What is written; of a load it is not looked at.
+    /// What is written; ignored for a load.
     pub value: u64,
 }
 
@@ -25,7 +25,7 @@ pub struct PlainRecord {
     pub operation: PlainOperation,
     /// The operation's place in its core's program order, counted from 0, below 2^32.
     pub place: u64,
-    /// What was received; of a store it is not looked at.
+    /// What was received; ignored for a store.
     pub received: u64,
     /// The timestamp.
     pub time: u64,

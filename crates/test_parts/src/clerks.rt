@@ -1,4 +1,4 @@
-//! A part for tests, to which each message says what becomes of it.
+//! A part for tests: each message says by its number what the part does with it.
 use inbox::{Answer, Receiver, Refusal};
 
 /// A part to which even messages wait. An odd one is delivered, and sends the even one before it to the held list.

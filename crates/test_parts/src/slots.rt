@@ -16,8 +16,8 @@ fn request() -> Message
     }
 }
 
-/// Whether so many slots are kept after each of six messages that come and go while the first one stays. A slot is kept
-/// for the first one and for up to two that were taken; with the third these three are given back.
+/// Whether the expected number of slots is kept after each of six messages that come and go while the first one stays.
+/// A slot is kept for the first one and for up to two that were taken; with the third these three are given back.
 fn are_given_back(alloc: Global) -> Result<bool, AllocError> {
     let mut flight = InFlight::new(alloc, 2, 1, 3)?;
     let _first = flight.send(request());

@@ -1,5 +1,5 @@
-//! Cases that no machine brings a part to: messages from or to nodes of another kind, one line more than a set has room
-//! for, and a message in the hand that is delivered and sends one to its own held list.
+//! Cases that no machine brings a part to: messages from or to nodes of another kind, one line more than a set has
+//! room for, and a message in the hand that is delivered and sends one to its own held list.
 use crate::clerks::Clerk;
 use inbox::{Inbox, Served};
 use network::{Body, LineNo, Message, Node, TimedLine, Words, has_endpoints};
@@ -74,7 +74,7 @@ fn a_full_set_takes_no_line(rt: HostRuntime) {
     assert_eq!(rt; is_full(rt.alloc()), Ok(true));
 }
 
-/// Whether the message 7 in the hand is delivered past so many that wait, and the 6 that it sends is held behind them.
+/// Whether the message 7 in the hand is delivered past these waiting ones, and the 6 that it sends is held after them.
 fn sends_itself(alloc: Global, waiting: u32) -> Result<bool, AllocError> {
     let mut inbox = Inbox::new(alloc)?;
     for _ in 0..waiting {

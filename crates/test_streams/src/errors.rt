@@ -1,4 +1,4 @@
-//! What errors are called, and their numbers, where the program tells neither.
+//! The names of errors, and their numbers, where the program reports neither.
 use litmus_reader::LitmusError;
 use report::RunError;
 use std::alloc::Global;

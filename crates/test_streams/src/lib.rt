@@ -1,5 +1,5 @@
-//! What only code can say of streams and texts: readers and writers that move few bytes a call or fail. Then what errors
-//! are called, and a report on sums that no run has.
+//! What only code can test of streams and texts: readers and writers that move few bytes a call or fail. Then the
+//! names of errors, and a report on sums that no run has.
 #![tactic(auto)]
 
 #[cfg(test)]

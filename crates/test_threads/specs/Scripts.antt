@@ -10,6 +10,6 @@ abbrev pub script_next : Script → Option Step
 script_next s = cond (nat_lt s.at s.end)
     (Some (step.Op (cond (s.at % 6 == 0) (Store s.word (s.at + 1)) (Load s.word)))) None
 
--- whatever was received, the next place follows
+-- the next place follows, for any value received
 abbrev pub script_done : Script → Option ℕ → Script
 script_done s received = cond (nat_lt s.at s.end) (record s { at = s.at + 1 }) s

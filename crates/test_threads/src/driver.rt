@@ -26,8 +26,8 @@ pub(crate) const ONE: Config = Config {
     private_write: false,
 };
 
-/// A machine with a memory of zeros, a program a core, by its word and its places, and how many turns each seat may
-/// have.
+/// A machine with a memory of zeros, a program for each core, by its word and its places, and how many turns each seat
+/// may have.
 #[derive(Clone, Copy)]
 pub(crate) struct Case {
     pub(crate) config: Config,
@@ -47,7 +47,7 @@ fn scripts(alloc: Global, programs: &[(u32, u32, u32)]) -> Result<Vec<Script>, A
     Ok(scripts)
 }
 
-/// How a case ends that so many workers drive by a gate; none where there is no memory or no such machine.
+/// How a case ends if this many workers drive it by a gate; none if an allocation failed or there is no such machine.
 pub(crate) fn end_of<R: Threads + Sync>(
     rt: &R,
     alloc: Global,

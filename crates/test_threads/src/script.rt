@@ -2,8 +2,8 @@
 use physiological_order::{Op, WordAddr};
 use programs::{Program, Step};
 
-/// The operations of these places on a word, from one to before another. At each sixth place, from 0 on, the place's
-/// number and one is stored, and at the others the word is loaded.
+/// The operations of these places on a word, from the first place to before the last. At each sixth place, from 0 on,
+/// the script stores the place's number plus one, and at the others it loads the word.
 #[derive(Clone, Copy, Drop)]
 pub struct Script {
     pub word: u32,

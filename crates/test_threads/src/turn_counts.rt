@@ -3,10 +3,10 @@ use shared_jobs::Gate;
 use std::sync::atomic::{AtomicU64, Ordering};
 use std::thread;
 
-/// A gate that counts the turns of seats 0 to 7 that began, and those that ended. A turn that begins or ends out of its
-/// order, or of another seat, is counted as wrong: the turns of a seat are numbered from 0 on, and none begins before
-/// the one before it has ended. The first turns of seats 0 and 1 look for each other, each so many times, and those
-/// that saw the other are counted.
+/// A gate that counts the turns of seats 0 to 7 that began, and those that ended. It counts a turn that begins or ends
+/// out of its order, or of another seat, as wrong: the turns of a seat are numbered from 0 on, and none begins before
+/// the one before it has ended. The first turns of seats 0 and 1 look for each other, `looks` times each, and the gate
+/// counts those that saw the other.
 #[derive(Drop)]
 pub(crate) struct TurnCounts {
     begun: [AtomicU64; 8],
@@ -53,7 +53,7 @@ impl TurnCounts {
         Some(ended)
     }
 
-    /// Whether the first seats had so many turns each, the others none, and so many of two first turns saw the other.
+    /// Whether the first seats had these turns each, the others none, and `met` of two first turns saw the other.
     pub(crate) fn are(&self, counts: &[u64], met: u64) -> bool {
         for seat in 0..8 {
             if self.of(seat) != Some(counts.get(seat).copied().unwrap_or(0)) {

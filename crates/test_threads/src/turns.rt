@@ -173,7 +173,7 @@ const STOPS_CORE: Case = Case {
     ..LAST_TIME
 };
 
-/// The bank stops in its fourth turn, whichever core's load it would grant then.
+/// The bank stops in its fourth turn, for either core whose load it would grant then.
 const STOPS_BANK: Case = Case {
     programs: &[(0, 1, 2), (1, 1, 2)],
     ..STOPS_CORE

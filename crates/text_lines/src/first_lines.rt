@@ -4,7 +4,7 @@ ghost use Rattle.std.specs.Prelude.{◌≡◌, ◌≤◌, ◌<◌, length};
 ghost use Rattle.std.specs.List.{prefix_len};
 ghost use Rattle.text_lines.specs.Lines.{is_within_line, before_line_feed, behind_line_feed};
 
-/// How many bytes stand before the first line feed: all, if there is none.
+/// How many bytes come before the first line feed: all, if there is none.
 pub fn line_length(text: &[u8]) -> usize
     ensures count { result ≡ prefix_len is_within_line text.now }
     ensures within { result ≤ length text.now }

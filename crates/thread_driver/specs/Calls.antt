@@ -33,7 +33,7 @@ pub record CoreIssued (op : Op) (result : Result (Unit {0}) Refusal) (p q : Core
   pub refused : OnErr result (hold q.mail ≡ hold p.mail)
   pub stopped : q.is_stopped ≡ p.is_stopped
 
--- a core's time went on by 1, or not
+-- a core advanced its time by 1, or not
 pub record CoreAdvanced (result : Result (Unit {0}) Refusal) (p q : CoreSeat) : Type 0 where
   pub place : SamePlace p q
   pub outbox : q.part.outbox ≡ p.part.outbox
@@ -48,7 +48,7 @@ pub record CoreAttempted (m : Machine) (given : Answer) (p q : CoreSeat) : Type 
   pub attempt : Attempts m p given q
   pub sure : given ≢ answer.Refused NoMemory
 
--- what an attempt came to: the record if the operation was completed, none if it waits, or why it was refused
+-- what an attempt did: the record if the operation was completed, none if it waits, or why it was refused
 abbrev pub came_to : Answer → Result (Option Record) Refusal
 came_to (answer.Completed r) = Ok (Some r)
 came_to (answer.Refused refusal) = Err refusal
@@ -67,7 +67,7 @@ pub record CoreEvicted (line : ℕ) (result : Result (Unit {0}) Refusal) (p q : 
   pub stopped : q.is_stopped ≡ p.is_stopped
   pub sure : result ≢ Err NoMemory
 
--- the victim of a line, if there is one, was evicted, or not; else the seat is as before
+-- the victim of a line, if there is one, was evicted, or not; otherwise the seat is as before
 abbrev pub VictimLeft : Option ℕ → CoreSeat → CoreSeat → Type 0
 VictimLeft None p q = q ≡ p
 VictimLeft (Some line) p q = (result : Result (Unit {0}) Refusal) × CoreEvicted line result p q
@@ -92,7 +92,7 @@ pub record BankEvicted (line : ℕ) (result : Result Eviction Refusal) (p q : Ba
   pub stopped : q.is_stopped ≡ p.is_stopped
   pub memory : result ≢ Err NoMemory
 
--- a line, if there is one, was evicted, or not; else the seat is as before
+-- a line, if there is one, was evicted, or not; otherwise the seat is as before
 abbrev pub LineLeft : Option ℕ → BankSeat → BankSeat → Type 0
 LineLeft None p q = q ≡ p
 LineLeft (Some line) p q = (result : Result Eviction Refusal) × BankEvicted line result p q

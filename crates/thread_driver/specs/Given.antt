@@ -1,4 +1,4 @@
--- Turns that seats were given, one after the other, and what they told together.
+-- Turns that seats were given, one after the other, and what they reported together.
 use Rattle.std.specs.Prelude.{◌≡◌, ◌||◌, ℕ, zero, suc, ◌≤◌, false, List, [], ◌∷◌, length}
 use Rattle.std.specs.List.{zip}
 use Rattle.mailboxes.specs.declared.machine.Machine.{Machine}
@@ -10,11 +10,11 @@ use Rattle.thread_driver.specs.declared.told.Told.{Told}
 use Rattle.thread_driver.specs.Playing.{Plays}
 use Rattle.thread_driver.specs.Turns.{BankHadTurn, CoreHadTurn}
 
--- nothing was told
+-- nothing to report
 abbrev pub quiet : Told
 quiet = record { no_memory = false; is_exhausted = false; has_progressed = false }
 
--- what two turns told together: whatever one of them told
+-- what two turns reported together: all that either of them reported
 abbrev pub told_by_both : Told → Told → Told
 told_by_both a b =
     record {
@@ -49,8 +49,8 @@ module _ {P : Type 0} (acts : Acts P) (m : Machine) where
     pub plays : Plays acts before.0 before.1 after.0 after.1
     pub turn : CoreHadTurn acts m before.0 before.1 told after.0 after.1
 
-  -- Seats of cores with their programs, by index, and seats of banks were given turns, at most so many each, and what
-  -- all of these told together.
+  -- Seats of cores with their programs, by index, and seats of banks were given turns, at most `limit` each, and what
+  -- all of these reported together.
   pub record SeatsGiven (limit : ℕ) (cores : List CoreSeat) (banks : List BankSeat) (programs : List P) (told : Told)
       (cores' : List CoreSeat) (banks' : List BankSeat) (programs' : List P) : Type 0 where
     pub cores_long : length cores' ≡ length cores

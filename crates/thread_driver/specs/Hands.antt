@@ -28,13 +28,13 @@ module _ {P : Type 0} where
   abbrev pub banks_in : Hands P → List (List BankSeat)
   banks_in h = map (λ v. v.items) h.banks.items
 
-  -- there are so many hands
+  -- there are n hands
   pub record AreHands (n : ℕ) (h : Hands P) : Type 0 where
     pub cores : length h.cores.items ≡ n
     pub programs : length h.programs.items ≡ n
     pub banks : length h.banks.items ≡ n
 
-  -- there is room for so many hands
+  -- there is room for n hands
   pub record HaveHandRoom (n : ℕ) (h : Hands P) : Type 0 where
     pub cores : n ≤ vec_capacity h.cores
     pub programs : n ≤ vec_capacity h.programs
@@ -58,8 +58,8 @@ module _ {P : Type 0} where
     pub programs : program_hands all ≡ program_hands left ++ programs_in h
     pub banks : bank_hands all ≡ bank_hands left ++ banks_in h
 
-  -- Seats and programs are dealt to so many hands: core i and its program to hand i modulo their number, and the banks
-  -- behind the cores, from the hand after that of the last core on.
+  -- Seats and programs are dealt to n hands: core i and its program to hand i modulo n, and the banks after the cores,
+  -- from the hand after that of the last core on.
   pub record AreDealt (n : ℕ) (cores : List CoreSeat) (programs : List P) (banks : List BankSeat)
       (core_lists : List (List CoreSeat)) (program_lists : List (List P)) (bank_lists : List (List BankSeat)) :
       Type 0 where
@@ -67,7 +67,7 @@ module _ {P : Type 0} where
     pub programs_dealt : IsDealtInTurn programs 0 n program_lists
     pub banks_dealt : IsDealtInTurn banks (length cores) n bank_lists
 
-  -- the hands have the lengths of so many seats and programs that were dealt
+  -- the hands have the lengths of this many seats and programs that were dealt
   pub record HaveLengths (n cores programs banks : ℕ) (core_lists : List (List CoreSeat))
       (program_lists : List (List P)) (bank_lists : List (List BankSeat)) : Type 0 where
     pub core_lengths : HasLengths cores 0 n core_lists

@@ -1,5 +1,5 @@
--- What a core's seat and its program do in turns: the program gave the operations, one after the other, and was told
--- what each completed one received.
+-- What a core's seat and its program do in turns: the program gave the operations, one after the other, and received
+-- what each completed one did.
 use Rattle.std.specs.Prelude.{◌≡◌, ℕ, List, [], ◌∷◌, ◌++◌, length, Option, Some, None, IfSome, Result, Ok, Err}
 use Rattle.std.specs.Prelude.{slice_get}
 use Rattle.physiological_order.specs.declared.operation.Op.{Op}
@@ -53,8 +53,8 @@ module _ {P : Type 0} (acts : Acts P) where
         IsAhead p a
 
   -- A core's seat and its program, p and `before`, are q and `after` now: the seat keeps its number. It has these
-  -- records more; their operations are those that the program gave, and the program was told of each. An operation that
-  -- is open is the program's next step.
+  -- records more; their operations are those that the program gave, and the program received what each did. An
+  -- operation that is open is the program's next step.
   pub record Plays (p : CoreSeat) (before : P) (q : CoreSeat) (after : P) : Type 0 where
     pub number : q.mail.number ≡ p.mail.number
     pub added : List Record

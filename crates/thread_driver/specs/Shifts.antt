@@ -1,4 +1,4 @@
--- What comes of seats that threads drove: the seats in order, what each core's program was told, and the end.
+-- The result of driving seats by threads: the seats in order, what each core's program received, and the end.
 use Rattle.std.specs.Prelude.{◌≡◌, ◌≢◌, ℕ, ◌+◌, Bool, false, ◌||◌, List, [], ◌∷◌, ◌++◌, length, if◌then◌else◌}
 use Rattle.std.specs.Prelude.{Some, None, slice_get}
 use Rattle.physiological_order.specs.declared.operation.Record.{Record}
@@ -19,7 +19,7 @@ pub record AreCoresInOrder (m : Machine) (cores : List CoreSeat) : Type 0 where
   pub long : length cores ≡ m.set_up.config.cores
   pub each : (i : ℕ) (p : CoreSeat) → slice_get cores i ≡ Some p → IsCoreSeat m p × (p.mail.number ≡ i)
 
--- the seats of all banks of the machine, in order: they are numbered behind those of the cores
+-- the seats of all banks of the machine, in order: they are numbered after those of the cores
 pub record AreBanksInOrder (m : Machine) (banks : List BankSeat) : Type 0 where
   pub long : length banks ≡ m.set_up.config.banks
   pub each : (i : ℕ) (p : BankSeat) → slice_get banks i ≡ Some p →
@@ -36,15 +36,15 @@ one_stopped is_stopped (p ∷ before) [] = false
 one_stopped is_stopped (p ∷ before) (q ∷ after) =
     has_stopped (is_stopped p) (is_stopped q) || one_stopped is_stopped before after
 
--- How it ends where something is left to do, by what the turns reported: for want of memory if a turn reported it, else
--- exhausted if a turn reported it, else since the turns are used up.
+-- How it ends if something is left to do, by what the turns reported: memory if a turn reported a failed allocation,
+-- else exhausted if a turn reported that, else limit.
 abbrev pub end_told : Told → End
 end_told told =
     if told.no_memory then end.NoMemory else (if told.is_exhausted then end.Exhausted else end.TurnsUsed)
 
 module _ {P : Type 0} (acts : Acts P) where
-  -- A core's seat and its program, before and after: the core was served, with the records that were added. It is said
-  -- of a seat that had no open operation.
+  -- A core's seat and its program, before and after: the core was served, with the records that were added. The seat
+  -- had no open operation before.
   pub record IsSeatServed (p : CoreSeat) (before : P) (q : CoreSeat) (after : P) : Type 0 where
     pub added : List Record
     pub records : q.records.items ≡ p.records.items ++ added

@@ -13,14 +13,15 @@ use Rattle.thread_driver.specs.declared.worker.Worker.{Worker}
 use Rattle.thread_driver.specs.Given.{IsBankTurn, IsCoreTurn, SeatsGiven, quiet, told_by_both}
 use Rattle.thread_driver.specs.Playing.{AreAhead}
 
--- A pass: so many of the first of a list had a turn each, and the others none.
+-- A pass: the first n of a list had a turn each, and the others none.
 pub data PassGiven {X : Type 0} (Turn : X → Told → X → Type 0) : ℕ → List X → Told → List X → Type 0 where
   ends : {xs : List X} → PassGiven Turn zero xs quiet xs
   goes_on : {k : ℕ} {told all : Told} {x y : X} {xs ys : List X} → Turn x told y → PassGiven Turn k xs all ys →
       PassGiven Turn (suc k) (x ∷ xs) (told_by_both told all) (y ∷ ys)
 
 module _ {P : Type 0} (acts : Acts P) (m : Machine) where
-  -- A pass of seats of cores with their programs, by index, and of seats of banks, and what its turns told together.
+  -- A pass of seats of cores with their programs, by index, and of seats of banks, and what its turns reported
+  -- together.
   pub record SeatsPassed (cores : List CoreSeat) (banks : List BankSeat) (programs : List P) (told : Told)
       (cores' : List CoreSeat) (banks' : List BankSeat) (programs' : List P) : Type 0 where
     pub cores_long : length cores' ≡ length cores
@@ -44,7 +45,7 @@ module _ {P : Type 0} where
   abbrev pub IsReady : Acts P → Machine → Signals → Worker P → Type 0
   IsReady acts m signals w = IsAtWork m signals w × AreAhead acts w.cores.items w.programs.items
 
-  -- the worker gave its seats turns, at most so many each, and keeps what these told
+  -- the worker gave its seats turns, at most `limit` each, and keeps what these reported
   unfoldable pub Works : Acts P → Machine → ℕ → Worker P → Worker P → Type 0
   Works acts m limit w v =
       SeatsGiven acts m limit w.cores.items w.banks.items w.programs.items v.told v.cores.items v.banks.items

@@ -1,4 +1,4 @@
--- What a turn of a seat did, which calls of the seat it made, and what it told.
+-- What a turn of a seat did, which calls of the seat it made, and what it reported.
 use Rattle.std.specs.Prelude.{◌≡◌, ◌&&◌, ◌||◌, not, nat_lt, Bool, true, false, Option, Some, None, Result, Ok, Err}
 use Rattle.physiological_order.specs.declared.operation.Op.{Op}
 use Rattle.physiological_order.specs.declared.operation.Record.{Record}
@@ -18,9 +18,9 @@ use Rattle.programs.specs.Acts.{Acts}
 use Rattle.thread_driver.specs.declared.told.Told.{Told}
 use Rattle.thread_driver.specs.Calls.{Attempted, CoreAdvanced, CoreIssued, PlaceMade, RoomMade}
 
--- What is told
+-- What is reported
 
--- whether a message was consumed, or something is fetched for one
+-- whether a message was consumed, or something was started for one
 abbrev pub is_served : Served → Bool
 is_served served.Delivered = true
 is_served served.Dropped = true
@@ -33,7 +33,7 @@ abbrev pub has_moved : Result Turn Refusal → Bool
 has_moved (Ok turn) = nat_lt 0 turn.put || is_served turn.served
 has_moved (Err r) = false
 
--- whether a refusal is for want of memory
+-- whether a refusal is a failed allocation
 abbrev pub wants_memory : Refusal → Bool
 wants_memory refusal.NoMemory = true
 wants_memory _ = false
@@ -52,7 +52,7 @@ is_done (Err r) = false
 abbrev pub has_stopped : Bool → Bool → Bool
 has_stopped before after = after && not before
 
--- what is told of a seat that was stopped or not before and after, by what its turn answered
+-- what is reported of a seat that was stopped or not before and after, by what its turn answered
 abbrev pub told_of_turn : Bool → Bool → Result Turn Refusal → Told
 told_of_turn before after moved =
     record {
@@ -61,7 +61,7 @@ told_of_turn before after moved =
       has_progressed = has_moved moved;
     }
 
--- and by what its program's step came to
+-- and by what its program's step did
 abbrev pub told_of : Bool → Bool → Result Bool Refusal → Result Turn Refusal → Told
 told_of before after done moved =
     record {
@@ -73,13 +73,13 @@ told_of before after done moved =
 -- What is done
 
 -- For a refusal of an attempt: if there is no room for the line, its victim is evicted, and no step is done. Any other
--- refusal is told.
+-- refusal is reported.
 abbrev pub AfterRefusal : Refusal → CoreSeat → Result Bool Refusal → CoreSeat → Type 0
 AfterRefusal refusal.NoRoom p done q = (done ≡ Ok false) × PlaceMade p q
 AfterRefusal r p done q = (done ≡ Err r) × (q ≡ p)
 
 module _ {P : Type 0} (acts : Acts P) where
-  -- For what an attempt came to: the program is told of a completed operation. If it waits, nothing is done.
+  -- After an attempt: the program receives what a completed operation did. If the operation waits, nothing is done.
   abbrev pub AfterAttempt : Result (Option Record) Refusal → CoreSeat → P → Result Bool Refusal → CoreSeat → P → Type 0
   AfterAttempt (Ok (Some r)) p before done q after =
       (done ≡ Ok true) × (q ≡ p) × (after ≡ acts.done before r.received)
@@ -103,7 +103,7 @@ module _ {P : Type 0} (acts : Acts P) where
       (result : Result (Unit {0}) Refusal) × (r : CoreSeat) × CoreIssued op result p r
       × AfterIssue m result r before done q after
 
-  -- the core advances, and its program is told of it if that wasn't refused
+  -- the core advances, and its program goes on if that wasn't refused
   abbrev pub AfterAdvance : Result (Unit {0}) Refusal → P → Result Bool Refusal → P → Type 0
   AfterAdvance (Ok advanced) before done after = (done ≡ Ok true) × (after ≡ acts.done before None)
   AfterAdvance (Err r) before done after = (done ≡ Err r) × (after ≡ before)
@@ -123,8 +123,8 @@ module _ {P : Type 0} (acts : Acts P) where
   StepDone m (Some op) p before done q after = OpenTried m p before done q after
   StepDone m None p before done q after = NextDone m (acts.next before) p before done q after
 
-  -- A core's seat had a turn with its program: first a step was done, and then the seat had its own turn. What is told
-  -- is what came of both, and whether the seat stopped.
+  -- A core's seat had a turn with its program: first a step was done, and then the seat had its own turn. The turn
+  -- reports the result of both, and whether the seat stopped.
   pub record CoreHadTurn (m : Machine) (p : CoreSeat) (before : P) (told : Told) (q : CoreSeat) (after : P) : Type 0
     where
       pub done : Result Bool Refusal

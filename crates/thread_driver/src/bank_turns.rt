@@ -7,8 +7,8 @@ ghost use Rattle.thread_driver.specs.Turns.{BankHadTurn};
 use crate::told::{Told, told_of_turn};
 use mailboxes::{BankSeat, Machine};
 
-/// A turn of a bank's seat. If a held request waits for room, the line is evicted that makes room for it. Then messages
-/// are put, served and taken. docs/SCHEDULES.md has the order.
+/// A turn of a bank's seat. If a held request waits for room, the turn evicts the line that makes room for it. Then
+/// the seat puts, serves and takes messages. docs/SCHEDULES.md has the order.
 pub fn bank_turn(machine: &Machine, seat: &mut BankSeat) -> Told
     requires { IsBankSeat machine.now seat.old }
     ensures seat { IsBankSeat machine.now seat.new ×

@@ -14,10 +14,10 @@ use physiological_order::Op;
 use programs::Step;
 use programs::program::Program;
 
-/// A turn of a core's seat. If no operation is open, the program's next step is done: an operation is issued and then
-/// attempted, or the core advances. An open operation is attempted. If there is no place for its line, a copy is
-/// evicted. The program is told of what is completed or advanced. Then messages are put, served and taken.
-/// docs/SCHEDULES.md has the order.
+/// A turn of a core's seat. It attempts the open operation. If none is open, it does the program's next step: it
+/// issues an operation and then attempts it, or advances the core. If there is no place for the operation's line, it
+/// evicts a copy. The program receives what was completed, and goes on after an advance. Then the seat puts, serves
+/// and takes messages. docs/SCHEDULES.md has the order.
 pub fn core_turn<P: Program>(machine: &Machine, seat: &mut CoreSeat, program: &mut P) -> Told
     requires seat { IsCoreSeat machine.now seat.old }
     requires ahead { IsAhead P.acts seat.old program.old }

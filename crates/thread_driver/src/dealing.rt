@@ -1,4 +1,4 @@
-//! Seats and programs are dealt to workers, and collected again.
+//! Deals seats and programs to workers, and collects them again.
 ghost use Rattle.std.specs.Prelude.{◌≡◌, ℕ, ◌<◌, ◌≤◌, ◌^◌, [], IfOk, length, map, vec_capacity};
 ghost use Rattle.thread_driver.specs.Hands.{AreBack, AreDealt, AreHands, AreRoomy, AreSplit, HaveHandRoom, HaveLengths};
 ghost use Rattle.thread_driver.specs.Hands.{banks_in, cores_in, programs_in};
@@ -28,7 +28,7 @@ pub(crate) fn open_hands<P: Drop>(
     })
 }
 
-/// Deals all seats and programs of a shift. Banks are numbered behind cores.
+/// Deals all seats and programs of a shift. Banks are numbered after cores.
 pub(crate) fn deal_all<P: Drop>(shift: &mut Shift<P>, hands: &mut Hands<P>)
     requires some { 0 < length hands.old.cores.items }
     requires hands { AreHands (length hands.old.cores.items) hands.old }

@@ -1,4 +1,4 @@
-//! Seats that workers drive, and what comes of it.
+//! Seats that workers drive, and the result.
 ghost use Rattle.std.specs.Prelude.{◌≡◌, ◌≢◌, ◌⊎◌, ◌<◌, ◌≤◌, ◌^◌, true, IfOk, OnErr, length};
 ghost use Rattle.std.specs.List.{list_any};
 ghost use Rattle.programs.specs.declared.ends.End.TheVariants as end;
@@ -28,15 +28,15 @@ use stop_flags::{Signals, open_signals};
 
 /// Gives the seats of a machine turns, by 1 to 16 workers: the calling thread, and others that end within the call.
 /// Seat i, where cores come before banks, belongs to worker i modulo their number. Each turn is between the calls of
-/// the gate. docs/SCHEDULES.md has the order within a turn. Each core has a program, which gives it its steps. Whatever
-/// the end, each core was issued what its program gave, in order, and the program was told what each completed
-/// operation received, in order. An operation that is still open is the program's next. Turns are all that seats are
-/// given, and each has at most `turn_limit` of them.
+/// the gate. docs/SCHEDULES.md has the order within a turn. Each core has a program, which gives it its steps. At any
+/// end, each core was issued what its program gave, in order, and the program received what each completed operation
+/// did, in order. An operation that is still open is the program's next. Turns are all that seats are given, and each
+/// has at most `turn_limit` of them.
 ///
-/// A worker goes on until all programs are done, each of its seats had `turn_limit` turns, or some seat wanted memory
-/// or stopped. If there is no memory for the workers, no turn is made, all is as it was given, and the end is NoMemory.
-/// Otherwise it is AllDone exactly if no program has a next step and no core an open operation; else NoMemory exactly
-/// if a turn was refused memory, then Exhausted exactly if a seat stopped in a turn, else TurnsUsed.
+/// A worker goes on until all programs are done, each of its seats had `turn_limit` turns, or some seat lacked memory
+/// or stopped. If memory for the workers can't be allocated, no turn is made, all is as it was given, and the end is
+/// NoMemory. Otherwise it is AllDone exactly if no program has a next step and no core an open operation; else
+/// NoMemory exactly if a turn was refused memory, then Exhausted exactly if a seat stopped in a turn, else TurnsUsed.
 ///
 /// A worker whose thread can't be started works in the thread that was to start it, after that thread's own worker has
 /// ended. Until then its seats have no turns, and messages to them wait. The others mostly use up their turns by then,

@@ -25,7 +25,7 @@ pub fn new_seats_can_be_driven()
         AllNewBanks m m.set_up.config.cores ps → AreBanksInOrder m ps }
 {}
 
-/// A seat that is stopped stays stopped, whatever turns it is given.
+/// A seat that is stopped stays stopped, in any turns.
 pub fn stopped_seats_stay_stopped<P: Program>()
     ensures cores { (m : Machine) (p q : CoreSeat) (before after : P) (n : ℕ) (told : Told) →
         TurnsGiven (IsCoreTurn P.acts m) (p, before) n told (q, after) → p.is_stopped ≡ true →

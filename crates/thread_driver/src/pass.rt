@@ -18,7 +18,7 @@ pub(crate) fn ends_all(told: &Told) -> bool {
     told.no_memory || told.is_exhausted
 }
 
-/// The turns of cores' seats, in order, each between the calls of the gate. After one that ends all no other is given.
+/// The turns of cores' seats, in order, each between the calls of the gate. After one that ends all there is no other.
 pub(crate) fn core_pass<P: Program, G: Gate>(
     machine: &Machine,
     gate: &G,
@@ -49,7 +49,7 @@ pub(crate) fn core_pass<P: Program, G: Gate>(
     all
 }
 
-/// The turns of banks' seats, in order, each between the calls of the gate. After one that ends all no other is given.
+/// The turns of banks' seats, in order, each between the calls of the gate. After one that ends all there is no other.
 pub(crate) fn bank_pass<G: Gate>(
     machine: &Machine,
     gate: &G,

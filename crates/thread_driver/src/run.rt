@@ -15,7 +15,7 @@ use shared_jobs::Gate;
 use std::alloc::{AllocError, Global};
 use std::thread::Threads;
 
-/// What comes of a run by threads: how it ended, the machine after it was closed, and the programs, in the order of
+/// The result of a run by threads: how it ended, the machine after it was closed, and the programs, in the order of
 /// their cores (docs/SCHEDULES.md).
 #[derive(Drop)]
 pub struct ThreadRun<P: Drop> {
@@ -25,10 +25,10 @@ pub struct ThreadRun<P: Drop> {
 }
 
 /// Opens a machine with this memory, lets 1 to 16 workers drive its seats with at most `turn_limit` turns each, and
-/// closes it. A program a core gives it its steps. docs/SCHEDULES.md has the order of turns, and the ends. What comes
-/// of it is a machine in a reached state, which is consistent (`closed_machines_are_consistent`). The turns that lead
-/// from the opened seats to the closed ones decide how it ends. AllocError where there is no memory to open the machine
-/// or to close it.
+/// closes it. Each core has a program, which gives it its steps. docs/SCHEDULES.md has the order of turns, and the
+/// ends. The machine is then in a reached state, which is consistent (`closed_machines_are_consistent`). The turns
+/// that lead from the opened seats to the closed ones decide how it ends. AllocError if memory to open the machine or
+/// to close it can't be allocated.
 pub fn run_threads<R: Threads + Sync, P: Program + Send + Drop, G: Gate + Sync>(
     rt: &R,
     alloc: Global,

@@ -22,7 +22,7 @@ pub(crate) fn issue(machine: &Machine, seat: &mut CoreSeat, op: Op) -> Result<()
     seat.issue(machine, op)
 }
 
-/// A core's time goes on by 1.
+/// Advances a core's time by 1.
 pub(crate) fn advance(machine: &Machine, seat: &mut CoreSeat) -> Result<(), Refusal>
     requires seat { IsCoreSeat machine.now seat.old }
     ensures seat { IsCoreSeat machine.now seat.new }

@@ -2,8 +2,8 @@
 use mailboxes::{BankSeat, CoreSeat};
 use programs::End;
 
-/// What comes of seats that were driven: how it ended, and all seats and programs, in the order in which they were
-/// given (docs/SCHEDULES.md).
+/// The result of driving seats: how it ended, and all seats and programs, in the order in which they were given
+/// (docs/SCHEDULES.md).
 #[derive(Drop)]
 pub struct Shift<P: Drop> {
     pub end: End,

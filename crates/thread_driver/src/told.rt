@@ -1,4 +1,4 @@
-//! What a turn of a seat tells the one that gave it.
+//! What a turn of a seat reports.
 ghost use Rattle.std.specs.Prelude.{◌≡◌};
 ghost use Rattle.thread_driver.specs.Given.{told_by_both};
 ghost use Rattle.thread_driver.specs.Turns.{has_moved, told_of_turn};
@@ -7,12 +7,12 @@ use inbox::Served;
 use machine_table::Refusal;
 use mailboxes::Turn;
 
-/// What came of a turn of a seat.
+/// The result of a turn of a seat.
 #[derive(Clone, Copy, Debug, PartialEq, Eq)]
 pub struct Told {
-    /// A call of the seat was refused since allocation failed.
+    /// Allocation failed in a call of the seat.
     pub no_memory: bool,
-    /// The seat stopped in this turn, since a sum of times didn't fit.
+    /// A sum of times didn't fit, and the seat stopped in this turn.
     pub is_exhausted: bool,
     /// A step of a program was done, or a message was put or served.
     pub has_progressed: bool,
@@ -25,7 +25,7 @@ pub(crate) const QUIET: Told = Told {
     has_progressed: false,
 };
 
-/// What two turns tell together.
+/// What two turns report together.
 pub(crate) fn both(first: Told, second: Told) -> Told
     ensures { result ≡ told_by_both first second }
 {
@@ -36,7 +36,7 @@ pub(crate) fn both(first: Told, second: Told) -> Told
     }
 }
 
-/// What the turn of a seat tells, which was stopped or not before and after.
+/// What the turn of a seat reports, which was stopped or not before and after.
 pub(crate) fn told_of_turn(
     was_stopped: bool,
     is_stopped: bool,

@@ -15,8 +15,8 @@ use shared_jobs::Gate;
 use std::thread;
 use stop_flags::Signals;
 
-/// Gives the worker's seats turns, one pass after the other, until all programs are done, its seats had as many turns
-/// as they may have, or some seat wanted memory or stopped.
+/// Gives the worker's seats turns, one pass after the other, until all programs are done, its seats had their most
+/// turns, or some seat lacked memory or stopped.
 pub(crate) fn work<P: Program + Drop, G: Gate>(
     machine: &Machine,
     signals: &Signals,

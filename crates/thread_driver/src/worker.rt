@@ -3,7 +3,7 @@ use crate::told::Told;
 use mailboxes::{BankSeat, CoreSeat};
 use stop_flags::Signaler;
 
-/// A worker: how it tells the others, the seats of its cores with their programs, by index, and the seats of its
+/// A worker: how it signals the others, the seats of its cores with their programs, by index, and the seats of its
 /// banks.
 #[derive(Drop)]
 pub struct Worker<P: Drop> {
@@ -11,11 +11,11 @@ pub struct Worker<P: Drop> {
     pub cores: Vec<CoreSeat>,
     pub programs: Vec<P>,
     pub banks: Vec<BankSeat>,
-    /// What all turns of its seats told.
+    /// What all turns of its seats reported.
     pub told: Told,
 }
 
-/// How far workers go: so many programs are there in all, and each seat has at most so many turns.
+/// How far workers go: the number of all programs, and the most turns of each seat.
 #[derive(Clone, Copy)]
 pub struct Rota {
     pub programs: u64,

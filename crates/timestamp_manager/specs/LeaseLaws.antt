@@ -1,4 +1,4 @@
--- What every lease that is given keeps.
+-- What every lease that is granted keeps.
 use Rattle.std.specs.Prelude.{◌≡◌, ◌≢◌, ◌⊎◌, ℕ, ◌+◌, ◌≤◌, ◌<◌, ◌^◌, Bool, false, Option, Some, None}
 use Rattle.timestamp_manager.specs.Lease.{shared_lease, returned_lease}
 
@@ -13,14 +13,14 @@ SharedLeaseCovers =
     (wts rts pts lease : ℕ) (version : Option ℕ) (given : ℕ × Bool) →
     shared_lease wts rts pts version lease ≡ Some given → Covers wts rts pts lease given.0
 
--- it goes no further: not past a time that none of the three passes
+-- it is no longer: not past a time that none of the three passes
 abbrev pub SharedLeaseIsShortest : Type 0
 SharedLeaseIsShortest =
     (wts rts pts lease : ℕ) (version : Option ℕ) (given : ℕ × Bool) →
     shared_lease wts rts pts version lease ≡ Some given →
     (time : ℕ) → rts ≤ time → wts + lease ≤ time → pts + lease ≤ time → given.0 ≤ time
 
--- it is given exactly if a whole lease from the last write fits 64 bits, and one from the reader's time
+-- it is granted exactly if a whole lease from the last write fits 64 bits, and one from the reader's time
 abbrev pub SharedLeaseFits : Type 0
 SharedLeaseFits =
     (wts rts pts lease : ℕ) (version : Option ℕ) →
@@ -32,7 +32,7 @@ abbrev pub AbsentNeverRenews : Type 0
 AbsentNeverRenews =
     (wts rts pts lease : ℕ) (given : ℕ × Bool) → shared_lease wts rts pts None lease ≡ Some given → given.1 ≡ false
 
--- the lease of a line that is given back never falls, and covers a whole lease from the last write and the time asked
+-- the lease of a line that is returned never falls, and covers a whole lease from the last write and the time asked
 -- for
 pub record Reaches (wts rts until lease given : ℕ) : Type 0 where
   pub before : rts ≤ given
@@ -44,13 +44,13 @@ ReturnedLeaseReaches =
     (wts rts until lease given : ℕ) → returned_lease wts rts until lease ≡ Some given →
     Reaches wts rts until lease given
 
--- it goes no further: not past a time that none of the three passes
+-- it is no longer: not past a time that none of the three passes
 abbrev pub ReturnedLeaseIsShortest : Type 0
 ReturnedLeaseIsShortest =
     (wts rts until lease given : ℕ) → returned_lease wts rts until lease ≡ Some given →
     (time : ℕ) → rts ≤ time → wts + lease ≤ time → until ≤ time → given ≤ time
 
--- it is given exactly if a whole lease from the last write fits 64 bits
+-- it is granted exactly if a whole lease from the last write fits 64 bits
 abbrev pub ReturnedLeaseFits : Type 0
 ReturnedLeaseFits =
     (wts rts until lease : ℕ) →

@@ -3,8 +3,8 @@ ghost use Rattle.timestamp_manager.specs.LeaseLaws.{AbsentNeverRenews, ReturnedL
 ghost use Rattle.timestamp_manager.specs.LeaseLaws.{ReturnedLeaseReaches, SharedLeaseCovers, SharedLeaseFits};
 ghost use Rattle.timestamp_manager.specs.LeaseLaws.{SharedLeaseIsShortest};
 
-/// A lease never falls, and covers a whole lease from the last write and from the reader's time; it goes no further.
-/// It is given exactly if both of these fit. A reader without a copy is never answered by a renewal.
+/// A lease never falls, and covers a whole lease from the last write and from the reader's time; it is no longer. It
+/// is granted exactly if both of these fit. A reader without a copy is never answered by a renewal.
 pub fn shared_leases_cover()
     ensures covers { SharedLeaseCovers }
     ensures shortest { SharedLeaseIsShortest }
@@ -12,8 +12,8 @@ pub fn shared_leases_cover()
     ensures absent { AbsentNeverRenews }
 {}
 
-/// The lease of a line that is given back never falls, and covers a whole lease from the last write and the time that
-/// was asked for; it goes no further. It is given exactly if the lease from the last write fits.
+/// The lease of a line that is returned never falls, and covers a whole lease from the last write and the time that
+/// was asked for; it is no longer. It is granted exactly if the lease from the last write fits.
 pub fn returned_leases_reach()
     ensures reaches { ReturnedLeaseReaches }
     ensures shortest { ReturnedLeaseIsShortest }

@@ -1,4 +1,4 @@
-//! How far a line's lease goes when it is asked for or given back, and what a requester must be sent.
+//! How far a line's lease extends when it is asked for or returned, and what a requester must be sent.
 ghost use Rattle.std.specs.Prelude.{◌≡◌, ◌+◌};
 ghost use Rattle.std.specs.Result.{result_ok};
 ghost use Rattle.timestamp_manager.specs.Lease.{if_fits, is_version, returned_lease, shared_lease};
@@ -38,7 +38,7 @@ pub fn on_exclusive(wts: u64, version: Option<u64>) -> bool
     }
 }
 
-/// The time to which an owner is asked to lease its line when a reader at time `pts` wants it: `pts + lease`.
+/// The time to which an owner is asked to lease its line when a reader at time `pts` needs it: `pts + lease`.
 ///
 /// Exhausted exactly when the sum does not fit.
 pub fn recall_until(pts: u64, lease: u64) -> Result<u64, Exhausted>
@@ -47,7 +47,7 @@ pub fn recall_until(pts: u64, lease: u64) -> Result<u64, Exhausted>
     later(pts, lease)
 }
 
-/// An owner gives back a line written at `wts` and leased to `rts`, and is asked to lease it at least to `until`: the
+/// An owner returns a line written at `wts` and leased to `rts`, and is asked to lease it at least to `until`: the
 /// time to which its copy may be read from now on, the latest of `rts`, `wts + lease` and `until`.
 ///
 /// Exhausted exactly when `wts + lease` does not fit.

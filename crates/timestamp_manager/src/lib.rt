@@ -1,4 +1,4 @@
-//! Leases and grants on one line: decisions on its times alone, which take no memory.
+//! Leases and grants on one line: decisions on its times alone, which allocate nothing.
 #![tactic(auto)]
 
 pub mod laws;

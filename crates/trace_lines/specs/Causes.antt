@@ -1,4 +1,4 @@
--- What stands in a line that is refused, for each kind of fault.
+-- What is in a line that is refused, for each kind of fault.
 use Rattle.std.specs.Prelude.{◌≡◌, ℕ, zero, suc, ◌^◌, List, [], ◌∷◌, ◌++◌, codes, Option, ◌⊎◌}
 use Rattle.physiological_order.specs.declared.operation.Op.{Op}
 use Rattle.trace_lines.specs.declared.errors.Kind.{Kind}
@@ -15,7 +15,7 @@ abbrev pub Missing : (List ℕ → Type 0) → List (List ℕ) → Type 0
 Missing P [] = Unit {0}
 Missing P (field ∷ fields) = P field → ⊥
 
--- a field of this kind stands, and this holds of the fields behind it
+-- there is a field of this kind, and this holds of the fields after it
 abbrev pub Behind : (List ℕ → Type 0) → (List (List ℕ) → Type 0) → List (List ℕ) → Type 0
 Behind P Q [] = ⊥
 Behind P Q (field ∷ fields) = P field × Q fields
@@ -50,7 +50,7 @@ abbrev pub IsStepWord : Form → List ℕ → Type 0
 IsStepWord One field = IsAccess field
 IsStepWord Two field = (field ≡ codes "A") ⊎ IsAccess field
 
--- what is wrong behind the core of a trace's line
+-- what is wrong after the core of a trace's line
 abbrev pub StepCause : Form → Kind → List (List ℕ) → Type 0
 StepCause form BadOperation fields = Missing (IsStepWord form) fields
 StepCause form BadAddress fields = Behind IsAccess (Missing HasAddress) fields
@@ -63,7 +63,7 @@ abbrev pub TraceCause : Form → Kind → List (List ℕ) → Type 0
 TraceCause form BadCore fields = Missing (HasCoreNumber (most_cores_named form)) fields
 TraceCause form kind fields = Behind (HasCoreNumber (most_cores_named form)) (StepCause form kind) fields
 
--- so many values do not stand: the first of them that is missing, or is none, stands behind the others
+-- fewer than n values are there: the first of them that is missing, or is none, follows the others
 unfoldable pub FewValues : ℕ → List (List ℕ) → Type 0
 FewValues zero fields = ⊥
 FewValues (suc count) fields = Missing HasValue fields ⊎ Behind HasValue (FewValues count) fields
@@ -72,7 +72,7 @@ FewValues (suc count) fields = Missing HasValue fields ⊎ Behind HasValue (FewV
 abbrev pub IsSingle : List ℕ → Type 0
 IsSingle field = (field ≡ codes "R") ⊎ (field ≡ codes "W")
 
--- what is wrong behind the core and the place of a record's line
+-- what is wrong after the core and the place of a record's line
 abbrev pub CompletionCause : Kind → List (List ℕ) → Type 0
 CompletionCause BadOperation fields = Missing IsAccess fields
 CompletionCause BadAddress fields = Behind IsAccess (Missing HasAddress) fields

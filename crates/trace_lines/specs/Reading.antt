@@ -17,7 +17,7 @@ use Rattle.programs.specs.declared.steps.Step.{Step}
 use Rattle.programs.specs.declared.steps.Step.TheVariants as step
 use Rattle.trace_lines.specs.Spelling.{is_digit, is_hex_digit, is_few, decimal_of, hex_of, most_cores_named}
 
--- What is read, and the fields behind it.
+-- What is read, and the fields after it.
 abbrev pub FieldsRead : Type 0 → Type 0
 FieldsRead X = Result (X × List (List ℕ)) Kind
 
@@ -31,7 +31,7 @@ unfoldable pub ended : {X : Type 0} → X → List (List ℕ) → Result X Kind
 ended x [] = Ok x
 ended x (field ∷ fields) = Err ExtraWords
 
--- a number below a bound, in at most so many digits
+-- a number below a bound, in at most `most` digits
 abbrev pub decimal_in : ℕ → ℕ → List ℕ → Option ℕ
 decimal_in digits bound field =
     if is_few is_digit digits field && nat_lt (decimal_of field) bound then Some (decimal_of field) else None
@@ -82,7 +82,7 @@ op_at fields = do
   word ← address_at access.1
   operand_at access.0 word.0 word.1
 
--- the fields behind A, which form 2 has
+-- the fields after A, which form 2 has
 abbrev pub behind_advance : Form → List (List ℕ) → Option (List (List ℕ))
 behind_advance Two ((a ∷ []) ∷ fields) = if a == 65 then Some fields else None
 behind_advance form fields = None
@@ -112,7 +112,7 @@ timed_at core place op received fields = do
   number ← number_field_at ts.1
   ended (record { core = core; place = place; op = op; received = received; ts = ts.0; number = number.0 }) number.1
 
--- what is left of a record behind its address
+-- what is left of a record after its address
 abbrev pub record_rest_at : ℕ → ℕ → Access → ℕ → List (List ℕ) → Result Record Kind
 record_rest_at core place access.Read word fields =
     number_field_at fields >>= (λ received. timed_at core place (Load word) (Some received.0) received.1)
@@ -140,7 +140,7 @@ abbrev pub form_named : List (List ℕ) → Result (Option Form) Kind
 form_named [] = Err BadForm
 form_named (second ∷ fields) = if bytes_eq second (codes "2") then ended (Some Two) fields else Err BadForm
 
--- the form that a first line tells; nothing if it has no fields
+-- the form that a first line declares; nothing if it has no fields
 unfoldable pub form_line_at : List (List ℕ) → Result (Option Form) Kind
 form_line_at [] = Ok None
 form_line_at (first ∷ fields) = if bytes_eq first (codes "trace") then form_named fields else Ok (Some One)

@@ -9,6 +9,6 @@ abbrev pub GivesViewed : {X Y : Type 0} → (X → Y) → Result X Kind → Resu
 GivesViewed view (Ok x) read = read ≡ Ok (view x)
 GivesViewed view (Err e) read = read ≡ Err e
 
--- what is read, and the fields behind it
+-- what is read, and the fields after it
 abbrev pub view_fields_read : {X : Type 0} → X × Bor (List ℕ) → X × List (List ℕ)
 view_fields_read read = (read.0, parted read.1.now)

@@ -1,4 +1,4 @@
-//! The line that tells the form of a trace.
+//! The line that declares the form of a trace.
 
 ghost use Rattle.std.specs.Prelude.{◌≡◌, [], Ok, Some, None, MatchOption, IfOk, IfErr};
 ghost use Rattle.trace_lines.specs.declared.steps.Form.{Form};
@@ -11,7 +11,7 @@ use crate::errors::Kind;
 use crate::lines::{before_comment, next_field};
 use crate::steps::Form;
 
-/// The form that is named behind `trace`: `2`, and nothing else.
+/// The form that follows `trace`: `2`, and nothing else.
 #[tactic(auto, unfolding(crate::specs::Reading::ended))]
 fn form_named(line: &[u8]) -> Result<Option<Form>, Kind>
     ensures { result ≡ form_named (parted line.now) }

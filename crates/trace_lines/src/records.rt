@@ -85,9 +85,9 @@ fn told(line: &[u8]) -> Result<Option<Record>, Kind>
     }
 }
 
-/// The record that a line tells, given without its line feed, of a core 0 to 63 and a place of 32 bits; nothing if the
-/// line has no fields. A fault is the first from the left: `BadCore`, `BadOperation`, `BadAddress` or `BadValue` if the
-/// field is missing or is none, `ExtraWords` if more fields follow (docs/TEXTS.md).
+/// The record that a line writes, given without its line feed, of a core 0 to 63 and a place of 32 bits; nothing if
+/// the line has no fields. A fault is the first from the left: `BadCore`, `BadOperation`, `BadAddress` or `BadValue`
+/// if the field is missing or is none, `ExtraWords` if more fields follow (docs/TEXTS.md).
 pub fn record_line(line: &[u8]) -> Result<Option<Record>, Kind>
     ensures told { result ≡ record_line_at (fields_of line.now) }
     ensures nothing { fields_of line.now ≡ [] → result ≡ Ok None }

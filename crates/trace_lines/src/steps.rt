@@ -1,6 +1,6 @@
 //! The forms of a trace, and what an operation does to its word.
 
-/// The form of a trace, which its first line with fields tells (docs/TEXTS.md).
+/// The form of a trace, which its first line with fields declares (docs/TEXTS.md).
 #[derive(Clone, Copy, Debug, PartialEq, Eq)]
 pub enum Form {
     /// Cores 0 to 15 and operations alone.

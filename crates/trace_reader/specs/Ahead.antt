@@ -1,4 +1,4 @@
--- The bytes that stand in a block, and the next line among them and what is still to come.
+-- The bytes in a block, and the next line among them and what is still to come.
 use Rattle.std.specs.Prelude.{◌≡◌, ℕ, ◌+◌, ◌≤◌, List, [], ◌∷◌, ◌++◌, take, drop, slice_range}
 use Rattle.std.specs.Prelude.{Option, Some, None}
 use Rattle.trace_reader.specs.declared.blocks.Block.{Block}

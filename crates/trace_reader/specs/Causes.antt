@@ -1,4 +1,4 @@
--- What stands in the line of a fault, for each kind.
+-- What is in the line of a fault, for each kind.
 use Rattle.std.specs.Prelude.{◌≡◌, ◌≢◌, ℕ, ◌+◌, ◌<◌, List, [], ◌∷◌, ◌++◌, length, ◌⊎◌, Option, Some, None}
 use Rattle.trace_lines.specs.declared.errors.Kind.{Kind}
 use Rattle.trace_lines.specs.declared.errors.Kind.TheVariants.{TooLong}
@@ -11,18 +11,18 @@ use Rattle.trace_reader.specs.declared.limits.TheConstants.{MOST_BYTES, MOST_LIN
 use Rattle.text_lines.specs.Lines.{lines_of}
 use Rattle.trace_reader.specs.Lines.{worded}
 
--- a line with too many bytes, or behind so many lines as there may be
+-- a line with too many bytes, or after the most lines that there may be
 abbrev pub IsTooLong : ℕ → List ℕ → Type 0
 IsTooLong number line = (MOST_BYTES < length line) ⊎ (number ≡ MOST_LINES + 1)
 
--- what is wrong with a line's fields behind these lines, of which the first with fields tells the form; without one,
--- the line itself tells it
+-- what is wrong with a line's fields after these lines, of which the first with fields declares the form; without one,
+-- the line itself declares it
 abbrev pub FieldsCause : Option Form → List (List (List ℕ)) → Kind → List (List ℕ) → Type 0
 FieldsCause (Some form) lines kind fields = TraceCause form kind fields
 FieldsCause None [] kind fields = FormCause kind fields ⊎ (IsFormLine fields One × TraceCause One kind fields)
 FieldsCause None (first ∷ lines) kind fields = (form : Form) × IsFormLine first form × TraceCause form kind fields
 
--- what is wrong with a line of a trace that has this number and stands behind these
+-- what is wrong with a line of a trace that has this number and follows these
 abbrev pub StepLineCause : Option Form → List (List ℕ) → Kind → ℕ → List ℕ → Type 0
 StepLineCause form before kind number line = ((kind ≡ TooLong) × IsTooLong number line)
     ⊎ ((fields_of line ≢ []) × FieldsCause form (worded before) kind (fields_of line))

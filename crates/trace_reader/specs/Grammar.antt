@@ -1,4 +1,4 @@
--- What the texts of traces and of records are: relations between bytes and what they tell.
+-- What the texts of traces and of records are: relations between bytes and what they say.
 use Rattle.std.specs.Prelude.{◌≡◌, ℕ, ◌≤◌, List, [], ◌∷◌, length, ◌⊎◌}
 use Rattle.physiological_order.specs.declared.operation.Record.{Record}
 use Rattle.trace_lines.specs.declared.steps.Form.{Form}
@@ -19,13 +19,13 @@ AreShort (line ∷ lines) = (length line ≤ MOST_BYTES) × AreShort lines
 abbrev pub HasFewShortLines : List (List ℕ) → Type 0
 HasFewShortLines lines = (length lines ≤ MOST_LINES) × AreShort lines
 
--- each line's fields tell a step of a core, in this form
+-- each line's fields say a step of a core, in this form
 unfoldable pub TellSteps : Form → List (List (List ℕ)) → List (ℕ × Step) → Type 0
 TellSteps form [] [] = Unit {0}
 TellSteps form (fields ∷ lines) (told ∷ later) = IsTraceLine form fields told.0 told.1 × TellSteps form lines later
 TellSteps form lines told = ⊥
 
--- the first line tells the form: trace 2 alone stands for form 2 and is no step; any other line is a step of form 1
+-- the first line declares the form: trace 2 alone stands for form 2 and is no step; any other line is a step of form 1
 abbrev pub TellTrace : List (List (List ℕ)) → List (ℕ × Step) → Type 0
 TellTrace [] told = told ≡ []
 TellTrace (first ∷ lines) told = (IsFormLine first One × TellSteps One (first ∷ lines) told)
@@ -36,7 +36,7 @@ abbrev pub IsTrace : List ℕ → List (List Step) → Type 0
 IsTrace bytes lanes = HasFewShortLines (lines_of bytes)
     × ((told : List (ℕ × Step)) × TellTrace (worded (lines_of bytes)) told × IsByCore told lanes)
 
--- each line's fields tell a record
+-- each line's fields write a record
 unfoldable pub TellRecords : List (List (List ℕ)) → List Record → Type 0
 TellRecords [] [] = Unit {0}
 TellRecords (fields ∷ lines) (told ∷ later) = IsRecordLine fields told × TellRecords lines later

@@ -16,7 +16,7 @@ abbrev pub BeginTooLong : ℕ → List (List ℕ) → Type 0
 BeginTooLong number lines = (line : List ℕ) × (later : List (List ℕ)) × (lines ≡ line ∷ later)
     × ((nat_lt MOST_BYTES (length line) || nat_lt MOST_LINES number) ≡ true)
 
--- the next line stands in front of the block, or else there is none
+-- the next line is in front of the block, or else there is none
 abbrev pub IsFound : Option ℕ → List ℕ → List ℕ → List ℕ → Type 0
 IsFound None old new coming = (old ≡ []) × (coming ≡ [])
 IsFound (Some n) old new coming = lines_of old ≡ take n new ∷ lines_of (drop (n + 1) new ++ coming)
@@ -25,7 +25,7 @@ IsFound (Some n) old new coming = lines_of old ≡ take n new ∷ lines_of (drop
 abbrev pub IsOfLine : TraceError → Type 0
 IsOfLine e = (0 < e.line) × (e.kind ≢ Read) × (e.kind ≢ NoMemory)
 
--- Why a text was not read. A call of the device failed. Or none did: memory was refused, where there is a step or a
+-- Why a text was not read. A call of the device failed. Or none did: an allocation failed, if there is a step or a
 -- record to keep or the text has a fault, or reading gives this fault.
 abbrev pub Refused : {X : Type 0} → (List ℕ → Result (List X) TraceError) → ℕ → ℕ → Option (List ℕ) → TraceError →
     Type 0

@@ -37,13 +37,13 @@ behind xs (Err e) = Err e
 abbrev pub step_said : Form → List (List ℕ) → Result (Option Form × Option (ℕ × Step)) Kind
 step_said form fields = trace_line_at form fields >>= (λ told. Ok (Some form, told))
 
--- a line that tells the form: that of form 2 is no step
+-- a line that declares the form: that of form 2 is no step
 abbrev pub form_said : List (List ℕ) → Option Form → Result (Option Form × Option (ℕ × Step)) Kind
 form_said fields None = Ok (None, None)
 form_said fields (Some One) = step_said One fields
 form_said fields (Some Two) = Ok (Some Two, None)
 
--- what a line says, behind lines that told this form or none: the form from there on, and a step
+-- what a line says, after lines that declared this form or none: the form from there on, and a step
 unfoldable pub said_at : Option Form → List (List ℕ) → Result (Option Form × Option (ℕ × Step)) Kind
 said_at (Some form) fields = step_said form fields
 said_at None fields = form_line_at fields >>= form_said fields

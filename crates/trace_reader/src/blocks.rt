@@ -44,7 +44,7 @@ impl Block {
         &self.bytes[self.start..self.end]
     }
 
-    /// How many bytes stand before the first line feed.
+    /// How many bytes come before the first line feed.
     fn line_length(&self) -> usize
         ensures length { result ≡ prefix_len is_within_line (ahead self.now) }
         ensures within { result ≤ length (ahead self.now) }
@@ -62,7 +62,7 @@ impl Block {
         self.end = end - start;
     }
 
-    /// Puts more bytes behind those that are there. Nothing more comes at the end alone.
+    /// Appends more bytes to those that are there. It appends none only at the end.
     fn fill<S: Source>(&mut self, source: &mut S) -> Result<bool, DeviceError>
         requires { length (ahead self.old) ≤ MOST_BYTES }
         ensures bytes { IfOk result (λ more. (came : List ℕ)
@@ -81,7 +81,7 @@ impl Block {
         Ok(count > 0)
     }
 
-    /// Reads until the end of the next line is there, or more than a line has: how many bytes stand before it, or
+    /// Reads until the end of the next line is there, or more than a line has: how many bytes come before it, or
     /// nothing at the end.
     pub(crate) fn find_line<S: Source>(
         &mut self,

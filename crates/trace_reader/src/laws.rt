@@ -1,4 +1,4 @@
-//! What the limits of a text and its bytes are, and that it tells one thing. A function does nothing: its contract is
+//! What the limits of a text and its bytes are, and that it has one meaning. A function does nothing: its contract is
 //! the law.
 
 ghost use Rattle.std.specs.Prelude.{◌≡◌, ℕ, List, [], ◌∷◌, codes};

@@ -18,7 +18,7 @@ use physiological_order::{Op, Record};
 use std::alloc::Global;
 use trace_lines::{Kind, TraceError, record_line};
 
-/// Adds the record of the line with this number, if it tells one.
+/// Adds the record of the line with this number, if it has one.
 fn add_line(records: &mut Vec<Record>, number: usize, line: &[u8]) -> Result<(), TraceError>
     ensures added { OnOk result ((told : Option Record)
         × (record_line_at (fields_of line.now) ≡ Ok told)
@@ -66,8 +66,8 @@ fn read_whole<S: Source>(alloc: Global, source: &mut S) -> Result<Vec<Record>, T
 /// in the order in which they are written (docs/TEXTS.md).
 ///
 /// A text that is refused is answered by its first fault: the number of the line, counted from 1, and the kind.
-/// `TooLong` if a line has more bytes or there are more lines; the other kinds as `record_line` tells them. If a
-/// call of the source failed the answer is `Read`, and if memory was refused `NoMemory`, both with line 0.
+/// `TooLong` if a line has more bytes or there are more lines; the other kinds as `record_line` gives them. If a call
+/// of the source failed the answer is `Read`, and if an allocation failed `NoMemory`, both with line 0.
 pub fn read_records<S: Source>(alloc: Global, source: &mut S) -> Result<Vec<Record>, TraceError>
     // What is read is what the text says.
     ensures found { IfOk result (λ records. IfSome (S.remaining source.old)

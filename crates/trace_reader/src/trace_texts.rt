@@ -32,7 +32,7 @@ fn step_said(form: Form, line: &[u8]) -> Result<Said, Kind>
     Ok((Some(form), told))
 }
 
-/// What a line says behind lines that told this form or none: the form from there on, and a step of a core.
+/// What a line says after lines that declared this form or none: the form from there on, and a step of a core.
 #[tactic(auto, unfolding(crate::specs::Reading::said_at))]
 fn said(form: Option<Form>, line: &[u8]) -> Result<Said, Kind>
     ensures told { result ≡ said_at form (fields_of line.now) }
@@ -48,7 +48,7 @@ fn said(form: Option<Form>, line: &[u8]) -> Result<Said, Kind>
     }
 }
 
-/// Adds the step of the line with this number, if it tells one: the form from there on.
+/// Adds the step of the line with this number, if it has one: the form from there on.
 fn add_line(
     trace: &mut Trace,
     form: Option<Form>,
@@ -99,11 +99,11 @@ fn read_whole<S: Source>(alloc: Global, source: &mut S) -> Result<Trace, TraceEr
 }
 
 /// Reads all that a source has as the text of a trace of at most 16,777,216 lines of at most 256 bytes; its first line
-/// that has fields tells its form (docs/TEXTS.md).
+/// that has fields declares its form (docs/TEXTS.md).
 ///
 /// A text that is refused is answered by its first fault: the number of the line, counted from 1, and the kind.
-/// `TooLong` if a line has more bytes or there are more lines; the other kinds as `trace_line` and `form_line` tell
-/// them. If a call of the source failed the answer is `Read`, and if memory was refused `NoMemory`, both with line
+/// `TooLong` if a line has more bytes or there are more lines; the other kinds as `trace_line` and `form_line` give
+/// them. If a call of the source failed the answer is `Read`, and if an allocation failed `NoMemory`, both with line
 /// 0.
 pub fn read<S: Source>(alloc: Global, source: &mut S) -> Result<Trace, TraceError>
     // What is read is what the text says.

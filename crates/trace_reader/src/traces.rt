@@ -109,7 +109,7 @@ impl Model for Trace {
 }
 
 impl Trace {
-    /// No steps; this takes no memory yet.
+    /// No steps; this allocates nothing yet.
     pub fn new(alloc: Global) -> Trace
         ensures { result ≡ [] }
     {
@@ -150,8 +150,8 @@ impl Trace {
         }
     }
 
-    /// The operations of each core that has a step or stands below one that has, in their order. The lists are
-    /// handed over; no operation is copied.
+    /// The operations of each core that has a step or is below one that has, in their order. The caller gets the lists
+    /// themselves; no operation is copied.
     pub fn into_issued(self) -> Result<Vec<Vec<Op>>, AllocError>
         ensures { IfOk result (λ lists. map (λ ops. ops.items) lists.items ≡ map ops_of self) }
     {
@@ -162,7 +162,7 @@ impl Trace {
         Ok(lists)
     }
 
-    /// One more step of a core, behind those that it has. If memory for it is refused, nothing changes.
+    /// Appends a step to those of a core. If an allocation fails, nothing changes.
     pub fn push(&mut self, core: u32, step: Step) -> Result<(), AllocError>
         requires { core < 64 }
         ensures cores { OnOk result (length self.new ≡ max (suc core) (length self.old)) }

@@ -11,13 +11,13 @@ use Rattle.schedules.specs.declared.policy.Policy.{Policy}
 use Rattle.worker_driver.specs.Outcomes.{HasOutcome}
 use Rattle.worker_driver.specs.Runs.{IsRun}
 
--- what the job of a number gives: the run of this number, where the first run follows this policy; its end state is an
+-- what the job of a number gives: the run of this number, if the first run follows this policy; its end state is an
 -- outcome of the sequential machine
 abbrev pub IsJobOf : Litmus → Config → Policy → ℕ → ℕ → RunEnd → Type 0
 IsJobOf test config first limit number run =
     IsRun test config (Some (policy_of_run first number)) limit run
     × ((text : List ℕ) → IsTest text test → HasOutcome test run)
 
--- no run ended for want of memory
+-- no run ended with a failed allocation
 abbrev pub AreMade : List RunEnd → Type 0
 AreMade runs = AllByRecursion (λ run. run.end ≢ NoMemory) runs

@@ -12,9 +12,9 @@ use Rattle.schedules.specs.declared.policy.Policy.{Policy}
 use Rattle.schedules.specs.Policies.{EndedBy}
 use Rattle.thread_driver.specs.ThreadRuns.{IsThreadRun}
 
--- A run leads from a machine that is set up and opens so, and these programs, to a machine, other programs and an end.
--- By a policy it does so by the events of its schedule, with at most so many turns. By threads, which follow no policy,
--- each seat of the machine is given at most so many turns, and these tell how the run ends.
+-- A run leads from a machine with this set-up and opening memory, and these programs, to a machine, other programs and
+-- an end. By a policy it does so by the events of its schedule, with at most `limit` turns. By threads, which follow
+-- no policy, each seat of the machine is given at most `limit` turns, and these decide how the run ends.
 abbrev pub LeadsTo : {P : Type 0} → Acts P → Option Policy → ℕ → Config → FinMap nat_cmp ℕ → List P → Machine → List P →
     End → Type 0
 LeadsTo acts (Some policy) limit config opening before m after e =

@@ -1,4 +1,4 @@
--- What a run of a litmus test may end in.
+-- The end states that a run of a litmus test may have.
 use Rattle.std.specs.Prelude.{IfSome}
 use Rattle.litmus_reader.specs.Litmus.{Litmus}
 use Rattle.report_text.specs.declared.run_end.RunEnd.{RunEnd}

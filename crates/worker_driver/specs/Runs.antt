@@ -18,7 +18,7 @@ use Rattle.sequential_machine.specs.Performed.{thread_acts}
 use Rattle.schedules.specs.declared.policy.Policy.{Policy}
 use Rattle.schedules.specs.Batches.{policy_of_run}
 
--- a thread as the test opens it, and so many of them from this number on
+-- a thread as the test opens it, and n of them from this number on
 abbrev pub started : Litmus → ℕ → Thread
 started test t = settled_thread t (with_items t test.items (replicate 32 0)) test.cells
 
@@ -26,25 +26,25 @@ abbrev pub threads_from : Litmus → ℕ → ℕ → List Thread
 threads_from test t zero = []
 threads_from test t (suc n) = started test t ∷ threads_from test (t + 1) n
 
--- the values of so many words from this one on, where they stand
+-- the values of n words from this one on, where they are
 abbrev pub values_from : Machine → ℕ → ℕ → List ℕ
 values_from m word zero = []
 values_from m word (suc n) = coherent m word ∷ values_from m (word + 1) n
 
--- what the condition's names have at the end, where all threads are done
+-- what the condition's names have at the end, if all threads are done
 abbrev pub state_at : Litmus → End → List Thread → Machine → Option (List ℕ)
 state_at test AllDone threads m = Some (map (end_value threads (values_from m 0 (length test.locations))) test.seen)
 state_at test end threads m = None
 
--- what is told of a run that came to this machine and these threads
+-- what a run reports that ended with this machine and these threads
 pub record Tells (test : Litmus) (m : Machine) (threads : List Thread) (run : RunEnd) : Type 0 where
   pub state : run.state ≡ state_at test run.end threads m
   pub completed : run.completed ≡ length m.records
   pub stale : run.stale ≡ stale_count m.records
   pub counts : run.counts ≡ m.mail.counts
 
--- a policy's schedule, or threads, lead from the machine and the threads that the test opens to those of which the run
--- tells, and to its end
+-- a policy's schedule, or threads, lead from the machine and the threads that the test opens to those that the run
+-- reports, and to its end
 pub record IsRun (test : Litmus) (config : Config) (policy : Option Policy) (limit : ℕ) (run : RunEnd) : Type 0 where
   pub machine : Machine
   pub threads : List Thread
@@ -52,7 +52,7 @@ pub record IsRun (test : Litmus) (config : Config) (policy : Option Policy) (lim
       machine threads run.end
   pub told : Tells test machine threads run
 
--- runs of a batch from its run i on, where its first run follows this policy; each is by threads if there is none
+-- runs of a batch from its run i on, if its first run follows this policy; each is by threads if there is none
 abbrev pub AreFrom : Litmus → Config → Option Policy → ℕ → ℕ → List RunEnd → Type 0
 AreFrom test config first limit i [] = Unit {0}
 AreFrom test config first limit i (run ∷ runs) =

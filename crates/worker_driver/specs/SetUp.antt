@@ -8,7 +8,7 @@ use Rattle.schedules.specs.declared.policy.Policy.{Policy}
 use Rattle.schedules.specs.declared.policy.Policy.TheVariants.{Rounds, Seed}
 use Rattle.machine_table.specs.declared.config.Config.{Config}
 
--- so many cores
+-- this many cores
 abbrev pub config_of : MachineOptions → ℕ → Config
 config_of options cores = record {
   cores = cores;
@@ -44,7 +44,7 @@ policy_by Threads seed = None
 abbrev pub policy_of : RunOptions → Option Policy
 policy_of options = policy_by options.schedule options.seed
 
--- how many threads make the runs: one by rounds, and else as many as is said, from 1 to 16
+-- how many threads make the runs: one by rounds, and otherwise as many as the options say, from 1 to 16
 abbrev pub workers_by : Schedule → ℕ → ℕ
 workers_by Round workers = 1
 workers_by ScheduledBySeed workers = max (min workers 16) 1

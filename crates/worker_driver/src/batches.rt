@@ -19,11 +19,11 @@ use std::alloc::{AllocError, Global};
 use std::thread::Threads;
 
 /// `count` runs of the test by seeds: the first one's is `first`, and each further one has the next, modulo 2^64. Each
-/// run has at most `limit` turns. 1 to 16 workers share them; each has one machine with a core for each thread, and opens
-/// it anew for each of its runs, with the test's memory. The list is in the order of the runs, whichever worker made
-/// them. The gate is passed before each run and after it, with the run's number as seat and turn 0. The end state of a
-/// run that is all done is an outcome of the sequential machine. AllocError where there is no memory for the list or the
-/// workers, or for a run that the workers left to the calling thread.
+/// run has at most `limit` turns. 1 to 16 workers share them; each has one machine with a core for each thread, and
+/// opens it anew for each of its runs, with the test's memory. The list is in the order of the runs, no matter which
+/// worker made which. A worker passes the gate before each run and after it, with the run's number as seat and turn 0.
+/// The end state of a run that is all done is an outcome of the sequential machine. AllocError if memory for the list
+/// or the workers, or for a run that the workers left to the calling thread, can't be allocated.
 pub fn batch<R: Threads + Sync, G: Gate + Sync>(
     rt: &R,
     alloc: Global,
@@ -91,7 +91,7 @@ pub fn seeded_runs<R: Threads + Sync, G: Gate + Sync>(
 /// `count` runs of the test by the calling thread, one after the other: the first by this policy, and by seeds each
 /// further one with the next, modulo 2^64. Each has at most `limit` turns, on one machine with a core for each thread,
 /// which opens anew for each further run. The end state of a run that is all done is an outcome of the sequential
-/// machine. AllocError where there is no memory for the list, or for the machine or what is told of it.
+/// machine. AllocError if memory for the list, for the machine or for the result of a run can't be allocated.
 pub fn policy_runs(
     alloc: Global,
     test: &Test,

@@ -1,4 +1,4 @@
-//! A machine after a run, whatever drove it, as reports look at it.
+//! A machine after a run by any driver, as reports look at it.
 ghost use Rattle.std.specs.Prelude.{◌≡◌, ℕ, List, [], map, slice_index_or, IfOk};
 ghost use Rattle.physiological_order.specs.declared.operation.Op.{Op};
 ghost use Rattle.physiological_order.specs.StaleHits.{RisesByNumber};
@@ -28,7 +28,7 @@ pub trait Finished {
         ensures records { (m : Machine) → shows self.now m → result.now ≡ m.records }
         ensures rising { (m : Machine) → shows self.now m → RisesByNumber result.now };
 
-    /// The operations that a core was issued, in order. None for a core that isn't there.
+    /// The operations that a core was issued, in order. Empty for a core that isn't there.
     fn issued(&self, core: u32) -> &[Op]
         requires { (m : Machine) × shows self.now m }
         ensures { (m : Machine) → shows self.now m → result.now ≡ slice_index_or m.issued core [] };
@@ -38,7 +38,7 @@ pub trait Finished {
         requires { (m : Machine) × shows self.now m }
         ensures { (m : Machine) → shows self.now m → result ≡ m.mail.counts };
 
-    /// The values of these words, where their lines stand, in their order.
+    /// The values of these words, where their lines are, in their order.
     fn values(&self, alloc: Global, words: &[WordAddr]) -> Result<Vec<u64>, AllocError>
         ensures { IfOk result (λ values. (m : Machine) → shows self.now m →
             values.items ≡ map (coherent m) words.now) };

@@ -11,9 +11,9 @@ ghost use Rattle.worker_driver.specs.Runs.{AreFrom, IsRun};
 use litmus_reader::ThreadState;
 use schedules::laws::one_seed_gives_one_list;
 
-/// Two batches of the same test, machine, policy and limit have the same run at each place where neither has a run that
-/// ended for want of memory. If no run did, batches of one length are the same list. A run that did has no end state.
-/// So the number of workers shows only in which runs found memory.
+/// Two batches of the same test, machine, policy and limit have the same run at each place where neither has a run
+/// that ended with a failed allocation. If no run did, batches of one length are the same list. A run that did has no
+/// end state. So the number of workers shows only in which runs found memory.
 pub fn workers_show_in_no_run()
     ensures runs { (test : Litmus) (config : Config) (first : Policy) (limit : ℕ)
         (runs others : List RunEnd) (place : ℕ) (run other : RunEnd) →

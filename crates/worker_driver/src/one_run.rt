@@ -19,7 +19,7 @@ use schedules::{Policy, run_to_end};
 use sequential_machine::laws::performed_histories_are_sequential;
 use std::alloc::{AllocError, Global};
 
-/// A run of the test on a machine with a core for each thread, by this policy, with at most so many turns. The end
+/// A run of the test on a machine with a core for each thread, by this policy, with at most `limit` turns. The end
 /// state of a run that is all done is an outcome of the sequential machine.
 pub fn run_once(
     alloc: Global,
@@ -38,7 +38,7 @@ pub fn run_once(
     run_on(alloc, test, &mut system, policy, limit)
 }
 
-/// A machine that is set up so and opens with the test's memory.
+/// A machine with this set-up that opens with the test's memory.
 pub(crate) fn open(alloc: Global, test: &Test, config: Config) -> Result<System, AllocError>
     requires { is_good config ≡ true }
     ensures { IfOk result (λ system. system ≡ at_start config

@@ -7,7 +7,7 @@ use machine_table::Config;
 use run_options::{MachineOptions, RunOptions, Schedule};
 use schedules::Policy;
 
-/// The configuration with these numbers, where no value is out of its range.
+/// The configuration with these numbers, if no value is out of its range.
 pub fn config_of(options: &MachineOptions, cores: u32) -> Option<Config>
     ensures good { IfSome result (λ config.
         (config ≡ config_of options.now cores) × (is_good config ≡ true)) }

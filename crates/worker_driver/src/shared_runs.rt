@@ -24,8 +24,8 @@ pub(crate) struct SharedRuns<'a> {
     ghost cores: { config.cores ≡ (test_of test.now).threads },
 }
 
-/// A worker keeps one machine and opens it anew for each run, with the test's memory. A run that is refused memory for
-/// that, or for what is told of it, gives the machine up.
+/// A worker keeps one machine and opens it anew for each run, with the test's memory. If an allocation for that, or
+/// for the result of a run, fails, the run drops the machine.
 impl Jobs<RunEnd, System> for SharedRuns<'_> {
     ghost use Rattle.worker_driver.specs.Batches.{IsJobOf};
 

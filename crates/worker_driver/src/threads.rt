@@ -19,9 +19,9 @@ use thread_driver::laws::closed_machines_are_consistent;
 use thread_driver::run_threads;
 
 /// `count` runs of the test, one after the other, each on a new machine with a core for each thread. 1 to 16 workers,
-/// each a thread, drive the machine of a run, and give each of its cores and banks at most `limit` turns. The gate is
-/// passed before and after each turn. The end state of a run that is all done is an outcome of the sequential machine.
-/// AllocError where there is no memory for the list, or for a machine or what is told of it.
+/// each a thread, drive the machine of a run, and give each of its cores and banks at most `limit` turns. They pass
+/// the gate before and after each turn. The end state of a run that is all done is an outcome of the sequential
+/// machine. AllocError if memory for the list, for a machine or for the result of a run can't be allocated.
 pub fn threaded_runs<R: Threads + Sync, G: Gate + Sync>(
     rt: &R,
     alloc: Global,

@@ -1,4 +1,4 @@
-//! What is told of a run of a litmus test.
+//! The result of a run of a litmus test.
 ghost use Rattle.std.specs.Prelude.{◌≡◌, ◌≤◌, ℕ, length, map, IfOk};
 ghost use Rattle.litmus_reader.specs.TestViews.{test_of};
 ghost use Rattle.machine_table.specs.Machine.{Machine};
@@ -12,7 +12,7 @@ use programs::End;
 use report_text::RunEnd;
 use std::alloc::{AllocError, Global};
 
-/// What is told of a run of the test that ended so, with these threads and this machine.
+/// The result of a run of the test that ended so, with these threads and this machine.
 pub(crate) fn told<M: Finished>(
     alloc: Global,
     test: &Test,

@@ -1,15 +1,17 @@
 #!/usr/bin/env python3
 """Lists each sentence of the pages (README.md and the others at the top, docs/*.md, crates/*/README.md and
-examples/README.md) with over 30 words, and each phrase that pages don't use.
+examples/README.md) with over 30 words, and each phrase that pages, doc comments (`///` and `//!` in the sources of
+crates/) and docstrings of scripts don't use.
 
-    scripts/sentences.py            lists them, each with its page and line
+    scripts/sentences.py            lists them, each with its file and line
     scripts/sentences.py --check    does so, and fails if there is one
-    scripts/sentences.py PAGE ..    lists those of these pages
+    scripts/sentences.py FILE ..    lists those of these pages, sources and scripts
 
 A sentence ends at a full stop, a question mark or an exclamation mark, and at the end of its paragraph, list item or
 table cell; a colon or semicolon ends none. Code in backquotes is one word, and a link is the words of its text. Fenced
 blocks, indented blocks and comments are left out. Phrases aren't looked for in tables that a script writes, either.
 """
+import ast
 import re
 import sys
 from os.path import relpath
@@ -18,8 +20,14 @@ from pathlib import Path
 TOP = Path(__file__).resolve().parent.parent
 PAGES = [TOP / name for name in ("README.md", "CONTRIBUTING.md", "GLOSSARY.md", "examples/README.md")]
 MOST_WORDS = 30
+# Sources whose doc comments are still to be written anew.
+LATER = [TOP / "crates" / name for name in (
+    "guide_uses/src/names.rt", "interleaving_core/src/core_masks.rt", "line_sets/src/entries.rt", "line_sets/src/sets.rt",
+    "litmus_lexer/src/pulls.rt", "litmus_parser/src/cells.rt", "ranked_lines/src/blocks.rt", "ranked_lines/src/lib.rt",
+    "ranked_lines/src/lines.rt", "ranked_lines/src/rising_list.rt", "ranked_lines/src/selection.rt",
+    "report/src/one_run.rt", "report/src/reports.rt", "trace_texts/src/reports.rt")]
 ABBREVIATIONS = {"e.g.", "i.e.", "cf.", "vs."}
-# What pages don't say, each with what they say instead.
+# What they don't say, each with what they say instead.
 UNSAID = {"is told": "is reported", "are told": "are reported", "was told": "was reported", "were told": "were reported",
           "be told": "be reported", "is said by": "X says", "is said in": "X says", "so many": "n, or each",
           "whatever": "any", "comes of": "the result", "come of": "the result", "came of": "the result",
@@ -116,8 +124,29 @@ def long_sentences(text):
                     yield first + before, count, " ".join(words[:8])
 
 
+def doc_comments(text):
+    """The doc comments of a source; its other lines are blank."""
+    found = (re.match(r"\s*//[/!] ?(.*)", line) for line in text.splitlines())
+    return "\n".join(line.group(1) if line else "" for line in found)
+
+
+def docstrings(text):
+    """The docstrings of a script; its other lines are blank."""
+    kept = set()
+    for node in ast.walk(ast.parse(text)):
+        if isinstance(node, (ast.Module, ast.ClassDef, ast.FunctionDef)) and ast.get_docstring(node) is not None:
+            kept.update(range(node.body[0].lineno, node.body[0].end_lineno + 1))
+    return "\n".join(line.strip(' "') if number in kept else "" for number, line in enumerate(text.splitlines(), 1))
+
+
+def sources():
+    """The sources of crates and the scripts whose phrases are tested."""
+    scripts = (path for folder in ("scripts", "tests", "examples") for path in (TOP / folder).rglob("*.py"))
+    return sorted({*TOP.glob("crates/*/src/**/*.rt"), *scripts} - set(LATER))
+
+
 def unsaid(text):
-    """The phrases of a page that pages don't use: the line, and the phrase."""
+    """The phrases of a page, doc comments or docstrings that these don't use: the line, and the phrase."""
     text = re.sub(r"<!-- table .*?<!-- end -->", lambda m: "\n" * m.group().count("\n"), text, flags=re.S)
     phrases = re.compile(r"\b(%s)\b" % "|".join(UNSAID).replace(" ", r"\s+"), re.I)
     for first, passage in passages(text):
@@ -132,9 +161,12 @@ def main():
     if missing:
         print("sentences.py: %s: no such file" % relpath(missing[0]), file=sys.stderr)
         raise SystemExit(2)
-    for page in named or PAGES + sorted((TOP / "docs").glob("*.md")) + sorted(TOP.glob("crates/*/README.md")):
+    pages = PAGES + sorted((TOP / "docs").glob("*.md")) + sorted(TOP.glob("crates/*/README.md"))
+    parts = {".rt": doc_comments, ".py": docstrings}
+    for page in named or pages + sources():
         text = page.read_text(encoding="utf-8")
-        for line, count, begin in long_sentences(text):
+        text = parts.get(page.suffix, str)(text)
+        for line, count, begin in long_sentences(text) if page.suffix not in parts else ():
             print("sentences.py: %s:%d: %d words: %s .." % (relpath(page), line, count, begin))
             faults += 1
         for line, phrase in unsaid(text):

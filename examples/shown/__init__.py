@@ -1,1 +1,1 @@
-"""The parts of examples/page.py: how a run is played, what is said of each event, and the page itself."""
+"""The parts of examples/page.py: how a run is played, what the page says of each event, and the page itself."""

@@ -43,7 +43,7 @@ class Player:
 
 class Played:
     """A run: its `end`, its `records`, the numbers of them in the order of times (`arranged`), those that are stale
-    hits, and `steps`, the events. A step has the call, its answer, its line and the `view` behind it; `opening` is the
+    hits, and `steps`, the events. A step has the call, its answer, its line and the `view` after it; `opening` is the
     first view.
 
     A view says what there is, by name: as `core 0`, `copy 0 0x8`, `bank 0`, `entry 0x8`, `dram 0x8`, `m3`.
@@ -149,7 +149,7 @@ class Played:
 
 
 def machine_call(options, cores, memory):
-    """The line that opens the machine of the options, with so many cores and this memory."""
+    """The line that opens the machine of the options, with `cores` cores and this memory."""
     named = [("cores", cores)] + [(name, getattr(options, name.replace("-", "_"))) for name in NUMBERS]
     words = [f"{name} {value}" for name, value in named if name not in ("seed", "limit")]
     words += ["private-write yes"] * options.private_write

@@ -1,6 +1,7 @@
-"""What is said of each event: what happened, the rule that decided it, and that rule's section of docs/PROTOCOL.md.
+"""What the page says of each event: what happened, the rule that decided it, and that rule's section of
+docs/PROTOCOL.md.
 
-All is told from the views before and behind the event, as the player gave them (played.py).
+All comes from the views before and after the event, as the player gave them (played.py).
 """
 import re
 from types import SimpleNamespace
@@ -25,7 +26,7 @@ def fields(text):
 
 
 class Rules:
-    """Tells of the steps of a run that was played."""
+    """Describes the steps of a run that was played."""
 
     def __init__(self, run):
         self.run, self.subject = run, run.subject

@@ -64,7 +64,7 @@ pub record IsNotBefore (pts rts ts : ℕ) : Type 0 where
   pub lease : rts ≤ ts
   pub core : pts ≤ ts
 
--- a store or swap comes after every read of the words that it overwrites
+-- a store or swap comes after every possible read of the words that it overwrites
 abbrev pub WriteAfterReaders : Type 0
 WriteAfterReaders =
     (core after : CoreState) (op : Op) (copy : LineCopy) (received : Option ℕ) (ts : ℕ) →

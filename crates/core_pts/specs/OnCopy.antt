@@ -28,8 +28,8 @@ serves (Load a) pts copy = is_exclusive copy.state || nat_le pts copy.rts
 serves (Store a v) pts copy = is_exclusive copy.state
 serves (Swap a v) pts copy = is_exclusive copy.state
 
--- the time of a store or swap: after every read of the old words; under private writes a core that wrote the words
--- itself needs no later time. Nothing if the sum doesn't fit
+-- the time of a store or swap: after every possible read of the old words; under private writes a core that wrote the
+-- words itself needs no later time. Nothing if the sum doesn't fit
 abbrev pub write_time : Bool → ℕ → LineCopy → Option ℕ
 write_time private_write pts copy =
     if private_write && copy.written then Some (max pts copy.rts)

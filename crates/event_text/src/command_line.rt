@@ -22,8 +22,8 @@ pub struct Manner {
 }
 
 impl Wishes {
-    /// What these words ask for, the first of which is the program's name; nothing if a word that should be an option
-    /// is none.
+    /// What these words ask for, the first of which is the program's name; nothing if there is no such option as one
+    /// of them.
     pub fn new(alloc: Global, words: Vec<String>) -> Result<Option<Wishes>, AllocError> {
         let mut files = Vec::new(alloc);
         let mut how = Manner {

@@ -78,12 +78,13 @@ abbrev pub request_answer : Bool → Answer
 request_answer true = answer.Requested
 request_answer false = answer.Refused NetworkFull
 
--- the answer of a reaction to a delivered message, and the messages in flight afterwards: the same at every part
+-- the answer to the delivery of a message, by the part's reaction, and the messages in flight afterwards: the same at
+-- every part
 abbrev pub settled_answer : Mail → ℕ → Reaction → Answer × Mail
 settled_answer mail n reaction =
     let x = applied {S = Unit {0}} tt mail (change.settled mail n reaction tt) in (x.0, x.2)
 
--- the answer of a part's response to a delivered message, and the messages in flight afterwards
+-- the answer to the delivery of a message, by the part's response, and the messages in flight afterwards
 abbrev pub concluded : Mail → ℕ → Result Reaction Refusal → Answer × Mail
 concluded mail n (Ok reaction) = settled_answer mail n reaction
 concluded mail n (Err why) = (answer.Refused why, mail)

@@ -20,7 +20,7 @@ use physiological_order::{Op, Record};
 use private_cache::{CacheError, CopyState};
 use timestamp_manager::Exhausted;
 
-/// A core of this number attempts its open operation, after `number` completed operations.
+/// A core of this number attempts its open operation, after `count` completed operations.
 #[inline(always)]
 pub(crate) fn attempt(core: &mut Core, flight: &mut InFlight, number: u32, count: usize) -> Answer
     requires number { core.old.number < flight.old.cores }

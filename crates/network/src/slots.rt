@@ -145,7 +145,7 @@ fn drop_all_empty(slots: &mut Vec<Slot>)
     slots.retain(|slot| slot.1.is_some());
 }
 
-/// Drops the empty slots if they outnumber the others by two or more. `used` slots have a cell.
+/// Drops the empty slots if they outnumber the others by two or more. `count` slots have a cell.
 #[inline(always)]
 pub(crate) fn drop_empty(slots: &mut Vec<Slot>, count: usize)
     requires { count ≡ length (still_there slots.old.items) }
@@ -178,7 +178,7 @@ pub(crate) fn take_cell(slots: &mut Vec<Slot>, number: u64) -> Option<u32>
     empty_slot(slots, at, number)
 }
 
-/// Fills a list, which it empties first, with the numbers of the slots that have a cell, in their order. `used` slots
+/// Fills a list, which it empties first, with the numbers of the slots that have a cell, in their order. `count` slots
 /// have one. It allocates only if the list's memory is too small for them; if that fails, the list is empty.
 pub(crate) fn list_numbers(
     slots: &[Slot],

@@ -1,4 +1,4 @@
--- Records as they complete: what the ones that are there keep, and what the next one meets.
+-- Records as they complete: what stays true of those that are there, and what the next one meets.
 use Rattle.std.specs.Prelude.{◌≡◌, ℕ, ◌<◌, ◌≤◌, ◌==◌, nat_le, List, [], ◌∷◌, length, Some, if◌then◌else◌, count_by}
 use Rattle.std.specs.Prelude.{slice_get}
 use Rattle.std.specs.List.{AllByRecursion as Each}

@@ -212,7 +212,7 @@ pub data Asks (c pts : ℕ) : Op → Line → Line → Type 0 where
   to_write : {op : Op} {x : Line} → CannotUse op pts (x.copies c) →
       Asks c pts op x (record x { messages = ExReq c (version_of (x.copies c)) ∷ x.messages })
 
--- the time of a write: above every read of the old words, or, in place, not below what the core itself did
+-- the time of a write: above every possible read of the old words, or, in place, not below what the core itself did
 abbrev pub write_time : Config → ℕ → Copy → ℕ
 write_time f pts copy = if f.private_write && copy.written then max pts copy.line.rts else max pts (copy.line.rts + 1)
 

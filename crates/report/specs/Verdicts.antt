@@ -47,8 +47,8 @@ abbrev pub IsCheckReport : (trace records : Option (List ℕ)) → Bool → List
 IsCheckReport trace records legal text = (lanes : List (List Step)) × (told : List Record)
     × IsRead trace lanes × AreRead records told × IsVerdictLine lanes told legal text
 
--- why there is no verdict: the trace is refused, or it was read and the records are refused; reading the trace
--- allocates, then reading the records, and then writing the line
+-- why there is no verdict: the trace is refused, or it was read and the records are refused; NoMemory comes from
+-- reading the trace, after that from reading the records, or after both from the line
 abbrev pub HasNoVerdict : (trace records : Option (List ℕ)) → RunError → Type 0
 HasNoVerdict trace records (Trace e) =
     IsTraceFault trace e ⊎ (((lanes : List (List Step)) × IsRead trace lanes) × IsRecordsFault records e)

@@ -8,7 +8,7 @@ use Rattle.std.specs.declared.alloc.Global.{Global}
 abbrev pub hand_of : ℕ → ℕ → ℕ → ℕ
 hand_of first hands h = (first + h) % hands
 
--- There are `count` hands, at least one. Item i of the list goes to the i-th hand from the first one on, going round.
+-- There are `hands` hands, at least one. Item i of the list goes to the i-th hand from the first one on, going round.
 -- Each hand has its items in their order: item k of the h-th hand is item hands * k + h of the list, and either exists
 -- exactly if the other does.
 pub record IsDealtInTurn {A : Type 0} (all : List A) (first hands : ℕ) (lists : List (List A)) : Type 0 where

@@ -5,8 +5,7 @@ ghost use Rattle.round_robin.specs.Dealing.{HaveRoom, IsDealtInTurn};
 
 use std::alloc::{AllocError, Global};
 
-/// Empty hands, `count` of them, with room for their shares of `items` items. AllocError if memory for them can't be
-/// allocated.
+/// `hands` empty hands, with room for their shares of `items` items. AllocError if memory for them can't be allocated.
 pub fn empty_hands<T: Drop>(
     alloc: Global,
     hands: usize,

@@ -7,8 +7,8 @@ use Rattle.machine_table.specs.Machine.{Machine, open_op}
 use Rattle.programs.specs.Acts.{Acts, next_in}
 use Rattle.schedules.specs.Schedules.{Schedule, Does, Advances}
 
--- a schedule issues a core without an open operation what its program gives next, and advances it when the program
--- does
+-- a schedule issues a core without an open operation what its program gives next, and advances the core if that is an
+-- advance
 pub record GivesSteps {P S : Type 0} (acts : Acts P) (schedule : Schedule P S) : Type 0 where
   pub issues : (m : Machine) (programs : List P) (own : S) (core : ℕ) (op : Op) →
       schedule.next m programs own ≡ Does (event.Issue core op) →

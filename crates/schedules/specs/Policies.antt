@@ -11,7 +11,7 @@ use Rattle.schedules.specs.SeedSchedule.{of_seed, seeded}
 use Rattle.schedules.specs.Runs.{plan_of}
 use Rattle.schedules.specs.RunEvents.{Ended, initial_position}
 
--- the events, by the policy's schedule and at most `turns` turns, lead from a machine and programs to others and an
+-- the events, by the policy's schedule and at most `limit` turns, lead from a machine and programs to others and an
 -- end; they aren't kept in a list
 abbrev pub EndedBy : {P : Type 0} → Acts P → Policy → ℕ → Machine → List P → List Event → Machine → List P → End →
     Type 0

@@ -31,8 +31,8 @@ initial_position m programs own = record {
   turns = 0;
 }
 
--- a position allocates: the event that comes next may, or may have to be kept in the list of events; or the schedule
--- does, to know what comes next
+-- the run asks for memory at a position: the event that comes next does, or may have to be kept in the list of events;
+-- or the schedule does, to know what comes next
 abbrev pub WantsMemoryAt : {P S : Type 0} → Bool → Plan P S → Position P S → Type 0
 WantsMemoryAt {P} {S} keeps plan d =
     ((event : Event) × (leads : Answer × Machine → Position P S) × (next plan d ≡ Makes event leads)

@@ -38,7 +38,7 @@ impl Signaler {
         Ok(())
     }
 
-    /// Signals that a seat has stopped. It may do so again.
+    /// Signals that a seat has stopped. Further calls are allowed.
     pub fn stop(&mut self, signals: &Signals)
         requires { IsSignalerOf signals.now self.old }
         ensures signaler { IsSignalerOf signals.now self.new }

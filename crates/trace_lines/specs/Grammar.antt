@@ -9,11 +9,11 @@ use Rattle.programs.specs.declared.steps.Step.{Step}
 use Rattle.programs.specs.declared.steps.Step.TheVariants as step
 use Rattle.trace_lines.specs.Spelling.{is_digit, is_hex_digit, is_few, decimal_of, hex_of, most_cores_named}
 
--- a number below a bound, in 1 to `most` decimal digits
+-- a number below a bound, in 1 to `digits` decimal digits
 abbrev pub IsNumber : ℕ → ℕ → List ℕ → ℕ → Type 0
 IsNumber digits bound field n = (is_few is_digit digits field ≡ true) × (decimal_of field ≡ n) × (n < bound)
 
--- the number of a core, below this bound
+-- the number of a core, below the number of cores
 abbrev pub IsCoreNumber : ℕ → List ℕ → ℕ → Type 0
 IsCoreNumber cores = IsNumber 2 cores
 

@@ -31,7 +31,7 @@ unfoldable pub ended : {X : Type 0} → X → List (List ℕ) → Result X Kind
 ended x [] = Ok x
 ended x (field ∷ fields) = Err ExtraWords
 
--- a number below a bound, in at most `most` digits
+-- a number below a bound, in at most `digits` digits
 abbrev pub decimal_in : ℕ → ℕ → List ℕ → Option ℕ
 decimal_in digits bound field =
     if is_few is_digit digits field && nat_lt (decimal_of field) bound then Some (decimal_of field) else None

@@ -35,7 +35,7 @@ fn decimal_field<'a>(
     }
 }
 
-/// A core, below this bound.
+/// A core's number, below `cores`.
 #[tactic(auto, unfolding(crate::specs::Reading::core_at))]
 pub(crate) fn core_field<'a>(line: &'a [u8], cores: u8) -> Result<(u32, &'a [u8]), Kind>
     ensures { GivesViewed view_fields_read result (core_at cores (parted line.now)) }

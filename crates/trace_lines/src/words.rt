@@ -79,7 +79,7 @@ fn is_hexadecimal(field: &[u8]) -> bool
     all_hex_digits(field) && !field.is_empty() && field.len() <= 16
 }
 
-/// The number of a field of 1 to `most` decimal digits, if it is below a bound.
+/// The number of a field of 1 to `digits` decimal digits, if it is below a bound.
 pub(crate) fn decimal(field: &[u8], digits: usize, bound: u128) -> Option<u64>
     requires { bound ≤ 2 ^ 64 }
     ensures number { result ≡ decimal_in digits bound field.now }

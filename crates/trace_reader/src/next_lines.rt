@@ -11,7 +11,7 @@ use crate::limits::{MOST_BYTES, MOST_LINES};
 use byte_streams::Source;
 use trace_lines::{Kind, TraceError};
 
-/// Reads until the next line is in front of the block, after `lines` lines: how many bytes it has, or nothing at the
+/// Reads until the next line is in front of the block, after `number` lines: how many bytes it has, or nothing at the
 /// end of the text.
 pub(crate) fn next_line<S: Source>(
     block: &mut Block,

@@ -2,8 +2,8 @@
 //! until all are done. docs/BENCHMARKS.md has the table.
 //!
 //! The words are `round`, `seed`, `round_events` and `seed_events`, and three numbers follow each: cores, words, and
-//! operations of a core. Several may stand one after the other. Each tells how many operations were completed; the last
-//! two keep the events and tell how many there were.
+//! operations of a core. Several may stand one after the other. Each prints how many operations were completed; the
+//! last two keep the events and print how many there were.
 #![tactic(auto)]
 
 ghost use Rattle.std.specs.Prelude.{◌≡◌, length};

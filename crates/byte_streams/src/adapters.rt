@@ -15,7 +15,7 @@ pub struct FromRead<R> {
 }
 
 impl<R> FromRead<R> {
-    /// The reader's bytes as they stand, with no failure so far.
+    /// The reader's bytes from here on, with no failure so far.
     pub fn new(inner: R) -> FromRead<R>
         ensures reader { reader_of result ≡ inner }
         ensures fresh { reads_failed result ≡ 0 }

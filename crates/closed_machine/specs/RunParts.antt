@@ -1,4 +1,4 @@
--- The state of which a closed machine leaves the parts.
+-- The state whose parts a closed machine leaves.
 use Rattle.seat_rule.specs.States.{State}
 use Rattle.closed_machine.specs.declared.run.Run.{Run}
 use Rattle.closed_machine.specs.PartsOfState.{PartsOfState, state_of_parts}

@@ -27,7 +27,7 @@ can_still_send o = nat_lt o.sent (2 ^ 64 - 1)
 abbrev pub noted : OutboxState → Message → OutboxState
 noted o m = record o { counts = counted o.counts m.body; sent = o.sent + 1 }
 
--- a message was sent: it stands at the end, and is counted
+-- a message was sent: it is at the end, and is counted
 abbrev pub sent_out : OutboxState → Message → OutboxState
 sent_out o m = record { messages = o.messages ++ m ∷ []; counts = counted o.counts m.body; sent = o.sent + 1 }
 

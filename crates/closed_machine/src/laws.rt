@@ -13,7 +13,7 @@ ghost use Rattle.closed_machine.specs.Merged.{StandIn};
 use machine_theorem::laws::machines_with_the_invariant_are_consistent;
 use seat_rule::move_laws::{reached_states_have_the_invariant, records_are_in_order};
 
-/// In a reached state, the records of each core stand among all at the places of their numbers.
+/// In a reached state, the records of each core are among all records at the places of their numbers.
 pub(crate) fn records_of_cores_stand_by_number()
     ensures { (config : Config) (opening : FinMap nat_cmp ℕ) (a : State) →
         Reached config opening a → (core : ℕ) → StandIn a.records (of_core core a.records) }
@@ -21,8 +21,8 @@ pub(crate) fn records_of_cores_stand_by_number()
     records_are_in_order();
 }
 
-/// And a list of as many records, in which the records of each core stand at the places of their numbers, has all
-/// records of the state in their order.
+/// And a list of as many records that has the records of each core at the places of their numbers has all records of
+/// the state in their order.
 pub(crate) fn placed_records_are_all()
     ensures { (config : Config) (opening : FinMap nat_cmp ℕ) (a : State) (placed : List Record) →
         is_good config ≡ true → Reached config opening a → length placed ≡ length a.records →

@@ -1,5 +1,4 @@
-//! What the seats of a shared machine leave when it is closed, and what is looked up there: records, values, counts and
-//! owners.
+//! What the seats of a shared machine leave when it is closed, and look-ups there: records, values, counts and owners.
 #![tactic(auto)]
 
 mod calls;

@@ -1,4 +1,4 @@
-//! What is left of a machine when all its seats are given up.
+//! What a machine leaves when all its seats are given up.
 use crate::outbox::Outbox;
 use core_pts::Core;
 use dram_mts::Dram;

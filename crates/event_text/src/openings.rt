@@ -65,7 +65,7 @@ fn is_yes(words: &mut Words<'_>) -> Result<bool, Cause> {
     }
 }
 
-/// The words behind `with`, up to the end: addresses, each with its value.
+/// The words after `with`, up to the end: addresses, each with its value.
 fn with_words(alloc: Global, words: &mut Words<'_>) -> Result<Vec<(WordAddr, u64)>, Cause> {
     let mut values = Vec::new(alloc);
     let mut address = words.address()?;

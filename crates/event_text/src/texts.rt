@@ -9,7 +9,7 @@ pub struct Text<'a> {
     lines: Vec<&'a str>,
 }
 
-/// An example: its lines, and how many lines stand before it.
+/// An example: its lines, and how many lines come before it.
 #[derive(Clone, Copy)]
 pub struct Example<'a> {
     pub(crate) lines: &'a [&'a str],

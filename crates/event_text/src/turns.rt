@@ -161,7 +161,7 @@ impl<'a> Cursor<'a> {
         }
     }
 
-    /// Ends a turn: the next one begins, or the lines behind what is repeated.
+    /// Ends a turn: the next one begins, or the lines after the repetition.
     fn go_on(&mut self) {
         let Some(repeated) = self.repeated else {
             return;

@@ -98,7 +98,7 @@ bank_has_case_at (node.Dram d) p m = dram_has_case p.dram m
 abbrev pub sending_bank_has_case : SendingBank → Message → Bool
 sending_bank_has_case p m = bank_has_case_at m.to p m
 
--- memory is taken for a line that the DRAM was never given before
+-- the seat takes memory for a line that the DRAM was never given before
 abbrev pub takes_memory_at : Node → SendingBank → Message → Bool
 takes_memory_at (node.Core c) p m = false
 takes_memory_at (node.Bank b) p m = false

@@ -92,7 +92,7 @@ TakesAt z k true p q = (m : Message) × TakenFrom z [] k m p q × (q.cursor ≡ 
 TakesAt z k false p q = TakenNothing ((k, 0) ∷ []) p q
 
 -- with an empty hand, the first slot that comes in and was found full was emptied into the hand, from the cursor on and
--- going round; the cursor is now behind it. Or all slots that come in were found empty. A full hand stays, and nothing
+-- going round; the cursor is now after it. Or all slots that come in were found empty. A full hand stays, and nothing
 -- was looked at
 abbrev pub Takes : SetUp → Take → Mailbox → Mailbox → Type 0
 Takes z Taken p q =

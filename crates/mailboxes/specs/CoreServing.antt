@@ -37,7 +37,7 @@ sending_core_table p m places = core_reacts p (core_table p.core m)
 abbrev pub sending_core_has_case : SendingCore → Message → Bool
 sending_core_has_case p m = core_has_case p.core m
 
--- no memory is taken
+-- the seat takes no memory
 abbrev pub sending_core_takes_memory : SendingCore → Message → Bool
 sending_core_takes_memory p m = false
 

@@ -1,4 +1,4 @@
--- What is left of a machine when all its seats are given up.
+-- What a machine leaves when all its seats are given up.
 use Rattle.std.specs.Prelude.{◌≡◌, ℕ, ◌<◌, List, [], ◌∷◌, ◌++◌, Option, Some, slice_get}
 use Rattle.atomic_table.specs.Seated.{TableId}
 use Rattle.physiological_order.specs.declared.operation.Record.{Record}

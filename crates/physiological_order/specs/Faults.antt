@@ -38,7 +38,7 @@ pub record ValueFault (opening : Memory) (issued : ℕ → List Op) (arranged : 
   pub in_order : KeepsProgramOrder issued (upto.before ++ upto.faulty ∷ [])
   pub fault : ReceivesAsReplayed opening (upto.before ++ upto.faulty ∷ []) → ⊥
 
--- what holds of records that stand arranged, by the verdict on them
+-- what holds of arranged records, by the verdict on them
 abbrev pub WalksTo : Memory → (ℕ → List Op) → List Record → Verdict → Type 0
 WalksTo opening issued arranged LegalVerdict = KeepsProgramOrder issued arranged × ReceivesAsReplayed opening arranged
 WalksTo opening issued arranged (BadNumber k) = ⊥

@@ -1,4 +1,4 @@
--- A walk along records that stand arranged.
+-- A walk along arranged records.
 use Rattle.std.specs.Prelude.{◌≡◌, ℕ, ◌<◌, List, length, Some, slice_get, slice_index}
 use Rattle.physiological_order.specs.declared.operation.Record.{Record}
 use Rattle.physiological_order.specs.Faults.{IssuedLists, issued_by}

@@ -16,10 +16,10 @@ pub(crate) struct Turns {
     tries: bool,
 }
 
-/// Where deliveries stand in a round.
+/// The place of deliveries in a round.
 const BEHIND: u32 = u32::MAX;
 
-/// Where an event stands in a round.
+/// The place of an event in a round.
 fn place_of(event: &Event) -> u32 {
     match *event {
         Event::Issue(core, _)

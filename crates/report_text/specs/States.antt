@@ -31,7 +31,7 @@ abbrev pub tallied : List NamedValues → List (ℕ × NamedValues)
 tallied [] = []
 tallied (state ∷ states) = (1 + times_met state states, state) ∷ without_state state (tallied states)
 
--- the same list after one more state: it is counted where it stands, or is new at the end
+-- the same list after one more state: its count is one greater, or it is new at the end
 abbrev pub one_more : NamedValues → List (ℕ × NamedValues) → List (ℕ × NamedValues)
 one_more state [] = (1, state) ∷ []
 one_more state (entry ∷ entries) =

@@ -49,7 +49,7 @@ Noted m log event (Err AllDone) after after_log = ⊥
 Noted m log event (Err Stalled) after after_log = ⊥
 Noted m log event (Err TurnsUsed) after after_log = ⊥
 
--- where a run stands, with what it has noted
+-- where a run is, with what it has noted
 pub record Point (P S : Type 0) : Type 0 where
   pub machine : Machine
   pub programs : List P

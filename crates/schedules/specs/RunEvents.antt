@@ -40,7 +40,7 @@ WantsMemoryAt {P} {S} keeps plan d =
     ⊎ ((d.stage ≡ Within) × IsTrue (plan.schedule.lists d.own))
 
 -- the events, which are kept in a list or not, lead to this machine and these programs, where the plan has this end;
--- or an allocation failed, where the plan goes on and allocates
+-- or memory was refused, where the plan goes on and asks for some
 pub record Ended {P S : Type 0} (keeps : Bool) (plan : Plan P S) (start : Position P S) (events : List Event)
     (m : Machine) (programs : List P) (end : End) : Type 0 where
   pub last : Position P S

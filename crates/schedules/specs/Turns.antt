@@ -1,4 +1,4 @@
--- A schedule as code: how what it answers stands for what comes next.
+-- A schedule as code: how its answers stand for what comes next.
 use Rattle.std.specs.Prelude.{◌≡◌, ◌≢◌, ◌<◌, ℕ, Bool, true, false, IsTrue, Result, Ok, Err}
 use Rattle.programs.specs.declared.ends.End.{End}
 use Rattle.schedules.specs.declared.schedule.Choice.{Choice as Chosen}

@@ -23,8 +23,9 @@ pub fn returns_want_a_place()
     ensures sent { ReturnsGoOut }
 {}
 
-/// All other messages to a core need no place, however many are to be put: a reply is taken in, a message that asks
-/// for a line that the core doesn't own is dropped, and one that asks for the line of the open operation waits.
+/// All other messages to a core need no place, with any number of messages to be put: a reply is taken in, a message
+/// that asks for a line that the core doesn't own is dropped, and one that asks for the line of the open operation
+/// waits.
 pub fn other_messages_to_cores_want_none()
     ensures replies { RepliesWantNone }
     ensures readers { ReadersWantNone }

@@ -20,7 +20,7 @@ abbrev pub AreNewSignalers : Signals → List Signaler → Type 0
 AreNewSignalers signals ss =
     (i : ℕ) (s : Signaler) → i < length ss → IsNewSignaler signals (slice_index_or ss i s)
 
--- the same, of each that is looked up
+-- the same, for each that a look-up finds
 abbrev pub AllNewSignalers : Signals → List Signaler → Type 0
 AllNewSignalers signals ss =
     (i : ℕ) (s : Signaler) → slice_get ss i ≡ Some s → IsNewSignaler signals s

@@ -4,7 +4,7 @@ use crate::files::Files;
 use byte_streams::{DeviceError, FromRead};
 use std::fs::File;
 
-/// The host's files, of which nothing is known before they are read.
+/// The host's files; contracts know nothing of them before they are read.
 #[derive(Clone, Copy)]
 pub(crate) struct HostFiles<'a> {
     pub(crate) rt: &'a HostRuntime,

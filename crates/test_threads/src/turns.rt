@@ -46,7 +46,7 @@ const LAST_TIME: Case = Case {
     turn_limit: 1_000,
 };
 
-/// A lease of 10 doesn't fit behind the opening time, so the first bank stops as it would grant the load. The second
+/// A lease of 10 doesn't fit after the opening time, so the first bank stops when it would grant the load. The second
 /// bank has nothing to do.
 const NO_LEASE: Case = Case {
     config: Config {
@@ -62,7 +62,7 @@ const NO_LEASE: Case = Case {
 /// have, and how many of two first turns see the other.
 ///
 /// A worker alone sees at once that programs without steps are all done, and that a store is done after its seventh
-/// turn. A seat that stops ends the pass: those behind it have a turn less. A bank has loaded a line after three turns,
+/// turn. A seat that stops ends the pass: those after it have a turn less. A bank has loaded a line after three turns,
 /// and would grant it in its fourth. Two workers give turns at the same time. One gives one turn after the other, so
 /// the first one looks in vain.
 const GIVEN: &[(Case, u32, u32, End, [u64; 3], u64)] = &[

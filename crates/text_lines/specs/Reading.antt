@@ -1,4 +1,4 @@
--- Reading from left to right, with the first fault that is met.
+-- Reading from left to right, up to the first fault.
 use Rattle.std.specs.Prelude.{Option, Some, None, Result, Ok, Err}
 
 -- what is read next, unless a fault was met before

@@ -23,7 +23,7 @@ told_by_both a b =
       has_progressed = a.has_progressed || b.has_progressed;
     }
 
--- n turns, one after the other, each of which does what `Turn` says, and what they reported together.
+-- n turns, one after the other, which each do what `Turn` says, and what they reported together.
 pub data TurnsGiven {X : Type 0} (Turn : X → Told → X → Type 0) (x : X) : ℕ → Told → X → Type 0 where
   rests : TurnsGiven Turn x zero quiet x
   more : {n : ℕ} {all told : Told} {y z : X} → TurnsGiven Turn x n all y → Turn y told z →

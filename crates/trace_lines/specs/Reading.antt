@@ -1,4 +1,4 @@
--- Reading fields from the left, with the first fault that is met.
+-- Reading fields from the left, up to the first fault.
 use Rattle.std.specs.Prelude.{ℕ, ◌^◌, ◌/◌, ◌%◌, ◌==◌, ◌&&◌, nat_lt, if◌then◌else◌, List, [], ◌∷◌}
 use Rattle.std.specs.Prelude.{Option, Some, None, Result, Ok, Err, option_and_then, codes}
 use Rattle.std.specs.Str.{bytes_eq}

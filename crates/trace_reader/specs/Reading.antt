@@ -48,7 +48,7 @@ unfoldable pub said_at : Option Form → List (List ℕ) → Result (Option Form
 said_at (Some form) fields = step_said form fields
 said_at None fields = form_line_at fields >>= form_said fields
 
--- the steps of lines, of which the first has this number
+-- the steps of lines; the first line has this number
 unfoldable pub steps_from : ℕ → Option Form → List (List ℕ) → Result (List (ℕ × Step)) TraceError
 steps_from number form [] = Ok []
 steps_from number form (line ∷ lines) = at_line number (fitted number line (said_at form (fields_of line)))
@@ -58,7 +58,7 @@ steps_from number form (line ∷ lines) = at_line number (fitted number line (sa
 abbrev pub steps_read : List ℕ → Result (List (ℕ × Step)) TraceError
 steps_read bytes = steps_from 1 None (lines_of bytes)
 
--- the records of lines, of which the first has this number
+-- the records of lines; the first line has this number
 unfoldable pub records_from : ℕ → List (List ℕ) → Result (List Record) TraceError
 records_from number [] = Ok []
 records_from number (line ∷ lines) = at_line number (fitted number line (record_line_at (fields_of line)))

@@ -12,7 +12,7 @@ use physiological_order::{Op, Record, WordAddr};
 use std::alloc::{AllocError, Global};
 use thread_driver::laws::closed_machines_list_what_was_issued;
 
-/// A machine after a run, of which reports tell the records and what they left.
+/// A machine after a run. Reports have its records and what these left.
 pub trait Finished {
     ghost use Rattle.std.specs.Prelude.{◌≡◌, ℕ, List, [], map, slice_index_or, IfOk};
     ghost use Rattle.physiological_order.specs.declared.operation.Op.{Op};

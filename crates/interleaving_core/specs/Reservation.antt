@@ -1,4 +1,4 @@
--- What a machine in memory has room for: capacity that is reserved for the record of each open operation, and masks.
+-- What fits a machine in memory: capacity that is reserved for the record of each open operation, and masks.
 use Rattle.std.specs.Prelude.{◌≡◌, ℕ, ◌+◌, ◌≤◌, Bool, true, false, List, [], ◌∷◌, length, Option, Some, None}
 use Rattle.physiological_order.specs.declared.operation.Record.{Record}
 use Rattle.physiological_order.specs.declared.operation.Op.{Op}
@@ -20,7 +20,7 @@ abbrev pub owed : List CoreState → ℕ
 owed [] = 0
 owed (core ∷ cores) = owed_for core.open_op + owed cores
 
--- the messages in flight are those of a machine with this set-up, there is capacity for a record of each open
+-- the messages in flight are those of a machine that is set up so, there is capacity for a record of each open
 -- operation, and the masks are those of the cores
 pub record IsFitted (config : Config) (flight : Flight) (cores : List CoreState) (records : List Record)
     (capacity : ℕ) (masks : CoreMasks) : Type 0 where

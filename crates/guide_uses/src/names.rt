@@ -1,15 +1,11 @@
 //! The public names of readers, drivers, reports and seats, each taken from the crate that gives it out, and called once
 //! as a caller calls it.
 ghost use Rattle.std.specs.Prelude.{◌≡◌, ◌≤◌, length, true};
-ghost use Rattle.std.specs.FinMap.{empty};
 ghost use Rattle.drawn_numbers.specs.Drawers.{IsDrawerOf};
 ghost use Rattle.litmus_reader.specs.TestViews.{test_of};
 ghost use Rattle.machine_table.specs.SetUp.{is_good};
 ghost use Rattle.mailboxes.specs.Seats.{IsBankSeat, IsCoreSeat};
-ghost use Rattle.physiological_order.specs.Faults.{IsVerdict};
-ghost use Rattle.physiological_order.specs.Order.{flat};
 ghost use Rattle.thread_driver.specs.Shifts.{AreBanksInOrder, AreCoresInOrder, NoneOpen};
-ghost use Rattle.trace_reader.specs.Steps.{trace_ops};
 
 use interleaving_core::System;
 use litmus_reader::Test;
@@ -165,16 +161,14 @@ pub fn is_checked<R: Threads + Sync>(
     Ok(done.all_done)
 }
 
-/// The texts of a trace's run: its report, which tells a check's verdict on its records, and these.
+/// The texts of a trace's run: its report, which has a check's verdict on its records, and these.
 pub fn texts(
     alloc: Global,
-    trace: &Trace,
+    trace: Trace,
     run: &TraceEnd,
     records: &[Record],
     values: &[(WordAddr, u64)],
-) -> Result<(Vec<u8>, Vec<u8>), AllocError>
-    requires { IsVerdict (flat empty) (trace_ops trace.now) records.now run.now.verdict }
-{
+) -> Result<(Vec<u8>, Vec<u8>), AllocError> {
     let report = trace_text(alloc, trace, run, records, values)?;
     Ok((report, records_text(alloc, records)?))
 }

@@ -1,5 +1,5 @@
 -- Why a text of a trace or of records is refused.
-use Rattle.std.specs.Prelude.{◌≡◌, ◌≢◌, ◌<◌, ℕ, List, [], Option, Result, Ok, Err, IfSome}
+use Rattle.std.specs.Prelude.{◌≡◌, ◌<◌, ℕ, List, Option, Result, Ok, Err, IfSome}
 use Rattle.run_results.specs.declared.results.Done.{Done}
 use Rattle.run_results.specs.declared.results.RunError.{RunError}
 use Rattle.run_results.specs.declared.results.RunError.TheVariants.{Read, Write, NoMemory, Litmus, Trace, BadConfig}
@@ -30,10 +30,6 @@ refusal_of kind e = Trace e
 
 abbrev pub refusal : TraceError → RunError
 refusal e = refusal_of e.kind e
-
--- reading the text allocates: there is a step or a record to keep, or a fault
-abbrev pub WantsMemory : {Y : Type 0} → (read : List ℕ → Result (List Y) TraceError) → Option (List ℕ) → Type 0
-WantsMemory read known = IfSome known (λ bytes. read bytes ≢ Ok [])
 
 -- how reading a text fails: a failure is counted exactly if the answer reports it
 abbrev pub IsUnread : (IsFaultOf : TraceError → Type 0) → (Wants : Type 0) → (before after : ℕ) → RunError → Type 0

@@ -14,8 +14,9 @@ use Rattle.trace_reader.specs.declared.limits.TheConstants.{MOST_LINES}
 use Rattle.trace_reader.specs.Causes.{TraceFault}
 use Rattle.trace_reader.specs.Grammar.{AreRecords, IsTrace}
 use Rattle.text_lines.specs.Lines.{lines_of}
-use Rattle.trace_reader.specs.Reading.{steps_read}
-use Rattle.report.specs.Refusals.{IsFault, IsRead, WantsMemory}
+use Rattle.trace_reader.specs.Reading.{steps_in, steps_read}
+use Rattle.report.specs.Refusals.{IsFault, IsRead}
+use Rattle.trace_reader.specs.Outcomes.{WantsMemory}
 use Rattle.trace_reader.specs.Steps.{trace_cores}
 use Rattle.report.specs.Runs.{IsTraceRun, is_all_done, run_text}
 
@@ -67,7 +68,7 @@ HasNoTraceReport options known (Trace e) = IsTraceFault known e
 HasNoTraceReport options known BadConfig = (lanes : List (List Step)) × IsRead known lanes
     × (is_good (config_of options.run.machine (trace_cores lanes)) ≡ false)
 HasNoTraceReport options known NoMemory =
-    WantsMemory steps_read known ⊎ ((lanes : List (List Step)) × IsRead known lanes
+    WantsMemory steps_in known ⊎ ((lanes : List (List Step)) × IsRead known lanes
     × (is_good (config_of options.run.machine (trace_cores lanes)) ≡ true))
 HasNoTraceReport options known Read = ⊥
 HasNoTraceReport options known Write = ⊥

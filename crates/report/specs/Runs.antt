@@ -64,22 +64,22 @@ words_below lanes (suc core) = with_words (words_below lanes core) (ops_of (lane
 abbrev pub values_in : Machine → FinMap nat_cmp ℕ → List (ℕ × ℕ)
 values_in m words = map (λ entry. (entry.0, coherent m entry.0)) (entries words)
 
--- what the report says of a run, apart from its records and its words: they are a legal history of the trace's
--- operations (`legal_in_trace`), and so a check's verdict on them is Legal
+-- what the report says of a run, apart from its records and its words
 abbrev pub trace_end_of : List (List Step) → End → Machine → TraceEnd
 trace_end_of lanes end m = record {
   issued = issued_below m (trace_cores lanes);
   end = end;
   counts = m.mail.counts;
   stale = stale_count m.records;
-  verdict = LegalVerdict;
 }
 
--- the text of the records alone, or the report
+-- the text of the records alone, or the report; the records are a legal history of the trace's operations
+-- (`legal_in_trace`), and so a check's verdict on them is Legal
 abbrev pub run_text : Bool → List (List Step) → End → Machine → List ℕ
 run_text true lanes end m = records_text m.records
 run_text false lanes end m =
-    trace_text lanes (trace_end_of lanes end m) m.records (values_in m (words_below lanes (trace_cores lanes)))
+    trace_text (trace_cores lanes) (trace_end_of lanes end m) LegalVerdict m.records
+    (values_in m (words_below lanes (trace_cores lanes)))
 
 abbrev pub is_all_done : End → Bool
 is_all_done AllDone = true

@@ -14,8 +14,9 @@ use Rattle.trace_lines.specs.declared.errors.TraceError.{TraceError}
 use Rattle.programs.specs.declared.steps.Step.{Step}
 use Rattle.trace_reader.specs.Causes.{RecordFault}
 use Rattle.trace_reader.specs.Grammar.{AreRecords}
-use Rattle.trace_reader.specs.Reading.{steps_read, records_at}
-use Rattle.report.specs.Refusals.{IsFault, IsRead, WantsMemory}
+use Rattle.trace_reader.specs.Reading.{records_at, records_in, steps_in}
+use Rattle.report.specs.Refusals.{IsFault, IsRead}
+use Rattle.trace_reader.specs.Outcomes.{WantsMemory}
 use Rattle.report.specs.Reports.{IsTraceFault}
 use Rattle.trace_reader.specs.Steps.{trace_ops}
 use Rattle.trace_texts.specs.Verdicts.{check_text}
@@ -53,8 +54,8 @@ abbrev pub HasNoVerdict : (trace records : Option (List ℕ)) → RunError → T
 HasNoVerdict trace records (Trace e) =
     IsTraceFault trace e ⊎ (((lanes : List (List Step)) × IsRead trace lanes) × IsRecordsFault records e)
 HasNoVerdict trace records NoMemory =
-    WantsMemory steps_read trace ⊎ (((lanes : List (List Step)) × IsRead trace lanes) ×
-    (WantsMemory records_at records ⊎ ((told : List Record) × AreRead records told)))
+    WantsMemory steps_in trace ⊎ (((lanes : List (List Step)) × IsRead trace lanes) ×
+    (WantsMemory records_in records ⊎ ((told : List Record) × AreRead records told)))
 HasNoVerdict trace records Read = ⊥
 HasNoVerdict trace records Write = ⊥
 HasNoVerdict trace records (Litmus e) = ⊥

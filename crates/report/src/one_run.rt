@@ -17,7 +17,7 @@ use crate::words::{issued_below, values_of};
 use interleaving_core::{Config, System};
 use machine_theorem::laws::every_history_is_legal;
 use mailboxes::Run;
-use physiological_order::{Memory, Verdict, stale_hits};
+use physiological_order::{Memory, stale_hits};
 use programs::End;
 use schedules::{Policy, run_to_end};
 use shared_jobs::Free;
@@ -26,7 +26,7 @@ use std::thread::Threads;
 use thread_driver::laws::closed_machines_are_consistent;
 use thread_driver::run_threads;
 use trace_reader::Trace;
-use trace_texts::{TraceEnd, records_text, trace_text};
+use trace_texts::{TraceEnd, legal_trace_text, records_text};
 use worker_driver::Finished;
 
 /// The machine on which a trace was run, and how the run ended.
@@ -110,7 +110,6 @@ fn end_of<M: Finished + Drop>(
         end: ran.end,
         counts: ran.machine.counts(),
         stale,
-        verdict: Verdict::Legal,
     })
 }
 
@@ -133,5 +132,5 @@ pub(crate) fn text_of<M: Finished + Drop>(
     }
     let end = end_of(alloc, trace, ran)?;
     let values = values_of(alloc, trace, &ran.machine)?;
-    trace_text(alloc, trace, &end, ran.machine.records(), &values)
+    legal_trace_text(alloc, trace, &end, ran.machine.records(), &values)
 }

@@ -30,7 +30,7 @@ use worker_driver::{Finished, config_of, limit_of, policy_of, workers_of};
 /// Reads a trace from the source, to its end if it is accepted, runs it over a memory of zeros as the options say, and
 /// writes the report of the run, or its records alone. What goes out is told of a legal history, whatever the end of
 /// the run. Read goes before Trace, that before BadConfig, and Write comes last; by an error but Write the sink is
-/// unchanged. NoMemory comes only of a text with a step to keep or a fault, or of a run on a good machine.
+/// unchanged. NoMemory comes only of a text with a step before any fault, or of a run on a good machine.
 pub fn run_trace<R: Threads + Sync, S: Source, K: Sink>(
     rt: &R,
     alloc: Global,

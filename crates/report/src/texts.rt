@@ -1,8 +1,9 @@
 //! The texts of traces and of records from their sources.
 ghost use Rattle.std.specs.Prelude.{◌≡◌, IfOk, IfErr, IfSome, OnOk};
 ghost use Rattle.byte_streams.specs.Device.{AtEnd};
-ghost use Rattle.trace_reader.specs.Reading.{steps_read, records_at};
-ghost use Rattle.report.specs.Refusals.{IsRead, IsUnread, WantsMemory, refusal};
+ghost use Rattle.trace_reader.specs.Reading.{steps_in, records_in};
+ghost use Rattle.report.specs.Refusals.{IsRead, IsUnread, refusal};
+ghost use Rattle.trace_reader.specs.Outcomes.{WantsMemory};
 ghost use Rattle.report.specs.Reports.{IsTraceFault};
 ghost use Rattle.report.specs.Verdicts.{AreRead, IsRecordsFault};
 
@@ -31,7 +32,7 @@ pub(crate) fn trace_of<S: Source>(alloc: Global, source: &mut S) -> Result<Trace
         (λ known. AtEnd (S.remaining source.new))) }
     ensures none_failed { OnOk result (S.failures source.new ≡ S.failures source.old) }
     ensures refused { IfErr result (IsUnread (IsTraceFault (S.remaining source.old))
-        (WantsMemory steps_read (S.remaining source.old))
+        (WantsMemory steps_in (S.remaining source.old))
         (S.failures source.old) (S.failures source.new)) }
 {
     match read(alloc, source) {
@@ -47,7 +48,7 @@ pub(crate) fn records_of<S: Source>(alloc: Global, source: &mut S) -> Result<Vec
         (λ known. AtEnd (S.remaining source.new))) }
     ensures none_failed { OnOk result (S.failures source.new ≡ S.failures source.old) }
     ensures refused { IfErr result (IsUnread (IsRecordsFault (S.remaining source.old))
-        (WantsMemory records_at (S.remaining source.old))
+        (WantsMemory records_in (S.remaining source.old))
         (S.failures source.old) (S.failures source.new)) }
 {
     match read_records(alloc, source) {

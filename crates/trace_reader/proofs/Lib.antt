@@ -3,9 +3,8 @@ mod ByCore
 pub mod Lemmas
 mod OnLines
 mod Inverses
-mod StepsRead
+mod LinesRead
 mod StepsMeant
 mod TraceAnswers
-mod RecordsRead
 mod RecordsMeant
 mod RecordAnswers

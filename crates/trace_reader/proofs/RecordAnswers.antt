@@ -7,7 +7,7 @@ use Rattle.text_lines.specs.Lines.{lines_of}
 use Rattle.trace_reader.specs.Grammar.{AreRecords}
 use Rattle.trace_reader.specs.Causes.{RecordFault}
 use Rattle.trace_reader.specs.Outcomes.{Refused, GivesList, IsCaused}
-use Rattle.trace_reader.specs.Reading.{records_at}
+use Rattle.trace_reader.specs.Reading.{records_at, records_in}
 use Rattle.trace_reader.proofs.RecordsMeant.{records-found, records-only, records-fault}
 
 pub record-found : {Z : Type 0} (r : Result (Vec Record Z) TraceError) (a : Option (List ℕ)) →
@@ -29,7 +29,7 @@ records-unique bytes one other s t =
 
 pub record-only : {Z : Type 0} (r : Result (Vec Record Z) TraceError) (a : Option (List ℕ)) (old new : ℕ) →
     IfOk r (λ records. IfSome a (λ bytes. records_at bytes ≡ Ok records.items)) →
-    IfErr r (Refused records_at old new a) →
+    IfErr r (Refused records_in old new a) →
     IfSome a (λ bytes. (records : List Record) → AreRecords bytes records → GivesList records r)
 record-only r None old new h k = tt
 record-only (Ok ys) (Some bytes) old new h k = λ records t.
@@ -42,7 +42,7 @@ record-only (Err e) (Some bytes) old new h (inr (failures, inr k)) = λ records 
     absurd (cc (again, refused))
 
 pub record-fault : {Z : Type 0} (r : Result (Vec Record Z) TraceError) (a : Option (List ℕ)) (old new : ℕ) →
-    IfErr r (Refused records_at old new a) → IfErr r (IsCaused RecordFault a)
+    IfErr r (Refused records_in old new a) → IfErr r (IsCaused RecordFault a)
 record-fault (Ok records) a old new k = tt
 record-fault (Err e) a old new (inl k) = inl k.0
 record-fault (Err e) a old new (inr (failures, inl k)) = inr (inl k.0)

@@ -18,9 +18,9 @@ use Rattle.trace_reader.specs.Lines.{with_fields, worded}
 use Rattle.trace_reader.specs.Grammar.{AreShort, TellSteps, TellTrace}
 use Rattle.trace_reader.specs.Causes.{FieldsCause, StepLineCause, StandsAtLine, IsTooLong}
 use Rattle.trace_reader.specs.Outcomes.{IsOfLine}
-use Rattle.trace_reader.specs.Reading.{behind, list_of_option, step_said, form_said, said_at, steps_from}
+use Rattle.trace_reader.specs.Reading.{behind, list_of_option, step_said, form_said, said_at, steps_in, read_from}
 use Rattle.trace_reader.proofs.Inverses.{ok-pair, bind-ok, bind-err, behind-ok, behind-err, fitted-ok, fitted-err}
-use Rattle.trace_reader.proofs.StepsRead.{line-said, lines-end}
+use Rattle.trace_reader.proofs.LinesRead.{line-said, lines-end}
 
 -- ---- one line
 
@@ -138,18 +138,18 @@ says-none (Some form) = tt
 
 -- what is read stands
 found-from : (lines : List (List ℕ)) (number : ℕ) (form : Option Form) (told : List (ℕ × Step)) →
-    number ≤ suc MOST_LINES → steps_from number form lines ≡ Ok told →
+    number ≤ suc MOST_LINES → read_from said_at number form lines ≡ Ok told →
     FitsFrom number lines × SaysFrom form (worded lines) told
-unfolding steps_from AreShort worded
+unfolding read_from AreShort worded
 found-from [] number form told few e =
     let same : [] ≡ told = cc in
     ((omega arith, tt), subst (λ (w : List (ℕ × Step)). SaysFrom form (worded []) w) same (says-none form))
 found-from (line ∷ lines) number form told few e =
     let o = fitted-ok number line (said_at form (fields_of line))
-    (λ said. behind (list_of_option said.1) (steps_from (suc number) said.0 lines)) told e in
+    (λ said. behind (list_of_option said.1) (read_from said_at (suc number) said.0 lines)) told e in
     let next = o.1.0.0 in
     let said = o.1.0.1 in
-    let b = behind-ok (list_of_option said) (steps_from (suc number) next lines) told o.1.2 in
+    let b = behind-ok (list_of_option said) (read_from said_at (suc number) next lines) told o.1.2 in
     let r = found-from lines (suc number) next b.0 (omega (arith, o.0.1)) b.1 in (
       (omega (arith, r.0.0), (o.0.0, r.0.1)),
       subst (λ (w : List (ℕ × Step)). SaysFrom form (with_fields (fields_of line) (worded lines)) w) b.2
@@ -157,7 +157,7 @@ found-from (line ∷ lines) number form told few e =
           (said-meant form (fields_of line) next said o.1.1) r.1),
     )
 
-pub steps-found : (lines : List (List ℕ)) (told : List (ℕ × Step)) → steps_from 1 None lines ≡ Ok told →
+pub steps-found : (lines : List (List ℕ)) (told : List (ℕ × Step)) → steps_in lines ≡ Ok told →
     ((length lines ≤ MOST_LINES) × AreShort lines) × TellTrace (worded lines) told
 steps-found lines told e =
     let r = found-from lines 1 None told (omega arith) e in ((omega (arith, r.0.0), r.0.1), r.1)
@@ -217,17 +217,17 @@ says-nothing (Some form) [] s = refl
 says-nothing (Some form) (first ∷ later) s = absurd s
 
 only-from : (lines : List (List ℕ)) (number : ℕ) (form : Option Form) (told : List (ℕ × Step)) →
-    FitsFrom number lines → SaysFrom form (worded lines) told → steps_from number form lines ≡ Ok told
+    FitsFrom number lines → SaysFrom form (worded lines) told → read_from said_at number form lines ≡ Ok told
 unfolding AreShort worded
-only-from [] number form told fits s = lines-end number form ∙ ap Ok (sym (says-nothing form told s))
+only-from [] number form told fits s = lines-end said_at number form ∙ ap Ok (sym (says-nothing form told s))
 only-from (line ∷ lines) number form told fits s =
     let p = parts form (fields_of line) (worded lines) told s in
-    line-said number form p.0 line lines p.1 fits.1.0 (omega (arith, fits.0)) p.4
+    line-said said_at number form p.0 line lines p.1 fits.1.0 (omega (arith, fits.0)) p.4
     ∙ ap (behind (list_of_option p.1)) (only-from lines (suc number) p.0 p.2 (omega (arith, fits.0), fits.1.1) p.5)
     ∙ ap Ok p.3
 
 pub steps-only : (lines : List (List ℕ)) (told : List (ℕ × Step)) → (length lines ≤ MOST_LINES) × AreShort lines →
-    TellTrace (worded lines) told → steps_from 1 None lines ≡ Ok told
+    TellTrace (worded lines) told → steps_in lines ≡ Ok told
 steps-only lines told fits s = only-from lines 1 None told (omega (arith, fits.0), fits.1) s
 
 -- ---- a fault has its cause
@@ -262,13 +262,13 @@ unfolding worded
 none-before form kind fields h = h
 
 fault-from : (lines : List (List ℕ)) (number : ℕ) (form : Option Form) (fault : TraceError) →
-    number ≤ suc MOST_LINES → steps_from number form lines ≡ Err fault →
+    number ≤ suc MOST_LINES → read_from said_at number form lines ≡ Err fault →
     StandsAtLine number lines fault.line (λ before line. StepLineCause form before fault.kind fault.line line)
-unfolding steps_from
+unfolding read_from
 fault-from [] number form fault few e = absurd cc
 fault-from (line ∷ lines) number form fault few e =
     elim (fitted-err number line (said_at form (fields_of line))
-    (λ said. behind (list_of_option said.1) (steps_from (suc number) said.0 lines)) fault few e) [
+    (λ said. behind (list_of_option said.1) (read_from said_at (suc number) said.0 lines)) fault few e) [
       | inl t ↦ (
         [],
         line,
@@ -286,7 +286,7 @@ fault-from (line ∷ lines) number form fault few e =
       | inr (inr t) ↦ let next = t.1.0.0 in let said = t.1.0.1 in
           let m = said-meant form (fields_of line) next said t.1.1 in
           let r = fault-from lines (suc number) next fault (omega (arith, t.0))
-          (behind-err (list_of_option said) (steps_from (suc number) next lines) fault t.1.2) in (
+          (behind-err (list_of_option said) (read_from said_at (suc number) next lines) fault t.1.2) in (
             line ∷ r.0,
             r.1,
             r.2,
@@ -296,7 +296,7 @@ fault-from (line ∷ lines) number form fault few e =
           )
     ]
 
-pub steps-fault : (lines : List (List ℕ)) (fault : TraceError) → steps_from 1 None lines ≡ Err fault →
+pub steps-fault : (lines : List (List ℕ)) (fault : TraceError) → steps_in lines ≡ Err fault →
     StandsAtLine 1 lines fault.line (λ before line. StepLineCause None before fault.kind fault.line line)
 steps-fault lines fault e = fault-from lines 1 None fault (omega arith) e
 

@@ -7,7 +7,7 @@ use Rattle.text_lines.specs.Lines.{lines_of}
 use Rattle.trace_reader.specs.Grammar.{IsTrace}
 use Rattle.trace_reader.specs.Causes.{TraceFault}
 use Rattle.trace_reader.specs.Outcomes.{Refused, AnswersUnlessFailed, IsCaused}
-use Rattle.trace_reader.specs.Reading.{steps_read}
+use Rattle.trace_reader.specs.Reading.{steps_in, steps_read}
 use Rattle.trace_reader.specs.Steps.{IsByCore}
 use Rattle.trace_reader.proofs.ByCore.{bycore-unique}
 use Rattle.trace_reader.proofs.StepsMeant.{steps-found, steps-only, steps-fault}
@@ -36,7 +36,7 @@ trace-unique bytes one other s t =
     bycore-unique t.1.0 one other (subst (λ (w : List (ℕ × Step)). IsByCore w one) same s.1.2) t.1.2
 
 pub trace-only : (r : Result (List (List Step)) TraceError) (a : Option (List ℕ)) (old new : ℕ) → IfOk r (IsRead a) →
-    IfErr r (Refused steps_read old new a) →
+    IfErr r (Refused steps_in old new a) →
     IfSome a (λ bytes. (lanes : List (List Step)) → IsTrace bytes lanes → AnswersUnlessFailed lanes r)
 trace-only r None old new h k = tt
 trace-only (Ok trace) (Some bytes) old new h k = λ lanes t.
@@ -51,7 +51,7 @@ trace-only (Err e) (Some bytes) old new h (inr (failures, inr k)) = λ lanes t.
     absurd (cc (again, refused))
 
 pub trace-fault : (r : Result (List (List Step)) TraceError) (a : Option (List ℕ)) (old new : ℕ) →
-    IfErr r (Refused steps_read old new a) → IfErr r (IsCaused TraceFault a)
+    IfErr r (Refused steps_in old new a) → IfErr r (IsCaused TraceFault a)
 trace-fault (Ok trace) a old new k = tt
 trace-fault (Err e) a old new (inl k) = inl k.0
 trace-fault (Err e) a old new (inr (failures, inl k)) = inr (inl k.0)

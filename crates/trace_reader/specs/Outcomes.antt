@@ -25,13 +25,18 @@ IsFound (Some n) old new coming = lines_of old ≡ take n new ∷ lines_of (drop
 abbrev pub IsOfLine : TraceError → Type 0
 IsOfLine e = (0 < e.line) × (e.kind ≢ Read) × (e.kind ≢ NoMemory)
 
--- Why a text was not read. A call of the device failed. Or none did: an allocation failed, if there is a step or a
--- record to keep or the text has a fault, or reading gives this fault.
-abbrev pub Refused : {X : Type 0} → (List ℕ → Result (List X) TraceError) → ℕ → ℕ → Option (List ℕ) → TraceError →
-    Type 0
+-- reading the text allocates: its first n lines have a step or a record to keep, and no fault
+abbrev pub WantsMemory : {X : Type 0} → (List (List ℕ) → Result (List X) TraceError) → Option (List ℕ) → Type 0
+WantsMemory {X} read bytes = IfSome bytes (λ known. (n : ℕ) × (x : X) × (xs : List X)
+    × (read (take n (lines_of known)) ≡ Ok (x ∷ xs)))
+
+-- Why a text was not read. A call of the device failed. Or none did: an allocation failed, or reading gives this
+-- fault.
+abbrev pub Refused : {X : Type 0} → (List (List ℕ) → Result (List X) TraceError) → ℕ → ℕ → Option (List ℕ) →
+    TraceError → Type 0
 Refused read old new bytes e = ((e ≡ whole Read) × (new ≡ suc old))
-    ⊎ ((new ≡ old) × (((e ≡ whole NoMemory) × IfSome bytes (λ known. read known ≢ Ok []))
-    ⊎ (IsOfLine e × IfSome bytes (λ known. read known ≡ Err e))))
+    ⊎ ((new ≡ old) × (((e ≡ whole NoMemory) × WantsMemory read bytes)
+    ⊎ (IsOfLine e × IfSome bytes (λ known. read (lines_of known) ≡ Err e))))
 
 -- this is answered, unless a call of the device failed or memory was refused
 abbrev pub AnswersUnlessFailed : {X : Type 0} → X → Result X TraceError → Type 0

@@ -48,22 +48,27 @@ unfoldable pub said_at : Option Form → List (List ℕ) → Result (Option Form
 said_at (Some form) fields = step_said form fields
 said_at None fields = form_line_at fields >>= form_said fields
 
--- the steps of lines; the first line has this number
-unfoldable pub steps_from : ℕ → Option Form → List (List ℕ) → Result (List (ℕ × Step)) TraceError
-steps_from number form [] = Ok []
-steps_from number form (line ∷ lines) = at_line number (fitted number line (said_at form (fields_of line)))
-    (λ said. behind (list_of_option said.1) (steps_from (suc number) said.0 lines))
+-- what lines say, behind lines that left this state, or their first fault; the first line has this number
+unfoldable pub read_from : {S X : Type 0} → (S → List (List ℕ) → Result (S × Option X) Kind) → ℕ → S → List (List ℕ) →
+    Result (List X) TraceError
+read_from says number state [] = Ok []
+read_from says number state (line ∷ lines) = at_line number (fitted number line (says state (fields_of line)))
+    (λ said. behind (list_of_option said.1) (read_from says (suc number) said.0 lines))
 
--- the steps of a text in their order, or its first fault
+-- the steps of lines in their order, and of a text
+abbrev pub steps_in : List (List ℕ) → Result (List (ℕ × Step)) TraceError
+steps_in lines = read_from said_at 1 None lines
+
 abbrev pub steps_read : List ℕ → Result (List (ℕ × Step)) TraceError
-steps_read bytes = steps_from 1 None (lines_of bytes)
+steps_read bytes = steps_in (lines_of bytes)
 
--- the records of lines; the first line has this number
-unfoldable pub records_from : ℕ → List (List ℕ) → Result (List Record) TraceError
-records_from number [] = Ok []
-records_from number (line ∷ lines) = at_line number (fitted number line (record_line_at (fields_of line)))
-    (λ said. behind (list_of_option said) (records_from (suc number) lines))
+-- a record of a line; what lines say doesn't depend on those before
+abbrev pub record_said : Unit {0} → List (List ℕ) → Result (Unit {0} × Option Record) Kind
+record_said none fields = record_line_at fields >>= (λ told. Ok (none, told))
 
--- the records of a text, or its first fault
+-- the records of lines in their order, and of a text
+abbrev pub records_in : List (List ℕ) → Result (List Record) TraceError
+records_in lines = read_from record_said 1 tt lines
+
 abbrev pub records_at : List ℕ → Result (List Record) TraceError
-records_at bytes = records_from 1 (lines_of bytes)
+records_at bytes = records_in (lines_of bytes)

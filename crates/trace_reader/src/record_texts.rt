@@ -9,7 +9,7 @@ ghost use Rattle.trace_lines.specs.Reading.{record_line_at};
 ghost use Rattle.trace_reader.specs.Causes.{RecordFault};
 ghost use Rattle.trace_reader.specs.Grammar.{AreRecords};
 ghost use Rattle.trace_reader.specs.Outcomes.{whole, Refused, GivesList, IsCaused};
-ghost use Rattle.trace_reader.specs.Reading.{list_of_option, records_at};
+ghost use Rattle.trace_reader.specs.Reading.{list_of_option, records_at, records_in};
 
 use crate::blocks::Block;
 use crate::next_lines::next_line;
@@ -48,7 +48,7 @@ fn read_whole<S: Source>(alloc: Global, source: &mut S) -> Result<Vec<Record>, T
     ensures end { OnOk result (IfSome (S.remaining source.old)
         (λ known. AtEnd (S.remaining source.new))) }
     ensures none_failed { OnOk result (S.failures source.new ≡ S.failures source.old) }
-    ensures fault { IfErr result (Refused records_at (S.failures source.old)
+    ensures fault { IfErr result (Refused records_in (S.failures source.old)
         (S.failures source.new) (S.remaining source.old)) }
 {
     let mut records = Vec::new(alloc);
@@ -81,7 +81,7 @@ pub fn read_records<S: Source>(alloc: Global, source: &mut S) -> Result<Vec<Reco
     ensures told { IfOk result (λ records. IfSome (S.remaining source.old)
         (λ bytes. records_at bytes ≡ Ok records.items)) }
     // The first fault; memory is refused only where there is a record or a fault.
-    ensures refused { IfErr result (Refused records_at (S.failures source.old)
+    ensures refused { IfErr result (Refused records_in (S.failures source.old)
         (S.failures source.new) (S.remaining source.old)) }
     ensures none_failed { OnOk result (S.failures source.new ≡ S.failures source.old) }
     ensures end { OnOk result (IfSome (S.remaining source.old)

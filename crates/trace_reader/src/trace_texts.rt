@@ -11,7 +11,7 @@ ghost use Rattle.trace_lines.specs.Reading.{form_line_at, trace_line_at};
 ghost use Rattle.trace_reader.specs.Causes.{TraceFault};
 ghost use Rattle.trace_reader.specs.Grammar.{IsTrace};
 ghost use Rattle.trace_reader.specs.Outcomes.{whole, Refused, AnswersUnlessFailed, IsCaused};
-ghost use Rattle.trace_reader.specs.Reading.{list_of_option, step_said, form_said, said_at, steps_read};
+ghost use Rattle.trace_reader.specs.Reading.{list_of_option, step_said, form_said, said_at, steps_in, steps_read};
 ghost use Rattle.trace_reader.specs.Steps.{IsByCore};
 
 use crate::blocks::Block;
@@ -83,7 +83,7 @@ fn read_whole<S: Source>(alloc: Global, source: &mut S) -> Result<Trace, TraceEr
     ensures end { OnOk result (IfSome (S.remaining source.old)
         (λ known. AtEnd (S.remaining source.new))) }
     ensures none_failed { OnOk result (S.failures source.new ≡ S.failures source.old) }
-    ensures fault { IfErr result (Refused steps_read (S.failures source.old)
+    ensures fault { IfErr result (Refused steps_in (S.failures source.old)
         (S.failures source.new) (S.remaining source.old)) }
 {
     let mut trace = Trace::new(alloc);
@@ -117,8 +117,8 @@ pub fn read<S: Source>(alloc: Global, source: &mut S) -> Result<Trace, TraceErro
     // The steps as they are read from the front, each at its core.
     ensures told { IfOk result (λ trace. IfSome (S.remaining source.old)
         (λ bytes. (told : List (ℕ × Step)) × (steps_read bytes ≡ Ok told) × IsByCore told trace)) }
-    // The first fault; memory is refused only where there is a step or a fault.
-    ensures refused { IfErr result (Refused steps_read (S.failures source.old)
+    // The first fault; memory is refused only where a step stands before any fault.
+    ensures refused { IfErr result (Refused steps_in (S.failures source.old)
         (S.failures source.new) (S.remaining source.old)) }
     ensures none_failed { OnOk result (S.failures source.new ≡ S.failures source.old) }
     ensures end { OnOk result (IfSome (S.remaining source.old)

@@ -4,11 +4,10 @@ use Rattle.std.specs.List.{flat_map}
 use Rattle.physiological_order.specs.declared.operation.Op.{Op}
 use Rattle.physiological_order.specs.declared.operation.Op.TheVariants.{Load, Store, Swap}
 use Rattle.physiological_order.specs.declared.operation.Record.{Record}
+use Rattle.physiological_order.specs.declared.verdict.Verdict.{Verdict}
 use Rattle.report_lines.specs.Lines.{counts_text, field, value_line, word_line}
 use Rattle.programs.specs.declared.ends.End.{End}
 use Rattle.programs.specs.declared.ends.End.TheVariants.{AllDone, Stalled, TurnsUsed, Exhausted, NoMemory}
-use Rattle.programs.specs.declared.steps.Step.{Step}
-use Rattle.trace_reader.specs.Steps.{trace_cores}
 use Rattle.trace_texts.specs.Verdicts.{order_line}
 use Rattle.trace_texts.specs.declared.reports.TraceEnd.{TraceEnd}
 
@@ -60,8 +59,9 @@ kinds_text records = field (codes "loads") (loads_among records)
 abbrev pub word_values_text : List (ℕ × ℕ) → List ℕ
 word_values_text values = flat_map (λ v. value_line v.0 v.1) values
 
--- the report on a run of a trace that left these records and these values of the words that the trace names
-unfoldable pub trace_text : List (List Step) → TraceEnd → List Record → List (ℕ × ℕ) → List ℕ
-trace_text lanes run records values = trace_end_text (trace_cores lanes) run (length records) ++ kinds_text records
-    ++ counts_text run.counts ++ field (codes "stale-hits") run.stale ++ order_line run.verdict
+-- the report on a run of a trace that left these records, on which a check has this verdict, and these values of the
+-- words that the trace names
+unfoldable pub trace_text : (cores : ℕ) → TraceEnd → Verdict → List Record → List (ℕ × ℕ) → List ℕ
+trace_text cores run verdict records values = trace_end_text cores run (length records) ++ kinds_text records
+    ++ counts_text run.counts ++ field (codes "stale-hits") run.stale ++ order_line verdict
     ++ word_values_text values

@@ -9,5 +9,5 @@ mod reports;
 mod verdicts;
 
 pub use records::records_text;
-pub use reports::{TraceEnd, trace_text};
+pub use reports::{TraceEnd, legal_trace_text, trace_text};
 pub use verdicts::check_text;

@@ -3,15 +3,15 @@
 ghost use Rattle.std.specs.Prelude.{◌≡◌, ◌++◌, OnOk, IfOk};
 ghost use Rattle.std.specs.FinMap.{empty};
 ghost use Rattle.physiological_order.specs.Faults.{IsVerdict};
-ghost use Rattle.physiological_order.specs.Order.{flat};
-ghost use Rattle.trace_reader.specs.Steps.{trace_ops};
+ghost use Rattle.physiological_order.specs.Order.{flat, Legal};
+ghost use Rattle.trace_reader.specs.Steps.{trace_cores, trace_ops};
 ghost use Rattle.trace_texts.specs.Reports.{end_name, is_load_op, is_store, is_swap};
 ghost use Rattle.trace_texts.specs.Reports.{loads_among, stores_among, swaps_among};
 ghost use Rattle.trace_texts.specs.Reports.{trace_end_text, kinds_text, trace_text, word_values_text};
 
 use crate::verdicts::put_order;
 use network::Counts;
-use physiological_order::{Op, Record, Verdict, WordAddr};
+use physiological_order::{Memory, Op, Record, Verdict, WordAddr, check};
 use programs::End;
 use report_lines::{put_counts, put_field, put_value, put_word};
 use std::alloc::{AllocError, Global};
@@ -28,8 +28,6 @@ pub struct TraceEnd {
     /// How many of the records are loads of a value that was overwritten by a smaller completion number at a greater
     /// time.
     pub stale: u64,
-    /// What a check of the records answers, for what the trace issues over a memory of zeros.
-    pub verdict: Verdict,
 }
 
 // How a run ended, in a word.
@@ -116,25 +114,59 @@ fn put_values(out: &mut Vec<u8>, values: &[(WordAddr, u64)]) -> Result<(), Alloc
 }
 
 /// The text that reports on the run of a trace that left these records, by rising number, and these values of the
-/// words that the trace names, in lines that end with a line feed (docs/TEXTS.md). It tells the verdict that a check
-/// answers on the records, so `order legal` stands in it only if they are legal.
-#[tactic(auto, unfolding(crate::specs::Reports::trace_text))]
+/// words that the trace names, in lines that end with a line feed (docs/TEXTS.md). Its order line has the verdict of a
+/// check of the records, for what the trace issues over a memory of zeros; the trace's lists go into that check.
 pub fn trace_text(
+    alloc: Global,
+    trace: Trace,
+    run: &TraceEnd,
+    records: &[Record],
+    values: &[(WordAddr, u64)],
+) -> Result<Vec<u8>, AllocError>
+    ensures { IfOk result (λ text. (verdict : Verdict) ×
+        IsVerdict (flat empty) (trace_ops trace) records.now verdict ×
+        (text.items ≡ trace_text (trace_cores trace) run.now verdict records.now values.now)) }
+{
+    let cores = trace.cores();
+    let issued = trace.into_issued()?;
+    let verdict = check(alloc, &Memory::new(alloc), &issued, records)?;
+    told(alloc, cores, run, verdict, records, values)
+}
+
+/// What `trace_text` answers of records that are legal, without a check of them.
+pub fn legal_trace_text(
     alloc: Global,
     trace: &Trace,
     run: &TraceEnd,
     records: &[Record],
     values: &[(WordAddr, u64)],
 ) -> Result<Vec<u8>, AllocError>
-    requires { IsVerdict (flat empty) (trace_ops trace.now) records.now run.now.verdict }
-    ensures { IfOk result (λ text. text.items ≡ trace_text trace.now run.now records.now values.now) }
+    requires { Legal (flat empty) (trace_ops trace.now) records.now }
+    ensures { IfOk result (λ text.
+        text.items ≡ trace_text (trace_cores trace.now) run.now Verdict.Legal records.now values.now) }
+{
+    told(alloc, trace.cores(), run, Verdict::Legal, records, values)
+}
+
+// The report, with this verdict on the records.
+#[tactic(auto, unfolding(crate::specs::Reports::trace_text))]
+fn told(
+    alloc: Global,
+    cores: u32,
+    run: &TraceEnd,
+    verdict: Verdict,
+    records: &[Record],
+    values: &[(WordAddr, u64)],
+) -> Result<Vec<u8>, AllocError>
+    ensures { IfOk result (λ text.
+        text.items ≡ trace_text cores run.now verdict records.now values.now) }
 {
     let mut out = Vec::new(alloc);
-    put_ends(&mut out, trace.cores(), run, records.len())?;
+    put_ends(&mut out, cores, run, records.len())?;
     put_kinds(&mut out, records)?;
     put_counts(&mut out, run.counts)?;
     put_field(&mut out, b"stale-hits", u128::from(run.stale))?;
-    put_order(&mut out, run.verdict)?;
+    put_order(&mut out, verdict)?;
     put_values(&mut out, values)?;
     Ok(out)
 }
